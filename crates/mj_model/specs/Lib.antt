@@ -3,3 +3,5 @@ pub mod Cost
 pub mod Order
 pub mod Best
 pub mod ChainsBack
+pub mod FaultWords
+pub mod Categories

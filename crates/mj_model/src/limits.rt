@@ -1,0 +1,22 @@
+//! Limits. Each is this project's own choice.
+
+/// The most bytes of a line of text, without its LF.
+pub const SENTENCE_MAX: usize = 1_048_576;
+
+/// The most bytes of a surface.
+pub const SURFACE_MAX: usize = 65_535;
+
+/// The most cells of a connection table: the product of its two sizes.
+pub const MATRIX_CELLS_MAX: u64 = 1 << 30;
+
+/// The most entries of a dictionary, and the most lines of an `unk.def`.
+pub const ENTRIES_MAX: usize = 1 << 28;
+
+/// The most categories of a `char.def`.
+pub const CATEGORIES_MAX: usize = 18;
+
+/// The most reads of one run over a text.
+pub const READS_MAX: u64 = 1 << 40;
+
+/// How many characters may follow the first one of a grouped word, where nothing else is set.
+pub const GROUPING_DEFAULT: u16 = 24;

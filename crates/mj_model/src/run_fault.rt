@@ -1,0 +1,69 @@
+//! What ends a run over a text.
+
+ghost use Rattle.std.specs.Prelude.{◌≡◌};
+
+use crate::source_fault::SourceFault;
+use thiserror::Error;
+
+/// Why a run over a text ended before its end. Lines of text are counted from 1.
+#[derive(Clone, Copy, Debug, PartialEq, Eq, Drop, Error)]
+pub enum RunFault {
+    /// The sources are refused, and nothing was read.
+    #[error("{0}")]
+    Source(SourceFault),
+    /// A read failed; the number is that of the lines read whole and one.
+    #[error("line {0}: G1 Read")]
+    Read(u64),
+    /// A write or a flush failed, or a write took no byte; the number is that of the bytes taken before.
+    #[error("G2 Write {0}")]
+    Write(u128),
+    /// This line is not UTF-8.
+    #[error("line {0}: G3 NotUtf8")]
+    NotUtf8(u64),
+    /// This line has more than `SENTENCE_MAX` bytes.
+    #[error("line {0}: G4 TooLong")]
+    TooLong(u64),
+    /// `READS_MAX` reads came to no end; the number is that of the lines read whole and one.
+    #[error("line {0}: G5 InputTooLong")]
+    InputTooLong(u64),
+    /// No words cover this line up to its last blanks.
+    #[error("line {0}: G6 NoPath")]
+    NoPath(u64),
+    /// Memory was refused; the number is that of the lines written whole and one, and 0 before the first read.
+    #[error("Memory")]
+    Memory(u64),
+}
+
+impl RunFault {
+    ghost use Rattle.mj_model.specs.FaultWords.{run_words};
+
+    /// The short code, as `G1`; that of the carried fault where it carries one.
+    pub fn code(self) -> &'static str
+        ensures { result.now ≡ (run_words self).code }
+    {
+        self.words().0
+    }
+
+    /// The name behind the code, as `Read`; that of the carried fault where it carries one.
+    pub fn name(self) -> &'static str
+        ensures { result.now ≡ (run_words self).name }
+    {
+        self.words().1
+    }
+
+    fn words(self) -> (&'static str, &'static str)
+        ensures code { result.0.now ≡ (run_words self).code }
+        ensures name { result.1.now ≡ (run_words self).name }
+    {
+        match self {
+            RunFault::Source(fault) => (fault.code(), fault.name()),
+            RunFault::Read(_) => ("G1", "Read"),
+            RunFault::Write(_) => ("G2", "Write"),
+            RunFault::NotUtf8(_) => ("G3", "NotUtf8"),
+            RunFault::TooLong(_) => ("G4", "TooLong"),
+            RunFault::InputTooLong(_) => ("G5", "InputTooLong"),
+            RunFault::NoPath(_) => ("G6", "NoPath"),
+            RunFault::Memory(_) => ("Memory", "Memory"),
+        }
+    }
+}

@@ -1,0 +1,10 @@
+//! The sources of a dictionary.
+
+/// The bytes of MeCab's source files. The lexicons stand in the order in which they are read.
+#[derive(Clone, Copy, Debug)]
+pub struct Sources<'a> {
+    pub matrix: &'a [u8],
+    pub chars: &'a [u8],
+    pub unk: &'a [u8],
+    pub lexicons: &'a [&'a [u8]],
+}
