@@ -5,3 +5,10 @@ pub mod Best
 pub mod ChainsBack
 pub mod FaultWords
 pub mod Categories
+pub mod Bytes
+pub mod Lines
+pub mod Fields
+pub mod Numbers
+pub mod FirstFault
+pub mod Lexicon
+pub mod Connection

@@ -1,0 +1,93 @@
+-- Connection costs, as `matrix.def` lists them (MeCab): two sizes, then rows of the right id of the word before, the left id of the
+-- word behind it, and the cost of setting them so.
+use Rattle.std.specs.Prelude.{◌≡◌, ℕ, ◌*◌, ◌^◌, ℤ, pos, Bool, not, ◌==◌, ◌&&◌, nat_lt, nat_le, if◌then◌else◌, List, [], ◌∷◌, length, filter, filter_map, find, reverse, Option, Some, None, option_and_then, option_map, Result, Ok, Err}
+use Rattle.std.specs.List.{slice_split}
+use Rattle.std.specs.Option.{option_map_or}
+use Rattle.mj_model.specs.declared.limits.TheConstants.{MATRIX_CELLS_MAX}
+use Rattle.mj_model.specs.declared.source_fault.SourceFault.{SourceFault}
+use Rattle.mj_model.specs.declared.source_fault.SourceKind.{SourceKind}
+use Rattle.mj_model.specs.declared.source_fault.SourceKind.TheVariants.{BadHeader, BadRow, PairOutside, TooLarge}
+use Rattle.mj_model.specs.Bytes.{is_blank}
+use Rattle.mj_model.specs.Lines.{numbered_lines, is_blank_line}
+use Rattle.mj_model.specs.Numbers.{number_in, natural_in, context_id, cost}
+use Rattle.mj_model.specs.FirstFault.{first_fault}
+
+-- the words of a line: its parts between blanks and tabs, without the empty ones
+abbrev pub words_of : List ℕ → List (List ℕ)
+words_of line = filter (λ word. nat_lt 0 (length word)) (slice_split is_blank line)
+
+-- how many right ids of the word before there are, and how many left ids of the word behind it
+pub record Sizes : Type 0 where
+  pub right : ℕ
+  pub left : ℕ
+
+pub record Cell : Type 0 where
+  pub right : ℕ
+  pub left : ℕ
+  pub cost : ℤ
+
+-- the sizes, and the rows in their order
+pub record Connection : Type 0 where
+  pub sizes : Sizes
+  pub cells : List Cell
+
+-- a size: a number from 1 to 65,535
+abbrev pub size : List ℕ → Option ℕ
+size word = option_and_then (λ n. if nat_lt 0 n then Some n else None) (natural_in 65535 word)
+
+-- the words of a header
+abbrev pub sizes_from : List (List ℕ) → Option Sizes
+sizes_from (first ∷ second ∷ []) = option_and_then (λ right. option_map (λ left. record { right = right; left = left }) (size second)) (size first)
+sizes_from [] = None
+sizes_from (first ∷ []) = None
+sizes_from (first ∷ second ∷ third ∷ more) = None
+
+-- the words of a row
+abbrev pub cell_from : List (List ℕ) → Option Cell
+cell_from (first ∷ second ∷ third ∷ []) =
+    option_and_then (λ right. option_and_then (λ left. option_map (λ price. record { right = right; left = left; cost = price }) (cost third)) (context_id second)) (context_id first)
+cell_from [] = None
+cell_from (first ∷ []) = None
+cell_from (first ∷ second ∷ []) = None
+cell_from (first ∷ second ∷ third ∷ fourth ∷ more) = None
+
+-- a right id and a left id lie within the sizes
+abbrev pub is_pair : Sizes → ℕ → ℕ → Bool
+is_pair sizes right left = nat_lt right sizes.right && nat_lt left sizes.left
+
+-- what is wrong with a row
+abbrev pub cell_fault : Sizes → Option Cell → Option SourceKind
+cell_fault sizes None = Some BadRow
+cell_fault sizes (Some cell) = if is_pair sizes cell.right cell.left then None else Some PairOutside
+
+abbrev pub row_fault : Sizes → List ℕ → Option SourceKind
+row_fault sizes line = cell_fault sizes (cell_from (words_of line))
+
+-- `matrix.def` is file 0
+abbrev pub matrix_fault : ℕ → SourceKind → SourceFault
+matrix_fault line kind = record { file = 0; line = line; kind = kind }
+
+abbrev pub connection_unless : Option SourceFault → Sizes → List (ℕ × List ℕ) → Result Connection SourceFault
+connection_unless (Some fault) sizes rows = Err fault
+connection_unless None sizes rows = Ok (record { sizes = sizes; cells = filter_map (λ row. cell_from (words_of row.1)) rows })
+
+abbrev pub connection_under : ℕ → Option Sizes → List (ℕ × List ℕ) → Result Connection SourceFault
+connection_under line None rows = Err (matrix_fault line BadHeader)
+connection_under line (Some sizes) rows =
+    if nat_le (sizes.right * sizes.left) MATRIX_CELLS_MAX
+    then connection_unless (first_fault 0 (row_fault sizes) rows) sizes rows
+    else Err (matrix_fault line TooLarge)
+
+-- the first line is the header
+abbrev pub connection_from : List (ℕ × List ℕ) → Result Connection SourceFault
+connection_from [] = Err (matrix_fault 0 BadHeader)
+connection_from (header ∷ rows) = connection_under header.0 (sizes_from (words_of header.1)) rows
+
+-- what the bytes of `matrix.def` say, or their first fault; blank lines are passed over
+abbrev pub connection_of : List ℕ → Result Connection SourceFault
+connection_of bytes = connection_from (filter (λ line. not (is_blank_line line.1)) (numbered_lines bytes))
+
+-- the connection cost of a right id and a left id: that of the last row with both, else 0
+abbrev pub connection_cost : Connection → ℕ → ℕ → ℤ
+connection_cost connection right left =
+    option_map_or (λ (cell : Cell). cell.cost) (find (λ cell. cell.right == right && cell.left == left) (reverse connection.cells)) (pos 0)

@@ -1,0 +1,120 @@
+-- What the lines of a lexicon say: `surface,left id,right id,word cost,feature` (MeCab, dic-detail).
+-- The feature is all that stands behind the fourth comma, byte for byte.
+use Rattle.std.specs.Prelude.{◌≡◌, ℕ, ◌+◌, ◌≤◌, ℤ, IsTrue, IsFalse, ◌==◌, nat_le, nat_lt, if◌then◌else◌, List, [], ◌∷◌, length, count_by, filter_map, map, Option, Some, None, option_and_then, option_map, Result, Ok, Err, IsUtf8, string_bytes, ◌⊎◌, Bool, true, false}
+use Rattle.mj_model.specs.declared.limits.TheConstants.{SURFACE_MAX, ENTRIES_MAX}
+use Rattle.mj_model.specs.declared.source_fault.SourceFault.{SourceFault}
+use Rattle.mj_model.specs.declared.source_fault.SourceKind.{SourceKind}
+use Rattle.mj_model.specs.declared.source_fault.SourceKind.TheVariants.{NotUtf8, TooFewFields, BadNumber, SurfaceTooLong, TooManyEntries}
+use Rattle.mj_model.specs.declared.entry.Record.{Record}
+use Rattle.mj_model.specs.Lines.{numbered_lines, is_blank_line}
+use Rattle.mj_model.specs.Fields.{AreFields, AreFirstFields}
+use Rattle.mj_model.specs.Numbers.{context_id, cost}
+
+-- an accepted line: a record without where it lies in memory
+pub record Row : Type 0 where
+  pub line : ℕ
+  pub surface : List ℕ
+  pub left : ℕ
+  pub right : ℕ
+  pub cost : ℤ
+  pub feature : List ℕ
+
+abbrev pub row_of : Record → Row
+row_of r = record { line = r.line; surface = string_bytes r.surface; left = r.entry.left; right = r.entry.right; cost = r.entry.cost; feature = string_bytes r.entry.feature }
+
+abbrev pub rows_of : List Record → List Row
+rows_of = map row_of
+
+-- the first four fields of a line as they stand, and what follows them
+pub record Parts : Type 0 where
+  pub surface : List ℕ
+  pub left : List ℕ
+  pub right : List ℕ
+  pub cost : List ℕ
+  pub feature : List ℕ
+
+-- a line's parts as a row, if its numbers are in range
+abbrev pub row_from : ℕ → Parts → Option Row
+row_from line parts =
+    option_and_then (λ left. option_and_then (λ right. option_map (λ price.
+    record { line = line; surface = parts.surface; left = left; right = right; cost = price; feature = parts.feature })
+    (cost parts.cost)) (context_id parts.right)) (context_id parts.left)
+
+-- what comes of a line: it is blank and passed over, its surface is empty and it is skipped and counted, it is refused, or it is accepted
+pub data Outcome : Type 0 where
+  Blank : Outcome
+  Skipped : Outcome
+  Refused : SourceKind → Outcome
+  Accepted : Row → Outcome
+
+abbrev pub accept_short : Option Row → Outcome
+accept_short None = Refused BadNumber
+accept_short (Some row) = if nat_le (length row.surface) SURFACE_MAX then Accepted row else Refused SurfaceTooLong
+
+-- of a lexicon's line with four fields and a rest
+abbrev pub lexicon_outcome : ℕ → Parts → Outcome
+lexicon_outcome line parts = if length parts.surface == 0 then Skipped else accept_short (row_from line parts)
+
+-- the outcome of a numbered line, where `judge` says what comes of its parts
+pub data IsOutcome (judge : ℕ → Parts → Outcome) (number : ℕ) (line : List ℕ) : Outcome → Type 0 where
+  is_blank : IsTrue (is_blank_line line) → IsOutcome judge number line Blank
+  not_text : IsFalse (is_blank_line line) → (IsUtf8 line → ⊥) → IsOutcome judge number line (Refused NotUtf8)
+  too_few : IsFalse (is_blank_line line) → IsUtf8 line → (fields : List (List ℕ)) → AreFields line fields → length fields ≤ 4 → IsOutcome judge number line (Refused TooFewFields)
+  has_parts : IsFalse (is_blank_line line) → IsUtf8 line → (parts : Parts)
+      → AreFirstFields line (parts.surface ∷ parts.left ∷ parts.right ∷ parts.cost ∷ []) parts.feature → IsOutcome judge number line (judge number parts)
+
+-- the outcomes of numbered lines, one after another
+abbrev pub AreOutcomes : (ℕ → Parts → Outcome) → List (ℕ × List ℕ) → List Outcome → Type 0
+AreOutcomes judge [] [] = Unit {0}
+AreOutcomes judge [] (o ∷ os) = ⊥
+AreOutcomes judge (line ∷ lines) [] = ⊥
+AreOutcomes judge (line ∷ lines) (o ∷ os) = IsOutcome judge line.0 line.1 o × AreOutcomes judge lines os
+
+-- the first refused line of a file, counted from a number on, where this many entries were there before; a line above the limit of entries is refused
+abbrev pub first_refused : ℕ → ℕ → ℕ → List Outcome → Option SourceFault
+first_refused file number held [] = None
+first_refused file number held (Blank ∷ more) = first_refused file (number + 1) held more
+first_refused file number held (Skipped ∷ more) = first_refused file (number + 1) held more
+first_refused file number held (Refused kind ∷ more) = Some (record { file = file; line = number; kind = kind })
+first_refused file number held (Accepted row ∷ more) =
+    if nat_lt held ENTRIES_MAX
+    then first_refused file (number + 1) (held + 1) more
+    else Some (record { file = file; line = number; kind = TooManyEntries })
+
+abbrev pub accepted_row : Outcome → Option Row
+accepted_row Blank = None
+accepted_row Skipped = None
+accepted_row (Refused kind) = None
+accepted_row (Accepted row) = Some row
+
+abbrev pub accepted_rows : List Outcome → List Row
+accepted_rows outcomes = filter_map accepted_row outcomes
+
+abbrev pub is_skipped : Outcome → Bool
+is_skipped Blank = false
+is_skipped Skipped = true
+is_skipped (Refused kind) = false
+is_skipped (Accepted row) = false
+
+-- what a file says: its accepted lines, and how many were skipped
+pub record Reading : Type 0 where
+  pub rows : List Row
+  pub skipped : ℕ
+
+abbrev pub reading_unless : Option SourceFault → List Outcome → Result Reading SourceFault
+reading_unless None outcomes = Ok (record { rows = accepted_rows outcomes; skipped = count_by is_skipped outcomes })
+reading_unless (Some fault) outcomes = Err fault
+
+-- a file of this number reads so, where this many entries were there before: it is what its lines say, or its first fault
+abbrev pub ReadsAs : (ℕ → Parts → Outcome) → ℕ → ℕ → List ℕ → Result Reading SourceFault → Type 0
+ReadsAs judge file held bytes reading =
+    (outcomes : List Outcome) × AreOutcomes judge (numbered_lines bytes) outcomes × (reading ≡ reading_unless (first_refused file 1 held outcomes) outcomes)
+
+-- a lexicon reads so
+abbrev pub IsLexicon : ℕ → ℕ → List ℕ → Result Reading SourceFault → Type 0
+IsLexicon file held bytes reading = ReadsAs lexicon_outcome file held bytes reading
+
+-- each lexicon has exactly one reading
+abbrev pub HasOneReading : Type 0
+HasOneReading = (file held : ℕ) (bytes : List ℕ) → (reading : Result Reading SourceFault) × IsLexicon file held bytes reading
+    × ((other : Result Reading SourceFault) → IsLexicon file held bytes other → other ≡ reading)
