@@ -12,3 +12,10 @@ pub mod Numbers
 pub mod FirstFault
 pub mod Lexicon
 pub mod Connection
+pub mod Run
+pub mod Tables
+pub mod Blanks
+pub mod KnownWords
+pub mod UnknownSpans
+pub mod Words
+pub mod Laws
