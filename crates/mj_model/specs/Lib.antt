@@ -19,3 +19,6 @@ pub mod KnownWords
 pub mod UnknownSpans
 pub mod Words
 pub mod Laws
+pub mod Dictionary
+pub mod Printed
+pub mod Output

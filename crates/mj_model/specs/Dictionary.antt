@@ -1,0 +1,50 @@
+-- The dictionary of a list of lexicons: their accepted lines in the byte order of the surfaces, those of one surface in source
+-- order, each with its place in this list as its number.
+use Rattle.std.specs.Prelude.{◌≡◌, ℕ, ◌+◌, min, if◌then◌else◌, List, [], ◌∷◌, ◌++◌, length, map, Option, Some, None, Result, Ok, Err, IsSortedByKey, ◌⊎◌}
+use Rattle.std.specs.Cmp.Lexicographic.{slice_cmp}
+use Rattle.std.specs.List.{enumerate_from}
+use Rattle.std.specs.List.Sorted.{IsStableByKey, IsPermutation}
+use Rattle.std.specs.Ordering.{nat_cmp}
+use Rattle.mj_model.specs.declared.source_fault.SourceFault.{SourceFault}
+use Rattle.mj_model.specs.declared.source_fault.SourceKind.TheVariants.{IdOutside}
+use Rattle.mj_model.specs.Connection.{Sizes, is_pair}
+use Rattle.mj_model.specs.Lexicon.{Row, Reading, IsLexicon}
+use Rattle.mj_model.specs.Tables.{Lexeme}
+
+abbrev pub surface_of : Row → List ℕ
+surface_of row = row.surface
+
+-- the rows in the byte order of their surfaces; those of one surface stand in their order
+pub record IsInOrder (rows ordered : List Row) : Type 0 where
+  pub same_rows : IsPermutation rows ordered
+  pub by_surface : IsSortedByKey surface_of (slice_cmp nat_cmp) ordered
+  pub in_source_order : IsStableByKey surface_of (slice_cmp nat_cmp) rows ordered
+
+-- a row by its number
+abbrev pub lexeme_of : (ℕ × Row) → Lexeme
+lexeme_of r = record { surface = r.1.surface; token = record { number = r.0; left = r.1.left; right = r.1.right; cost = r.1.cost; feature = r.1.feature } }
+
+-- the lexicon of a dictionary that is made of these rows
+abbrev pub IsLexiconOf : List Row → List Lexeme → Type 0
+IsLexiconOf rows lexicon = (ordered : List Row) × IsInOrder rows ordered × (lexicon ≡ map lexeme_of (enumerate_from 0 ordered))
+
+-- the first row whose ids lie outside the sizes
+abbrev pub first_outside : ℕ → Sizes → List Row → Option SourceFault
+first_outside file sizes [] = None
+first_outside file sizes (row ∷ rows) =
+    if is_pair sizes row.right row.left
+    then first_outside file sizes rows
+    else Some (record { file = file; line = row.line; kind = IdOutside })
+
+-- the number of the file behind a lexicon; numbers end at the greatest but one of 32 bits
+abbrev pub next_file : ℕ → ℕ
+next_file file = min (file + 1) 4294967294
+
+-- the lexicons from a file number on read so, after these rows: all rows, or the first fault; of each file what its lines say is looked at before its ids
+abbrev pub AreLexicons : Sizes → ℕ → List Row → List (List ℕ) → Result (List Row) SourceFault → Type 0
+AreLexicons sizes file before [] read = read ≡ Ok before
+AreLexicons sizes file before (bytes ∷ more) read =
+    ((fault : SourceFault) × IsLexicon file (length before) bytes (Err fault) × (read ≡ Err fault))
+    ⊎ ((lines : Reading) × (fault : SourceFault) × IsLexicon file (length before) bytes (Ok lines) × (first_outside file sizes lines.rows ≡ Some fault) × (read ≡ Err fault))
+    ⊎ ((lines : Reading) × IsLexicon file (length before) bytes (Ok lines) × (first_outside file sizes lines.rows ≡ None)
+    × AreLexicons sizes (next_file file) (before ++ lines.rows) more read)
