@@ -22,3 +22,5 @@ pub mod Laws
 pub mod Dictionary
 pub mod Printed
 pub mod Output
+pub mod Counts
+pub mod Counted

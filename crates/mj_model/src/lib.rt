@@ -2,14 +2,18 @@
 #![tactic(auto)]
 
 mod category;
+mod counted;
 mod entry;
 mod limits;
 mod run_fault;
 mod source_fault;
 mod sources;
+mod text_in;
+mod text_out;
 mod word;
 
 pub use category::{Category, CharInfo};
+pub use counted::Counted;
 pub use entry::{Entry, Record};
 pub use limits::{
     CATEGORIES_MAX, ENTRIES_MAX, GROUPING_DEFAULT, MATRIX_CELLS_MAX, READS_MAX, SENTENCE_MAX,
@@ -18,4 +22,6 @@ pub use limits::{
 pub use run_fault::RunFault;
 pub use source_fault::{SourceFault, SourceKind};
 pub use sources::Sources;
+pub use text_in::TextIn;
+pub use text_out::TextOut;
 pub use word::{Origin, Word};
