@@ -24,3 +24,4 @@ pub mod Printed
 pub mod Output
 pub mod Counts
 pub mod Counted
+pub mod TextLines
