@@ -2,6 +2,7 @@
 
 ghost use Rattle.mj_model.specs.Best.{HasOneBest, KeepsOrder};
 ghost use Rattle.mj_model.specs.Fields.{HasOneFirstField};
+ghost use Rattle.mj_model.specs.Laws.{WordsKeepPlaces};
 
 /// Each line has exactly one first field, and one rest behind it.
 pub fn field_split_is_unique()
@@ -18,4 +19,10 @@ pub fn one_best_path()
 /// So a search may keep, for each word, the best chain to it alone.
 pub fn extension_keeps_order()
     ensures { KeepsOrder }
+{}
+
+/// The words of a text are as a search asks: each begins at its place, is not empty, ends where a
+/// character begins or the text ends, and stands once.
+pub fn words_keep_places()
+    ensures { WordsKeepPlaces }
 {}
