@@ -6,3 +6,4 @@ pub mod CharBytes
 pub mod KnownMembers
 pub mod UnknownMembers
 pub mod PlaceWords
+pub mod TextPaths

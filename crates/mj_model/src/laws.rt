@@ -2,7 +2,7 @@
 
 ghost use Rattle.mj_model.specs.Best.{HasOneBest, KeepsOrder};
 ghost use Rattle.mj_model.specs.Fields.{HasOneFirstField};
-ghost use Rattle.mj_model.specs.Laws.{WordsKeepPlaces};
+ghost use Rattle.mj_model.specs.Laws.{OnlyBlanksRemain, WordsJoin, WordsKeepPlaces};
 
 /// Each line has exactly one first field, and one rest behind it.
 pub fn field_split_is_unique()
@@ -25,4 +25,14 @@ pub fn extension_keeps_order()
 /// character begins or the text ends, and stands once.
 pub fn words_keep_places()
     ensures { WordsKeepPlaces }
+{}
+
+/// After the last word of a path only blanks remain.
+pub fn only_blanks_remain()
+    ensures { OnlyBlanksRemain }
+{}
+
+/// The blanks and surfaces of a path's words, and then what remains, are the text.
+pub fn words_join_to_the_line()
+    ensures { WordsJoin }
 {}
