@@ -4,6 +4,7 @@
 mod category;
 mod counted;
 mod entry;
+pub mod laws;
 mod limits;
 mod run_fault;
 mod source_fault;
