@@ -29,10 +29,10 @@ pub record IsSource (words : ℕ → List Word) (conn : ℕ → ℕ → ℤ) (le
 
 -- there is exactly one best path
 abbrev pub HasOneBest : Type 0
-HasOneBest = (words : ℕ → List Word) (conn : ℕ → ℕ → ℤ) (len : ℕ) → IsSource words conn len
+HasOneBest = (words : ℕ → List Word) (conn : ℕ → ℕ → ℤ) (len : ℕ) → AreWords words len
     → (best : List Word) × IsBestPath words conn best × ((other : List Word) → IsBestPath words conn other → other ≡ best)
 
 -- what follows two chains that end in one word changes nothing in their order
 abbrev pub KeepsOrder : Type 0
-KeepsOrder = (words : ℕ → List Word) (conn : ℕ → ℕ → ℤ) (len : ℕ) → IsSource words conn len → (ps qs rs : List Word) (w : Word)
+KeepsOrder = (words : ℕ → List Word) (conn : ℕ → ℕ → ℤ) (len : ℕ) → AreWords words len → (ps qs rs : List Word) (w : Word)
     → IsBefore words conn (ps ++ w ∷ []) (qs ++ w ∷ []) ↔ IsBefore words conn ((ps ++ w ∷ []) ++ rs) ((qs ++ w ∷ []) ++ rs)

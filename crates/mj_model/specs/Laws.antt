@@ -40,7 +40,7 @@ pub record KeepsPlaces (o : Overlay) (text : List ℕ) : Type 0 where
   pub ends : (p : ℕ) (w : Word) → Contains (words o text p) w → IsTrue (is_place text w.end)
 
 abbrev pub WordsKeepPlaces : Type 0
-WordsKeepPlaces = (o : Overlay) (text : List ℕ) → HasWords o → IsUtf8 text → KeepsPlaces o text
+WordsKeepPlaces = (o : Overlay) (text : List ℕ) → HasWords o → KeepsPlaces o text
 
 -- after the last word of a path only blanks remain
 abbrev pub OnlyBlanksRemain : Type 0
@@ -57,5 +57,5 @@ joined_words text ws = flat_map (λ w. between text w.place w.start ++ between t
 
 -- the blanks and surfaces of a path's words, and then what remains, are the text
 abbrev pub WordsJoin : Type 0
-WordsJoin = (o : Overlay) (text : List ℕ) → HasWords o → IsUtf8 text
+WordsJoin = (o : Overlay) (text : List ℕ) → HasWords o
     → (path : List Word) (to : ℕ) → IsPath (words o text) path to → joined_words text path ++ drop to text ≡ text
