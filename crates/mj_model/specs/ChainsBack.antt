@@ -1,5 +1,5 @@
 -- Chains from the beginning of the text, the last word first: how a search reads them, and the best of those to a place.
-use Rattle.std.specs.Prelude.{◌≡◌, ℕ, ℤ, pos, ◌+ℤ◌, ◌<ℤ◌, ◌<◌, ◌≤◌, List, [], ◌∷◌, Contains, ◌⊎◌}
+use Rattle.std.specs.Prelude.{◌≡◌, ℕ, ℤ, pos, ◌+ℤ◌, ◌<ℤ◌, List, [], ◌∷◌, Contains, ◌⊎◌}
 use Rattle.mj_model.specs.declared.word.Word.{Word}
 use Rattle.mj_model.specs.Order.{WinsTie, IsPreferred}
 

@@ -1,6 +1,6 @@
 -- Connection costs, as `matrix.def` lists them (MeCab): two sizes, then rows of the right id of the word before, the left id of the
 -- word behind it, and the cost of setting them so.
-use Rattle.std.specs.Prelude.{◌≡◌, ℕ, ◌*◌, ◌^◌, ℤ, pos, Bool, not, ◌==◌, ◌&&◌, nat_lt, nat_le, if◌then◌else◌, List, [], ◌∷◌, length, filter, filter_map, find, reverse, Option, Some, None, option_and_then, option_map, Result, Ok, Err}
+use Rattle.std.specs.Prelude.{ℕ, ◌*◌, ℤ, pos, Bool, not, ◌==◌, ◌&&◌, nat_lt, nat_le, if◌then◌else◌, List, [], ◌∷◌, length, filter, filter_map, find, reverse, Option, Some, None, option_and_then, option_map, Result, Ok, Err}
 use Rattle.std.specs.List.{slice_split}
 use Rattle.std.specs.Option.{option_map_or}
 use Rattle.mj_model.specs.declared.limits.TheConstants.{MATRIX_CELLS_MAX}
@@ -9,7 +9,7 @@ use Rattle.mj_model.specs.declared.source_fault.SourceKind.{SourceKind}
 use Rattle.mj_model.specs.declared.source_fault.SourceKind.TheVariants.{BadHeader, BadRow, PairOutside, TooLarge}
 use Rattle.mj_model.specs.Bytes.{is_blank}
 use Rattle.mj_model.specs.Lines.{numbered_lines, is_blank_line}
-use Rattle.mj_model.specs.Numbers.{number_in, natural_in, context_id, cost}
+use Rattle.mj_model.specs.Numbers.{natural_in, context_id, cost}
 use Rattle.mj_model.specs.FirstFault.{first_fault}
 
 -- the words of a line: its parts between blanks and tabs, without the empty ones

@@ -1,5 +1,5 @@
 -- What a reader and a writer count of the calls on them.
-use Rattle.std.specs.Prelude.{◌≡◌, ℕ, ◌+◌, ◌<◌, ◌^◌, ◌-◌, Bool, true, false, nat_lt, ◌==◌, ◌&&◌, ◌||◌, if◌then◌else◌, Result, Ok, Err}
+use Rattle.std.specs.Prelude.{ℕ, ◌<◌, ◌^◌, ◌-◌, Bool, false, nat_lt, ◌==◌, ◌&&◌, ◌||◌, if◌then◌else◌, Result, Ok, Err}
 
 -- 1 for a read that gave no byte into a buffer with room: the end of the input
 abbrev pub end_in : {E : Type 0} → Result ℕ E → ℕ → ℕ

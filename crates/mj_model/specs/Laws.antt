@@ -1,12 +1,12 @@
 -- Laws of the words and paths over an overlay of dictionaries.
-use Rattle.std.specs.Prelude.{◌≡◌, ℕ, ◌-◌, ◌<◌, ◌≤◌, ◌⊎◌, List, [], ◌∷◌, ◌++◌, length, map, flat_map, take, drop, IsUtf8, IsTrue, Contains, ◌^◌}
+use Rattle.std.specs.Prelude.{◌≡◌, ℕ, ◌-◌, ◌<◌, ◌⊎◌, List, [], ◌∷◌, ◌++◌, length, map, flat_map, take, drop, IsUtf8, IsTrue, Contains}
 use Rattle.std.specs.List.{AllByRecursion}
 use Rattle.mj_model.specs.declared.word.Word.{Word}
 use Rattle.mj_model.specs.Tables.{Overlay, Token, Lexeme, lexicons}
 use Rattle.mj_model.specs.Blanks.{skip}
 use Rattle.mj_model.specs.Words.{words, is_place}
-use Rattle.mj_model.specs.Paths.{IsChain, IsPath}
-use Rattle.mj_model.specs.Best.{AreWords, IsWithin}
+use Rattle.mj_model.specs.Paths.{IsPath}
+use Rattle.mj_model.specs.Best.{AreWords}
 
 -- x stands in a list
 abbrev pub StandsIn : {X : Type 0} → List X → X → Type 0

@@ -1,6 +1,6 @@
 -- What the lines of a lexicon say: `surface,left id,right id,word cost,feature` (MeCab, dic-detail).
 -- The feature is all that stands behind the fourth comma, byte for byte.
-use Rattle.std.specs.Prelude.{◌≡◌, ℕ, ◌+◌, ◌≤◌, ℤ, IsTrue, IsFalse, ◌==◌, nat_le, nat_lt, if◌then◌else◌, List, [], ◌∷◌, length, count_by, filter_map, map, Option, Some, None, option_and_then, option_map, Result, Ok, Err, IsUtf8, string_bytes, ◌⊎◌, Bool, true, false}
+use Rattle.std.specs.Prelude.{◌≡◌, ℕ, ◌+◌, ◌≤◌, ℤ, IsTrue, IsFalse, ◌==◌, nat_le, nat_lt, if◌then◌else◌, List, [], ◌∷◌, length, count_by, filter_map, map, Option, Some, None, option_and_then, option_map, Result, Ok, Err, IsUtf8, string_bytes, Bool, true, false}
 use Rattle.mj_model.specs.declared.limits.TheConstants.{SURFACE_MAX, ENTRIES_MAX}
 use Rattle.mj_model.specs.declared.source_fault.SourceFault.{SourceFault}
 use Rattle.mj_model.specs.declared.source_fault.SourceKind.{SourceKind}

@@ -1,6 +1,6 @@
 -- Numbers of the source files: an optional sign, then one or more decimal digits, then blanks and tabs that are ignored (this
 -- project's own choice). Leading zeros are allowed, and the value decides the range: `-0` and `+1` are ids.
-use Rattle.std.specs.Prelude.{ℕ, ◌+◌, ◌-◌, ◌*◌, ℤ, pos, neg_ℤ, int_le, Bool, ◌==◌, ◌&&◌, nat_lt, if◌then◌else◌, List, [], ◌∷◌, length, take, fold, Option, Some, None, option_map, option_and_then, nat_abs, ◌^◌}
+use Rattle.std.specs.Prelude.{ℕ, ◌+◌, ◌-◌, ◌*◌, ℤ, pos, neg_ℤ, int_le, ◌==◌, ◌&&◌, nat_lt, if◌then◌else◌, List, [], ◌∷◌, length, take, fold, Option, Some, None, option_map, option_and_then, nat_abs}
 use Rattle.std.specs.List.{suffix_len}
 use Rattle.std.specs.Str.{all_ascii_digits}
 use Rattle.mj_model.specs.Bytes.{is_blank, plus, minus}

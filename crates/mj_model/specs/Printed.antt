@@ -1,12 +1,12 @@
 -- The text of a path in the default format (MeCab): of each word the surface, a tab and the feature, each on a line, and then EOS.
-use Rattle.std.specs.Prelude.{ℕ, ◌-◌, ◌==◌, List, [], ◌∷◌, ◌++◌, take, drop, map, flat_map, find, codes, slice_index_or, Option, length}
+use Rattle.std.specs.Prelude.{ℕ, ◌-◌, ◌==◌, List, [], ◌∷◌, ◌++◌, map, flat_map, find, codes, slice_index_or, length}
 use Rattle.std.specs.Option.{option_map_or}
 use Rattle.mj_model.specs.declared.word.Word.{Word}
 use Rattle.mj_model.specs.declared.word.Origin.{Origin}
 use Rattle.mj_model.specs.declared.word.Origin.TheVariants.{Known, Unknown}
 use Rattle.mj_model.specs.Bytes.{line_feed, tab}
 use Rattle.mj_model.specs.KnownWords.{up_to}
-use Rattle.mj_model.specs.Tables.{Overlay, Token, Lexeme, lexicons}
+use Rattle.mj_model.specs.Tables.{Overlay, Token, lexicons}
 use Rattle.mj_model.specs.Laws.{between}
 
 -- the feature of the entry with a number

@@ -1,5 +1,5 @@
 -- Runs of characters of one kind. Comparing neighbors is this project's own choice.
-use Rattle.std.specs.Prelude.{◌≡◌, ℕ, suc, ◌+◌, if◌then◌else◌, List, [], ◌∷◌, length, take, take_while, encode_utf8_all}
+use Rattle.std.specs.Prelude.{ℕ, suc, ◌+◌, if◌then◌else◌, List, [], ◌∷◌, length, take, take_while, encode_utf8_all}
 use Rattle.mj_model.specs.declared.category.CharInfo.{CharInfo}
 use Rattle.mj_model.specs.Categories.{shares}
 

@@ -1,5 +1,5 @@
 -- What dictionaries say: the tables of one dictionary, and an overlay of a system's and its users'.
-use Rattle.std.specs.Prelude.{ℕ, ℤ, pos, Bool, false, List, [], ◌∷◌, slice_index_or}
+use Rattle.std.specs.Prelude.{ℕ, ℤ, false, List, [], ◌∷◌, slice_index_or}
 use Rattle.mj_model.specs.declared.category.CharInfo.{CharInfo}
 use Rattle.mj_model.specs.declared.category.Category.{Category}
 use Rattle.mj_model.specs.Connection.{Sizes}
