@@ -1,0 +1,4 @@
+pub mod SortedRows
+pub mod SurfaceBytes
+pub mod Narrowing
+pub mod KnownFound
