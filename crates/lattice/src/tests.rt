@@ -72,8 +72,10 @@ fn best_paths(rt: HostRuntime) -> Result<(), Fail> {
     Ok(())
 }
 
-/// Asks for the best path of a text of letters, each a word of word cost 10.
+/// Asks for the best path of a text of letters, each a word of word cost 10. After a refusal the
+/// path is as it was, and the lattice is asked again.
 fn fill_letters(
+    rt: &impl Abort,
     alloc: Global,
     lattice: &mut Lattice,
     length: u16,
@@ -84,6 +86,12 @@ fn fill_letters(
         entries.push((place, place + 1, 10))?;
     }
     let text = sample_of(alloc, length, &entries)?;
+    let (count, total) = (path.words.len(), path.total);
+    if lattice.fill(&text, path).is_ok() {
+        return Ok(());
+    }
+    assert_eq!(rt; path.words.len(), count, "after a refusal");
+    assert_eq!(rt; path.total, total, "after a refusal");
     lattice.fill(&text, path)
 }
 
@@ -96,7 +104,7 @@ fn long_then_short(rt: HostRuntime) -> Result<(), Fail> {
     };
     // 10 from BOS, 10 a letter, 7 between letters, 5 to EOS; and 0 from BOS to EOS.
     for (length, total) in [(1000, 17008), (3, 59), (0, 0)] {
-        fill_letters(rt.alloc(), &mut lattice, length, &mut path)?;
+        fill_letters(&rt, rt.alloc(), &mut lattice, length, &mut path)?;
         assert_eq!(rt; path.words.len(), usize::from(length));
         assert_eq!(rt; path.total, total);
     }
