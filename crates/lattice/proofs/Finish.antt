@@ -1,0 +1,70 @@
+-- The lattice of the whole text: the best chain to the greatest place where a node ends is the best path.
+use Rattle.std.proofs.Common.{◌≡◌, ℕ, ◌≤◌, List, [], ◌∷◌, length, reverse, Some, inl, inr, refl, sym, ap, ◌∙◌, subst, arith, slice_get}
+use Rattle.std.specs.Prelude.{ℤ}
+use Rattle.std.proofs.lemmas.Option.{slice_get_within}
+use Rattle.mj_model.specs.declared.word.Word.{Word}
+use Rattle.lattice.specs.declared.node.Node.{Node}
+use Rattle.lattice.specs.declared.node.Join.{Join}
+use Rattle.mj_model.specs.Best.{IsSource, IsBestPath}
+use Rattle.mj_model.specs.Cost.{path_cost}
+use Rattle.mj_model.specs.ChainsBack.{IsChainTo, joined}
+use Rattle.lattice.specs.Lattice.{Traces, IsBelow, IsLattice, IsJoin, NoChain, LinksGoBack, IsLastEnd, ReachesTo}
+use Rattle.std.proofs.lemmas.List.{reverse-reverse}
+use Rattle.mj_model.proofs.ChainsBackLemmas.{best_path_from, cost_reversed}
+use Rattle.lattice.proofs.Links.{below_all, traced_same}
+
+module _ (words : ℕ → List Word) (conn : ℕ → ℕ → ℤ) (len : ℕ) (source : IsSource words conn len) where
+  abbrev pub Lattice : List Node → ℕ → ℕ → Type 0
+  Lattice nodes p k = IsLattice words conn nodes p k
+
+  -- at the end of the text each word that a chain reaches has a node
+  pub all_there : (nodes : List Node) → Lattice nodes len 0 → (w : Word) (ws : List Word) (to : ℕ) → IsChainTo words (w ∷ ws) to → (i : ℕ) × (n : Node) × (slice_get nodes i ≡ Some n) × (n.word ≡ w)
+  all_there nodes l w ws to c =
+      let go = source.are.go_on w.place w c.1 in
+      let end = source.are.within w.place w c.1 in
+      l.complete w ws (refl, c.1, c.2) (inl (omega (arith, go, end)))
+
+  -- the last end lies in the text
+  pub last_low : (nodes : List Node) (last : ℕ) → IsLattice words conn nodes len 0 → IsLastEnd nodes (length nodes) last → last ≤ len
+  last_low nodes last l is_last = elim is_last.reached [
+    | inl zero_at ↦ omega (arith, zero_at)
+    | inr at ↦ let b = l.best at.0 at.1 at.2 in let w = source.are.within at.1.word.place at.1.word b.is_word in let e = at.3 in omega (arith, w, e)
+  ]
+
+  module _ (nodes : List Node) (last : ℕ) (l : IsLattice words conn nodes len 0) (is_last : IsLastEnd nodes (length nodes) last) where
+    pub last_reaches : ReachesTo words conn nodes last
+    last_reaches = record { p = len; k = 0; far = last_low nodes last l is_last; lattice = l }
+
+    -- some chain leads to the last end
+    pub leads_there : NoChain words last → ⊥
+    leads_there none = elim is_last.reached [
+      | inl zero_at ↦ none [] zero_at
+      | inr at ↦ let b = l.best at.0 at.1 at.2 in none (at.1.word ∷ b.chain) (at.3, b.is_word, b.best.chain)
+    ]
+
+    -- no chain ends later
+    pub greatest : (ws : List Word) (later : ℕ) → IsChainTo words ws later → later ≤ last
+    greatest [] later c = omega (arith, c)
+    greatest (w ∷ ws) later c =
+        let f = all_there nodes l w ws later c in
+        let b = is_last.each f.0 f.1 (slice_get_within nodes f.0 f.1 f.2) f.2 in
+        let e : f.1.word.end ≡ w.end = ap (λ (u : Word). u.end) f.3 in
+        omega (arith, b, e, c.0)
+
+    pub links_back : LinksGoBack nodes
+    links_back i n at = (l.best i n at).below
+
+    pub join_below : (j : Join) → IsJoin words conn nodes last 0 j → IsBelow j.before (length nodes)
+    join_below j join = below_all nodes j.before join.chain join.traced
+
+    -- the words from the node before EOS, turned round, are the best path
+    pub path_is_best : (j : Join) (ws vs : List Word) → IsJoin words conn nodes last 0 j → Traces nodes j.before ws → vs ≡ reverse ws → IsBestPath words conn vs
+    path_is_best j ws vs join t is =
+        let same : join.chain ≡ ws = traced_same nodes j.before join.chain ws join.traced t in
+        subst (IsBestPath words conn) (ap reverse same ∙ sym is) (best_path_from words conn len source.are join.chain last join.best greatest)
+
+    -- and its cost is the join's
+    pub path_costs : (j : Join) (ws vs : List Word) → IsJoin words conn nodes last 0 j → Traces nodes j.before ws → vs ≡ reverse ws → j.cost ≡ path_cost conn vs
+    path_costs j ws vs join t is =
+        let same : join.chain ≡ ws = traced_same nodes j.before join.chain ws join.traced t in
+        join.cost_is ∙ ap (λ (us : List Word). joined conn us 0) (same ∙ sym (reverse-reverse ws) ∙ ap reverse (sym is)) ∙ sym (cost_reversed words conn len source.are vs)

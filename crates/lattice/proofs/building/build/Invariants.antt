@@ -1,0 +1,11 @@
+use Rattle.std.proofs.Common.{◌≡◌, ◌+◌, length}
+use Rattle.lattice.specs.Nodes.{AreLinked}
+use Rattle.lattice.specs.Lattice.{IsLattice}
+use Rattle.lattice.proofs.building.build.Given as goal
+
+abbrev pub invariant-loop-place : goal.invariant-loop-place
+invariant-loop-place g l = record {
+  lattice : IsLattice (g.S.WordSource.words l.source) (g.S.WordSource.connection l.source) l.nodes.items l.place 0;
+  links : AreLinked l.nodes.items l.heads.items;
+  heads : length l.heads.items ≡ g.S.WordSource.text_length l.source + 1;
+}
