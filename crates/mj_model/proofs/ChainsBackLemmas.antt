@@ -1,13 +1,13 @@
 -- Chains read from their last word: the best chain to a word is the word after the best chain to its place, and chains read backwards are the paths of the definitions.
 use Rattle.std.proofs.Common.{◌≡◌, ℕ, ◌<◌, ◌≤◌, List, [], ◌∷◌, ◌++◌, Contains, Some, ◌⊎◌, inl, inr, reverse, refl, sym, ap, ◌∙◌, subst, arith, slice_get}
-use Rattle.std.specs.Prelude.{ℤ, pos, ◌+ℤ◌, ◌<ℤ◌}
+use Rattle.std.specs.Prelude.{ℤ, ◌+ℤ◌}
 use Rattle.std.proofs.lemmas.Int.{ints}
 use Rattle.std.proofs.lemmas.List.{reverse-reverse, reverse-append}
 use mathlib.Core.List.{reverse_aux}
 use Rattle.mj_model.specs.declared.word.Word.{Word}
 use Rattle.mj_model.specs.Paths.{IsChain, IsPath}
 use Rattle.mj_model.specs.Cost.{cost_after, path_cost}
-use Rattle.mj_model.specs.Order.{StandsBefore, IsPreferred, WinsTie, IsBefore}
+use Rattle.mj_model.specs.Order.{IsPreferred, WinsTie, IsBefore}
 use Rattle.mj_model.specs.Best.{IsBestPath, AreWords}
 use Rattle.mj_model.specs.ChainsBack.{IsChainTo, last_right, cost_to, joined, NoWorse, HoldsAgainst, IsBestTo}
 

@@ -1,1 +1,2 @@
 pub mod ChainsBackLemmas
+pub mod BestExists

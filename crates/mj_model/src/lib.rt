@@ -3,6 +3,7 @@
 
 mod category;
 mod entry;
+pub mod laws;
 mod limits;
 mod run_fault;
 mod source_fault;
