@@ -1,2 +1,3 @@
 pub mod ChainsBackLemmas
 pub mod BestExists
+pub mod FieldLemmas

@@ -1,6 +1,12 @@
 //! Laws of the definitions: facts that hold of every source of words, and of every text.
 
 ghost use Rattle.mj_model.specs.Best.{HasOneBest, KeepsOrder};
+ghost use Rattle.mj_model.specs.Fields.{HasOneFirstField};
+
+/// Each line has exactly one first field, and one rest behind it.
+pub fn field_split_is_unique()
+    ensures { HasOneFirstField }
+{}
 
 /// There is exactly one best path.
 pub fn one_best_path()
