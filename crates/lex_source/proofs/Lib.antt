@@ -1,2 +1,5 @@
 pub mod CutLemmas
 pub mod LineLemmas
+pub mod QuoteLemmas
+pub mod FieldLemmas
+pub mod FieldsLemmas

@@ -8,6 +8,7 @@ use Rattle.std.proofs.lemmas.List.Splits.{slice_split-cons_yes, slice_split-cons
 use Rattle.mj_model.specs.Bytes.{is_line_feed}
 use Rattle.mj_model.specs.Lines.{source_lines, pieces, without_last_empty, without_return}
 use Rattle.lex_source.specs.Cuts.{IsCut}
+use Rattle.lex_source.proofs.CutLemmas.{any_within}
 
 -- a list is cut into a piece and more
 record IsPieces (parts : List (List ℕ)) : Type 0 where
@@ -33,20 +34,6 @@ before_more (c ∷ cs) next more = refl
 before_pieces : (piece : List ℕ) (parts : List (List ℕ)) → IsPieces parts → without_last_empty (piece ∷ parts) ≡ piece ∷ without_last_empty parts
 before_pieces piece parts p =
     ap (λ (ps : List (List ℕ)). without_last_empty (piece ∷ ps)) p.is ∙ before_more piece p.first p.more ∙ sym (ap (λ (ps : List (List ℕ)). piece ∷ without_last_empty ps) p.is)
-
--- a byte that passes stands before the end
-any_within : (test : ℕ → Bool) (bytes : List ℕ) → list_any test bytes ≡ true → position_or_len test bytes < length bytes
-any_within test [] h = cc
-any_within test (c ∷ cs) h = elim (cases_Bool (test c)) [
-  | inl passes ↦
-      let e : position_or_len test (c ∷ cs) ≡ 0 = ap (λ (b : Bool). cond (not b) (1 + position_or_len test cs) 0) passes in
-      omega arith
-  | inr fails ↦
-      let e : position_or_len test (c ∷ cs) ≡ 1 + position_or_len test cs = ap (λ (b : Bool). cond (not b) (1 + position_or_len test cs) 0) fails in
-      let more : list_any test cs ≡ true = sym (ap (λ (b : Bool). b || list_any test cs) fails) ∙ h in
-      let within : position_or_len test cs < length cs = any_within test cs more in
-      omega arith
-]
 
 pub cut_shorter : (test : ℕ → Bool) (bytes before behind : List ℕ) → IsCut test bytes before behind → length behind < length bytes
 cut_shorter test bytes before behind cut =

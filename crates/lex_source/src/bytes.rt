@@ -1,9 +1,8 @@
 //! Cuts and blanks of byte slices.
-ghost use Rattle.std.specs.Prelude.{◌≡◌, ◌==◌, ◌↔◌, IsTrue, false, drop, MatchOption};
-ghost use Rattle.std.specs.List.{list_any};
+ghost use Rattle.std.specs.Prelude.{◌≡◌, ◌==◌, false, MatchOption};
+ghost use Rattle.std.specs.List.{list_any, prefix_len};
 ghost use Rattle.mj_model.specs.Bytes.{is_blank as is_blank_byte};
 ghost use Rattle.mj_model.specs.Lines.{is_blank_line as is_blank_text};
-ghost use Rattle.mj_model.specs.Fields.{without_blanks as without_blanks_before};
 ghost use Rattle.mj_model.specs.Numbers.{without_blanks_behind as without_trailing};
 ghost use Rattle.lex_source.specs.Cuts.{IsCut};
 
@@ -31,16 +30,16 @@ pub(crate) fn is_blank_line(line: &[u8]) -> bool
     line.iter().all(|byte| is_blank(*byte))
 }
 
-/// A text without the blanks and tabs before it.
-pub(crate) fn without_blanks(text: &[u8]) -> &[u8]
-    ensures { result.now ≡ without_blanks_before text.now }
+/// How many blanks and tabs a text begins with.
+pub(crate) fn blanks_before(text: &[u8]) -> usize
+    ensures { result ≡ prefix_len is_blank_byte text.now }
 {
     for (i, byte) in text.iter().enumerate() {
         if !is_blank(*byte) {
-            return &text[i..];
+            return i;
         }
     }
-    &text[text.len()..]
+    text.len()
 }
 
 /// A text without the blanks and tabs behind it.

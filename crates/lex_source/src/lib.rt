@@ -2,10 +2,16 @@
 #![tactic(auto)]
 
 mod bytes;
+mod fields;
 mod numbered;
 mod numbers;
+mod parts;
+mod quoted;
+mod raw_field;
 mod source_lines;
+mod text;
 
+pub use fields::field;
 pub use numbered::Lines;
-pub use numbers::number;
+pub use numbers::{context_id, cost, number};
 pub use source_lines::lines;

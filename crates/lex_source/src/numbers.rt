@@ -1,6 +1,6 @@
 //! Numbers of the source files.
 ghost use Rattle.std.specs.Prelude.{◌≡◌, ◌≤◌, ◌+◌, ◌^◌, ◌-◌, Some, None, pos, neg_ℤ, nat_le, if◌then◌else◌};
-ghost use Rattle.mj_model.specs.Numbers.{number_in, unsigned_number};
+ghost use Rattle.mj_model.specs.Numbers.{number_in, unsigned_number, context_id as context_id_of, cost as cost_of};
 ghost use Rattle.lex_source.specs.Digits.{up_to, with_digit};
 
 use crate::bytes::without_blanks_behind;
@@ -18,6 +18,20 @@ pub fn number(text: &[u8]) -> Option<i32>
         [b'+', digits @ ..] => positive(natural(digits)?),
         digits => positive(natural(digits)?),
     }
+}
+
+/// A context id: a number from 0 to 65,535.
+pub fn context_id(text: &[u8]) -> Option<u16>
+    ensures { result ≡ context_id_of text.now }
+{
+    u16::try_from(number(text)?).ok()
+}
+
+/// A word cost or a connection cost: a number from -32,768 to 32,767.
+pub fn cost(text: &[u8]) -> Option<i16>
+    ensures { result ≡ cost_of text.now }
+{
+    i16::try_from(number(text)?).ok()
 }
 
 /// The value of decimal digits, if it is at most `MAGNITUDE_MAX`.
