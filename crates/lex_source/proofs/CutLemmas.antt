@@ -22,11 +22,11 @@ pub cut_around : (test : ℕ → Bool) (bytes before behind : List ℕ) (at : �
 cut_around test bytes before behind at none found before_is behind_is =
     let in' : at < length bytes = none.high in
     let is : position_or_len test bytes ≡ at =
-        position_or_len_is test bytes at 0 (omega arith) (λ k low. false_from_ne_true (test (slice_index bytes k)) (none.before k (omega arith) low)) (λ _. found) in
+    position_or_len_is test bytes at 0 (omega arith) (λ k low. false_from_ne_true (test (slice_index bytes k)) (none.before k (omega arith) low)) (λ _. found) in
     record {
-        found = list_any_at test bytes at 0 in' found;
-        before_is = before_is ∙ ap (λ (n : ℕ). take n bytes) (sym is);
-        behind_is = behind_is ∙ ap (λ (n : ℕ). drop (n + 1) bytes) (sym is)
+      found = list_any_at test bytes at 0 in' found;
+      before_is = before_is ∙ ap (λ (n : ℕ). take n bytes) (sym is);
+      behind_is = behind_is ∙ ap (λ (n : ℕ). drop (n + 1) bytes) (sym is);
     }
 
 pub cut_at : (test : ℕ → Bool) (bytes : List ℕ) (at : ℕ) → NoneBefore (Passes test bytes) 0 (length bytes) at → Passes test bytes at
@@ -86,13 +86,12 @@ cut_parts byte text before behind cut =
     let test : ℕ → Bool = λ c. c == byte in
     let within : position_or_len test text < length text = any_within test text cut.found in
     let here : get_or text (position_or_len test text) 0 ≡ byte = eqb-true (get_or text (position_or_len test text) 0) byte (passes_at_first test text 0 within) in
-    let parts : text ≡ before_first test text ++ (get_or text (position_or_len test text) 0 ∷ after_first test text) = split_at_first test text 0 within in
-    (
-        parts ∙ ap (λ (b : ℕ). before_first test text ++ b ∷ after_first test text) here
-            ∙ sym (ap (λ (xs : List ℕ). xs ++ byte ∷ after_first test text) cut.before_is) ∙ sym (ap (λ (xs : List ℕ). before ++ byte ∷ xs) cut.behind_is),
-        ap (list_any test) cut.before_is ∙ list_any_none test (before_first test text) (λ k d in'.
-            let low : k < position_or_len test text = omega (arith, length-take {A = ℕ}) in
-            ap test (get_or-take (position_or_len test text) text k d low) ∙ fails_before_first test text k d low)
+    let parts : text ≡ before_first test text ++ (get_or text (position_or_len test text) 0 ∷ after_first test text) = split_at_first test text 0 within in (
+      parts ∙ ap (λ (b : ℕ). before_first test text ++ b ∷ after_first test text) here
+          ∙ sym (ap (λ (xs : List ℕ). xs ++ byte ∷ after_first test text) cut.before_is) ∙ sym (ap (λ (xs : List ℕ). before ++ byte ∷ xs) cut.behind_is),
+      ap (list_any test) cut.before_is ∙ list_any_none test (before_first test text) (λ k d in'.
+          let low : k < position_or_len test text = omega (arith, length-take {A = ℕ}) in
+          ap test (get_or-take (position_or_len test text) text k d low) ∙ fails_before_first test text k d low),
     )
 
 -- without such a byte all stands before it

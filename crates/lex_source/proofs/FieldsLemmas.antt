@@ -98,11 +98,11 @@ at_next text raw quoted rest next raw' quoted' rest' i s is more =
     let first : IsFirstField s.at s.here.field (Some next.now) = subst (λ (r : Option (Bor (List ℕ))). IsFirstField s.at s.here.field (option_copied r)) is s.here.first in
     let count : length s.firsts ≡ i = s.count in
     record {
-        firsts = s.firsts ++ s.here.field ∷ [];
-        at = next.now;
-        before = first_more text s.firsts s.at s.here.field next.now s.before first;
-        count = omega (arith, length-append s.firsts (s.here.field ∷ []));
-        here = more
+      firsts = s.firsts ++ s.here.field ∷ [];
+      at = next.now;
+      before = first_more text s.firsts s.at s.here.field next.now s.before first;
+      count = omega (arith, length-append s.firsts (s.here.field ∷ []));
+      here = more;
     }
 
 pub no_field : (text raw : List ℕ) (quoted : Bool) (rest : Option (Bor (List ℕ))) (i n : ℕ) → StandsAt text i raw quoted (option_copied rest) → rest ≡ None → i < n → IsFieldAt text n None
@@ -110,18 +110,18 @@ no_field text raw quoted rest i n s is low =
     let first : IsFirstField s.at s.here.field None = subst (λ (r : Option (Bor (List ℕ))). IsFirstField s.at s.here.field (option_copied r)) is s.here.first in
     let count : length s.firsts ≡ i = s.count in
     record {
-        fields = s.firsts ++ s.here.field ∷ [];
-        are = first_then text s.firsts s.at s.here.field [] s.before first;
-        here = get_past (s.firsts ++ s.here.field ∷ []) n (omega (arith, length-append s.firsts (s.here.field ∷ [])))
+      fields = s.firsts ++ s.here.field ∷ [];
+      are = first_then text s.firsts s.at s.here.field [] s.before first;
+      here = get_past (s.firsts ++ s.here.field ∷ []) n (omega (arith, length-append s.firsts (s.here.field ∷ [])));
     }
 
 pub a_field_at : (text : List ℕ) (found : RawField) (n : ℕ) → StandsAt text n found.raw.now found.quoted (option_copied found.rest) → IsFieldAt text n (Some found)
 a_field_at text found n s =
     let more = fields_from s.at s.here.field (option_copied found.rest) s.here.first in
     record {
-        fields = s.firsts ++ s.here.field ∷ more.0;
-        are = first_then text s.firsts s.at s.here.field more.0 s.before more.1;
-        here = (s.here.field, s.here.spelled, get_at s.firsts s.here.field more.0 n s.count)
+      fields = s.firsts ++ s.here.field ∷ more.0;
+      are = first_then text s.firsts s.at s.here.field more.0 s.before more.1;
+      here = (s.here.field, s.here.spelled, get_at s.firsts s.here.field more.0 n s.count);
     }
 
 -- ---- what stands first with its rest, or without

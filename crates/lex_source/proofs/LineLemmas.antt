@@ -45,8 +45,8 @@ pub cut_lines : (bytes before behind line : List ℕ) → IsCut is_line_feed byt
 cut_lines bytes before behind line cut is =
     let in' : position_or_len is_line_feed bytes < length bytes = any_within is_line_feed bytes cut.found in
     let e : slice_split is_line_feed bytes ≡ before ∷ slice_split is_line_feed behind =
-        slice_split_first is_line_feed bytes 0 in' ∙ sym (ap (λ (xs : List ℕ). xs ∷ slice_split is_line_feed (after_first is_line_feed bytes)) cut.before_is)
-        ∙ sym (ap (λ (xs : List ℕ). before ∷ slice_split is_line_feed xs) cut.behind_is) in
+    slice_split_first is_line_feed bytes 0 in' ∙ sym (ap (λ (xs : List ℕ). xs ∷ slice_split is_line_feed (after_first is_line_feed bytes)) cut.before_is)
+    ∙ sym (ap (λ (xs : List ℕ). before ∷ slice_split is_line_feed xs) cut.behind_is) in
     let p : pieces bytes ≡ before ∷ pieces behind = ap without_last_empty e ∙ before_pieces before (slice_split is_line_feed behind) (split_pieces is_line_feed behind) in
     ap (map without_return) p ∙ ap (λ (l : List ℕ). l ∷ source_lines behind) (sym is)
 

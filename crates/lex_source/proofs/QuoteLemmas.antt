@@ -37,12 +37,12 @@ doubled_plain (c ∷ cs) h =
 plain_before : (text : List ℕ) (start at : ℕ) → IsNextQuote text start at → list_any is_quote (take (at - start) (drop start text)) ≡ false
 plain_before text start at next =
     list_any_none is_quote (take (at - start) (drop start text)) (λ k d in'.
-        let low : k < at - start = omega (arith, length-take {A = ℕ}) in
-        let short : at ≤ length text = next.high in
-        let within : start + k < length text = omega arith in
-        let here : get_or (take (at - start) (drop start text)) k d ≡ get_or text (start + k) 0 =
-            get_or-take (at - start) (drop start text) k d low ∙ get_or-drop start text k d ∙ get_or_default text (start + k) d 0 within in
-        ap is_quote here ∙ ne_eqb (get_or text (start + k) 0) quote (next.before (start + k) (omega arith) (omega arith)))
+    let low : k < at - start = omega (arith, length-take {A = ℕ}) in
+    let short : at ≤ length text = next.high in
+    let within : start + k < length text = omega arith in
+    let here : get_or (take (at - start) (drop start text)) k d ≡ get_or text (start + k) 0 =
+    get_or-take (at - start) (drop start text) k d low ∙ get_or-drop start text k d ∙ get_or_default text (start + k) d 0 within in
+    ap is_quote here ∙ ne_eqb (get_or text (start + k) 0) quote (next.before (start + k) (omega arith) (omega arith)))
 
 -- what `memchr` tells of the next quote
 pub next_found : (text rest : List ℕ) (start at : ℕ) → rest ≡ drop start text → start ≤ length text → NoneBefore (Passes is_quote rest) 0 (length rest) at → Passes is_quote rest at
@@ -51,26 +51,26 @@ next_found text rest start at is within none found =
     let in' : at < length rest = none.high in
     let long : length rest ≡ length (drop start text) = ap (λ (xs : List ℕ). length xs) is in
     record {
-        low = omega arith;
-        high = omega (arith, length-drop {A = ℕ});
-        before = λ k low high here.
-            let e : start + (k - start) ≡ k = omega arith in
-            let back : get_or rest (k - start) 0 ≡ get_or text k 0 = ap (λ (xs : List ℕ). get_or xs (k - start) 0) is ∙ get_or-drop start text (k - start) 0 ∙ ap (λ (n : ℕ). get_or text n 0) e in
-            none.before (k - start) (omega arith) (omega arith) (eq-eqb (get_or rest (k - start) 0) quote (back ∙ here));
-        here = λ _. sym (ap (λ (xs : List ℕ). get_or xs at 0) is ∙ get_or-drop start text at 0) ∙ eqb-true (get_or rest at 0) quote found
+      low = omega arith;
+      high = omega (arith, length-drop {A = ℕ});
+      before = λ k low high here.
+          let e : start + (k - start) ≡ k = omega arith in
+          let back : get_or rest (k - start) 0 ≡ get_or text k 0 = ap (λ (xs : List ℕ). get_or xs (k - start) 0) is ∙ get_or-drop start text (k - start) 0 ∙ ap (λ (n : ℕ). get_or text n 0) e in
+          none.before (k - start) (omega arith) (omega arith) (eq-eqb (get_or rest (k - start) 0) quote (back ∙ here));
+      here = λ _. sym (ap (λ (xs : List ℕ). get_or xs at 0) is ∙ get_or-drop start text at 0) ∙ eqb-true (get_or rest at 0) quote found;
     }
 
 pub next_missing : (text rest : List ℕ) (start : ℕ) → rest ≡ drop start text → start ≤ length text → Nowhere (Passes is_quote rest) 0 (length rest) → IsNextQuote text start (length text)
 next_missing text rest start is within none =
     let long : length rest ≡ length (drop start text) = ap (λ (xs : List ℕ). length xs) is in
     record {
-        low = within;
-        high = omega arith;
-        before = λ k low high here.
-            let e : start + (k - start) ≡ k = omega arith in
-            let back : get_or rest (k - start) 0 ≡ get_or text k 0 = ap (λ (xs : List ℕ). get_or xs (k - start) 0) is ∙ get_or-drop start text (k - start) 0 ∙ ap (λ (n : ℕ). get_or text n 0) e in
-            none (k - start) (omega arith) (omega (arith, length-drop {A = ℕ})) (eq-eqb (get_or rest (k - start) 0) quote (back ∙ here));
-        here = λ past. absurd (omega arith)
+      low = within;
+      high = omega arith;
+      before = λ k low high here.
+          let e : start + (k - start) ≡ k = omega arith in
+          let back : get_or rest (k - start) 0 ≡ get_or text k 0 = ap (λ (xs : List ℕ). get_or xs (k - start) 0) is ∙ get_or-drop start text (k - start) 0 ∙ ap (λ (n : ℕ). get_or text n 0) e in
+          none (k - start) (omega arith) (omega (arith, length-drop {A = ℕ})) (eq-eqb (get_or rest (k - start) 0) quote (back ∙ here));
+      here = λ past. absurd (omega arith);
     }
 
 pub take_on : (xs : List ℕ) (i j : ℕ) → i ≤ j → take j xs ≡ take i xs ++ take (j - i) (drop i xs)
@@ -90,14 +90,15 @@ doubled_more text at next inside in' one two more =
     let piece : List ℕ = take (next - (at + 2)) (drop (at + 2) text) in
     let start : at + 2 ≤ next = more.low in
     let two_more : take (at + 2) text ≡ take at text ++ quote ∷ quote ∷ [] =
-        ap (λ (n : ℕ). take n text) (let e : at + 2 ≡ at + 1 + 1 = omega arith in e) ∙ take_more text (at + 1) 0 in'
-        ∙ ap (λ (xs : List ℕ). xs ++ get_or text (at + 1) 0 ∷ []) (take_more text at 0 (omega arith))
-        ∙ ap (λ (b : ℕ). (take at text ++ get_or text at 0 ∷ []) ++ b ∷ []) two ∙ ap (λ (b : ℕ). (take at text ++ b ∷ []) ++ quote ∷ []) one
-        ∙ append_assoc (take at text) (quote ∷ []) (quote ∷ []) in
-    (inside.0 ++ quote ∷ piece,
-        take_on text (at + 2) next start ∙ ap (λ (xs : List ℕ). xs ++ piece) two_more ∙ append_assoc (take at text) (quote ∷ quote ∷ []) piece
-        ∙ ap (λ (xs : List ℕ). take at text ++ quote ∷ quote ∷ xs) (sym (doubled_plain piece (plain_before text (at + 2) next more)))
-        ∙ ap (λ (xs : List ℕ). xs ++ quote ∷ quote ∷ doubled piece) inside.1 ∙ sym (doubled-append inside.0 (quote ∷ piece)))
+    ap (λ (n : ℕ). take n text) (let e : at + 2 ≡ at + 1 + 1 = omega arith in e) ∙ take_more text (at + 1) 0 in'
+    ∙ ap (λ (xs : List ℕ). xs ++ get_or text (at + 1) 0 ∷ []) (take_more text at 0 (omega arith))
+    ∙ ap (λ (b : ℕ). (take at text ++ get_or text at 0 ∷ []) ++ b ∷ []) two ∙ ap (λ (b : ℕ). (take at text ++ b ∷ []) ++ quote ∷ []) one
+    ∙ append_assoc (take at text) (quote ∷ []) (quote ∷ []) in (
+      inside.0 ++ quote ∷ piece,
+      take_on text (at + 2) next start ∙ ap (λ (xs : List ℕ). xs ++ piece) two_more ∙ append_assoc (take at text) (quote ∷ quote ∷ []) piece
+          ∙ ap (λ (xs : List ℕ). take at text ++ quote ∷ quote ∷ xs) (sym (doubled_plain piece (plain_before text (at + 2) next more)))
+          ∙ ap (λ (xs : List ℕ). xs ++ quote ∷ quote ∷ doubled piece) inside.1 ∙ sym (doubled-append inside.0 (quote ∷ piece)),
+    )
 
 -- where what follows a place begins with a quote, that quote stands there
 pub begins_at : (text : List ℕ) (i : ℕ) → BeginsWithQuote (drop i text) → (i < length text) × (slice_index text i ≡ quote)
@@ -149,7 +150,7 @@ pair field text before behind is cut =
     read_back before behind field (sym is ∙ p.0) p.1
 
 -- without a quote a doubled text is the field
-no_left : (field : List ℕ) → list_any is_quote (doubled field) ≡ false → doubled field ≡ field
+pub no_left : (field : List ℕ) → list_any is_quote (doubled field) ≡ false → doubled field ≡ field
 no_left [] h = refl
 no_left (c ∷ cs) h = elim (cases_eq c quote) [
   | inl q ↦ let e = ap (list_any is_quote) (doubled_quote c cs q) in absurd (cc)
@@ -171,10 +172,12 @@ behind_quote rest before behind d cut =
 pub read_more : (raw field rest before behind done next after : List ℕ) → (left : List ℕ) × (rest ≡ doubled left) × (field ≡ done ++ left) → IsCut is_quote rest before behind → next ≡ drop 1 behind
     → after ≡ (done ++ before) ++ quote ∷ [] → (left : List ℕ) × (next ≡ doubled left) × (field ≡ after ++ left)
 read_more raw field rest before behind done next after p cut is pushed =
-    let r = pair p.0 rest before behind p.1 cut in
-    (r.0, is ∙ ap (λ (xs : List ℕ). drop 1 xs) r.1,
-        p.2 ∙ ap (λ (xs : List ℕ). done ++ xs) r.2 ∙ sym (append_assoc done before (quote ∷ r.0)) ∙ sym (append_assoc (done ++ before) (quote ∷ []) r.0)
-        ∙ ap (λ (xs : List ℕ). xs ++ r.0) (sym pushed))
+    let r = pair p.0 rest before behind p.1 cut in (
+      r.0,
+      is ∙ ap (λ (xs : List ℕ). drop 1 xs) r.1,
+      p.2 ∙ ap (λ (xs : List ℕ). done ++ xs) r.2 ∙ sym (append_assoc done before (quote ∷ r.0)) ∙ sym (append_assoc (done ++ before) (quote ∷ []) r.0)
+          ∙ ap (λ (xs : List ℕ). xs ++ r.0) (sym pushed),
+    )
 
 pub read_all : (field rest done after : List ℕ) → (left : List ℕ) × (rest ≡ doubled left) × (field ≡ done ++ left) → list_any is_quote rest ≡ false → after ≡ done ++ rest → after ≡ field
 read_all field rest done after p none pushed = pushed ∙ ap (λ (xs : List ℕ). done ++ xs) (unquoted p.0 rest p.1 none) ∙ sym p.2

@@ -3,8 +3,10 @@
 
 mod bytes;
 mod fields;
+mod lexicon;
 mod numbered;
 mod numbers;
+mod outcome;
 mod parts;
 mod quoted;
 mod raw_field;
@@ -12,6 +14,7 @@ mod source_lines;
 mod text;
 
 pub use fields::field;
+pub use lexicon::read_lexicon;
 pub use numbered::Lines;
 pub use numbers::{context_id, cost, number};
 pub use source_lines::lines;

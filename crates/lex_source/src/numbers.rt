@@ -45,7 +45,11 @@ fn natural(digits: &[u8]) -> Option<u64>
     for byte in digits {
         value = with_one_more(value, *byte)?;
     }
-    if value <= MAGNITUDE_MAX { Some(value) } else { None }
+    if value <= MAGNITUDE_MAX {
+        Some(value)
+    } else {
+        None
+    }
 }
 
 /// A value with one more digit; all above `MAGNITUDE_MAX` are one.

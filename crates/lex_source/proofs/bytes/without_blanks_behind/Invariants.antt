@@ -5,8 +5,8 @@ use Rattle.lex_source.proofs.bytes.without_blanks_behind.Given as goal
 
 abbrev pub invariant-loop-end : goal.invariant-loop-end
 invariant-loop-end l = record {
-    within : l.end ≤ length l.text;
-    blanks : (k : ℕ) → l.end ≤ k → k < length l.text → is_blank (get_or l.text k 0) ≡ true
+  within : l.end ≤ length l.text;
+  blanks : (k : ℕ) → l.end ≤ k → k < length l.text → is_blank (get_or l.text k 0) ≡ true;
 }
 
 abbrev pub decreases-loop-end : goal.decreases-loop-end

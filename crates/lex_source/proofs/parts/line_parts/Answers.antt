@@ -29,9 +29,11 @@ returns-in_err-cost c =
     let two = with_rest _ _ _ _ _ c.first-left.ensures c.in_ok-left.was in
     let three = with_rest _ _ _ _ _ c.first-right.ensures c.in_ok-right.was in
     let four = without_rest _ _ _ _ c.first-cost.ensures c.in_err-cost.was in
-    rw c.from_residual-in_err-cost.ensures
-    (one.field ∷ two.field ∷ three.field ∷ four.field ∷ [],
-        (c.in_ok-surface.field-0.now, one.first, (c.in_ok-left.field-0.now, two.first, (c.in_ok-right.field-0.now, three.first, four.first))), omega arith)
+    rw c.from_residual-in_err-cost.ensures (
+      one.field ∷ two.field ∷ three.field ∷ four.field ∷ [],
+      (c.in_ok-surface.field-0.now, one.first, (c.in_ok-left.field-0.now, two.first, (c.in_ok-right.field-0.now, three.first, four.first))),
+      omega arith,
+    )
 
 pub returns : goal.returns
 returns c =
@@ -40,7 +42,7 @@ returns c =
     let three = with_rest _ _ _ _ _ c.first-right.ensures c.in_ok-right.was in
     let four = with_rest _ _ _ _ _ c.first-cost.ensures c.in_ok-cost.was in
     record {
-        parts = record { surface = one.field; left = two.field; right = three.field; cost = four.field; feature = c.in_ok-cost.field-0.now };
-        stands = record { surface = one.spelled; left = two.spelled; right = three.spelled; cost = four.spelled; feature = refl };
-        first = (c.in_ok-surface.field-0.now, one.first, (c.in_ok-left.field-0.now, two.first, (c.in_ok-right.field-0.now, three.first, (c.in_ok-cost.field-0.now, four.first, refl))))
+      parts = record { surface = one.field; left = two.field; right = three.field; cost = four.field; feature = c.in_ok-cost.field-0.now };
+      stands = record { surface = one.spelled; left = two.spelled; right = three.spelled; cost = four.spelled; feature = refl };
+      first = (c.in_ok-surface.field-0.now, one.first, (c.in_ok-left.field-0.now, two.first, (c.in_ok-right.field-0.now, three.first, (c.in_ok-cost.field-0.now, four.first, refl))));
     }

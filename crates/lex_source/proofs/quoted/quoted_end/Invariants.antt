@@ -6,9 +6,9 @@ use Rattle.lex_source.proofs.quoted.quoted_end.Given as goal
 
 abbrev pub invariant-loop-at : goal.invariant-loop-at
 invariant-loop-at l = record {
-    within : l.at ≤ length l.bytes;
-    inside : IsDoubled (take l.at l.bytes);
-    here : l.at < length l.bytes → slice_index l.bytes l.at ≡ quote
+  within : l.at ≤ length l.bytes;
+  inside : IsDoubled (take l.at l.bytes);
+  here : l.at < length l.bytes → slice_index l.bytes l.at ≡ quote;
 }
 
 abbrev pub decreases-loop-at : goal.decreases-loop-at

@@ -17,9 +17,9 @@ split_around-requires-clause-ascii c =
 pub loop-before-preserved : goal.loop-before-preserved
 unfolding encode
 loop-before-preserved c = record {
-    utf8 = search rules;
-    left = λ field is. read_more c.args.raw.now field c.loop-before.rest.now c.in-Some.before.now c.in-Some.behind.now (string_bytes c.loop-before.text) c.split_around.result.1.now (string_bytes c.push.new.self)
-        (c.loop-before.invariant.left field is) c.in-Some.ensures c.split_around.ensures.behind (c.in_ok-push.ensures.bytes ∙ ap (λ (xs : List ℕ). xs ++ 34 ∷ []) c.in_ok-push_str.ensures.bytes)
+  utf8 = search rules;
+  left = λ field is. read_more c.args.raw.now field c.loop-before.rest.now c.in-Some.before.now c.in-Some.behind.now (string_bytes c.loop-before.text) c.split_around.result.1.now (string_bytes c.push.new.self)
+      (c.loop-before.invariant.left field is) c.in-Some.ensures c.split_around.ensures.behind (c.in_ok-push.ensures.bytes ∙ ap (λ (xs : List ℕ). xs ++ 34 ∷ []) c.in_ok-push_str.ensures.bytes);
 }
 
 pub returns : goal.returns
