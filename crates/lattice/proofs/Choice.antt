@@ -1,4 +1,10 @@
--- The choice of the best chain to a place among the nodes that end there. Costs stay small, so no sum overflows.
+-- The choice of the best chain to a place among the nodes that end there.
+--
+-- Each node stands for the best chain that ends in its word, since what follows two chains that end in one word keeps their order.
+-- Two chains whose last words differ are told apart by cost, and at one cost by those words. So the best chain to a place, where a
+-- word of some left id follows, ends in the node that is least by its total and the connection to that left id, then by the later
+-- place, then by the earlier position among the words of that place. A word adds at most 2 ^ 16 to the cost of a chain for each of
+-- its bytes, so no sum overflows.
 use Rattle.std.proofs.Common.{◌≡◌, ℕ, ◌+◌, ◌*◌, ◌<◌, ◌≤◌, List, [], ◌∷◌, ◌^◌, All, get_or, Some, None, ◌⊎◌, inl, inr, refl, sym, ap, ◌∙◌, subst, arith, slice_get}
 use Rattle.std.specs.Prelude.{ℤ, ◌+ℤ◌}
 use Rattle.std.proofs.lemmas.Int.{ints}
@@ -17,6 +23,7 @@ use Rattle.lattice.specs.Searchable.{MayFollow}
 use Rattle.mj_model.proofs.ChainsBackLemmas.{best_empty, best_among}
 
 module _ (words : ℕ → List Word) (conn : ℕ → ℕ → ℤ) (len : ℕ) (source : IsSource words conn len) where
+  -- a chain to a place costs at most 2 ^ 16 a byte
   pub small_cost : (ws : List Word) (to : ℕ) → IsChainTo words ws to → IsWithin (2 ^ 16 * to) (cost_to conn ws)
   small_cost [] to h = (omega (arith, ints), omega (arith, ints))
   small_cost (w ∷ ws) to h =
@@ -26,12 +33,14 @@ module _ (words : ℕ → List Word) (conn : ℕ → ℕ → ℤ) (len : ℕ) (s
       let on = source.are.go_on w.place w h.1 in
       (omega (arith, ints, before.0, c.0, own.0, on, h.0), omega (arith, ints, before.1, c.1, own.1, on, h.0))
 
+  -- also with the connection to what follows
   pub small_joined : (ws : List Word) (to left : ℕ) → IsChainTo words ws to → IsWithin (2 ^ 16 * to + 2 ^ 15) (joined conn ws left)
   small_joined ws to left h =
       let before = small_cost ws to h in
       let c = source.connections (last_right ws) left in
       (omega (arith, ints, before.0, c.0), omega (arith, ints, before.1, c.1))
 
+  -- no total is near overflow
   pub small_totals : (nodes : List Node) (p k : ℕ) → len ≤ 2 ^ 20 → IsLattice words conn nodes p k → All HasSmallTotal nodes
   small_totals nodes p k short l i d within =
       let n = get_or nodes i d in
@@ -53,6 +62,7 @@ module _ (words : ℕ → List Word) (conn : ℕ → ℕ → ℤ) (len : ℕ) (s
   abbrev pub Lattice : List Node → ℕ → ℕ → Type 0
   Lattice nodes p k = IsLattice words conn nodes p k
 
+  -- of two nodes of one place the one of the lower number is preferred
   stands_first : (nodes : List Node) (p k i j : ℕ) (m n : Node) → Lattice nodes p k → slice_get nodes i ≡ Some m → slice_get nodes j ≡ Some n → m.word.place ≡ n.word.place → i ≤ j
       → (m.word ≡ n.word) ⊎ IsPreferred words m.word n.word
   stands_first nodes p k i j m n l at_i at_j same le =
@@ -63,6 +73,7 @@ module _ (words : ℕ → List Word) (conn : ℕ → ℕ → ℤ) (len : ℕ) (s
             inl (ap (λ (x : Node). x.word) (same_Some m n (sym at_i ∙ ap (slice_get nodes) e ∙ at_j)))
       ]
 
+  -- the order of ends is that of their words
   holds_against : (nodes : List Node) (p k : ℕ) (e : End) (n : Node) (j : ℕ) (m : Node) (cost : ℤ) → Lattice nodes p k → slice_get nodes e.node ≡ Some n → n.word.place ≡ e.place → slice_get nodes j ≡ Some m
       → HoldsOver e cost j m → HoldsAgainst words e.cost n.word cost m.word
   holds_against nodes p k e n j m cost l at_e begins at_j (inl less) = inl less
@@ -74,6 +85,7 @@ module _ (words : ℕ → List Word) (conn : ℕ → ℕ → ℤ) (len : ℕ) (s
   abbrev pub Other : ℕ → Word → List Word → Word → Type 0
   Other left v vs w = (us : List Word) × IsBestTo words conn us w.place w.left × HoldsAgainst words (joined conn (v ∷ vs) left) v (joined conn (w ∷ us) left) w
 
+  -- the best end makes the best chain
   pub end_joins : (nodes : List Node) (p k at left : ℕ) (e : End) → Lattice nodes p k → at ≤ p → IsBestEnd conn nodes at left 0 e → IsJoin words conn nodes at left (record { before = Some e.node; cost = e.cost })
   end_joins nodes p k at left e l upto h =
       let n = h.node in
@@ -112,6 +124,7 @@ module _ (words : ℕ → List Word) (conn : ℕ → ℕ → ℤ) (len : ℕ) (s
       let found = l.complete w ws (refl, c.1, c.2) done in
       none found.0 found.1 (omega arith) found.2 (ap (λ (u : Word). u.end) found.3 ∙ c.0)
 
+  -- the empty chain is the best to the beginning
   pub begins_join : (nodes : List Node) (left : ℕ) (cost : ℤ) → cost ≡ conn 0 left → IsJoin words conn nodes 0 left (record { before = None; cost = cost })
   begins_join nodes left cost e = record {
     chain = [];

@@ -24,6 +24,7 @@ module _ (words : ℕ → List Word) (conn : ℕ → ℕ → ℤ) (len : ℕ) (s
       let end = source.are.within w.place w c.1 in
       l.complete w ws (refl, c.1, c.2) (inl (omega (arith, go, end)))
 
+  -- the last end lies in the text
   pub last_low : (nodes : List Node) (last : ℕ) → IsLattice words conn nodes len 0 → IsLastEnd nodes (length nodes) last → last ≤ len
   last_low nodes last l is_last = elim is_last.reached [
     | inl zero_at ↦ omega (arith, zero_at)
@@ -41,6 +42,7 @@ module _ (words : ℕ → List Word) (conn : ℕ → ℕ → ℤ) (len : ℕ) (s
       | inr at ↦ let b = l.best at.0 at.1 at.2 in none (at.1.word ∷ b.chain) (at.3, b.is_word, b.best.chain)
     ]
 
+    -- no chain ends later
     pub greatest : (ws : List Word) (later : ℕ) → IsChainTo words ws later → later ≤ last
     greatest [] later c = omega (arith, c)
     greatest (w ∷ ws) later c =
@@ -55,11 +57,13 @@ module _ (words : ℕ → List Word) (conn : ℕ → ℕ → ℤ) (len : ℕ) (s
     pub join_below : (j : Join) → IsJoin words conn nodes last 0 j → IsBelow j.before (length nodes)
     join_below j join = below_all nodes j.before join.chain join.traced
 
+    -- the words from the node before EOS, turned round, are the best path
     pub path_is_best : (j : Join) (ws vs : List Word) → IsJoin words conn nodes last 0 j → Traces nodes j.before ws → vs ≡ reverse ws → IsBestPath words conn vs
     path_is_best j ws vs join t is =
         let same : join.chain ≡ ws = traced_same nodes j.before join.chain ws join.traced t in
         subst (IsBestPath words conn) (ap reverse same ∙ sym is) (best_path_from words conn len source.are join.chain last join.best greatest)
 
+    -- and its cost is the join's
     pub path_costs : (j : Join) (ws vs : List Word) → IsJoin words conn nodes last 0 j → Traces nodes j.before ws → vs ≡ reverse ws → j.cost ≡ path_cost conn vs
     path_costs j ws vs join t is =
         let same : join.chain ≡ ws = traced_same nodes j.before join.chain ws join.traced t in

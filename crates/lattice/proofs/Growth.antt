@@ -20,10 +20,12 @@ module _ (words : ℕ → List Word) (conn : ℕ → ℕ → ℤ) (len : ℕ) (s
   abbrev pub Lattice : List Node → ℕ → ℕ → Type 0
   Lattice nodes p k = IsLattice words conn nodes p k
 
+  -- what was done stays done
   done_more : (p k : ℕ) (w : Word) → IsDone words p k w → IsDone words p (k + 1) w
   done_more p k w (inl less) = inl less
   done_more p k w (inr (e, (i, below, at))) = inr (e, (i, omega arith, at))
 
+  -- what is done is what was, and the k-th word
   done_more_cases : (p k : ℕ) (w : Word) → IsDone words p (k + 1) w → IsDone words p k w ⊎ ((w.place ≡ p) × (slice_get (words p) k ≡ Some w))
   done_more_cases p k w (inl less) = inl (inl less)
   done_more_cases p k w (inr (e, (i, below, at))) =
@@ -31,14 +33,6 @@ module _ (words : ℕ → List Word) (conn : ℕ → ℕ → ℤ) (len : ℕ) (s
         | inl less ↦ inl (inr (e, (i, less, at)))
         | inr more ↦ let same : i ≡ k = omega arith in inr (e, subst (λ (j : ℕ). slice_get (words p) j ≡ Some w) same at)
       ]
-
-  pub starts : Lattice [] 0 0
-  starts = record {
-    best = λ i n h. absurd (cc);
-    done = λ i n h. absurd (cc);
-    order = λ i j m n less h. absurd (cc);
-    complete = λ w ws c d. elim d [ inl less ↦ absurd (omega arith) | inr at ↦ let l = at.1.1 in absurd (omega (arith, l)) ];
-  }
 
   -- a word to which no chain leads adds no node
   pub skips : (nodes : List Node) (p k : ℕ) → NoChain words p → Lattice nodes p k → Lattice nodes p (k + 1)
@@ -161,6 +155,7 @@ module _ (words : ℕ → List Word) (conn : ℕ → ℕ → ℤ) (len : ℕ) (s
 
   -- ---- places that some chain reaches
 
+  -- a place with a head is where some word ends, or the beginning
   pub reached_place : (is_place : ℕ → Type 0) (nodes : List Node) (heads : List (Option ℕ)) (p place : ℕ) (head : Option ℕ) → StaysOnPlaces is_place words → Lattice nodes p 0 → AreLinked nodes heads → slice_get heads place ≡ Some head → reached place head ≡ true → is_place place
   reached_place is_place nodes heads p place None stays l linked at yes_it_is = subst is_place (sym (eqb-true place 0 yes_it_is)) stays.begins
   reached_place is_place nodes heads p place (Some i) stays l linked at yes_it_is =
@@ -168,6 +163,7 @@ module _ (words : ℕ → List Word) (conn : ℕ → ℕ → ℤ) (len : ℕ) (s
       let b = l.best i latest.1.0 latest.1.1 in
       subst is_place latest.1.2 (stays.word_ends_there latest.1.0.word.place latest.1.0.word b.is_word)
 
+  -- a place to which no chain leads adds no node
   passes : (nodes : List Node) (p : ℕ) → NoChain words p → Lattice nodes p 0 → Lattice nodes (p + 1) 0
   passes nodes p none l = record {
     best = l.best;
@@ -184,6 +180,7 @@ module _ (words : ℕ → List Word) (conn : ℕ → ℕ → ℤ) (len : ℕ) (s
     ]);
   }
 
+  -- a place without a head is passed over
   pub not_reached : (nodes : List Node) (heads : List (Option ℕ)) (p : ℕ) (head : Option ℕ) → Lattice nodes p 0 → AreLinked nodes heads → slice_get heads p ≡ Some head → reached p head ≡ false → Lattice nodes (p + 1) 0
   not_reached nodes heads p (Some i) l linked at it_is_not = absurd (cc)
   not_reached nodes heads p None l linked at it_is_not =

@@ -4,3 +4,4 @@ pub mod Links
 pub mod Choice
 pub mod Growth
 pub mod Finish
+pub mod SampleLemmas

@@ -5,22 +5,25 @@ use Rattle.std.proofs.lemmas.Option.{same_Some, slice_get_within, slice_get-get_
 use Rattle.mj_model.specs.declared.word.Word.{Word}
 use Rattle.lattice.specs.declared.node.Node.{Node}
 use Rattle.lattice.specs.Nodes.{IsLatest, AreLinked}
-use Rattle.lattice.specs.Lattice.{Traces, IsBelow, IsLastEnd}
+use Rattle.lattice.specs.Lattice.{Traces, IsBelow}
 use Rattle.std.proofs.lemmas.List.{append_assoc, append-nil, length_push, length-set, get_or-set_same, get_or-set_other}
 use Rattle.lattice.proofs.BestEnd.{link_size}
 use Rattle.lattice.proofs.Pushed.{get_push_old, get_push_new, get_push_cases}
 
+-- a new node changes nothing in where links lead
 pub traces_push : (nodes : List Node) (y : Node) (link : Option ℕ) (ws : List Word) → Traces nodes link ws → Traces (nodes ++ y ∷ []) link ws
 traces_push nodes y None [] t = tt
 traces_push nodes y None (w ∷ ws) t = t
 traces_push nodes y (Some i) [] t = t
 traces_push nodes y (Some i) (w ∷ ws) t = (t.0, get_push_old nodes y i t.0 t.1, t.2, traces_push nodes y t.0.before ws t.3)
 
+-- a link leads to one of the nodes
 pub below_all : (nodes : List Node) (link : Option ℕ) (ws : List Word) → Traces nodes link ws → IsBelow link (length nodes)
 below_all nodes None ws t = tt
 below_all nodes (Some i) [] t = absurd t
 below_all nodes (Some i) (w ∷ ws) t = slice_get_within nodes i t.0 t.1
 
+-- a link that goes below i is less far from the beginning
 pub size_below : (link : Option ℕ) (i : ℕ) → IsBelow link i → link_size link < suc i
 size_below None i b = omega arith
 size_below (Some j) i b = omega (arith, b)
@@ -47,17 +50,16 @@ traced_same nodes (Some i) (v ∷ vs) (w ∷ ws) s t =
 abbrev pub TracesOn : List Node → Option ℕ → List Word → Option ℕ → Type 0
 TracesOn nodes from words link = (ws : List Word) → Traces nodes link ws → Traces nodes from (words ++ ws)
 
+-- one step back
 pub traces_more : (nodes : List Node) (from : Option ℕ) (words : List Word) (i : ℕ) (n : Node) → slice_get nodes i ≡ Some n → TracesOn nodes from words (Some i) → TracesOn nodes from (words ++ n.word ∷ []) n.before
 traces_more nodes from words i n at h ws t = rw append_assoc (h (n.word ∷ ws) (n, at, refl, t))
 
 pub traces_all : (nodes : List Node) (from : Option ℕ) (words : List Word) → TracesOn nodes from words None → Traces nodes from words
 traces_all nodes from words h = rw append-nil at (h [] tt)
 
--- ---- the last end
+-- ---- the latest node that ends at a place, with one more node
 
-pub last_none : (nodes : List Node) → IsLastEnd nodes 0 0
-last_none nodes = record { each = λ k m less. absurd (omega arith); reached = inl refl }
-
+-- a link that leads to the latest node below a bound still does
 latest_push : (nodes : List Node) (y : Node) (place before : ℕ) (link : Option ℕ) → before ≤ length nodes → IsLatest nodes place before link → IsLatest (nodes ++ y ∷ []) place before link
 latest_push nodes y place before None le h = λ k m less at. elim (get_push_cases nodes y k m at) [
   | inl old ↦ h k m less old
@@ -95,9 +97,11 @@ latest_new nodes y =
     let more = length_push nodes y in
     (omega (arith, more), (y, get_push_new nodes y, refl), λ k m above less at. absurd (omega (arith, more)))
 
+-- the head of the place where the new node ends
 heads_of : (heads : List (Option ℕ)) (e i : ℕ) (h : Option ℕ) → slice_get (set heads e (Some i)) e ≡ Some h → e < length heads → h ≡ Some i
 heads_of heads e i h at within = same_Some h (Some i) (sym at ∙ slice_get-get_or (set heads e (Some i)) e None (omega (arith, length-set heads e (Some i))) ∙ ap Some (get_or-set_same heads e (Some i) None within))
 
+-- the heads of the other places stay
 other_head : (heads : List (Option ℕ)) (e i place : ℕ) (h : Option ℕ) → (place ≡ e → ⊥) → slice_get (set heads e (Some i)) place ≡ Some h → slice_get heads place ≡ Some h
 other_head heads e i place h other at =
     let within : place < length heads = let w = slice_get_within (set heads e (Some i)) place h at in omega (arith, w, length-set heads e (Some i)) in

@@ -49,6 +49,7 @@ pub record IsJoin (words : ℕ → List Word) (conn : ℕ → ℕ → ℤ) (node
 abbrev pub NoChain : (ℕ → List Word) → ℕ → Type 0
 NoChain words p = (ws : List Word) → IsChainTo words ws p → ⊥
 
+-- the best chain to the place where a word of this left id follows, if any chain leads there
 abbrev pub IsJoinOf : (ℕ → List Word) → (ℕ → ℕ → ℤ) → List Node → ℕ → ℕ → Option Join → Type 0
 IsJoinOf words conn nodes p left found = MatchOption found (NoChain words p) (IsJoin words conn nodes p left)
 
@@ -67,7 +68,7 @@ node_of w j head = record { word = w; total = j.cost +ℤ w.cost; before = j.bef
 abbrev pub LinksGoBack : List Node → Type 0
 LinksGoBack nodes = (i : ℕ) (n : Node) → slice_get nodes i ≡ Some n → IsBelow n.before i
 
--- the greatest place where one of the first nodes ends, or 0
+-- the greatest place where one of the first `count` nodes ends, or 0
 pub record IsLastEnd (nodes : List Node) (count last : ℕ) : Type 0 where
   pub each : (k : ℕ) (m : Node) → k < count → slice_get nodes k ≡ Some m → m.word.end ≤ last
   pub reached : (last ≡ 0) ⊎ ((k : ℕ) × (m : Node) × (slice_get nodes k ≡ Some m) × (m.word.end ≡ last))

@@ -1,11 +1,12 @@
 -- Nodes that end at a place: the best of them where a word follows, and the links from one to the next.
-use Rattle.std.specs.Prelude.{◌≡◌, ℕ, ℤ, pos, ◌+ℤ◌, ◌<ℤ◌, ◌≤ℤ◌, neg_ℤ, ◌<◌, ◌≤◌, ◌^◌, List, slice_get, Option, Some, None, Bool, true, MatchOption, ◌⊎◌, length, nat_eq}
+use Rattle.std.specs.Prelude.{◌≡◌, ℕ, ℤ, ◌+ℤ◌, ◌<ℤ◌, ◌<◌, ◌≤◌, ◌^◌, List, slice_get, Option, Some, None, Bool, true, MatchOption, ◌⊎◌, length, nat_eq}
+use Rattle.mj_model.specs.Best.{IsWithin}
 use Rattle.lattice.specs.declared.node.Node.{Node}
 use Rattle.lattice.specs.declared.node.End.{End}
 
--- far from overflow
+-- the total is far from overflow
 abbrev pub HasSmallTotal : Node → Type 0
-HasSmallTotal n = (neg_ℤ (pos (2 ^ 40)) ≤ℤ n.total) × (n.total ≤ℤ pos (2 ^ 40))
+HasSmallTotal n = IsWithin (2 ^ 40) n.total
 
 -- a word of this left id may follow the node
 abbrev pub IsFollowedBy : (ℕ → ℕ → Type 0) → ℕ → Node → Type 0
@@ -15,7 +16,7 @@ IsFollowedBy is_pair left n = is_pair n.word.right left
 abbrev pub end_cost : (ℕ → ℕ → ℤ) → Node → ℕ → ℤ
 end_cost conn n left = n.total +ℤ conn n.word.right left
 
--- number i, at this place and cost, holds against node k: it costs less, or the same with a later place, or with the same place and number k is not lower
+-- the end holds against node k at this cost: it costs less, or as much and its place is later, or that is the same and its number is not greater
 abbrev pub HoldsOver : End → ℤ → ℕ → Node → Type 0
 HoldsOver e cost k m = (e.cost <ℤ cost) ⊎ ((e.cost ≡ cost) × ((m.word.place < e.place) ⊎ ((m.word.place ≡ e.place) × (e.node ≤ k))))
 

@@ -16,8 +16,9 @@ use std::mem;
 
 /// Finds best paths, and keeps its memory from text to text.
 ///
-/// Each call begins anew, so a call that was refused memory leaves it as good as new. The search is
-/// linear in the nodes and the connections between them.
+/// The search is Viterbi's (IEEE Transactions on Information Theory 13 (2), 1967), as in MeCab, and
+/// linear in the nodes and the connections between them. Each call begins anew, so one that was
+/// refused memory leaves a lattice as good as new.
 #[derive(Debug, Drop)]
 pub struct Lattice {
     alloc: Global,

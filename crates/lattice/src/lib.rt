@@ -12,3 +12,6 @@ mod tracing;
 pub use lattice::{Lattice, best_path_over};
 pub use path::Path;
 pub use source::WordSource;
+
+#[cfg(test)]
+mod tests;

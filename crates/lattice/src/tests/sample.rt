@@ -1,0 +1,109 @@
+//! A source of words for tests: a list.
+
+ghost use Rattle.std.specs.Prelude.{◌≡◌, ◌++◌, IfOk, IsTrue, IsFalse};
+ghost use Rattle.lattice.specs.Sample.{lies_at, numbered, sample_connection, sample_word, sample_words};
+
+use crate::source::WordSource;
+use mj_model::{Origin, Word};
+use std::alloc::{AllocError, Global};
+
+/// A text by its length and its words, which are numbered by their order.
+#[derive(Debug, Drop)]
+pub struct Sample {
+    pub length: usize,
+    pub words: Vec<Word>,
+}
+
+impl WordSource for Sample {
+    ghost text_length = { λ s. s.length };
+
+    ghost words = { λ s p. sample_words s.words.items 0 s.length p };
+
+    ghost is_place = { λ s p. Unit {0} };
+
+    ghost is_pair = { λ s r l. Unit {0} };
+
+    ghost connection = { λ s r l. sample_connection r l };
+
+    fn length(&self) -> usize {
+        self.length
+    }
+
+    fn words_at(&self, alloc: Global, place: usize, out: &mut Vec<Word>) -> Result<(), AllocError> {
+        let before = out.len();
+        for number in 0..self.words.len() {
+            if !add_sample(self.length, place, number, &self.words[number], out) {
+                out.truncate(before);
+                return Err(AllocError);
+            }
+        }
+        Ok(())
+    }
+
+    fn connection_cost(&self, right: u16, left: u16) -> i16 {
+        match (right, left) {
+            (0, 0) => 0,
+            (0, _) => 10,
+            (_, 0) => 5,
+            (_, _) => 7,
+        }
+    }
+}
+
+/// Whether the word begins at the place, is not empty and ends in the text.
+fn lies_here(length: usize, place: usize, word: &Word) -> bool
+    ensures { result ≡ lies_at length place word.now }
+{
+    word.place == place
+        && place < word.end
+        && word.end <= length
+        && -1000 < word.cost
+        && word.cost < 1000
+}
+
+/// A word by its number in the list.
+fn by_number(number: usize, word: &Word) -> Word
+    ensures { result ≡ numbered number word.now }
+{
+    Word {
+        origin: Origin::Known {
+            dict: number,
+            token: 0,
+        },
+        ..*word
+    }
+}
+
+/// Adds the word if it lies at the place, and answers whether there was memory for it.
+fn add_sample(length: usize, place: usize, number: usize, word: &Word, out: &mut Vec<Word>) -> bool
+    ensures added { IsTrue result → out.new.items ≡ out.old.items ++ sample_word number length place word.now }
+    ensures kept { IsFalse result → out.new.items ≡ out.old.items }
+{
+    !lies_here(length, place, word) || out.push(by_number(number, word)).is_ok()
+}
+
+/// A text of words of left id and right id 1, each by the byte offsets of its beginning and its end and by its word cost.
+pub fn sample_of(
+    alloc: Global,
+    length: u16,
+    entries: &[(usize, usize, i16)],
+) -> Result<Sample, AllocError>
+    ensures { IfOk result (λ s. s.length ≡ length) }
+{
+    let mut words = Vec::new(alloc);
+    for (place, end, cost) in entries {
+        words.push(Word {
+            place: *place,
+            start: *place,
+            end: *end,
+            left: 1,
+            right: 1,
+            cost: *cost,
+            origin: Origin::Unknown { token: 0 },
+        })?;
+    }
+    Ok(Sample {
+        length: usize::from(length),
+        words,
+    })
+}

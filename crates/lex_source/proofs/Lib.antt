@@ -1,0 +1,10 @@
+pub mod CutLemmas
+pub mod LineLemmas
+pub mod QuoteLemmas
+pub mod FieldLemmas
+pub mod FieldsLemmas
+pub mod NumberLemmas
+pub mod OutcomeLemmas
+pub mod LexiconLemmas
+pub mod AppendLemmas
+pub mod WordLemmas

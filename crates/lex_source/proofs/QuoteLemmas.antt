@@ -1,0 +1,183 @@
+-- Fields between quotes: what doubles a quote, where the closing quote stands, and how a doubled text is read back.
+use Rattle.std.proofs.Common.{◌≡◌, ℕ, ◌+◌, ◌-◌, ◌<◌, ◌≤◌, Bool, true, false, cond, eqb, ◌==◌, List, [], ◌∷◌, ◌++◌, length, take, drop, get_or, refl, sym, ◌∙◌, ap, subst, arith, Option, Some, None, inl, inr, length-take, length-drop, append_assoc}
+use Rattle.std.specs.Prelude.{slice_index, ◌||◌}
+use Rattle.std.specs.List.{list_any}
+use Rattle.std.proofs.lemmas.Bool.{or_parts, ne_eqb, eq-eqb, eqb-false, eqb-true, cases_eq, cases_lt}
+use Rattle.std.proofs.lemmas.List.{get_or_default, get_or-take, get_or-drop, take_more, take-append-drop, take-take, drop-take, drop_more, drop_all, take_all}
+use Rattle.std.proofs.lemmas.List.Folds.{list_any_none}
+use Rattle.std.proofs.lemmas.Grind.{flat_map-append}
+use Rattle.memchr.specs.Find.{Nowhere, NoneBefore, Passes}
+use Rattle.mj_model.specs.Bytes.{quote, is_quote}
+use Rattle.mj_model.specs.Fields.{doubled, BeginsWithQuote}
+use Rattle.lex_source.specs.Cuts.{IsCut}
+use Rattle.lex_source.specs.Spelled.{IsDoubled, IsNextQuote, IsQuotedEnd}
+use Rattle.lex_source.proofs.CutLemmas.{cut_parts}
+
+of_byte : ℕ → List ℕ
+of_byte c = cond (is_quote c) (quote ∷ quote ∷ []) (c ∷ [])
+
+doubled-append : (xs ys : List ℕ) → doubled (xs ++ ys) ≡ doubled xs ++ doubled ys
+unfolding of_byte
+doubled-append xs ys = flat_map-append of_byte xs ys
+
+pub doubled_quote : (c : ℕ) (cs : List ℕ) → c ≡ quote → doubled (c ∷ cs) ≡ quote ∷ quote ∷ doubled cs
+doubled_quote c cs e = ap (λ (b : Bool). cond b (quote ∷ quote ∷ []) (c ∷ []) ++ doubled cs) (eq-eqb c quote e)
+
+pub doubled_other : (c : ℕ) (cs : List ℕ) → (c ≡ quote → ⊥) → doubled (c ∷ cs) ≡ c ∷ doubled cs
+doubled_other c cs e = ap (λ (b : Bool). cond b (quote ∷ quote ∷ []) (c ∷ []) ++ doubled cs) (ne_eqb c quote e)
+
+-- without a quote nothing is doubled
+pub doubled_plain : (xs : List ℕ) → list_any is_quote xs ≡ false → doubled xs ≡ xs
+doubled_plain [] h = refl
+doubled_plain (c ∷ cs) h =
+    let p = or_parts (is_quote c) (list_any is_quote cs) h in
+    doubled_other c cs (eqb-false c quote p.0) ∙ ap (λ (xs : List ℕ). c ∷ xs) (doubled_plain cs p.1)
+
+-- no quote stands from one place up to the next quote
+plain_before : (text : List ℕ) (start at : ℕ) → IsNextQuote text start at → list_any is_quote (take (at - start) (drop start text)) ≡ false
+plain_before text start at next =
+    list_any_none is_quote (take (at - start) (drop start text)) (λ k d in'.
+    let low : k < at - start = omega (arith, length-take {A = ℕ}) in
+    let short : at ≤ length text = next.high in
+    let within : start + k < length text = omega arith in
+    let here : get_or (take (at - start) (drop start text)) k d ≡ get_or text (start + k) 0 =
+    get_or-take (at - start) (drop start text) k d low ∙ get_or-drop start text k d ∙ get_or_default text (start + k) d 0 within in
+    ap is_quote here ∙ ne_eqb (get_or text (start + k) 0) quote (next.before (start + k) (omega arith) (omega arith)))
+
+-- what `memchr` tells of the next quote
+pub next_found : (text rest : List ℕ) (start at : ℕ) → rest ≡ drop start text → start ≤ length text → NoneBefore (Passes is_quote rest) 0 (length rest) at → Passes is_quote rest at
+    → IsNextQuote text start (start + at)
+next_found text rest start at is within none found =
+    let in' : at < length rest = none.high in
+    let long : length rest ≡ length (drop start text) = ap (λ (xs : List ℕ). length xs) is in
+    record {
+      low = omega arith;
+      high = omega (arith, length-drop {A = ℕ});
+      before = λ k low high here.
+          let e : start + (k - start) ≡ k = omega arith in
+          let back : get_or rest (k - start) 0 ≡ get_or text k 0 = ap (λ (xs : List ℕ). get_or xs (k - start) 0) is ∙ get_or-drop start text (k - start) 0 ∙ ap (λ (n : ℕ). get_or text n 0) e in
+          none.before (k - start) (omega arith) (omega arith) (eq-eqb (get_or rest (k - start) 0) quote (back ∙ here));
+      here = λ _. sym (ap (λ (xs : List ℕ). get_or xs at 0) is ∙ get_or-drop start text at 0) ∙ eqb-true (get_or rest at 0) quote found;
+    }
+
+pub next_missing : (text rest : List ℕ) (start : ℕ) → rest ≡ drop start text → start ≤ length text → Nowhere (Passes is_quote rest) 0 (length rest) → IsNextQuote text start (length text)
+next_missing text rest start is within none =
+    let long : length rest ≡ length (drop start text) = ap (λ (xs : List ℕ). length xs) is in
+    record {
+      low = within;
+      high = omega arith;
+      before = λ k low high here.
+          let e : start + (k - start) ≡ k = omega arith in
+          let back : get_or rest (k - start) 0 ≡ get_or text k 0 = ap (λ (xs : List ℕ). get_or xs (k - start) 0) is ∙ get_or-drop start text (k - start) 0 ∙ ap (λ (n : ℕ). get_or text n 0) e in
+          none (k - start) (omega arith) (omega (arith, length-drop {A = ℕ})) (eq-eqb (get_or rest (k - start) 0) quote (back ∙ here));
+      here = λ past. absurd (omega arith);
+    }
+
+pub take_on : (xs : List ℕ) (i j : ℕ) → i ≤ j → take j xs ≡ take i xs ++ take (j - i) (drop i xs)
+take_on xs i j le =
+    let e : i + (j - i) ≡ j = omega arith in
+    sym (take-append-drop i (take j xs)) ∙ ap (λ (ys : List ℕ). ys ++ drop i (take j xs)) (take-take i j xs le)
+    ∙ ap (λ (n : ℕ). take i xs ++ drop i (take n xs)) (sym e) ∙ ap (λ (ys : List ℕ). take i xs ++ ys) (drop-take i (j - i) xs)
+
+pub doubled_start : (text : List ℕ) (at : ℕ) → IsNextQuote text 0 at → IsDoubled (take at text)
+doubled_start text at next =
+    let e : at - 0 ≡ at = omega arith in
+    (take at text, sym (doubled_plain (take at text) (subst (λ (n : ℕ). list_any is_quote (take n text) ≡ false) e (plain_before text 0 at next))))
+
+pub doubled_more : (text : List ℕ) (at next : ℕ) → IsDoubled (take at text) → at + 1 < length text → slice_index text at ≡ quote → slice_index text (at + 1) ≡ quote
+    → IsNextQuote text (at + 2) next → IsDoubled (take next text)
+doubled_more text at next inside in' one two more =
+    let piece : List ℕ = take (next - (at + 2)) (drop (at + 2) text) in
+    let start : at + 2 ≤ next = more.low in
+    let two_more : take (at + 2) text ≡ take at text ++ quote ∷ quote ∷ [] =
+    ap (λ (n : ℕ). take n text) (let e : at + 2 ≡ at + 1 + 1 = omega arith in e) ∙ take_more text (at + 1) 0 in'
+    ∙ ap (λ (xs : List ℕ). xs ++ get_or text (at + 1) 0 ∷ []) (take_more text at 0 (omega arith))
+    ∙ ap (λ (b : ℕ). (take at text ++ get_or text at 0 ∷ []) ++ b ∷ []) two ∙ ap (λ (b : ℕ). (take at text ++ b ∷ []) ++ quote ∷ []) one
+    ∙ append_assoc (take at text) (quote ∷ []) (quote ∷ []) in (
+      inside.0 ++ quote ∷ piece,
+      take_on text (at + 2) next start ∙ ap (λ (xs : List ℕ). xs ++ piece) two_more ∙ append_assoc (take at text) (quote ∷ quote ∷ []) piece
+          ∙ ap (λ (xs : List ℕ). take at text ++ quote ∷ quote ∷ xs) (sym (doubled_plain piece (plain_before text (at + 2) next more)))
+          ∙ ap (λ (xs : List ℕ). xs ++ quote ∷ quote ∷ doubled piece) inside.1 ∙ sym (doubled-append inside.0 (quote ∷ piece)),
+    )
+
+-- where what follows a place begins with a quote, that quote stands there
+pub begins_at : (text : List ℕ) (i : ℕ) → BeginsWithQuote (drop i text) → (i < length text) × (slice_index text i ≡ quote)
+begins_at text i h = elim (cases_lt i (length text)) [
+  | inl in' ↦ (in', subst BeginsWithQuote (drop_more text i 0 in') h)
+  | inr out ↦ absurd (subst BeginsWithQuote (drop_all i text out) h)
+]
+
+pub begins_first : (text : List ℕ) → BeginsWithQuote text → (0 < length text) × (slice_index text 0 ≡ quote)
+begins_first [] h = absurd h
+begins_first (c ∷ cs) h = (omega arith, h)
+
+-- a text around a quote
+pub around : (text : List ℕ) (at : ℕ) → at < length text → slice_index text at ≡ quote → text ≡ take at text ++ quote ∷ drop (at + 1) text
+around text at in' here = sym (take-append-drop at text) ∙ ap (λ (xs : List ℕ). take at text ++ xs) (drop_more text at 0 in') ∙ ap (λ (b : ℕ). take at text ++ b ∷ drop (at + 1) text) here
+
+pub doubled_all : (text : List ℕ) → IsDoubled (take (length text) text) → IsDoubled text
+doubled_all text inside = (inside.0, sym (take_all (length text) text (omega arith)) ∙ inside.1)
+
+-- a doubled text read back up to its first pair
+head_of : (c d : ℕ) (cs ds : List ℕ) → c ∷ cs ≡ d ∷ ds → c ≡ d
+head_of c d cs ds h = cc
+
+tail_of : (c d : ℕ) (cs ds : List ℕ) → c ∷ cs ≡ d ∷ ds → cs ≡ ds
+tail_of c d cs ds h = cc
+
+read_back : (before behind field : List ℕ) → doubled field ≡ before ++ quote ∷ behind → list_any is_quote before ≡ false
+    → (left : List ℕ) × (behind ≡ quote ∷ doubled left) × (field ≡ before ++ quote ∷ left)
+read_back [] behind [] e none = absurd (cc)
+read_back [] behind (c ∷ cs) e none = elim (cases_eq c quote) [
+  | inl q ↦ (cs, sym (tail_of quote quote (quote ∷ doubled cs) behind (sym (doubled_quote c cs q) ∙ e)), ap (λ (d : ℕ). d ∷ cs) q)
+  | inr n ↦ absurd (n (head_of c quote (doubled cs) behind (sym (doubled_other c cs n) ∙ e)))
+]
+read_back (b ∷ bs) behind [] e none = absurd (cc)
+read_back (b ∷ bs) behind (c ∷ cs) e none =
+    let p = or_parts (is_quote b) (list_any is_quote bs) none in
+    elim (cases_eq c quote) [
+      | inl q ↦ absurd (eqb-false b quote p.0 (sym (head_of quote b (quote ∷ doubled cs) (bs ++ quote ∷ behind) (sym (doubled_quote c cs q) ∙ e))))
+      | inr n ↦
+          let e' : c ∷ doubled cs ≡ b ∷ (bs ++ quote ∷ behind) = sym (doubled_other c cs n) ∙ e in
+          let r = read_back bs behind cs (tail_of c b (doubled cs) (bs ++ quote ∷ behind) e') p.1 in
+          (r.0, r.1, ap (λ (d : ℕ). d ∷ cs) (head_of c b (doubled cs) (bs ++ quote ∷ behind) e') ∙ ap (λ (xs : List ℕ). b ∷ xs) r.2)
+    ]
+
+pub pair : (field text before behind : List ℕ) → text ≡ doubled field → IsCut is_quote text before behind
+    → (left : List ℕ) × (behind ≡ quote ∷ doubled left) × (field ≡ before ++ quote ∷ left)
+pair field text before behind is cut =
+    let p = cut_parts quote text before behind cut in
+    read_back before behind field (sym is ∙ p.0) p.1
+
+-- without a quote a doubled text is the field
+pub no_left : (field : List ℕ) → list_any is_quote (doubled field) ≡ false → doubled field ≡ field
+no_left [] h = refl
+no_left (c ∷ cs) h = elim (cases_eq c quote) [
+  | inl q ↦ let e = ap (list_any is_quote) (doubled_quote c cs q) in absurd (cc)
+  | inr n ↦
+      let more : list_any is_quote (doubled cs) ≡ false = (or_parts (is_quote c) (list_any is_quote (doubled cs)) (sym (ap (list_any is_quote) (doubled_other c cs n)) ∙ h)).1 in
+      doubled_other c cs n ∙ ap (λ (xs : List ℕ). c ∷ xs) (no_left cs more)
+]
+
+pub unquoted : (field text : List ℕ) → text ≡ doubled field → list_any is_quote text ≡ false → text ≡ field
+unquoted field text is h = is ∙ no_left field (ap (list_any is_quote) (sym is) ∙ h)
+
+-- behind the first quote of a doubled text stands another
+pub behind_quote : (rest before behind : List ℕ) → IsDoubled rest → IsCut is_quote rest before behind → (0 < length behind) × (slice_index behind 0 < 128)
+behind_quote rest before behind d cut =
+    let r = pair d.0 rest before behind d.1 cut in
+    subst (λ (xs : List ℕ). (0 < length xs) × (slice_index xs 0 < 128)) (sym r.1) (omega arith, omega arith)
+
+-- the step back over one pair
+pub read_more : (raw field rest before behind done next after : List ℕ) → (left : List ℕ) × (rest ≡ doubled left) × (field ≡ done ++ left) → IsCut is_quote rest before behind → next ≡ drop 1 behind
+    → after ≡ (done ++ before) ++ quote ∷ [] → (left : List ℕ) × (next ≡ doubled left) × (field ≡ after ++ left)
+read_more raw field rest before behind done next after p cut is pushed =
+    let r = pair p.0 rest before behind p.1 cut in (
+      r.0,
+      is ∙ ap (λ (xs : List ℕ). drop 1 xs) r.1,
+      p.2 ∙ ap (λ (xs : List ℕ). done ++ xs) r.2 ∙ sym (append_assoc done before (quote ∷ r.0)) ∙ sym (append_assoc (done ++ before) (quote ∷ []) r.0)
+          ∙ ap (λ (xs : List ℕ). xs ++ r.0) (sym pushed),
+    )
+
+pub read_all : (field rest done after : List ℕ) → (left : List ℕ) × (rest ≡ doubled left) × (field ≡ done ++ left) → list_any is_quote rest ≡ false → after ≡ done ++ rest → after ≡ field
+read_all field rest done after p none pushed = pushed ∙ ap (λ (xs : List ℕ). done ++ xs) (unquoted p.0 rest p.1 none) ∙ sym p.2

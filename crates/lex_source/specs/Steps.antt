@@ -1,0 +1,52 @@
+-- A lexicon read line by line.
+use Rattle.std.specs.Prelude.{◌≡◌, ℕ, ◌+◌, Bool, List, [], ◌∷◌, ◌++◌, length, count_by, string_bytes, Option, Some, None}
+use Rattle.std.specs.List.{enumerate_from}
+use Rattle.mj_model.specs.declared.entry.Record.{Record}
+use Rattle.mj_model.specs.declared.source_fault.SourceFault.{SourceFault}
+use Rattle.mj_model.specs.declared.source_fault.SourceKind.{SourceKind}
+use Rattle.mj_model.specs.Lexicon.{Row, row_of, rows_of, Parts, Outcome, Blank, Skipped, Refused, Accepted, lexicon_outcome, IsOutcome, AreOutcomes, first_refused, accepted_rows, is_skipped}
+use Rattle.lex_source.specs.declared.outcome.LineOutcome.{LineOutcome}
+use Rattle.lex_source.specs.declared.outcome.LineOutcome.TheVariants as line
+use Rattle.lex_source.specs.declared.outcome.IdsAndCost.{IdsAndCost}
+
+-- a line's outcome, without where it lies in memory
+abbrev pub outcome_of : LineOutcome → Outcome
+outcome_of line.Blank = Blank
+outcome_of line.Skipped = Skipped
+outcome_of (line.Accepted record') = Accepted (row_of record')
+
+-- a line's parts as a row with these numbers
+abbrev pub row_with : ℕ → Parts → IdsAndCost → Row
+row_with number parts n = record { line = number; surface = parts.surface; left = n.left; right = n.right; cost = n.cost; feature = parts.feature }
+
+-- a line is taken: nothing refuses it, where this many entries are held, and it adds these rows
+pub record IsTaken (number : ℕ) (text : List ℕ) (held : ℕ) (skipped : Bool) (rows : List Row) : Type 0 where
+  pub outcome : Outcome
+  pub is : IsOutcome lexicon_outcome number text outcome
+  pub fits : (file : ℕ) → first_refused file number held (outcome ∷ []) ≡ None
+  pub appended : rows ≡ accepted_rows (outcome ∷ [])
+  pub counted : skipped ≡ is_skipped outcome
+
+-- a line is refused for this reason
+pub record IsRefusedLine (number : ℕ) (text : List ℕ) (held : ℕ) (kind : SourceKind) : Type 0 where
+  pub outcome : Outcome
+  pub is : IsOutcome lexicon_outcome number text outcome
+  pub refused : (file : ℕ) → first_refused file number held (outcome ∷ []) ≡ Some (record { file = file; line = number; kind = kind })
+
+-- the lines before `left` are taken, and they add these rows
+pub record IsReadUpTo (held : ℕ) (all left : List (ℕ × List ℕ)) (rows : List Row) (skipped : ℕ) : Type 0 where
+  pub lines : List (ℕ × List ℕ)
+  pub outcomes : List Outcome
+  pub parts : all ≡ lines ++ left
+  pub are : AreOutcomes lexicon_outcome lines outcomes
+  pub none : (file : ℕ) → first_refused file 1 held outcomes ≡ None
+  pub rows_are : rows ≡ accepted_rows outcomes
+  pub skipped_are : skipped ≡ count_by is_skipped outcomes
+  pub rest : List (List ℕ)
+  pub numbers : left ≡ enumerate_from (1 + length outcomes) rest
+
+-- these records were appended
+pub record HasRead (old now : List Record) (all left : List (ℕ × List ℕ)) (skipped : ℕ) : Type 0 where
+  pub more : List Record
+  pub appended : now ≡ old ++ more
+  pub read : IsReadUpTo (length old) all left (rows_of more) skipped

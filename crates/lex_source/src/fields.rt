@@ -1,0 +1,31 @@
+//! A field by its number.
+ghost use Rattle.std.specs.Prelude.{◌≡◌, List, ℕ, IfOk, option_map, slice_get, string_bytes};
+ghost use Rattle.mj_model.specs.Fields.{AreFields};
+ghost use Rattle.lex_source.specs.Spelled.{IsFieldAt};
+
+use crate::raw_field::RawField;
+use std::alloc::{AllocError, Global};
+use std::string::String;
+
+/// Field `n` of a line, counted from 0, without its quotes, or None where there is none. Blanks and tabs before a field are
+/// skipped; what stands between a closing quote and the next comma is ignored. (MeCab's CSV; what it leaves open is this
+/// project's own choice)
+pub fn field(alloc: Global, text: &str, n: usize) -> Result<Option<String>, AllocError>
+    ensures { IfOk result (λ found. (fields : List (List ℕ)) × AreFields text.now fields × (option_map string_bytes found ≡ slice_get fields n)) }
+{
+    match find_field(text, n) {
+        Some(found) => Ok(Some(found.to_string(alloc)?)),
+        None => Ok(None),
+    }
+}
+
+/// Where field `n` of a line stands.
+fn find_field(text: &str, n: usize) -> Option<RawField<'_>>
+    ensures { IsFieldAt text.now n result }
+{
+    let mut found = RawField::first(text);
+    for _ in 0..n {
+        found = RawField::first(found.rest?);
+    }
+    Some(found)
+}

@@ -1,0 +1,85 @@
+//! Lexicons.
+ghost use Rattle.std.specs.Prelude.{◌≡◌, ◌++◌, ◌⊎◌, List, length, take, IfOk, IfErr, OnErr, MatchResult, Ok, Err};
+ghost use Rattle.mj_model.specs.declared.entry.Record.{Record as RecordOf};
+ghost use Rattle.mj_model.specs.declared.source_fault.SourceKind.TheVariants.{Memory};
+ghost use Rattle.mj_model.specs.FirstFault.{IsRefusal};
+ghost use Rattle.mj_model.specs.Lexicon.{Row, IsLexicon, rows_of};
+ghost use Rattle.lex_source.specs.Steps.{IsTaken, IsRefusedLine};
+
+use crate::outcome::{LineOutcome, read_line};
+use crate::source_lines::lines;
+use mj_model::{ENTRIES_MAX, Record, SourceFault, SourceKind};
+use std::alloc::Global;
+
+/// Appends the accepted lines of a lexicon to `out`, and answers how many were skipped for their empty surface. `file` is the
+/// lexicon's number in a fault. (MeCab, dic-detail)
+pub fn read_lexicon(
+    alloc: Global,
+    bytes: &[u8],
+    file: u32,
+    out: &mut Vec<Record>,
+) -> Result<u64, SourceFault>
+    ensures accepted { IfOk result (λ skipped. (rows : List Row) × IsLexicon file (length out.old.items) bytes.now (Ok (record { rows = rows; skipped = skipped })) × (rows_of out.new.items ≡ rows_of out.old.items ++ rows)) }
+    ensures refused { IfErr result (λ fault. IsRefusal fault (IsLexicon file (length out.old.items) bytes.now (Err fault))) }
+    ensures kept { OnErr result (out.new.items ≡ out.old.items) }
+{
+    let held = out.len();
+    let read = append_lines(alloc, bytes, file, out);
+    if read.is_err() {
+        out.truncate(held);
+    }
+    read
+}
+
+/// Appends the accepted lines up to the first bad one.
+fn append_lines(
+    alloc: Global,
+    bytes: &[u8],
+    file: u32,
+    out: &mut Vec<Record>,
+) -> Result<u64, SourceFault>
+    ensures accepted { IfOk result (λ skipped. (rows : List Row) × IsLexicon file (length out.old.items) bytes.now (Ok (record { rows = rows; skipped = skipped })) × (rows_of out.new.items ≡ rows_of out.old.items ++ rows)) }
+    ensures refused { IfErr result (λ fault. IsRefusal fault (IsLexicon file (length out.old.items) bytes.now (Err fault))) }
+    ensures begins { take (length out.old.items) out.new.items ≡ out.old.items }
+{
+    let mut skipped = 0;
+    for (number, line) in lines(bytes) {
+        match append_line(alloc, number, line, out) {
+            Ok(counts) => skipped += u64::from(counts),
+            Err(kind) => {
+                return Err(SourceFault {
+                    file,
+                    line: number,
+                    kind,
+                });
+            }
+        }
+    }
+    Ok(skipped)
+}
+
+/// Appends what comes of a line, and answers whether it counts as skipped.
+fn append_line(
+    alloc: Global,
+    number: u64,
+    line: &[u8],
+    out: &mut Vec<Record>,
+) -> Result<bool, SourceKind>
+    ensures taken { IfOk result (λ counts. (more : List RecordOf) × (out.new.items ≡ out.old.items ++ more) × IsTaken number line.now (length out.old.items) counts (rows_of more)) }
+    ensures refused { IfErr result (λ kind. (kind ≡ Memory) ⊎ IsRefusedLine number line.now (length out.old.items) kind) }
+    ensures kept { OnErr result (out.new.items ≡ out.old.items) }
+{
+    match read_line(alloc, number, line)? {
+        LineOutcome::Blank => Ok(false),
+        LineOutcome::Skipped => Ok(true),
+        LineOutcome::Accepted(accepted) => {
+            if out.len() >= ENTRIES_MAX {
+                return Err(SourceKind::TooManyEntries);
+            }
+            match out.push(accepted) {
+                Ok(()) => Ok(false),
+                Err(_) => Err(SourceKind::Memory),
+            }
+        }
+    }
+}

@@ -1,0 +1,24 @@
+//! Lines, fields and numbers of MeCab's source files, and the lexicons.
+#![tactic(auto)]
+
+mod bytes;
+mod fields;
+mod filled;
+mod lexicon;
+mod numbered;
+mod numbers;
+mod outcome;
+mod parts;
+mod quoted;
+mod raw_field;
+mod source_lines;
+mod text;
+mod words;
+
+pub use fields::field;
+pub use filled::FilledLines;
+pub use lexicon::read_lexicon;
+pub use numbered::Lines;
+pub use numbers::{context_id, cost, number};
+pub use source_lines::lines;
+pub use words::Words;

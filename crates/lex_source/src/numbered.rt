@@ -1,0 +1,76 @@
+//! The lines of a source file, one after another.
+ghost use Rattle.std.specs.Prelude.{◌≡◌, ℕ, ◌+◌, ◌<◌, ◌^◌, List, ◌∷◌, length};
+ghost use Rattle.std.specs.List.{enumerate_from};
+ghost use Rattle.std.specs.Iterator.{YieldsFirstBy, item_count};
+ghost use Rattle.mj_model.specs.Lines.{numbered_lines, source_lines, without_return as line_without_return};
+
+use crate::bytes::split_first;
+use std::marker::Model;
+
+/// The lines that are left, with their numbers.
+#[derive(Drop)]
+pub struct Lines<'a> {
+    /// How many lines were told.
+    told: u64,
+    rest: &'a [u8],
+}
+
+impl<'a> Model for Lines<'a> {
+    ghost Value = { List (ℕ × List ℕ) };
+
+    ghost view = { λ it. enumerate_from (it.told + 1) (source_lines it.rest.now) };
+
+    ghost invariant = { λ it. it.told + length it.rest.now < 2 ^ 64 };
+}
+
+impl<'a> Lines<'a> {
+    pub(crate) fn new(bytes: &'a [u8]) -> Lines<'a>
+        ensures { result ≡ numbered_lines bytes.now }
+    {
+        Lines {
+            told: 0,
+            rest: bytes,
+        }
+    }
+}
+
+impl<'a> Iterator for Lines<'a> {
+    type Item = (u64, &'a [u8]);
+
+    ghost next_gives = { YieldsFirstBy (λ line. (line.0, line.1.now)) (λ rest. rest) };
+
+    ghost remaining = { item_count (λ rest. rest) };
+
+    fn next(&mut self) -> Option<(u64, &'a [u8])> {
+        if self.rest.is_empty() {
+            return None;
+        }
+        let (line, rest) = first_line(self.rest);
+        self.told += 1;
+        self.rest = rest;
+        Some((self.told, line))
+    }
+}
+
+/// The first line, and the bytes behind its line feed.
+fn first_line(bytes: &[u8]) -> (&[u8], &[u8])
+    requires { 0 < length bytes.now }
+    ensures lines { source_lines bytes.now ≡ result.0.now ∷ source_lines result.1.now }
+    ensures shorter { length result.1.now < length bytes.now }
+{
+    match split_first(bytes, b'\n') {
+        Some((line, rest)) => (without_return(line), rest),
+        None => (without_return(bytes), &bytes[bytes.len()..]),
+    }
+}
+
+/// A line without the one carriage return at its end.
+fn without_return(line: &[u8]) -> &[u8]
+    ensures { result.now ≡ line_without_return line.now }
+{
+    if !line.is_empty() && line[line.len() - 1] == b'\r' {
+        &line[..line.len() - 1]
+    } else {
+        line
+    }
+}

@@ -1,0 +1,98 @@
+//! What comes of a line of a lexicon.
+ghost use Rattle.std.specs.Prelude.{◌≡◌, ℕ, ◌⊎◌, MatchResult, option_map};
+ghost use Rattle.mj_model.specs.declared.source_fault.SourceKind.TheVariants.{Memory};
+ghost use Rattle.mj_model.specs.Lexicon.{Parts, Outcome, Refused, Accepted, IsOutcome, lexicon_outcome, row_from, row_of, accept_short};
+ghost use Rattle.lex_source.specs.Spelled.{StandsFor};
+ghost use Rattle.lex_source.specs.Steps.{outcome_of, row_with};
+
+use crate::bytes::is_blank_line;
+use crate::numbers::{context_id, cost};
+use crate::parts::{LineParts, line_parts};
+use mj_model::{Entry, Record, SURFACE_MAX, SourceKind};
+use std::alloc::Global;
+use std::string::String;
+
+/// What comes of a line that isn't refused.
+#[derive(Drop)]
+pub(crate) enum LineOutcome {
+    Blank,
+    /// Its surface is empty.
+    Skipped,
+    Accepted(Record),
+}
+
+/// The numbers of a line.
+#[derive(Clone, Copy)]
+pub(crate) struct IdsAndCost {
+    left: u16,
+    right: u16,
+    cost: i16,
+}
+
+/// What comes of a line.
+pub(crate) fn read_line(alloc: Global, number: u64, line: &[u8]) -> Result<LineOutcome, SourceKind>
+    ensures { MatchResult result (λ read. IsOutcome lexicon_outcome number line.now (outcome_of read)) (λ kind. (kind ≡ Memory) ⊎ IsOutcome lexicon_outcome number line.now (Refused kind)) }
+{
+    if is_blank_line(line) {
+        return Ok(LineOutcome::Blank);
+    }
+    let Ok(text) = simdutf8::compat::from_utf8(line) else {
+        return Err(SourceKind::NotUtf8);
+    };
+    let Some(parts) = line_parts(text) else {
+        return Err(SourceKind::TooFewFields);
+    };
+    read_parts(alloc, number, parts)
+}
+
+/// What comes of a line with these parts.
+fn read_parts(alloc: Global, number: u64, parts: LineParts) -> Result<LineOutcome, SourceKind>
+    requires { (meant : Parts) × StandsFor parts meant }
+    ensures { (meant : Parts) → StandsFor parts.entry meant → MatchResult result (λ read. lexicon_outcome number meant ≡ outcome_of read) (λ kind. (kind ≡ Memory) ⊎ (lexicon_outcome number meant ≡ Refused kind)) }
+{
+    if parts.surface.raw.is_empty() {
+        return Ok(LineOutcome::Skipped);
+    }
+    Ok(LineOutcome::Accepted(accept(alloc, number, parts)?))
+}
+
+/// The record of a line with these parts.
+fn accept(alloc: Global, number: u64, parts: LineParts) -> Result<Record, SourceKind>
+    requires { (meant : Parts) × StandsFor parts meant }
+    ensures { (meant : Parts) → StandsFor parts.entry meant → MatchResult result (λ made. accept_short (row_from number meant) ≡ Accepted (row_of made)) (λ kind. (kind ≡ Memory) ⊎ (accept_short (row_from number meant) ≡ Refused kind)) }
+{
+    let Some(numbers) = ids_and_cost(parts) else {
+        return Err(SourceKind::BadNumber);
+    };
+    let Ok(surface) = parts.surface.to_string(alloc) else {
+        return Err(SourceKind::Memory);
+    };
+    if surface.len() > SURFACE_MAX {
+        return Err(SourceKind::SurfaceTooLong);
+    }
+    let Ok(feature) = String::from_str(alloc, parts.feature) else {
+        return Err(SourceKind::Memory);
+    };
+    let IdsAndCost { left, right, cost } = numbers;
+    Ok(Record {
+        line: number,
+        surface,
+        entry: Entry {
+            left,
+            right,
+            cost,
+            feature,
+        },
+    })
+}
+
+/// The numbers of a line with these parts, or None where one is out of range.
+fn ids_and_cost(parts: LineParts) -> Option<IdsAndCost>
+    ensures { (number : ℕ) (meant : Parts) → StandsFor parts.entry meant → row_from number meant ≡ option_map (row_with number meant) result }
+{
+    Some(IdsAndCost {
+        left: context_id(parts.left.raw.as_bytes())?,
+        right: context_id(parts.right.raw.as_bytes())?,
+        cost: cost(parts.cost.raw.as_bytes())?,
+    })
+}

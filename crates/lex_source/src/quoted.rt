@@ -1,0 +1,61 @@
+//! Fields between quotes, in which a quote is written twice.
+ghost use Rattle.std.specs.Prelude.{◌≡◌, ◌≤◌, ◌+◌, ℕ, List, ◌∷◌, ◌++◌, length, IfOk, MatchOption, string_bytes, option_copied};
+ghost use Rattle.mj_model.specs.Bytes.{quote};
+ghost use Rattle.mj_model.specs.Fields.{doubled, BeginsWithQuote};
+ghost use Rattle.lex_source.specs.Spelled.{IsDoubled, IsNextQuote, IsQuotedEnd};
+
+use crate::text::{split_around, split_text};
+use memchr::memchr;
+use std::alloc::{AllocError, Global};
+use std::string::String;
+
+/// What stands up to the closing quote, and what stands behind it. Without such a quote the first is all of the text.
+pub(crate) fn split_quoted(inside: &str) -> (&str, Option<&str>)
+    ensures doubled { IsDoubled result.0.now }
+    ensures behind { MatchOption result.1 (inside.now ≡ result.0.now) (λ behind. (inside.now ≡ result.0.now ++ quote ∷ behind.now) × (BeginsWithQuote behind.now → ⊥)) }
+{
+    let end = quoted_end(inside.as_bytes());
+    if end == inside.len() {
+        return (inside, None);
+    }
+    let (raw, behind) = split_around(inside, end);
+    (raw, Some(behind))
+}
+
+/// Where the closing quote stands: the first that no quote follows and that follows none of a pair.
+fn quoted_end(bytes: &[u8]) -> usize
+    ensures { IsQuotedEnd bytes.now result }
+{
+    let mut at = next_quote(bytes, 0);
+    while bytes.len() - at > 1 && bytes[at + 1] == b'"' {
+        at = next_quote(bytes, at + 2);
+    }
+    at
+}
+
+/// Where the first quote from `start` on stands, or the length.
+fn next_quote(bytes: &[u8], start: usize) -> usize
+    requires { start ≤ length bytes.now }
+    ensures { IsNextQuote bytes.now start result }
+{
+    match memchr(b'"', &bytes[start..]) {
+        Some(at) => start + at,
+        None => bytes.len(),
+    }
+}
+
+/// A text in which each pair of quotes is one.
+pub(crate) fn undoubled(alloc: Global, raw: &str) -> Result<String, AllocError>
+    requires { IsDoubled raw.now }
+    ensures { (field : List ℕ) → raw.now ≡ doubled field → IfOk result (λ text. string_bytes text ≡ field) }
+{
+    let mut text = String::with_capacity(alloc, raw.len())?;
+    let mut rest = raw;
+    while let Some((before, behind)) = split_text(rest, b'"') {
+        text.push_str(before)?;
+        text.push('"')?;
+        rest = split_around(behind, 0).1;
+    }
+    text.push_str(rest)?;
+    Ok(text)
+}
