@@ -182,7 +182,7 @@ one_length_more place start lexicon text n first rs before all after is so_far m
 
 -- ---- what was appended so far
 
-pub front_kept : (n m : ℕ) (before more all : List Word) → n ≡ length before → take m all ≡ before ++ more → take n all ≡ before
+pub front_kept : {X : Type 0} (n m : ℕ) (before more all : List X) → n ≡ length before → take m all ≡ before ++ more → take n all ≡ before
 front_kept n m before more all is front =
     let long = ap length front in
     let a = length-take m all in

@@ -2,3 +2,8 @@ pub mod SortedRows
 pub mod SurfaceBytes
 pub mod Narrowing
 pub mod KnownFound
+pub mod FirstBlanks
+pub mod FirstEntries
+pub mod FirstWords
+pub mod PrintedPaths
+pub mod ConnectionCosts

@@ -2,6 +2,10 @@ pub mod LineErrors
 pub mod FirstTables
 pub mod FirstLines
 pub mod FirstSources
-pub mod SortedLexicons
 pub mod Lexemes
 pub mod Beginnings
+pub mod SortedLexicons
+pub mod Connections
+pub mod Fitting
+pub mod Dictionaries
+pub mod PrintedWords
