@@ -1,0 +1,15 @@
+//! What the program tells when it ends early.
+
+use mj_model::{RunFault, SourceFault};
+use std::string::String;
+
+/// Why the program ended before its work was done.
+#[derive(Debug, Drop)]
+pub enum Fault {
+    /// The source at this path is refused.
+    Source(String, SourceFault),
+    /// The run over the text ended; what it carries is no `Source`.
+    Run(RunFault),
+    /// Memory was refused.
+    Memory,
+}
