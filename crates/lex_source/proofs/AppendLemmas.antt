@@ -1,13 +1,11 @@
 -- The records that a lexicon appends, line by line.
-use Rattle.std.proofs.Common.{◌≡◌, ℕ, ◌+◌, ◌<◌, ◌≤◌, Bool, true, false, cond, Fits, w64, List, [], ◌∷◌, ◌++◌, length, take, map, refl, sym, ◌∙◌, ap, subst, arith, ◌⊎◌, inl, inr, length-append, append_assoc}
-use Rattle.std.specs.Prelude.{Result, Ok, Err}
+use Rattle.std.proofs.Common.{◌≡◌, ℕ, ◌+◌, ◌<◌, Bool, true, false, cond, Fits, w64, List, [], ◌∷◌, ◌++◌, length, take, refl, sym, ◌∙◌, ap, subst, arith, ◌⊎◌, inl, inr, length-append, append_assoc}
+use Rattle.std.specs.Prelude.{Ok, Err}
 use mir.Val.{bool_byte}
 use Rattle.std.proofs.lemmas.List.{append-nil, map-append, length-map, take_at}
 use Rattle.mj_model.specs.declared.entry.Record.{Record}
-use Rattle.mj_model.specs.declared.source_fault.SourceFault.{SourceFault}
 use Rattle.mj_model.specs.declared.source_fault.SourceKind.{SourceKind}
 use Rattle.mj_model.specs.declared.source_fault.SourceKind.TheVariants.{Memory}
-use Rattle.mj_model.specs.FirstFault.{IsRefusal}
 use Rattle.mj_model.specs.Lines.{numbered_lines}
 use Rattle.mj_model.specs.Lexicon.{Row, row_of, rows_of, IsLexicon}
 use Rattle.lex_source.specs.Steps.{IsTaken, IsRefusedLine, IsReadUpTo, HasRead}

@@ -1,10 +1,10 @@
 -- A text is cut at the place where `memchr` finds the byte.
-use Rattle.std.proofs.Common.{◌≡◌, ℕ, ◌+◌, ◌-◌, ◌<◌, ◌≤◌, Bool, true, false, eqb, ◌==◌, List, [], length, take, drop, get_or, refl, sym, ◌∙◌, ap, arith, Option, Some, None, subst, cond, inl, inr, length-take, ◌∷◌, ◌++◌}
+use Rattle.std.proofs.Common.{◌≡◌, ℕ, ◌+◌, ◌-◌, ◌<◌, ◌≤◌, Bool, true, false, ◌==◌, List, [], length, take, drop, get_or, refl, sym, ◌∙◌, ap, arith, subst, cond, inl, inr, length-take, ◌∷◌, ◌++◌}
 use Rattle.std.specs.Prelude.{slice_index, not, ◌||◌}
-use Rattle.std.specs.List.{list_any, position_or_len, before_first, after_first, suffix_len, prefix_len, All}
+use Rattle.std.specs.List.{list_any, position_or_len, before_first, after_first, suffix_len, prefix_len}
 use Rattle.std.proofs.lemmas.Bool.{false_from_ne_true, cases_Bool, or_parts, or_cases, eqb-true}
 use Rattle.std.proofs.lemmas.List.{get_or_default, take_rest, drop_all, get_or-take}
-use Rattle.std.proofs.lemmas.List.Sums.{position_or_len_is, prefix_len_is, suffix_len_is, passes_at_first, split_at_first, fails_before_first, take_while-cons, prefix_len_passes, prefix_len-le-length}
+use Rattle.std.proofs.lemmas.List.Sums.{position_or_len_is, suffix_len_is, passes_at_first, split_at_first, fails_before_first, take_while-cons, prefix_len_passes, prefix_len-le-length}
 use Rattle.std.proofs.lemmas.List.Folds.{list_any_none, list_any_at}
 use Rattle.std.specs.Str.{IsUtf8, IsCharBoundary}
 use Rattle.std.proofs.lemmas.Str.{IsCharBoundary-after_ascii}

@@ -1,8 +1,8 @@
 -- First fields of a text, plain or between quotes.
-use Rattle.std.proofs.Common.{◌≡◌, ℕ, ◌+◌, ◌-◌, ◌<◌, ◌≤◌, Bool, true, false, cond, eqb, ◌==◌, List, [], ◌∷◌, ◌++◌, length, take, drop, get_or, refl, sym, ◌∙◌, ap, subst, arith, Option, Some, None, inl, inr}
+use Rattle.std.proofs.Common.{◌≡◌, ℕ, Bool, true, false, cond, List, ◌∷◌, ◌++◌, refl, sym, ◌∙◌, ap, Option, Some, None, inl, inr}
 use Rattle.std.specs.List.{list_any, after_first}
 use Rattle.mj_model.specs.Bytes.{quote, is_comma}
-use Rattle.mj_model.specs.Fields.{doubled, BeginsWithQuote, IsFieldOf, rest_of}
+use Rattle.mj_model.specs.Fields.{BeginsWithQuote, IsFieldOf, rest_of}
 use Rattle.lex_source.specs.Cuts.{IsCut}
 use Rattle.lex_source.specs.Spelled.{StandsFirst, IsDoubled}
 use Rattle.lex_source.proofs.CutLemmas.{uncut}

@@ -1,5 +1,5 @@
 -- The fields of a text, one after another: each rest is shorter, so each text has fields.
-use Rattle.std.proofs.Common.{◌≡◌, ℕ, zero, suc, ◌+◌, ◌-◌, ◌<◌, ◌≤◌, Bool, true, false, cond, List, [], ◌∷◌, ◌++◌, length, drop, refl, sym, ◌∙◌, ap, subst, arith, Option, Some, None, ◌⊎◌, inl, inr, Bor, length-drop, length-append}
+use Rattle.std.proofs.Common.{◌≡◌, ℕ, zero, suc, ◌+◌, ◌<◌, ◌≤◌, Bool, cond, List, [], ◌∷◌, ◌++◌, length, drop, refl, ◌∙◌, ap, subst, arith, Option, Some, None, inl, inr, Bor, length-drop, length-append}
 use Rattle.std.specs.Prelude.{slice_get, option_copied}
 use Rattle.std.specs.List.{list_any, position_or_len, prefix_len, after_first}
 use Rattle.std.proofs.lemmas.Bool.{cases_Bool}
@@ -7,7 +7,7 @@ use Rattle.mj_model.specs.Bytes.{quote, is_comma, is_blank}
 use Rattle.mj_model.specs.Fields.{doubled, without_blanks, IsFieldOf, IsFirstField, AreFields, AreFirstFields, rest_of}
 use Rattle.mj_model.proofs.FieldLemmas.{a_field}
 use Rattle.lex_source.specs.declared.raw_field.RawField.{RawField}
-use Rattle.lex_source.specs.Spelled.{StandsFirst, StandsAt, IsFieldAt, HasFewFields}
+use Rattle.lex_source.specs.Spelled.{StandsFirst, StandsAt, IsFieldAt}
 use Rattle.lex_source.proofs.CutLemmas.{any_within}
 
 -- ---- a rest is shorter than its text

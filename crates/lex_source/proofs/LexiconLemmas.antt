@@ -1,9 +1,9 @@
 -- A lexicon read line by line: each line has an outcome, and a line's step takes the lines read so far one further.
-use Rattle.std.proofs.Common.{◌≡◌, ℕ, suc, ◌+◌, ◌-◌, ◌<◌, ◌≤◌, Bool, true, false, cond, ltb, List, [], ◌∷◌, ◌++◌, length, map, refl, sym, ◌∙◌, ap, subst, arith, Option, Some, None, ◌⊎◌, inl, inr, length-append, append_assoc}
-use Rattle.std.specs.Prelude.{count_by, filter_map, Result, Ok, Err}
+use Rattle.std.proofs.Common.{◌≡◌, ℕ, suc, ◌+◌, ◌<◌, Bool, false, cond, ltb, List, [], ◌∷◌, ◌++◌, length, refl, sym, ◌∙◌, ap, subst, arith, Option, Some, None, inl, inr, length-append, append_assoc}
+use Rattle.std.specs.Prelude.{count_by, Ok, Err}
 use Rattle.std.specs.List.{enumerate_from}
 use Rattle.std.specs.Str.{IsUtf8, is_utf8}
-use Rattle.std.proofs.lemmas.Bool.{cases_Bool, cases_lt, cond-true, cond-false, both_ways}
+use Rattle.std.proofs.lemmas.Bool.{cases_Bool, cond-true, cond-false, both_ways}
 use Rattle.std.proofs.lemmas.List.{append-nil}
 use Rattle.std.proofs.lemmas.List.Elements.{filter_map-append}
 use Rattle.std.proofs.lemmas.List.Sums.{sum_by_push, count_by-le-length}
@@ -13,8 +13,8 @@ use Rattle.mj_model.specs.declared.source_fault.SourceFault.{SourceFault}
 use Rattle.mj_model.specs.declared.source_fault.SourceKind.{SourceKind}
 use Rattle.mj_model.specs.declared.source_fault.SourceKind.TheVariants.{NotUtf8, TooFewFields, TooManyEntries}
 use Rattle.mj_model.specs.Lines.{is_blank_line, numbered_lines, source_lines}
-use Rattle.mj_model.specs.Fields.{AreFields, AreFirstFields, without_blanks}
-use Rattle.mj_model.specs.Lexicon.{Row, Parts, Outcome, Blank, Skipped, Refused, Accepted, IsOutcome, is_blank, not_text, too_few, has_parts, AreOutcomes, first_refused, accepted_row, accepted_rows, is_skipped, reading_unless, ReadsAs, IsLexicon, lexicon_outcome, Reading}
+use Rattle.mj_model.specs.Fields.{AreFields, without_blanks}
+use Rattle.mj_model.specs.Lexicon.{Row, Parts, Outcome, Blank, Skipped, Refused, Accepted, IsOutcome, is_blank, not_text, too_few, has_parts, AreOutcomes, first_refused, accepted_row, accepted_rows, is_skipped, reading_unless, IsLexicon, lexicon_outcome, Reading}
 use Rattle.mj_model.proofs.FieldLemmas.{a_field}
 use Rattle.lex_source.specs.Steps.{IsTaken, IsRefusedLine, IsReadUpTo}
 use Rattle.lex_source.proofs.FieldsLemmas.{fields_from}

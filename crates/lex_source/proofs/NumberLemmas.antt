@@ -1,11 +1,11 @@
 -- A field between quotes is a number where its bytes are: one with a quote in it is none.
-use Rattle.std.proofs.Common.{◌≡◌, ℕ, ◌+◌, ◌-◌, ◌<◌, ◌≤◌, Bool, true, false, cond, eqb, ◌==◌, ◌&&◌, List, [], ◌∷◌, ◌++◌, length, take, drop, get_or, reverse, refl, sym, ◌∙◌, ap, subst, arith, Option, Some, None, inl, inr, length-drop}
+use Rattle.std.proofs.Common.{◌≡◌, ℕ, ◌+◌, ◌-◌, ◌<◌, ◌≤◌, Bool, true, false, cond, ◌==◌, ◌&&◌, List, [], ◌∷◌, length, take, drop, get_or, reverse, refl, sym, ◌∙◌, ap, arith, Option, Some, None, inl, inr, length-drop}
 use Rattle.std.specs.Prelude.{ℤ, pos, neg_ℤ, option_map, ◌||◌, nat_lt}
 use Rattle.std.specs.List.{list_any, suffix_len, prefix_len}
 use Rattle.std.specs.Char.{is_ascii_digit}
 use Rattle.std.specs.Str.{all_ascii_digits}
-use Rattle.std.proofs.lemmas.Bool.{cases_Bool, or_cases, and_left, and_right, eqb-true, cond-true, cond-false, both_ways, eq-eqb}
-use Rattle.std.proofs.lemmas.List.{take-append-drop, get_or-drop, get_or-reverse, length-reverse}
+use Rattle.std.proofs.lemmas.Bool.{cases_Bool, or_cases, and_left, and_right, eqb-true, cond-true, cond-false, both_ways}
+use Rattle.std.proofs.lemmas.List.{take-append-drop, get_or-drop, get_or-reverse}
 use Rattle.std.proofs.lemmas.List.Sums.{prefix_len_passes, suffix_len-le-length}
 use Rattle.std.proofs.lemmas.List.Folds.{list_any_none, list_any-append}
 use Rattle.mj_model.specs.Bytes.{quote, is_quote, is_blank, minus, plus}

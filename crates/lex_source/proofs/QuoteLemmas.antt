@@ -1,6 +1,6 @@
 -- Fields between quotes: what doubles a quote, where the closing quote stands, and how a doubled text is read back.
-use Rattle.std.proofs.Common.{◌≡◌, ℕ, ◌+◌, ◌-◌, ◌<◌, ◌≤◌, Bool, true, false, cond, eqb, ◌==◌, List, [], ◌∷◌, ◌++◌, length, take, drop, get_or, refl, sym, ◌∙◌, ap, subst, arith, Option, Some, None, inl, inr, length-take, length-drop, append_assoc}
-use Rattle.std.specs.Prelude.{slice_index, ◌||◌}
+use Rattle.std.proofs.Common.{◌≡◌, ℕ, ◌+◌, ◌-◌, ◌<◌, ◌≤◌, Bool, false, cond, List, [], ◌∷◌, ◌++◌, length, take, drop, get_or, refl, sym, ◌∙◌, ap, subst, arith, inl, inr, length-take, length-drop, append_assoc}
+use Rattle.std.specs.Prelude.{slice_index}
 use Rattle.std.specs.List.{list_any}
 use Rattle.std.proofs.lemmas.Bool.{or_parts, ne_eqb, eq-eqb, eqb-false, eqb-true, cases_eq, cases_lt}
 use Rattle.std.proofs.lemmas.List.{get_or_default, get_or-take, get_or-drop, take_more, take-append-drop, take-take, drop-take, drop_more, drop_all, take_all}
@@ -10,7 +10,7 @@ use Rattle.memchr.specs.Find.{Nowhere, NoneBefore, Passes}
 use Rattle.mj_model.specs.Bytes.{quote, is_quote}
 use Rattle.mj_model.specs.Fields.{doubled, BeginsWithQuote}
 use Rattle.lex_source.specs.Cuts.{IsCut}
-use Rattle.lex_source.specs.Spelled.{IsDoubled, IsNextQuote, IsQuotedEnd}
+use Rattle.lex_source.specs.Spelled.{IsDoubled, IsNextQuote}
 use Rattle.lex_source.proofs.CutLemmas.{cut_parts}
 
 of_byte : ℕ → List ℕ

@@ -1,5 +1,5 @@
 -- Values of digits up to 2^31, above which no 32-bit number lies.
-use Rattle.std.specs.Prelude.{ℕ, ◌+◌, ◌*◌, ◌-◌, ◌^◌, min, nat_le, if◌then◌else◌, Option, Some, None, option_and_then, ℤ, pos}
+use Rattle.std.specs.Prelude.{ℕ, ◌+◌, ◌*◌, ◌-◌, ◌^◌, min, nat_le, if◌then◌else◌, Option, Some, None, option_and_then}
 use Rattle.std.specs.Char.{is_ascii_digit}
 
 -- a value, where all those above 2^31 are one

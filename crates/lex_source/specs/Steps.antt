@@ -1,10 +1,9 @@
 -- A lexicon read line by line.
-use Rattle.std.specs.Prelude.{◌≡◌, ℕ, ◌+◌, Bool, List, [], ◌∷◌, ◌++◌, length, count_by, string_bytes, Option, Some, None}
+use Rattle.std.specs.Prelude.{◌≡◌, ℕ, ◌+◌, Bool, List, [], ◌∷◌, ◌++◌, length, count_by, Some, None}
 use Rattle.std.specs.List.{enumerate_from}
 use Rattle.mj_model.specs.declared.entry.Record.{Record}
-use Rattle.mj_model.specs.declared.source_fault.SourceFault.{SourceFault}
 use Rattle.mj_model.specs.declared.source_fault.SourceKind.{SourceKind}
-use Rattle.mj_model.specs.Lexicon.{Row, row_of, rows_of, Parts, Outcome, Blank, Skipped, Refused, Accepted, lexicon_outcome, IsOutcome, AreOutcomes, first_refused, accepted_rows, is_skipped}
+use Rattle.mj_model.specs.Lexicon.{Row, row_of, rows_of, Parts, Outcome, Blank, Skipped, Accepted, lexicon_outcome, IsOutcome, AreOutcomes, first_refused, accepted_rows, is_skipped}
 use Rattle.lex_source.specs.declared.outcome.LineOutcome.{LineOutcome}
 use Rattle.lex_source.specs.declared.outcome.LineOutcome.TheVariants as line
 use Rattle.lex_source.specs.declared.outcome.IdsAndCost.{IdsAndCost}

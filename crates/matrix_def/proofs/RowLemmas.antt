@@ -1,17 +1,17 @@
 -- The rows of `matrix.def`, one after another: each sets its cell, and of a repeated pair the last one counts.
-use Rattle.std.proofs.Common.{◌≡◌, ℕ, ◌+◌, ◌-◌, ◌*◌, ◌<◌, ◌≤◌, Bool, true, false, cond, eqb, ltb, ◌&&◌, List, [], ◌∷◌, ◌++◌, length, get_or, set, replicate, reverse, refl, sym, ◌∙◌, ap, subst, arith, Option, Some, None, ◌⊎◌, inl, inr, append_assoc, get_or-set_same, get_or-set_other, mul_comm}
+use Rattle.std.proofs.Common.{◌≡◌, ℕ, ◌+◌, ◌*◌, ◌<◌, Bool, false, cond, ltb, ◌&&◌, List, [], ◌∷◌, ◌++◌, length, get_or, set, reverse, refl, sym, ◌∙◌, ap, subst, arith, Option, Some, None, inl, inr, append_assoc, get_or-set_same, get_or-set_other, mul_comm}
 use Rattle.std.specs.Prelude.{ℤ, pos, find, ◌==◌}
 use Rattle.std.specs.List.{cons_option}
 use Rattle.std.specs.Option.{option_map_or}
 use Rattle.std.proofs.lemmas.Bool.{cases_Bool, cases_eq, cond-true, cond-false, eq-eqb, ne_eqb, and_from, and_parts, ltb-true, and_left, and_right}
 use Rattle.std.proofs.lemmas.Nat.{mul-add-lt, same_from_place}
-use Rattle.std.proofs.lemmas.List.{append-nil, reverse-append, get_or-replicate}
+use Rattle.std.proofs.lemmas.List.{append-nil, reverse-append}
 use Rattle.std.proofs.lemmas.List.Elements.{filter_map-append}
 use Rattle.mj_model.specs.declared.source_fault.SourceFault.{SourceFault}
 use Rattle.mj_model.specs.declared.source_fault.SourceKind.{SourceKind}
 use Rattle.mj_model.specs.declared.source_fault.SourceKind.TheVariants.{PairOutside}
 use Rattle.mj_model.specs.FirstFault.{fault_or, first_fault}
-use Rattle.mj_model.specs.Connection.{Sizes, Cell, Connection, cell_from, words_of, cell_fault, row_fault, is_pair, connection_cost}
+use Rattle.mj_model.specs.Connection.{Sizes, Cell, cell_from, words_of, cell_fault, row_fault, connection_cost}
 use Rattle.matrix_def.specs.Costs.{CostTable, IsPair, IsMatrix, IsTableOf, cell_at, matrix_cost}
 use Rattle.matrix_def.specs.Rows.{cells_of, IsRow, HoldsUpTo}
 

@@ -1,6 +1,6 @@
 -- The rows of `matrix.def`.
-use Rattle.std.specs.Prelude.{◌≡◌, ℕ, ℤ, IsTrue, List, [], ◌∷◌, ◌++◌, length, filter_map, Option, Some, None}
-use Rattle.mj_model.specs.Connection.{Sizes, Cell, Connection, cell_from, words_of, row_fault, is_pair}
+use Rattle.std.specs.Prelude.{◌≡◌, ℕ, IsTrue, List, ◌++◌, filter_map, Some, None}
+use Rattle.mj_model.specs.Connection.{Sizes, Cell, cell_from, words_of, row_fault, is_pair}
 use Rattle.mj_model.specs.FirstFault.{first_fault}
 use Rattle.matrix_def.specs.declared.rows.MatrixSizes.{MatrixSizes}
 use Rattle.matrix_def.specs.declared.rows.MatrixCell.{MatrixCell}

@@ -7,3 +7,6 @@ mod rows;
 
 pub use matrix::Matrix;
 pub use read::read_matrix;
+
+#[cfg(test)]
+mod tests;

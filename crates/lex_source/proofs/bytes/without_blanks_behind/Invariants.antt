@@ -1,5 +1,4 @@
-use Rattle.std.proofs.Common.{◌≡◌, ℕ, ◌+◌, ◌<◌, ◌≤◌, length, take, get_or, true}
-use Rattle.std.specs.List.{suffix_len}
+use Rattle.std.proofs.Common.{◌≡◌, ℕ, ◌<◌, ◌≤◌, length, get_or, true}
 use Rattle.mj_model.specs.Bytes.{is_blank}
 use Rattle.lex_source.proofs.bytes.without_blanks_behind.Given as goal
 

@@ -1,6 +1,5 @@
 use Rattle.std.proofs.Common.{◌≡◌, ℕ, subst, arith, Some}
-use Rattle.std.specs.Prelude.{option_copied}
-use Rattle.lex_source.specs.Spelled.{StandsAt, IsFieldAt}
+use Rattle.lex_source.specs.Spelled.{IsFieldAt}
 use Rattle.lex_source.proofs.FieldsLemmas.{at_start, at_next, no_field, a_field_at}
 use Rattle.lex_source.proofs.fields.find_field.Goals as goal
 

@@ -1,9 +1,8 @@
-use Rattle.std.proofs.Common.{◌≡◌, ◌∙◌, ap, sym, rules, Some}
+use Rattle.std.proofs.Common.{◌∙◌, ap, sym, rules, Some}
 use Rattle.std.specs.Prelude.{ℤ}
 use Rattle.std.proofs.lemmas.Int.{to_z-of_z}
 use mir.Val.{SFits}
 use mir.Syntax.{w16}
-use Rattle.mj_model.specs.Lexicon.{Row}
 use Rattle.lex_source.proofs.OutcomeLemmas.{id_read, cost_read, no_left_id, no_right_id, no_cost, a_row}
 use Rattle.lex_source.proofs.outcome.ids_and_cost.Goals as goal
 

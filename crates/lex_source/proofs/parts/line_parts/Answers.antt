@@ -1,6 +1,5 @@
-use Rattle.std.proofs.Common.{◌≡◌, [], ◌∷◌, refl, arith}
+use Rattle.std.proofs.Common.{[], ◌∷◌, refl, arith}
 use Rattle.std.specs.Prelude.{}
-use Rattle.mj_model.specs.Fields.{IsFirstField}
 use Rattle.lex_source.proofs.FieldsLemmas.{with_rest, without_rest}
 use Rattle.lex_source.proofs.parts.line_parts.Goals as goal
 

@@ -1,4 +1,4 @@
-use Rattle.std.proofs.Common.{rules, ◌≡◌, ◌++◌, ◌∷◌, [], List, ℕ, ◌∙◌, ap}
+use Rattle.std.proofs.Common.{rules, ◌++◌, ◌∷◌, [], List, ℕ, ◌∙◌, ap}
 use Rattle.std.specs.Prelude.{string_bytes}
 use lib.Utf8.{encode}
 use Rattle.lex_source.proofs.QuoteLemmas.{behind_quote, read_more, read_all}

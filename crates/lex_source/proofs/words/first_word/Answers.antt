@@ -1,5 +1,5 @@
-use Rattle.std.proofs.Common.{◌≡◌, ◌<◌, ◌∙◌, sym, refl, length, take, drop, ◌-◌, List, ℕ}
-use Rattle.std.proofs.lemmas.Bool.{eqb-true, eqb-false}
+use Rattle.std.proofs.Common.{◌∙◌, sym, refl, length, take, drop, ◌-◌, List, ℕ}
+use Rattle.std.proofs.lemmas.Bool.{eqb-true}
 use Rattle.std.proofs.lemmas.List.{take_rest}
 use Rattle.lex_source.proofs.WordLemmas.{no_word, a_word, some_from}
 use Rattle.lex_source.proofs.words.first_word.Goals as goal
