@@ -7,3 +7,4 @@ pub mod NumberLemmas
 pub mod OutcomeLemmas
 pub mod LexiconLemmas
 pub mod AppendLemmas
+pub mod WordLemmas

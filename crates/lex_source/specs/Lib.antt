@@ -1,4 +1,5 @@
 pub mod Cuts
 pub mod Digits
+pub mod Filled
 pub mod Spelled
 pub mod Steps

@@ -1,5 +1,5 @@
 //! Cuts and blanks of byte slices.
-ghost use Rattle.std.specs.Prelude.{◌≡◌, ◌==◌, false, MatchOption};
+ghost use Rattle.std.specs.Prelude.{◌≡◌, ◌==◌, ◌≤◌, false, length, MatchOption};
 ghost use Rattle.std.specs.List.{list_any, prefix_len};
 ghost use Rattle.mj_model.specs.Bytes.{is_blank as is_blank_byte};
 ghost use Rattle.mj_model.specs.Lines.{is_blank_line as is_blank_text};
@@ -32,7 +32,8 @@ pub(crate) fn is_blank_line(line: &[u8]) -> bool
 
 /// How many blanks and tabs a text begins with.
 pub(crate) fn blanks_before(text: &[u8]) -> usize
-    ensures { result ≡ prefix_len is_blank_byte text.now }
+    ensures count { result ≡ prefix_len is_blank_byte text.now }
+    ensures within { result ≤ length text.now }
 {
     for (i, byte) in text.iter().enumerate() {
         if !is_blank(*byte) {

@@ -3,6 +3,7 @@
 
 mod bytes;
 mod fields;
+mod filled;
 mod lexicon;
 mod numbered;
 mod numbers;
@@ -12,9 +13,12 @@ mod quoted;
 mod raw_field;
 mod source_lines;
 mod text;
+mod words;
 
 pub use fields::field;
+pub use filled::FilledLines;
 pub use lexicon::read_lexicon;
 pub use numbered::Lines;
 pub use numbers::{context_id, cost, number};
 pub use source_lines::lines;
+pub use words::Words;

@@ -3,8 +3,8 @@ use Rattle.std.proofs.lemmas.List.Sums.{prefix_len_is}
 use Rattle.mj_model.specs.Bytes.{is_blank}
 use Rattle.lex_source.proofs.bytes.blanks_before.Goals as goal
 
-pub returns-then-not-is_blank : goal.returns-then-not-is_blank
-returns-then-not-is_blank c = sym (prefix_len_is is_blank c.args.text.now c.loop-i.i 0 (omega arith) c.loop-i.invariant (λ _. sym c.is_blank.ensures ∙ c.if-not-is_blank.true))
+pub returns-then-not-is_blank-clause-count : goal.returns-then-not-is_blank-clause-count
+returns-then-not-is_blank-clause-count c = sym (prefix_len_is is_blank c.args.text.now c.loop-i.i 0 (omega arith) c.loop-i.invariant (λ _. sym c.is_blank.ensures ∙ c.if-not-is_blank.true))
 
-pub returns : goal.returns
-returns c = sym (prefix_len_is is_blank c.args.text.now _ 0 (omega arith) (λ k low. c.loop-i.invariant k (omega arith)) (λ h. absurd (omega arith)))
+pub returns-clause-count : goal.returns-clause-count
+returns-clause-count c = sym (prefix_len_is is_blank c.args.text.now _ 0 (omega arith) (λ k low. c.loop-i.invariant k (omega arith)) (λ h. absurd (omega arith)))

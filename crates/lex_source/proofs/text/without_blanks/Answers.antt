@@ -5,4 +5,4 @@ use Rattle.lex_source.proofs.CutLemmas.{after_blanks}
 use Rattle.lex_source.proofs.text.without_blanks.Goals as goal
 
 pub range_from-requires : goal.range_from-requires
-range_from-requires c = λ some. after_blanks c.args.text.now c.blanks_before.result c.utf8.text (c.blanks_before.ensures ∙ ap (prefix_len is_blank) c.as_bytes.ensures.value) some
+range_from-requires c = λ some. after_blanks c.args.text.now c.blanks_before.result c.utf8.text (c.blanks_before.ensures.count ∙ ap (prefix_len is_blank) c.as_bytes.ensures.value) some

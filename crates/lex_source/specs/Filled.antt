@@ -1,0 +1,6 @@
+-- Lines without the blank ones.
+use Rattle.std.specs.Prelude.{ℕ, List, filter, not}
+use Rattle.mj_model.specs.Lines.{is_blank_line}
+
+abbrev pub filled : List (ℕ × List ℕ) → List (ℕ × List ℕ)
+filled lines = filter (λ line. not (is_blank_line line.1)) lines
