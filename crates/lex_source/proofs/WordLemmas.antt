@@ -40,7 +40,7 @@ word_first text n some other is = elim (cases_lt n (length text)) [
       let here : is_blank (get_or text n 0) ≡ true = ap (λ (k : ℕ). is_blank (get_or text k 0)) is ∙ passes_at_first is_blank text 0 within in
       let long : 0 < n = first_later text n some other here in
       let split : slice_split is_blank text ≡ take n text ∷ slice_split is_blank (drop (n + 1) text) =
-          slice_split_first is_blank text 0 within ∙ sym (ap (λ (k : ℕ). take k text ∷ slice_split is_blank (drop (k + 1) text)) is) in
+      slice_split_first is_blank text 0 within ∙ sym (ap (λ (k : ℕ). take k text ∷ slice_split is_blank (drop (k + 1) text)) is) in
       let behind : words_of (drop n text) ≡ words_of (drop (n + 1) text) = ap words_of (drop_more text n 0 in') ∙ words_behind_blank (get_or text n 0) (drop (n + 1) text) here in
       let kept : nat_lt 0 (length (take n text)) ≡ true = lt-ltb 0 (length (take n text)) (omega (arith, length-take {A = ℕ})) in
       ap (filter (λ word. nat_lt 0 (length word))) split ∙ cond-true (nat_lt 0 (length (take n text))) (take n text ∷ words_of (drop (n + 1) text)) (words_of (drop (n + 1) text)) kept
@@ -63,7 +63,7 @@ a_word line text word rest n end is behind some end_is word_is rest_is =
     let long : length text ≡ length (drop n line) = ap (λ (xs : List ℕ). length xs) behind in
     let within : prefix_len is_blank line < length line = omega (arith, length-drop n line) in
     let here : get_or text 0 0 ≡ get_or line (prefix_len is_blank line) 0 =
-        ap (λ (xs : List ℕ). get_or xs 0 0) behind ∙ get_or-drop n line 0 0 ∙ ap (λ (k : ℕ). get_or line k 0) (let e : n + 0 ≡ prefix_len is_blank line = omega arith in e) in
+    ap (λ (xs : List ℕ). get_or xs 0 0) behind ∙ get_or-drop n line 0 0 ∙ ap (λ (k : ℕ). get_or line k 0) (let e : n + 0 ≡ prefix_len is_blank line = omega arith in e) in
     sym (words_behind line n (sym is)) ∙ ap words_of (sym behind)
     ∙ word_first text end some (ap is_blank here ∙ prefix_len_stops is_blank line 0 within) end_is
     ∙ ap (λ (xs : List ℕ). xs ∷ words_of (drop end text)) (sym word_is) ∙ ap (λ (xs : List ℕ). word ∷ words_of xs) (sym rest_is)

@@ -22,3 +22,6 @@ pub use numbered::Lines;
 pub use numbers::{context_id, cost, number};
 pub use source_lines::lines;
 pub use words::Words;
+
+#[cfg(test)]
+mod tests;

@@ -1,0 +1,215 @@
+//! Rows of lexicons, fields and numbers.
+use crate::{FilledLines, Words, context_id, cost, field, lines, number, read_lexicon};
+use mj_model::{Record, SourceFault, SourceKind};
+use std::test::Fail;
+
+#[test]
+fn source_lines(rt: HostRuntime) -> Result<(), Fail> {
+    let rows = [
+        // (what, bytes, lines without their numbers, the last number)
+        ("no bytes", "", "", 0),
+        ("no line feed", "a", "a|", 1),
+        ("a line feed at the end", "a\n", "a|", 1),
+        ("a blank line between", "a\n\nb", "a||b|", 3),
+        ("one line feed", "\n", "|", 1),
+        ("CR LF", "a\r\nb\r\n", "a|b|", 2),
+        ("a CR at the end of the file", "a\r", "a|", 1),
+        ("one CR of two", "a\r\r\n", "a\r|", 1),
+        ("a CR inside", "a\rb\n", "a\rb|", 1),
+    ];
+    for (what, bytes, expected, last) in rows {
+        let mut told = Vec::new(rt.alloc());
+        let mut last_number = 0;
+        for (line_number, line) in lines(bytes.as_bytes()) {
+            told.extend_from_slice(line)?;
+            told.push(b'|')?;
+            last_number = line_number;
+        }
+        assert_eq!(rt; told.as_slice(), expected.as_bytes(), "{what}");
+        assert_eq!(rt; last_number, last, "{what}");
+    }
+    Ok(())
+}
+
+#[test]
+fn filled_lines_and_words(rt: HostRuntime) -> Result<(), Fail> {
+    let mut told = Vec::new(rt.alloc());
+    let mut last_number = 0;
+    for (line_number, line) in FilledLines::new(b"\n 2\t3 \r\n \t\n0 2  100\n") {
+        for word in Words::new(line) {
+            told.extend_from_slice(word)?;
+            told.push(b',')?;
+        }
+        last_number = line_number;
+    }
+    assert_eq!(rt; told.as_slice(), b"2,3,0,2,100,".as_slice());
+    assert_eq!(rt; last_number, 4);
+    Ok(())
+}
+
+#[test]
+fn quoted_fields(rt: HostRuntime) -> Result<(), Fail> {
+    let rows = [
+        // (line, number of the field, field)
+        ("x, \"y z\"w,*", 0, Some("x")),
+        ("x, \"y z\"w,*", 1, Some("y z")),
+        ("x, \"y z\"w,*", 2, Some("*")),
+        ("x, \"y z\"w,*", 3, None),
+        ("", 0, Some("")),
+        ("", 1, None),
+        ("a,", 1, Some("")),
+        (" \ta ,b", 0, Some("a ")),
+        ("\"a\"\"b\",c", 0, Some("a\"b")),
+        ("\"a\"\"b\",c", 1, Some("c")),
+        ("\"\"\"\",c", 0, Some("\"")),
+        ("\"\",c", 0, Some("")),
+        ("\"a,b", 0, Some("a,b")),
+        ("\"a,b", 1, None),
+        ("a\"b,c", 0, Some("a\"b")),
+        ("名詞,\"も,も\"", 1, Some("も,も")),
+    ];
+    for (line, n, expected) in rows {
+        match field(rt.alloc(), line, n)? {
+            Some(found) => assert_eq!(rt; Some(found.as_str()), expected, "{line} {n}"),
+            None => assert_eq!(rt; None, expected, "{line} {n}"),
+        }
+    }
+    Ok(())
+}
+
+#[test]
+fn quoted_lexicon_lines(rt: HostRuntime) -> Result<(), Fail> {
+    let rows = [
+        // (lexicon line, surface, feature)
+        ("\"a,b\",1,1,10,X", "a,b", "X"),
+        ("\"a\"\"b\",1,1,10,Y", "a\"b", "Y"),
+        ("a,\"1\",\"1\",\"10\"x,\"Y\",", "a", "\"Y\","),
+        ("a,1,1,10,", "a", ""),
+    ];
+    for (line, surface, feature) in rows {
+        let mut out = Vec::new(rt.alloc());
+        assert_eq!(rt;
+            read_lexicon(rt.alloc(), line.as_bytes(), 3, &mut out),
+            Ok(0),
+            "{line}"
+        );
+        assert_eq!(rt; out.len(), 1, "{line}");
+        assert_eq!(rt; out[0].surface.as_str(), surface, "{line}");
+        assert_eq!(rt; out[0].entry.feature.as_str(), feature, "{line}");
+        assert_eq!(rt; out[0].entry.cost, 10, "{line}");
+    }
+    Ok(())
+}
+
+#[test]
+fn lexicon_lines(rt: HostRuntime) -> Result<(), Fail> {
+    let mut out = Vec::new(rt.alloc());
+    let bytes = "\n,1,1,5,X\nも,1,1,20,Y\r\n";
+    assert_eq!(rt;
+        read_lexicon(rt.alloc(), bytes.as_bytes(), 3, &mut out),
+        Ok(1)
+    );
+    assert_eq!(rt; out.len(), 1);
+    assert_eq!(rt; out[0].line, 3);
+    assert_eq!(rt; out[0].surface.as_str(), "も");
+    assert_eq!(rt; out[0].entry.left, 1);
+    assert_eq!(rt; out[0].entry.right, 1);
+    assert_eq!(rt; out[0].entry.cost, 20);
+    assert_eq!(rt; out[0].entry.feature.as_str(), "Y");
+    Ok(())
+}
+
+#[test]
+fn bad_lexicon_lines(rt: HostRuntime) -> Result<(), Fail> {
+    let rows = [
+        // (lexicon, line of the fault, its kind)
+        (b"\"ab,1,1,10,X".as_slice(), 1, SourceKind::TooFewFields),
+        (b"a,1,1,5,X\n\xff,1,1,5,X", 2, SourceKind::NotUtf8),
+        (b"a,1,1,5", 1, SourceKind::TooFewFields),
+        (b"a,1,1,5,X\n\nb,1,1,-32769,X\nc", 3, SourceKind::BadNumber),
+        (b"a,65536,1,5,X", 1, SourceKind::BadNumber),
+        (b"a,1,-1,5,X", 1, SourceKind::BadNumber),
+        (b"a,1,1,,X", 1, SourceKind::BadNumber),
+        (b"a,1,\"1\"\"\",5,X", 1, SourceKind::BadNumber),
+    ];
+    for (bytes, line, kind) in rows {
+        let mut out: Vec<Record> = Vec::new(rt.alloc());
+        read_lexicon(rt.alloc(), b"z,1,1,5,Z", 3, &mut out)?;
+        let fault = SourceFault {
+            file: 4,
+            line,
+            kind,
+        };
+        assert_eq!(rt; read_lexicon(rt.alloc(), bytes, 4, &mut out), Err(fault));
+        assert_eq!(rt; out.len(), 1, "{kind}");
+        assert_eq!(rt; out[0].surface.as_str(), "z", "{kind}");
+    }
+    Ok(())
+}
+
+#[test]
+fn longest_surface(rt: HostRuntime) -> Result<(), Fail> {
+    let rows = [(65_535, true), (65_536, false)];
+    for (length, accepted) in rows {
+        let mut bytes = Vec::from_elem(rt.alloc(), b'a', length)?;
+        bytes.extend_from_slice(b",1,1,5,X")?;
+        let mut out: Vec<Record> = Vec::new(rt.alloc());
+        let fault = SourceFault {
+            file: 3,
+            line: 1,
+            kind: SourceKind::SurfaceTooLong,
+        };
+        let expected = if accepted { Ok(0) } else { Err(fault) };
+        assert_eq!(rt;
+            read_lexicon(rt.alloc(), bytes.as_slice(), 3, &mut out),
+            expected
+        );
+    }
+    Ok(())
+}
+
+#[test]
+fn number_ranges(rt: HostRuntime) {
+    let rows = [
+        // (text, number)
+        ("0", Some(0)),
+        ("-0", Some(0)),
+        ("+1", Some(1)),
+        ("5 ", Some(5)),
+        ("5 \t", Some(5)),
+        (" 5", None),
+        ("", None),
+        ("-", None),
+        ("+-1", None),
+        ("1 2", None),
+        ("0x1", None),
+        ("１", None),
+        ("0000000000000000000000000000007", Some(7)),
+        ("2147483647", Some(2_147_483_647)),
+        ("2147483648", None),
+        ("-2147483648", Some(-2_147_483_648)),
+        ("-2147483649", None),
+        ("99999999999999999999999999", None),
+    ];
+    for (text, expected) in rows {
+        assert_eq!(rt; number(text.as_bytes()), expected, "{text}");
+    }
+    let costs = [
+        ("-32768", Some(-32_768)),
+        ("-32769", None),
+        ("32767", Some(32_767)),
+        ("32768", None),
+    ];
+    for (text, expected) in costs {
+        assert_eq!(rt; cost(text.as_bytes()), expected, "{text}");
+    }
+    let ids = [
+        ("65535", Some(65_535)),
+        ("65536", None),
+        ("-0", Some(0)),
+        ("-1", None),
+    ];
+    for (text, expected) in ids {
+        assert_eq!(rt; context_id(text.as_bytes()), expected, "{text}");
+    }
+}

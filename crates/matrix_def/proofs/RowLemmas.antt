@@ -1,0 +1,139 @@
+-- The rows of `matrix.def`, one after another: each sets its cell, and of a repeated pair the last one counts.
+use Rattle.std.proofs.Common.{◌≡◌, ℕ, ◌+◌, ◌-◌, ◌*◌, ◌<◌, ◌≤◌, Bool, true, false, cond, eqb, ltb, ◌&&◌, List, [], ◌∷◌, ◌++◌, length, get_or, set, replicate, reverse, refl, sym, ◌∙◌, ap, subst, arith, Option, Some, None, ◌⊎◌, inl, inr, append_assoc, get_or-set_same, get_or-set_other, mul_comm}
+use Rattle.std.specs.Prelude.{ℤ, pos, find, ◌==◌}
+use Rattle.std.specs.List.{cons_option}
+use Rattle.std.specs.Option.{option_map_or}
+use Rattle.std.proofs.lemmas.Bool.{cases_Bool, cases_eq, cond-true, cond-false, eq-eqb, ne_eqb, and_from, and_parts, ltb-true, and_left, and_right}
+use Rattle.std.proofs.lemmas.Nat.{mul-add-lt, same_from_place}
+use Rattle.std.proofs.lemmas.List.{append-nil, reverse-append, get_or-replicate}
+use Rattle.std.proofs.lemmas.List.Elements.{filter_map-append}
+use Rattle.mj_model.specs.declared.source_fault.SourceFault.{SourceFault}
+use Rattle.mj_model.specs.declared.source_fault.SourceKind.{SourceKind}
+use Rattle.mj_model.specs.declared.source_fault.SourceKind.TheVariants.{PairOutside}
+use Rattle.mj_model.specs.FirstFault.{fault_or, first_fault}
+use Rattle.mj_model.specs.Connection.{Sizes, Cell, Connection, cell_from, words_of, cell_fault, row_fault, is_pair, connection_cost}
+use Rattle.matrix_def.specs.Costs.{CostTable, IsPair, IsMatrix, IsTableOf, cell_at, matrix_cost}
+use Rattle.matrix_def.specs.Rows.{cells_of, IsRow, HoldsUpTo}
+
+-- ---- faults
+
+no_fault : (file line : ℕ) (here : Option SourceKind) (others : Option SourceFault) → fault_or file line here others ≡ None → (here ≡ None) × (others ≡ None)
+no_fault file line None others is = (refl, is)
+no_fault file line (Some kind) others is = absurd (cc)
+
+fault-append : (file : ℕ) (test : List ℕ → Option SourceKind) (xs ys : List (ℕ × List ℕ)) → first_fault file test xs ≡ None → first_fault file test (xs ++ ys) ≡ first_fault file test ys
+fault-append file test [] ys none = refl
+fault-append file test (x ∷ xs) ys none =
+    let p = no_fault file x.0 (test x.1) (first_fault file test xs) none in
+    ap (λ (here : Option SourceKind). fault_or file x.0 here (first_fault file test (xs ++ ys))) p.0 ∙ fault-append file test xs ys p.1
+
+row_good : (sizes : Sizes) (line : List ℕ) (cell : Cell) → IsRow sizes line cell → row_fault sizes line ≡ None
+row_good sizes line cell r = ap (cell_fault sizes) r.listed ∙ ap (λ (b : Bool). cond b None (Some PairOutside)) r.within
+
+-- ---- costs
+
+cost_more : (sizes : Sizes) (cells : List Cell) (x : Cell) (right left : ℕ) →
+    connection_cost (record { sizes = sizes; cells = cells ++ x ∷ [] }) right left
+    ≡ cond (x.right == right && x.left == left) x.cost (connection_cost (record { sizes = sizes; cells = cells }) right left)
+cost_more sizes cells x right left =
+    let test : Cell → Bool = λ cell. cell.right == right && cell.left == left in
+    let price : Option Cell → ℤ = λ found. option_map_or (λ (cell : Cell). cell.cost) found (pos 0) in
+    ap (λ (cs : List Cell). price (find test cs)) (reverse-append cells (x ∷ []))
+    ∙ elim (cases_Bool (test x)) [
+      | inl same ↦ ap price (cond-true (test x) (Some x) (find test (reverse cells)) same) ∙ sym (cond-true (test x) x.cost (price (find test (reverse cells))) same)
+      | inr other ↦ ap price (cond-false (test x) (Some x) (find test (reverse cells)) other) ∙ sym (cond-false (test x) x.cost (price (find test (reverse cells))) other)
+    ]
+
+within_table : (m : CostTable) (right left : ℕ) → IsMatrix m → IsPair m right left → cell_at m right left < length m.costs
+within_table m right left formed p =
+    let cells : length m.costs ≡ m.right_size * m.left_size = formed.cells in
+    let low : right * m.left_size + left < m.left_size * m.right_size = mul-add-lt right m.left_size left m.right_size p.right_below p.left_below in
+    let turned : m.left_size * m.right_size ≡ m.right_size * m.left_size = mul_comm m.left_size m.right_size in
+    omega arith
+
+-- the cell that is set
+cost_here : (m : CostTable) (right left : ℕ) (z : ℤ) → IsMatrix m → IsPair m right left → get_or (set m.costs (cell_at m right left) z) (cell_at m right left) (pos 0) ≡ z
+cost_here m right left z formed p = get_or-set_same m.costs (cell_at m right left) z (pos 0) (within_table m right left formed p)
+
+apart : (m : CostTable) (a b right left : ℕ) → IsPair m a b → IsPair m right left → ((a ≡ right) × (b ≡ left) → ⊥) → cell_at m right left ≡ cell_at m a b → ⊥
+apart m a b right left p q differ same =
+    let parts = same_from_place right left a b m.left_size q.left_below p.left_below same in
+    differ (sym parts.0, sym parts.1)
+
+-- the sizes stay
+as_pair : (m : CostTable) (costs : List ℤ) (right left : ℕ) → IsPair (record m { costs = costs }) right left → IsPair m right left
+as_pair m costs right left p = record { right_below = p.right_below; left_below = p.left_below }
+
+costs_more : (sizes : Sizes) (cells : List Cell) (m : CostTable) (x : Cell) → IsMatrix m → IsPair m x.right x.left → IsTableOf (record { sizes = sizes; cells = cells }) m
+    → (right left : ℕ) → IsPair m right left
+    → get_or (set m.costs (cell_at m x.right x.left) x.cost) (cell_at m right left) (pos 0) ≡ connection_cost (record { sizes = sizes; cells = cells ++ x ∷ [] }) right left
+costs_more sizes cells m x formed p holds right left q =
+    let before : ℤ = connection_cost (record { sizes = sizes; cells = cells }) right left in
+    let now : connection_cost (record { sizes = sizes; cells = cells ++ x ∷ [] }) right left ≡ cond (x.right == right && x.left == left) x.cost before = cost_more sizes cells x right left in
+    let old : matrix_cost m right left ≡ before = holds.costs right left q in
+    let kept : ((x.right ≡ right) × (x.left ≡ left) → ⊥) → (x.right == right && x.left == left) ≡ false
+    → get_or (set m.costs (cell_at m x.right x.left) x.cost) (cell_at m right left) (pos 0) ≡ connection_cost (record { sizes = sizes; cells = cells ++ x ∷ [] }) right left =
+    λ differ other.
+    get_or-set_other m.costs (cell_at m x.right x.left) (cell_at m right left) x.cost (pos 0) (apart m x.right x.left right left p q differ) ∙ old
+    ∙ sym (now ∙ cond-false (x.right == right && x.left == left) x.cost before other) in
+    elim (cases_eq x.right right) [
+      | inl same_right ↦ elim (cases_eq x.left left) [
+        | inl same_left ↦
+            let same : cell_at m right left ≡ cell_at m x.right x.left = ap (λ (a : ℕ). a * m.left_size + left) (sym same_right) ∙ ap (λ (b : ℕ). x.right * m.left_size + b) (sym same_left) in
+            ap (λ (k : ℕ). get_or (set m.costs (cell_at m x.right x.left) x.cost) k (pos 0)) same ∙ cost_here m x.right x.left x.cost formed p
+            ∙ sym (now ∙ cond-true (x.right == right && x.left == left) x.cost before (and_from (x.right == right) (x.left == left) (eq-eqb x.right right same_right) (eq-eqb x.left left same_left)))
+        | inr other ↦ kept (λ e. other e.1) (and_right (x.right == right) (x.left == left) (ne_eqb x.left left other))
+      ]
+      | inr other ↦ kept (λ e. other e.0) (and_left (x.right == right) (x.left == left) (ne_eqb x.right right other))
+    ]
+
+-- ---- the rows so far
+
+cells-append : (rows : List (ℕ × List ℕ)) (line : ℕ × List ℕ) (cell : Cell) → cell_from (words_of line.1) ≡ Some cell → cells_of (rows ++ line ∷ []) ≡ cells_of rows ++ cell ∷ []
+cells-append rows line cell listed =
+    filter_map-append (λ row. cell_from (words_of row.1)) rows (line ∷ []) ∙ ap (λ (found : Option Cell). cells_of rows ++ cons_option found []) listed
+
+pub none_held : (sizes : Sizes) (all : List (ℕ × List ℕ)) (m : CostTable) → IsMatrix m → IsTableOf (record { sizes = sizes; cells = [] }) m → HoldsUpTo sizes all all m
+none_held sizes all m formed holds = record { rows = []; parts = refl; none = refl; formed = formed; holds = holds }
+
+-- a row's ids lie within the table
+pub row_pair : (sizes : Sizes) (all left : List (ℕ × List ℕ)) (m : CostTable) (line : List ℕ) (cell : Cell) → HoldsUpTo sizes all left m → IsRow sizes line cell → IsPair m cell.right cell.left
+row_pair sizes all left m line cell h r =
+    let p = and_parts (ltb cell.right sizes.right) (ltb cell.left sizes.left) r.within in
+    let right_size : m.right_size ≡ sizes.right = h.holds.right_size in
+    let left_size : m.left_size ≡ sizes.left = h.holds.left_size in
+    let right_low : cell.right < sizes.right = ltb-true cell.right sizes.right p.0 in
+    let left_low : cell.left < sizes.left = ltb-true cell.left sizes.left p.1 in
+    record { right_below = omega arith; left_below = omega arith }
+
+pub row_held : (sizes : Sizes) (all left lines : List (ℕ × List ℕ)) (m new : CostTable) (number : ℕ) (line : List ℕ) (cell : Cell) → HoldsUpTo sizes all lines m → lines ≡ (number, line) ∷ left → IsRow sizes line cell
+    → new ≡ record m { costs = set m.costs (cell_at m cell.right cell.left) cell.cost } → IsMatrix new → HoldsUpTo sizes all left new
+row_held sizes all left lines m new number line cell h is r set_is formed =
+    let here : ℕ × List ℕ = (number, line) in
+    let p = row_pair sizes all lines m line cell h r in
+    let held : IsTableOf (record { sizes = sizes; cells = cells_of (h.rows ++ here ∷ []) }) (record m { costs = set m.costs (cell_at m cell.right cell.left) cell.cost }) = record {
+      right_size = h.holds.right_size;
+      left_size = h.holds.left_size;
+      costs = λ right left' q.
+          costs_more sizes (cells_of h.rows) m cell h.formed p h.holds right left' (as_pair m (set m.costs (cell_at m cell.right cell.left) cell.cost) right left' q)
+          ∙ ap (λ (cs : List Cell). connection_cost (record { sizes = sizes; cells = cs }) right left') (sym (cells-append h.rows here cell r.listed));
+    } in
+    record {
+      rows = h.rows ++ here ∷ [];
+      parts = h.parts ∙ ap (λ (xs : List (ℕ × List ℕ)). h.rows ++ xs) is ∙ sym (append_assoc h.rows (here ∷ []) left);
+      none = fault-append 0 (row_fault sizes) h.rows (here ∷ []) h.none ∙ ap (λ (o : Option SourceKind). fault_or 0 number o None) (row_good sizes line cell r);
+      formed = formed;
+      holds = subst (λ (t : CostTable). IsTableOf (record { sizes = sizes; cells = cells_of (h.rows ++ here ∷ []) }) t) (sym set_is) held;
+    }
+
+pub all_held : (sizes : Sizes) (all lines : List (ℕ × List ℕ)) (m : CostTable) → HoldsUpTo sizes all lines m → lines ≡ [] → (first_fault 0 (row_fault sizes) all ≡ None) × IsTableOf (record { sizes = sizes; cells = cells_of all }) m
+all_held sizes all lines m h is =
+    let same : all ≡ h.rows = h.parts ∙ ap (λ (xs : List (ℕ × List ℕ)). h.rows ++ xs) is ∙ append-nil h.rows in
+    (ap (first_fault 0 (row_fault sizes)) same ∙ h.none, subst (λ (rows : List (ℕ × List ℕ)). IsTableOf (record { sizes = sizes; cells = cells_of rows }) m) (sym same) h.holds)
+
+pub row_bad : (sizes : Sizes) (all left lines : List (ℕ × List ℕ)) (m : CostTable) (number : ℕ) (line : List ℕ) (kind : SourceKind) (fault : SourceFault) → HoldsUpTo sizes all lines m → lines ≡ (number, line) ∷ left
+    → row_fault sizes line ≡ Some kind → fault ≡ record { file = 0; line = number; kind = kind } → first_fault 0 (row_fault sizes) all ≡ Some fault
+row_bad sizes all left lines m number line kind fault h is bad fault_is =
+    ap (first_fault 0 (row_fault sizes)) (h.parts ∙ ap (λ (xs : List (ℕ × List ℕ)). h.rows ++ xs) is)
+    ∙ fault-append 0 (row_fault sizes) h.rows ((number, line) ∷ left) h.none
+    ∙ ap (λ (o : Option SourceKind). fault_or 0 number o (first_fault 0 (row_fault sizes) left)) bad ∙ ap (λ (f : SourceFault). Some f) (sym fault_is)

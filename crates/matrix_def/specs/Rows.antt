@@ -1,0 +1,30 @@
+-- The rows of `matrix.def`.
+use Rattle.std.specs.Prelude.{◌≡◌, ℕ, ℤ, IsTrue, List, [], ◌∷◌, ◌++◌, length, filter_map, Option, Some, None}
+use Rattle.mj_model.specs.Connection.{Sizes, Cell, Connection, cell_from, words_of, row_fault, is_pair}
+use Rattle.mj_model.specs.FirstFault.{first_fault}
+use Rattle.matrix_def.specs.declared.rows.MatrixSizes.{MatrixSizes}
+use Rattle.matrix_def.specs.declared.rows.MatrixCell.{MatrixCell}
+use Rattle.matrix_def.specs.Costs.{CostTable, IsMatrix, IsTableOf}
+
+abbrev pub sizes_of : MatrixSizes → Sizes
+sizes_of sizes = record { right = sizes.right; left = sizes.left }
+
+abbrev pub cell_of : MatrixCell → Cell
+cell_of cell = record { right = cell.right; left = cell.left; cost = cell.cost }
+
+-- the cells that rows list
+abbrev pub cells_of : List (ℕ × List ℕ) → List Cell
+cells_of rows = filter_map (λ row. cell_from (words_of row.1)) rows
+
+-- a row lists this cell, within the sizes
+pub record IsRow (sizes : Sizes) (line : List ℕ) (cell : Cell) : Type 0 where
+  pub listed : cell_from (words_of line) ≡ Some cell
+  pub within : IsTrue (is_pair sizes cell.right cell.left)
+
+-- the table holds what the rows before `left` list, and none of them is at fault
+pub record HoldsUpTo (sizes : Sizes) (all left : List (ℕ × List ℕ)) (m : CostTable) : Type 0 where
+  pub rows : List (ℕ × List ℕ)
+  pub parts : all ≡ rows ++ left
+  pub none : first_fault 0 (row_fault sizes) rows ≡ None
+  pub formed : IsMatrix m
+  pub holds : IsTableOf (record { sizes = sizes; cells = cells_of rows }) m

@@ -1,0 +1,96 @@
+//! The lines of `matrix.def`.
+ghost use Rattle.std.specs.Prelude.{◌≡◌, ◌<◌, [], ◌∷◌, length, Some, option_map, IfSome, MatchOption, MatchResult};
+ghost use Rattle.mj_model.specs.Connection.{words_of, sizes_from, cell_from, row_fault, size as size_of};
+ghost use Rattle.matrix_def.specs.Rows.{sizes_of, cell_of, IsRow};
+
+use lex_source::{Words, context_id, cost};
+use mj_model::SourceKind;
+
+/// How many right ids and how many left ids there are.
+#[derive(Clone, Copy)]
+pub(crate) struct MatrixSizes {
+    pub(crate) right: u16,
+    pub(crate) left: u16,
+}
+
+/// What a row says.
+#[derive(Clone, Copy)]
+pub(crate) struct MatrixCell {
+    pub(crate) right: u16,
+    pub(crate) left: u16,
+    pub(crate) cost: i16,
+}
+
+/// The sizes that a header says.
+pub(crate) fn read_sizes(line: &[u8]) -> Option<MatrixSizes>
+    ensures value { option_map sizes_of result ≡ sizes_from (words_of line.now) }
+    ensures some { IfSome result (λ sizes. (0 < sizes.right) × (0 < sizes.left)) }
+{
+    let (right, left) = two_words(line)?;
+    Some(MatrixSizes {
+        right: size(right)?,
+        left: size(left)?,
+    })
+}
+
+/// The cell that a row says, within the sizes.
+pub(crate) fn read_row(sizes: MatrixSizes, line: &[u8]) -> Result<MatrixCell, SourceKind>
+    ensures { MatchResult result (λ cell. IsRow (sizes_of sizes) line.now (cell_of cell)) (λ kind. row_fault (sizes_of sizes) line.now ≡ Some kind) }
+{
+    let Some(cell) = read_cell(line) else {
+        return Err(SourceKind::BadRow);
+    };
+    if cell.right < sizes.right && cell.left < sizes.left {
+        Ok(cell)
+    } else {
+        Err(SourceKind::PairOutside)
+    }
+}
+
+/// The cell that a row says.
+fn read_cell(line: &[u8]) -> Option<MatrixCell>
+    ensures { option_map cell_of result ≡ cell_from (words_of line.now) }
+{
+    let (right, left, price) = three_words(line)?;
+    Some(MatrixCell {
+        right: context_id(right)?,
+        left: context_id(left)?,
+        cost: cost(price)?,
+    })
+}
+
+/// A number from 1 to 65,535.
+fn size(word: &[u8]) -> Option<u16>
+    ensures value { result ≡ size_of word.now }
+    ensures some { IfSome result (λ n. 0 < n) }
+{
+    let size = context_id(word)?;
+    if size > 0 { Some(size) } else { None }
+}
+
+/// The words of a line that has exactly two.
+fn two_words(line: &[u8]) -> Option<(&[u8], &[u8])>
+    ensures { MatchOption result (length (words_of line.now) ≡ 2 → ⊥) (λ words. words_of line.now ≡ words.0.now ∷ words.1.now ∷ []) }
+{
+    let mut words = Words::new(line);
+    let first = words.next()?;
+    let second = words.next()?;
+    if words.next().is_some() {
+        return None;
+    }
+    Some((first, second))
+}
+
+/// The words of a line that has exactly three.
+fn three_words(line: &[u8]) -> Option<(&[u8], &[u8], &[u8])>
+    ensures { MatchOption result (length (words_of line.now) ≡ 3 → ⊥) (λ words. words_of line.now ≡ words.0.now ∷ words.1.now ∷ words.2.now ∷ []) }
+{
+    let mut words = Words::new(line);
+    let first = words.next()?;
+    let second = words.next()?;
+    let third = words.next()?;
+    if words.next().is_some() {
+        return None;
+    }
+    Some((first, second, third))
+}

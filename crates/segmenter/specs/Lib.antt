@@ -1,0 +1,16 @@
+pub mod LineErrors
+pub mod FirstTables
+pub mod FirstLines
+pub mod FirstSources
+pub mod Lexemes
+pub mod Beginnings
+pub mod SortedLexicons
+pub mod Connections
+pub mod Fitting
+pub mod Dictionaries
+pub mod PrintedWords
+pub mod Progress
+pub mod Runs
+pub mod Steps
+pub mod AddedLexicon
+pub mod Sample

@@ -1,0 +1,36 @@
+//! What ends the work on a line.
+
+ghost use Rattle.std.specs.Prelude.{◌≡◌};
+
+use mj_model::RunFault;
+
+/// What is wrong with a line of text.
+#[derive(Clone, Copy, Debug, PartialEq, Eq, Drop)]
+pub enum LineFault {
+    TooLong,
+    NotUtf8,
+    NoPath,
+}
+
+/// Why a line was not printed.
+#[derive(Clone, Copy, Debug, PartialEq, Eq, Drop)]
+pub enum LineError {
+    Bad(LineFault),
+    Memory,
+}
+
+impl LineError {
+    ghost use Rattle.segmenter.specs.LineErrors.{run_fault};
+
+    /// As the end of a run at the line of this number.
+    pub fn at(self, line: u64) -> RunFault
+        ensures { result ≡ run_fault self line }
+    {
+        match self {
+            LineError::Bad(LineFault::TooLong) => RunFault::TooLong(line),
+            LineError::Bad(LineFault::NotUtf8) => RunFault::NotUtf8(line),
+            LineError::Bad(LineFault::NoPath) => RunFault::NoPath(line),
+            LineError::Memory => RunFault::Memory(line),
+        }
+    }
+}
