@@ -12,6 +12,7 @@ pub mod Numbers
 pub mod FirstFault
 pub mod Lexicon
 pub mod Connection
+pub mod CharDef
 pub mod Run
 pub mod Tables
 pub mod Blanks
@@ -20,6 +21,7 @@ pub mod UnknownSpans
 pub mod Words
 pub mod Laws
 pub mod Dictionary
+pub mod UnkDef
 pub mod Printed
 pub mod Output
 pub mod Counts

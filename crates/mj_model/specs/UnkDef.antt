@@ -1,0 +1,58 @@
+-- Unknown entries, as `unk.def` lists them (MeCab): lines of a lexicon's form, with the name of a category as surface.
+use Rattle.std.specs.Prelude.{◌≡◌, ℕ, ◌+◌, ◌==◌, nat_lt, if◌then◌else◌, List, [], ◌∷◌, length, map, filter, Option, Some, None, Result, Ok, Err, bytes_eq, slice_index_or}
+use Rattle.std.specs.List.{enumerate_from, position_or_len}
+use Rattle.mj_model.specs.declared.source_fault.SourceFault.{SourceFault}
+use Rattle.mj_model.specs.declared.source_fault.SourceKind.TheVariants.{BadNumber, NoSuchCategory, MissingCategory}
+use Rattle.mj_model.specs.Lexicon.{Row, Parts, Reading, Outcome, Refused, Accepted, ReadsAs, row_from}
+use Rattle.mj_model.specs.Dictionary.{lexeme_of}
+use Rattle.mj_model.specs.Tables.{Token}
+use Rattle.mj_model.specs.CharDef.{NamedCategory, is_defined}
+
+abbrev pub accept_defined : List NamedCategory → Option Row → Outcome
+accept_defined categories None = Refused BadNumber
+accept_defined categories (Some row) = if is_defined categories row.surface then Accepted row else Refused NoSuchCategory
+
+-- of a line with four fields and a rest, where these are the categories; no line is skipped
+abbrev pub unk_outcome : List NamedCategory → ℕ → Parts → Outcome
+unk_outcome categories line parts = accept_defined categories (row_from line parts)
+
+-- the rows of a category, in their order
+abbrev pub rows_named : List Row → NamedCategory → List Row
+rows_named rows category = filter (λ row. bytes_eq row.surface category.name) rows
+
+-- the rows of each category
+abbrev pub rows_by_category : List NamedCategory → List Row → List (List Row)
+rows_by_category categories rows = map (rows_named rows) categories
+
+-- the least category without a row, or how many categories there are
+abbrev pub first_without_rows : List (List Row) → ℕ
+first_without_rows unknown = position_or_len (λ rows. length rows == 0) unknown
+
+-- each category has a row; `unk.def` is file 2
+abbrev pub unless_missing : List (List Row) → Result (List (List Row)) SourceFault
+unless_missing unknown =
+    if nat_lt (first_without_rows unknown) (length unknown)
+    then Err (record { file = 2; line = 0; kind = MissingCategory (first_without_rows unknown) })
+    else Ok unknown
+
+abbrev pub unknown_from : List NamedCategory → Result Reading SourceFault → Result (List (List Row)) SourceFault
+unknown_from categories (Err fault) = Err fault
+unknown_from categories (Ok reading) = unless_missing (rows_by_category categories reading.rows)
+
+-- the bytes of `unk.def` read so, where these are the categories: the rows of each category, or the first fault
+abbrev pub IsUnkDef : List NamedCategory → List ℕ → Result (List (List Row)) SourceFault → Type 0
+IsUnkDef categories bytes unknown =
+    (reading : Result Reading SourceFault) × ReadsAs (unk_outcome categories) 2 0 bytes reading × (unknown ≡ unknown_from categories reading)
+
+-- a row as an entry of this number
+abbrev pub token_of : (ℕ × Row) → Token
+token_of row = (lexeme_of row).token
+
+-- the unknown entries of each category; they are numbered on from a first number, those of lower categories before
+abbrev pub tokens_from : ℕ → List (List Row) → List (List Token)
+tokens_from number [] = []
+tokens_from number (rows ∷ unknown) = map token_of (enumerate_from number rows) ∷ tokens_from (number + length rows) unknown
+
+-- the unknown entries of a category, in a dictionary with this many entries of a lexicon; their numbers follow those of the lexicon
+abbrev pub unknown_tokens : ℕ → List (List Row) → ℕ → List Token
+unknown_tokens entries unknown i = slice_index_or (tokens_from entries unknown) i []
