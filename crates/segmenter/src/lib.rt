@@ -21,3 +21,6 @@ mod writing;
 
 pub use running::run_sources;
 pub use sample_sources::sample;
+
+#[cfg(test)]
+mod tests;

@@ -1,0 +1,5 @@
+//! Sources and texts with their output, and devices that fail.
+
+mod devices;
+mod failing;
+mod rows;

@@ -1,0 +1,56 @@
+//! Readers and writers over memory that give and take little at a time, and fail when told to.
+
+use std::io;
+use std::io::{ErrorKind, Read, Write};
+
+/// Gives at most `step` bytes a read, and fails at the read of this number, counted from 1.
+#[derive(Debug, Drop)]
+pub struct StepReader<'a> {
+    pub bytes: &'a [u8],
+    pub step: usize,
+    pub fails_at: Option<u64>,
+    pub reads: u64,
+}
+
+impl Read for StepReader<'_> {
+    fn read(&mut self, buf: &mut [u8]) -> io::Result<usize> {
+        self.reads = self.reads.saturating_add(1);
+        if self.fails_at == Some(self.reads) {
+            return Err(io::Error::from(ErrorKind::Other));
+        }
+        let bytes = self.bytes;
+        let most = bytes.len().min(self.step).min(buf.len());
+        buf[..most].copy_from_slice(&bytes[..most]);
+        self.bytes = &bytes[most..];
+        Ok(most)
+    }
+}
+
+/// Takes at most `step` bytes a write and `room` in all, and then fails, or takes nothing where it is `full` in silence.
+#[derive(Debug, Drop)]
+pub struct StepWriter {
+    pub taken: Vec<u8>,
+    pub step: usize,
+    pub room: usize,
+    pub silent: bool,
+    pub flush_fails: bool,
+}
+
+impl Write for StepWriter {
+    fn write(&mut self, buf: &[u8]) -> io::Result<usize> {
+        let most = buf.len().min(self.step).min(self.room);
+        if most == 0 && !self.silent {
+            return Err(io::Error::from(ErrorKind::Other));
+        }
+        self.taken.extend_from_slice(&buf[..most])?;
+        self.room -= most;
+        Ok(most)
+    }
+
+    fn flush(&mut self) -> io::Result<()> {
+        if self.flush_fails {
+            return Err(io::Error::from(ErrorKind::Other));
+        }
+        Ok(())
+    }
+}

@@ -1,0 +1,284 @@
+//! Runs over devices that fail, give little at a time, or give long lines.
+
+use super::devices::{StepReader, StepWriter};
+use crate::reading::run_over;
+use crate::sources::read_sources;
+use crate::words_printer::LineMemory;
+use crate::{run_sources, sample};
+use mj_model::{Counted, RunFault, SENTENCE_MAX, SourceFault, SourceKind, Sources};
+use std::alloc::{AllocError, Global};
+use std::test::Fail;
+
+const SUMOMO: &str = "すもももも\n";
+
+const SUMOMO_OUTPUT: &str = "すもも\t名詞,すもも\nもも\t名詞,もも\nEOS\n";
+
+const MO_OUTPUT: &str = "も\t助詞,も\nEOS\n";
+
+/// A lexicon of `ab`, `cd` and `z`.
+const LETTERS: &[u8] = b"ab,1,1,10,X\ncd,1,1,10,Y\nz,1,1,10,Z\n";
+
+/// The letters under the sample's connection costs.
+fn letters() -> Sources<'static> {
+    Sources {
+        matrix: sample().matrix,
+        chars: sample().chars,
+        unk: sample().unk,
+        lexicons: &[LETTERS],
+    }
+}
+
+fn reader(bytes: &[u8], step: usize, fails_at: Option<u64>) -> Counted<StepReader<'_>> {
+    Counted::new(StepReader {
+        bytes,
+        step,
+        fails_at,
+        reads: 0,
+    })
+}
+
+fn writer(alloc: Global, step: usize, room: usize) -> StepWriter {
+    StepWriter {
+        taken: Vec::new(alloc),
+        step,
+        room,
+        silent: false,
+        flush_fails: false,
+    }
+}
+
+#[test]
+fn failing_writers(rt: HostRuntime) -> Result<(), Fail> {
+    let all = usize::MAX;
+    let whole = SUMOMO_OUTPUT.as_bytes();
+    let rows = [
+        // (what, write step, room, silent, flush fails, answer, bytes taken)
+        (
+            "takes 5 bytes",
+            all,
+            5,
+            false,
+            false,
+            Err(RunFault::Write(5)),
+            5,
+        ),
+        (
+            "takes nothing",
+            all,
+            0,
+            true,
+            false,
+            Err(RunFault::Write(0)),
+            0,
+        ),
+        (
+            "takes 51 bytes of 52",
+            1,
+            51,
+            false,
+            false,
+            Err(RunFault::Write(51)),
+            51,
+        ),
+        (
+            "flush fails",
+            all,
+            all,
+            false,
+            true,
+            Err(RunFault::Write(52)),
+            52,
+        ),
+        ("a byte at a time", 1, all, false, false, Ok(1), 52),
+    ];
+    for (what, step, room, silent, flush_fails, answer, taken) in rows {
+        let mut input = reader(SUMOMO.as_bytes(), 1, None);
+        let mut out = writer(rt.alloc(), step, room);
+        out.silent = silent;
+        out.flush_fails = flush_fails;
+        let mut out = Counted::new(out);
+        let got = run_sources(rt.alloc(), &sample(), &mut input, &mut out);
+        assert!(rt; got == answer, "{what}");
+        assert!(rt;
+            Some(out.get_ref().taken.as_slice()) == whole.get(..taken),
+            "{what}"
+        );
+    }
+    Ok(())
+}
+
+#[test]
+fn failing_readers(rt: HostRuntime) -> Result<(), Fail> {
+    // The sample line has 16 bytes, the last of them its LF.
+    for read in 1..=17 {
+        let mut input = reader(SUMOMO.as_bytes(), 1, Some(read));
+        let mut out = Counted::new(writer(rt.alloc(), usize::MAX, usize::MAX));
+        let got = run_sources(rt.alloc(), &sample(), &mut input, &mut out);
+        let (line, output) = if read < 17 {
+            (1, "")
+        } else {
+            (2, SUMOMO_OUTPUT)
+        };
+        assert!(rt; got == Err(RunFault::Read(line)), "read {read}");
+        assert!(rt;
+            out.get_ref().taken.as_slice() == output.as_bytes(),
+            "read {read}"
+        );
+    }
+    Ok(())
+}
+
+#[test]
+fn faults_behind_line_1(rt: HostRuntime) -> Result<(), Fail> {
+    let rows: [(&str, &[u8], Option<u64>, RunFault); 2] = [
+        // (what, text, failing read, answer)
+        (
+            "read fails",
+            b"\xe3\x82\x82\n\xe3\x81\x99",
+            Some(2),
+            RunFault::Read(2),
+        ),
+        (
+            "not UTF-8",
+            b"\xe3\x82\x82\n\xff\n",
+            None,
+            RunFault::NotUtf8(2),
+        ),
+    ];
+    for (what, text, fails_at, fault) in rows {
+        let mut input = reader(text, usize::MAX, fails_at);
+        let mut out = Counted::new(writer(rt.alloc(), usize::MAX, usize::MAX));
+        let got = run_sources(rt.alloc(), &sample(), &mut input, &mut out);
+        assert!(rt; got == Err(fault), "{what}");
+        assert!(rt;
+            out.get_ref().taken.as_slice() == MO_OUTPUT.as_bytes(),
+            "{what}"
+        );
+    }
+    Ok(())
+}
+
+#[test]
+fn bound_on_reads(rt: HostRuntime) -> Result<(), Fail> {
+    let rows = [
+        // (what, text, answer)
+        (
+            "no end in 4 reads",
+            "ab\ncd\n",
+            Err(RunFault::InputTooLong(2)),
+        ),
+        ("the end at the 4th", "ab\n", Ok(1)),
+    ];
+    for (what, text, answer) in rows {
+        let dictionary = read_sources(rt.alloc(), &letters())?;
+        let mut kept = LineMemory::new(rt.alloc());
+        let mut input = reader(text.as_bytes(), 1, None);
+        let mut out = Counted::new(writer(rt.alloc(), usize::MAX, usize::MAX));
+        let got = run_over(rt.alloc(), &dictionary, &mut kept, &mut input, &mut out, 4);
+        assert!(rt; got == answer, "{what}");
+        assert!(rt;
+            out.get_ref().taken.as_slice() == b"ab\tX\nEOS\n".as_slice(),
+            "{what}"
+        );
+    }
+    Ok(())
+}
+
+/// Letters `z`, the first of them replaced by a byte where one is given, and then LF or nothing.
+fn long_line(
+    alloc: Global,
+    first: Option<u8>,
+    length: usize,
+    ends: bool,
+) -> Result<Vec<u8>, AllocError> {
+    let mut line = Vec::from_elem(alloc, b'z', length)?;
+    if let (Some(byte), Some(head)) = (first, line.first_mut()) {
+        *head = byte;
+    }
+    if ends {
+        line.push(b'\n')?;
+    }
+    Ok(line)
+}
+
+#[test]
+fn long_lines(rt: HostRuntime) -> Result<(), Fail> {
+    let most = SENTENCE_MAX;
+    let rows = [
+        // (what, first byte, bytes with it, LF, failing read, answer)
+        (
+            "a byte too long, then a failure",
+            None,
+            most + 1,
+            false,
+            Some(18),
+            Err(RunFault::TooLong(1)),
+        ),
+        (
+            "a bad byte, and too long",
+            Some(0xff),
+            most + 1,
+            true,
+            None,
+            Err(RunFault::TooLong(1)),
+        ),
+        (
+            "a bad byte",
+            Some(0xff),
+            most,
+            true,
+            None,
+            Err(RunFault::NotUtf8(1)),
+        ),
+        ("the longest line", None, most, false, None, Ok(1)),
+    ];
+    for (what, first, length, ends, fails_at, answer) in rows {
+        let line = long_line(rt.alloc(), first, length, ends)?;
+        let mut input = reader(&line, usize::MAX, fails_at);
+        let mut out = Counted::new(writer(rt.alloc(), usize::MAX, usize::MAX));
+        let got = run_sources(rt.alloc(), &letters(), &mut input, &mut out);
+        assert!(rt; got == answer, "{what}");
+        let words = if answer.is_ok() { most } else { 0 };
+        assert!(rt;
+            out.get_ref()
+                .taken
+                .iter()
+                .filter(|byte| **byte == b'Z')
+                .count()
+                == words,
+            "{what}"
+        );
+    }
+    Ok(())
+}
+
+#[test]
+fn fault_words(rt: HostRuntime) -> Result<(), Fail> {
+    let fault = SourceFault {
+        file: 3,
+        line: 1,
+        kind: SourceKind::TooFewFields,
+    };
+    let rows = [
+        // (fault, code, name, text)
+        (
+            RunFault::Source(fault),
+            "S2",
+            "TooFewFields",
+            "file 3, line 1: S2 TooFewFields",
+        ),
+        (RunFault::Write(120), "G2", "Write", "G2 Write 120"),
+        (RunFault::NotUtf8(3), "G3", "NotUtf8", "line 3: G3 NotUtf8"),
+        (RunFault::NoPath(2), "G6", "NoPath", "line 2: G6 NoPath"),
+        (RunFault::Memory(0), "Memory", "Memory", "Memory"),
+    ];
+    for (fault, code, name, text) in rows {
+        assert!(rt; fault.code() == code, "{text}");
+        assert!(rt; fault.name() == name, "{text}");
+        assert!(rt;
+            format!(in rt.alloc(); "{fault}")?.as_str() == text,
+            "{text}"
+        );
+    }
+    Ok(())
+}

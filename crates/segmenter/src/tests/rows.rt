@@ -1,0 +1,238 @@
+use crate::{run_sources, sample};
+use mj_model::{Counted, RunFault, SourceFault, SourceKind, Sources};
+use std::alloc::Global;
+use std::test::Fail;
+
+/// What a run over a text answers, and what it wrote.
+fn run(alloc: Global, sources: &Sources<'_>, text: &[u8]) -> (Result<u64, RunFault>, Vec<u8>) {
+    let mut reader = Counted::new(text);
+    let mut written = Vec::new(alloc);
+    let mut writer = Counted::new(&mut written);
+    let answer = run_sources(alloc, sources, &mut reader, &mut writer);
+    (answer, written)
+}
+
+#[test]
+fn sample_lines(rt: HostRuntime) -> Result<(), Fail> {
+    let rows = [
+        // (what, text, answer, output)
+        ("sumomo", "すもももも\n", Ok(1), "すもも\t名詞,すもも\nもも\t名詞,もも\nEOS\n"),
+        ("empty input", "", Ok(0), ""),
+        ("empty line", "\n", Ok(1), "EOS\n"),
+        ("last line without LF", "も", Ok(1), "も\t助詞,も\nEOS\n"),
+        ("only_blanks", "   \n", Ok(1), "EOS\n"),
+        (
+            "blanks between words",
+            " すもも  もも \n",
+            Ok(1),
+            "すもも\t名詞,すもも\nもも\t名詞,もも\nEOS\n",
+        ),
+        (
+            "two lines",
+            "も\nもも",
+            Ok(2),
+            "も\t助詞,も\nEOS\nもも\t名詞,もも\nEOS\n",
+        ),
+        (
+            "no path on line 2",
+            "も\nx\n",
+            Err(RunFault::NoPath(2)),
+            "も\t助詞,も\nEOS\n",
+        ),
+        ("no path on line 1", "すもももx\n", Err(RunFault::NoPath(1)), ""),
+    ];
+    for (what, text, answer, output) in rows {
+        let (got, written) = run(rt.alloc(), &sample(), text.as_bytes());
+        assert!(rt; got == answer, "{what}");
+        assert!(rt; written.as_slice() == output.as_bytes(), "{what}");
+    }
+    Ok(())
+}
+
+const MATRIX: &[u8] = b"2 2\n0 0 0\n0 1 10\n1 0 5\n1 1 7\n";
+
+#[test]
+fn lexicons(rt: HostRuntime) -> Result<(), Fail> {
+    let rows = [
+        // (what, lexicon, text, output)
+        (
+            "tie_later_place",
+            "a,1,1,10,X\nb,1,1,10,X\nab,1,1,27,X\n",
+            "ab",
+            "a\tX\nb\tX\nEOS\n",
+        ),
+        (
+            "same_surface_twice",
+            "a,1,1,10,X\na,1,1,10,Y\n",
+            "a",
+            "a\tX\nEOS\n",
+        ),
+        (
+            "ends_later",
+            "も,1,1,20,助詞,も\nも ,1,1,500,Z\n",
+            "も ",
+            "も \tZ\nEOS\n",
+        ),
+        (
+            "quoted_fields",
+            "\"a,b\",1,1,10,X\n",
+            "a,b",
+            "a,b\tX\nEOS\n",
+        ),
+        (
+            "quote in a surface",
+            "\"a\"\"b\",1,1,10,Y\n",
+            "a\"b",
+            "a\"b\tY\nEOS\n",
+        ),
+        (
+            "lexicon_lines",
+            "\n,1,1,5,X\nも,1,1,20,Y\r\n",
+            "も",
+            "も\tY\nEOS\n",
+        ),
+    ];
+    for (what, lexicon, text, output) in rows {
+        let sources = Sources {
+            matrix: MATRIX,
+            chars: b"",
+            unk: b"",
+            lexicons: &[lexicon.as_bytes()],
+        };
+        let (got, written) = run(rt.alloc(), &sources, text.as_bytes());
+        assert!(rt; got == Ok(1), "{what}");
+        assert!(rt; written.as_slice() == output.as_bytes(), "{what}");
+    }
+    Ok(())
+}
+
+#[test]
+fn refused_sources(rt: HostRuntime) -> Result<(), Fail> {
+    let rows = [
+        // (what, matrix, lexicon, file, line, kind)
+        (
+            "asymmetric_matrix",
+            "2 3\n0 2 100\n1 0 9\n",
+            "も,1,2,20,X\n",
+            3,
+            1,
+            SourceKind::IdOutside,
+        ),
+        (
+            "open quote",
+            "2 2\n",
+            "\"ab,1,1,10,X\n",
+            3,
+            1,
+            SourceKind::TooFewFields,
+        ),
+        (
+            "cost too low",
+            "2 2\n",
+            "も,1,1,-32769,X\n",
+            3,
+            1,
+            SourceKind::BadNumber,
+        ),
+        (
+            "row too dear",
+            "2 2\n0 0 40000\n",
+            "",
+            0,
+            2,
+            SourceKind::BadRow,
+        ),
+        (
+            "row outside",
+            "2 2\n2 0 1\n",
+            "",
+            0,
+            2,
+            SourceKind::PairOutside,
+        ),
+        ("header of 0", "0 2\n", "", 0, 1, SourceKind::BadHeader),
+        ("no header", "", "", 0, 0, SourceKind::BadHeader),
+        ("too large", "65535 65535\n", "", 0, 1, SourceKind::TooLarge),
+        (
+            "matrix before lexicon",
+            "0 2\n",
+            "も,1,1,x,X\n",
+            0,
+            1,
+            SourceKind::BadHeader,
+        ),
+        (
+            "line before its ids",
+            "2 2\n",
+            "も,5,1,20,X\nも,1,1,x,X\n",
+            3,
+            2,
+            SourceKind::BadNumber,
+        ),
+    ];
+    for (what, matrix, lexicon, file, line, kind) in rows {
+        let sources = Sources {
+            matrix: matrix.as_bytes(),
+            chars: b"",
+            unk: b"",
+            lexicons: &[lexicon.as_bytes()],
+        };
+        let (got, written) = run(rt.alloc(), &sources, "も\n".as_bytes());
+        assert!(rt;
+            got == Err(RunFault::Source(SourceFault { file, line, kind })),
+            "{what}"
+        );
+        assert!(rt; written.is_empty(), "{what}");
+    }
+    Ok(())
+}
+
+#[test]
+fn accepted_costs(rt: HostRuntime) -> Result<(), Fail> {
+    let rows = [
+        // (what, matrix, lexicon)
+        ("least cost", "2 2\n", "も,1,1,-32768,X\n"),
+        ("negative connection", "2 2\n0 0 -434\n", "も,1,1,20,X\n"),
+        ("asymmetric ids", "2 3\n0 2 100\n1 0 9\n", "も,2,1,20,X\n"),
+    ];
+    for (what, matrix, lexicon) in rows {
+        let sources = Sources {
+            matrix: matrix.as_bytes(),
+            chars: b"",
+            unk: b"",
+            lexicons: &[lexicon.as_bytes()],
+        };
+        let (got, written) = run(rt.alloc(), &sources, "も\n".as_bytes());
+        assert!(rt; got == Ok(1), "{what}");
+        assert!(rt; written.as_slice() == "も\tX\nEOS\n".as_bytes(), "{what}");
+    }
+    Ok(())
+}
+
+#[test]
+fn lexicons_in_the_order_given(rt: HostRuntime) -> Result<(), Fail> {
+    let first = "も,1,1,20,A\n";
+    let second = "も,1,1,20,B\nもも,1,1,30,C\n";
+    let sources = Sources {
+        matrix: MATRIX,
+        chars: b"",
+        unk: b"",
+        lexicons: &[first.as_bytes(), second.as_bytes()],
+    };
+    let (got, written) = run(rt.alloc(), &sources, "も\nもも\n".as_bytes());
+    assert!(rt; got == Ok(2));
+    assert!(rt; written.as_slice() == "も\tA\nEOS\nもも\tC\nEOS\n".as_bytes());
+    let bad = "も,1,1,20\n";
+    let sources = Sources {
+        lexicons: &[first.as_bytes(), bad.as_bytes()],
+        ..sources
+    };
+    let (got, _) = run(rt.alloc(), &sources, b"");
+    let fault = SourceFault {
+        file: 4,
+        line: 1,
+        kind: SourceKind::TooFewFields,
+    };
+    assert!(rt; got == Err(RunFault::Source(fault)));
+    Ok(())
+}
