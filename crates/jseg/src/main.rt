@@ -82,3 +82,6 @@ fn fault_of(rt: &HostRuntime, fault: RunFault) -> Result<Fault, AllocError> {
 fn told(rt: &HostRuntime, fault: &Fault) -> u8 {
     report(fault, &mut rt.stderr())
 }
+
+#[cfg(test)]
+mod tests;

@@ -43,11 +43,11 @@ ltb_same n = le-ltb n n (omega arith)
 module _ (Judges : List ℕ → Option LineFault → Type 0) (Prints : List ℕ → List ℕ → Type 0) (bound : ℕ) where
   -- how a run ends, with what it read and wrote
   abbrev pub RanSo : Option (List ℕ) → Option (List ℕ) → Option (List ℕ) → Option (List ℕ) → Told → Told → Result ℕ RunFault → Type 0
-  RanSo R0 R1 W0 W1 before after result =
-      (bytes : List ℕ) × (written : List ℕ) × Consumes R0 R1 bytes × Appends W0 W1 written × EndsSo Judges Prints bound bytes written before after result
+  RanSo left0 left1 held0 held1 before after result =
+      (bytes : List ℕ) × (written : List ℕ) × Consumes left0 left1 bytes × Appends held0 held1 written × EndsSo Judges Prints bound bytes written before after result
 
-  module _ (R0 R1 R2 W0 W1 W2 : Option (List ℕ)) (before now after : Told) (turn : ℕ) (pending out : List ℕ) (lines sent : ℕ)
-      (r : Running Judges Prints R0 R1 W0 W1 before now turn pending out lines sent) where
+  module _ (left0 left1 left2 held0 held1 held2 : Option (List ℕ)) (before now after : Told) (turn : ℕ) (pending out : List ℕ) (lines sent : ℕ)
+      (r : Running Judges Prints left0 left1 held0 held1 before now turn pending out lines sent) where
     -- ---- a write failed
 
     cut_run : (bytes written : List ℕ) (done more : List (List ℕ)) (fault : RunFault) (text left : List ℕ)
@@ -123,23 +123,23 @@ module _ (Judges : List ℕ → Option LineFault → Type 0) (Prints : List ℕ 
         subst (λ f. EndsSo Judges Prints bound (r.bytes ++ piece) (r.written ++ written) before after (Err (run_fault (Bad f) line))) (sym c.1)
         (bad_run (text_lines (r.bytes ++ piece)) written done [] (open_line (pending ++ piece)) TooLong line parts print c.2 e)
 
-    pub ran_work : (piece : List ℕ) (fault : RunFault) → Consumes R1 R2 piece → after.ends ≡ now.ends
+    pub ran_work : (piece : List ℕ) (fault : RunFault) → Consumes left1 left2 piece → after.ends ≡ now.ends
         → StepStopped Judges Prints (IsCause Judges (pending ++ piece)) lines (whole_lines (pending ++ piece))
-        (record { held_before = W1; held_after = W2; failures_before = now.write_failures; failures_after = after.write_failures }) sent fault
-        → RanSo R0 R2 W0 W2 before after (Err fault)
+        (record { held_before = held1; held_after = held2; failures_before = now.write_failures; failures_after = after.write_failures }) sent fault
+        → RanSo left0 left2 held0 held2 before after (Err fault)
     ran_work piece fault took ends (inl s) = (
       r.bytes ++ piece,
       r.written ++ s.written,
-      Consumes-trans R0 R1 R2 r.bytes piece r.read took,
-      Appends-trans W0 W1 W2 r.written s.written r.wrote s.wrote,
+      Consumes-trans left0 left1 left2 r.bytes piece r.read took,
+      Appends-trans held0 held1 held2 r.written s.written r.wrote s.wrote,
       cut_run (r.bytes ++ piece) s.written s.cut.done (s.cut.more ++ last_line (open_line (r.bytes ++ piece))) fault s.cut.text s.cut.left
           (first_lines r.bytes piece pending s.cut.done s.cut.more r.open_is s.cut.first) s.cut.print s.cut.front s.fault_is s.failure,
     )
     ran_work piece fault took ends (inr s) = (
       r.bytes ++ piece,
       r.written ++ s.written,
-      Consumes-trans R0 R1 R2 r.bytes piece r.read took,
-      Appends-trans W0 W1 W2 r.written s.written r.wrote s.wrote,
+      Consumes-trans left0 left1 left2 r.bytes piece r.read took,
+      Appends-trans held0 held1 held2 r.written s.written r.wrote s.wrote,
       subst (λ f. EndsSo Judges Prints bound (r.bytes ++ piece) (r.written ++ s.written) before after (Err f)) (sym s.fault_is)
           (work_error piece s.written s.done s.error (lines + length s.done + 1) ends s.print s.cause refl),
     )
@@ -160,15 +160,15 @@ module _ (Judges : List ℕ → Option LineFault → Type 0) (Prints : List ℕ 
         bad_ends r.bytes (r.written ++ written) fault line all
         (subst (λ b. IsBad Judges Prints (lines_read b r.bytes) (r.written ++ written) line fault) (sym ended) all)
 
-    pub ran_to_fault : (fault : RunFault) → Consumes R1 R2 [] → after.ends ≡ now.ends + 1
+    pub ran_to_fault : (fault : RunFault) → Consumes left1 left2 [] → after.ends ≡ now.ends + 1
         → StepStopped Judges Prints (IsLastCause Judges pending) lines (last_line pending)
-        (record { held_before = W1; held_after = W2; failures_before = now.write_failures; failures_after = after.write_failures }) sent fault
-        → RanSo R0 R2 W0 W2 before after (Err fault)
+        (record { held_before = held1; held_after = held2; failures_before = now.write_failures; failures_after = after.write_failures }) sent fault
+        → RanSo left0 left2 held0 held2 before after (Err fault)
     ran_to_fault fault took ends (inl s) = (
       r.bytes,
       r.written ++ s.written,
-      subst (λ bs. Consumes R0 R2 bs) (append-nil r.bytes) (Consumes-trans R0 R1 R2 r.bytes [] r.read took),
-      Appends-trans W0 W1 W2 r.written s.written r.wrote s.wrote,
+      subst (λ bs. Consumes left0 left2 bs) (append-nil r.bytes) (Consumes-trans left0 left1 left2 r.bytes [] r.read took),
+      Appends-trans held0 held1 held2 r.written s.written r.wrote s.wrote,
       cut_run r.bytes s.written s.cut.done s.cut.more fault s.cut.text s.cut.left
           (last_lines r.bytes pending r.open_is ∙ ap (λ z. whole_lines r.bytes ++ z) s.cut.first ∙ sym (append_assoc (whole_lines r.bytes) s.cut.done s.cut.more))
           s.cut.print s.cut.front s.fault_is s.failure,
@@ -176,24 +176,24 @@ module _ (Judges : List ℕ → Option LineFault → Type 0) (Prints : List ℕ 
     ran_to_fault fault took ends (inr s) = (
       r.bytes,
       r.written ++ s.written,
-      subst (λ bs. Consumes R0 R2 bs) (append-nil r.bytes) (Consumes-trans R0 R1 R2 r.bytes [] r.read took),
-      Appends-trans W0 W1 W2 r.written s.written r.wrote s.wrote,
+      subst (λ bs. Consumes left0 left2 bs) (append-nil r.bytes) (Consumes-trans left0 left1 left2 r.bytes [] r.read took),
+      Appends-trans held0 held1 held2 r.written s.written r.wrote s.wrote,
       subst (λ f. EndsSo Judges Prints bound r.bytes (r.written ++ s.written) before after (Err f)) (sym s.fault_is)
           (finish_error s.written s.done s.error (lines + length s.done + 1) ends s.print s.cause refl),
     )
 
-    pub ran_to_the_end : (count sent_after : ℕ) → Consumes R1 R2 [] → after.ends ≡ now.ends + 1
+    pub ran_to_the_end : (count sent_after : ℕ) → Consumes left1 left2 [] → after.ends ≡ now.ends + 1
         → Stepped Judges Prints lines (last_line pending) count
-        (record { held_before = W1; held_after = W2; failures_before = now.write_failures; failures_after = after.write_failures }) sent sent_after
+        (record { held_before = held1; held_after = held2; failures_before = now.write_failures; failures_after = after.write_failures }) sent sent_after
         → after.unflushed ≡ false
-        → RanSo R0 R2 W0 W2 before after (Ok count)
+        → RanSo left0 left2 held0 held2 before after (Ok count)
     ran_to_the_end count sent_after took ends s flushed =
         let all = last_lines r.bytes pending r.open_is in
         let total = ap length all ∙ length-append (whole_lines r.bytes) (last_line pending) in (
           r.bytes,
           r.written ++ s.text,
-          subst (λ bs. Consumes R0 R2 bs) (append-nil r.bytes) (Consumes-trans R0 R1 R2 r.bytes [] r.read took),
-          Appends-trans W0 W1 W2 r.written s.text r.wrote s.wrote,
+          subst (λ bs. Consumes left0 left2 bs) (append-nil r.bytes) (Consumes-trans left0 left1 left2 r.bytes [] r.read took),
+          Appends-trans held0 held1 held2 r.written s.text r.wrote s.wrote,
           record {
             printed = subst (λ ls. AllPrint Judges Prints 1 ls (r.written ++ s.text)) (sym all) (printed_on (last_line pending) s.text s.print);
             counted = omega (arith, s.counted, r.counted, total);
@@ -202,12 +202,12 @@ module _ (Judges : List ℕ → Option LineFault → Type 0) (Prints : List ℕ 
           },
         )
 
-    pub ran_finish : (result : Result ℕ RunFault) (sent_after : ℕ) → Consumes R1 R2 [] → after.ends ≡ now.ends + 1
+    pub ran_finish : (result : Result ℕ RunFault) (sent_after : ℕ) → Consumes left1 left2 [] → after.ends ≡ now.ends + 1
         → IfOk result (λ count. Stepped Judges Prints lines (last_line pending) count
-        (record { held_before = W1; held_after = W2; failures_before = now.write_failures; failures_after = after.write_failures }) sent sent_after)
+        (record { held_before = held1; held_after = held2; failures_before = now.write_failures; failures_after = after.write_failures }) sent sent_after)
         → OnOk result (after.unflushed ≡ false)
         → IfErr result (StepStopped Judges Prints (IsLastCause Judges pending) lines (last_line pending)
-        (record { held_before = W1; held_after = W2; failures_before = now.write_failures; failures_after = after.write_failures }) sent)
-        → RanSo R0 R2 W0 W2 before after result
+        (record { held_before = held1; held_after = held2; failures_before = now.write_failures; failures_after = after.write_failures }) sent)
+        → RanSo left0 left2 held0 held2 before after result
     ran_finish (Ok count) sent_after took ends s flushed stopped = ran_to_the_end count sent_after took ends s flushed
     ran_finish (Err fault) sent_after took ends s flushed stopped = ran_to_fault fault took ends stopped

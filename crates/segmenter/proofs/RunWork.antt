@@ -84,11 +84,11 @@ module _ (Judges : List ℕ → Option LineFault → Type 0) (Prints : List ℕ 
 
   -- ---- a run at the beginning of a turn
 
-  pub record Running (R0 R1 W0 W1 : Option (List ℕ)) (before now : Told) (turn : ℕ) (pending out : List ℕ) (lines sent : ℕ) : Type 0 where
+  pub record Running (left0 left1 held0 held1 : Option (List ℕ)) (before now : Told) (turn : ℕ) (pending out : List ℕ) (lines sent : ℕ) : Type 0 where
     pub bytes : List ℕ
     pub written : List ℕ
-    pub read : Consumes R0 R1 bytes
-    pub wrote : Appends W0 W1 written
+    pub read : Consumes left0 left1 bytes
+    pub wrote : Appends held0 held1 written
     pub print : AllPrint Judges Prints 1 (whole_lines bytes) written
     pub open_is : pending ≡ open_line bytes
     pub counted : lines ≡ length (whole_lines bytes)
@@ -126,22 +126,22 @@ module _ (Judges : List ℕ → Option LineFault → Type 0) (Prints : List ℕ 
   print_on bytes pending written text lines h open_is counted ws bad out =
       output-append 1 (whole_lines bytes) ws written text bad h (subst (λ m. Output Judges Prints m ws text bad) {x = lines + 1} {y = 1 + length (whole_lines bytes)} (omega (arith, counted)) out)
 
-  pub running_more : (R0 R1 R2 W0 W1 W2 : Option (List ℕ)) (before now after : Told) (turn : ℕ) (pending out piece : List ℕ) (lines sent : ℕ) (pending_after out_after : List ℕ) (lines_after sent_after f0 f1 : ℕ)
-      → Running R0 R1 W0 W1 before now turn pending out lines sent
-      → Consumes R1 R2 piece → length piece ≤ 2 ^ 16
-      → Stepped Judges Prints lines (whole_lines (pending ++ piece)) lines_after (record { held_before = W1; held_after = W2; failures_before = now.write_failures; failures_after = after.write_failures }) sent sent_after
+  pub running_more : (left0 left1 left2 held0 held1 held2 : Option (List ℕ)) (before now after : Told) (turn : ℕ) (pending out piece : List ℕ) (lines sent : ℕ) (pending_after out_after : List ℕ) (lines_after sent_after f0 f1 : ℕ)
+      → Running left0 left1 held0 held1 before now turn pending out lines sent
+      → Consumes left1 left2 piece → length piece ≤ 2 ^ 16
+      → Stepped Judges Prints lines (whole_lines (pending ++ piece)) lines_after (record { held_before = held1; held_after = held2; failures_before = now.write_failures; failures_after = after.write_failures }) sent sent_after
       → pending_after ≡ open_line (pending ++ piece) → out_after ≡ [] → lines_after ≤ lines + length piece → sent_after ≤ sent + 2 ^ 64
       → after.reads ≡ now.reads + 1 → after.ends ≡ now.ends → after.read_failures ≡ now.read_failures
-      → Running R0 R2 W0 W2 before after (turn + 1) pending_after out_after lines_after sent_after
-  running_more R0 R1 R2 W0 W1 W2 before now after turn pending out piece lines sent pending_after out_after lines_after sent_after f0 f1 r took small s open_is waits few_lines few_bytes reads ends failures =
+      → Running left0 left2 held0 held2 before after (turn + 1) pending_after out_after lines_after sent_after
+  running_more left0 left1 left2 held0 held1 held2 before now after turn pending out piece lines sent pending_after out_after lines_after sent_after f0 f1 r took small s open_is waits few_lines few_bytes reads ends failures =
       let whole = whole_on r.bytes piece pending r.open_is in
       let wc = ap length whole ∙ length-append (whole_lines r.bytes) (whole_lines (pending ++ piece)) in
       let tl = length-append r.written s.text in
       record {
         bytes = r.bytes ++ piece;
         written = r.written ++ s.text;
-        read = Consumes-trans R0 R1 R2 r.bytes piece r.read took;
-        wrote = Appends-trans W0 W1 W2 r.written s.text r.wrote s.wrote;
+        read = Consumes-trans left0 left1 left2 r.bytes piece r.read took;
+        wrote = Appends-trans held0 held1 held2 r.written s.text r.wrote s.wrote;
         print = subst (λ ws. AllPrint Judges Prints 1 ws (r.written ++ s.text)) (sym whole)
             (print_on r.bytes pending r.written s.text lines r.print r.open_is r.counted (whole_lines (pending ++ piece)) None s.print);
         open_is = open_is ∙ ap (λ o. open_line (o ++ piece)) r.open_is ∙ sym (open_line-append r.bytes piece);

@@ -28,13 +28,13 @@ fn letters() -> Sources<'static> {
     }
 }
 
-fn reader(bytes: &[u8], step: usize, fails_at: Option<u64>) -> Counted<StepReader<'_>> {
-    Counted::new(StepReader {
+fn reader(bytes: &[u8], step: usize, fails_at: Option<u64>) -> StepReader<'_> {
+    StepReader {
         bytes,
         step,
         fails_at,
         reads: 0,
-    })
+    }
 }
 
 fn writer(alloc: Global, step: usize, room: usize) -> StepWriter {
@@ -92,7 +92,7 @@ fn failing_writers(rt: HostRuntime) -> Result<(), Fail> {
         ("a byte at a time", 1, all, false, false, Ok(1), 52),
     ];
     for (what, step, room, silent, flush_fails, answer, taken) in rows {
-        let mut input = reader(SUMOMO.as_bytes(), 1, None);
+        let mut input = Counted::new(reader(SUMOMO.as_bytes(), 1, None));
         let mut out = writer(rt.alloc(), step, room);
         out.silent = silent;
         out.flush_fails = flush_fails;
@@ -111,7 +111,7 @@ fn failing_writers(rt: HostRuntime) -> Result<(), Fail> {
 fn failing_readers(rt: HostRuntime) -> Result<(), Fail> {
     // The sample line has 16 bytes, the last of them its LF.
     for read in 1..=17 {
-        let mut input = reader(SUMOMO.as_bytes(), 1, Some(read));
+        let mut input = Counted::new(reader(SUMOMO.as_bytes(), 1, Some(read)));
         let mut out = Counted::new(writer(rt.alloc(), usize::MAX, usize::MAX));
         let got = run_sources(rt.alloc(), &sample(), &mut input, &mut out);
         let (line, output) = if read < 17 {
@@ -146,7 +146,7 @@ fn faults_behind_line_1(rt: HostRuntime) -> Result<(), Fail> {
         ),
     ];
     for (what, text, fails_at, fault) in rows {
-        let mut input = reader(text, usize::MAX, fails_at);
+        let mut input = Counted::new(reader(text, usize::MAX, fails_at));
         let mut out = Counted::new(writer(rt.alloc(), usize::MAX, usize::MAX));
         let got = run_sources(rt.alloc(), &sample(), &mut input, &mut out);
         assert!(rt; got == Err(fault), "{what}");
@@ -172,7 +172,7 @@ fn bound_on_reads(rt: HostRuntime) -> Result<(), Fail> {
     for (what, text, answer) in rows {
         let dictionary = read_sources(rt.alloc(), &letters())?;
         let mut kept = LineMemory::new(rt.alloc());
-        let mut input = reader(text.as_bytes(), 1, None);
+        let mut input = Counted::new(reader(text.as_bytes(), 1, None));
         let mut out = Counted::new(writer(rt.alloc(), usize::MAX, usize::MAX));
         let got = run_over(rt.alloc(), &dictionary, &mut kept, &mut input, &mut out, 4);
         assert!(rt; got == answer, "{what}");
@@ -234,7 +234,7 @@ fn long_lines(rt: HostRuntime) -> Result<(), Fail> {
     ];
     for (what, first, length, ends, fails_at, answer) in rows {
         let line = long_line(rt.alloc(), first, length, ends)?;
-        let mut input = reader(&line, usize::MAX, fails_at);
+        let mut input = Counted::new(reader(&line, usize::MAX, fails_at));
         let mut out = Counted::new(writer(rt.alloc(), usize::MAX, usize::MAX));
         let got = run_sources(rt.alloc(), &letters(), &mut input, &mut out);
         assert!(rt; got == answer, "{what}");
