@@ -5,7 +5,7 @@ use Rattle.std.specs.List.{cons_option}
 use Rattle.std.specs.Option.{option_map_or}
 use Rattle.std.proofs.lemmas.Bool.{cases_Bool, cases_eq, cond-true, cond-false, eq-eqb, ne_eqb, and_from, and_parts, ltb-true, and_left, and_right}
 use Rattle.std.proofs.lemmas.Nat.{mul-add-lt, same_from_place}
-use Rattle.std.proofs.lemmas.List.{append-nil, reverse-append}
+use Rattle.std.proofs.lemmas.List.{reverse-append}
 use Rattle.std.proofs.lemmas.List.Elements.{filter_map-append}
 use Rattle.mj_model.specs.declared.source_fault.SourceFault.{SourceFault}
 use Rattle.mj_model.specs.declared.source_fault.SourceKind.{SourceKind}
@@ -93,9 +93,6 @@ cells-append : (rows : List (ℕ × List ℕ)) (line : ℕ × List ℕ) (cell : 
 cells-append rows line cell listed =
     filter_map-append (λ row. cell_from (words_of row.1)) rows (line ∷ []) ∙ ap (λ (found : Option Cell). cells_of rows ++ cons_option found []) listed
 
-pub none_held : (sizes : Sizes) (all : List (ℕ × List ℕ)) (m : CostTable) → IsMatrix m → IsTableOf (record { sizes = sizes; cells = [] }) m → HoldsUpTo sizes all all m
-none_held sizes all m formed holds = record { rows = []; parts = refl; none = refl; formed = formed; holds = holds }
-
 -- a row's ids lie within the table
 pub row_pair : (sizes : Sizes) (all left : List (ℕ × List ℕ)) (m : CostTable) (line : List ℕ) (cell : Cell) → HoldsUpTo sizes all left m → IsRow sizes line cell → IsPair m cell.right cell.left
 row_pair sizes all left m line cell h r =
@@ -125,11 +122,6 @@ row_held sizes all left lines m new number line cell h is r set_is formed =
       formed = formed;
       holds = subst (λ (t : CostTable). IsTableOf (record { sizes = sizes; cells = cells_of (h.rows ++ here ∷ []) }) t) (sym set_is) held;
     }
-
-pub all_held : (sizes : Sizes) (all lines : List (ℕ × List ℕ)) (m : CostTable) → HoldsUpTo sizes all lines m → lines ≡ [] → (first_fault 0 (row_fault sizes) all ≡ None) × IsTableOf (record { sizes = sizes; cells = cells_of all }) m
-all_held sizes all lines m h is =
-    let same : all ≡ h.rows = h.parts ∙ ap (λ (xs : List (ℕ × List ℕ)). h.rows ++ xs) is ∙ append-nil h.rows in
-    (ap (first_fault 0 (row_fault sizes)) same ∙ h.none, subst (λ (rows : List (ℕ × List ℕ)). IsTableOf (record { sizes = sizes; cells = cells_of rows }) m) (sym same) h.holds)
 
 pub row_bad : (sizes : Sizes) (all left lines : List (ℕ × List ℕ)) (m : CostTable) (number : ℕ) (line : List ℕ) (kind : SourceKind) (fault : SourceFault) → HoldsUpTo sizes all lines m → lines ≡ (number, line) ∷ left
     → row_fault sizes line ≡ Some kind → fault ≡ record { file = 0; line = number; kind = kind } → first_fault 0 (row_fault sizes) all ≡ Some fault
