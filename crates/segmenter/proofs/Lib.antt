@@ -7,3 +7,14 @@ pub mod FirstEntries
 pub mod FirstWords
 pub mod PrintedPaths
 pub mod ConnectionCosts
+pub mod PieceLemmas
+pub mod PieceWork
+pub mod ResultLemmas
+pub mod WritingLemmas
+pub mod StepLemmas
+pub mod RunWork
+pub mod RunEnds
+pub mod LexiconLemmas
+pub mod FittingLemmas
+pub mod ConnectionLemmas
+pub mod SourceLemmas

@@ -9,3 +9,8 @@ pub mod Connections
 pub mod Fitting
 pub mod Dictionaries
 pub mod PrintedWords
+pub mod Progress
+pub mod Runs
+pub mod Steps
+pub mod AddedLexicon
+pub mod Sample

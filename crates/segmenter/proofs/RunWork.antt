@@ -1,0 +1,157 @@
+-- A run over a text, read by read.
+use Rattle.std.proofs.Common.{◌≡◌, ℕ, ◌+◌, ◌*◌, ◌^◌, ◌<◌, ◌≤◌, Bool, true, false, cond, List, [], ◌∷◌, ◌++◌, length, take, drop, get_or, zero, suc, All, refl, sym, ap, ◌∙◌, subst, arith, append_assoc, append-nil, length-append, ◌⊎◌, inl, inr}
+use Rattle.std.proofs.lemmas.Bool.{cases_Bool}
+use Rattle.std.proofs.lemmas.List.Elements.{All-nil, All-append}
+use Rattle.std.specs.Prelude.{Option, Some, None, Result, Ok, Err, nat_lt, nat_eq}
+use Rattle.std.specs.List.{slice_split, onto_first}
+use Rattle.std.specs.Io.KnownBytes.{Appends, Consumes, Keeps}
+use Rattle.std.proofs.KnownBytes.{Appends-trans, Consumes-trans, Consumes-kept, Consumes-nil, Appends-nil}
+use Rattle.mj_model.specs.declared.limits.TheConstants.{SENTENCE_MAX}
+use Rattle.mj_model.specs.declared.run_fault.RunFault.{RunFault}
+use Rattle.mj_model.specs.declared.run_fault.RunFault.TheVariants as run
+use Rattle.mj_model.specs.Bytes.{is_line_feed}
+use Rattle.mj_model.specs.Lines.{pieces, without_last_empty}
+use Rattle.mj_model.specs.Output.{Output, BadLine, text_lines}
+use Rattle.mj_model.specs.TextLines.{whole_lines, open_line, all_but_last, last_piece}
+use Rattle.segmenter.specs.declared.line_fault.LineFault.{LineFault}
+use Rattle.segmenter.specs.declared.line_fault.LineFault.TheVariants.{TooLong, NotUtf8, NoPath}
+use Rattle.segmenter.specs.declared.line_fault.LineError.{LineError}
+use Rattle.segmenter.specs.declared.line_fault.LineError.TheVariants.{Bad, Memory}
+use Rattle.segmenter.specs.LineErrors.{run_fault}
+use Rattle.segmenter.specs.Progress.{HasNoFeed, AllPrint, IsCause}
+use Rattle.segmenter.specs.Steps.{Step, Stepped, IsCutAt, WriteStopped, LineStopped, StepStopped, last_line, IsLastCause}
+use Rattle.segmenter.specs.Runs.{Told, IsDone, StoppedBehind, IsCut, IsStarved, IsBad, EndsSo, lines_read}
+use Rattle.segmenter.proofs.PieceLemmas.{IsCons, split_cons, last_behind, whole_lines-append, open_line-append}
+
+-- ---- the lines of a text: the whole ones, and the open one where it isn't empty
+
+last_kept : (first : List ℕ) (more : List (List ℕ)) → without_last_empty (first ∷ more) ≡ all_but_last (first ∷ more) ++ last_line (last_piece (first ∷ more))
+last_kept [] [] = refl
+last_kept (c ∷ cs) [] = refl
+last_kept first (next ∷ more) = ap (λ z. first ∷ z) (last_kept next more)
+
+pub text_lines-parts : (bytes : List ℕ) → text_lines bytes ≡ whole_lines bytes ++ last_line (open_line bytes)
+text_lines-parts bytes =
+    let c = split_cons bytes in
+    ap without_last_empty c.is ∙ last_kept c.first c.more ∙ sym (ap (λ z. all_but_last z ++ last_line (last_piece z)) c.is)
+
+one_no_feed : (c k d : ℕ) → k < length (c ∷ []) → is_line_feed c ≡ false → is_line_feed (get_or (c ∷ []) k d) ≡ false
+one_no_feed c zero d low e = e
+one_no_feed c (suc k) d low e = absurd (omega (arith, low))
+
+no_feed_cons : (c : ℕ) (cs : List ℕ) → is_line_feed c ≡ false → HasNoFeed cs → HasNoFeed (c ∷ cs)
+no_feed_cons c cs e h = All-append (λ d. is_line_feed d ≡ false) (c ∷ []) cs (λ k d low. one_no_feed c k d low e) h
+
+last_step : (b : Bool) (c : ℕ) (xss : List (List ℕ)) → IsCons xss → is_line_feed c ≡ b → HasNoFeed (last_piece xss)
+    → HasNoFeed (last_piece (cond b ([] ∷ xss) (onto_first c xss)))
+last_step true c xss n e h = subst HasNoFeed (sym (last_behind [] xss n)) h
+last_step false c [] n e h = absurd (let is = n.is in cc)
+last_step false c (xs ∷ []) n e h = no_feed_cons c xs e h
+last_step false c (xs ∷ next ∷ more) n e h = h
+
+pub open_no_feed : (bytes : List ℕ) → HasNoFeed (open_line bytes)
+open_no_feed [] = All-nil (λ c. is_line_feed c ≡ false)
+open_no_feed (c ∷ cs) = last_step (is_line_feed c) c (slice_split is_line_feed cs) (split_cons cs) refl (open_no_feed cs)
+
+-- the whole lines with one more piece
+pub whole_on : (bytes piece pending : List ℕ) → pending ≡ open_line bytes → whole_lines (bytes ++ piece) ≡ whole_lines bytes ++ whole_lines (pending ++ piece)
+whole_on bytes piece pending e = whole_lines-append bytes piece ∙ ap (λ o. whole_lines bytes ++ whole_lines (o ++ piece)) (sym e)
+
+-- ---- lines that print, and more behind them
+
+module _ (Judges : List ℕ → Option LineFault → Type 0) (Prints : List ℕ → List ℕ → Type 0) where
+  pub output-append : (n : ℕ) (xs ys : List (List ℕ)) (a b : List ℕ) (bad : Option (BadLine LineFault)) → AllPrint Judges Prints n xs a
+      → Output Judges Prints (n + length xs) ys b bad → Output Judges Prints n (xs ++ ys) (a ++ b) bad
+  output-append n [] ys a b bad h out =
+      subst (λ z. Output Judges Prints n ys (z ++ b) bad) (sym h.0) (subst (λ m. Output Judges Prints m ys b bad) {x = n + 0} {y = n} (omega arith) out)
+  output-append n (x ∷ xs) ys a b bad (inl h) out = absurd (let e = h.3 in cc)
+  output-append n (x ∷ xs) ys a b bad (inr h) out =
+      inr (
+        h.0,
+        h.1,
+        h.2 ++ b,
+        h.3,
+        output-append (n + 1) xs ys h.2 b bad h.4 (subst (λ m. Output Judges Prints m ys b bad) {x = n + length (x ∷ xs)} {y = n + 1 + length xs} (omega arith) out),
+        ap (λ (t : List ℕ). t ++ b) h.5 ∙ append_assoc h.1 h.2 b,
+      )
+
+  pub bad_behind : (n : ℕ) (done more : List (List ℕ)) (text bad : List ℕ) (fault : LineFault) (line : ℕ) → AllPrint Judges Prints n done text
+      → Judges bad (Some fault) → line ≡ n + length done → Output Judges Prints n (done ++ bad ∷ more) text (Some (record { number = line; fault = fault }))
+  bad_behind n done more text bad fault line h judged e =
+      subst (λ t. Output Judges Prints n (done ++ bad ∷ more) t (Some (record { number = line; fault = fault }))) (append-nil text)
+      (output-append n done (bad ∷ more) text [] (Some (record { number = line; fault = fault })) h
+      (inl (fault, judged, refl, ap (λ m. Some (record { number = m; fault = fault })) e)))
+
+  -- ---- a run at the beginning of a turn
+
+  pub record Running (R0 R1 W0 W1 : Option (List ℕ)) (before now : Told) (turn : ℕ) (pending out : List ℕ) (lines sent : ℕ) : Type 0 where
+    pub bytes : List ℕ
+    pub written : List ℕ
+    pub read : Consumes R0 R1 bytes
+    pub wrote : Appends W0 W1 written
+    pub print : AllPrint Judges Prints 1 (whole_lines bytes) written
+    pub open_is : pending ≡ open_line bytes
+    pub counted : lines ≡ length (whole_lines bytes)
+    pub sent_is : sent ≡ length written
+    pub nothing_waits : out ≡ []
+    pub few_lines : lines ≤ 2 ^ 16 * turn
+    pub few_bytes : sent ≤ 2 ^ 64 * turn
+    pub reads : now.reads ≡ before.reads + turn
+    pub ends : now.ends ≡ before.ends
+    pub read_failures : now.read_failures ≡ before.read_failures
+    pub write_failures : now.write_failures ≡ before.write_failures
+
+  pub running_start : (R W : Option (List ℕ)) (told : Told) (out : List ℕ) → out ≡ [] → Running R R W W told told 0 [] out 0 0
+  running_start R W told out e = record {
+    bytes = [];
+    written = [];
+    read = Consumes-nil R;
+    wrote = Appends-nil W;
+    print = (refl, refl);
+    open_is = refl;
+    counted = refl;
+    sent_is = refl;
+    nothing_waits = e;
+    few_lines = omega arith;
+    few_bytes = omega arith;
+    reads = omega arith;
+    ends = refl;
+    read_failures = refl;
+    write_failures = refl;
+  }
+
+  -- what printed so far, and then the lines of one more piece
+  pub print_on : (bytes pending written text : List ℕ) (lines : ℕ) → AllPrint Judges Prints 1 (whole_lines bytes) written → pending ≡ open_line bytes → lines ≡ length (whole_lines bytes)
+      → (ws : List (List ℕ)) (bad : Option (BadLine LineFault)) → Output Judges Prints (lines + 1) ws text bad → Output Judges Prints 1 (whole_lines bytes ++ ws) (written ++ text) bad
+  print_on bytes pending written text lines h open_is counted ws bad out =
+      output-append 1 (whole_lines bytes) ws written text bad h (subst (λ m. Output Judges Prints m ws text bad) {x = lines + 1} {y = 1 + length (whole_lines bytes)} (omega (arith, counted)) out)
+
+  pub running_more : (R0 R1 R2 W0 W1 W2 : Option (List ℕ)) (before now after : Told) (turn : ℕ) (pending out piece : List ℕ) (lines sent : ℕ) (pending_after out_after : List ℕ) (lines_after sent_after f0 f1 : ℕ)
+      → Running R0 R1 W0 W1 before now turn pending out lines sent
+      → Consumes R1 R2 piece → length piece ≤ 2 ^ 16
+      → Stepped Judges Prints lines (whole_lines (pending ++ piece)) lines_after (record { held_before = W1; held_after = W2; failures_before = now.write_failures; failures_after = after.write_failures }) sent sent_after
+      → pending_after ≡ open_line (pending ++ piece) → out_after ≡ [] → lines_after ≤ lines + length piece → sent_after ≤ sent + 2 ^ 64
+      → after.reads ≡ now.reads + 1 → after.ends ≡ now.ends → after.read_failures ≡ now.read_failures
+      → Running R0 R2 W0 W2 before after (turn + 1) pending_after out_after lines_after sent_after
+  running_more R0 R1 R2 W0 W1 W2 before now after turn pending out piece lines sent pending_after out_after lines_after sent_after f0 f1 r took small s open_is waits few_lines few_bytes reads ends failures =
+      let whole = whole_on r.bytes piece pending r.open_is in
+      let wc = ap length whole ∙ length-append (whole_lines r.bytes) (whole_lines (pending ++ piece)) in
+      let tl = length-append r.written s.text in
+      record {
+        bytes = r.bytes ++ piece;
+        written = r.written ++ s.text;
+        read = Consumes-trans R0 R1 R2 r.bytes piece r.read took;
+        wrote = Appends-trans W0 W1 W2 r.written s.text r.wrote s.wrote;
+        print = subst (λ ws. AllPrint Judges Prints 1 ws (r.written ++ s.text)) (sym whole)
+            (print_on r.bytes pending r.written s.text lines r.print r.open_is r.counted (whole_lines (pending ++ piece)) None s.print);
+        open_is = open_is ∙ ap (λ o. open_line (o ++ piece)) r.open_is ∙ sym (open_line-append r.bytes piece);
+        counted = omega (arith, s.counted, r.counted, wc);
+        sent_is = omega (arith, s.sent, r.sent_is, tl);
+        nothing_waits = waits;
+        few_lines = omega (arith, few_lines, small, r.few_lines);
+        few_bytes = omega (arith, few_bytes, r.few_bytes);
+        reads = omega (arith, reads, r.reads);
+        ends = ends ∙ r.ends;
+        read_failures = failures ∙ r.read_failures;
+        write_failures = s.no_failure ∙ r.write_failures;
+      }

@@ -1,0 +1,138 @@
+//! The work on a text between two reads.
+
+ghost use Rattle.std.specs.Prelude.{◌≡◌, ◌+◌, ◌<◌, ◌≤◌, ◌^◌, ◌++◌, length, Some, OnOk, IfOk, IfErr, OnErr, vec_len, List, ℕ, None, [], take, drop};
+ghost use Rattle.mj_model.specs.declared.limits.TheConstants.{SENTENCE_MAX};
+ghost use Rattle.mj_model.specs.TextLines.{whole_lines, open_line};
+ghost use Rattle.segmenter.specs.LineErrors.{TellsFault};
+ghost use Rattle.segmenter.specs.declared.line_fault.LineFault.TheVariants.{TooLong};
+ghost use Rattle.segmenter.specs.Progress.{HasNoFeed, Worked, Stopped};
+ghost use Rattle.segmenter.specs.Steps.{last_line, IsLastCause};
+
+use crate::line_fault::{LineError, LineFault};
+use crate::line_printer::LinePrinter;
+use memchr::memchr;
+use mj_model::SENTENCE_MAX;
+
+/// What is kept from one read of a text to the next.
+#[derive(Debug, Drop)]
+pub struct Progress {
+    /// The bytes of the line that goes on.
+    pub pending: Vec<u8>,
+    /// What the lines print that were not written yet.
+    pub out: Vec<u8>,
+    /// How many lines printed.
+    pub lines: u64,
+}
+
+/// Prints a line of any length.
+fn print_any<P: LinePrinter>(
+    printer: &P,
+    kept: &mut P::Kept,
+    line: &[u8],
+    out: &mut Vec<u8>,
+) -> Result<(), LineError>
+    ensures good { OnOk result (P.judges printer.now line.now None) }
+    ensures printed { OnOk result ((text : List ℕ) × P.prints printer.now line.now text × (out.new.items ≡ out.old.items ++ text)) }
+    ensures bad { IfErr result (TellsFault (λ fault. P.judges printer.now line.now (Some fault))) }
+    ensures kept { OnErr result (out.new.items ≡ out.old.items) }
+{
+    if line.len() > SENTENCE_MAX {
+        return Err(LineError::Bad(LineFault::TooLong));
+    }
+    printer.print_line(kept, line, out)
+}
+
+/// Adds to the bytes of a line that goes on.
+fn hold(pending: &mut Vec<u8>, part: &[u8]) -> Result<(), LineError>
+    ensures held { OnOk result (pending.new.items ≡ pending.old.items ++ part.now) }
+    ensures short { OnOk result (length pending.new.items ≤ SENTENCE_MAX) }
+    ensures long { IfErr result (TellsFault (λ fault. (fault ≡ TooLong) × (SENTENCE_MAX < length (pending.old.items ++ part.now)))) }
+{
+    if part.len() > SENTENCE_MAX || pending.len() > SENTENCE_MAX - part.len() {
+        return Err(LineError::Bad(LineFault::TooLong));
+    }
+    match pending.extend_from_slice(part) {
+        Ok(()) => Ok(()),
+        Err(_) => Err(LineError::Memory),
+    }
+}
+
+/// The bytes before an LF, and those behind it.
+fn cut(bytes: &[u8], at: usize) -> (&[u8], &[u8])
+    requires { at < length bytes.now }
+    ensures line { result.0.now ≡ take at bytes.now }
+    ensures behind { result.1.now ≡ drop (at + 1) bytes.now }
+{
+    (&bytes[..at], &bytes[at + 1..])
+}
+
+impl Progress {
+    /// Prints the line that ends with this part.
+    fn end_line<P: LinePrinter>(
+        &mut self,
+        printer: &P,
+        kept: &mut P::Kept,
+        part: &[u8],
+    ) -> Result<(), LineError>
+        requires count { self.old.lines + 1 < 2 ^ 64 }
+        ensures good { OnOk result (P.judges printer.now (self.old.pending.items ++ part.now) None) }
+        ensures printed { OnOk result ((text : List ℕ) × P.prints printer.now (self.old.pending.items ++ part.now) text × (self.new.out.items ≡ self.old.out.items ++ text)) }
+        ensures counted { OnOk result (self.new.lines ≡ self.old.lines + 1) }
+        ensures ended { OnOk result (self.new.pending.items ≡ []) }
+        ensures bad { IfErr result (TellsFault (λ fault. P.judges printer.now (self.old.pending.items ++ part.now) (Some fault))) }
+        ensures kept { OnErr result ((self.new.out.items ≡ self.old.out.items) × (self.new.lines ≡ self.old.lines)) }
+    {
+        if self.pending.is_empty() {
+            print_any(printer, kept, part, &mut self.out)?;
+        } else {
+            hold(&mut self.pending, part)?;
+            print_any(printer, kept, &self.pending, &mut self.out)?;
+            self.pending.clear();
+        }
+        self.lines += 1;
+        Ok(())
+    }
+
+    /// Works through the bytes of one read: prints the lines that end in them, and keeps the rest.
+    pub fn take_piece<P: LinePrinter>(
+        &mut self,
+        printer: &P,
+        kept: &mut P::Kept,
+        piece: &[u8],
+    ) -> Result<(), LineError>
+        requires count { self.old.lines + length piece.now < 2 ^ 64 }
+        requires open { HasNoFeed self.old.pending.items }
+        ensures worked { OnOk result (Worked (P.judges printer.now) (P.prints printer.now) self.old.lines self.old.out.items
+            (whole_lines (self.old.pending.items ++ piece.now)) self.new.lines self.new.out.items) }
+        ensures counted { self.new.lines ≤ self.old.lines + length piece.now }
+        ensures open { OnOk result (self.new.pending.items ≡ open_line (self.old.pending.items ++ piece.now)) }
+        ensures stopped { IfErr result (λ error. Stopped (P.judges printer.now) (P.prints printer.now) self.old.lines self.old.out.items
+            (self.old.pending.items ++ piece.now) error self.new.lines self.new.out.items) }
+    {
+        let mut rest = piece;
+        while let Some(at) = memchr(b'\n', rest) {
+            let (line, behind) = cut(rest, at);
+            self.end_line(printer, kept, line)?;
+            rest = behind;
+        }
+        hold(&mut self.pending, rest)
+    }
+
+    /// Prints the line that lacks its LF, if there is one.
+    pub fn end_text<P: LinePrinter>(
+        &mut self,
+        printer: &P,
+        kept: &mut P::Kept,
+    ) -> Result<(), LineError>
+        requires count { self.old.lines + 1 < 2 ^ 64 }
+        ensures worked { OnOk result (Worked (P.judges printer.now) (P.prints printer.now) self.old.lines self.old.out.items
+            (last_line self.old.pending.items) self.new.lines self.new.out.items) }
+        ensures stopped { IfErr result (IsLastCause (P.judges printer.now) self.old.pending.items []) }
+        ensures kept { OnErr result ((self.new.out.items ≡ self.old.out.items) × (self.new.lines ≡ self.old.lines)) }
+    {
+        if self.pending.is_empty() {
+            return Ok(());
+        }
+        self.end_line(printer, kept, b"")
+    }
+}

@@ -1,0 +1,96 @@
+//! The loop over a text: read, work, write.
+
+ghost use Rattle.std.specs.Prelude.{◌≡◌, ℕ, List, ◌+◌, ◌≤◌, ◌<◌, ◌^◌, ◌++◌, length, [], false, OnOk, OnErr, IfOk, IfErr, Err, ◌⊎◌, vec_len};
+ghost use Rattle.std.specs.Io.KnownBytes.{Appends, Consumes, IsAtEnd};
+ghost use Rattle.segmenter.specs.Progress.{HasNoFeed};
+ghost use Rattle.mj_model.specs.declared.run_fault.RunFault.TheVariants.{Memory};
+ghost use Rattle.segmenter.specs.Runs.{EndsSo, Ran};
+
+use crate::line_printer::LinePrinter;
+use crate::progress::Progress;
+use crate::steps::{finish, work};
+use mj_model::{RunFault, TextIn, TextOut};
+use std::alloc::{AllocError, Global};
+
+/// How many bytes are read at once.
+const BUFFER: usize = 65_536;
+
+/// Reads a text to its end, in at most `bound` reads, and writes what its lines print.
+fn print_lines<P: LinePrinter, R: TextIn, W: TextOut>(
+    alloc: Global,
+    printer: &P,
+    kept: &mut P::Kept,
+    reader: &mut R,
+    writer: &mut W,
+    buffer: &mut [u8],
+    bound: u64,
+) -> Result<u64, RunFault>
+    requires bound { bound ≤ 2 ^ 40 }
+    requires buffer { (0 < length buffer.old) × (length buffer.old ≤ 2 ^ 16) }
+    requires reads { R.reads reader.old < 2 ^ 63 }
+    requires ends { R.ends reader.old < 2 ^ 63 }
+    requires read_failures { R.TextIn.failures reader.old < 2 ^ 63 }
+    requires write_failures { W.TextOut.failures writer.old < 2 ^ 63 }
+    ensures run { (bytes : List ℕ) × (written : List ℕ) × Consumes (R.remaining reader.old) (R.remaining reader.new) bytes
+        × Appends (W.contents writer.old) (W.contents writer.new) written
+        × EndsSo (P.judges printer.now) (P.prints printer.now) bound bytes written
+        (record { reads = R.reads reader.old; ends = R.ends reader.old; read_failures = R.TextIn.failures reader.old; write_failures = W.TextOut.failures writer.old; unflushed = W.unflushed writer.old })
+        (record { reads = R.reads reader.new; ends = R.ends reader.new; read_failures = R.TextIn.failures reader.new; write_failures = W.TextOut.failures writer.new; unflushed = W.unflushed writer.new })
+        result }
+    ensures to_the_end { OnOk result (IsAtEnd (R.remaining reader.new)) }
+{
+    let mut progress = Progress {
+        pending: Vec::new(alloc),
+        out: Vec::new(alloc),
+        lines: 0,
+    };
+    let mut sent = 0;
+    for _turn in 0..bound {
+        let taken = match reader.read_counted(buffer) {
+            Ok(0) => return finish(printer, kept, &mut progress, writer, &mut sent),
+            Ok(n) => n,
+            Err(_) => return Err(RunFault::Read(progress.lines + 1)),
+        };
+        work(
+            printer,
+            kept,
+            &buffer[..taken],
+            &mut progress,
+            writer,
+            &mut sent,
+        )?;
+    }
+    Err(RunFault::InputTooLong(progress.lines + 1))
+}
+
+fn new_buffer(alloc: Global) -> Result<Vec<u8>, AllocError>
+    ensures { IfOk result (λ v. (0 < vec_len v) × (vec_len v ≤ 2 ^ 16)) }
+{
+    vec![in alloc; 0; BUFFER]
+}
+
+/// Runs over a text, with a buffer of its own. Memory(0) comes before the first read.
+pub fn run_over<P: LinePrinter, R: TextIn, W: TextOut>(
+    alloc: Global,
+    printer: &P,
+    kept: &mut P::Kept,
+    reader: &mut R,
+    writer: &mut W,
+    bound: u64,
+) -> Result<u64, RunFault>
+    requires bound { bound ≤ 2 ^ 40 }
+    requires reads { R.reads reader.old < 2 ^ 63 }
+    requires ends { R.ends reader.old < 2 ^ 63 }
+    requires read_failures { R.TextIn.failures reader.old < 2 ^ 63 }
+    requires write_failures { W.TextOut.failures writer.old < 2 ^ 63 }
+    ensures run { ((result ≡ Err (Memory 0)) × (reader.new ≡ reader.old) × (writer.new ≡ writer.old))
+        ⊎ Ran (P.judges printer.now) (P.prints printer.now) bound (R.remaining reader.old) (R.remaining reader.new) (W.contents writer.old) (W.contents writer.new)
+        (record { reads = R.reads reader.old; ends = R.ends reader.old; read_failures = R.TextIn.failures reader.old; write_failures = W.TextOut.failures writer.old; unflushed = W.unflushed writer.old })
+        (record { reads = R.reads reader.new; ends = R.ends reader.new; read_failures = R.TextIn.failures reader.new; write_failures = W.TextOut.failures writer.new; unflushed = W.unflushed writer.new })
+        result }
+{
+    let Ok(mut buffer) = new_buffer(alloc) else {
+        return Err(RunFault::Memory(0));
+    };
+    print_lines(alloc, printer, kept, reader, writer, &mut buffer, bound)
+}

@@ -1,0 +1,61 @@
+//! From sources and text to words.
+
+ghost use Rattle.std.specs.Prelude.{◌≡◌, ◌<◌, ◌^◌, ◌⊎◌, Ok, Err};
+ghost use Rattle.mj_model.specs.declared.limits.TheConstants.{READS_MAX as ReadsMax};
+ghost use Rattle.mj_model.specs.declared.run_fault.RunFault.TheVariants.{Source};
+ghost use Rattle.mj_model.specs.declared.source_fault.SourceFault.{SourceFault as FaultOf};
+ghost use Rattle.mj_model.specs.declared.source_fault.SourceKind.TheVariants.{Memory};
+ghost use Rattle.mj_model.specs.Tables.{Overlay};
+ghost use Rattle.segmenter.specs.FirstLines.{Judges, Prints};
+ghost use Rattle.segmenter.specs.FirstSources.{AreFirstTables};
+ghost use Rattle.segmenter.specs.Runs.{Ran, IsEarly};
+
+use crate::reading::run_over;
+use crate::sources::read_sources;
+use crate::words_printer::LineMemory;
+use mj_model::{READS_MAX, RunFault, SourceFault, SourceKind, Sources, TextIn, TextOut};
+use std::alloc::Global;
+
+/// Cuts the text of a reader into words and writes them, by the tables of the sources; answers the number of lines.
+///
+/// It works through the bytes of one read before it reads again, and flushes the writer once, at the end of the input;
+/// after a fault the caller flushes. No count of reader or writer is above 2^63 at entry.
+pub fn run_sources<R: TextIn, W: TextOut>(
+    alloc: Global,
+    sources: &Sources<'_>,
+    reader: &mut R,
+    writer: &mut W,
+) -> Result<u64, RunFault>
+    requires reads { R.reads reader.old < 2 ^ 63 }
+    requires ends { R.ends reader.old < 2 ^ 63 }
+    requires read_failures { R.TextIn.failures reader.old < 2 ^ 63 }
+    requires write_failures { W.TextOut.failures writer.old < 2 ^ 63 }
+    // A source's fault is the first one of the sources.
+    ensures source { (fault : FaultOf) → result ≡ Err (Source fault) → AreFirstTables sources.now (Err fault) }
+    // Either it ended before its first read, with nothing read or written, or it ran over the tables of the sources.
+    ensures run { (IsEarly result × (reader.new ≡ reader.old) × (writer.new ≡ writer.old))
+        ⊎ ((o : Overlay) × AreFirstTables sources.now (Ok o)
+        × Ran (Judges o) (Prints o) ReadsMax (R.remaining reader.old) (R.remaining reader.new) (W.contents writer.old) (W.contents writer.new)
+        (record { reads = R.reads reader.old; ends = R.ends reader.old; read_failures = R.TextIn.failures reader.old; write_failures = W.TextOut.failures writer.old; unflushed = W.unflushed writer.old })
+        (record { reads = R.reads reader.new; ends = R.ends reader.new; read_failures = R.TextIn.failures reader.new; write_failures = W.TextOut.failures writer.new; unflushed = W.unflushed writer.new })
+        result) }
+{
+    let dictionary = match read_sources(alloc, sources) {
+        Ok(dictionary) => dictionary,
+        Err(fault) => return Err(early(fault)),
+    };
+    let mut kept = LineMemory::new(alloc);
+    run_over(alloc, &dictionary, &mut kept, reader, writer, READS_MAX)
+}
+
+/// A source's fault as the end of a run.
+fn early(fault: SourceFault) -> RunFault
+    ensures early { IsEarly (Err result) }
+    ensures source { (told : FaultOf) → result ≡ Source told → (told ≡ fault) × (fault.kind ≡ Memory → ⊥) }
+{
+    if matches!(fault.kind, SourceKind::Memory) {
+        RunFault::Memory(0)
+    } else {
+        RunFault::Source(fault)
+    }
+}

@@ -1,0 +1,105 @@
+//! The steps of a run: work, then write.
+
+ghost use Rattle.std.specs.Prelude.{◌≡◌, ℕ, ◌+◌, ◌≤◌, ◌<◌, ◌^◌, ◌++◌, length, take, [], false, OnOk, OnErr, IfOk, IfErr};
+ghost use Rattle.std.specs.Io.KnownBytes.{Appends};
+ghost use Rattle.mj_model.specs.Counts.{CanRise};
+ghost use Rattle.mj_model.specs.TextLines.{whole_lines, open_line};
+ghost use Rattle.mj_model.specs.declared.run_fault.RunFault.TheVariants.{Write};
+ghost use Rattle.segmenter.specs.Progress.{HasNoFeed, IsCause};
+ghost use Rattle.segmenter.specs.Steps.{Stepped, StepStopped, last_line, IsLastCause};
+
+use crate::line_fault::LineError;
+use crate::line_printer::LinePrinter;
+use crate::progress::Progress;
+use crate::writing::write_bytes;
+use mj_model::{RunFault, TextOut};
+
+/// Writes what is to be written, and forgets it.
+fn write_out<W: TextOut>(writer: &mut W, out: &mut Vec<u8>, sent: &mut u128) -> Result<(), RunFault>
+    requires room { sent.old + 2 ^ 64 ≤ 2 ^ 128 }
+    requires failures { CanRise (W.TextOut.failures writer.old) }
+    ensures written { OnOk result (Appends (W.contents writer.old) (W.contents writer.new) out.old.items) }
+    ensures counted { OnOk result (sent.new ≡ sent.old + length out.old.items) }
+    ensures forgotten { OnOk result (out.new.items ≡ []) }
+    ensures few_bytes { OnOk result (sent.new ≤ sent.old + 2 ^ 64) }
+    ensures no_failure { OnOk result (W.TextOut.failures writer.new ≡ W.TextOut.failures writer.old) }
+    ensures cut { IfErr result (λ fault. (n : ℕ) × (n ≤ length out.old.items)
+        × Appends (W.contents writer.old) (W.contents writer.new) (take n out.old.items) × (fault ≡ Write (sent.old + n))) }
+    ensures failure { OnErr result (W.TextOut.failures writer.new ≡ W.TextOut.failures writer.old + 1) }
+{
+    match write_bytes(writer, out) {
+        Ok(()) => {
+            *sent += out.len() as u128;
+            out.clear();
+            Ok(())
+        }
+        Err(taken) => Err(RunFault::Write(*sent + taken as u128)),
+    }
+}
+
+/// The work on the bytes of one read.
+pub fn work<P: LinePrinter, W: TextOut>(
+    printer: &P,
+    kept: &mut P::Kept,
+    piece: &[u8],
+    progress: &mut Progress,
+    writer: &mut W,
+    sent: &mut u128,
+) -> Result<(), RunFault>
+    requires count { progress.old.lines + length piece.now + 1 < 2 ^ 64 }
+    requires open { HasNoFeed progress.old.pending.items }
+    requires nothing_waits { progress.old.out.items ≡ [] }
+    requires room { sent.old + 2 ^ 64 ≤ 2 ^ 128 }
+    requires failures { CanRise (W.TextOut.failures writer.old) }
+    ensures worked { OnOk result (Stepped (P.judges printer.now) (P.prints printer.now) progress.old.lines
+        (whole_lines (progress.old.pending.items ++ piece.now)) progress.new.lines
+        (record { held_before = W.contents writer.old; held_after = W.contents writer.new; failures_before = W.TextOut.failures writer.old; failures_after = W.TextOut.failures writer.new })
+        sent.old sent.new) }
+    ensures open { OnOk result (progress.new.pending.items ≡ open_line (progress.old.pending.items ++ piece.now)) }
+    ensures nothing_waits { OnOk result (progress.new.out.items ≡ []) }
+    ensures few_bytes { OnOk result (sent.new ≤ sent.old + 2 ^ 64) }
+    ensures few_lines { progress.new.lines ≤ progress.old.lines + length piece.now }
+    ensures stopped { IfErr result (StepStopped (P.judges printer.now) (P.prints printer.now) (IsCause (P.judges printer.now) (progress.old.pending.items ++ piece.now)) progress.old.lines
+        (whole_lines (progress.old.pending.items ++ piece.now))
+        (record { held_before = W.contents writer.old; held_after = W.contents writer.new; failures_before = W.TextOut.failures writer.old; failures_after = W.TextOut.failures writer.new })
+        sent.old) }
+{
+    let taken = progress.take_piece(printer, kept, piece);
+    write_out(writer, &mut progress.out, sent)?;
+    match taken {
+        Ok(()) => Ok(()),
+        Err(error) => Err(error.at(progress.lines + 1)),
+    }
+}
+
+/// The end of the input: the line without an LF prints, and all is written and flushed. Answers the number of lines.
+pub fn finish<P: LinePrinter, W: TextOut>(
+    printer: &P,
+    kept: &mut P::Kept,
+    progress: &mut Progress,
+    writer: &mut W,
+    sent: &mut u128,
+) -> Result<u64, RunFault>
+    requires count { progress.old.lines + 1 < 2 ^ 64 }
+    requires nothing_waits { progress.old.out.items ≡ [] }
+    requires room { sent.old + 2 ^ 65 ≤ 2 ^ 128 }
+    requires failures { CanRise (W.TextOut.failures writer.old) }
+    ensures finished { IfOk result (λ lines. Stepped (P.judges printer.now) (P.prints printer.now) progress.old.lines
+        (last_line progress.old.pending.items) lines
+        (record { held_before = W.contents writer.old; held_after = W.contents writer.new; failures_before = W.TextOut.failures writer.old; failures_after = W.TextOut.failures writer.new })
+        sent.old sent.new) }
+    ensures flushed { OnOk result (W.unflushed writer.new ≡ false) }
+    ensures stopped { IfErr result (StepStopped (P.judges printer.now) (P.prints printer.now) (IsLastCause (P.judges printer.now) progress.old.pending.items) progress.old.lines
+        (last_line progress.old.pending.items)
+        (record { held_before = W.contents writer.old; held_after = W.contents writer.new; failures_before = W.TextOut.failures writer.old; failures_after = W.TextOut.failures writer.new })
+        sent.old) }
+{
+    if let Err(error) = progress.end_text(printer, kept) {
+        return Err(error.at(progress.lines + 1));
+    }
+    write_out(writer, &mut progress.out, sent)?;
+    match writer.flush_counted() {
+        Ok(()) => Ok(progress.lines),
+        Err(_) => Err(RunFault::Write(*sent)),
+    }
+}
