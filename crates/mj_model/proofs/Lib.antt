@@ -7,3 +7,4 @@ pub mod KnownMembers
 pub mod UnknownMembers
 pub mod PlaceWords
 pub mod TextPaths
+pub mod ReadingLemmas

@@ -2,6 +2,7 @@
 
 ghost use Rattle.mj_model.specs.Best.{HasOneBest, KeepsOrder};
 ghost use Rattle.mj_model.specs.Fields.{HasOneFirstField};
+ghost use Rattle.mj_model.specs.Lexicon.{HasOneReading};
 ghost use Rattle.mj_model.specs.Laws.{OnlyBlanksRemain, WordsJoin, WordsKeepPlaces};
 
 /// Each line has exactly one first field, and one rest behind it.
@@ -35,4 +36,9 @@ pub fn only_blanks_remain()
 /// The blanks and surfaces of a path's words, and then what remains, are the text.
 pub fn words_join_to_the_line()
     ensures { WordsJoin }
+{}
+
+/// Each lexicon has exactly one reading.
+pub fn one_reading()
+    ensures { HasOneReading }
 {}
