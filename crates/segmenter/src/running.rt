@@ -2,7 +2,7 @@
 
 ghost use Rattle.std.specs.Prelude.{◌≡◌, ◌<◌, ◌^◌, ◌⊎◌, Ok, Err};
 ghost use Rattle.mj_model.specs.declared.limits.TheConstants.{READS_MAX as ReadsMax};
-ghost use Rattle.mj_model.specs.declared.run_fault.RunFault.TheVariants.{Source};
+ghost use Rattle.mj_model.specs.declared.run_fault.RunFault.TheVariants.{Source, Memory as MemoryAt};
 ghost use Rattle.mj_model.specs.declared.source_fault.SourceFault.{SourceFault as FaultOf};
 ghost use Rattle.mj_model.specs.declared.source_fault.SourceKind.TheVariants.{Memory};
 ghost use Rattle.mj_model.specs.Tables.{Overlay};
@@ -32,6 +32,8 @@ pub fn run_sources<R: TextIn, W: TextOut>(
     requires write_failures { W.TextOut.failures writer.old < 2 ^ 63 }
     // A source's fault is the first one of the sources.
     ensures source { (fault : FaultOf) → result ≡ Err (Source fault) → AreFirstTables sources.now (Err fault) }
+    // Sources at fault are refused with their first fault, unless memory is.
+    ensures refused { (fault : FaultOf) → AreFirstTables sources.now (Err fault) → (result ≡ Err (Source fault)) ⊎ (result ≡ Err (MemoryAt 0)) }
     // Either it ended before its first read, with nothing read or written, or it ran over the tables of the sources.
     ensures run { (IsEarly result × (reader.new ≡ reader.old) × (writer.new ≡ writer.old))
         ⊎ ((o : Overlay) × AreFirstTables sources.now (Ok o)
@@ -52,6 +54,8 @@ pub fn run_sources<R: TextIn, W: TextOut>(
 fn early(fault: SourceFault) -> RunFault
     ensures early { IsEarly (Err result) }
     ensures source { (told : FaultOf) → result ≡ Source told → (told ≡ fault) × (fault.kind ≡ Memory → ⊥) }
+    ensures memory { fault.kind ≡ Memory → result ≡ MemoryAt 0 }
+    ensures either { (result ≡ MemoryAt 0) ⊎ (result ≡ Source fault) }
 {
     if matches!(fault.kind, SourceKind::Memory) {
         RunFault::Memory(0)
