@@ -1,0 +1,3 @@
+pub mod ByIndex
+pub mod CellLemmas
+pub mod TokenSteps

@@ -1,0 +1,147 @@
+//! Rows of cells, and refused growths. A growth is refused where the tests run under `tools/refuse`.
+use crate::{CELLS_MAX, Cells};
+use std::alloc::{AllocError, Global};
+use std::test::Fail;
+
+/// The cell, or nothing past the end.
+fn cell(cells: &Cells, i: usize) -> Option<(i32, i32)> {
+    if i < cells.len() {
+        Some(cells.get(i))
+    } else {
+        None
+    }
+}
+
+/// Sets the cell, if it is there.
+fn put(cells: &mut Cells, i: usize, base: i32, check: i32) {
+    if i < cells.len() {
+        cells.set(i, base, check);
+    }
+}
+
+/// Grows to `n` cells, or to as many as there are.
+fn grow(cells: &mut Cells, n: usize) -> Result<(), AllocError> {
+    let n = n.min(CELLS_MAX).max(cells.len());
+    cells.grow(n)
+}
+
+/// Four cells. What is refused once is asked again.
+fn four_cells(alloc: Global) -> Result<Cells, AllocError> {
+    match Cells::new(alloc, 4) {
+        Ok(cells) => Ok(cells),
+        Err(_) => Cells::new(alloc, 4),
+    }
+}
+
+#[test]
+fn grown_cells(rt: HostRuntime) -> Result<(), Fail> {
+    let mut cells = Cells::new(rt.alloc(), 4)?;
+    put(&mut cells, 3, 8, 1);
+    grow(&mut cells, 6)?;
+    assert_eq!(rt; cells.len(), 6);
+    let rows = [
+        // (cell, what it holds)
+        (0, Some((0, -1))),
+        (1, Some((0, -1))),
+        (2, Some((0, -1))),
+        (3, Some((8, 1))),
+        (4, Some((0, -1))),
+        (5, Some((0, -1))),
+        (6, None),
+    ];
+    for (i, expected) in rows {
+        assert_eq!(rt; cell(&cells, i), expected, "{i}");
+    }
+    Ok(())
+}
+
+#[test]
+fn ends_of_the_numbers(rt: HostRuntime) -> Result<(), Fail> {
+    let mut cells = Cells::new(rt.alloc(), 3)?;
+    let rows = [
+        // (cell, base, check)
+        (0, 1, -2),
+        (1, -2_147_483_648, 2_147_483_647),
+        (2, 2_147_483_647, -2_147_483_648),
+    ];
+    for (i, base, check) in rows {
+        put(&mut cells, i, base, check);
+    }
+    for (i, base, check) in rows {
+        assert_eq!(rt; cell(&cells, i), Some((base, check)), "{i}");
+    }
+    Ok(())
+}
+
+#[test]
+fn one_more_at_a_time(rt: HostRuntime) -> Result<(), Fail> {
+    let mut cells = Cells::new(rt.alloc(), 1)?;
+    for n in 2..=1_000 {
+        let last = n - 2;
+        put(&mut cells, last, n as i32, -5);
+        grow(&mut cells, n)?;
+        assert_eq!(rt; cells.len(), n);
+        assert_eq!(rt; cell(&cells, n - 1), Some((0, -1)), "{n}");
+    }
+    for i in 0..999 {
+        assert_eq!(rt; cell(&cells, i), Some((i as i32 + 2, -5)), "{i}");
+    }
+    grow(&mut cells, 1_000)?;
+    assert_eq!(rt; cells.len(), 1_000);
+    Ok(())
+}
+
+#[test]
+fn refused_cells_are_asked_again(rt: HostRuntime) {
+    match four_cells(rt.alloc()) {
+        Ok(cells) => {
+            for i in 0..4 {
+                assert_eq!(rt; cell(&cells, i), Some((0, -1)), "{i}");
+            }
+        }
+        Err(_) => panic!(rt; "refused twice"),
+    }
+}
+
+#[test]
+fn refused_growth_keeps_the_cells(rt: HostRuntime) {
+    match four_cells(rt.alloc()) {
+        Ok(mut cells) => {
+            for i in 0..4 {
+                put(&mut cells, i, i as i32 + 1, 7);
+            }
+            for n in [5, 100, 1_000] {
+                let before = cells.len();
+                if grow(&mut cells, n).is_err() {
+                    assert_eq!(rt; cells.len(), before);
+                    for i in 0..4 {
+                        assert_eq!(rt; cell(&cells, i), Some((i as i32 + 1, 7)), "{i}");
+                    }
+                    assert!(rt; grow(&mut cells, n).is_ok());
+                }
+                assert_eq!(rt; cells.len(), n);
+                assert_eq!(rt; cell(&cells, 3), Some((4, 7)));
+                assert_eq!(rt; cell(&cells, n - 1), Some((0, -1)));
+            }
+        }
+        Err(_) => panic!(rt; "refused twice"),
+    }
+}
+
+#[test]
+fn blocks_are_given_back(rt: HostRuntime) {
+    match (four_cells(rt.alloc()), four_cells(rt.alloc())) {
+        (Ok(mut cells), Ok(other)) => {
+            for n in [100, 1_000] {
+                let grown = grow(&mut cells, n).is_ok() || grow(&mut cells, n).is_ok();
+                assert!(rt; grown, "refused twice");
+            }
+            assert_eq!(rt; cells.len() + other.len(), 1_004);
+        }
+        _ => panic!(rt; "refused twice"),
+    }
+}
+
+/// Takes no block: what a test leaves by itself.
+#[test]
+fn no_cells() {}
