@@ -2,11 +2,15 @@
 
 use std::string::String;
 
-/// The choices of a command line, as given.
+/// The choices of a command line, as given. One of `sources` and `sample` is chosen.
 #[derive(Debug, PartialEq, Eq, Drop)]
 pub struct Options {
+    /// The directory of the source files.
+    pub sources: Option<String>,
     /// Whether the sample's sources are used.
     pub sample: bool,
+    /// How many characters may follow the first one of a grouped unknown word: 0 to 1,000, and 24 where it isn't given.
+    pub grouping: u16,
 }
 
 /// Why there are no choices.

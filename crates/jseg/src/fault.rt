@@ -6,6 +6,8 @@ use std::string::String;
 /// Why the program ended before its work was done.
 #[derive(Debug, Drop)]
 pub enum Fault {
+    /// The file or directory at this path can't be read, or doesn't end.
+    File(String),
     /// The source at this path is refused.
     Source(String, SourceFault),
     /// The run over the text ended; what it carries is no `Source`.

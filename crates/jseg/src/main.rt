@@ -3,17 +3,16 @@
 
 mod choices;
 mod command_line;
+mod cutting;
 mod fault;
 mod reporting;
+mod source_files;
 
 use choices::OptionsFault;
 use command_line::options;
+use cutting::cut;
 use fault::Fault;
-use mj_model::{Counted, RunFault};
 use reporting::report;
-use segmenter::{run_sources, sample};
-use std::alloc::AllocError;
-use std::io::Write;
 use std::process::ExitCode;
 use std::string::String;
 use std::{env, io};
@@ -38,7 +37,10 @@ fn words_given(rt: &HostRuntime) -> io::Result<Vec<String>> {
 /// Does what the words ask for, and answers the exit status.
 fn run(rt: &HostRuntime, words: Vec<String>) -> u8 {
     match options(rt.alloc(), words) {
-        Ok(_) => cut_sample(rt),
+        Ok(options) => match cut(rt, &options) {
+            Ok(()) => 0,
+            Err(fault) => told(rt, &fault),
+        },
         Err(OptionsFault::Help(text)) => {
             let _ = rt.print(text);
             0
@@ -48,33 +50,6 @@ fn run(rt: &HostRuntime, words: Vec<String>) -> u8 {
             2
         }
         Err(OptionsFault::Memory) => told(rt, &Fault::Memory),
-    }
-}
-
-/// Cuts standard input with the sample's sources.
-fn cut_sample(rt: &HostRuntime) -> u8 {
-    let mut reader = Counted::new(rt.reader());
-    let mut writer = Counted::new(rt.stdout());
-    match run_sources(rt.alloc(), &sample(), &mut reader, &mut writer) {
-        Ok(_) => 0,
-        Err(fault) => {
-            let _ = writer.flush();
-            match fault_of(rt, fault) {
-                Ok(fault) => told(rt, &fault),
-                Err(AllocError) => told(rt, &Fault::Memory),
-            }
-        }
-    }
-}
-
-/// A run's fault as the program tells it.
-fn fault_of(rt: &HostRuntime, fault: RunFault) -> Result<Fault, AllocError> {
-    match fault {
-        RunFault::Source(fault) => Ok(Fault::Source(
-            String::from_str(rt.alloc(), "sample")?,
-            fault,
-        )),
-        fault => Ok(Fault::Run(fault)),
     }
 }
 

@@ -13,6 +13,7 @@ pub fn report<W: Write>(fault: &Fault, err: &mut W) -> u8 {
 
 fn write_line<W: Write>(fault: &Fault, err: &mut W) -> io::Result<()> {
     match fault {
+        Fault::File(path) => writeln!(err, "jseg: {path}: F1 File"),
         Fault::Source(
             _,
             SourceFault {
@@ -29,7 +30,7 @@ fn write_line<W: Write>(fault: &Fault, err: &mut W) -> io::Result<()> {
     }
 }
 
-/// 1 for a refused source or text, 3 for a device, 4 for memory.
+/// 1 for a refused source or text, 3 for a file or device, 4 for memory.
 fn status(fault: &Fault) -> u8 {
     match fault {
         Fault::Source(
@@ -40,6 +41,7 @@ fn status(fault: &Fault) -> u8 {
             },
         )
         | Fault::Memory => 4,
+        Fault::File(_) => 3,
         Fault::Source(..) => 1,
         Fault::Run(RunFault::Read(_) | RunFault::Write(_)) => 3,
         Fault::Run(RunFault::Memory(_)) => 4,

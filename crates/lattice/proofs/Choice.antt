@@ -19,7 +19,7 @@ use Rattle.mj_model.specs.Best.{IsWithin, IsSource}
 use Rattle.mj_model.specs.ChainsBack.{IsChainTo, last_right, cost_to, joined, HoldsAgainst, IsBestTo}
 use Rattle.lattice.specs.Nodes.{end_cost, HoldsOver, NoEnd, IsBestEnd, HasSmallTotal, IsFollowedBy}
 use Rattle.lattice.specs.Lattice.{IsDone, IsLattice, IsJoin, NoChain}
-use Rattle.lattice.specs.Searchable.{MayFollow}
+use Rattle.mj_model.specs.Searchable.{MayFollow}
 use Rattle.mj_model.proofs.ChainsBackLemmas.{best_empty, best_among}
 
 module _ (words : ℕ → List Word) (conn : ℕ → ℕ → ℤ) (len : ℕ) (source : IsSource words conn len) where

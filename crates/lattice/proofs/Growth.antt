@@ -11,7 +11,7 @@ use Rattle.mj_model.specs.Best.{IsSource}
 use Rattle.mj_model.specs.ChainsBack.{IsChainTo, IsBestTo}
 use Rattle.lattice.specs.Nodes.{AreLinked, reached}
 use Rattle.lattice.specs.Lattice.{IsBestNode, IsDone, IsLattice, IsJoin, NoChain, node_of}
-use Rattle.lattice.specs.Searchable.{StaysOnPlaces}
+use Rattle.mj_model.specs.Searchable.{StaysOnPlaces}
 use Rattle.lattice.proofs.Pushed.{get_push_old, get_push_new, get_push_cases, get_from_Contains, Contains_from_get}
 use Rattle.lattice.proofs.Links.{traces_push, below_all}
 use Rattle.lattice.proofs.Choice.{none_leads}

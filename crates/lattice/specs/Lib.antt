@@ -1,4 +1,3 @@
-pub mod Searchable
 pub mod Nodes
 pub mod Lattice
 pub mod Sample

@@ -3,7 +3,7 @@
 ghost use Rattle.std.specs.Prelude.{◌≡◌, IfOk, OnOk, OnErr};
 ghost use Rattle.mj_model.specs.Best.{IsBestPath};
 ghost use Rattle.mj_model.specs.Cost.{path_cost};
-ghost use Rattle.lattice.specs.Searchable.{IsSearchable};
+ghost use Rattle.mj_model.specs.Searchable.{IsSearchable};
 
 use crate::building::build;
 use crate::node::Node;

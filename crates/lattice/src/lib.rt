@@ -1,7 +1,8 @@
-//! The search for the best path through the words of a text, over any source of words.
+//! The search for the best path through the words of a text, over dictionaries or any source of words.
 #![tactic(auto)]
 
 mod building;
+mod dictionary_text;
 mod joining;
 mod lattice;
 mod node;
@@ -9,6 +10,7 @@ mod path;
 mod source;
 mod tracing;
 
+pub use dictionary_text::best_path;
 pub use lattice::{Lattice, best_path_over};
 pub use path::Path;
 pub use source::WordSource;

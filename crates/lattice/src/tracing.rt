@@ -4,7 +4,7 @@ ghost use Rattle.std.specs.Prelude.{◌≡◌, ◌+◌, length, IfOk, OnOk};
 ghost use Rattle.mj_model.specs.Best.{IsBestPath};
 ghost use Rattle.mj_model.specs.Cost.{path_cost};
 ghost use Rattle.lattice.specs.Nodes.{AreLinked};
-ghost use Rattle.lattice.specs.Searchable.{IsSearchable};
+ghost use Rattle.mj_model.specs.Searchable.{IsSearchable};
 ghost use Rattle.lattice.specs.Lattice.{IsLattice, IsLastEnd, LinksGoBack, IsBelow, Traces};
 
 use crate::joining::join;

@@ -1,4 +1,4 @@
--- A lexicon read line by line: each line has an outcome, and a line's step takes the lines read so far one further.
+-- A source of a lexicon's form read line by line: each line has an outcome, and a line's step takes the lines read so far one further.
 use Rattle.std.proofs.Common.{◌≡◌, ℕ, suc, ◌+◌, ◌<◌, Bool, false, cond, ltb, List, [], ◌∷◌, ◌++◌, length, refl, sym, ◌∙◌, ap, subst, arith, Option, Some, None, inl, inr, length-append, append_assoc}
 use Rattle.std.specs.Prelude.{count_by, Ok, Err}
 use Rattle.std.specs.List.{enumerate_from}
@@ -14,7 +14,7 @@ use Rattle.mj_model.specs.declared.source_fault.SourceKind.{SourceKind}
 use Rattle.mj_model.specs.declared.source_fault.SourceKind.TheVariants.{NotUtf8, TooFewFields, TooManyEntries}
 use Rattle.mj_model.specs.Lines.{is_blank_line, numbered_lines, source_lines}
 use Rattle.mj_model.specs.Fields.{AreFields, without_blanks}
-use Rattle.mj_model.specs.Lexicon.{Row, Parts, Outcome, Blank, Skipped, Refused, Accepted, IsOutcome, is_blank, not_text, too_few, has_parts, AreOutcomes, first_refused, accepted_row, accepted_rows, is_skipped, reading_unless, IsLexicon, lexicon_outcome, Reading}
+use Rattle.mj_model.specs.Lexicon.{Row, Parts, Outcome, Blank, Skipped, Refused, Accepted, IsOutcome, is_blank, not_text, too_few, has_parts, AreOutcomes, first_refused, accepted_row, accepted_rows, is_skipped, reading_unless, ReadsAs, Reading}
 use Rattle.mj_model.proofs.FieldLemmas.{a_field}
 use Rattle.lex_source.specs.Steps.{IsTaken, IsRefusedLine, IsReadUpTo}
 use Rattle.lex_source.proofs.FieldsLemmas.{fields_from}
@@ -101,8 +101,8 @@ refused_first file number held (Accepted row) ps fault is =
 
 -- ---- the lines read so far
 
-pub read_none : (held : ℕ) (bytes : List ℕ) → IsReadUpTo held (numbered_lines bytes) (numbered_lines bytes) [] 0
-read_none held bytes = record {
+pub read_none : (judge : ℕ → Parts → Outcome) (held : ℕ) (bytes : List ℕ) → IsReadUpTo judge held (numbered_lines bytes) (numbered_lines bytes) [] 0
+read_none judge held bytes = record {
   lines = [];
   outcomes = [];
   parts = refl;
@@ -129,18 +129,18 @@ line_number n number line left [] is = absurd (cc)
 line_number n number line left (r ∷ rest) is = (ap first_number is, (rest, ap lines_behind is))
 
 -- fewer lines are skipped than the next one's number
-pub skipped_below : (held : ℕ) (all : List (ℕ × List ℕ)) (number : ℕ) (line : List ℕ) (left now : List (ℕ × List ℕ)) (rows : List Row) (skipped : ℕ)
-    → now ≡ (number, line) ∷ left → IsReadUpTo held all now rows skipped → skipped < number
-skipped_below held all number line left now rows skipped is r =
+pub skipped_below : (judge : ℕ → Parts → Outcome) (held : ℕ) (all : List (ℕ × List ℕ)) (number : ℕ) (line : List ℕ) (left now : List (ℕ × List ℕ)) (rows : List Row) (skipped : ℕ)
+    → now ≡ (number, line) ∷ left → IsReadUpTo judge held all now rows skipped → skipped < number
+skipped_below judge held all number line left now rows skipped is r =
     let n = line_number (1 + length r.outcomes) number line left r.rest (sym is ∙ r.numbers) in
     let e : number ≡ 1 + length r.outcomes = n.0 in
     let s : skipped ≡ count_by is_skipped r.outcomes = r.skipped_are in
     omega (arith, count_by-le-length is_skipped r.outcomes)
 
-pub line_taken : (held : ℕ) (all : List (ℕ × List ℕ)) (number : ℕ) (line : List ℕ) (left now : List (ℕ × List ℕ)) (rows more : List Row) (skipped held_now : ℕ) (counts : Bool)
-    → now ≡ (number, line) ∷ left → IsReadUpTo held all now rows skipped → held_now ≡ held + length rows → IsTaken number line held_now counts more
-    → IsReadUpTo held all left (rows ++ more) (skipped + cond counts 1 0)
-line_taken held all number line left now rows more skipped held_now counts is r room t =
+pub line_taken : (judge : ℕ → Parts → Outcome) (held : ℕ) (all : List (ℕ × List ℕ)) (number : ℕ) (line : List ℕ) (left now : List (ℕ × List ℕ)) (rows more : List Row) (skipped held_now : ℕ) (counts : Bool)
+    → now ≡ (number, line) ∷ left → IsReadUpTo judge held all now rows skipped → held_now ≡ held + length rows → IsTaken judge number line held_now counts more
+    → IsReadUpTo judge held all left (rows ++ more) (skipped + cond counts 1 0)
+line_taken judge held all number line left now rows more skipped held_now counts is r room t =
     let n = line_number (1 + length r.outcomes) number line left r.rest (sym is ∙ r.numbers) in
     let here : ℕ × List ℕ = (number, line) in
     let rows_then : held + length rows ≡ held + length (accepted_rows r.outcomes) = ap (λ (xs : List Row). held + length xs) r.rows_are in
@@ -148,7 +148,7 @@ line_taken held all number line left now rows more skipped held_now counts is r 
       lines = r.lines ++ here ∷ [];
       outcomes = r.outcomes ++ t.outcome ∷ [];
       parts = r.parts ∙ ap (λ (xs : List (ℕ × List ℕ)). r.lines ++ xs) is ∙ sym (append_assoc r.lines (here ∷ []) left);
-      are = outcomes-append lexicon_outcome r.lines (here ∷ []) r.outcomes (t.outcome ∷ []) r.are (t.is, tt);
+      are = outcomes-append judge r.lines (here ∷ []) r.outcomes (t.outcome ∷ []) r.are (t.is, tt);
       none = λ file.
           refused-append file 1 held r.outcomes (t.outcome ∷ []) (r.none file)
           ∙ ap (λ (k : ℕ). first_refused file k (held + length (accepted_rows r.outcomes)) (t.outcome ∷ [])) (sym n.0)
@@ -160,12 +160,12 @@ line_taken held all number line left now rows more skipped held_now counts is r 
       numbers = n.1.1 ∙ ap (λ (k : ℕ). enumerate_from k n.1.0) (let e : 1 + length r.outcomes + 1 ≡ 1 + length (r.outcomes ++ t.outcome ∷ []) = omega (arith, length-append r.outcomes (t.outcome ∷ [])) in e);
     }
 
-pub line_refused : (file held : ℕ) (bytes : List ℕ) (number : ℕ) (line : List ℕ) (left now : List (ℕ × List ℕ)) (rows : List Row) (skipped held_now : ℕ) (kind : SourceKind)
-    → now ≡ (number, line) ∷ left → IsReadUpTo held (numbered_lines bytes) now rows skipped → held_now ≡ held + length rows → IsRefusedLine number line held_now kind
-    → IsLexicon file held bytes (Err (record { file = file; line = number; kind = kind }))
-line_refused file held bytes number line left now rows skipped held_now kind is r room t =
+pub line_refused : (judge : ℕ → Parts → Outcome) (file held : ℕ) (bytes : List ℕ) (number : ℕ) (line : List ℕ) (left now : List (ℕ × List ℕ)) (rows : List Row) (skipped held_now : ℕ) (kind : SourceKind)
+    → now ≡ (number, line) ∷ left → IsReadUpTo judge held (numbered_lines bytes) now rows skipped → held_now ≡ held + length rows → IsRefusedLine judge number line held_now kind
+    → ReadsAs judge file held bytes (Err (record { file = file; line = number; kind = kind }))
+line_refused judge file held bytes number line left now rows skipped held_now kind is r room t =
     let n = line_number (1 + length r.outcomes) number line left r.rest (sym is ∙ r.numbers) in
-    let later = later_outcomes lexicon_outcome left in
+    let later = later_outcomes judge left in
     let here : ℕ × List ℕ = (number, line) in
     let fault : SourceFault = record { file = file; line = number; kind = kind } in
     let rows_then : held + length rows ≡ held + length (accepted_rows r.outcomes) = ap (λ (xs : List Row). held + length xs) r.rows_are in
@@ -175,19 +175,19 @@ line_refused file held bytes number line left now rows skipped held_now kind is 
     ∙ ap (λ (k : ℕ). first_refused file k (held + length (accepted_rows r.outcomes)) (t.outcome ∷ later.0)) (sym n.0)
     ∙ ap (λ (k : ℕ). first_refused file number k (t.outcome ∷ later.0)) (sym (room ∙ rows_then))
     ∙ refused_first file number held_now t.outcome later.0 fault (t.refused file) in
-    let are : AreOutcomes lexicon_outcome (r.lines ++ here ∷ left) all = outcomes-append lexicon_outcome r.lines (here ∷ left) r.outcomes (t.outcome ∷ later.0) r.are (t.is, later.1) in (
+    let are : AreOutcomes judge (r.lines ++ here ∷ left) all = outcomes-append judge r.lines (here ∷ left) r.outcomes (t.outcome ∷ later.0) r.are (t.is, later.1) in (
       all,
-      subst (λ (ls : List (ℕ × List ℕ)). AreOutcomes lexicon_outcome ls all) (sym (r.parts ∙ ap (λ (xs : List (ℕ × List ℕ)). r.lines ++ xs) is)) are,
+      subst (λ (ls : List (ℕ × List ℕ)). AreOutcomes judge ls all) (sym (r.parts ∙ ap (λ (xs : List (ℕ × List ℕ)). r.lines ++ xs) is)) are,
       sym (ap (λ (f : Option SourceFault). reading_unless f all) first),
     )
 
-pub all_read : (file held : ℕ) (bytes : List ℕ) (now : List (ℕ × List ℕ)) (rows : List Row) (skipped : ℕ) → now ≡ [] → IsReadUpTo held (numbered_lines bytes) now rows skipped
-    → IsLexicon file held bytes (Ok (record { rows = rows; skipped = skipped }))
-all_read file held bytes now rows skipped is r =
+pub all_read : (judge : ℕ → Parts → Outcome) (file held : ℕ) (bytes : List ℕ) (now : List (ℕ × List ℕ)) (rows : List Row) (skipped : ℕ) → now ≡ [] → IsReadUpTo judge held (numbered_lines bytes) now rows skipped
+    → ReadsAs judge file held bytes (Ok (record { rows = rows; skipped = skipped }))
+all_read judge file held bytes now rows skipped is r =
     let read : Reading = record { rows = rows; skipped = skipped } in
     let same : read ≡ record { rows = accepted_rows r.outcomes; skipped = count_by is_skipped r.outcomes } =
     ap (λ (xs : List Row). record { rows = xs; skipped = skipped }) r.rows_are ∙ ap (λ (k : ℕ). record { rows = accepted_rows r.outcomes; skipped = k }) r.skipped_are in (
       r.outcomes,
-      subst (λ (ls : List (ℕ × List ℕ)). AreOutcomes lexicon_outcome ls r.outcomes) (sym (r.parts ∙ ap (λ (xs : List (ℕ × List ℕ)). r.lines ++ xs) is ∙ append-nil r.lines)) r.are,
+      subst (λ (ls : List (ℕ × List ℕ)). AreOutcomes judge ls r.outcomes) (sym (r.parts ∙ ap (λ (xs : List (ℕ × List ℕ)). r.lines ++ xs) is ∙ append-nil r.lines)) r.are,
       ap (λ (x : Reading). Ok x) same ∙ sym (ap (λ (f : Option SourceFault). reading_unless f r.outcomes) (r.none file)),
     )

@@ -4,13 +4,15 @@ use Rattle.std.specs.Prelude.{ℤ, pos, neg_ℤ, option_map, option_and_then, in
 use Rattle.std.proofs.lemmas.Bool.{cases_eq, cond-true, cond-false, ne_eqb}
 use Rattle.std.specs.Str.{IsUtf8}
 use Rattle.mj_model.specs.declared.source_fault.SourceKind.{SourceKind}
-use Rattle.mj_model.specs.declared.source_fault.SourceKind.TheVariants.{Memory, TooFewFields}
+use Rattle.mj_model.specs.declared.source_fault.SourceKind.TheVariants.{Memory, TooFewFields, BadNumber}
 use Rattle.mj_model.specs.Bytes.{quote}
 use Rattle.mj_model.specs.Lines.{is_blank_line}
 use Rattle.mj_model.specs.Fields.{doubled, AreFields, AreFirstFields}
 use Rattle.mj_model.specs.Numbers.{number, context_id, cost}
-use Rattle.mj_model.specs.Lexicon.{Row, Parts, Outcome, Skipped, Refused, IsOutcome, too_few, has_parts, row_from, lexicon_outcome, accept_short}
-use Rattle.lex_source.specs.Spelled.{IsSpelled, HasFewFields}
+use Rattle.mj_model.specs.Lexicon.{Row, Parts, Outcome, Skipped, Refused, Accepted, IsOutcome, too_few, has_parts, row_from, lexicon_outcome, accept_short}
+use Rattle.lex_source.specs.declared.parts.LineParts.{LineParts}
+use Rattle.lex_source.specs.Spelled.{IsSpelled, HasFewFields, HasEntry}
+use Rattle.lex_source.specs.Steps.{accept_any, row_outcome}
 use Rattle.lex_source.proofs.QuoteLemmas.{doubled_quote, doubled_other}
 use Rattle.lex_source.proofs.NumberLemmas.{number_spelled}
 
@@ -110,3 +112,14 @@ pub parts_refusal : (judge : ℕ → Parts → Outcome) (number : ℕ) (line tex
     → (kind ≡ Memory) ⊎ IsOutcome judge number line (Refused kind)
 parts_refusal judge number line text parts kind some same utf8 first (inl memory) = inl memory
 parts_refusal judge number line text parts kind some same utf8 first (inr cause) = inr (parts_outcome judge number line text parts (Refused kind) some same utf8 first cause)
+
+-- of a line whose every row is accepted
+pub row_accepted : (number : ℕ) (line : List ℕ) (raw : LineParts) (row : Row) (entry : HasEntry line raw) → row_from number entry.has.parts ≡ Some row → IsOutcome row_outcome number line (Accepted row)
+row_accepted number line raw row entry is =
+    parts_outcome row_outcome number line line entry.has.parts (Accepted row) entry.filled refl entry.utf8 entry.has.first (ap accept_any is)
+
+pub row_refused : (number : ℕ) (line : List ℕ) (raw : LineParts) (kind : SourceKind) (entry : HasEntry line raw) → (kind ≡ Memory) ⊎ ((kind ≡ BadNumber) × (row_from number entry.has.parts ≡ None))
+    → (kind ≡ Memory) ⊎ IsOutcome row_outcome number line (Refused kind)
+row_refused number line raw kind entry (inl memory) = inl memory
+row_refused number line raw kind entry (inr cause) =
+    inr (parts_outcome row_outcome number line line entry.has.parts (Refused kind) entry.filled refl entry.utf8 entry.has.first (ap accept_any cause.1 ∙ sym (ap Refused cause.0)))

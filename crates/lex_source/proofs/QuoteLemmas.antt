@@ -2,13 +2,13 @@
 use Rattle.std.proofs.Common.{◌≡◌, ℕ, ◌+◌, ◌-◌, ◌<◌, ◌≤◌, Bool, false, cond, List, [], ◌∷◌, ◌++◌, length, take, drop, get_or, refl, sym, ◌∙◌, ap, subst, arith, inl, inr, length-take, length-drop, append_assoc}
 use Rattle.std.specs.Prelude.{slice_index}
 use Rattle.std.specs.List.{list_any}
-use Rattle.std.proofs.lemmas.Bool.{or_parts, ne_eqb, eq-eqb, eqb-false, eqb-true, cases_eq}
-use Rattle.std.proofs.lemmas.List.{get_or_default, get_or-take, get_or-drop, take_more, take-append-drop, take-take, drop-take}
+use Rattle.std.proofs.lemmas.Bool.{or_parts, ne_eqb, eq-eqb, eqb-false, eqb-true, cases_eq, cases_lt}
+use Rattle.std.proofs.lemmas.List.{get_or_default, get_or-take, get_or-drop, take_more, take-append-drop, take-take, drop-take, drop_more, drop_all, take_all}
 use Rattle.std.proofs.lemmas.List.Folds.{list_any_none}
 use Rattle.std.proofs.lemmas.Grind.{flat_map-append}
 use Rattle.memchr.specs.Find.{Nowhere, NoneBefore, Passes}
 use Rattle.mj_model.specs.Bytes.{quote, is_quote}
-use Rattle.mj_model.specs.Fields.{doubled}
+use Rattle.mj_model.specs.Fields.{doubled, BeginsWithQuote}
 use Rattle.lex_source.specs.Cuts.{IsCut}
 use Rattle.lex_source.specs.Spelled.{IsDoubled, IsNextQuote}
 use Rattle.lex_source.proofs.CutLemmas.{cut_parts}
@@ -99,6 +99,24 @@ doubled_more text at next inside in' one two more =
           ∙ ap (λ (xs : List ℕ). take at text ++ quote ∷ quote ∷ xs) (sym (doubled_plain piece (plain_before text (at + 2) next more)))
           ∙ ap (λ (xs : List ℕ). xs ++ quote ∷ quote ∷ doubled piece) inside.1 ∙ sym (doubled-append inside.0 (quote ∷ piece)),
     )
+
+-- where what follows a place begins with a quote, that quote stands there
+pub begins_at : (text : List ℕ) (i : ℕ) → BeginsWithQuote (drop i text) → (i < length text) × (slice_index text i ≡ quote)
+begins_at text i h = elim (cases_lt i (length text)) [
+  | inl in' ↦ (in', subst BeginsWithQuote (drop_more text i 0 in') h)
+  | inr out ↦ absurd (subst BeginsWithQuote (drop_all i text out) h)
+]
+
+pub begins_first : (text : List ℕ) → BeginsWithQuote text → (0 < length text) × (slice_index text 0 ≡ quote)
+begins_first [] h = absurd h
+begins_first (c ∷ cs) h = (omega arith, h)
+
+-- a text around a quote
+pub around : (text : List ℕ) (at : ℕ) → at < length text → slice_index text at ≡ quote → text ≡ take at text ++ quote ∷ drop (at + 1) text
+around text at in' here = sym (take-append-drop at text) ∙ ap (λ (xs : List ℕ). take at text ++ xs) (drop_more text at 0 in') ∙ ap (λ (b : ℕ). take at text ++ b ∷ drop (at + 1) text) here
+
+pub doubled_all : (text : List ℕ) → IsDoubled (take (length text) text) → IsDoubled text
+doubled_all text inside = (inside.0, sym (take_all (length text) text (omega arith)) ∙ inside.1)
 
 -- a doubled text read back up to its first pair
 head_of : (c d : ℕ) (cs ds : List ℕ) → c ∷ cs ≡ d ∷ ds → c ≡ d

@@ -1,7 +1,8 @@
 -- A field as it stands in its line, perhaps between quotes.
-use Rattle.std.specs.Prelude.{◌≡◌, ℕ, ◌+◌, ◌<◌, ◌≤◌, Bool, List, [], ◌∷◌, slice_get, Some, None, MatchOption, length, take, drop, slice_index, Option, if◌then◌else◌}
+use Rattle.std.specs.Prelude.{◌≡◌, ℕ, ◌+◌, ◌<◌, ◌≤◌, Bool, false, IsUtf8, List, [], ◌∷◌, slice_get, Some, None, MatchOption, length, take, drop, slice_index, Option, if◌then◌else◌}
 use Rattle.mj_model.specs.Bytes.{quote}
 use Rattle.mj_model.specs.Fields.{doubled, BeginsWithQuote, IsFirstField, AreFields, AreFirstFields}
+use Rattle.mj_model.specs.Lines.{is_blank_line}
 use Rattle.mj_model.specs.Lexicon.{Parts}
 use Rattle.lex_source.specs.declared.raw_field.RawField.{RawField}
 use Rattle.lex_source.specs.declared.parts.LineParts.{LineParts}
@@ -53,6 +54,12 @@ pub record HasParts (text : List ℕ) (raw : LineParts) : Type 0 where
   pub parts : Parts
   pub stands : StandsFor raw parts
   pub first : AreFirstFields text (parts.surface ∷ parts.left ∷ parts.right ∷ parts.cost ∷ []) parts.feature
+
+-- the line is text that is not blank, and has these parts
+pub record HasEntry (line : List ℕ) (raw : LineParts) : Type 0 where
+  pub filled : is_blank_line line ≡ false
+  pub utf8 : IsUtf8 line
+  pub has : HasParts line raw
 
 -- no comma ends the fourth field
 abbrev pub HasFewFields : List ℕ → Type 0

@@ -1,9 +1,10 @@
--- A lexicon read line by line.
-use Rattle.std.specs.Prelude.{◌≡◌, ℕ, ◌+◌, Bool, List, [], ◌∷◌, ◌++◌, length, count_by, Some, None}
+-- A source of a lexicon's form read line by line.
+use Rattle.std.specs.Prelude.{◌≡◌, ℕ, ◌+◌, Bool, List, [], ◌∷◌, ◌++◌, length, count_by, Option, Some, None}
 use Rattle.std.specs.List.{enumerate_from}
 use Rattle.mj_model.specs.declared.entry.Record.{Record}
 use Rattle.mj_model.specs.declared.source_fault.SourceKind.{SourceKind}
-use Rattle.mj_model.specs.Lexicon.{Row, row_of, rows_of, Parts, Outcome, Blank, Skipped, Accepted, lexicon_outcome, IsOutcome, AreOutcomes, first_refused, accepted_rows, is_skipped}
+use Rattle.mj_model.specs.declared.source_fault.SourceKind.TheVariants.{BadNumber}
+use Rattle.mj_model.specs.Lexicon.{Row, row_of, row_from, rows_of, Parts, Outcome, Blank, Skipped, Refused, Accepted, lexicon_outcome, IsOutcome, AreOutcomes, first_refused, accepted_rows, is_skipped}
 use Rattle.lex_source.specs.declared.outcome.LineOutcome.{LineOutcome}
 use Rattle.lex_source.specs.declared.outcome.LineOutcome.TheVariants as line
 use Rattle.lex_source.specs.declared.outcome.IdsAndCost.{IdsAndCost}
@@ -14,30 +15,43 @@ outcome_of line.Blank = Blank
 outcome_of line.Skipped = Skipped
 outcome_of (line.Accepted record') = Accepted (row_of record')
 
+-- of a line with four fields and a rest, where any surface is accepted
+abbrev pub accept_any : Option Row → Outcome
+accept_any None = Refused BadNumber
+accept_any (Some row) = Accepted row
+
+abbrev pub row_outcome : ℕ → Parts → Outcome
+row_outcome number parts = accept_any (row_from number parts)
+
+-- a line's record, if it is not blank, without where it lies in memory
+abbrev pub record_outcome : Option Record → Outcome
+record_outcome None = Blank
+record_outcome (Some made) = Accepted (row_of made)
+
 -- a line's parts as a row with these numbers
 abbrev pub row_with : ℕ → Parts → IdsAndCost → Row
 row_with number parts n = record { line = number; surface = parts.surface; left = n.left; right = n.right; cost = n.cost; feature = parts.feature }
 
--- a line is taken: nothing refuses it, where this many entries are held, and it adds these rows
-pub record IsTaken (number : ℕ) (text : List ℕ) (held : ℕ) (skipped : Bool) (rows : List Row) : Type 0 where
+-- a line is taken, where `judge` says what comes of its parts: nothing refuses it, where this many entries are held, and it adds these rows
+pub record IsTaken (judge : ℕ → Parts → Outcome) (number : ℕ) (text : List ℕ) (held : ℕ) (skipped : Bool) (rows : List Row) : Type 0 where
   pub outcome : Outcome
-  pub is : IsOutcome lexicon_outcome number text outcome
+  pub is : IsOutcome judge number text outcome
   pub fits : (file : ℕ) → first_refused file number held (outcome ∷ []) ≡ None
   pub appended : rows ≡ accepted_rows (outcome ∷ [])
   pub counted : skipped ≡ is_skipped outcome
 
 -- a line is refused for this reason
-pub record IsRefusedLine (number : ℕ) (text : List ℕ) (held : ℕ) (kind : SourceKind) : Type 0 where
+pub record IsRefusedLine (judge : ℕ → Parts → Outcome) (number : ℕ) (text : List ℕ) (held : ℕ) (kind : SourceKind) : Type 0 where
   pub outcome : Outcome
-  pub is : IsOutcome lexicon_outcome number text outcome
+  pub is : IsOutcome judge number text outcome
   pub refused : (file : ℕ) → first_refused file number held (outcome ∷ []) ≡ Some (record { file = file; line = number; kind = kind })
 
 -- the lines before `left` are taken, and they add these rows
-pub record IsReadUpTo (held : ℕ) (all left : List (ℕ × List ℕ)) (rows : List Row) (skipped : ℕ) : Type 0 where
+pub record IsReadUpTo (judge : ℕ → Parts → Outcome) (held : ℕ) (all left : List (ℕ × List ℕ)) (rows : List Row) (skipped : ℕ) : Type 0 where
   pub lines : List (ℕ × List ℕ)
   pub outcomes : List Outcome
   pub parts : all ≡ lines ++ left
-  pub are : AreOutcomes lexicon_outcome lines outcomes
+  pub are : AreOutcomes judge lines outcomes
   pub none : (file : ℕ) → first_refused file 1 held outcomes ≡ None
   pub rows_are : rows ≡ accepted_rows outcomes
   pub skipped_are : skipped ≡ count_by is_skipped outcomes
@@ -48,4 +62,4 @@ pub record IsReadUpTo (held : ℕ) (all left : List (ℕ × List ℕ)) (rows : L
 pub record HasRead (old now : List Record) (all left : List (ℕ × List ℕ)) (skipped : ℕ) : Type 0 where
   pub more : List Record
   pub appended : now ≡ old ++ more
-  pub read : IsReadUpTo (length old) all left (rows_of more) skipped
+  pub read : IsReadUpTo lexicon_outcome (length old) all left (rows_of more) skipped

@@ -9,7 +9,7 @@ ghost use Rattle.lex_source.specs.Cuts.{IsCut};
 use memchr::memchr;
 
 /// What stands before the first such byte, and what stands behind it.
-pub(crate) fn split_first(bytes: &[u8], byte: u8) -> Option<(&[u8], &[u8])>
+pub fn split_first(bytes: &[u8], byte: u8) -> Option<(&[u8], &[u8])>
     ensures { MatchOption result (list_any (λ c. c == byte) bytes.now ≡ false) (λ parts. IsCut (λ c. c == byte) bytes.now parts.0.now parts.1.now) }
 {
     let at = memchr(byte, bytes)?;

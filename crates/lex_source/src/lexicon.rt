@@ -3,7 +3,7 @@ ghost use Rattle.std.specs.Prelude.{◌≡◌, ◌++◌, ◌⊎◌, List, length
 ghost use Rattle.mj_model.specs.declared.entry.Record.{Record as RecordOf};
 ghost use Rattle.mj_model.specs.declared.source_fault.SourceKind.TheVariants.{Memory};
 ghost use Rattle.mj_model.specs.FirstFault.{IsRefusal};
-ghost use Rattle.mj_model.specs.Lexicon.{Row, IsLexicon, rows_of};
+ghost use Rattle.mj_model.specs.Lexicon.{Row, IsLexicon, rows_of, lexicon_outcome};
 ghost use Rattle.lex_source.specs.Steps.{IsTaken, IsRefusedLine};
 
 use crate::outcome::{LineOutcome, read_line};
@@ -65,8 +65,8 @@ fn append_line(
     line: &[u8],
     out: &mut Vec<Record>,
 ) -> Result<bool, SourceKind>
-    ensures taken { IfOk result (λ counts. (more : List RecordOf) × (out.new.items ≡ out.old.items ++ more) × IsTaken number line.now (length out.old.items) counts (rows_of more)) }
-    ensures refused { IfErr result (λ kind. (kind ≡ Memory) ⊎ IsRefusedLine number line.now (length out.old.items) kind) }
+    ensures taken { IfOk result (λ counts. (more : List RecordOf) × (out.new.items ≡ out.old.items ++ more) × IsTaken lexicon_outcome number line.now (length out.old.items) counts (rows_of more)) }
+    ensures refused { IfErr result (λ kind. (kind ≡ Memory) ⊎ IsRefusedLine lexicon_outcome number line.now (length out.old.items) kind) }
     ensures kept { OnErr result (out.new.items ≡ out.old.items) }
 {
     match read_line(alloc, number, line)? {

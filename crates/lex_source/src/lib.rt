@@ -11,15 +11,18 @@ mod outcome;
 mod parts;
 mod quoted;
 mod raw_field;
+mod records;
 mod source_lines;
 mod text;
 mod words;
 
+pub use bytes::split_first;
 pub use fields::field;
 pub use filled::FilledLines;
 pub use lexicon::read_lexicon;
 pub use numbered::Lines;
 pub use numbers::{context_id, cost, number};
+pub use records::read_record;
 pub use source_lines::lines;
 pub use words::Words;
 

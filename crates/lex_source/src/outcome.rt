@@ -1,13 +1,12 @@
 //! What comes of a line of a lexicon.
-ghost use Rattle.std.specs.Prelude.{◌≡◌, ℕ, ◌⊎◌, MatchResult, option_map};
-ghost use Rattle.mj_model.specs.declared.source_fault.SourceKind.TheVariants.{Memory};
+ghost use Rattle.std.specs.Prelude.{◌≡◌, ℕ, ◌⊎◌, MatchResult, Some, None, option_map};
+ghost use Rattle.mj_model.specs.declared.source_fault.SourceKind.TheVariants.{Memory, BadNumber};
 ghost use Rattle.mj_model.specs.Lexicon.{Parts, Outcome, Refused, Accepted, IsOutcome, lexicon_outcome, row_from, row_of, accept_short};
 ghost use Rattle.lex_source.specs.Spelled.{StandsFor};
 ghost use Rattle.lex_source.specs.Steps.{outcome_of, row_with};
 
-use crate::bytes::is_blank_line;
 use crate::numbers::{context_id, cost};
-use crate::parts::{LineParts, line_parts};
+use crate::parts::{LineParts, split_line};
 use mj_model::{Entry, Record, SURFACE_MAX, SourceKind};
 use std::alloc::Global;
 use std::string::String;
@@ -33,16 +32,10 @@ pub(crate) struct IdsAndCost {
 pub(crate) fn read_line(alloc: Global, number: u64, line: &[u8]) -> Result<LineOutcome, SourceKind>
     ensures { MatchResult result (λ read. IsOutcome lexicon_outcome number line.now (outcome_of read)) (λ kind. (kind ≡ Memory) ⊎ IsOutcome lexicon_outcome number line.now (Refused kind)) }
 {
-    if is_blank_line(line) {
-        return Ok(LineOutcome::Blank);
+    match split_line(line)? {
+        Some(parts) => read_parts(alloc, number, parts),
+        None => Ok(LineOutcome::Blank),
     }
-    let Ok(text) = simdutf8::compat::from_utf8(line) else {
-        return Err(SourceKind::NotUtf8);
-    };
-    let Some(parts) = line_parts(text) else {
-        return Err(SourceKind::TooFewFields);
-    };
-    read_parts(alloc, number, parts)
 }
 
 /// What comes of a line with these parts.
@@ -56,10 +49,22 @@ fn read_parts(alloc: Global, number: u64, parts: LineParts) -> Result<LineOutcom
     Ok(LineOutcome::Accepted(accept(alloc, number, parts)?))
 }
 
-/// The record of a line with these parts.
+/// The record of a line with these parts, whose surface is not too long.
 fn accept(alloc: Global, number: u64, parts: LineParts) -> Result<Record, SourceKind>
     requires { (meant : Parts) × StandsFor parts meant }
     ensures { (meant : Parts) → StandsFor parts.entry meant → MatchResult result (λ made. accept_short (row_from number meant) ≡ Accepted (row_of made)) (λ kind. (kind ≡ Memory) ⊎ (accept_short (row_from number meant) ≡ Refused kind)) }
+{
+    let made = record_of(alloc, number, parts)?;
+    if made.surface.len() > SURFACE_MAX {
+        return Err(SourceKind::SurfaceTooLong);
+    }
+    Ok(made)
+}
+
+/// The record of a line with these parts.
+pub(crate) fn record_of(alloc: Global, number: u64, parts: LineParts) -> Result<Record, SourceKind>
+    requires { (meant : Parts) × StandsFor parts meant }
+    ensures { (meant : Parts) → StandsFor parts.entry meant → MatchResult result (λ made. row_from number meant ≡ Some (row_of made)) (λ kind. (kind ≡ Memory) ⊎ ((kind ≡ BadNumber) × (row_from number meant ≡ None))) }
 {
     let Some(numbers) = ids_and_cost(parts) else {
         return Err(SourceKind::BadNumber);
@@ -67,9 +72,6 @@ fn accept(alloc: Global, number: u64, parts: LineParts) -> Result<Record, Source
     let Ok(surface) = parts.surface.to_string(alloc) else {
         return Err(SourceKind::Memory);
     };
-    if surface.len() > SURFACE_MAX {
-        return Err(SourceKind::SurfaceTooLong);
-    }
     let Ok(feature) = String::from_str(alloc, parts.feature) else {
         return Err(SourceKind::Memory);
     };

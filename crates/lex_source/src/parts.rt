@@ -1,8 +1,12 @@
 //! The parts of a line of a lexicon.
-ghost use Rattle.std.specs.Prelude.{MatchOption};
-ghost use Rattle.lex_source.specs.Spelled.{HasParts, HasFewFields};
+ghost use Rattle.std.specs.Prelude.{ℕ, IsTrue, MatchOption, MatchResult};
+ghost use Rattle.mj_model.specs.Lines.{is_blank_line as is_blank_text};
+ghost use Rattle.mj_model.specs.Lexicon.{Parts, Outcome, Refused, IsOutcome};
+ghost use Rattle.lex_source.specs.Spelled.{HasParts, HasFewFields, HasEntry};
 
+use crate::bytes::is_blank_line;
 use crate::raw_field::RawField;
+use mj_model::SourceKind;
 
 /// The first four fields of a line, and all that stands behind the fourth comma.
 #[derive(Clone, Copy)]
@@ -12,6 +16,22 @@ pub(crate) struct LineParts<'a> {
     pub(crate) right: RawField<'a>,
     pub(crate) cost: RawField<'a>,
     pub(crate) feature: &'a str,
+}
+
+/// The parts of a line, or None where it is blank.
+pub(crate) fn split_line(line: &[u8]) -> Result<Option<LineParts<'_>>, SourceKind>
+    ensures { MatchResult result (λ found. MatchOption found (IsTrue (is_blank_text line.now)) (HasEntry line.now)) (λ kind. (judge : ℕ → Parts → Outcome) (number : ℕ) → IsOutcome judge number line.now (Refused kind)) }
+{
+    if is_blank_line(line) {
+        return Ok(None);
+    }
+    let Ok(text) = simdutf8::compat::from_utf8(line) else {
+        return Err(SourceKind::NotUtf8);
+    };
+    match line_parts(text) {
+        Some(parts) => Ok(Some(parts)),
+        None => Err(SourceKind::TooFewFields),
+    }
 }
 
 /// The parts of a line, or None where no comma ends its fourth field.

@@ -8,3 +8,5 @@ pub mod UnknownMembers
 pub mod PlaceWords
 pub mod TextPaths
 pub mod ReadingLemmas
+pub mod CoveredTexts
+pub mod AcceptedRows

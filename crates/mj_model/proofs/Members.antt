@@ -20,12 +20,19 @@ in_append [] ys x h = inr h
 in_append (z ∷ xs) ys x (inl e) = inl (inl e)
 in_append (z ∷ xs) ys x (inr h) = elim (in_append xs ys x h) [ inl a ↦ inl (inr a) | inr b ↦ inr b ]
 
+pub append_in : {X : Type 0} (xs ys : List X) (x : X) → StandsIn xs x ⊎ StandsIn ys x → StandsIn (xs ++ ys) x
+append_in [] ys x (inl h) = absurd h
+append_in [] ys x (inr h) = h
+append_in (z ∷ xs) ys x (inl (inl e)) = inl e
+append_in (z ∷ xs) ys x (inl (inr h)) = inr (append_in xs ys x (inl h))
+append_in (z ∷ xs) ys x (inr h) = inr (append_in xs ys x (inr h))
+
 pub in_map : {X Y : Type 0} (f : X → Y) (xs : List X) (y : Y) → StandsIn (map f xs) y → (x : X) × StandsIn xs x × (f x ≡ y)
 in_map f [] y h = absurd h
 in_map f (x ∷ xs) y (inl e) = (x, inl refl, e)
 in_map f (x ∷ xs) y (inr h) = let r = in_map f xs y h in (r.0, inr r.1, r.2)
 
-map_in : {X Y : Type 0} (f : X → Y) (xs : List X) (x : X) → StandsIn xs x → StandsIn (map f xs) (f x)
+pub map_in : {X Y : Type 0} (f : X → Y) (xs : List X) (x : X) → StandsIn xs x → StandsIn (map f xs) (f x)
 map_in f [] x h = h
 map_in f (y ∷ ys) x (inl e) = inl (ap f e)
 map_in f (y ∷ ys) x (inr h) = inr (map_in f ys x h)
@@ -40,12 +47,35 @@ pub in_filter : {X : Type 0} (p : X → Bool) (xs : List X) (x : X) → StandsIn
 in_filter p [] x h = absurd h
 in_filter p (y ∷ ys) x h = in_filter_by p y ys x (p y) refl (in_filter p ys x) h
 
+filter_in_by : {X : Type 0} (p : X → Bool) (y : X) (ys : List X) (x : X) (b : Bool) → p y ≡ b → p x ≡ true → (y ≡ x) ⊎ StandsIn (filter p ys) x → StandsIn (cond b (y ∷ filter p ys) (filter p ys)) x
+filter_in_by p y ys x true e passes h = h
+filter_in_by p y ys x false e passes (inl same) = absurd (let f = ap p same in cc)
+filter_in_by p y ys x false e passes (inr h) = h
+
+pub filter_in : {X : Type 0} (p : X → Bool) (xs : List X) (x : X) → StandsIn xs x → p x ≡ true → StandsIn (filter p xs) x
+filter_in p [] x h passes = h
+filter_in p (y ∷ ys) x (inl e) passes = filter_in_by p y ys x (p y) refl passes (inl e)
+filter_in p (y ∷ ys) x (inr h) passes = filter_in_by p y ys x (p y) refl passes (inr (filter_in p ys x h passes))
+
 pub in_flat_map : {X Y : Type 0} (f : X → List Y) (xs : List X) (y : Y) → StandsIn (flat_map f xs) y → (x : X) × StandsIn xs x × StandsIn (f x) y
 in_flat_map f [] y h = absurd h
 in_flat_map f (x ∷ xs) y h = elim (in_append (f x) (flat_map f xs) y h) [
   | inl a ↦ (x, inl refl, a)
   | inr b ↦ let r = in_flat_map f xs y b in (r.0, inr r.1, r.2)
 ]
+
+pub flat_map_in : {X Y : Type 0} (f : X → List Y) (xs : List X) (x : X) (y : Y) → StandsIn xs x → StandsIn (f x) y → StandsIn (flat_map f xs) y
+flat_map_in f [] x y h k = h
+flat_map_in f (z ∷ xs) x y (inl e) k = append_in (f z) (flat_map f xs) y (inl (subst (λ w. StandsIn (f w) y) (sym e) k))
+flat_map_in f (z ∷ xs) x y (inr h) k = append_in (f z) (flat_map f xs) y (inr (flat_map_in f xs x y h k))
+
+pub each_holds : {X : Type 0} (P : X → Type 0) (xs : List X) → ((x : X) → StandsIn xs x → P x) → AllByRecursion P xs
+each_holds P [] h = tt
+each_holds P (x ∷ xs) h = (h x (inl refl), each_holds P xs (λ y i. h y (inr i)))
+
+pub none_stands : {X : Type 0} (xs : List X) → ((x : X) → StandsIn xs x → ⊥) → xs ≡ []
+none_stands [] h = refl
+none_stands (x ∷ xs) h = absurd (h x (inl refl))
 
 pub holds_in : {X : Type 0} (P : X → Type 0) (xs : List X) (x : X) → AllByRecursion P xs → StandsIn xs x → P x
 holds_in P [] x a h = absurd h

@@ -1,13 +1,13 @@
 -- A lexicon's bytes have exactly one reading: each line has one outcome, since it has one first field and one rest, and so has each rest.
-use Rattle.std.proofs.Common.{◌≡◌, ℕ, ◌≤◌, Bool, true, false, List, [], ◌∷◌, ◌++◌, length, refl, sym, ap, ◌∙◌, subst, arith, ◌⊎◌, inl, inr}
-use Rattle.std.specs.Prelude.{Option, Some, None, Result, Ok, Err, IsUtf8}
+use Rattle.std.proofs.Common.{◌≡◌, ℕ, ◌≤◌, false, List, [], ◌∷◌, length, refl, sym, ap, ◌∙◌, subst, arith, inl, inr}
+use Rattle.std.specs.Prelude.{Option, Some, None, Result, IsUtf8}
 use Rattle.std.specs.Str.{is_utf8}
 use Rattle.std.proofs.lemmas.Bool.{cases_Bool}
 use Rattle.std.proofs.lemmas.Str.{is_utf8-from_IsUtf8, IsUtf8-from_is_utf8}
 use Rattle.mj_model.specs.declared.source_fault.SourceFault.{SourceFault}
 use Rattle.mj_model.specs.declared.source_fault.SourceKind.TheVariants.{NotUtf8, TooFewFields}
 use Rattle.mj_model.specs.Fields.{without_blanks, IsFirstField, AreFields, AreFirstFields}
-use Rattle.mj_model.specs.Lexicon.{Row, Parts, Outcome, Blank, Skipped, Refused, Accepted, IsOutcome, AreOutcomes, lexicon_outcome, first_refused, Reading, reading_unless, ReadsAs}
+use Rattle.mj_model.specs.Lexicon.{Parts, Outcome, Blank, Refused, IsOutcome, AreOutcomes, first_refused, Reading, reading_unless, ReadsAs}
 use Rattle.mj_model.specs.Lines.{numbered_lines, is_blank_line}
 use Rattle.mj_model.proofs.FieldLemmas.{a_field, one_field}
 

@@ -65,16 +65,19 @@ flag word = option_map (λ n. n == 1) (natural_in 1 word)
 abbrev pub category_length : List ℕ → Option ℕ
 category_length word = natural_in 15 word
 
--- a category by its name and numbers
-abbrev pub category_with : List ℕ → List ℕ → List ℕ → List ℕ → Option NamedCategory
-category_with name invoke group len =
+-- INVOKE, GROUP and LENGTH
+abbrev pub category_of : List ℕ → List ℕ → List ℕ → Option Category
+category_of invoke group len =
     option_and_then (λ invokes. option_and_then (λ groups. option_map (λ n.
-    record { name = name; category = record { invoke = invokes; group = groups; length = n } })
+    record { invoke = invokes; group = groups; length = n })
     (category_length len)) (flag group)) (flag invoke)
+
+abbrev pub named : List ℕ → Category → NamedCategory
+named name category = record { name = name; category = category }
 
 -- the words of a category line; those behind the fourth mean nothing
 abbrev pub category_from : List (List ℕ) → Option NamedCategory
-category_from (name ∷ invoke ∷ group ∷ len ∷ more) = if is_name name then category_with name invoke group len else None
+category_from (name ∷ invoke ∷ group ∷ len ∷ more) = if is_name name then option_map (named name) (category_of invoke group len) else None
 category_from [] = None
 category_from (name ∷ []) = None
 category_from (name ∷ invoke ∷ []) = None
@@ -247,4 +250,4 @@ char_info source code =
 
 -- the categories without their names
 abbrev pub categories_of : CharSource → List Category
-categories_of source = map (λ (named : NamedCategory). named.category) source.categories
+categories_of source = map (λ (c : NamedCategory). c.category) source.categories

@@ -4,6 +4,10 @@ use Rattle.mj_model.specs.declared.source_fault.SourceKind.{SourceKind}
 use Rattle.mj_model.specs.declared.source_fault.SourceKind.TheVariants.{NotUtf8, TooFewFields, BadNumber, SurfaceTooLong, TooManyEntries, BadHeader, BadRow, PairOutside, TooLarge, BadLine, BadRange, Twice, UndefinedCategory, TooManyCategories, NoDefault, NoSpace, NoSuchCategory, MissingCategory, IdOutside, ArrayFull, FeaturesTooLarge, Memory}
 use Rattle.mj_model.specs.declared.run_fault.RunFault.{RunFault}
 use Rattle.mj_model.specs.declared.run_fault.RunFault.TheVariants as run
+use Rattle.mj_model.specs.declared.format_fault.FormatKind.{FormatKind}
+use Rattle.mj_model.specs.declared.format_fault.FormatKind.TheVariants.{BadEscape, BadItem, BadIndex}
+use Rattle.mj_model.specs.declared.format_fault.FormatFault.{FormatFault}
+use Rattle.mj_model.specs.declared.format_fault.FormatFault.TheVariants as format
 
 pub record Words : Type 0 where
   pub code : List ℕ
@@ -40,5 +44,13 @@ run_words (run.Write sent) = record { code = codes "G2"; name = codes "Write" }
 run_words (run.NotUtf8 line) = record { code = codes "G3"; name = codes "NotUtf8" }
 run_words (run.TooLong line) = record { code = codes "G4"; name = codes "TooLong" }
 run_words (run.InputTooLong line) = record { code = codes "G5"; name = codes "InputTooLong" }
-run_words (run.NoPath line) = record { code = codes "G6"; name = codes "NoPath" }
 run_words (run.Memory line) = record { code = codes "Memory"; name = codes "Memory" }
+
+abbrev pub format_kind_words : FormatKind → Words
+format_kind_words BadEscape = record { code = codes "P1"; name = codes "BadEscape" }
+format_kind_words BadItem = record { code = codes "P2"; name = codes "BadItem" }
+format_kind_words BadIndex = record { code = codes "P3"; name = codes "BadIndex" }
+
+abbrev pub format_words : FormatFault → Words
+format_words (format.Bad part at kind) = format_kind_words kind
+format_words format.Memory = record { code = codes "Memory"; name = codes "Memory" }

@@ -2,6 +2,7 @@ pub mod Paths
 pub mod Cost
 pub mod Order
 pub mod Best
+pub mod Searchable
 pub mod ChainsBack
 pub mod FaultWords
 pub mod Categories
@@ -20,8 +21,13 @@ pub mod KnownWords
 pub mod UnknownSpans
 pub mod Words
 pub mod Laws
+pub mod BestOver
+pub mod PathLaws
+pub mod Formats
+pub mod PrintedPaths
 pub mod Dictionary
 pub mod UnkDef
+pub mod SourceTables
 pub mod Printed
 pub mod Output
 pub mod Counts

@@ -1,12 +1,13 @@
 -- Unknown entries, as `unk.def` lists them (MeCab): lines of a lexicon's form, with the name of a category as surface.
-use Rattle.std.specs.Prelude.{◌≡◌, ℕ, ◌+◌, ◌==◌, nat_lt, if◌then◌else◌, List, [], ◌∷◌, length, map, filter, Option, Some, None, Result, Ok, Err, bytes_eq, slice_index_or}
+use Rattle.std.specs.Prelude.{◌≡◌, ℕ, ◌+◌, ◌==◌, nat_lt, if◌then◌else◌, List, [], ◌∷◌, length, map, filter, Option, Some, None, Result, Ok, Err, slice_index_or}
 use Rattle.std.specs.List.{enumerate_from, position_or_len}
 use Rattle.mj_model.specs.declared.source_fault.SourceFault.{SourceFault}
 use Rattle.mj_model.specs.declared.source_fault.SourceKind.TheVariants.{BadNumber, NoSuchCategory, MissingCategory}
 use Rattle.mj_model.specs.Lexicon.{Row, Parts, Reading, Outcome, Refused, Accepted, ReadsAs, row_from}
-use Rattle.mj_model.specs.Dictionary.{lexeme_of}
+use Rattle.mj_model.specs.Connection.{Sizes}
+use Rattle.mj_model.specs.Dictionary.{lexeme_of, first_outside}
 use Rattle.mj_model.specs.Tables.{Token}
-use Rattle.mj_model.specs.CharDef.{NamedCategory, is_defined}
+use Rattle.mj_model.specs.CharDef.{NamedCategory, is_defined, category_number}
 
 abbrev pub accept_defined : List NamedCategory → Option Row → Outcome
 accept_defined categories None = Refused BadNumber
@@ -16,13 +17,13 @@ accept_defined categories (Some row) = if is_defined categories row.surface then
 abbrev pub unk_outcome : List NamedCategory → ℕ → Parts → Outcome
 unk_outcome categories line parts = accept_defined categories (row_from line parts)
 
--- the rows of a category, in their order
-abbrev pub rows_named : List Row → NamedCategory → List Row
-rows_named rows category = filter (λ row. bytes_eq row.surface category.name) rows
+-- the rows whose surface names the category of this number, in their order
+abbrev pub rows_named : List NamedCategory → List Row → ℕ → List Row
+rows_named categories rows i = filter (λ row. category_number categories row.surface == i) rows
 
 -- the rows of each category
 abbrev pub rows_by_category : List NamedCategory → List Row → List (List Row)
-rows_by_category categories rows = map (rows_named rows) categories
+rows_by_category categories rows = map (λ (category : ℕ × NamedCategory). rows_named categories rows category.0) (enumerate_from 0 categories)
 
 -- the least category without a row, or how many categories there are
 abbrev pub first_without_rows : List (List Row) → ℕ
@@ -43,6 +44,25 @@ unknown_from categories (Ok reading) = unless_missing (rows_by_category categori
 abbrev pub IsUnkDef : List NamedCategory → List ℕ → Result (List (List Row)) SourceFault → Type 0
 IsUnkDef categories bytes unknown =
     (reading : Result Reading SourceFault) × ReadsAs (unk_outcome categories) 2 0 bytes reading × (unknown ≡ unknown_from categories reading)
+
+-- the rows of each category, or the fault of the first row whose ids lie outside
+abbrev pub rows_or : Option SourceFault → List (List Row) → Result (List (List Row)) SourceFault
+rows_or None unknown = Ok unknown
+rows_or (Some fault) unknown = Err fault
+
+abbrev pub unless_outside : Sizes → List Row → Result (List (List Row)) SourceFault → Result (List (List Row)) SourceFault
+unless_outside sizes rows (Err fault) = Err fault
+unless_outside sizes rows (Ok unknown) = rows_or (first_outside 2 sizes rows) unknown
+
+abbrev pub unknown_within : Sizes → List NamedCategory → Result Reading SourceFault → Result (List (List Row)) SourceFault
+unknown_within sizes categories (Err fault) = Err fault
+unknown_within sizes categories (Ok reading) = unless_outside sizes reading.rows (unknown_from categories (Ok reading))
+
+-- the bytes of `unk.def` read so, where these are the sizes and the categories: the rows of each category, or the first fault; what the lines
+-- say, and which categories have one, is looked at before the ids
+abbrev pub IsUnkWithin : Sizes → List NamedCategory → List ℕ → Result (List (List Row)) SourceFault → Type 0
+IsUnkWithin sizes categories bytes unknown =
+    (reading : Result Reading SourceFault) × ReadsAs (unk_outcome categories) 2 0 bytes reading × (unknown ≡ unknown_within sizes categories reading)
 
 -- a row as an entry of this number
 abbrev pub token_of : (ℕ × Row) → Token

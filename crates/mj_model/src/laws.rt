@@ -3,6 +3,7 @@
 ghost use Rattle.mj_model.specs.Best.{HasOneBest, KeepsOrder};
 ghost use Rattle.mj_model.specs.Fields.{HasOneFirstField};
 ghost use Rattle.mj_model.specs.Lexicon.{HasOneReading};
+ghost use Rattle.mj_model.specs.PathLaws.{TextsAreCovered};
 ghost use Rattle.mj_model.specs.Laws.{OnlyBlanksRemain, WordsJoin, WordsKeepPlaces};
 
 /// Each line has exactly one first field, and one rest behind it.
@@ -36,6 +37,12 @@ pub fn only_blanks_remain()
 /// The blanks and surfaces of a path's words, and then what remains, are the text.
 pub fn words_join_to_the_line()
     ensures { WordsJoin }
+{}
+
+/// Dictionaries whose words have text, and that have an unknown entry for each character, cut every text: it has exactly
+/// one best path, and only blanks remain behind it.
+pub fn texts_are_covered()
+    ensures { TextsAreCovered }
 {}
 
 /// Each lexicon has exactly one reading.

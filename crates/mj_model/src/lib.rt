@@ -4,6 +4,8 @@
 mod category;
 mod counted;
 mod entry;
+mod format_fault;
+mod format_item;
 pub mod laws;
 mod limits;
 mod run_fault;
@@ -16,9 +18,11 @@ mod word;
 pub use category::{Category, CharInfo};
 pub use counted::Counted;
 pub use entry::{Entry, Record};
+pub use format_fault::{FormatFault, FormatKind, FormatPart};
+pub use format_item::FormatItem;
 pub use limits::{
-    CATEGORIES_MAX, ENTRIES_MAX, GROUPING_DEFAULT, MATRIX_CELLS_MAX, READS_MAX, SENTENCE_MAX,
-    SURFACE_MAX,
+    CATEGORIES_MAX, ENTRIES_MAX, GROUPING_DEFAULT, GROUPING_MAX, MATRIX_CELLS_MAX, READS_MAX,
+    SENTENCE_MAX, SURFACE_MAX,
 };
 pub use run_fault::RunFault;
 pub use source_fault::{SourceFault, SourceKind};

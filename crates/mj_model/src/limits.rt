@@ -20,3 +20,6 @@ pub const READS_MAX: u64 = 1 << 40;
 
 /// How many characters may follow the first one of a grouped word, where nothing else is set.
 pub const GROUPING_DEFAULT: u16 = 24;
+
+/// The most characters that may be set to follow the first one of a grouped word.
+pub const GROUPING_MAX: u16 = 1_000;

@@ -26,9 +26,6 @@ pub enum RunFault {
     /// `READS_MAX` reads came to no end; the number is that of the lines read whole and one.
     #[error("line {0}: G5 InputTooLong")]
     InputTooLong(u64),
-    /// No words cover this line up to its last blanks.
-    #[error("line {0}: G6 NoPath")]
-    NoPath(u64),
     /// Memory was refused; the number is that of the lines written whole and one, and 0 before the first read.
     #[error("Memory")]
     Memory(u64),
@@ -62,7 +59,6 @@ impl RunFault {
             RunFault::NotUtf8(_) => ("G3", "NotUtf8"),
             RunFault::TooLong(_) => ("G4", "TooLong"),
             RunFault::InputTooLong(_) => ("G5", "InputTooLong"),
-            RunFault::NoPath(_) => ("G6", "NoPath"),
             RunFault::Memory(_) => ("Memory", "Memory"),
         }
     }

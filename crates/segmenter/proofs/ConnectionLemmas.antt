@@ -1,19 +1,18 @@
 -- The costs of a connection table are those that the rows of its source list, for every pair: one outside the sizes stands in no row.
-use Rattle.std.proofs.Common.{◌≡◌, ℕ, ◌<◌, Bool, true, false, cond, ◌&&◌, List, [], ◌∷◌, reverse, refl, sym, ap, ◌∙◌, subst}
+use Rattle.std.proofs.Common.{◌≡◌, ℕ, Bool, true, false, cond, ◌&&◌, List, [], ◌∷◌, reverse, refl, sym, ap, ◌∙◌, subst}
 use mathlib.Core.List.{reverse_aux}
-use Rattle.std.specs.Prelude.{ℤ, pos, Option, Some, None, Result, Ok, Err, nat_lt, nat_le, nat_eq, find, filter, not, ◌==◌, ◌*◌}
+use Rattle.std.specs.Prelude.{pos, Option, Some, None, Result, Ok, Err, nat_lt, nat_le, find, filter, not, ◌==◌, ◌*◌}
 use Rattle.std.specs.List.{AllByRecursion, filter_map, cons_option}
 use Rattle.std.specs.Option.{option_map_or}
 use Rattle.std.proofs.lemmas.Bool.{ltb-true, eqb-true}
 use Rattle.mj_model.specs.declared.limits.TheConstants.{MATRIX_CELLS_MAX}
 use Rattle.mj_model.specs.declared.source_fault.SourceFault.{SourceFault}
-use Rattle.mj_model.specs.declared.source_fault.SourceKind.{SourceKind}
-use Rattle.mj_model.specs.declared.source_fault.SourceKind.TheVariants.{BadRow, PairOutside, BadHeader, TooLarge}
+use Rattle.mj_model.specs.declared.source_fault.SourceKind.TheVariants.{PairOutside, TooLarge}
 use Rattle.mj_model.specs.Connection.{Sizes, Cell, Connection, is_pair, cell_from, cell_fault, row_fault, words_of, sizes_from, matrix_fault, connection_unless, connection_under, connection_from, connection_of, connection_cost}
 use Rattle.mj_model.specs.FirstFault.{first_fault, fault_or}
 use Rattle.mj_model.specs.Lines.{numbered_lines, is_blank_line}
 use Rattle.matrix_def.specs.Costs.{CostTable, IsPair, IsTableOf, matrix_cost}
-use Rattle.segmenter.specs.Connections.{sizes_of, cost_of}
+use Rattle.word_lookup.specs.Connections.{sizes_of, cost_of}
 
 and_both : (a b : Bool) → (a && b) ≡ true → (a ≡ true) × (b ≡ true)
 and_both true b h = (refl, h)

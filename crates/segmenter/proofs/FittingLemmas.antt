@@ -1,19 +1,19 @@
 -- The rows of accepted lexicons fit the search: their ids lie within the sizes, their costs have 16 bits, and there are few enough.
-use Rattle.std.proofs.Common.{◌≡◌, ℕ, ◌+◌, ◌<◌, ◌≤◌, ◌^◌, Bool, true, false, cond, ◌&&◌, List, [], ◌∷◌, ◌++◌, length, refl, sym, ap, ◌∙◌, subst, arith, length-append, ◌⊎◌, inl, inr}
-use Rattle.std.specs.Prelude.{ℤ, pos, neg_ℤ, ◌≤ℤ◌, int_le, Option, Some, None, Result, Ok, Err, nat_lt, nat_le, nat_eq, IsTrue, option_and_then, option_map}
-use Rattle.std.specs.List.{AllByRecursion, filter_map}
-use Rattle.std.proofs.lemmas.Bool.{ltb-true, cases_Bool}
+use Rattle.std.proofs.Common.{◌≡◌, ℕ, ◌+◌, ◌<◌, ◌≤◌, ◌^◌, Bool, true, false, cond, ◌&&◌, List, [], ◌∷◌, ◌++◌, length, refl, sym, ap, ◌∙◌, subst, arith, length-append, inl, inr}
+use Rattle.std.specs.Prelude.{ℤ, pos, neg_ℤ, int_le, Option, Some, None, Result, Ok, Err, nat_lt, nat_le, nat_eq, option_and_then, option_map}
+use Rattle.std.specs.List.{AllByRecursion}
+use Rattle.std.proofs.lemmas.Bool.{ltb-true}
 use Rattle.std.proofs.lemmas.Int.{ints}
 use Rattle.mj_model.specs.declared.limits.TheConstants.{ENTRIES_MAX, SURFACE_MAX}
 use Rattle.mj_model.specs.declared.source_fault.SourceFault.{SourceFault}
-use Rattle.mj_model.specs.declared.source_fault.SourceKind.TheVariants.{BadNumber, SurfaceTooLong, TooManyEntries, IdOutside}
+use Rattle.mj_model.specs.declared.source_fault.SourceKind.TheVariants.{SurfaceTooLong, TooManyEntries, IdOutside}
 use Rattle.mj_model.specs.Best.{IsWithin}
 use Rattle.mj_model.specs.Connection.{Sizes, is_pair}
 use Rattle.mj_model.specs.Dictionary.{AreLexicons, first_outside, next_file}
 use Rattle.mj_model.specs.Lexicon.{Row, Parts, Outcome, Blank, Skipped, Refused, Accepted, IsOutcome, AreOutcomes, lexicon_outcome, accept_short, row_from, first_refused, accepted_rows, reading_unless, Reading, IsLexicon}
 use Rattle.mj_model.specs.Lines.{numbered_lines}
-use Rattle.mj_model.specs.Numbers.{number, number_in, context_id, cost}
-use Rattle.segmenter.specs.Fitting.{IsFittingRow}
+use Rattle.mj_model.specs.Numbers.{number, context_id, cost}
+use Rattle.word_lookup.specs.Fitting.{IsFittingRow}
 
 -- ---- costs of 16 bits
 

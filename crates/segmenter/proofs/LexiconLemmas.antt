@@ -1,12 +1,12 @@
 -- Rows of lexicons, and those whose ids lie outside the sizes.
-use Rattle.std.proofs.Common.{◌≡◌, ℕ, suc, ◌+◌, ◌<◌, ◌≤◌, Bool, true, false, cond, ◌&&◌, List, [], ◌∷◌, ◌++◌, ◌-◌, length, map, take, drop, get_or, Bor, ◌⊎◌, inl, inr, take_all, length-drop, refl, sym, ap, ◌∙◌, subst, arith, drop-cons, drop_of_length-le, zero, drop_at}
-use Rattle.std.specs.Prelude.{Option, Some, None, Result, Ok, Err, nat_lt}
+use Rattle.std.proofs.Common.{◌≡◌, ℕ, suc, ◌+◌, ◌<◌, ◌≤◌, Bool, true, cond, ◌&&◌, List, [], ◌∷◌, ◌++◌, ◌-◌, length, map, take, drop, get_or, Bor, inl, inr, take_all, length-drop, refl, sym, ap, ◌∙◌, subst, arith, drop-cons, drop_of_length-le, zero, drop_at}
+use Rattle.std.specs.Prelude.{Option, Some, Result, Ok, Err, nat_lt}
 use Rattle.std.proofs.lemmas.Bool.{lt-ltb}
 use Rattle.std.proofs.lemmas.List.{length-map}
 use Rattle.mj_model.specs.declared.entry.Record.{Record}
 use Rattle.mj_model.specs.declared.source_fault.SourceFault.{SourceFault}
 use Rattle.mj_model.specs.declared.source_fault.SourceKind.TheVariants.{IdOutside}
-use Rattle.mj_model.specs.Connection.{Sizes, is_pair}
+use Rattle.mj_model.specs.Connection.{Sizes}
 use Rattle.mj_model.specs.Dictionary.{first_outside, next_file, AreLexicons}
 use Rattle.mj_model.specs.FirstFault.{IsRefusal}
 use Rattle.mj_model.specs.Lexicon.{Row, Reading, row_of, rows_of, IsLexicon}

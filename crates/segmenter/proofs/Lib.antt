@@ -1,12 +1,4 @@
-pub mod SortedRows
-pub mod SurfaceBytes
-pub mod Narrowing
-pub mod KnownFound
-pub mod FirstBlanks
-pub mod FirstEntries
-pub mod FirstWords
 pub mod PrintedPaths
-pub mod ConnectionCosts
 pub mod PieceLemmas
 pub mod PieceWork
 pub mod ResultLemmas
@@ -17,4 +9,7 @@ pub mod RunEnds
 pub mod LexiconLemmas
 pub mod FittingLemmas
 pub mod ConnectionLemmas
+pub mod SourceFaults
+pub mod EarlyEnds
 pub mod SourceLemmas
+pub mod OverTables

@@ -1,5 +1,5 @@
 -- Work on the bytes of one read: each step prints the line up to the next LF.
-use Rattle.std.proofs.Common.{◌≡◌, ℕ, ◌+◌, ◌<◌, ◌≤◌, suc, Bool, true, false, List, [], ◌∷◌, ◌++◌, length, take, drop, get_or, All, refl, sym, ap, ◌∙◌, subst, arith, append_assoc, append-nil, ◌⊎◌, inl, inr, Option, Some, None, length-append, length-drop, length-take}
+use Rattle.std.proofs.Common.{◌≡◌, ℕ, ◌+◌, ◌<◌, ◌≤◌, suc, true, false, List, [], ◌∷◌, ◌++◌, length, take, drop, get_or, refl, sym, ap, ◌∙◌, subst, arith, append_assoc, append-nil, inl, inr, Option, Some, None, length-append, length-drop, length-take}
 use Rattle.std.proofs.lemmas.List.{get_or-take, get_or_default}
 use Rattle.std.proofs.lemmas.List.Elements.{All-append, All-nil}
 use Rattle.std.proofs.lemmas.Bool.{false_from_ne_true}
@@ -7,14 +7,13 @@ use Rattle.std.proofs.Math.Seq.{split_at}
 use Rattle.memchr.specs.Find.{Passes, is_byte, Nowhere, NoneBefore}
 use Rattle.mj_model.specs.declared.limits.TheConstants.{SENTENCE_MAX}
 use Rattle.mj_model.specs.Bytes.{is_line_feed}
-use Rattle.mj_model.specs.Output.{Output}
 use Rattle.mj_model.specs.TextLines.{whole_lines, open_line}
 use Rattle.segmenter.specs.declared.line_fault.LineFault.{LineFault}
 use Rattle.segmenter.specs.declared.line_fault.LineFault.TheVariants.{TooLong}
 use Rattle.segmenter.specs.declared.line_fault.LineError.{LineError}
 use Rattle.segmenter.specs.declared.line_fault.LineError.TheVariants.{Bad, Memory}
 use Rattle.segmenter.specs.LineErrors.{TellsFault}
-use Rattle.segmenter.specs.Progress.{HasNoFeed, AllPrint, Worked, Working, Stopped, IsCause}
+use Rattle.segmenter.specs.Progress.{HasNoFeed, AllPrint, Worked, Working, Stopped}
 use Rattle.segmenter.proofs.PieceLemmas.{whole_lines-none, open_line-none, whole_lines-cut, open_line-cut}
 
 -- ---- where the next LF stands

@@ -1,23 +1,23 @@
 -- How a run ends behind what it read and wrote so far.
-use Rattle.std.proofs.Common.{◌≡◌, ℕ, ◌+◌, ◌<◌, ◌≤◌, Bool, true, false, cond, List, [], ◌∷◌, ◌++◌, length, refl, sym, ap, ◌∙◌, subst, arith, append_assoc, append-nil, length-append, ◌⊎◌, inl, inr}
+use Rattle.std.proofs.Common.{◌≡◌, ℕ, ◌+◌, ◌<◌, true, false, List, [], ◌∷◌, ◌++◌, length, refl, sym, ap, ◌∙◌, subst, arith, append_assoc, append-nil, length-append, inl, inr}
 use Rattle.std.specs.Prelude.{Option, Some, None, Result, Ok, Err, IfOk, IfErr, OnOk, nat_lt}
 use Rattle.std.proofs.lemmas.Bool.{lt-ltb, le-ltb}
 use Rattle.std.specs.Io.KnownBytes.{Appends, Consumes}
 use Rattle.std.proofs.KnownBytes.{Appends-trans, Consumes-trans}
 use Rattle.mj_model.specs.declared.run_fault.RunFault.{RunFault}
 use Rattle.mj_model.specs.declared.run_fault.RunFault.TheVariants as run
-use Rattle.mj_model.specs.Output.{Output, BadLine, text_lines}
+use Rattle.mj_model.specs.Output.{text_lines}
 use Rattle.mj_model.specs.TextLines.{whole_lines, open_line}
 use Rattle.segmenter.specs.declared.line_fault.LineFault.{LineFault}
-use Rattle.segmenter.specs.declared.line_fault.LineFault.TheVariants.{TooLong, NotUtf8, NoPath}
+use Rattle.segmenter.specs.declared.line_fault.LineFault.TheVariants.{TooLong, NotUtf8}
 use Rattle.segmenter.specs.declared.line_fault.LineError.{LineError}
 use Rattle.segmenter.specs.declared.line_fault.LineError.TheVariants.{Bad, Memory}
 use Rattle.segmenter.specs.LineErrors.{run_fault}
 use Rattle.segmenter.specs.Progress.{AllPrint, IsCause}
-use Rattle.segmenter.specs.Steps.{Step, Stepped, IsCutAt, WriteStopped, LineStopped, StepStopped, last_line, IsLastCause}
-use Rattle.segmenter.specs.Runs.{Told, IsDone, IsCut, IsStarved, IsBad, EndsSo, lines_read}
+use Rattle.segmenter.specs.Steps.{Stepped, StepStopped, last_line, IsLastCause}
+use Rattle.segmenter.specs.Runs.{Told, IsStarved, IsBad, EndsSo, lines_read}
 use Rattle.segmenter.proofs.PieceLemmas.{open_line-append}
-use Rattle.segmenter.proofs.RunWork.{Running, output-append, bad_behind, print_on, whole_on, text_lines-parts}
+use Rattle.segmenter.proofs.RunWork.{Running, bad_behind, print_on, whole_on, text_lines-parts}
 
 -- (A ++ (D ++ M)) ++ T is (A ++ D) ++ (M ++ T)
 regroup : {X : Type 0} (us ds ms ts : List X) → (us ++ (ds ++ ms)) ++ ts ≡ (us ++ ds) ++ (ms ++ ts)
@@ -97,7 +97,6 @@ module _ (Judges : List ℕ → Option LineFault → Type 0) (Prints : List ℕ 
         → EndsSo Judges Prints bound bytes written before after (Err (run_fault (Bad fault) line))
     bad_ends bytes written TooLong line all whole = all
     bad_ends bytes written NotUtf8 line all whole = whole
-    bad_ends bytes written NoPath line all whole = whole
 
     -- ---- behind the work on the bytes of one read
 

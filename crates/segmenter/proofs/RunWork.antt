@@ -1,26 +1,18 @@
 -- A run over a text, read by read.
-use Rattle.std.proofs.Common.{◌≡◌, ℕ, ◌+◌, ◌*◌, ◌^◌, ◌<◌, ◌≤◌, Bool, true, false, cond, List, [], ◌∷◌, ◌++◌, length, take, drop, get_or, zero, suc, All, refl, sym, ap, ◌∙◌, subst, arith, append_assoc, append-nil, length-append, ◌⊎◌, inl, inr}
-use Rattle.std.proofs.lemmas.Bool.{cases_Bool}
+use Rattle.std.proofs.Common.{◌≡◌, ℕ, ◌+◌, ◌*◌, ◌^◌, ◌<◌, ◌≤◌, Bool, true, false, cond, List, [], ◌∷◌, ◌++◌, length, get_or, zero, suc, refl, sym, ap, ◌∙◌, subst, arith, append_assoc, append-nil, length-append, inl, inr}
 use Rattle.std.proofs.lemmas.List.Elements.{All-nil, All-append}
-use Rattle.std.specs.Prelude.{Option, Some, None, Result, Ok, Err, nat_lt, nat_eq}
+use Rattle.std.specs.Prelude.{Option, Some, None}
 use Rattle.std.specs.List.{slice_split, onto_first}
-use Rattle.std.specs.Io.KnownBytes.{Appends, Consumes, Keeps}
-use Rattle.std.proofs.KnownBytes.{Appends-trans, Consumes-trans, Consumes-kept, Consumes-nil, Appends-nil}
-use Rattle.mj_model.specs.declared.limits.TheConstants.{SENTENCE_MAX}
-use Rattle.mj_model.specs.declared.run_fault.RunFault.{RunFault}
-use Rattle.mj_model.specs.declared.run_fault.RunFault.TheVariants as run
+use Rattle.std.specs.Io.KnownBytes.{Appends, Consumes}
+use Rattle.std.proofs.KnownBytes.{Appends-trans, Consumes-trans, Consumes-nil, Appends-nil}
 use Rattle.mj_model.specs.Bytes.{is_line_feed}
-use Rattle.mj_model.specs.Lines.{pieces, without_last_empty}
+use Rattle.mj_model.specs.Lines.{without_last_empty}
 use Rattle.mj_model.specs.Output.{Output, BadLine, text_lines}
 use Rattle.mj_model.specs.TextLines.{whole_lines, open_line, all_but_last, last_piece}
 use Rattle.segmenter.specs.declared.line_fault.LineFault.{LineFault}
-use Rattle.segmenter.specs.declared.line_fault.LineFault.TheVariants.{TooLong, NotUtf8, NoPath}
-use Rattle.segmenter.specs.declared.line_fault.LineError.{LineError}
-use Rattle.segmenter.specs.declared.line_fault.LineError.TheVariants.{Bad, Memory}
-use Rattle.segmenter.specs.LineErrors.{run_fault}
-use Rattle.segmenter.specs.Progress.{HasNoFeed, AllPrint, IsCause}
-use Rattle.segmenter.specs.Steps.{Step, Stepped, IsCutAt, WriteStopped, LineStopped, StepStopped, last_line, IsLastCause}
-use Rattle.segmenter.specs.Runs.{Told, IsDone, StoppedBehind, IsCut, IsStarved, IsBad, EndsSo, lines_read}
+use Rattle.segmenter.specs.Progress.{HasNoFeed, AllPrint}
+use Rattle.segmenter.specs.Steps.{Stepped, last_line}
+use Rattle.segmenter.specs.Runs.{Told}
 use Rattle.segmenter.proofs.PieceLemmas.{IsCons, split_cons, last_behind, whole_lines-append, open_line-append}
 
 -- ---- the lines of a text: the whole ones, and the open one where it isn't empty

@@ -1,6 +1,6 @@
 -- What a failed write leaves of the work before it.
-use Rattle.std.proofs.Common.{◌≡◌, ℕ, ◌+◌, ◌≤◌, List, [], ◌∷◌, ◌++◌, length, take, drop, refl, sym, ap, ◌∙◌, subst, arith, append-nil, take-append-drop, length-take, inl, inr, ◌⊎◌}
-use Rattle.std.specs.Prelude.{Option, Some, None, Result, Ok, Err, OnOk, IfErr}
+use Rattle.std.proofs.Common.{◌≡◌, ℕ, ◌+◌, ◌≤◌, List, [], ◌∷◌, ◌++◌, length, take, drop, sym, ap, ◌∙◌, subst, arith, append-nil, take-append-drop, length-take, inl, inr}
+use Rattle.std.specs.Prelude.{Option, Result, Ok, Err, OnOk, IfErr}
 use Rattle.std.specs.Io.KnownBytes.{Appends}
 use Rattle.mj_model.specs.declared.run_fault.RunFault.{RunFault}
 use Rattle.mj_model.specs.declared.run_fault.RunFault.TheVariants as run
@@ -9,7 +9,7 @@ use Rattle.segmenter.specs.declared.line_fault.LineFault.{LineFault}
 use Rattle.segmenter.specs.declared.line_fault.LineError.{LineError}
 use Rattle.segmenter.specs.declared.line_fault.LineError.TheVariants.{Bad, Memory}
 use Rattle.segmenter.specs.Progress.{Worked, Stopped, IsCause}
-use Rattle.segmenter.specs.Steps.{Step, IsCutAt, WriteStopped, LineStopped, StepStopped}
+use Rattle.segmenter.specs.Steps.{Step, IsCutAt, StepStopped}
 
 module _ (Judges : List ℕ → Option LineFault → Type 0) (Prints : List ℕ → List ℕ → Type 0) where
   -- the lines before a cause are the first ones

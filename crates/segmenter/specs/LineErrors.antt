@@ -3,14 +3,13 @@ use Rattle.std.specs.Prelude.{ℕ}
 use Rattle.mj_model.specs.declared.run_fault.RunFault.{RunFault}
 use Rattle.mj_model.specs.declared.run_fault.RunFault.TheVariants as run
 use Rattle.segmenter.specs.declared.line_fault.LineFault.{LineFault}
-use Rattle.segmenter.specs.declared.line_fault.LineFault.TheVariants.{TooLong, NotUtf8, NoPath}
+use Rattle.segmenter.specs.declared.line_fault.LineFault.TheVariants.{TooLong, NotUtf8}
 use Rattle.segmenter.specs.declared.line_fault.LineError.{LineError}
 use Rattle.segmenter.specs.declared.line_fault.LineError.TheVariants.{Bad, Memory}
 
 abbrev pub run_fault : LineError → ℕ → RunFault
 run_fault (Bad TooLong) line = run.TooLong line
 run_fault (Bad NotUtf8) line = run.NotUtf8 line
-run_fault (Bad NoPath) line = run.NoPath line
 run_fault Memory line = run.Memory line
 
 -- what a refused line's error says: what is wrong with it, or nothing where memory was refused

@@ -1,12 +1,12 @@
 -- How a run over a text ends: what it read, what it wrote, and why it stopped.
-use Rattle.std.specs.Prelude.{◌≡◌, ℕ, ◌+◌, ◌≤◌, Bool, true, false, nat_lt, if◌then◌else◌, List, [], ◌∷◌, ◌++◌, length, take, Option, Some, None, Result, Ok, Err, OnOk, ◌⊎◌}
+use Rattle.std.specs.Prelude.{◌≡◌, ℕ, ◌+◌, Bool, false, nat_lt, if◌then◌else◌, List, ◌++◌, length, Option, Some, Result, Ok, Err, OnOk}
 use Rattle.std.specs.Io.KnownBytes.{Consumes, Appends, IsAtEnd}
 use Rattle.mj_model.specs.declared.run_fault.RunFault.{RunFault}
 use Rattle.mj_model.specs.declared.run_fault.RunFault.TheVariants as run
-use Rattle.mj_model.specs.Output.{Output, BadLine, text_lines}
-use Rattle.mj_model.specs.TextLines.{whole_lines, open_line}
+use Rattle.mj_model.specs.Output.{Output, text_lines}
+use Rattle.mj_model.specs.TextLines.{whole_lines}
 use Rattle.segmenter.specs.declared.line_fault.LineFault.{LineFault}
-use Rattle.segmenter.specs.declared.line_fault.LineFault.TheVariants.{TooLong, NotUtf8, NoPath}
+use Rattle.segmenter.specs.declared.line_fault.LineFault.TheVariants.{TooLong, NotUtf8}
 use Rattle.segmenter.specs.Progress.{AllPrint}
 
 -- the lines that were read whole: those up to the last LF, at the end of the input also the one behind it
@@ -73,8 +73,6 @@ EndsSo Judges Prints bound bytes written before after (Err (run.NotUtf8 line)) =
 EndsSo Judges Prints bound bytes written before after (Err (run.TooLong line)) = IsBad Judges Prints (text_lines bytes) written line TooLong
 EndsSo Judges Prints bound bytes written before after (Err (run.InputTooLong line)) =
     StoppedBehind Judges Prints bytes written line × (after.reads ≡ before.reads + bound) × (after.ends ≡ before.ends)
-EndsSo Judges Prints bound bytes written before after (Err (run.NoPath line)) =
-    IsBad Judges Prints (lines_read (nat_lt before.ends after.ends) bytes) written line NoPath
 EndsSo Judges Prints bound bytes written before after (Err (run.Memory line)) = IsStarved Judges Prints bytes written line
 
 -- a run read and wrote some bytes, and ended so behind them; where it succeeded the reader has none left
@@ -96,5 +94,4 @@ IsEarly (Err (run.Write sent)) = ⊥
 IsEarly (Err (run.NotUtf8 line)) = ⊥
 IsEarly (Err (run.TooLong line)) = ⊥
 IsEarly (Err (run.InputTooLong line)) = ⊥
-IsEarly (Err (run.NoPath line)) = ⊥
 IsEarly (Err (run.Memory line)) = line ≡ 0

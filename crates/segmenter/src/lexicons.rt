@@ -1,13 +1,15 @@
 //! The lexicons of a source directory.
 
 ghost use Rattle.std.specs.Prelude.{◌≡◌, ℕ, ◌++◌, ◌<◌, ◌≤◌, ◌^◌, List, [], length, map, take, drop, Some, None, Ok, Err, IfOk, IfErr, OnOk, OnErr, option_map};
-ghost use Rattle.mj_model.specs.Connection.{Sizes, is_pair};
+ghost use Rattle.mj_model.specs.Connection.{is_pair};
 ghost use Rattle.mj_model.specs.Dictionary.{AreLexicons, first_outside, next_file};
 ghost use Rattle.mj_model.specs.FirstFault.{IsRefusal};
 ghost use Rattle.mj_model.specs.Lexicon.{Row, rows_of};
 ghost use Rattle.mj_model.specs.declared.source_fault.SourceKind.TheVariants.{IdOutside};
 ghost use Rattle.segmenter.specs.AddedLexicon.{AddsLexicon, IsLexiconFault};
+ghost use Rattle.segmenter.specs.IdSizes.{sizes_in};
 
+use crate::sizes::IdSizes;
 use lex_source::read_lexicon;
 use mj_model::{Record, SourceFault, SourceKind};
 use std::alloc::Global;
@@ -18,16 +20,9 @@ const FIRST_LEXICON: u32 = 3;
 /// The greatest file number of a lexicon; every lexicon behind it has it too.
 const LAST_LEXICON: u32 = u32::MAX - 1;
 
-/// How many right ids of the word before, and left ids of the word behind it, there are.
-#[derive(Clone, Copy, Debug)]
-pub struct IdSizes {
-    pub right: u32,
-    pub left: u32,
-}
-
 /// The line of the first record whose ids lie outside the sizes.
 fn line_outside(records: &[Record], sizes: IdSizes) -> Option<u64>
-    ensures { (file : ℕ) → first_outside file (record { right = sizes.right; left = sizes.left }) (rows_of records.now)
+    ensures { (file : ℕ) → first_outside file (sizes_in sizes) (rows_of records.now)
         ≡ option_map (λ line. record { file = file; line = line; kind = IdOutside }) result }
 {
     for record in records {
@@ -57,8 +52,8 @@ fn add_lexicon(
     sizes: IdSizes,
     records: &mut Vec<Record>,
 ) -> Result<(), SourceFault>
-    ensures accepted { OnOk result (AddsLexicon file (record { right = sizes.right; left = sizes.left }) bytes.now records.old.items records.new.items) }
-    ensures refused { IfErr result (λ fault. IsRefusal fault (IsLexiconFault file (record { right = sizes.right; left = sizes.left }) bytes.now (length records.old.items) fault)) }
+    ensures accepted { OnOk result (AddsLexicon file (sizes_in sizes) bytes.now records.old.items records.new.items) }
+    ensures refused { IfErr result (λ fault. IsRefusal fault (IsLexiconFault file (sizes_in sizes) bytes.now (length records.old.items) fault)) }
 {
     let held = records.len();
     read_lexicon(alloc, bytes, file, records)?;
@@ -78,8 +73,8 @@ pub fn read_lexicons(
     lexicons: &[&[u8]],
     sizes: IdSizes,
 ) -> Result<Vec<Record>, SourceFault>
-    ensures accepted { IfOk result (λ records. AreLexicons (record { right = sizes.right; left = sizes.left }) 3 [] (map (λ lexicon. lexicon.now) lexicons.now) (Ok (rows_of records.items))) }
-    ensures refused { IfErr result (λ fault. IsRefusal fault (AreLexicons (record { right = sizes.right; left = sizes.left }) 3 [] (map (λ lexicon. lexicon.now) lexicons.now) (Err fault))) }
+    ensures accepted { IfOk result (λ records. AreLexicons (sizes_in sizes) 3 [] (map (λ lexicon. lexicon.now) lexicons.now) (Ok (rows_of records.items))) }
+    ensures refused { IfErr result (λ fault. IsRefusal fault (AreLexicons (sizes_in sizes) 3 [] (map (λ lexicon. lexicon.now) lexicons.now) (Err fault))) }
 {
     let mut records = Vec::new(alloc);
     let mut file = FIRST_LEXICON;

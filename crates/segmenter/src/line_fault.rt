@@ -9,7 +9,6 @@ use mj_model::RunFault;
 pub enum LineFault {
     TooLong,
     NotUtf8,
-    NoPath,
 }
 
 /// Why a line was not printed.
@@ -29,7 +28,6 @@ impl LineError {
         match self {
             LineError::Bad(LineFault::TooLong) => RunFault::TooLong(line),
             LineError::Bad(LineFault::NotUtf8) => RunFault::NotUtf8(line),
-            LineError::Bad(LineFault::NoPath) => RunFault::NoPath(line),
             LineError::Memory => RunFault::Memory(line),
         }
     }

@@ -2,4 +2,6 @@
 
 mod devices;
 mod failing;
+mod paths;
+mod refusals;
 mod rows;

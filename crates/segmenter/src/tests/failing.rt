@@ -5,28 +5,16 @@ use crate::reading::run_over;
 use crate::sources::read_sources;
 use crate::words_printer::LineMemory;
 use crate::{run_sources, sample};
-use mj_model::{Counted, RunFault, SENTENCE_MAX, SourceFault, SourceKind, Sources};
+use mj_model::{Counted, GROUPING_DEFAULT, RunFault, SENTENCE_MAX, SourceFault, SourceKind};
 use std::alloc::{AllocError, Global};
 use std::test::Fail;
+use word_lookup::Dictionaries;
 
 const SUMOMO: &str = "すもももも\n";
 
 const SUMOMO_OUTPUT: &str = "すもも\t名詞,すもも\nもも\t名詞,もも\nEOS\n";
 
 const MO_OUTPUT: &str = "も\t助詞,も\nEOS\n";
-
-/// A lexicon of `ab`, `cd` and `z`.
-const LETTERS: &[u8] = b"ab,1,1,10,X\ncd,1,1,10,Y\nz,1,1,10,Z\n";
-
-/// The letters under the sample's connection costs.
-fn letters() -> Sources<'static> {
-    Sources {
-        matrix: sample().matrix,
-        chars: sample().chars,
-        unk: sample().unk,
-        lexicons: &[LETTERS],
-    }
-}
 
 fn reader(bytes: &[u8], step: usize, fails_at: Option<u64>) -> StepReader<'_> {
     StepReader {
@@ -97,7 +85,13 @@ fn failing_writers(rt: HostRuntime) -> Result<(), Fail> {
         out.silent = silent;
         out.flush_fails = flush_fails;
         let mut out = Counted::new(out);
-        let got = run_sources(rt.alloc(), &sample(), &mut input, &mut out);
+        let got = run_sources(
+            rt.alloc(),
+            &sample(),
+            GROUPING_DEFAULT,
+            &mut input,
+            &mut out,
+        );
         assert!(rt; got == answer, "{what}");
         assert!(rt;
             Some(out.get_ref().taken.as_slice()) == whole.get(..taken),
@@ -113,7 +107,13 @@ fn failing_readers(rt: HostRuntime) -> Result<(), Fail> {
     for read in 1..=17 {
         let mut input = Counted::new(reader(SUMOMO.as_bytes(), 1, Some(read)));
         let mut out = Counted::new(writer(rt.alloc(), usize::MAX, usize::MAX));
-        let got = run_sources(rt.alloc(), &sample(), &mut input, &mut out);
+        let got = run_sources(
+            rt.alloc(),
+            &sample(),
+            GROUPING_DEFAULT,
+            &mut input,
+            &mut out,
+        );
         let (line, output) = if read < 17 {
             (1, "")
         } else {
@@ -148,7 +148,13 @@ fn faults_behind_line_1(rt: HostRuntime) -> Result<(), Fail> {
     for (what, text, fails_at, fault) in rows {
         let mut input = Counted::new(reader(text, usize::MAX, fails_at));
         let mut out = Counted::new(writer(rt.alloc(), usize::MAX, usize::MAX));
-        let got = run_sources(rt.alloc(), &sample(), &mut input, &mut out);
+        let got = run_sources(
+            rt.alloc(),
+            &sample(),
+            GROUPING_DEFAULT,
+            &mut input,
+            &mut out,
+        );
         assert!(rt; got == Err(fault), "{what}");
         assert!(rt;
             out.get_ref().taken.as_slice() == MO_OUTPUT.as_bytes(),
@@ -170,14 +176,22 @@ fn bound_on_reads(rt: HostRuntime) -> Result<(), Fail> {
         ("the end at the 4th", "ab\n", Ok(1)),
     ];
     for (what, text, answer) in rows {
-        let dictionary = read_sources(rt.alloc(), &letters())?;
+        let tables = read_sources(rt.alloc(), &sample())?;
+        let dictionaries = Dictionaries::over(&tables);
         let mut kept = LineMemory::new(rt.alloc());
         let mut input = Counted::new(reader(text.as_bytes(), 1, None));
         let mut out = Counted::new(writer(rt.alloc(), usize::MAX, usize::MAX));
-        let got = run_over(rt.alloc(), &dictionary, &mut kept, &mut input, &mut out, 4);
+        let got = run_over(
+            rt.alloc(),
+            &dictionaries,
+            &mut kept,
+            &mut input,
+            &mut out,
+            4,
+        );
         assert!(rt; got == answer, "{what}");
         assert!(rt;
-            out.get_ref().taken.as_slice() == b"ab\tX\nEOS\n".as_slice(),
+            out.get_ref().taken.as_slice() == "ab\t未知\nEOS\n".as_bytes(),
             "{what}"
         );
     }
@@ -236,14 +250,21 @@ fn long_lines(rt: HostRuntime) -> Result<(), Fail> {
         let line = long_line(rt.alloc(), first, length, ends)?;
         let mut input = Counted::new(reader(&line, usize::MAX, fails_at));
         let mut out = Counted::new(writer(rt.alloc(), usize::MAX, usize::MAX));
-        let got = run_sources(rt.alloc(), &letters(), &mut input, &mut out);
+        let got = run_sources(
+            rt.alloc(),
+            &sample(),
+            GROUPING_DEFAULT,
+            &mut input,
+            &mut out,
+        );
         assert!(rt; got == answer, "{what}");
-        let words = if answer.is_ok() { most } else { 0 };
+        // All letters but 25 are words of their own.
+        let words = if answer.is_ok() { most - 24 } else { 0 };
         assert!(rt;
             out.get_ref()
                 .taken
                 .iter()
-                .filter(|byte| **byte == b'Z')
+                .filter(|byte| **byte == b'\t')
                 .count()
                 == words,
             "{what}"
@@ -269,7 +290,6 @@ fn fault_words(rt: HostRuntime) -> Result<(), Fail> {
         ),
         (RunFault::Write(120), "G2", "Write", "G2 Write 120"),
         (RunFault::NotUtf8(3), "G3", "NotUtf8", "line 3: G3 NotUtf8"),
-        (RunFault::NoPath(2), "G6", "NoPath", "line 2: G6 NoPath"),
         (RunFault::Memory(0), "Memory", "Memory", "Memory"),
     ];
     for (fault, code, name, text) in rows {

@@ -1,5 +1,5 @@
 use crate::{run_sources, sample};
-use mj_model::{Counted, RunFault, SourceFault, SourceKind, Sources};
+use mj_model::{Counted, GROUPING_DEFAULT, RunFault, SourceFault, SourceKind, Sources};
 use std::alloc::Global;
 use std::test::Fail;
 
@@ -8,7 +8,7 @@ fn run(alloc: Global, sources: &Sources<'_>, text: &[u8]) -> (Result<u64, RunFau
     let mut reader = Counted::new(text);
     let mut written = Vec::new(alloc);
     let mut writer = Counted::new(&mut written);
-    let answer = run_sources(alloc, sources, &mut reader, &mut writer);
+    let answer = run_sources(alloc, sources, GROUPING_DEFAULT, &mut reader, &mut writer);
     (answer, written)
 }
 
@@ -34,12 +34,24 @@ fn sample_lines(rt: HostRuntime) -> Result<(), Fail> {
             "も\t助詞,も\nEOS\nもも\t名詞,もも\nEOS\n",
         ),
         (
-            "no path on line 2",
+            "an unknown word on line 2",
             "も\nx\n",
-            Err(RunFault::NoPath(2)),
-            "も\t助詞,も\nEOS\n",
+            Ok(2),
+            "も\t助詞,も\nEOS\nx\t未知\nEOS\n",
         ),
-        ("no path on line 1", "すもももx\n", Err(RunFault::NoPath(1)), ""),
+        (
+            "an unknown word behind known ones",
+            "すもももx\n",
+            Ok(1),
+            "すもも\t名詞,すもも\nも\t助詞,も\nx\t未知\nEOS\n",
+        ),
+        (
+            "an ideographic space is a character",
+            "\u{3000}すもも\u{3000}\n",
+            Ok(1),
+            "\u{3000}\t未知\nすもも\t名詞,すもも\n\u{3000}\t未知\nEOS\n",
+        ),
+        ("tokyo_tie", "東京都\n", Ok(1), "東京\t未知\n都\t未知\nEOS\n"),
     ];
     for (what, text, answer, output) in rows {
         let (got, written) = run(rt.alloc(), &sample(), text.as_bytes());
@@ -48,8 +60,6 @@ fn sample_lines(rt: HostRuntime) -> Result<(), Fail> {
     }
     Ok(())
 }
-
-const MATRIX: &[u8] = b"2 2\n0 0 0\n0 1 10\n1 0 5\n1 1 7\n";
 
 #[test]
 fn lexicons(rt: HostRuntime) -> Result<(), Fail> {
@@ -94,10 +104,8 @@ fn lexicons(rt: HostRuntime) -> Result<(), Fail> {
     ];
     for (what, lexicon, text, output) in rows {
         let sources = Sources {
-            matrix: MATRIX,
-            chars: b"",
-            unk: b"",
             lexicons: &[lexicon.as_bytes()],
+            ..sample()
         };
         let (got, written) = run(rt.alloc(), &sources, text.as_bytes());
         assert!(rt; got == Ok(1), "{what}");
@@ -107,82 +115,32 @@ fn lexicons(rt: HostRuntime) -> Result<(), Fail> {
 }
 
 #[test]
-fn refused_sources(rt: HostRuntime) -> Result<(), Fail> {
+fn blanks_of_other_kinds(rt: HostRuntime) -> Result<(), Fail> {
     let rows = [
-        // (what, matrix, lexicon, file, line, kind)
+        // (what, further line of char.def, text, output)
         (
-            "asymmetric_matrix",
-            "2 3\n0 2 100\n1 0 9\n",
-            "も,1,2,20,X\n",
-            3,
-            1,
-            SourceKind::IdOutside,
+            "an ideographic space",
+            "0x3000 SPACE\n",
+            "\u{3000}すもも\u{3000}\n",
+            "すもも\t名詞,すもも\nEOS\n",
         ),
         (
-            "open quote",
-            "2 2\n",
-            "\"ab,1,1,10,X\n",
-            3,
-            1,
-            SourceKind::TooFewFields,
-        ),
-        (
-            "cost too low",
-            "2 2\n",
-            "も,1,1,-32769,X\n",
-            3,
-            1,
-            SourceKind::BadNumber,
-        ),
-        (
-            "row too dear",
-            "2 2\n0 0 40000\n",
-            "",
-            0,
-            2,
-            SourceKind::BadRow,
-        ),
-        (
-            "row outside",
-            "2 2\n2 0 1\n",
-            "",
-            0,
-            2,
-            SourceKind::PairOutside,
-        ),
-        ("header of 0", "0 2\n", "", 0, 1, SourceKind::BadHeader),
-        ("no header", "", "", 0, 0, SourceKind::BadHeader),
-        ("too large", "65535 65535\n", "", 0, 1, SourceKind::TooLarge),
-        (
-            "matrix before lexicon",
-            "0 2\n",
-            "も,1,1,x,X\n",
-            0,
-            1,
-            SourceKind::BadHeader,
-        ),
-        (
-            "line before its ids",
-            "2 2\n",
-            "も,5,1,20,X\nも,1,1,x,X\n",
-            3,
-            2,
-            SourceKind::BadNumber,
+            "the chain goes on over z",
+            "0x0009 SPACE ALPHA\n",
+            "\tzも\n",
+            "も\t助詞,も\nEOS\n",
         ),
     ];
-    for (what, matrix, lexicon, file, line, kind) in rows {
+    for (what, further, text, output) in rows {
+        let mut chars = Vec::from_slice(rt.alloc(), sample().chars)?;
+        chars.extend_from_slice(further.as_bytes())?;
         let sources = Sources {
-            matrix: matrix.as_bytes(),
-            chars: b"",
-            unk: b"",
-            lexicons: &[lexicon.as_bytes()],
+            chars: &chars,
+            ..sample()
         };
-        let (got, written) = run(rt.alloc(), &sources, "も\n".as_bytes());
-        assert!(rt;
-            got == Err(RunFault::Source(SourceFault { file, line, kind })),
-            "{what}"
-        );
-        assert!(rt; written.is_empty(), "{what}");
+        let (got, written) = run(rt.alloc(), &sources, text.as_bytes());
+        assert!(rt; got == Ok(1), "{what}");
+        assert!(rt; written.as_slice() == output.as_bytes(), "{what}");
     }
     Ok(())
 }
@@ -198,9 +156,8 @@ fn accepted_costs(rt: HostRuntime) -> Result<(), Fail> {
     for (what, matrix, lexicon) in rows {
         let sources = Sources {
             matrix: matrix.as_bytes(),
-            chars: b"",
-            unk: b"",
             lexicons: &[lexicon.as_bytes()],
+            ..sample()
         };
         let (got, written) = run(rt.alloc(), &sources, "も\n".as_bytes());
         assert!(rt; got == Ok(1), "{what}");
@@ -214,10 +171,8 @@ fn lexicons_in_the_order_given(rt: HostRuntime) -> Result<(), Fail> {
     let first = "も,1,1,20,A\n";
     let second = "も,1,1,20,B\nもも,1,1,30,C\n";
     let sources = Sources {
-        matrix: MATRIX,
-        chars: b"",
-        unk: b"",
         lexicons: &[first.as_bytes(), second.as_bytes()],
+        ..sample()
     };
     let (got, written) = run(rt.alloc(), &sources, "も\nもも\n".as_bytes());
     assert!(rt; got == Ok(2));

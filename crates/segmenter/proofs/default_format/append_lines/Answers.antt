@@ -1,5 +1,5 @@
 use Rattle.std.proofs.Common.{rules, ◌∙◌}
-use Rattle.segmenter.proofs.KnownFound.{front_kept}
+use Rattle.word_lookup.proofs.KnownFound.{front_kept}
 use Rattle.segmenter.proofs.default_format.append_lines.Goals as goal
 
 pub returns-in_err-append_word-clause-kept : goal.returns-in_err-append_word-clause-kept

@@ -1,4 +1,4 @@
-use Rattle.std.proofs.Common.{◌≡◌, ap, sym, ◌∙◌, inr, Some, None}
+use Rattle.std.proofs.Common.{ap, sym, ◌∙◌, inr}
 use Rattle.mj_model.specs.Dictionary.{first_outside}
 use Rattle.segmenter.proofs.LexiconLemmas.{added_slice}
 use Rattle.segmenter.proofs.lexicons.add_lexicon.Goals as goal

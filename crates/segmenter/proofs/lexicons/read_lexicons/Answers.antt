@@ -1,5 +1,5 @@
-use Rattle.std.proofs.Common.{◌≡◌, [], ap, sym, subst, refl, List}
-use Rattle.std.specs.Prelude.{map, Ok}
+use Rattle.std.proofs.Common.{ap, subst, List}
+use Rattle.std.specs.Prelude.{map}
 use Rattle.mj_model.specs.Dictionary.{AreLexicons}
 use Rattle.mj_model.specs.Lexicon.{Row, rows_of}
 use Rattle.std.proofs.lemmas.Result.{err_from_is_err_and}

@@ -1,9 +1,9 @@
-use Rattle.std.proofs.Common.{arith, ◌≡◌, ◌≤◌, ◌<◌, ◌^◌, ◌+◌, length, take, sym, subst, ap, ◌∙◌, refl, length-take, nat_lt}
+use Rattle.std.proofs.Common.{arith, length, take, sym, subst, length-take, nat_lt}
 use Rattle.std.specs.Io.KnownBytes.{Consumes}
 use Rattle.std.proofs.lemmas.Result.{err_from_is_err_and}
 use Rattle.segmenter.specs.Progress.{HasNoFeed}
 use Rattle.segmenter.proofs.RunWork.{running_more, open_no_feed}
-use Rattle.segmenter.proofs.RunEnds.{RanSo, ran_work, ran_finish}
+use Rattle.segmenter.proofs.RunEnds.{ran_work, ran_finish}
 use Rattle.segmenter.proofs.WritingLemmas.{no_failure, one_end}
 use Rattle.segmenter.proofs.reading.print_lines.Goals as goal
 

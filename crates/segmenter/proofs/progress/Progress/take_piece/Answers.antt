@@ -1,9 +1,6 @@
-use Rattle.std.proofs.Common.{rules, arith, ◌≡◌, ◌++◌, ◌+◌, ◌<◌, length, take, drop, sym, ap, ◌∙◌, subst, Some, None, refl, List, ℕ, Ok, Err}
+use Rattle.std.proofs.Common.{arith, ◌++◌, length, ◌∙◌, subst, Some, None, List, ℕ}
 use Rattle.std.proofs.lemmas.Result.{err_from_is_err_and}
-use Rattle.std.specs.Result.{IfErr, OnOk}
 use Rattle.segmenter.specs.LineErrors.{TellsFault}
-use Rattle.segmenter.specs.declared.line_fault.LineError.{LineError}
-use Rattle.segmenter.specs.Progress.{Working, Worked, Stopped}
 use Rattle.segmenter.proofs.PieceWork.{working_line, working_stopped, working_done, working_open, working_too_long}
 use Rattle.segmenter.proofs.ResultLemmas.{on_ok, on_ok_by, if_err_by}
 use Rattle.segmenter.proofs.progress.Progress.take_piece.Goals as goal

@@ -1,4 +1,4 @@
-use Rattle.std.proofs.Common.{◌≡◌, ◌++◌, length}
+use Rattle.std.proofs.Common.{◌++◌, length}
 use Rattle.segmenter.specs.Progress.{Working}
 use Rattle.segmenter.proofs.progress.Progress.take_piece.Given as goal
 

@@ -1,0 +1,84 @@
+-- The table of what `char.def` says.
+use Rattle.std.proofs.Common.{◌≡◌, ℕ, true, false, cond, List, [], ◌∷◌, ◌++◌, map, reverse, refl, sym, ◌∙◌, ap, Option, Some, None, inl, inr}
+use Rattle.std.specs.Prelude.{option_map, find, Ok, Err}
+use Rattle.std.specs.Option.{option_or, option_map_or}
+use Rattle.std.proofs.lemmas.List.{reverse-append, map-append}
+use Rattle.mj_model.specs.declared.source_fault.SourceFault.{SourceFault}
+use Rattle.mj_model.specs.declared.source_fault.SourceKind.TheVariants.{NoDefault, NoSpace}
+use Rattle.mj_model.specs.FirstFault.{IsRefusal, first_fault}
+use Rattle.mj_model.specs.CharDef.{NamedCategory, Mapping, CharSource, covers, info_of_names, char_line, default_name, space_name, first_bad_line, mapping_fault, unless_defined, whole_fault, source_from, source_unless, char_source_from}
+use Rattle.char_def.specs.declared.mapped.MappedRange.{MappedRange}
+use Rattle.char_def.specs.declared.overlay.Step.{Step}
+use Rattle.char_def.specs.Mapped.{Said, said, said_by, is_said_of, last_said, IsCoverage}
+use Rattle.char_def.specs.Categories.{default_info, info_or, IsTableOf}
+
+-- ---- the fault of the file
+
+-- nothing is wrong before the names of the mappings are looked at
+record IsFineBefore (lines : List (ℕ × List ℕ)) (categories : List NamedCategory) : Type 0 where
+  lines_fine : first_bad_line [] lines ≡ None
+  categories_are : categories ≡ (source_from lines).categories
+  default_there : unless_defined categories default_name NoDefault ≡ None
+  space_there : unless_defined categories space_name NoSpace ≡ None
+
+fault_of_mappings : (lines : List (ℕ × List ℕ)) (categories : List NamedCategory) → IsFineBefore lines categories
+    → option_or (first_bad_line [] lines) (whole_fault (source_from lines).categories lines) ≡ first_fault 1 (λ line. mapping_fault categories (char_line line)) lines
+fault_of_mappings lines categories f =
+    ap (λ (o : Option SourceFault). option_or o (whole_fault (source_from lines).categories lines)) f.lines_fine
+    ∙ ap (λ (cs : List NamedCategory). whole_fault cs lines) (sym f.categories_are)
+    ∙ ap (λ (o : Option SourceFault). option_or o (option_or (unless_defined categories space_name NoSpace) (first_fault 1 (λ line. mapping_fault categories (char_line line)) lines))) f.default_there
+    ∙ ap (λ (o : Option SourceFault). option_or o (first_fault 1 (λ line. mapping_fault categories (char_line line)) lines)) f.space_there
+
+pub mapping_refused : (lines : List (ℕ × List ℕ)) (categories : List NamedCategory) (fault : SourceFault) → first_bad_line [] lines ≡ None → categories ≡ (source_from lines).categories
+    → unless_defined categories default_name NoDefault ≡ None → unless_defined categories space_name NoSpace ≡ None
+    → IsRefusal fault (first_fault 1 (λ line. mapping_fault categories (char_line line)) lines ≡ Some fault) → IsRefusal fault (char_source_from lines ≡ Err fault)
+mapping_refused lines categories fault fine are d s (inl memory) = inl memory
+mapping_refused lines categories fault fine are d s (inr cause) =
+    inr (ap (λ (o : Option SourceFault). source_unless o (source_from lines))
+    (fault_of_mappings lines categories (record { lines_fine = fine; categories_are = are; default_there = d; space_there = s }) ∙ cause))
+
+-- ---- the categories of a code point
+
+reverse-map : {A B : Type 0} (f : A → B) (xs : List A) → reverse (map f xs) ≡ map f (reverse xs)
+reverse-map f [] = refl
+reverse-map f (x ∷ xs) =
+    reverse-append (f x ∷ []) (map f xs) ∙ ap (λ l. l ++ f x ∷ []) (reverse-map f xs) ∙ sym (map-append f (reverse xs) (x ∷ [])) ∙ ap (map f) (sym (reverse-append (x ∷ []) xs))
+
+find-said : (categories : List NamedCategory) (code : ℕ) (ms : List Mapping) → find (is_said_of code) (map (said categories) ms) ≡ option_map (said categories) (find (covers code) ms)
+find-said categories code [] = refl
+find-said categories code (m ∷ ms) = elim (covers code m) as (λ b. cond b (Some (said categories m)) (find (is_said_of code) (map (said categories) ms)) ≡ option_map (said categories) (cond b (Some m) (find (covers code) ms))) [
+  | true ↦ refl
+  | false ↦ find-said categories code ms
+]
+
+info_said : (categories : List NamedCategory) (found : Option Mapping)
+    → info_or (default_info categories) (option_map (λ (s : Said). s.info) (option_map (said categories) found))
+    ≡ option_map_or (λ (m : Mapping). info_of_names categories m.first m.others) found (info_of_names categories default_name [])
+info_said categories None = refl
+info_said categories (Some m) = refl
+
+said_last : (categories : List NamedCategory) (ms : List Mapping) (code : ℕ)
+    → info_or (default_info categories) (last_said (map (said categories) ms) code)
+    ≡ option_map_or (λ (m : Mapping). info_of_names categories m.first m.others) (find (covers code) (reverse ms)) (info_of_names categories default_name [])
+said_last categories ms code =
+    ap (λ (l : List Said). info_or (default_info categories) (option_map (λ (s : Said). s.info) (find (is_said_of code) l))) (reverse-map (said categories) ms)
+    ∙ ap (λ (o : Option Said). info_or (default_info categories) (option_map (λ (s : Said). s.info) o)) (find-said categories code (reverse ms)) ∙ info_said categories (find (covers code) (reverse ms))
+
+table_of : (lines : List (ℕ × List ℕ)) (categories : List NamedCategory) (mapped : List MappedRange) (steps : List Step) → categories ≡ (source_from lines).categories
+    → map said_by mapped ≡ map (said categories) (source_from lines).mappings → IsCoverage (map said_by mapped) steps → IsTableOf (source_from lines) (record { categories = categories; steps = steps })
+table_of lines categories mapped steps are mappings_are covered = record {
+  categories = are;
+  infos = λ code. ap (info_or (default_info categories)) (covered.says code ∙ ap (λ (l : List Said). last_said l code) mappings_are) ∙ said_last categories (source_from lines).mappings code
+      ∙ ap (λ (cs : List NamedCategory). option_map_or (λ (m : Mapping). info_of_names cs m.first m.others) (find (covers code) (reverse (source_from lines).mappings)) (info_of_names cs default_name [])) are;
+}
+
+pub table_read : (lines : List (ℕ × List ℕ)) (categories : List NamedCategory) (mapped : List MappedRange) (steps : List Step) → first_bad_line [] lines ≡ None → categories ≡ (source_from lines).categories
+    → unless_defined categories default_name NoDefault ≡ None → unless_defined categories space_name NoSpace ≡ None
+    → first_fault 1 (λ line. mapping_fault categories (char_line line)) lines ≡ None → map said_by mapped ≡ map (said categories) (source_from lines).mappings → IsCoverage (map said_by mapped) steps
+    → (source : CharSource) × (char_source_from lines ≡ Ok source) × IsTableOf source (record { categories = categories; steps = steps })
+table_read lines categories mapped steps fine are d s named mappings_are covered = (
+  source_from lines,
+  ap (λ (o : Option SourceFault). source_unless o (source_from lines))
+      (fault_of_mappings lines categories (record { lines_fine = fine; categories_are = are; default_there = d; space_there = s }) ∙ named),
+  table_of lines categories mapped steps are mappings_are covered,
+)

@@ -1,0 +1,35 @@
+use Rattle.std.proofs.lemmas.Result.{err_from_is_err_and}
+use Rattle.mj_model.specs.Lines.{numbered_lines}
+use Rattle.char_def.specs.Categories.{CharCategories}
+use Rattle.char_def.specs.Definitions.{definitions_are}
+use Rattle.char_def.proofs.FirstCategories.{first_categories}
+use Rattle.char_def.proofs.TableLemmas.{mapping_refused, table_read}
+use Rattle.char_def.proofs.char_table.read_chars.Goals as goal
+
+pub returns-in_err-mapped-clause-refused : goal.returns-in_err-mapped-clause-refused
+returns-in_err-mapped-clause-refused c =
+    let p = err_from_is_err_and c.from_residual-in_err-mapped.result c.from_residual-in_err-mapped.ensures.1 in
+    rw (p.1, p.2)
+    (mapping_refused (numbered_lines c.args.bytes.now) (definitions_are c.in_ok-definitions.definitions.items) c.in_err-mapped.field-0.0 c.in_ok-definitions.ensures.accepted c.in_ok-definitions.ensures.categories
+    (rw c.deref.ensures.value at c.in_ok-default.ensures.0) (rw c.deref-2.ensures.value at c.in_ok-single.ensures.0) (rw c.deref-3.ensures.value at c.in_err-mapped.ensures.refused))
+
+pub invariant_of-result : goal.invariant_of-result
+invariant_of-result c =
+    let table : CharCategories = record { categories = definitions_are c.in_ok-definitions.definitions.items; steps = c.in-Ok.steps.items } in
+    let read = table_read (numbered_lines c.args.bytes.now) (definitions_are c.in_ok-definitions.definitions.items) c.in_ok-mapped.mapped.items c.in-Ok.steps.items
+    c.in_ok-definitions.ensures.accepted c.in_ok-definitions.ensures.categories
+    (rw c.deref.ensures.value at c.in_ok-default.ensures.0) (rw c.deref-2.ensures.value at c.in_ok-single.ensures.0) (rw c.deref-3.ensures.value at c.in_ok-mapped.ensures.accepted)
+    (rw c.deref-3.ensures.value at c.in_ok-mapped.ensures.mappings) (rw c.deref-4.ensures.value at c.in-Ok.ensures) in
+    record {
+      few = c.in_ok-definitions.ensures.few;
+      default_is = rw c.deref.ensures.value at c.in_ok-default.ensures.1;
+      rising = c.in-Ok.ensures.rising;
+      heads = first_categories c.args.bytes.now read.0 table read.1 read.2;
+    }
+
+pub returns-in-Ok-clause-accepted : goal.returns-in-Ok-clause-accepted
+returns-in-Ok-clause-accepted c =
+    table_read (numbered_lines c.args.bytes.now) (definitions_are c.in_ok-definitions.definitions.items) c.in_ok-mapped.mapped.items c.in-Ok.steps.items
+    c.in_ok-definitions.ensures.accepted c.in_ok-definitions.ensures.categories
+    (rw c.deref.ensures.value at c.in_ok-default.ensures.0) (rw c.deref-2.ensures.value at c.in_ok-single.ensures.0) (rw c.deref-3.ensures.value at c.in_ok-mapped.ensures.accepted)
+    (rw c.deref-3.ensures.value at c.in_ok-mapped.ensures.mappings) (rw c.deref-4.ensures.value at c.in-Ok.ensures)

@@ -1,0 +1,36 @@
+-- Categories and what they are of each code point, as a table holds them.
+use Rattle.std.specs.Prelude.{◌≡◌, ℕ, ◌<◌, false, List, [], length, slice_index_or, Option}
+use Rattle.std.specs.Option.{option_map_or}
+use Rattle.mj_model.specs.declared.category.CharInfo.{CharInfo}
+use Rattle.mj_model.specs.CharDef.{NamedCategory, CharSource, char_info, info_of_names, default_name}
+use Rattle.char_def.specs.declared.overlay.Step.{Step}
+use Rattle.char_def.specs.Steps.{info_by}
+
+-- the categories in their order, and the steps of what the mappings say of code points
+pub record CharCategories : Type 0 where
+  pub categories : List NamedCategory
+  pub steps : List Step
+
+-- the categories of a code point that is not mapped: DEFAULT alone
+abbrev pub default_info : List NamedCategory → CharInfo
+default_info categories = info_of_names categories default_name []
+
+abbrev pub info_or : CharInfo → Option CharInfo → CharInfo
+info_or otherwise found = option_map_or (λ info. info) found otherwise
+
+-- the categories of a code point
+abbrev pub table_info : CharCategories → ℕ → CharInfo
+table_info table code = info_or (default_info table.categories) (info_by table.steps code)
+
+-- the first category of each code point is one of the categories
+abbrev pub HasFirstCategories : CharCategories → Type 0
+HasFirstCategories table = (code : ℕ) → (table_info table code).head < length table.categories
+
+-- a category by its number
+abbrev pub category_at : CharCategories → ℕ → NamedCategory
+category_at table i = slice_index_or table.categories i (record { name = []; category = record { invoke = false; group = false; length = 0 } })
+
+-- the table holds what `char.def` says
+pub record IsTableOf (source : CharSource) (table : CharCategories) : Type 0 where
+  pub categories : table.categories ≡ source.categories
+  pub infos : (code : ℕ) → table_info table code ≡ char_info source code

@@ -1,0 +1,9 @@
+pub mod Steps
+pub mod Hex
+pub mod LineWords
+pub mod CharLines
+pub mod Mapped
+pub mod Definitions
+pub mod Categories
+pub mod UnkRows
+pub mod Outside

@@ -1,0 +1,83 @@
+//! The categories that `char.def` defines.
+ghost use Rattle.std.specs.Prelude.{◌≡◌, ◌≤◌, ◌++◌, ◌⊎◌, [], length, false, None, Some, IfOk, IfErr, OnOk, MatchOption};
+ghost use Rattle.mj_model.specs.declared.limits.TheConstants.{CATEGORIES_MAX as CategoriesMax};
+ghost use Rattle.mj_model.specs.declared.source_fault.SourceKind.TheVariants.{Memory};
+ghost use Rattle.mj_model.specs.CharDef.{char_line, defined_by, line_fault, first_bad_line, source_from, is_defined};
+ghost use Rattle.mj_model.specs.FirstFault.{IsRefusal};
+ghost use Rattle.mj_model.specs.Lines.{numbered_lines};
+ghost use Rattle.char_def.specs.Definitions.{definitions_are, HasNumber};
+
+use crate::line::{CharLine, read_line};
+use lex_source::lines;
+use mj_model::{CATEGORIES_MAX, Category, SourceFault, SourceKind};
+use std::alloc::Global;
+use std::string::String;
+
+/// A category and its name.
+#[derive(Drop)]
+pub struct Definition {
+    pub name: String,
+    pub category: Category,
+}
+
+/// The categories in the order of their lines.
+pub(crate) fn read_definitions(alloc: Global, bytes: &[u8]) -> Result<Vec<Definition>, SourceFault>
+    ensures accepted { IfOk result (λ read. first_bad_line [] (numbered_lines bytes.now) ≡ None) }
+    ensures categories { IfOk result (λ read. definitions_are read.items ≡ (source_from (numbered_lines bytes.now)).categories) }
+    ensures few { IfOk result (λ read. length read.items ≤ CategoriesMax) }
+    ensures refused { IfErr result (λ fault. IsRefusal fault (first_bad_line [] (numbered_lines bytes.now) ≡ Some fault)) }
+{
+    let mut definitions = Vec::new(alloc);
+    for (number, line) in lines(bytes) {
+        if let Err(kind) = add_line(alloc, line, &mut definitions) {
+            return Err(SourceFault {
+                file: 1,
+                line: number,
+                kind,
+            });
+        }
+    }
+    Ok(definitions)
+}
+
+/// Adds the category that a line defines.
+fn add_line(alloc: Global, line: &[u8], definitions: &mut Vec<Definition>) -> Result<(), SourceKind>
+    requires few { length definitions.old.items ≤ CategoriesMax }
+    ensures fits { OnOk result (line_fault (definitions_are definitions.old.items) (char_line line.now) ≡ None) }
+    ensures added { OnOk result (definitions_are definitions.new.items ≡ definitions_are definitions.old.items ++ defined_by (char_line line.now)) }
+    ensures few { OnOk result (length definitions.new.items ≤ CategoriesMax) }
+    ensures refused { IfErr result (λ kind. (kind ≡ Memory) ⊎ (line_fault (definitions_are definitions.old.items) (char_line line.now) ≡ Some kind)) }
+{
+    let CharLine::Category(category) = read_line(line)? else {
+        return Ok(());
+    };
+    if number_of(definitions, category.name.as_bytes()).is_some() {
+        return Err(SourceKind::Twice);
+    }
+    if definitions.len() >= CATEGORIES_MAX {
+        return Err(SourceKind::TooManyCategories);
+    }
+    let Ok(name) = String::from_str(alloc, category.name) else {
+        return Err(SourceKind::Memory);
+    };
+    let definition = Definition {
+        name,
+        category: category.category,
+    };
+    match definitions.push(definition) {
+        Ok(()) => Ok(()),
+        Err(_) => Err(SourceKind::Memory),
+    }
+}
+
+/// The number of the category of this name.
+pub(crate) fn number_of(definitions: &[Definition], name: &[u8]) -> Option<usize>
+    ensures { MatchOption result (is_defined (definitions_are definitions.now) name.now ≡ false) (HasNumber (definitions_are definitions.now) name.now) }
+{
+    for (number, definition) in definitions.iter().enumerate() {
+        if definition.name.as_bytes() == name {
+            return Some(number);
+        }
+    }
+    None
+}

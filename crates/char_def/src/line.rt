@@ -1,0 +1,154 @@
+//! Lines of `char.def`.
+ghost use Rattle.std.specs.Prelude.{◌≡◌, ◌∷◌, ◌<◌, ◌&&◌, ℕ, List, Some, None, true, false, nat_lt, length, MatchOption, MatchResult, option_map, drop};
+ghost use Rattle.std.specs.List.{list_all};
+ghost use Rattle.mj_model.specs.CharDef.{Bad, is_name, flag as flag_of, category_of, category_from, mapping_line as mapping_of, char_line, words_before_comment};
+ghost use Rattle.mj_model.specs.Numbers.{natural_in};
+ghost use Rattle.char_def.specs.CharLines.{Says, IsMapping, category_is};
+
+use crate::code_range::CodeRange;
+use crate::hexadecimal::begins_with_hex;
+use crate::line_words::LineWords;
+use crate::range::code_range;
+use lex_source::number;
+use mj_model::{Category, SourceKind};
+
+/// The most bytes of a category's name. (This project's own choice)
+const NAME_MAX: usize = 255;
+
+/// The greatest LENGTH of a category. (This project's own choice)
+const LENGTH_MAX: u8 = 15;
+
+/// What a line says.
+#[derive(Drop)]
+pub(crate) enum CharLine<'a> {
+    /// It is blank or only a comment.
+    Nothing,
+    Category(CategoryLine<'a>),
+    Mapping(MappingLine<'a>),
+}
+
+/// A category and its name.
+#[derive(Clone, Copy)]
+pub(crate) struct CategoryLine<'a> {
+    pub(crate) name: &'a str,
+    pub(crate) category: Category,
+}
+
+/// Code points, and the names of their categories.
+#[derive(Drop)]
+pub(crate) struct MappingLine<'a> {
+    pub(crate) range: CodeRange,
+    pub(crate) names: LineWords<'a>,
+}
+
+/// What a line says by itself.
+pub(crate) fn read_line(line: &[u8]) -> Result<CharLine<'_>, SourceKind>
+    ensures { MatchResult result (Says line.now) (λ kind. char_line line.now ≡ Bad kind) }
+{
+    let mut words = LineWords::new(line);
+    let Some(first) = words.next() else {
+        return Ok(CharLine::Nothing);
+    };
+    if begins_with_hex(first) {
+        return mapping_line(first, words, behind_first(line));
+    }
+    match category_line(first, words) {
+        Some(category) => Ok(CharLine::Category(category)),
+        None => Err(SourceKind::BadLine),
+    }
+}
+
+/// What a mapping line says, from its first word and the names behind it, which are read twice.
+fn mapping_line<'a>(
+    range: &[u8],
+    checked: LineWords<'a>,
+    names: LineWords<'a>,
+) -> Result<CharLine<'a>, SourceKind>
+    requires { checked ≡ names }
+    ensures { MatchResult result (IsMapping range.now names.entry) (λ kind. mapping_of range.now names.entry ≡ Bad kind) }
+{
+    if !are_names(checked) {
+        return Err(SourceKind::BadLine);
+    }
+    match code_range(range) {
+        Some(range) => Ok(CharLine::Mapping(MappingLine { range, names })),
+        None => Err(SourceKind::BadRange),
+    }
+}
+
+/// The words of a line behind its first one.
+fn behind_first(line: &[u8]) -> LineWords<'_>
+    ensures { (word : List ℕ) (words : List (List ℕ)) → words_before_comment line.now ≡ word ∷ words → result ≡ words }
+{
+    let mut words = LineWords::new(line);
+    let _ = words.next();
+    words
+}
+
+/// Whether there is a word, and each word may be the name of a category.
+fn are_names(words: LineWords) -> bool
+    ensures { result ≡ nat_lt 0 (length words.entry) && list_all is_name words.entry }
+{
+    let mut any = false;
+    for word in words {
+        if category_name(word).is_none() {
+            return false;
+        }
+        any = true;
+    }
+    any
+}
+
+/// A word as the name of a category.
+fn category_name(word: &[u8]) -> Option<&str>
+    ensures { MatchOption result (is_name word.now ≡ false) (λ name. (is_name word.now ≡ true) × (name.now ≡ word.now)) }
+{
+    if word.len() > NAME_MAX {
+        return None;
+    }
+    match simdutf8::compat::from_utf8(word) {
+        Ok(name) => Some(name),
+        Err(_) => None,
+    }
+}
+
+/// What a category line says, from its first word and those behind it. (MeCab, `char.def`)
+fn category_line<'a>(name: &'a [u8], numbers: LineWords<'a>) -> Option<CategoryLine<'a>>
+    ensures { option_map category_is result ≡ category_from (name.now ∷ numbers.entry) }
+{
+    let mut numbers = numbers;
+    let invoke = numbers.next()?;
+    let group = numbers.next()?;
+    let length = numbers.next()?;
+    let name = category_name(name)?;
+    let category = category(invoke, group, length)?;
+    Some(CategoryLine { name, category })
+}
+
+fn category(invoke: &[u8], group: &[u8], length: &[u8]) -> Option<Category>
+    ensures { result ≡ category_of invoke.now group.now length.now }
+{
+    Some(Category {
+        invoke: flag(invoke)?,
+        group: flag(group)?,
+        length: natural(length, LENGTH_MAX)?,
+    })
+}
+
+fn flag(word: &[u8]) -> Option<bool>
+    ensures { result ≡ flag_of word.now }
+{
+    Some(natural(word, 1)? == 1)
+}
+
+/// A number from 0 to `most`.
+fn natural(word: &[u8], most: u8) -> Option<u8>
+    ensures { result ≡ natural_in most word.now }
+{
+    let value = number(word)?;
+    if value >= 0 && value <= i32::from(most) {
+        Some(value as u8)
+    } else {
+        None
+    }
+}

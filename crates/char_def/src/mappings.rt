@@ -1,0 +1,87 @@
+//! The mappings of `char.def`.
+ghost use Rattle.std.specs.Prelude.{◌≡◌, ◌≤◌, ◌++◌, ◌∷◌, ◌⊎◌, ℕ, List, map, length, true, false, None, Some, IfOk, IfErr, OnOk, MatchOption};
+ghost use Rattle.std.specs.List.{list_all};
+ghost use Rattle.mj_model.specs.declared.limits.TheConstants.{CATEGORIES_MAX as CategoriesMax};
+ghost use Rattle.mj_model.specs.declared.source_fault.SourceKind.TheVariants.{Memory};
+ghost use Rattle.mj_model.specs.CharDef.{char_line, mapped_by, mapping_fault, source_from, is_defined, info_of_names};
+ghost use Rattle.mj_model.specs.FirstFault.{IsRefusal, first_fault};
+ghost use Rattle.mj_model.specs.Lines.{numbered_lines};
+ghost use Rattle.char_def.specs.Definitions.{definitions_are};
+ghost use Rattle.char_def.specs.Mapped.{said, said_by};
+
+use crate::definitions::{Definition, number_of};
+use crate::line::{CharLine, read_line};
+use crate::line_words::LineWords;
+use crate::mapped::MappedRange;
+use lex_source::lines;
+use mj_model::{CharInfo, SourceFault, SourceKind};
+use std::alloc::Global;
+
+/// The mappings in the order of their lines, up to the first that names a category that is not defined.
+pub(crate) fn read_mappings(
+    alloc: Global,
+    bytes: &[u8],
+    definitions: &[Definition],
+) -> Result<Vec<MappedRange>, SourceFault>
+    requires { length definitions.now ≤ CategoriesMax }
+    ensures accepted { IfOk result (λ read. first_fault 1 (λ line. mapping_fault (definitions_are definitions.now) (char_line line)) (numbered_lines bytes.now) ≡ None) }
+    ensures mappings { IfOk result (λ read. map said_by read.items ≡ map (said (definitions_are definitions.now)) (source_from (numbered_lines bytes.now)).mappings) }
+    ensures refused { IfErr result (λ fault. IsRefusal fault (first_fault 1 (λ line. mapping_fault (definitions_are definitions.now) (char_line line)) (numbered_lines bytes.now) ≡ Some fault)) }
+{
+    let mut mapped = Vec::new(alloc);
+    for (number, line) in lines(bytes) {
+        if let Err(kind) = add_line(line, definitions, &mut mapped) {
+            return Err(SourceFault {
+                file: 1,
+                line: number,
+                kind,
+            });
+        }
+    }
+    Ok(mapped)
+}
+
+/// Adds the mapping that a line makes.
+fn add_line(
+    line: &[u8],
+    definitions: &[Definition],
+    mapped: &mut Vec<MappedRange>,
+) -> Result<(), SourceKind>
+    requires { length definitions.now ≤ CategoriesMax }
+    ensures fits { OnOk result (mapping_fault (definitions_are definitions.now) (char_line line.now) ≡ None) }
+    ensures added { OnOk result (map said_by mapped.new.items ≡ map said_by mapped.old.items ++ map (said (definitions_are definitions.now)) (mapped_by (char_line line.now))) }
+    ensures refused { IfErr result (λ kind. (kind ≡ Memory) ⊎ (mapping_fault (definitions_are definitions.now) (char_line line.now) ≡ Some kind)) }
+{
+    let Ok(CharLine::Mapping(mapping)) = read_line(line) else {
+        return Ok(());
+    };
+    let Some(info) = info_of(definitions, mapping.names) else {
+        return Err(SourceKind::UndefinedCategory);
+    };
+    let range = MappedRange {
+        range: mapping.range,
+        info,
+    };
+    match mapped.push(range) {
+        Ok(()) => Ok(()),
+        Err(_) => Err(SourceKind::Memory),
+    }
+}
+
+/// The categories of these names, or None where one is not defined.
+fn info_of(definitions: &[Definition], names: LineWords) -> Option<CharInfo>
+    requires few { length definitions.now ≤ CategoriesMax }
+    requires some { (first : List ℕ) × (others : List (List ℕ)) × (names ≡ first ∷ others) }
+    ensures { (first : List ℕ) (others : List (List ℕ)) → names.entry ≡ first ∷ others → MatchOption result (list_all (is_defined (definitions_are definitions.now)) (first ∷ others) ≡ false) (λ info. (list_all (is_defined (definitions_are definitions.now)) (first ∷ others) ≡ true) × (info ≡ info_of_names (definitions_are definitions.now) first others)) }
+{
+    let mut others = names;
+    let head = number_of(definitions, others.next()?)?;
+    let mut bits = 1 << head;
+    for name in others {
+        bits |= 1 << number_of(definitions, name)?;
+    }
+    Some(CharInfo {
+        bits,
+        head: head as u8,
+    })
+}

@@ -1,0 +1,41 @@
+//! Records whose ids lie outside a connection table.
+ghost use Rattle.std.specs.Prelude.{◌≡◌, ℕ, ◌++◌, ◌∷◌, [], List};
+ghost use Rattle.mj_model.specs.Lexicon.{row_of, rows_of};
+ghost use Rattle.char_def.specs.Outside.{is_outside as is_row_outside, lines_outside, IsLeast, IsLeastOf};
+
+use mj_model::Record;
+
+/// The least of `first` and the lines of those records that lie outside the sizes.
+pub(crate) fn least_line_outside(
+    records: &[Record],
+    right_size: u32,
+    left_size: u32,
+    first: Option<u64>,
+) -> Option<u64>
+    ensures { (before : List ℕ) → IsLeastOf before first → IsLeastOf (before ++ lines_outside (record { right = right_size; left = left_size }) (rows_of records.now)) result }
+{
+    let mut least = first;
+    for record in records {
+        if is_outside(record, right_size, left_size) {
+            least = Some(earlier(least, record.line));
+        }
+    }
+    least
+}
+
+/// Whether one of the ids is not below its size.
+fn is_outside(row: &Record, right_size: u32, left_size: u32) -> bool
+    ensures { result ≡ is_row_outside (record { right = right_size; left = left_size }) (row_of row.now) }
+{
+    u32::from(row.entry.right) >= right_size || u32::from(row.entry.left) >= left_size
+}
+
+/// The lesser of a line and the one before it, if there is one.
+fn earlier(before: Option<u64>, line: u64) -> u64
+    ensures { (lines : List ℕ) → IsLeastOf lines before → IsLeast (lines ++ line ∷ []) result }
+{
+    match before {
+        Some(other) => other.min(line),
+        None => line,
+    }
+}

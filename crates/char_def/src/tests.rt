@@ -1,0 +1,5 @@
+//! Rows of `char.def` and `unk.def`.
+
+mod chars;
+mod samples;
+mod unk;

@@ -1,0 +1,111 @@
+//! The lines of `unk.def`, by category.
+ghost use Rattle.std.specs.Prelude.{◌≡◌, ◌≤◌, ◌<◌, ◌⊎◌, [], ◌∷◌, ◌++◌, slice_set, slice_index_or, replicate, length, Ok, Err, IfOk, IfErr, OnOk};
+ghost use Rattle.mj_model.specs.declared.limits.TheConstants.{CATEGORIES_MAX as CategoriesMax};
+ghost use Rattle.mj_model.specs.declared.source_fault.SourceKind.TheVariants.{Memory};
+ghost use Rattle.mj_model.specs.FirstFault.{IsRefusal};
+ghost use Rattle.mj_model.specs.Lexicon.{Reading, ReadsAs, row_of};
+ghost use Rattle.mj_model.specs.UnkDef.{unk_outcome, rows_by_category, first_without_rows};
+ghost use Rattle.lex_source.specs.Steps.{IsRefusedLine};
+ghost use Rattle.char_def.specs.UnkRows.{lists_are, HasAdded};
+
+use crate::char_table::CharTable;
+use lex_source::{lines, read_record};
+use mj_model::{ENTRIES_MAX, Record, SourceFault, SourceKind};
+use std::alloc::{AllocError, Global};
+
+/// The lines of each category, up to the first bad line.
+pub(crate) fn read_lines(
+    alloc: Global,
+    bytes: &[u8],
+    table: &CharTable,
+) -> Result<Vec<Vec<Record>>, SourceFault>
+    ensures accepted { IfOk result (λ lists. (reading : Reading) × ReadsAs (unk_outcome table.now.categories) 2 0 bytes.now (Ok reading) × (lists_are lists.items ≡ rows_by_category table.now.categories reading.rows)) }
+    ensures count { IfOk result (λ lists. length lists.items ≡ length table.now.categories) }
+    ensures few { IfOk result (λ lists. length lists.items ≤ CategoriesMax) }
+    ensures refused { IfErr result (λ fault. IsRefusal fault (ReadsAs (unk_outcome table.now.categories) 2 0 bytes.now (Err fault))) }
+{
+    let Ok(mut lists) = empty_lists(alloc, table.count()) else {
+        return Err(fault(0, SourceKind::Memory));
+    };
+    let mut held = 0;
+    for (number, line) in lines(bytes) {
+        match add_line(alloc, number, line, table, held, &mut lists) {
+            Ok(now) => held = now,
+            Err(kind) => return Err(fault(number, kind)),
+        }
+    }
+    Ok(lists)
+}
+
+/// Adds a line to those of its category, where `held` lines are held, and answers how many are held then.
+fn add_line(
+    alloc: Global,
+    number: u64,
+    line: &[u8],
+    table: &CharTable,
+    held: usize,
+    lists: &mut Vec<Vec<Record>>,
+) -> Result<usize, SourceKind>
+    requires { length lists.old.items ≡ length table.now.categories }
+    ensures added { IfOk result (λ now. HasAdded table.now.categories number line.now held now lists.old.items lists.new.items) }
+    ensures count { OnOk result (length lists.new.items ≡ length lists.old.items) }
+    ensures refused { IfErr result (λ kind. (kind ≡ Memory) ⊎ IsRefusedLine (unk_outcome table.now.categories) number line.now held kind) }
+{
+    let Some(record) = read_record(alloc, number, line)? else {
+        return Ok(held);
+    };
+    let Some(category) = table.number_of(record.surface.as_bytes()) else {
+        return Err(SourceKind::NoSuchCategory);
+    };
+    if held >= ENTRIES_MAX {
+        return Err(SourceKind::TooManyEntries);
+    }
+    let Ok(()) = add(lists, category, record) else {
+        return Err(SourceKind::Memory);
+    };
+    Ok(held + 1)
+}
+
+/// Adds a record to those of a category.
+fn add(lists: &mut Vec<Vec<Record>>, category: usize, made: Record) -> Result<(), AllocError>
+    requires { category < length lists.old.items }
+    ensures added { OnOk result (lists_are lists.new.items ≡ slice_set (lists_are lists.old.items) category (slice_index_or (lists_are lists.old.items) category [] ++ row_of made ∷ [])) }
+    ensures count { OnOk result (length lists.new.items ≡ length lists.old.items) }
+{
+    lists[category].push(made)?;
+    Ok(())
+}
+
+fn empty_lists(alloc: Global, count: usize) -> Result<Vec<Vec<Record>>, AllocError>
+    ensures { IfOk result (λ lists. lists_are lists.items ≡ replicate count []) }
+{
+    let mut lists = Vec::with_capacity(alloc, count)?;
+    for _ in 0..count {
+        lists.push(Vec::new(alloc))?;
+    }
+    Ok(lists)
+}
+
+/// The first category without a line, or how many categories there are.
+pub(crate) fn first_empty(lists: &[Vec<Record>]) -> usize
+    ensures first { result ≡ first_without_rows (lists_are lists.now) }
+    ensures within { result ≤ length lists.now }
+{
+    for (category, list) in lists.iter().enumerate() {
+        if list.is_empty() {
+            return category;
+        }
+    }
+    lists.len()
+}
+
+/// A fault of `unk.def`, which is file 2.
+pub(crate) fn fault(line: u64, kind: SourceKind) -> SourceFault
+    ensures { result ≡ record { file = 2; line = line; kind = kind } }
+{
+    SourceFault {
+        file: 2,
+        line,
+        kind,
+    }
+}

@@ -1,0 +1,65 @@
+//! Unknown entries, as `unk.def` lists them.
+ghost use Rattle.std.specs.Prelude.{◌≡◌, ◌<◌, [], length, slice_index_or, Ok, Err, IfOk, IfErr, MatchOption};
+ghost use Rattle.mj_model.specs.FirstFault.{IsRefusal};
+ghost use Rattle.mj_model.specs.Lexicon.{rows_of};
+ghost use Rattle.mj_model.specs.UnkDef.{IsUnkDef};
+ghost use Rattle.char_def.specs.Outside.{all_lines_outside, IsLeast};
+
+use crate::char_table::CharTable;
+use crate::outside::least_line_outside;
+use crate::unk_lines::{fault, first_empty, read_lines};
+use mj_model::{Record, SourceFault, SourceKind};
+use std::alloc::Global;
+use std::marker::Model;
+
+/// The unknown entries of each category. (MeCab, `unk.def`)
+#[derive(Drop)]
+pub struct UnkTable {
+    lists: Vec<Vec<Record>>,
+}
+
+impl Model for UnkTable {
+    ghost use Rattle.std.specs.Prelude.{List};
+    ghost use Rattle.mj_model.specs.Lexicon.{Row};
+    ghost use Rattle.char_def.specs.UnkRows.{lists_are};
+
+    ghost Value = { List (List Row) };
+
+    ghost view = { λ t. lists_are t.lists.items };
+}
+
+impl UnkTable {
+    /// The lines of category `i`, in their order. There is at least one.
+    pub fn lines(&self, i: usize) -> &[Record]
+        requires { i < length self.now }
+        ensures { rows_of result.now ≡ slice_index_or self.now i [] }
+    {
+        &self.lists[i]
+    }
+
+    /// The first line of `unk.def` whose right id is not below `right_size`, or whose left id is not below `left_size`.
+    pub fn first_line_outside(&self, right_size: u32, left_size: u32) -> Option<u64>
+        ensures { MatchOption result (all_lines_outside (record { right = right_size; left = left_size }) self.now ≡ []) (IsLeast (all_lines_outside (record { right = right_size; left = left_size }) self.now)) }
+    {
+        let mut first = None;
+        for list in &self.lists {
+            first = least_line_outside(list, right_size, left_size, first);
+        }
+        first
+    }
+}
+
+/// The unknown entries of the categories of `table`; each line has a lexicon's form, with the name of a category as its surface.
+/// (MeCab, `unk.def`; that a category without a line is refused too)
+pub fn read_unk(alloc: Global, bytes: &[u8], table: &CharTable) -> Result<UnkTable, SourceFault>
+    ensures accepted { IfOk result (λ unk. IsUnkDef table.now.categories bytes.now (Ok unk)) }
+    ensures count { IfOk result (λ unk. length unk ≡ length table.now.categories) }
+    ensures refused { IfErr result (λ fault. IsRefusal fault (IsUnkDef table.now.categories bytes.now (Err fault))) }
+{
+    let lists = read_lines(alloc, bytes, table)?;
+    let missing = first_empty(&lists);
+    if missing < lists.len() {
+        return Err(fault(0, SourceKind::MissingCategory(missing as u8)));
+    }
+    Ok(UnkTable { lists })
+}

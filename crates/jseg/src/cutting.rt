@@ -1,0 +1,72 @@
+//! Standard input is cut by the sources that the command line names.
+
+use crate::choices::Options;
+use crate::fault::Fault;
+use crate::source_files::SourceFiles;
+use mj_model::{Counted, GROUPING_MAX, RunFault, Sources};
+use segmenter::{run_sources, sample};
+use std::alloc::AllocError;
+use std::io::Write;
+use std::string::String;
+
+/// Cuts standard input into words.
+pub fn cut(rt: &HostRuntime, options: &Options) -> Result<(), Fault> {
+    match &options.sources {
+        Some(dir) => cut_by_directory(rt, dir.as_str(), options.grouping),
+        None => match cut_by(rt, &sample(), options.grouping) {
+            Ok(()) => Ok(()),
+            Err(fault) => Err(fault_at(rt, "sample", fault)),
+        },
+    }
+}
+
+/// Cuts it by the sources of a directory.
+fn cut_by_directory(rt: &HostRuntime, dir: &str, grouping: u16) -> Result<(), Fault> {
+    let files = SourceFiles::read(rt, dir)?;
+    let mut lexicons = Vec::new(rt.alloc());
+    for lexicon in &files.lexicons {
+        lexicons
+            .push(lexicon.bytes.as_slice())
+            .map_err(|_| Fault::Memory)?;
+    }
+    let sources = Sources {
+        matrix: &files.matrix.bytes,
+        chars: &files.chars.bytes,
+        unk: &files.unk.bytes,
+        lexicons: &lexicons,
+    };
+    match cut_by(rt, &sources, grouping) {
+        Ok(()) => Ok(()),
+        Err(RunFault::Source(fault)) => Err(fault_at(
+            rt,
+            files.file(fault.file).path.as_str(),
+            RunFault::Source(fault),
+        )),
+        Err(fault) => Err(Fault::Run(fault)),
+    }
+}
+
+/// Cuts it by sources. After a fault what was printed before is flushed.
+fn cut_by(rt: &HostRuntime, sources: &Sources<'_>, grouping: u16) -> Result<(), RunFault> {
+    let mut reader = Counted::new(rt.reader());
+    let mut writer = Counted::new(rt.stdout());
+    let grouping = grouping.min(GROUPING_MAX);
+    match run_sources(rt.alloc(), sources, grouping, &mut reader, &mut writer) {
+        Ok(_) => Ok(()),
+        Err(fault) => {
+            let _ = writer.flush();
+            Err(fault)
+        }
+    }
+}
+
+/// A run's fault as the program tells it; a source's with its path.
+fn fault_at(rt: &HostRuntime, path: &str, fault: RunFault) -> Fault {
+    match fault {
+        RunFault::Source(fault) => match String::from_str(rt.alloc(), path) {
+            Ok(path) => Fault::Source(path, fault),
+            Err(AllocError) => Fault::Memory,
+        },
+        fault => Fault::Run(fault),
+    }
+}

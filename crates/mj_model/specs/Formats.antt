@@ -1,0 +1,169 @@
+-- Output formats (MeCab, format.html): how their texts read.
+use Rattle.std.specs.Prelude.{◌≡◌, ℕ, ◌<◌, ◌≤◌, ◌&&◌, ◌==◌, Bool, true, false, if◌then◌else◌, List, [], ◌∷◌, ◌++◌, length, take, drop, find, Option, Some, option_map, Result, Ok, Err, ◌⊎◌, codes}
+use Rattle.std.specs.Option.{option_map_or}
+use Rattle.std.specs.Str.{all_ascii_digits}
+use Rattle.mj_model.specs.declared.format_item.FormatItem.{FormatItem}
+use Rattle.mj_model.specs.declared.format_item.FormatItem.TheVariants as item
+use Rattle.mj_model.specs.declared.format_fault.FormatPart.{FormatPart}
+use Rattle.mj_model.specs.declared.format_fault.FormatPart.TheVariants.{Node, Unk, Bos, Eos}
+use Rattle.mj_model.specs.declared.format_fault.FormatKind.{FormatKind}
+use Rattle.mj_model.specs.declared.format_fault.FormatKind.TheVariants.{BadEscape, BadItem, BadIndex}
+use Rattle.mj_model.specs.declared.format_fault.FormatFault.{FormatFault}
+use Rattle.mj_model.specs.declared.format_fault.FormatFault.TheVariants as fault
+use Rattle.mj_model.specs.Numbers.{digits_value}
+
+-- what a format says: a byte, or an item
+pub data Piece : Type 0 where
+  Byte : ℕ → Piece
+  Shows : FormatItem → Piece
+
+abbrev pub percent : ℕ
+percent = 37
+
+abbrev pub backslash : ℕ
+backslash = 92
+
+-- the escapes: the character behind the backslash, and the byte that it stands for
+abbrev pub escapes : List (ℕ × ℕ)
+escapes =
+    (48, 0x00) ∷ (97, 0x07) ∷ (98, 0x08) ∷ (116, 0x09) ∷ (110, 0x0a) ∷ (118, 0x0b) ∷ (102, 0x0c) ∷ (114, 0x0d) ∷ (115, 0x20) ∷ (92, 0x5c) ∷ []
+
+-- the byte that a character behind a backslash stands for
+abbrev pub escaped : ℕ → Option ℕ
+escaped c = option_map (λ (escape : ℕ × ℕ). escape.1) (find (λ (escape : ℕ × ℕ). escape.0 == c) escapes)
+
+-- one to five digits of this value, at most 65,535
+pub record IsIndex (digits : List ℕ) (n : ℕ) : Type 0 where
+  pub some : 1 ≤ length digits
+  pub few : length digits ≤ 5
+  pub are_digits : all_ascii_digits digits ≡ true
+  pub value : digits_value digits ≡ n
+  pub low : n ≤ 65535
+
+-- how an item is spelled
+abbrev pub SpellsItem : FormatItem → List ℕ → Type 0
+SpellsItem item.Surface text = text ≡ codes "%m"
+SpellsItem item.SurfaceWithBlanks text = text ≡ codes "%M"
+SpellsItem item.Blanks text = text ≡ codes "%pS"
+SpellsItem item.Feature text = text ≡ codes "%H"
+SpellsItem (item.Field n) text = (digits : List ℕ) × IsIndex digits n × (text ≡ codes "%f[" ++ (digits ++ codes "]"))
+SpellsItem item.WordCost text = text ≡ codes "%c"
+SpellsItem item.IsUnknown text = text ≡ codes "%s"
+SpellsItem item.Sentence text = text ≡ codes "%S"
+SpellsItem item.SentenceLength text = text ≡ codes "%L"
+SpellsItem item.LeftId text = text ≡ codes "%phl"
+SpellsItem item.RightId text = text ≡ codes "%phr"
+SpellsItem item.ConnectionCost text = text ≡ codes "%pC"
+SpellsItem item.CostHere text = text ≡ codes "%pn"
+SpellsItem item.CostSoFar text = text ≡ codes "%pc"
+SpellsItem item.SurfaceLength text = text ≡ codes "%pl"
+SpellsItem item.LengthWithBlanks text = text ≡ codes "%pL"
+SpellsItem item.Start text = text ≡ codes "%ps"
+SpellsItem item.End text = text ≡ codes "%pe"
+SpellsItem item.CharacterCategory text = text ≡ codes "%t"
+SpellsItem item.Percent text = text ≡ codes "%%"
+
+-- a byte stands for itself, if it is neither a percent sign nor a backslash, or is escaped
+abbrev pub SpellsByte : ℕ → List ℕ → Type 0
+SpellsByte b text =
+    ((text ≡ b ∷ []) × (b ≡ percent → ⊥) × (b ≡ backslash → ⊥))
+    ⊎ ((c : ℕ) × (escaped c ≡ Some b) × (text ≡ backslash ∷ c ∷ []))
+
+abbrev pub Spells : Piece → List ℕ → Type 0
+Spells (Byte b) text = SpellsByte b text
+Spells (Shows i) text = SpellsItem i text
+
+-- the items that a part may show: before the first word and behind the last one those of the line alone, and behind the last one the cost
+-- of the path too
+abbrev pub MayShow : FormatPart → FormatItem → Type 0
+MayShow Node i = Unit {0}
+MayShow Unk i = Unit {0}
+MayShow Bos i = (i ≡ item.Sentence) ⊎ (i ≡ item.SentenceLength) ⊎ (i ≡ item.Percent)
+MayShow Eos i = (i ≡ item.Sentence) ⊎ (i ≡ item.SentenceLength) ⊎ (i ≡ item.Percent) ⊎ (i ≡ item.CostSoFar)
+
+abbrev pub MayStand : FormatPart → Piece → Type 0
+MayStand part (Byte b) = Unit {0}
+MayStand part (Shows i) = MayShow part i
+
+-- a part's text begins with this piece, and goes on so
+pub record Begins (part : FormatPart) (piece : Piece) (text rest : List ℕ) : Type 0 where
+  pub front : List ℕ
+  pub spelled : Spells piece front
+  pub may : MayStand part piece
+  pub is : text ≡ front ++ rest
+
+-- a part's text reads as these pieces
+abbrev pub Reads : FormatPart → List Piece → List ℕ → Type 0
+Reads part [] text = text ≡ []
+Reads part (piece ∷ pieces) text = (rest : List ℕ) × Begins part piece text rest × Reads part pieces rest
+
+-- a part that shows the fields of words
+abbrev pub shows_fields : FormatPart → Bool
+shows_fields Node = true
+shows_fields Unk = true
+shows_fields Bos = false
+shows_fields Eos = false
+
+abbrev pub bad_item : FormatPart → List ℕ → FormatKind
+bad_item part [] = BadItem
+bad_item part (c ∷ cs) = if shows_fields part && c == 102 then BadIndex else BadItem
+
+-- why no piece begins here: at a backslash it is the escape, at `%f` the index of the field, else the item
+abbrev pub bad_kind : FormatPart → List ℕ → FormatKind
+bad_kind part [] = BadItem
+bad_kind part (c ∷ cs) = if c == backslash then BadEscape else bad_item part cs
+
+-- the first byte of a part's text from which it doesn't read on, and why
+pub record IsBadAt (part : FormatPart) (text : List ℕ) (at : ℕ) (kind : FormatKind) : Type 0 where
+  pub pieces : List Piece
+  pub before : Reads part pieces (take at text)
+  pub within : at < length text
+  pub stuck : (piece : Piece) (rest : List ℕ) → Begins part piece (drop at text) rest → ⊥
+  pub is_kind : kind ≡ bad_kind part (drop at text)
+
+-- the texts of the four parts; where there is none for unknown words, that for known ones serves
+pub record FormatTexts : Type 0 where
+  pub node : List ℕ
+  pub unk : Option (List ℕ)
+  pub bos : List ℕ
+  pub eos : List ℕ
+
+-- what the four parts say
+pub record Format : Type 0 where
+  pub node : List Piece
+  pub unk : List Piece
+  pub bos : List Piece
+  pub eos : List Piece
+
+abbrev pub part_text : FormatTexts → FormatPart → List ℕ
+part_text texts Node = texts.node
+part_text texts Unk = option_map_or (λ text. text) texts.unk texts.node
+part_text texts Bos = texts.bos
+part_text texts Eos = texts.eos
+
+abbrev pub IsGood : FormatTexts → FormatPart → Type 0
+IsGood texts part = (pieces : List Piece) × Reads part pieces (part_text texts part)
+
+-- the parts before a part, which are looked at before it
+abbrev pub AreGoodBefore : FormatTexts → FormatPart → Type 0
+AreGoodBefore texts Node = Unit {0}
+AreGoodBefore texts Unk = IsGood texts Node
+AreGoodBefore texts Bos = IsGood texts Node × IsGood texts Unk
+AreGoodBefore texts Eos = IsGood texts Node × IsGood texts Unk × IsGood texts Bos
+
+pub record ReadsFormat (texts : FormatTexts) (f : Format) : Type 0 where
+  pub node : Reads Node f.node (part_text texts Node)
+  pub unk : Reads Unk f.unk (part_text texts Unk)
+  pub bos : Reads Bos f.bos (part_text texts Bos)
+  pub eos : Reads Eos f.eos (part_text texts Eos)
+
+-- the texts read as a format, or this is their first fault
+abbrev pub IsFormat : FormatTexts → Result Format FormatFault → Type 0
+IsFormat texts (Ok f) = ReadsFormat texts f
+IsFormat texts (Err (fault.Bad part at kind)) = AreGoodBefore texts part × IsBadAt part (part_text texts part) at kind
+IsFormat texts (Err fault.Memory) = ⊥
+
+-- each four texts read in exactly one way
+abbrev pub HasOneFormat : Type 0
+HasOneFormat = (texts : FormatTexts) → (read : Result Format FormatFault) × IsFormat texts read
+    × ((other : Result Format FormatFault) → IsFormat texts other → other ≡ read)

@@ -1,0 +1,82 @@
+//! What is wrong with an output format.
+
+ghost use Rattle.std.specs.Prelude.{◌≡◌};
+
+use thiserror::Error;
+
+/// One of the four texts of an output format.
+#[derive(Clone, Copy, Debug, PartialEq, Eq, Drop)]
+pub enum FormatPart {
+    /// For each known word.
+    Node,
+    /// For each unknown word.
+    Unk,
+    /// Before the first word.
+    Bos,
+    /// Behind the last word.
+    Eos,
+}
+
+/// Why a text of a format is refused.
+#[derive(Clone, Copy, Debug, PartialEq, Eq, Drop)]
+pub enum FormatKind {
+    /// A backslash before no character that it escapes.
+    BadEscape,
+    /// A `%` before no item of this part.
+    BadItem,
+    /// `%f` without an index of one to five digits, at most 65,535, between brackets.
+    BadIndex,
+}
+
+/// Why there is no format. `at` is the byte of the `%` or backslash in its part, counted from 0.
+#[derive(Clone, Copy, Debug, PartialEq, Eq, Drop, Error)]
+pub enum FormatFault {
+    #[error("{} {} {at}", self.code(), self.name())]
+    Bad {
+        part: FormatPart,
+        at: usize,
+        kind: FormatKind,
+    },
+    /// Memory was refused.
+    #[error("Memory")]
+    Memory,
+}
+
+impl FormatFault {
+    ghost use Rattle.mj_model.specs.FaultWords.{format_words};
+
+    /// The short code, as `P1`.
+    pub fn code(self) -> &'static str
+        ensures { result.now ≡ (format_words self).code }
+    {
+        self.words().0
+    }
+
+    /// The name behind the code, as `BadEscape`.
+    pub fn name(self) -> &'static str
+        ensures { result.now ≡ (format_words self).name }
+    {
+        self.words().1
+    }
+
+    fn words(self) -> (&'static str, &'static str)
+        ensures code { result.0.now ≡ (format_words self).code }
+        ensures name { result.1.now ≡ (format_words self).name }
+    {
+        match self {
+            FormatFault::Bad {
+                kind: FormatKind::BadEscape,
+                ..
+            } => ("P1", "BadEscape"),
+            FormatFault::Bad {
+                kind: FormatKind::BadItem,
+                ..
+            } => ("P2", "BadItem"),
+            FormatFault::Bad {
+                kind: FormatKind::BadIndex,
+                ..
+            } => ("P3", "BadIndex"),
+            FormatFault::Memory => ("Memory", "Memory"),
+        }
+    }
+}

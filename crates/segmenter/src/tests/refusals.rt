@@ -1,0 +1,188 @@
+//! Sources that are refused.
+
+use crate::{run_sources, sample};
+use mj_model::{Counted, GROUPING_DEFAULT, RunFault, SourceFault, SourceKind, Sources};
+use std::alloc::Global;
+use std::string::String;
+use std::test::Fail;
+
+/// Whether a run over the sources is refused with this fault, with nothing written.
+fn is_refused(alloc: Global, sources: &Sources<'_>, fault: SourceFault) -> bool {
+    let mut reader = Counted::new("も\n".as_bytes());
+    let mut written = Vec::new(alloc);
+    let mut writer = Counted::new(&mut written);
+    let answer = run_sources(alloc, sources, GROUPING_DEFAULT, &mut reader, &mut writer);
+    answer == Err(RunFault::Source(fault)) && written.is_empty()
+}
+
+#[test]
+fn matrix_and_lexicon(rt: HostRuntime) -> Result<(), Fail> {
+    let rows = [
+        // (what, matrix, lexicon, file, line, kind)
+        (
+            "asymmetric_matrix",
+            "2 3\n0 2 100\n1 0 9\n",
+            "も,1,2,20,X\n",
+            3,
+            1,
+            SourceKind::IdOutside,
+        ),
+        (
+            "open quote",
+            "2 2\n",
+            "\"ab,1,1,10,X\n",
+            3,
+            1,
+            SourceKind::TooFewFields,
+        ),
+        (
+            "cost too low",
+            "2 2\n",
+            "も,1,1,-32769,X\n",
+            3,
+            1,
+            SourceKind::BadNumber,
+        ),
+        (
+            "row too dear",
+            "2 2\n0 0 40000\n",
+            "",
+            0,
+            2,
+            SourceKind::BadRow,
+        ),
+        (
+            "row outside",
+            "2 2\n2 0 1\n",
+            "",
+            0,
+            2,
+            SourceKind::PairOutside,
+        ),
+        ("header of 0", "0 2\n", "", 0, 1, SourceKind::BadHeader),
+        ("no header", "", "", 0, 0, SourceKind::BadHeader),
+        ("too large", "65535 65535\n", "", 0, 1, SourceKind::TooLarge),
+        (
+            "matrix before lexicon",
+            "0 2\n",
+            "も,1,1,x,X\n",
+            0,
+            1,
+            SourceKind::BadHeader,
+        ),
+        (
+            "line before its ids",
+            "2 2\n",
+            "も,5,1,20,X\nも,1,1,x,X\n",
+            3,
+            2,
+            SourceKind::BadNumber,
+        ),
+    ];
+    for (what, matrix, lexicon, file, line, kind) in rows {
+        let sources = Sources {
+            matrix: matrix.as_bytes(),
+            lexicons: &[lexicon.as_bytes()],
+            ..sample()
+        };
+        let fault = SourceFault { file, line, kind };
+        assert!(rt; is_refused(rt.alloc(), &sources, fault), "{what}");
+    }
+    Ok(())
+}
+
+/// The lines of a text but those that begin so.
+fn without(alloc: Global, text: &[u8], begins: &str) -> Result<String, Fail> {
+    let mut kept = String::new(alloc);
+    for line in std::str::from_utf8(text)?.lines() {
+        if !line.starts_with(begins) {
+            kept.push_str(line)?;
+            kept.push('\n')?;
+        }
+    }
+    Ok(kept)
+}
+
+#[test]
+fn categories_and_unknown_entries(rt: HostRuntime) -> Result<(), Fail> {
+    let all = "none";
+    let rows = [
+        // (what, lines left out of char.def, those of unk.def, a further line of each, file, line, kind)
+        ("no SPACE", "SPACE", all, "", "", 1, 0, SourceKind::NoSpace),
+        (
+            "missing_categories",
+            all,
+            "KANJI",
+            "",
+            "",
+            2,
+            0,
+            SourceKind::MissingCategory(4),
+        ),
+        ("both", "SPACE", "KANJI", "", "", 1, 0, SourceKind::NoSpace),
+        (
+            "beyond Unicode",
+            all,
+            all,
+            "0x110000 KANJI\n",
+            "",
+            1,
+            13,
+            SourceKind::BadRange,
+        ),
+        (
+            "an id outside",
+            all,
+            all,
+            "",
+            "KANJI,2,1,1000,X\nSPACE,1,2,1000,X\n",
+            2,
+            7,
+            SourceKind::IdOutside,
+        ),
+        (
+            "a line before its ids",
+            all,
+            all,
+            "",
+            "KANJI,2,1,1000,X\nKANJI,1,1,x,X\n",
+            2,
+            8,
+            SourceKind::BadNumber,
+        ),
+        (
+            "a missing category before ids",
+            all,
+            "KANJI",
+            "",
+            "SPACE,2,1,1000,X\n",
+            2,
+            0,
+            SourceKind::MissingCategory(4),
+        ),
+        (
+            "no such category",
+            all,
+            all,
+            "",
+            "KANA,1,1,1000,X\n",
+            2,
+            7,
+            SourceKind::NoSuchCategory,
+        ),
+    ];
+    for (what, no_chars, no_unk, chars, unk, file, line, kind) in rows {
+        let mut char_lines = without(rt.alloc(), sample().chars, no_chars)?;
+        char_lines.push_str(chars)?;
+        let mut unk_lines = without(rt.alloc(), sample().unk, no_unk)?;
+        unk_lines.push_str(unk)?;
+        let sources = Sources {
+            chars: char_lines.as_bytes(),
+            unk: unk_lines.as_bytes(),
+            ..sample()
+        };
+        let fault = SourceFault { file, line, kind };
+        assert!(rt; is_refused(rt.alloc(), &sources, fault), "{what}");
+    }
+    Ok(())
+}

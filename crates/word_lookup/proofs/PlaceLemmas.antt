@@ -1,0 +1,133 @@
+-- Places of a text, and the blanks there.
+use Rattle.std.proofs.Common.{◌≡◌, ℕ, ◌+◌, ◌<◌, ◌≤◌, Bool, true, cond, ◌&&◌, List, [], ◌∷◌, ◌++◌, length, drop, get_or, sym, ap, ◌∙◌, refl, arith, subst}
+use Rattle.std.specs.Prelude.{◌==◌, IsTrue, IsUtf8, chars, encode_utf8, min, nat_le, nat_lt}
+use Rattle.std.specs.Char.{len_utf8}
+use Rattle.std.specs.Str.{IsCharBoundary, is_utf8}
+use Rattle.std.proofs.lemmas.Bool.{and_parts, and_from, and_right, eq-eqb, ne_eqb, leb-true, lt-ltb, le-ltb}
+use Rattle.std.proofs.lemmas.List.{get_or-drop, length-drop, length-append, append_assoc, drop_at}
+use Rattle.std.proofs.lemmas.Str.{IsCharBoundary-start, IsUtf8-from_is_utf8, length-le-encodes, length-encode, encodes-chars, chars_past_char}
+use Rattle.mj_model.specs.declared.category.CharInfo.{CharInfo}
+use Rattle.mj_model.specs.declared.word.Word.{Word}
+use Rattle.mj_model.specs.Blanks.{skip, space, chars_from}
+use Rattle.mj_model.specs.KnownWords.{known}
+use Rattle.mj_model.specs.Run.{run, bytes_of}
+use Rattle.mj_model.specs.Tables.{Overlay, Token}
+use Rattle.mj_model.specs.UnknownSpans.{spans}
+use Rattle.mj_model.specs.Words.{is_place, is_empty, unknown, words}
+use Rattle.mj_model.proofs.CharBytes.{run_within, chars_within, text_behind, text_behind_blanks}
+use Rattle.mj_model.proofs.PlaceWords.{place_there}
+use Rattle.word_lookup.specs.UnknownEntries.{words_of_spans}
+
+pub place_within : (text : List ℕ) (p : ℕ) → IsTrue (is_place text p) → p ≤ length text
+place_within text p h = leb-true p (length text) (and_parts (nat_le p (length text)) (is_utf8 (drop p text)) h).0
+
+pub text_there : (text : List ℕ) (p : ℕ) → IsTrue (is_place text p) → IsUtf8 (drop p text)
+text_there text p h = IsUtf8-from_is_utf8 (drop p text) (and_parts (nat_le p (length text)) (is_utf8 (drop p text)) h).1
+
+pub boundary : (text : List ℕ) (p : ℕ) → IsTrue (is_place text p) → IsCharBoundary text p
+boundary text p h =
+    let low = place_within text p h in
+    let start = IsCharBoundary-start (drop p text) (text_there text p h) in
+    let at = get_or-drop p text 0 0 in
+    let same : p + 0 ≡ p = omega arith in
+    let here : get_or (drop p text) 0 0 ≡ get_or text p 0 = at ∙ ap (λ (k : ℕ). get_or text k 0) same in
+    let long = length-drop p text in
+    (low, λ less above. let r = start.1 (omega (arith, long, less)) (omega (arith, here, above)) in omega (arith, r, here))
+
+-- ---- blanks
+
+pub blanks_fit : (text rest : List ℕ) (p n bytes : ℕ) → IsTrue (is_place text p) → rest ≡ drop p text → bytes ≡ bytes_of n (chars rest) → p + bytes ≤ length text
+blanks_fit text rest p n bytes h e b =
+    let low = place_within text p h in
+    let w = chars_within (drop p text) n (text_there text p h) in
+    let same = ap (λ (t : List ℕ). bytes_of n (chars t)) e in
+    let long = length-drop p text in
+    omega (arith, low, w, same, long, b)
+
+pub blanks_are : (o : Overlay) (text rest : List ℕ) (p : ℕ) (entry : CharInfo) (n bytes : ℕ) → IsTrue (is_place text p) → rest ≡ drop p text → entry ≡ o.system.info space
+    → n ≡ min (length rest) (run o.system.info entry (chars rest)) → bytes ≡ bytes_of n (chars rest) → p + bytes ≡ skip o text p
+blanks_are o text rest p entry n bytes h e s is b =
+    let info = o.system.info in
+    let u = text_there text p h in
+    let cs = chars (drop p text) in
+    let r = run info (info space) cs in
+    let few = run_within info (info space) cs in
+    let short = length-le-encodes cs in
+    let spelled = ap length (encodes-chars (drop p text) u) in
+    let runs : run info entry (chars rest) ≡ r = ap (λ (i : CharInfo). run info i (chars rest)) s ∙ ap (λ (t : List ℕ). run info (info space) (chars t)) e in
+    let long = ap length e in
+    let whole : n ≡ r = omega (arith, is, runs, few, short, spelled, long) in
+    ap (λ (k : ℕ). p + k) (b ∙ ap (λ (k : ℕ). bytes_of k (chars rest)) whole ∙ ap (λ (t : List ℕ). bytes_of r (chars t)) e)
+
+-- what stands behind the blanks of a place
+pub place_behind_blanks : (o : Overlay) (text : List ℕ) (p start : ℕ) → IsTrue (is_place text p) → start ≡ skip o text p → start ≤ length text → IsTrue (is_place text start)
+place_behind_blanks o text p start h e low =
+    place_there text start low (subst (λ (k : ℕ). IsUtf8 (drop k text)) (sym e) (text_behind_blanks o text p (text_there text p h)))
+
+-- ---- the words
+
+pub no_words : (o : Overlay) (text : List ℕ) (p start : ℕ) → start ≡ skip o text p → length text ≤ start → words o text p ≡ []
+no_words o text p start at all =
+    ap (λ (b : Bool). cond b (known o text p ++ unknown o (is_empty (known o text p)) p (skip o text p) (chars_from text (skip o text p))) [])
+    (and_right (is_place text p) (nat_lt (skip o text p) (length text)) (le-ltb (skip o text p) (length text) (omega (arith, at, all))))
+
+pub words_are : (o : Overlay) (text : List ℕ) (p start : ℕ) → IsTrue (is_place text p) → start ≡ skip o text p → start < length text
+    → words o text p ≡ known o text p ++ unknown o (is_empty (known o text p)) p start (chars_from text start)
+words_are o text p start place at less =
+    let here : (is_place text p && nat_lt (skip o text p) (length text)) ≡ true = and_from (is_place text p) (nat_lt (skip o text p) (length text)) place (lt-ltb (skip o text p) (length text) (omega (arith, at, less))) in
+    ap (λ (b : Bool). cond b (known o text p ++ unknown o (is_empty (known o text p)) p (skip o text p) (chars_from text (skip o text p))) []) here
+    ∙ ap (λ (k : ℕ). known o text p ++ unknown o (is_empty (known o text p)) p k (chars_from text k)) (sym at)
+
+-- blanks end in the text
+pub skip_within : (o : Overlay) (text : List ℕ) (p : ℕ) → IsTrue (is_place text p) → skip o text p ≤ length text
+skip_within o text p h = blanks_fit text (drop p text) p (run o.system.info (o.system.info space) (chars (drop p text))) _ h refl refl
+
+-- ---- known, then unknown
+
+is_none : (old ks : List Word) → (length (old ++ ks) == length old) ≡ is_empty ks
+is_none old [] = eq-eqb (length (old ++ [])) (length old) (let e = length-append old [] in omega (arith, e))
+is_none old (w ∷ ks) = ne_eqb (length (old ++ w ∷ ks)) (length old) (λ h. let e = length-append old (w ∷ ks) in omega (arith, e, h))
+
+pub known_then_unknown : (o : Overlay) (place start : ℕ) (rest cs : List ℕ) (k ks old mid : List Word) (n count : ℕ) → k ≡ ks → mid ≡ old ++ ks → n ≡ length mid → count ≡ length old → chars rest ≡ cs
+    → mid ++ unknown o (n == count) place start (chars rest) ≡ old ++ (k ++ unknown o (is_empty k) place start cs)
+known_then_unknown o place start rest cs k ks old mid n count e so_far long first is =
+    let none : (n == count) ≡ is_empty k =
+    ap (λ (m : ℕ). m == count) (long ∙ ap length so_far) ∙ ap (λ (m : ℕ). length (old ++ ks) == m) first ∙ is_none old ks ∙ ap is_empty (sym e) in
+    let u = unknown o (is_empty k) place start cs in
+    ap (λ (b : Bool). mid ++ unknown o b place start (chars rest)) none
+    ∙ ap (λ (xs : List ℕ). mid ++ unknown o (is_empty k) place start xs) is
+    ∙ ap (λ (xs : List Word). xs ++ u) (so_far ∙ ap (λ (xs : List Word). old ++ xs) (sym e))
+    ∙ append_assoc old k u
+
+-- ---- the first character
+
+pub record IsFirst (text : List ℕ) (c n : ℕ) : Type 0 where
+  pub place : IsTrue (is_place text n)
+  pub split : chars text ≡ c ∷ chars (drop n text)
+  pub long : n + length (drop n text) ≡ length text
+
+pub first_taken : (text bytes rest : List ℕ) (c n : ℕ) → IsUtf8 text → bytes ≡ text → bytes ≡ encode_utf8 c ++ rest → n ≡ len_utf8 c → IsFirst text c n
+first_taken text bytes rest c n u e h is =
+    let spelled : text ≡ encode_utf8 c ++ rest = sym e ∙ h in
+    let split = chars_past_char text rest c u spelled in
+    let one = length-encode c in
+    let behind : drop n text ≡ rest = ap (drop n) spelled ∙ drop_at (encode_utf8 c) rest n (omega (arith, one, is)) in
+    let long = ap length spelled in
+    let both = length-append (encode_utf8 c) rest in
+    let low : n ≤ length text = omega (arith, long, both, one, is) in
+    let bytes_are : bytes_of 1 (chars text) ≡ n =
+    ap (bytes_of 1) split ∙ length-append (encode_utf8 c) [] ∙ omega (arith, one, is) in
+    record {
+      place = place_there text n low (subst (λ (k : ℕ). IsUtf8 (drop k text)) bytes_are (text_behind text 1 u));
+      split = split ∙ ap (λ (xs : List ℕ). c ∷ chars xs) (sym behind);
+      long = (let d = length-drop n text in omega (arith, d, low));
+    }
+
+pub unknown_are : (o : Overlay) (none_known : Bool) (place start c i : ℕ) (all following : List ℕ) (ts : List Token) (ns : List ℕ) → all ≡ c ∷ following
+    → i ≡ (o.system.info c).head → ts ≡ o.system.unknown i → ns ≡ spans o none_known c following
+    → words_of_spans place start all ts ns ≡ unknown o none_known place start all
+unknown_are o none_known place start c i all following ts ns e at t s =
+    ap (λ (xs : List ℕ). words_of_spans place start xs ts ns) e
+    ∙ ap (λ (entries : List Token). words_of_spans place start (c ∷ following) entries ns) (t ∙ ap o.system.unknown at)
+    ∙ ap (λ (lengths : List ℕ). words_of_spans place start (c ∷ following) (o.system.unknown (o.system.info c).head) lengths) s
+    ∙ ap (λ (xs : List ℕ). unknown o none_known place start xs) (sym e)

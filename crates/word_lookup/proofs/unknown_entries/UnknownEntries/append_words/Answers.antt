@@ -1,0 +1,9 @@
+use Rattle.std.proofs.Common.{arith, ◌-◌}
+use Rattle.mj_model.specs.Words.{unknown_word}
+use Rattle.word_lookup.proofs.UnknownWords.{one_entry_more}
+use Rattle.word_lookup.proofs.unknown_entries.UnknownEntries.append_words.Goals as goal
+
+pub loop-i-preserved : goal.loop-i-preserved
+loop-i-preserved c =
+    one_entry_more (unknown_word c.args.place c.args.start (c.args.end - c.args.start)) c.args.self.first c.loop-i.i c.args.self.records.now c.record-item.result _ _ _ _
+    (omega arith) c.record-item.is c.word_of.ensures c.loop-i.invariant c.in_ok-push.ensures.items

@@ -1,0 +1,48 @@
+//! Runs of characters of one kind.
+
+ghost use Rattle.std.specs.Prelude.{◌≡◌, ℕ, ◌+◌, length, min, chars, take, take_while};
+ghost use Rattle.mj_model.specs.Categories.{shares};
+ghost use Rattle.mj_model.specs.Run.{run, bytes_of};
+ghost use Rattle.word_lookup.specs.Chars.{info_of};
+
+use char_def::CharTable;
+use mj_model::CharInfo;
+
+/// The first characters of a text, and the bytes that they take.
+#[derive(Clone, Copy, Debug, Drop)]
+pub struct Run {
+    pub characters: usize,
+    pub bytes: usize,
+}
+
+/// The run at the beginning of a text, from the categories `entry`; no more than `limit` characters
+/// are looked at.
+pub fn run_up_to(table: &CharTable, entry: CharInfo, text: &str, limit: usize) -> Run
+    ensures characters { result.characters ≡ min limit (run (info_of table.now) entry (chars text.now)) }
+    ensures bytes { result.bytes ≡ bytes_of result.characters (chars text.now) }
+{
+    let mut last = entry;
+    let mut characters = 0;
+    let mut bytes = 0;
+    for c in text.chars().take(limit) {
+        let next = table.info(u32::from(c));
+        if !last.shares(next) {
+            return Run { characters, bytes };
+        }
+        characters += 1;
+        bytes += c.len_utf8();
+        last = next;
+    }
+    Run { characters, bytes }
+}
+
+/// How many characters at the beginning of a text share with the categories `first`; no more than
+/// `limit` characters are looked at.
+pub fn alike_up_to(table: &CharTable, first: CharInfo, text: &str, limit: usize) -> usize
+    ensures { result ≡ length (take_while (λ c. shares first (info_of table.now c)) (take limit (chars text.now))) }
+{
+    text.chars()
+        .take(limit)
+        .take_while(|c| first.shares(table.info(u32::from(*c))))
+        .count()
+}

@@ -1,0 +1,114 @@
+//! How many characters the unknown words of a place have. (MeCab, unk)
+
+ghost use Rattle.std.specs.Prelude.{◌≡◌, ℕ, ◌+◌, ◌<◌, ◌≤◌, ◌&&◌, ◌||◌, ◌^◌, ◌∷◌, [], length, min, chars, take, take_while, nat_le, if◌then◌else◌, IfSome, slice_index_or, max, true};
+ghost use Rattle.std.specs.Char.{len_utf8};
+ghost use Rattle.mj_model.specs.Run.{run, bytes_of, alike};
+ghost use Rattle.mj_model.specs.Tables.{no_category};
+ghost use Rattle.mj_model.specs.UnknownSpans.{spans_of, one_if_none, grouped_span, length_spans};
+ghost use Rattle.mj_model.specs.KnownWords.{up_to};
+ghost use Rattle.word_lookup.specs.Chars.{info_of, categories_of};
+ghost use Rattle.word_lookup.specs.Spans.{grouped_spans, spans_in, HasBytes};
+
+use crate::run::{Run, alike_up_to, run_up_to};
+use char_def::CharTable;
+use mj_model::Category;
+
+/// The unknown spans of a place: that of the whole run, where it is grouped, and those of 1 to
+/// `longest` characters.
+#[derive(Clone, Copy, Debug, Drop)]
+pub struct Spans {
+    pub grouped: Option<Run>,
+    pub longest: usize,
+}
+
+/// The unknown spans of a text that begins with the character `first`.
+pub fn spans_from(
+    table: &CharTable,
+    grouping: u16,
+    none_known: bool,
+    first: char,
+    following: &str,
+) -> Spans
+    requires { len_utf8 first + length following.now < 2 ^ 64 }
+    ensures spans { spans_in result ≡ spans_of (slice_index_or (categories_of table.now) (info_of table.now first).head no_category) none_known grouping (1 + run (info_of table.now) (info_of table.now first) (chars following.now)) (alike (info_of table.now) first (chars following.now)) }
+    ensures bytes { IfSome result.grouped (HasBytes (first ∷ chars following.now)) }
+    ensures within { result.longest ≤ length (first ∷ chars following.now) }
+{
+    let info = table.info(u32::from(first));
+    let category = table.category(usize::from(info.first()));
+    if !makes_words(category, none_known) {
+        return Spans {
+            grouped: None,
+            longest: 0,
+        };
+    }
+    let run = run_up_to(table, info, following, look_ahead(category, grouping));
+    let alike = 1 + alike_up_to(table, info, following, usize::from(category.length));
+    let spans = Spans {
+        grouped: grouped_run(category, grouping, first, run),
+        longest: longest_length(category, run.characters, alike),
+    };
+    at_least_one(none_known, spans)
+}
+
+/// Whether unknown words are made: always where nothing is known.
+fn makes_words(category: Category, none_known: bool) -> bool
+    ensures { result ≡ (category.invoke || none_known) }
+{
+    category.invoke || none_known
+}
+
+/// How many characters of the run behind the first one matter.
+fn look_ahead(category: Category, grouping: u16) -> usize
+    ensures grouping { category.group ≡ true → grouping + 1 ≤ result }
+    ensures lengths { category.group ≡ true → category.length ≤ result }
+    ensures fits { result ≤ 65536 }
+{
+    if !category.group {
+        return 0;
+    }
+    (usize::from(grouping) + 1).max(usize::from(category.length))
+}
+
+/// The whole run, where the category groups and no more characters than the grouping follow the first.
+fn grouped_run(category: Category, grouping: u16, first: char, run: Run) -> Option<Run>
+    requires { len_utf8 first + run.bytes < 2 ^ 64 }
+    ensures { result ≡ (if category.group && nat_le run.characters grouping then Some (record { characters = 1 + run.characters; bytes = len_utf8 first + run.bytes }) else None) }
+{
+    if category.group && run.characters <= usize::from(grouping) {
+        Some(Run {
+            characters: 1 + run.characters,
+            bytes: first.len_utf8() + run.bytes,
+        })
+    } else {
+        None
+    }
+}
+
+/// The longest of the lengths from 1 on.
+fn longest_length(category: Category, following: usize, alike: usize) -> usize
+    ensures { result ≡ (if category.group then min (min category.length alike) following else min category.length alike) }
+{
+    let longest = usize::from(category.length).min(alike);
+    if category.group {
+        longest.min(following)
+    } else {
+        longest
+    }
+}
+
+/// One character, where nothing else is there.
+fn at_least_one(none_known: bool, spans: Spans) -> Spans
+    ensures spans { spans_in result ≡ one_if_none none_known (spans_in spans) }
+    ensures grouped { result.grouped ≡ spans.grouped }
+    ensures longest { result.longest ≤ max 1 spans.longest }
+{
+    if none_known && spans.grouped.is_none() && spans.longest == 0 {
+        Spans {
+            grouped: None,
+            longest: 1,
+        }
+    } else {
+        spans
+    }
+}
