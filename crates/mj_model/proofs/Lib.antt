@@ -10,3 +10,5 @@ pub mod TextPaths
 pub mod ReadingLemmas
 pub mod CoveredTexts
 pub mod AcceptedRows
+pub mod CellWalks
+pub mod CellMoveLaw

@@ -33,3 +33,6 @@ pub mod Output
 pub mod Counts
 pub mod Counted
 pub mod TextLines
+pub mod CellMap
+pub mod CellRules
+pub mod CellMoves

@@ -2,6 +2,7 @@
 #![tactic(auto)]
 
 mod category;
+pub mod cell_laws;
 mod counted;
 mod entry;
 mod format_fault;

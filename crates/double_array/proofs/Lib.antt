@@ -1,0 +1,15 @@
+pub mod StepLemmas
+pub mod KeyWalks
+pub mod HitLemmas
+pub mod SeenLemmas
+pub mod RingLemmas
+pub mod RingWrites
+pub mod PoolLemmas
+pub mod Moving
+pub mod Leaf
+pub mod Valued
+pub mod FamilyLemmas
+pub mod TailLemmas
+pub mod ClearingLemmas
+pub mod InsertionLemmas
+pub mod EmptyLemmas

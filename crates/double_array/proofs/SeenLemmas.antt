@@ -1,0 +1,75 @@
+-- Cells after a write, and as they are seen from outside.
+use Rattle.std.proofs.Common.{◌≡◌, ◌≢◌, ℕ, zero, suc, ◌+◌, ◌-◌, ◌<◌, ◌≤◌, ℤ, pos, negsuc, neg_ℤ, List, [], ◌∷◌, ◌++◌, length, get_or, set, map, ◌⊎◌, inl, inr, sym, ap, ◌∙◌, refl, arith, subst}
+use Rattle.std.proofs.lemmas.Bool.{cases_eq, cases_lt}
+use Rattle.std.proofs.lemmas.List.{get_or-set_same, get_or-set_other, length-set, length-map, get_or_past, get_or-map, ext_get_or, set_past}
+use Rattle.mj_model.specs.CellMap.{Cell, free_cell, cell_at, base, check}
+use Rattle.double_array.specs.Seen.{hidden, hide, seen}
+
+pub at_same : (cells : List Cell) (i : ℕ) (x : Cell) → i < length cells → cell_at (set cells i x) i ≡ x
+at_same cells i x within = get_or-set_same cells i x free_cell within
+
+pub at_other : (cells : List Cell) (i j : ℕ) (x : Cell) → j ≢ i → cell_at (set cells i x) j ≡ cell_at cells j
+at_other cells i j x other = get_or-set_other cells i j x free_cell other
+
+-- ---- what is seen of a cell
+
+pub length-seen : (cells : List Cell) → length (seen cells) ≡ length cells
+unfolding seen
+length-seen [] = refl
+length-seen (root ∷ rest) = ap suc (length-map rest hide)
+
+pub seen_root : (cells : List Cell) → cell_at (seen cells) 0 ≡ cell_at cells 0
+unfolding seen
+seen_root [] = refl
+seen_root (root ∷ rest) = refl
+
+mapped : (cells : List Cell) (i : ℕ) → cell_at (map hide cells) i ≡ hide (cell_at cells i)
+mapped [] i = refl
+mapped (x ∷ xs) zero = refl
+mapped (x ∷ xs) (suc i) = mapped xs i
+
+pub seen_at : (cells : List Cell) (i : ℕ) → 0 < i → cell_at (seen cells) i ≡ hide (cell_at cells i)
+unfolding seen
+seen_at cells zero above = absurd (omega (arith, above))
+seen_at [] (suc i) above = refl
+seen_at (root ∷ rest) (suc i) above = mapped rest i
+
+hidden_below : (b : ℤ) (p : ℕ) → 0 < p → hidden b (neg_ℤ (pos p)) ≡ free_cell
+hidden_below b zero above = absurd (omega (arith, above))
+hidden_below b (suc p) above = refl
+
+-- a cell with a negative check is seen as free
+pub seen_free : (cells : List Cell) (i p : ℕ) → 0 < i → 0 < p → check cells i ≡ neg_ℤ (pos p) → cell_at (seen cells) i ≡ free_cell
+seen_free cells i p above some at = seen_at cells i above ∙ ap (hidden (base cells i)) at ∙ hidden_below (base cells i) p some
+
+hidden_free : (b k : ℤ) → hidden b k ≡ free_cell → (p : ℕ) × (k ≡ negsuc p)
+hidden_free b (pos k) h = absurd (let e : pos k ≡ negsuc 0 = ap (λ (x : Cell). x.1) h in cc)
+hidden_free b (negsuc p) h = (p, refl)
+
+-- a cell that is seen as free has a negative check
+pub free_seen : (cells : List Cell) (i : ℕ) → 0 < i → cell_at (seen cells) i ≡ free_cell → (p : ℕ) × (check cells i ≡ negsuc p)
+free_seen cells i above h = hidden_free (base cells i) (check cells i) (sym (seen_at cells i above) ∙ h)
+
+hidden_used : (b k : ℤ) (s : ℕ) → (hidden b k).1 ≡ pos s → (b, k) ≡ hidden b k
+hidden_used b (pos k) s h = refl
+hidden_used b (negsuc p) s h = absurd (cc)
+
+-- a cell that is seen with a state as its check is seen as it is
+pub used_seen : (cells : List Cell) (i s : ℕ) → check (seen cells) i ≡ pos s → 0 < i → cell_at cells i ≡ cell_at (seen cells) i
+used_seen cells i s named above =
+    let e = seen_at cells i above in
+    hidden_used (base cells i) (check cells i) s (sym (ap (λ (x : Cell). x.1) e) ∙ named) ∙ sym e
+
+-- ---- what is seen after a change
+
+hidden_pos : (b k : ℤ) (s : ℕ) → k ≡ pos s → hidden b k ≡ (b, k)
+hidden_pos b k s e = ap (hidden b) e ∙ ap (λ (z : ℤ). (b, z)) (sym e)
+
+-- all cells but one are seen as before, and that one as a new one
+pub seen_set : (old new : List Cell) (i : ℕ) (x : Cell) → length new ≡ length old → i < length old → cell_at (seen new) i ≡ x → ((j : ℕ) → j ≢ i → cell_at (seen new) j ≡ cell_at (seen old) j) → seen new ≡ set (seen old) i x
+seen_set old new i x same within at others =
+    ext_get_or free_cell (seen new) (set (seen old) i x) (length-seen new ∙ same ∙ sym (length-seen old) ∙ sym (length-set (seen old) i x))
+    (λ j less. elim (cases_eq j i) [
+      | inl e ↦ ap (cell_at (seen new)) e ∙ at ∙ sym (at_same (seen old) i x (let l = length-seen old in omega (arith, l, within))) ∙ ap (cell_at (set (seen old) i x)) (sym e)
+      | inr other ↦ others j other ∙ sym (at_other (seen old) i j x other)
+    ])

@@ -1,0 +1,26 @@
+use Rattle.std.proofs.Common.{arith, ◌≡◌, ◌+◌, ◌≤◌, ℕ, length, true, set, ap, sym, subst, ◌∙◌}
+use Rattle.mj_model.specs.CellMoves.{IsMove}
+use Rattle.double_array.specs.Pool.{Pool}
+use Rattle.double_array.specs.Family.{HasCode, FitsAt}
+use Rattle.double_array.proofs.ClearingLemmas.{has_code, fits_less, cleared_by_own}
+use Rattle.double_array.proofs.clearing.move_own.Goals as goal
+
+pub relocate-moved-requires-clause-member : goal.relocate-moved-requires-clause-member
+relocate-moved-requires-clause-member c =
+    let r = c.requires in
+    has_code c.args.pool.now c.args.state c.args.from (c.args.from + c.args.code) r.used.0 c.args.family.now r.built r.based r.least r.used.1 r.family
+
+pub relocate-moved-requires-clause-fits : goal.relocate-moved-requires-clause-fits
+relocate-moved-requires-clause-fits c =
+    let f = c.find_free_base-to in
+    subst (λ (p : Pool). FitsAt p.cells c.args.family.now f.result) (sym f.ensures.kept) (fits_less c.args.pool.now.cells c.args.family.now c.args.code f.result f.ensures.free)
+
+pub returns-clause-cleared : goal.returns-clause-cleared
+returns-clause-cleared c =
+    let r = c.requires in
+    let f = c.find_free_base-to in
+    let e = c.relocate-moved.ensures in
+    let new = c.relocate-moved.new.pool in
+    let move = subst (λ (p : Pool). IsMove p.cells new.cells c.args.state f.result) f.ensures.kept e.moved in
+    let top : new.top ≤ c.args.pool.now.top + 257 = subst (λ (p : Pool). new.top ≤ p.top + 257) f.ensures.kept e.top in
+    cleared_by_own c.args.pool.now new c.args.state c.args.from c.args.code f.result c.args.family.now r.built r.based r.least r.code r.none r.family f.ensures.free f.ensures.least f.ensures.top r.room move e.bases e.root top

@@ -1,0 +1,66 @@
+use Rattle.std.proofs.Common.{arith, ◌≡◌, ◌+◌, ◌<◌, ◌≤◌, ℕ, length, Some, None, Result, Ok, Err, ap, sym, ◌∙◌}
+use Rattle.std.specs.Prelude.{OnErr}
+use Rattle.mj_model.specs.CellMap.{value_of, step}
+use Rattle.double_array.proofs.TailLemmas.{map_then}
+use Rattle.double_array.proofs.InsertionLemmas.{end_in_use, end_within, end_holds, end_replaced, end_value, end_built, absent, none_still, ready, map_before}
+use Rattle.double_array.proofs.insertion.insert_key.Goals as goal
+
+on_err_by : {T E : Type 0} (r : Result T E) (P : Type 0) → P → OnErr r P
+on_err_by (Ok x) P p = tt
+on_err_by (Err e) P p = p
+
+pub replace_value-requires-clause-used : goal.replace_value-requires-clause-used
+replace_value-requires-clause-used c =
+    end_in_use c.args.pool.now c.args.key.now c.walk_key-at.result c.code_at-code.result c.in-Some.end c.requires.built c.requires.some c.walk_key-at.ensures c.code_at-code.ensures.code c.in-Some.ensures
+
+pub replace_value-requires-clause-within : goal.replace_value-requires-clause-within
+replace_value-requires-clause-within c =
+    end_within c.args.pool.now c.args.key.now c.walk_key-at.result c.code_at-code.result c.in-Some.end c.requires.built c.requires.some c.walk_key-at.ensures c.code_at-code.ensures.code c.in-Some.ensures
+
+pub replace_value-requires-clause-state : goal.replace_value-requires-clause-state
+replace_value-requires-clause-state c =
+    end_holds c.args.pool.now c.args.key.now c.walk_key-at.result c.code_at-code.result c.in-Some.end c.requires.built c.requires.some c.walk_key-at.ensures c.code_at-code.ensures.code c.in-Some.ensures
+
+pub returns-in-Some-clause-built : goal.returns-in-Some-clause-built
+returns-in-Some-clause-built c =
+    let e = c.replace_value.ensures in
+    end_built c.args.pool.now c.args.key.now c.walk_key-at.result c.code_at-code.result c.in-Some.end c.requires.built c.requires.some c.walk_key-at.ensures c.code_at-code.ensures.code c.in-Some.ensures
+    c.replace_value.new.pool c.args.value c.replace_value.result c.requires.value e.value e.cells e.top
+
+pub returns-in-Some-clause-map : goal.returns-in-Some-clause-map
+returns-in-Some-clause-map c =
+    let e = c.replace_value.ensures in
+    end_replaced c.args.pool.now c.args.key.now c.walk_key-at.result c.code_at-code.result c.in-Some.end c.requires.built c.requires.some c.walk_key-at.ensures c.code_at-code.ensures.code c.in-Some.ensures
+    c.replace_value.new.pool c.args.value c.replace_value.result c.requires.value e.value e.cells e.top
+
+pub returns-in-Some-clause-old : goal.returns-in-Some-clause-old
+returns-in-Some-clause-old c =
+    let e = c.replace_value.ensures in
+    sym (end_value c.args.pool.now c.args.key.now c.walk_key-at.result c.code_at-code.result c.in-Some.end c.requires.built c.requires.some c.walk_key-at.ensures c.code_at-code.ensures.code c.in-Some.ensures
+    c.replace_value.new.pool c.args.value c.replace_value.result c.requires.value e.value e.cells e.top)
+
+pub returns-in_err-make_room-in-None-clause-absent : goal.returns-in_err-make_room-in-None-clause-absent
+returns-in_err-make_room-in-None-clause-absent c =
+    on_err_by c.from_residual.result (value_of c.args.pool.now.cells c.args.key.now ≡ None)
+    (absent c.args.pool.now c.args.key.now c.walk_key-at.result c.code_at-code.result c.requires.built c.requires.some c.walk_key-at.ensures c.code_at-code.ensures.code (sym c.in-None.ensures))
+
+pub clear_way-cleared-requires-clause-none : goal.clear_way-cleared-requires-clause-none
+clear_way-cleared-requires-clause-none c =
+    none_still c.args.pool.now c.args.key.now c.walk_key-at.result c.code_at-code.result c.requires.built c.requires.some c.walk_key-at.ensures c.code_at-code.ensures.code (sym c.in-None.ensures)
+    c.make_room.new.pool c.in_ok-make_room-in-None.ensures.room
+
+pub add_tail-requires-clause-ready : goal.add_tail-requires-clause-ready
+add_tail-requires-clause-ready c =
+    ready c.args.pool.now c.args.key.now c.walk_key-at.result c.code_at-code.result c.requires.built c.requires.some c.walk_key-at.ensures c.code_at-code.ensures.code (sym c.in-None.ensures)
+    c.make_room.new.pool c.in_ok-make_room-in-None.ensures.room c.clear_way-cleared.new.pool c.clear_way-cleared.result.state c.clear_way-cleared.result.wanted c.clear_way-cleared.ensures.cleared
+
+pub returns-in_ok-make_room-in-None-clause-map : goal.returns-in_ok-make_room-in-None-clause-map
+returns-in_ok-make_room-in-None-clause-map c =
+    map_then c.args.pool.now.cells c.clear_way-cleared.new.pool.cells c.add_tail.new.pool.cells c.args.key.now c.args.value
+    (map_before c.args.pool.now c.args.key.now c.walk_key-at.result c.code_at-code.result c.requires.built c.requires.some c.walk_key-at.ensures c.code_at-code.ensures.code (sym c.in-None.ensures)
+    c.make_room.new.pool c.in_ok-make_room-in-None.ensures.room c.clear_way-cleared.new.pool c.clear_way-cleared.result.state c.clear_way-cleared.result.wanted c.clear_way-cleared.ensures.cleared)
+    c.add_tail.ensures.map
+
+pub returns-in_ok-make_room-in-None-clause-old : goal.returns-in_ok-make_room-in-None-clause-old
+returns-in_ok-make_room-in-None-clause-old c =
+    sym (absent c.args.pool.now c.args.key.now c.walk_key-at.result c.code_at-code.result c.requires.built c.requires.some c.walk_key-at.ensures c.code_at-code.ensures.code (sym c.in-None.ensures))

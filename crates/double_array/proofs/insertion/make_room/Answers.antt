@@ -1,0 +1,8 @@
+use Rattle.double_array.proofs.InsertionLemmas.{grown_built}
+use Rattle.std.proofs.Common.{arith, ◌≡◌, ◌+◌, ◌≤◌, ◌^◌, ℕ, length}
+use Rattle.double_array.proofs.insertion.make_room.Goals as goal
+
+pub returns-in-Ok-clause-room : goal.returns-in-Ok-clause-room
+returns-in-Ok-clause-room c =
+    let n = c.len-2.result + c.args.key_length + 600 in
+    grown_built c.args.pool.now c.grow.new.self n c.args.key_length c.args.left c.requires.built c.in-Ok.ensures.grown c.in-Ok.ensures.top (omega (arith, c.len-2.ensures.length)) c.if-wanted-gt-CELLS_MAX.false c.requires.left

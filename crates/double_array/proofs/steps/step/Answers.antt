@@ -1,0 +1,21 @@
+use Rattle.std.proofs.Common.{rules, arith, ap, sym, subst, ◌+◌, ◌≡◌, ◌∙◌, pos, w32}
+use lib.IntN.{nat_abs}
+use mir.Val.{SFits}
+use Rattle.std.proofs.lemmas.Int.{to_z-of_z}
+use Rattle.double_array.specs.Steps.{IsStepTo}
+use Rattle.double_array.proofs.StepLemmas.{no_step, byte_step}
+use Rattle.double_array.proofs.steps.step.Goals as goal
+
+pub returns-in_err-base-clause-step : goal.returns-in_err-base-clause-step
+returns-in_err-base-clause-step g c =
+    let cells = g.C.CellRead.cells c.args.cells.now in
+    subst (IsStepTo cells c.args.from.state (c.args.byte + 1)) (sym c.from_residual.ensures)
+    (no_step cells c.args.from.state (c.args.byte + 1) (c.args.from.base + c.args.byte + 1) c.args.from.base c.requires.from (omega arith) c.in_err-base.ensures.child)
+
+pub returns-clause-step : goal.returns-clause-step
+returns-clause-step g c =
+    let cells = g.C.CellRead.cells c.args.cells.now in
+    let fits : SFits w32 c.in_ok-base.base = search rules in
+    let found = c.in_ok-base.ensures.child in
+    let e = byte_step cells c.args.from.state c.args.byte c.args.from.base c.in_ok-base.base c.requires.cells c.requires.from found.0 found.1 in
+    (e.0, e.1 ∙ ap (λ z. pos (nat_abs z)) (sym (to_z-of_z w32 c.in_ok-base.base fits)))

@@ -1,0 +1,29 @@
+use Rattle.std.proofs.Common.{rules, arith, ap, sym, subst, ◌+◌, ◌≡◌, ◌∙◌, pos, negsuc, w32, Some, None, ℕ, to_z, of_z}
+use mir.Val.{SFits}
+use Rattle.std.specs.Option.{option_and_then}
+use Rattle.std.proofs.lemmas.Int.{ints, to_z-of_z}
+use Rattle.mj_model.specs.CellMap.{base, value_in}
+use Rattle.double_array.proofs.StepLemmas.{no_step, end_step, told_value, told_value_fits}
+use Rattle.double_array.proofs.steps.value_at.Goals as goal
+
+pub returns-in_err-base-clause-value : goal.returns-in_err-base-clause-value
+returns-in_err-base-clause-value g c =
+    let cells = g.C.CellRead.cells c.args.cells.now in
+    let none = no_step cells c.args.from.state 0 c.args.from.base c.args.from.base c.requires.from (omega arith) c.in_err-base.ensures.child in
+    c.from_residual.ensures ∙ sym (ap (option_and_then (λ (t : ℕ). value_in (base cells t))) none)
+
+pub overflow_cast-result : goal.overflow_cast-result
+overflow_cast-result g c =
+    let cells = g.C.CellRead.cells c.args.cells.now in
+    let fits : SFits w32 c.in_ok-base.base = search rules in
+    let found = c.in_ok-base.ensures.child in
+    let e = end_step cells c.args.from.state c.args.from.base c.in_ok-base.base c.requires.cells c.requires.from found.0 found.1 in
+    told_value_fits c.in_ok-base.base e.0 e.1 fits
+
+pub returns-clause-value : goal.returns-clause-value
+returns-clause-value g c =
+    let cells = g.C.CellRead.cells c.args.cells.now in
+    let fits : SFits w32 c.in_ok-base.base = search rules in
+    let found = c.in_ok-base.ensures.child in
+    let e = end_step cells c.args.from.state c.args.from.base c.in_ok-base.base c.requires.cells c.requires.from found.0 found.1 in
+    ap Some (told_value c.in_ok-base.base e.0 e.1 fits) ∙ sym e.2

@@ -1,0 +1,33 @@
+-- The cells of a double array between two calls.
+use Rattle.std.specs.Prelude.{◌≡◌, ℕ, ◌+◌, ◌-◌, ◌<◌, ◌≤◌, ◌^◌, pos, List, Some, length}
+use Rattle.mj_model.specs.CellMap.{Cell, free_cell, cell_at, base, walk, HasSameMap}
+use Rattle.mj_model.specs.CellRules.{MeetsRules, AreOnKeys}
+use Rattle.double_array.specs.Pool.{Pool}
+
+-- all values are below this number
+abbrev pub values : ℕ
+values = 2 ^ 31 - 1
+
+-- each base of a state is at least 2 and at most the top
+abbrev pub AreBases : Pool → Type 0
+AreBases pool = (t b : ℕ) → base pool.cells t ≡ pos b → 0 < b → (2 ≤ b) × (b ≤ pool.top)
+
+-- the cells meet the rules, each used one is a step of a key, and each step from a state leads to a cell of the array
+pub record IsBuilt (pool : Pool) : Type 0 where
+  pub rules : MeetsRules values pool.cells
+  pub on_keys : AreOnKeys pool.cells
+  pub bases : AreBases pool
+  pub root : (b : ℕ) × (base pool.cells 0 ≡ pos b) × (2 ≤ b)
+  pub room : pool.top + 257 ≤ length pool.cells
+  pub few : length pool.cells ≤ 2 ^ 30
+
+-- the cell of a state's step on a code is free: the state has the number now, and the cell is the wanted one
+pub record IsCleared (old new : Pool) (s code now wanted : ℕ) : Type 0 where
+  pub built : IsBuilt new
+  pub map : HasSameMap old.cells new.cells
+  pub led : (front : List ℕ) → walk old.cells 0 front ≡ Some s → walk new.cells 0 front ≡ Some now
+  pub based : (b : ℕ) × (base new.cells now ≡ pos b) × (2 ≤ b) × (wanted ≡ b + code)
+  pub free : cell_at new.cells wanted ≡ free_cell
+  pub low : wanted ≤ old.top + 256
+  pub top : new.top ≤ old.top + 257
+  pub long : length new.cells ≡ length old.cells

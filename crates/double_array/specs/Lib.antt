@@ -1,0 +1,13 @@
+pub mod Steps
+pub mod HitsSeen
+pub mod Hits
+pub mod Walking
+pub mod Seen
+pub mod Ring
+pub mod Pool
+pub mod Family
+pub mod Moves
+pub mod Built
+pub mod FaultWords
+pub mod Tail
+pub mod Insertion

@@ -1,0 +1,118 @@
+//! A free cell for a step that a state lacks.
+ghost use Rattle.std.specs.Prelude.{◌≡◌, ◌≢◌, ℕ, ◌+◌, ◌<◌, ◌≤◌, pos, None, length};
+ghost use Rattle.mj_model.specs.CellMap.{base as base_of, check as check_of, step as step_of};
+ghost use Rattle.double_array.specs.Built.{IsBuilt, IsCleared};
+ghost use Rattle.double_array.specs.Moves.{IsFamilyOf};
+
+use crate::pool::{CellPool, WIDTH};
+use crate::relocation::{family_of, relocate};
+
+/// A state and the free cell where its step on a code leads, after so many children were moved.
+#[derive(Clone, Copy, Debug, Drop)]
+pub(crate) struct Cleared {
+    pub state: usize,
+    pub wanted: usize,
+    pub moved: u32,
+}
+
+/// Makes free the cell where the step of a state of base `from` on a code leads. Where it is another state's child, the
+/// smaller of the two families moves, of equal ones the state's own. (Aoe 1989)
+pub(crate) fn clear_way(pool: &mut CellPool, state: usize, from: usize, code: usize) -> Cleared
+    requires built { IsBuilt pool.old }
+    requires based { base_of pool.old.cells state ≡ pos from }
+    requires least { 2 ≤ from }
+    requires code { code ≤ 256 }
+    requires none { step_of pool.old.cells state code ≡ None }
+    requires room { pool.old.top + 514 ≤ length pool.old.cells }
+    ensures cleared { IsCleared pool.old pool.new state code result.state result.wanted }
+    ensures count { result.moved ≤ 257 }
+{
+    let wanted = from + code;
+    match pool.parent(wanted) {
+        None => Cleared {
+            state,
+            wanted,
+            moved: 0,
+        },
+        Some(other) => {
+            let own = family_of(pool, state, from);
+            let others = family_of(pool, other, pool.base(other));
+            if size_of(&own) <= size_of(&others) {
+                move_own(pool, state, from, code, &own)
+            } else {
+                move_other(pool, state, from, code, other, &others)
+            }
+        }
+    }
+}
+
+/// Moves the state's own children to where the cell of one more code is free.
+fn move_own(
+    pool: &mut CellPool,
+    state: usize,
+    from: usize,
+    code: usize,
+    family: &[bool; WIDTH],
+) -> Cleared
+    requires built { IsBuilt pool.old }
+    requires based { base_of pool.old.cells state ≡ pos from }
+    requires least { 2 ≤ from }
+    requires code { code ≤ 256 }
+    requires none { step_of pool.old.cells state code ≡ None }
+    requires used { (s : ℕ) × (check_of pool.old.cells (from + code) ≡ pos s) }
+    requires room { pool.old.top + 514 ≤ length pool.old.cells }
+    requires family { IsFamilyOf pool.old.cells state from family.now }
+    ensures cleared { IsCleared pool.old pool.new state code result.state result.wanted }
+    ensures count { result.moved ≤ 257 }
+{
+    let mut wider = *family;
+    wider[code] = true;
+    let to = pool.find_free_base(&wider);
+    let moved = relocate(pool, state, from, family, to);
+    Cleared {
+        state,
+        wanted: to + code,
+        moved,
+    }
+}
+
+/// Moves the children of another state, one of which stands in the wanted cell. The state may itself be one of them: it is
+/// followed.
+fn move_other(
+    pool: &mut CellPool,
+    state: usize,
+    from: usize,
+    code: usize,
+    other: usize,
+    family: &[bool; WIDTH],
+) -> Cleared
+    requires built { IsBuilt pool.old }
+    requires based { base_of pool.old.cells state ≡ pos from }
+    requires least { 2 ≤ from }
+    requires code { code ≤ 256 }
+    requires used { check_of pool.old.cells (from + code) ≡ pos other }
+    requires apart { state ≢ other }
+    requires room { pool.old.top + 514 ≤ length pool.old.cells }
+    requires family { (b : ℕ) × (base_of pool.old.cells other ≡ pos b) × IsFamilyOf pool.old.cells other b family.now }
+    ensures cleared { IsCleared pool.old pool.new state code result.state result.wanted }
+    ensures count { result.moved ≤ 257 }
+{
+    let other_from = pool.base(other);
+    let to = pool.find_free_base(family);
+    let follow = if pool.is_child(state, other) {
+        to + (state - other_from)
+    } else {
+        state
+    };
+    let moved = relocate(pool, other, other_from, family, to);
+    Cleared {
+        state: follow,
+        wanted: from + code,
+        moved,
+    }
+}
+
+/// How many codes a family has.
+fn size_of(family: &[bool]) -> usize {
+    family.iter().filter(|member| **member).count()
+}

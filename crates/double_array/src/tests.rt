@@ -1,0 +1,109 @@
+//! Rows of insertions and lookups, and refused growths. A growth is refused where the tests run under `tools/refuse`.
+mod access;
+mod growing;
+mod relocated;
+
+use crate::tests::access::{Borrowed, expect_hits, insert, value};
+use crate::{CellRead, DaFault, DoubleArray, Inserted};
+use std::test::Fail;
+
+#[test]
+fn insert_and_walk(rt: HostRuntime) -> Result<(), Fail> {
+    let mut array = DoubleArray::new(rt.alloc())?;
+    let rows = [
+        // (key, value, the value before)
+        (b"a".as_slice(), 5, None),
+        (b"ab", 7, None),
+        (b"a", 9, Some(5)),
+    ];
+    for (key, number, old) in rows {
+        let inserted = insert(&mut array, key, number)?;
+        assert_eq!(rt; inserted.old, old, "{number}");
+        if old.is_some() {
+            assert_eq!(rt; inserted.moved, 0, "{number}");
+        }
+    }
+    let rows = [
+        // (key, value)
+        (b"a".as_slice(), Some(9)),
+        (b"ab", Some(7)),
+        (b"b", None),
+        (b"abc", None),
+        (b"", None),
+    ];
+    for (key, expected) in rows {
+        assert_eq!(rt; value(&array, key), expected, "{key:?}");
+        assert_eq!(rt; value(&Borrowed(&array), key), expected, "{key:?}");
+    }
+    let rows = [
+        // (text, the keys that begin it: length and value)
+        (b"abc".as_slice(), [(1, 9), (2, 7)].as_slice()),
+        (b"ab", &[(1, 9), (2, 7)]),
+        (b"ac", &[(1, 9)]),
+        (b"b", &[]),
+        (b"", &[]),
+    ];
+    for (text, hits) in rows {
+        expect_hits(&rt, &array, text, hits);
+        expect_hits(&rt, &Borrowed(&array), text, hits);
+    }
+    Ok(())
+}
+
+#[test]
+fn the_empty_array(rt: HostRuntime) -> Result<(), Fail> {
+    let array = DoubleArray::new(rt.alloc())?;
+    assert!(rt; (1..=600).contains(&array.len()));
+    assert_eq!(rt; value(&array, b""), None);
+    assert_eq!(rt; value(&array, b"\0"), None);
+    expect_hits(&rt, &array, b"a", &[]);
+    Ok(())
+}
+
+#[test]
+fn ends_of_the_numbers(rt: HostRuntime) -> Result<(), Fail> {
+    let mut array = DoubleArray::new(rt.alloc())?;
+    let rows = [
+        // (key, value)
+        (b"\0".as_slice(), 0),
+        (b"\xff", 2_147_483_646),
+        (b"\0\0", 2_147_483_645),
+        (b"\xff\xff", 1),
+    ];
+    for (key, number) in rows {
+        let inserted = insert(&mut array, key, number)?;
+        assert_eq!(rt; inserted.old, None, "{key:?}");
+    }
+    for (key, number) in rows {
+        assert_eq!(rt; value(&array, key), Some(number), "{key:?}");
+    }
+    Ok(())
+}
+
+#[test]
+fn words_of_faults(rt: HostRuntime) {
+    let rows = [
+        // (fault, code, name)
+        (DaFault::Full, "X1", "Full"),
+        (DaFault::Memory, "Memory", "Memory"),
+    ];
+    for (fault, code, name) in rows {
+        assert_eq!(rt; fault.code(), code);
+        assert_eq!(rt; fault.name(), name);
+    }
+}
+
+#[test]
+fn a_long_key(rt: HostRuntime) -> Result<(), Fail> {
+    let key = [7; 65_535];
+    let mut array = DoubleArray::new(rt.alloc())?;
+    let none = Inserted {
+        old: None,
+        moved: 0,
+    };
+    assert_eq!(rt; insert(&mut array, &key, 3)?, none);
+    assert_eq!(rt; value(&array, &key), Some(3));
+    assert_eq!(rt; value(&array, &key[1..]), None);
+    expect_hits(&rt, &array, &key, &[(65_535, 3)]);
+    Ok(())
+}

@@ -1,0 +1,78 @@
+//! All pairs of `a` or `b` with a byte, inserted one after another.
+use crate::tests::access::{expect_hits, insert, value};
+use crate::{CellRead, DaFault, DoubleArray, Inserted};
+use std::alloc::{AllocError, Global};
+use std::test::Fail;
+
+const KEYS: usize = 513;
+
+/// Inserts key `n`, with the value `n`: `a`, then `a` with each byte, then `b` with each byte.
+fn insert_key(array: &mut DoubleArray, n: usize) -> Result<Inserted, DaFault> {
+    let number = n.min(KEYS) as u32;
+    match n {
+        0 => insert(array, b"a", number),
+        1..=256 => insert(array, &[b'a', (n - 1) as u8], number),
+        _ => insert(array, &[b'b', (n - 257).min(255) as u8], number),
+    }
+}
+
+/// The value of key `n`.
+fn value_of_key(array: &DoubleArray, n: usize) -> Option<u32> {
+    let _ = array.len();
+    match n {
+        0 => value(array, b"a"),
+        1..=256 => value(array, &[b'a', (n - 1) as u8]),
+        _ => value(array, &[b'b', (n - 257).min(255) as u8]),
+    }
+}
+
+/// Whether the keys below `n` have their values, and those from `n` on have none.
+fn has_first_keys(array: &DoubleArray, n: usize) -> bool {
+    (0..KEYS).all(|i| {
+        let expected = if i < n { Some(i as u32) } else { None };
+        value_of_key(array, i) == expected
+    })
+}
+
+/// An empty array. What is refused once is asked again.
+fn new_array(alloc: Global) -> Result<DoubleArray, AllocError> {
+    match DoubleArray::new(alloc) {
+        Ok(array) => Ok(array),
+        Err(_) => DoubleArray::new(alloc),
+    }
+}
+
+#[test]
+fn byte_after_byte(rt: HostRuntime) -> Result<(), Fail> {
+    let mut array = DoubleArray::new(rt.alloc())?;
+    for n in 0..KEYS {
+        let inserted = insert_key(&mut array, n)?;
+        assert_eq!(rt; inserted.old, None, "{n}");
+        assert!(rt; inserted.moved <= 257, "{n}");
+    }
+    assert!(rt; has_first_keys(&array, KEYS));
+    let _ = array.len();
+    assert_eq!(rt; value(&array, b"b"), None);
+    expect_hits(&rt, &array, b"abc", &[(1, 0), (2, 99)]);
+    Ok(())
+}
+
+#[test]
+fn refused_growth_keeps_the_keys(rt: HostRuntime) {
+    match new_array(rt.alloc()) {
+        Ok(mut array) => {
+            for n in 0..KEYS {
+                match insert_key(&mut array, n) {
+                    Ok(_) => {}
+                    Err(fault) => {
+                        assert_eq!(rt; fault, DaFault::Memory);
+                        assert!(rt; has_first_keys(&array, n), "{n}");
+                        assert!(rt; insert_key(&mut array, n).is_ok(), "{n}");
+                    }
+                }
+            }
+            assert!(rt; has_first_keys(&array, KEYS));
+        }
+        Err(_) => panic!(rt; "refused twice"),
+    }
+}

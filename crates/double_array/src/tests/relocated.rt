@@ -1,0 +1,94 @@
+//! An insertion below a state that is itself among the children that move.
+//!
+//! The state `a` has the children 1, 2, 3 and its value, the root has `a` and `b`. A byte whose cell, from the base of `a`, is
+//! that of `b`, makes the two of the root move: `a` is one of them.
+use crate::tests::access::{insert, value};
+use crate::{CellRead, DoubleArray};
+use std::test::Fail;
+
+const KEYS: [&[u8]; 5] = [b"a", b"b", b"a\x01", b"a\x02", b"a\x03"];
+
+/// A cell, if it is there.
+fn cell(array: &DoubleArray, i: usize) -> Option<(i32, i32)> {
+    if i < array.len() {
+        Some(array.cell(i))
+    } else {
+        None
+    }
+}
+
+/// The number in a cell, if it is not negative.
+fn number(found: i32) -> Option<usize> {
+    if found >= 0 {
+        Some(found as usize)
+    } else {
+        None
+    }
+}
+
+/// The cell to which a state's step on a byte would lead.
+fn wanted_cell(array: &DoubleArray, state: usize, byte: u8) -> Option<usize> {
+    let (base, _) = cell(array, state)?;
+    number(base)?.checked_add(byte as usize + 1)
+}
+
+/// The state whose child a cell is.
+fn parent_of(array: &DoubleArray, i: usize) -> Option<usize> {
+    let (_, check) = cell(array, i)?;
+    number(check)
+}
+
+/// The state to which the bytes of a key lead.
+fn state_of(array: &DoubleArray, key: &[u8]) -> Option<usize> {
+    let mut state = 0;
+    for byte in key {
+        let next = wanted_cell(array, state, *byte)?;
+        if parent_of(array, next)? != state {
+            return None;
+        }
+        state = next;
+    }
+    Some(state)
+}
+
+/// How many children a state has.
+fn children_of(array: &DoubleArray, state: usize) -> usize {
+    (0..array.len())
+        .filter(|i| parent_of(array, *i) == Some(state))
+        .count()
+}
+
+/// A byte that the state of a key lacks, and whose wanted cell is a child of the state's parent.
+fn byte_of_a_sibling(array: &DoubleArray, key: &[u8]) -> Option<u8> {
+    let state = state_of(array, key)?;
+    let parent = parent_of(array, state)?;
+    if children_of(array, state) <= children_of(array, parent) {
+        return None;
+    }
+    (0..=255).find(|byte| match wanted_cell(array, state, *byte) {
+        Some(i) => parent_of(array, i) == Some(parent),
+        None => false,
+    })
+}
+
+#[test]
+fn relocated_parent(rt: HostRuntime) -> Result<(), Fail> {
+    let mut array = DoubleArray::new(rt.alloc())?;
+    for (n, key) in KEYS.iter().enumerate() {
+        insert(&mut array, key, n as u32)?;
+    }
+    let byte = byte_of_a_sibling(&array, b"a").ok_or("no such byte")?;
+    let before = state_of(&array, b"a");
+    let inserted = insert(&mut array, &[b'a', byte], 5)?;
+    assert_eq!(rt; inserted.old, None);
+    assert!(rt; (1..=257).contains(&inserted.moved));
+    assert_ne!(rt; state_of(&array, b"a"), before, "a has moved");
+
+    let _ = array.len();
+    for (n, key) in KEYS.iter().enumerate() {
+        assert_eq!(rt; value(&array, key), Some(n as u32), "{key:?}");
+    }
+    assert_eq!(rt; value(&array, &[b'a', byte]), Some(5));
+    assert_eq!(rt; value(&array, b""), None);
+    Ok(())
+}

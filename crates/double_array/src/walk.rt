@@ -1,0 +1,74 @@
+//! A walk over the bytes of a text, from hit to hit.
+ghost use Rattle.std.specs.Prelude.{◌≡◌, ◌+◌, ◌*◌, ◌≤◌, [], ◌++◌, Some, MatchOption, IfSome};
+ghost use Rattle.std.specs.Iterator.{YieldsFirstBy};
+ghost use Rattle.double_array.specs.Steps.{IsAt};
+ghost use Rattle.double_array.specs.Hits.{hit_at, value_here, hits_left};
+ghost use Rattle.double_array.specs.Walking.{IsWalking};
+ghost use Rattle.mj_model.specs.CellMap.{prefixes_of};
+ghost use Rattle.mj_model.specs.CellRules.{AreCells};
+
+use crate::cell_read::CellRead;
+use crate::steps::{Place, root, step, value_at};
+
+/// A key that begins the text: its length in bytes, and its value.
+#[derive(Clone, Copy, Debug, PartialEq, Eq, Drop)]
+pub struct Hit {
+    pub length: usize,
+    pub value: u32,
+}
+
+/// How far a walk has come: the bytes walked over, where it stands until it ends, and the cells read.
+#[derive(Clone, Copy, Debug, Drop)]
+pub(crate) struct Walk {
+    pub length: usize,
+    pub place: Option<Place>,
+    pub reads: u64,
+}
+
+/// A walk that begins.
+pub(crate) fn begin<C: CellRead>(cells: &C, text: &[u8]) -> Walk
+    requires { AreCells (C.cells cells.now) }
+    ensures walking { IsWalking (C.cells cells.now) text.now result }
+    ensures hits { hits_left (C.cells cells.now) text.now result ≡ prefixes_of (C.cells cells.now) text.now }
+{
+    let mut reads = 0;
+    let place = root(cells, &mut reads);
+    Walk {
+        length: 0,
+        place: Some(place),
+        reads,
+    }
+}
+
+/// The next hit of a walk.
+pub(crate) fn next_hit<C: CellRead>(cells: &C, text: &[u8], walk: &mut Walk) -> Option<Hit>
+    requires { IsWalking (C.cells cells.now) text.now walk.old }
+    ensures walking { IsWalking (C.cells cells.now) text.now walk.new }
+    ensures hits { YieldsFirstBy (λ hit. (hit.length, hit.value)) (hits_left (C.cells cells.now) text.now) walk.old result walk.new }
+{
+    while let Some(place) = advance(cells, text, walk) {
+        if let Some(value) = value_at(cells, place, &mut walk.reads) {
+            return Some(Hit {
+                length: walk.length,
+                value,
+            });
+        }
+    }
+    None
+}
+
+/// Goes on by a byte: the place there, or None where the walk ends.
+fn advance<C: CellRead>(cells: &C, text: &[u8], walk: &mut Walk) -> Option<Place>
+    requires { IsWalking (C.cells cells.now) text.now walk.old }
+    ensures walking { IsWalking (C.cells cells.now) text.now walk.new }
+    ensures hits { MatchOption result ((hits_left (C.cells cells.now) text.now walk.old ≡ []) × (hits_left (C.cells cells.now) text.now walk.new ≡ [])) (λ place. hits_left (C.cells cells.now) text.now walk.old ≡ hit_at walk.new.length (value_here (C.cells cells.now) place.state) ++ hits_left (C.cells cells.now) text.now walk.new) }
+    ensures place { IfSome result (IsAt (C.cells cells.now)) }
+    ensures further { IfSome result (λ place. walk.new.length ≡ walk.old.length + 1) }
+    ensures room { IfSome result (λ place. walk.new.reads ≤ 2 * walk.new.length) }
+{
+    let place = walk.place?;
+    let byte = *text.get(walk.length)?;
+    walk.place = step(cells, place, byte, &mut walk.reads);
+    walk.length += 1;
+    walk.place
+}

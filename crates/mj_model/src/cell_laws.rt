@@ -1,0 +1,8 @@
+//! Laws of the cells of a double array.
+
+ghost use Rattle.mj_model.specs.CellMoves.{MovesKeepTheMap};
+
+/// A move of a state's children to another base keeps the map, the cell rules and that every used cell is a step of a key.
+pub fn move_keeps_the_map()
+    ensures { MovesKeepTheMap }
+{}
