@@ -1,14 +1,12 @@
 -- A wanted cell is free after one of two families has moved.
-use Rattle.std.proofs.Common.{◌≡◌, ◌≢◌, ℕ, zero, suc, ◌+◌, ◌-◌, ◌<◌, ◌≤◌, ℤ, pos, negsuc, Bool, true, List, [], ◌∷◌, ◌++◌, length, set, Some, None, ◌⊎◌, inl, inr, sym, ap, ◌∙◌, refl, arith, subst}
-use Rattle.std.proofs.lemmas.Bool.{cases_eq, cases_lt}
+use Rattle.std.proofs.Common.{◌≡◌, ◌≢◌, ℕ, zero, suc, ◌+◌, ◌-◌, ◌≤◌, pos, negsuc, Bool, true, List, [], ◌∷◌, ◌++◌, length, set, Some, None, ◌⊎◌, inl, inr, sym, ap, ◌∙◌, refl, arith}
 use Rattle.std.proofs.lemmas.List.{append-nil}
 use Rattle.std.proofs.lemmas.Option.{same_Some, none-some}
-use Rattle.mj_model.specs.CellMap.{Cell, free_cell, cell_at, base, check, step, walk, codes_of, value_of, HasSameMap}
-use Rattle.mj_model.specs.CellRules.{IsBaseAfter, IsUsed, MeetsRules, IsOnKey, AreOnKeys}
+use Rattle.mj_model.specs.CellMap.{Cell, free_cell, cell_at, base, check, step, walk, codes_of, value_of}
 use Rattle.mj_model.specs.CellMoves.{IsMove, IsApart, IsKept}
-use Rattle.mj_model.proofs.CellWalks.{step_named, step_place, step_at, IsChild, child_of, walk_none, walk_first, walk_append, IsValueAt, value_parts}
-use Rattle.mj_model.proofs.CellMoveLaw.{free_no_check, free_no_base, same_pos, Renames, InUse, renamed_base, all_is_kept, walk_renamed}
-use Rattle.double_array.specs.Pool.{Pool, IsParent}
+use Rattle.mj_model.proofs.CellWalks.{step_named, step_place, IsChild, child_of, walk_none, walk_first, walk_append, value_parts}
+use Rattle.mj_model.proofs.CellMoveLaw.{free_no_check, free_no_base, Renames, renamed_base, all_is_kept, walk_renamed}
+use Rattle.double_array.specs.Pool.{Pool}
 use Rattle.double_array.specs.Family.{HasCode, FitsAt}
 use Rattle.double_array.specs.Built.{values, AreBases, IsBuilt, IsCleared}
 use Rattle.double_array.specs.Moves.{IsFamilyOf}

@@ -1,11 +1,10 @@
 -- The hits of a walk are the keys that begin the text.
-use Rattle.std.proofs.Common.{◌≡◌, ℕ, zero, suc, ◌+◌, ◌-◌, ◌<◌, ◌≤◌, List, [], ◌∷◌, ◌++◌, length, get_or, map, take, drop, Option, Some, None, MatchOption, ◌⊎◌, inl, inr, sym, ap, ◌∙◌, refl, arith, subst}
-use Rattle.std.specs.Option.{option_and_then, option_map}
+use Rattle.std.proofs.Common.{◌≡◌, ℕ, zero, suc, ◌+◌, ◌<◌, ◌≤◌, List, [], ◌∷◌, ◌++◌, length, get_or, map, take, drop, Option, Some, None, MatchOption, sym, ap, ◌∙◌, refl, arith}
+use Rattle.std.specs.Option.{option_map}
 use Rattle.std.specs.List.{filter_map}
 use Rattle.std.proofs.lemmas.List.{drop_more, drop_all, take-take, take-map, take-append-le, length-take-le, length-map, get_or-take}
-use Rattle.std.proofs.lemmas.Bool.{cases_lt}
 use Rattle.mj_model.specs.KnownWords.{up_to}
-use Rattle.mj_model.specs.CellMap.{Cell, base, step, walk, codes_of, value_in, value_of, prefixes_of}
+use Rattle.mj_model.specs.CellMap.{Cell, step, walk, codes_of, value_of, prefixes_of}
 use Rattle.mj_model.proofs.CellWalks.{walk_none}
 use Rattle.double_array.specs.declared.steps.Place.{Place}
 use Rattle.double_array.specs.Steps.{IsStepTo}

@@ -1,20 +1,19 @@
 -- An insertion, from its steps.
-use Rattle.std.proofs.Common.{◌≡◌, ◌≢◌, ℕ, zero, suc, ◌+◌, ◌-◌, ◌<◌, ◌≤◌, ◌^◌, ℤ, ◌+ℤ◌, pos, negsuc, List, [], ◌∷◌, ◌++◌, length, set, take, drop, get_or, Option, Some, None, ◌⊎◌, inl, inr, sym, ap, ◌∙◌, refl, arith, subst}
-use Rattle.std.specs.Option.{option_and_then}
+use Rattle.std.proofs.Common.{◌≡◌, ◌≢◌, ℕ, suc, ◌+◌, ◌-◌, ◌<◌, ◌≤◌, ◌^◌, ◌+ℤ◌, pos, negsuc, List, length, set, take, get_or, Option, Some, None, inl, inr, sym, ap, ◌∙◌, refl, arith, subst}
 use Rattle.std.proofs.lemmas.Bool.{cases_eq, cases_lt}
 use Rattle.std.proofs.lemmas.List.{length-set}
-use Rattle.std.proofs.lemmas.Option.{same_Some, none-some}
-use Rattle.mj_model.specs.CellMap.{Cell, free_cell, cell_at, base, check, step, walk, codes_of, value_in, value_of, HasSameMap, IsMapWith}
-use Rattle.mj_model.specs.CellRules.{IsBaseAfter, MeetsRules, AreOnKeys}
-use Rattle.mj_model.proofs.CellWalks.{step_parts, step_from, step_named, step_place, step_at, step_child, named_within, walk_none, walk_more, walk_append, IsValueAt, value_from}
+use Rattle.std.proofs.lemmas.Option.{none-some}
+use Rattle.mj_model.specs.CellMap.{Cell, cell_at, base, check, step, walk, codes_of, value_of, HasSameMap, IsMapWith}
+use Rattle.mj_model.specs.CellRules.{IsBaseAfter}
+use Rattle.mj_model.proofs.CellWalks.{step_parts, step_from, step_named, step_place, step_child, named_within, walk_none, walk_more, value_from}
 use Rattle.mj_model.proofs.CellMoveLaw.{same_pos}
 use Rattle.double_array.specs.declared.insertion.Reached.{Reached}
 use Rattle.double_array.specs.Pool.{Pool, IsGrown, IsInUse}
 use Rattle.double_array.specs.Pool.IsInUse.{is_named}
-use Rattle.double_array.specs.Built.{values, AreBases, IsBuilt, IsCleared}
+use Rattle.double_array.specs.Built.{values, IsBuilt, IsCleared}
 use Rattle.double_array.specs.Tail.{IsReady}
 use Rattle.double_array.specs.Insertion.{IsReached, HasRoom}
-use Rattle.double_array.proofs.SeenLemmas.{at_same, at_other}
+use Rattle.double_array.proofs.SeenLemmas.{at_same}
 use Rattle.double_array.proofs.KeyWalks.{length-codes_of, code_of_byte, code_of_end, codes_end, walk_take_more, no_value_by_stop}
 use Rattle.double_array.proofs.Valued.{walk_same, map_same, keys_same, rules_same, valued_others, valued_rules, value_replaced, keys_valued}
 

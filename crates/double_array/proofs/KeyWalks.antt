@@ -1,10 +1,9 @@
 -- Walks over the codes of a key, code by code.
-use Rattle.std.proofs.Common.{◌≡◌, ℕ, zero, suc, ◌+◌, ◌-◌, ◌<◌, ◌≤◌, ℤ, pos, negsuc, List, [], ◌∷◌, ◌++◌, length, get_or, map, take, drop, Option, Some, None, ◌⊎◌, inl, inr, sym, ap, ◌∙◌, refl, arith, subst}
+use Rattle.std.proofs.Common.{◌≡◌, ℕ, suc, ◌+◌, ◌<◌, List, [], ◌∷◌, ◌++◌, length, get_or, map, take, drop, Option, Some, None, sym, ap, ◌∙◌, refl, arith}
 use Rattle.std.specs.Option.{option_and_then}
-use Rattle.std.proofs.lemmas.List.{take_more, drop_more, take-append-drop, length-append, length-map, take_all, drop_all, get_or-append-add, get_or_append_left, get_or-map, get_or_at, append_assoc}
-use Rattle.std.proofs.lemmas.Option.{same_Some, none-some}
-use Rattle.mj_model.specs.CellMap.{Cell, base, check, step, walk, codes_of, value_in, value_of}
-use Rattle.mj_model.proofs.CellWalks.{walk_one, walk_none, walk_append, walk_more, walk_first}
+use Rattle.std.proofs.lemmas.List.{take_more, drop_more, take-append-drop, length-append, length-map, drop_all, get_or_append_left, get_or-map, get_or_at}
+use Rattle.mj_model.specs.CellMap.{Cell, base, step, walk, codes_of, value_in, value_of}
+use Rattle.mj_model.proofs.CellWalks.{walk_append, walk_more}
 
 pub length-codes_of : (key : List ℕ) → length (codes_of key) ≡ length key + 1
 unfolding codes_of

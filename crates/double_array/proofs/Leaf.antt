@@ -1,11 +1,11 @@
 -- A free cell becomes the child of a state: all steps are kept, and one more leads to it.
-use Rattle.std.proofs.Common.{◌≡◌, ◌≢◌, ℕ, zero, suc, ◌+◌, ◌-◌, ◌<◌, ◌≤◌, ℤ, pos, negsuc, ◌+ℤ◌, List, [], ◌∷◌, ◌++◌, length, set, take, drop, map, get_or, Some, None, Option, ◌⊎◌, inl, inr, sym, ap, ◌∙◌, refl, arith, subst}
-use Rattle.std.proofs.lemmas.Bool.{cases_eq, cases_lt}
+use Rattle.std.proofs.Common.{◌≡◌, ◌≢◌, ℕ, suc, ◌+◌, ◌<◌, ◌≤◌, ℤ, pos, negsuc, ◌+ℤ◌, List, [], ◌∷◌, ◌++◌, length, set, map, Some, inl, inr, sym, ap, ◌∙◌, refl, arith, subst}
+use Rattle.std.proofs.lemmas.Bool.{cases_eq}
 use Rattle.std.proofs.lemmas.List.{length-set, append_assoc, append_cancel_right}
 use Rattle.std.proofs.lemmas.Option.{same_Some}
 use Rattle.mj_model.specs.CellMap.{Cell, free_cell, cell_at, base, check, step, walk, codes_of, value_of, HasSameMap, IsMapWith}
-use Rattle.mj_model.specs.CellRules.{IsBaseAfter, IsUsed, MeetsRules, IsOnKey, AreOnKeys}
-use Rattle.mj_model.proofs.CellWalks.{step_parts, step_from, step_place, step_named, step_at, child_of, walk_one, walk_none, walk_first, walk_append, walk_more, walk_is_one, leads_back, IsValueAt, value_parts, value_from, same_value}
+use Rattle.mj_model.specs.CellRules.{IsBaseAfter, MeetsRules, IsOnKey, AreOnKeys}
+use Rattle.mj_model.proofs.CellWalks.{step_parts, step_from, step_named, step_at, child_of, walk_one, walk_none, walk_first, walk_more, walk_is_one, leads_back, IsValueAt, value_parts, value_from, same_value}
 use Rattle.mj_model.proofs.CellMoveLaw.{free_no_check, free_no_base, same_pos}
 use Rattle.double_array.specs.Tail.{IsOnWay, AreOnKeysOrWay}
 use Rattle.double_array.proofs.SeenLemmas.{at_same, at_other}

@@ -1,12 +1,11 @@
 -- The children of a state move to another base, one after another.
-use Rattle.std.proofs.Common.{◌≡◌, ◌≢◌, ℕ, zero, suc, ◌+◌, ◌-◌, ◌<◌, ◌≤◌, ℤ, pos, negsuc, Bool, true, false, Option, None, List, [], ◌∷◌, length, set, slice_get, Some, ◌⊎◌, inl, inr, sym, ap, ◌∙◌, refl, arith, subst}
+use Rattle.std.proofs.Common.{◌≡◌, ◌≢◌, ℕ, zero, suc, ◌+◌, ◌<◌, ◌≤◌, ℤ, pos, negsuc, Bool, true, false, Option, None, List, [], ◌∷◌, length, set, slice_get, Some, ◌⊎◌, inl, inr, sym, ap, ◌∙◌, refl, arith, subst}
 use Rattle.std.proofs.lemmas.Bool.{cases_eq, cases_lt}
 use Rattle.std.proofs.lemmas.List.{length-set, get_or_past}
-use Rattle.std.proofs.lemmas.Option.{slice_get_within}
 use Rattle.mj_model.specs.CellMap.{Cell, free_cell, cell_at, base, check, step, walk}
 use Rattle.mj_model.specs.CellRules.{MeetsRules, AreOnKeys, IsUsed, IsBaseAfter}
-use Rattle.mj_model.specs.CellMoves.{IsMove, IsApart}
-use Rattle.mj_model.proofs.CellWalks.{step_named, step_place, step_at, IsChild, child_of, step_child, no_way_back, walk_one, walk_none}
+use Rattle.mj_model.specs.CellMoves.{IsMove}
+use Rattle.mj_model.proofs.CellWalks.{step_named, step_place, step_at, child_of, step_child, no_way_back, walk_one, walk_none}
 use Rattle.mj_model.proofs.CellMoveLaw.{walked, free_no_check, free_no_base, cases_pos, same_pos}
 use Rattle.double_array.specs.Family.{HasCode, FitsAt}
 use Rattle.double_array.specs.Moves.{IsFamilyOf, IsRenamed, IsChildMoved, IsMovedUpTo, AreChildrenRenamed, HasChildrenFromBase}

@@ -1,12 +1,10 @@
 -- The ring of the free cells, when one cell leaves it or joins it.
-use Rattle.std.proofs.Common.{◌≡◌, ◌≢◌, ℕ, zero, suc, ◌+◌, ◌-◌, ◌<◌, ◌≤◌, ℤ, pos, negsuc, neg_ℤ, List, [], ◌∷◌, length, set, ◌⊎◌, inl, inr, sym, ap, ◌∙◌, refl, arith, subst}
+use Rattle.std.proofs.Common.{◌≡◌, ◌≢◌, ℕ, zero, suc, ◌<◌, pos, negsuc, neg_ℤ, List, length, ◌⊎◌, inl, inr, sym, ap, ◌∙◌, refl, arith, subst}
 use Rattle.std.proofs.lemmas.Bool.{cases_eq, cases_lt}
-use Rattle.std.proofs.lemmas.List.{length-set, get_or_past}
-use Rattle.mj_model.specs.CellMap.{Cell, free_cell, cell_at, base, check}
-use Rattle.double_array.specs.Seen.{hide, seen}
+use Rattle.std.proofs.lemmas.List.{get_or_past}
+use Rattle.mj_model.specs.CellMap.{Cell, free_cell, base, check}
 use Rattle.double_array.specs.Ring.{HasLinks, IsOnRing, IsRing}
 use Rattle.double_array.specs.Ring.IsOnRing.{first, further}
-use Rattle.double_array.proofs.SeenLemmas.{at_same, at_other, seen_set, seen_at, seen_root, seen_free}
 
 pub same_pos : (m n : ℕ) → pos m ≡ pos n → m ≡ n
 same_pos m n h = cc

@@ -1,10 +1,10 @@
 -- The writes by which a cell leaves the ring or joins it.
-use Rattle.std.proofs.Common.{◌≡◌, ◌≢◌, ℕ, zero, suc, ◌+◌, ◌-◌, ◌<◌, ◌≤◌, ◌^◌, ℤ, pos, negsuc, neg_ℤ, List, [], ◌∷◌, length, set, ◌⊎◌, inl, inr, sym, ap, ◌∙◌, refl, arith, subst}
-use Rattle.std.proofs.lemmas.Bool.{cases_eq, cases_lt}
+use Rattle.std.proofs.Common.{◌≡◌, ◌≢◌, ℕ, zero, suc, ◌+◌, ◌<◌, ◌≤◌, ℤ, pos, negsuc, neg_ℤ, List, length, set, inl, inr, sym, ap, ◌∙◌, refl, arith, subst}
+use Rattle.std.proofs.lemmas.Bool.{cases_eq}
 use Rattle.std.proofs.lemmas.List.{length-set, set-get_or}
 use Rattle.mj_model.specs.CellMap.{Cell, free_cell, cell_at, base, check}
 use Rattle.double_array.specs.Seen.{hide, seen}
-use Rattle.double_array.specs.Ring.{HasLinks, IsOnRing, IsRing, AreLinked}
+use Rattle.double_array.specs.Ring.{HasLinks, IsRing, AreLinked}
 use Rattle.double_array.proofs.SeenLemmas.{at_same, at_other, seen_set, seen_at, seen_root, seen_free, length-seen}
 use Rattle.double_array.proofs.RingLemmas.{same_pos, same_neg, linked_within, next_of, before_of, next_is_other, ring_without, links_without, ring_with, links_with, link_with}
 

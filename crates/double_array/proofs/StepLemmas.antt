@@ -1,5 +1,5 @@
 -- What one read tells of a step.
-use Rattle.std.proofs.Common.{◌≡◌, ℕ, zero, suc, ◌+◌, ◌-◌, ◌<◌, ◌≤◌, ℤ, pos, negsuc, ◌+ℤ◌, ◌-ℤ◌, Bool, true, false, List, [], ◌∷◌, ◌++◌, length, get_or, map, take, Option, Some, None, slice_get, ◌⊎◌, inl, inr, sym, ap, ◌∙◌, refl, arith, subst, to_z, of_z, w32, Fits}
+use Rattle.std.proofs.Common.{◌≡◌, ℕ, suc, ◌+◌, ℤ, pos, negsuc, ◌+ℤ◌, ◌-ℤ◌, true, false, List, length, get_or, Option, Some, None, slice_get, ◌⊎◌, inl, inr, sym, ap, ◌∙◌, refl, arith, subst, to_z, of_z, w32, Fits}
 use Rattle.std.specs.Option.{option_and_then}
 use lib.Signed.{le_z, non_neg}
 use lib.IntN.{nat_abs}
@@ -7,11 +7,11 @@ use lib.Dec.{T}
 use mir.Val.{SFits}
 use Rattle.std.proofs.lemmas.Int.{ints, to_z-of_z}
 use Rattle.std.proofs.lemmas.Bool.{cases_lt, le-leb}
-use Rattle.std.proofs.lemmas.Option.{same_Some, none-some, slice_get-get_or, get_or_from_slice_get}
+use Rattle.std.proofs.lemmas.Option.{none-some, slice_get-get_or, get_or_from_slice_get}
 use Rattle.std.proofs.lemmas.List.{get_or_past}
 use Rattle.mj_model.specs.CellMap.{Cell, free_cell, cell_at, base, check, step, value_in}
-use Rattle.mj_model.specs.CellRules.{IsBaseAfter, MeetsRules, AreCells}
-use Rattle.mj_model.proofs.CellWalks.{step_named, step_place, step_at, step_child, child_of}
+use Rattle.mj_model.specs.CellRules.{IsBaseAfter, AreCells}
+use Rattle.mj_model.proofs.CellWalks.{step_named, step_place, step_at, step_child}
 
 -- what is not there is as a free cell
 pub cell_missing : (cells : List Cell) (i : ℕ) → None ≡ slice_get cells i → cell_at cells i ≡ free_cell

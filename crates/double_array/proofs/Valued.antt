@@ -1,11 +1,10 @@
 -- A key's value is replaced by another, or cells are the same by number.
-use Rattle.std.proofs.Common.{◌≡◌, ◌≢◌, ℕ, zero, suc, ◌+◌, ◌<◌, ◌≤◌, ℤ, pos, negsuc, ◌+ℤ◌, List, [], ◌∷◌, ◌++◌, length, set, Some, None, Option, ◌⊎◌, inl, inr, sym, ap, ◌∙◌, refl, arith, subst}
+use Rattle.std.proofs.Common.{◌≡◌, ◌≢◌, ℕ, zero, suc, ◌<◌, ◌≤◌, pos, negsuc, ◌+ℤ◌, List, [], ◌∷◌, length, set, Some, inl, inr, sym, ap, ◌∙◌, refl, arith, subst}
 use Rattle.std.proofs.lemmas.Bool.{cases_eq, cases_lt}
 use Rattle.std.proofs.lemmas.List.{length-set, get_or_past}
-use Rattle.std.proofs.lemmas.Option.{same_Some}
 use Rattle.mj_model.specs.CellMap.{Cell, free_cell, cell_at, base, check, step, walk, codes_of, value_of, HasSameMap, IsMapWith}
-use Rattle.mj_model.specs.CellRules.{IsBaseAfter, IsUsed, MeetsRules, IsOnKey, AreOnKeys}
-use Rattle.mj_model.proofs.CellWalks.{step_parts, step_from, step_place, step_named, step_at, child_of, walk_one, walk_none, walk_first, walk_is_one, leads_back, named_within, IsValueAt, value_parts, value_from, same_value}
+use Rattle.mj_model.specs.CellRules.{IsBaseAfter, MeetsRules, AreOnKeys}
+use Rattle.mj_model.proofs.CellWalks.{step_parts, step_from, step_named, child_of, walk_one, walk_none, walk_first, walk_is_one, leads_back, value_parts, value_from, same_value}
 use Rattle.double_array.proofs.SeenLemmas.{at_same, at_other}
 use Rattle.double_array.proofs.Leaf.{same_key}
 

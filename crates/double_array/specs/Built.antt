@@ -1,6 +1,6 @@
 -- The cells of a double array between two calls.
 use Rattle.std.specs.Prelude.{◌≡◌, ℕ, ◌+◌, ◌-◌, ◌<◌, ◌≤◌, ◌^◌, pos, List, Some, length}
-use Rattle.mj_model.specs.CellMap.{Cell, free_cell, cell_at, base, walk, HasSameMap}
+use Rattle.mj_model.specs.CellMap.{free_cell, cell_at, base, walk, HasSameMap}
 use Rattle.mj_model.specs.CellRules.{MeetsRules, AreOnKeys}
 use Rattle.double_array.specs.Pool.{Pool}
 

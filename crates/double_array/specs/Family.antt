@@ -1,5 +1,5 @@
 -- Families of codes: for each code whether it belongs to the family.
-use Rattle.std.specs.Prelude.{◌≡◌, ℕ, ◌+◌, ◌<◌, true, Bool, List, slice_get, Some}
+use Rattle.std.specs.Prelude.{◌≡◌, ℕ, ◌+◌, true, Bool, List, slice_get, Some}
 use Rattle.mj_model.specs.CellMap.{Cell, free_cell, cell_at}
 
 -- a code of the family

@@ -1,5 +1,5 @@
 -- The keys that begin a text, as a walk over the text meets them.
-use Rattle.std.specs.Prelude.{◌≡◌, ℕ, suc, ◌+◌, List, [], ◌∷◌, ◌++◌, drop, Option, None, Some, option_and_then}
+use Rattle.std.specs.Prelude.{ℕ, suc, List, [], ◌∷◌, ◌++◌, drop, Option, None, Some, option_and_then}
 use Rattle.mj_model.specs.CellMap.{Cell, base, step, value_in}
 use Rattle.double_array.specs.declared.steps.Place.{Place}
 use Rattle.double_array.specs.declared.walk.Walk.{Walk}

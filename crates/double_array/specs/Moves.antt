@@ -1,5 +1,5 @@
 -- A relocation on its way: some children of a state have moved.
-use Rattle.std.specs.Prelude.{◌≡◌, ◌≢◌, ℕ, ◌+◌, ◌<◌, ◌≤◌, ℤ, pos, negsuc, Bool, List, ◌↔◌, length}
+use Rattle.std.specs.Prelude.{◌≡◌, ◌≢◌, ℕ, ◌+◌, ◌<◌, ◌≤◌, ℤ, pos, negsuc, Bool, List, length}
 use Rattle.mj_model.specs.CellMap.{Cell, free_cell, cell_at, base, check}
 use Rattle.double_array.specs.Family.{HasCode}
 

@@ -1,5 +1,5 @@
 -- The cells as they are seen from outside: the links of free cells are hidden.
-use Rattle.std.specs.Prelude.{◌≡◌, ℤ, pos, negsuc, List, [], ◌∷◌, map}
+use Rattle.std.specs.Prelude.{ℤ, pos, negsuc, List, [], ◌∷◌, map}
 use Rattle.mj_model.specs.CellMap.{Cell, free_cell}
 
 abbrev pub hidden : ℤ → ℤ → Cell

@@ -32,8 +32,6 @@ pub(crate) struct CellPool {
 }
 
 impl Model for CellPool {
-    ghost use Rattle.double_array.specs.Family.{FitsAt};
-    ghost use Rattle.double_array.specs.Ring.{HasLinks, IsRing};
     ghost use Rattle.double_array.specs.Pool.{Pool, IsPool};
 
     ghost Value = { Pool };

@@ -11,6 +11,16 @@ pub struct Options {
     pub sample: bool,
     /// How many characters may follow the first one of a grouped unknown word: 0 to 1,000, and 24 where it isn't given.
     pub grouping: u16,
+    /// `wakati`, where the output format is chosen by name.
+    pub output: Option<String>,
+    /// The format of known words.
+    pub node: Option<String>,
+    /// The format of unknown words.
+    pub unk: Option<String>,
+    /// What is printed before the first word of a line.
+    pub bos: Option<String>,
+    /// What is printed behind the last word of a line.
+    pub eos: Option<String>,
 }
 
 /// Why there are no choices.

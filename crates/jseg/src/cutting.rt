@@ -2,18 +2,31 @@
 
 use crate::choices::Options;
 use crate::fault::Fault;
+use crate::formatting::format_of;
 use crate::source_files::SourceFiles;
 use mj_model::{Counted, GROUPING_MAX, RunFault, Sources};
+use out_format::Format;
 use segmenter::{run_sources, sample};
 use std::alloc::AllocError;
 use std::io::Write;
 use std::string::String;
 
+/// How words are cut and printed.
+#[derive(Drop)]
+struct Manner {
+    grouping: u16,
+    format: Format,
+}
+
 /// Cuts standard input into words.
 pub fn cut(rt: &HostRuntime, options: &Options) -> Result<(), Fault> {
+    let manner = Manner {
+        grouping: options.grouping,
+        format: format_of(rt.alloc(), options).map_err(Fault::Format)?,
+    };
     match &options.sources {
-        Some(dir) => cut_by_directory(rt, dir.as_str(), options.grouping),
-        None => match cut_by(rt, &sample(), options.grouping) {
+        Some(dir) => cut_by_directory(rt, dir.as_str(), &manner),
+        None => match cut_by(rt, &sample(), &manner) {
             Ok(()) => Ok(()),
             Err(fault) => Err(fault_at(rt, "sample", fault)),
         },
@@ -21,7 +34,7 @@ pub fn cut(rt: &HostRuntime, options: &Options) -> Result<(), Fault> {
 }
 
 /// Cuts it by the sources of a directory.
-fn cut_by_directory(rt: &HostRuntime, dir: &str, grouping: u16) -> Result<(), Fault> {
+fn cut_by_directory(rt: &HostRuntime, dir: &str, manner: &Manner) -> Result<(), Fault> {
     let files = SourceFiles::read(rt, dir)?;
     let mut lexicons = Vec::new(rt.alloc());
     for lexicon in &files.lexicons {
@@ -35,7 +48,7 @@ fn cut_by_directory(rt: &HostRuntime, dir: &str, grouping: u16) -> Result<(), Fa
         unk: &files.unk.bytes,
         lexicons: &lexicons,
     };
-    match cut_by(rt, &sources, grouping) {
+    match cut_by(rt, &sources, manner) {
         Ok(()) => Ok(()),
         Err(RunFault::Source(fault)) => Err(fault_at(
             rt,
@@ -47,11 +60,18 @@ fn cut_by_directory(rt: &HostRuntime, dir: &str, grouping: u16) -> Result<(), Fa
 }
 
 /// Cuts it by sources. After a fault what was printed before is flushed.
-fn cut_by(rt: &HostRuntime, sources: &Sources<'_>, grouping: u16) -> Result<(), RunFault> {
+fn cut_by(rt: &HostRuntime, sources: &Sources<'_>, manner: &Manner) -> Result<(), RunFault> {
     let mut reader = Counted::new(rt.reader());
     let mut writer = Counted::new(rt.stdout());
-    let grouping = grouping.min(GROUPING_MAX);
-    match run_sources(rt.alloc(), sources, grouping, &mut reader, &mut writer) {
+    let grouping = manner.grouping.min(GROUPING_MAX);
+    match run_sources(
+        rt.alloc(),
+        sources,
+        grouping,
+        &manner.format,
+        &mut reader,
+        &mut writer,
+    ) {
         Ok(_) => Ok(()),
         Err(fault) => {
             let _ = writer.flush();

@@ -1,6 +1,6 @@
 //! What the program tells when it ends early.
 
-use mj_model::{RunFault, SourceFault};
+use mj_model::{FormatFault, RunFault, SourceFault};
 use std::string::String;
 
 /// Why the program ended before its work was done.
@@ -10,6 +10,8 @@ pub enum Fault {
     File(String),
     /// The source at this path is refused.
     Source(String, SourceFault),
+    /// The format is refused.
+    Format(FormatFault),
     /// The run over the text ended; what it carries is no `Source`.
     Run(RunFault),
     /// Memory was refused.

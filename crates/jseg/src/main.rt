@@ -5,6 +5,7 @@ mod choices;
 mod command_line;
 mod cutting;
 mod fault;
+mod formatting;
 mod reporting;
 mod source_files;
 

@@ -1,7 +1,7 @@
 //! The line of a fault on standard error, and the exit status.
 
 use crate::fault::Fault;
-use mj_model::{RunFault, SourceFault, SourceKind};
+use mj_model::{FormatFault, RunFault, SourceFault, SourceKind};
 use std::io;
 use std::io::Write;
 
@@ -25,12 +25,13 @@ fn write_line<W: Write>(fault: &Fault, err: &mut W) -> io::Result<()> {
             err,
             "jseg: {path}:{line}: {kind}"
         ),
+        Fault::Format(fault) => writeln!(err, "jseg: {fault}"),
         Fault::Run(fault) => writeln!(err, "jseg: {fault}"),
         Fault::Memory => writeln!(err, "jseg: Memory"),
     }
 }
 
-/// 1 for a refused source or text, 3 for a file or device, 4 for memory.
+/// 1 for a refused source or text, 2 for a refused format, 3 for a file or device, 4 for memory.
 fn status(fault: &Fault) -> u8 {
     match fault {
         Fault::Source(
@@ -41,6 +42,8 @@ fn status(fault: &Fault) -> u8 {
             },
         )
         | Fault::Memory => 4,
+        Fault::Format(FormatFault::Memory) => 4,
+        Fault::Format(_) => 2,
         Fault::File(_) => 3,
         Fault::Source(..) => 1,
         Fault::Run(RunFault::Read(_) | RunFault::Write(_)) => 3,

@@ -5,7 +5,7 @@ use crate::command_line::options;
 use crate::fault::Fault;
 use crate::reporting::report;
 use crate::source_files::SourceFiles;
-use mj_model::{RunFault, SourceFault, SourceKind};
+use mj_model::{FormatFault, FormatKind, FormatPart, RunFault, SourceFault, SourceKind};
 use std::alloc::{AllocError, Global};
 use std::string::String;
 use std::test::Fail;
@@ -68,8 +68,61 @@ fn command_lines(rt: HostRuntime) -> Result<(), Fail> {
 }
 
 #[test]
+fn format_options(rt: HostRuntime) -> Result<(), Fail> {
+    let rows: [(&str, &[&str], [Option<&str>; 5]); 5] = [
+        // (what, words, the name and the four formats)
+        ("none", &["--sample"], [None, None, None, None, None]),
+        (
+            "all",
+            &["--sample", "-F", "a", "-U", "b", "-B", "c", "-E", "d"],
+            [None, Some("a"), Some("b"), Some("c"), Some("d")],
+        ),
+        (
+            "empty, and with a hyphen",
+            &["--sample", "-F", "", "-E", "-%pc"],
+            [None, Some(""), None, None, Some("-%pc")],
+        ),
+        (
+            "joined",
+            &["--sample", "-F%m\\n"],
+            [None, Some("%m\\n"), None, None, None],
+        ),
+        (
+            "by name",
+            &["--sample", "-O", "wakati", "-F", "%q"],
+            [Some("wakati"), Some("%q"), None, None, None],
+        ),
+    ];
+    for (what, given, wanted) in rows {
+        match options(rt.alloc(), words(rt.alloc(), given)?) {
+            Ok(options) => {
+                let got = [
+                    &options.output,
+                    &options.node,
+                    &options.unk,
+                    &options.bos,
+                    &options.eos,
+                ];
+                for (got, wanted) in got.iter().zip(wanted.iter()) {
+                    assert!(rt; is_text(got, *wanted), "{what}");
+                }
+            }
+            Err(_) => assert!(rt; false, "{what}"),
+        }
+    }
+    Ok(())
+}
+
+fn is_text(got: &Option<String>, wanted: Option<&str>) -> bool {
+    match got {
+        Some(text) => wanted == Some(text.as_str()),
+        None => wanted == None,
+    }
+}
+
+#[test]
 fn command_lines_that_end_at_once(rt: HostRuntime) -> Result<(), Fail> {
-    let rows: [(&str, &[&str], u8); 14] = [
+    let rows: [(&str, &[&str], u8); 16] = [
         // (what, words, status)
         ("help", &["--help"], 0),
         ("nothing asked for", &[], 2),
@@ -79,6 +132,8 @@ fn command_lines_that_end_at_once(rt: HostRuntime) -> Result<(), Fail> {
         ("no directory", &["--sources"], 2),
         ("unknown option", &["--simple"], 2),
         ("a word", &["--sample", "text"], 2),
+        ("another name", &["--sample", "-O", "yomi"], 2),
+        ("a format twice", &["--sample", "-F", "a", "-F", "b"], 2),
         ("grouping alone", &["-M", "3"], 2),
         ("grouping too large", &["--sample", "-M", "1001"], 2),
         ("grouping below 0", &["--sample", "-M", "-1"], 2),
@@ -208,6 +263,16 @@ fn told_faults(rt: HostRuntime) -> Result<(), Fail> {
             1,
         ),
         (source(alloc, 1, SourceKind::Memory)?, "jseg: Memory\n", 4),
+        (
+            Fault::Format(FormatFault::Bad {
+                part: FormatPart::Node,
+                at: 16,
+                kind: FormatKind::BadItem,
+            }),
+            "jseg: P2 BadItem 16\n",
+            2,
+        ),
+        (Fault::Format(FormatFault::Memory), "jseg: Memory\n", 4),
         (Fault::Run(RunFault::Read(2)), "jseg: line 2: G1 Read\n", 3),
         (Fault::Run(RunFault::Write(120)), "jseg: G2 Write 120\n", 3),
         (

@@ -1,9 +1,9 @@
 -- Fields between quotes: what doubles a quote, where the closing quote stands, and how a doubled text is read back.
 use Rattle.std.proofs.Common.{◌≡◌, ℕ, ◌+◌, ◌-◌, ◌<◌, ◌≤◌, Bool, false, cond, List, [], ◌∷◌, ◌++◌, length, take, drop, get_or, refl, sym, ◌∙◌, ap, subst, arith, inl, inr, length-take, length-drop, append_assoc}
-use Rattle.std.specs.Prelude.{slice_index}
+use Rattle.std.specs.Prelude.{slice_index, min}
 use Rattle.std.specs.List.{list_any}
 use Rattle.std.proofs.lemmas.Bool.{or_parts, ne_eqb, eq-eqb, eqb-false, eqb-true, cases_eq, cases_lt}
-use Rattle.std.proofs.lemmas.List.{get_or_default, get_or-take, get_or-drop, take_more, take-append-drop, take-take, drop-take, drop_more, drop_all, take_all}
+use Rattle.std.proofs.lemmas.List.{take-append-le, get_or_default, get_or-take, get_or-drop, take_more, take-append-drop, take-take, drop-take, drop_more, drop_all, take_all}
 use Rattle.std.proofs.lemmas.List.Folds.{list_any_none}
 use Rattle.std.proofs.lemmas.Grind.{flat_map-append}
 use Rattle.memchr.specs.Find.{Nowhere, NoneBefore, Passes}
@@ -181,3 +181,11 @@ read_more raw field rest before behind done next after p cut is pushed =
 
 pub read_all : (field rest done after : List ℕ) → (left : List ℕ) × (rest ≡ doubled left) × (field ≡ done ++ left) → list_any is_quote rest ≡ false → after ≡ done ++ rest → after ≡ field
 read_all field rest done after p none pushed = pushed ∙ ap (λ (xs : List ℕ). done ++ xs) (unquoted p.0 rest p.1 none) ∙ sym p.2
+
+-- what stood in front stays there
+pub front_more : (old done more new : List ℕ) → take (length old) done ≡ old → new ≡ done ++ more → take (length old) new ≡ old
+front_more old done more new front is =
+    let long : length (take (length old) done) ≡ min (length old) (length done) = length-take (length old) done in
+    let same : length (take (length old) done) ≡ length old = ap length front in
+    let low : length old ≤ length done = omega (arith, long, same) in
+    ap (take (length old)) is ∙ take-append-le (length old) done more low ∙ front

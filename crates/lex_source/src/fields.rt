@@ -1,5 +1,5 @@
 //! A field by its number.
-ghost use Rattle.std.specs.Prelude.{◌≡◌, List, ℕ, IfOk, option_map, slice_get, string_bytes};
+ghost use Rattle.std.specs.Prelude.{◌≡◌, ◌++◌, [], List, ℕ, IfOk, is_some, option_map, slice_get, string_bytes, take, unwrap_or, vec_len};
 ghost use Rattle.mj_model.specs.Fields.{AreFields};
 ghost use Rattle.lex_source.specs.Spelled.{IsFieldAt};
 
@@ -16,6 +16,20 @@ pub fn field(alloc: Global, text: &str, n: usize) -> Result<Option<String>, Allo
     match find_field(text, n) {
         Some(found) => Ok(Some(found.to_string(alloc)?)),
         None => Ok(None),
+    }
+}
+
+/// Appends field `n` of a line, as `field` finds it, and tells whether there is one. On an error a part of it may stand there.
+pub fn append_field(out: &mut Vec<u8>, text: &str, n: usize) -> Result<bool, AllocError>
+    ensures appended { IfOk result (λ found. (fields : List (List ℕ)) × AreFields text.now fields × (found ≡ is_some (slice_get fields n)) × (out.new.items ≡ out.old.items ++ unwrap_or (slice_get fields n) [])) }
+    ensures kept { take (vec_len out.old) out.new.items ≡ out.old.items }
+{
+    match find_field(text, n) {
+        Some(found) => {
+            found.append_to(out)?;
+            Ok(true)
+        }
+        None => Ok(false),
     }
 }
 

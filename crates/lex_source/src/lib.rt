@@ -12,12 +12,13 @@ mod parts;
 mod quoted;
 mod raw_field;
 mod records;
+mod sink;
 mod source_lines;
 mod text;
 mod words;
 
 pub use bytes::split_first;
-pub use fields::field;
+pub use fields::{append_field, field};
 pub use filled::FilledLines;
 pub use lexicon::read_lexicon;
 pub use numbered::Lines;

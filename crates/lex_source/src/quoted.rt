@@ -1,13 +1,13 @@
 //! Fields between quotes, in which a quote is written twice.
-ghost use Rattle.std.specs.Prelude.{◌≡◌, ◌≤◌, ◌+◌, ℕ, List, ◌∷◌, ◌++◌, length, IfOk, MatchOption, string_bytes, option_copied};
+ghost use Rattle.std.specs.Prelude.{◌≡◌, ◌≤◌, ◌+◌, ℕ, List, ◌∷◌, ◌++◌, length, take, OnOk, MatchOption, option_copied};
 ghost use Rattle.mj_model.specs.Bytes.{quote};
 ghost use Rattle.mj_model.specs.Fields.{doubled, BeginsWithQuote};
 ghost use Rattle.lex_source.specs.Spelled.{IsDoubled, IsNextQuote, IsQuotedEnd};
 
+use crate::sink::TextSink;
 use crate::text::{split_around, split_text};
 use memchr::memchr;
-use std::alloc::{AllocError, Global};
-use std::string::String;
+use std::alloc::AllocError;
 
 /// What stands up to the closing quote, and what stands behind it. Without such a quote the first is all of the text.
 pub(crate) fn split_quoted(inside: &str) -> (&str, Option<&str>)
@@ -44,18 +44,17 @@ fn next_quote(bytes: &[u8], start: usize) -> usize
     }
 }
 
-/// A text in which each pair of quotes is one.
-pub(crate) fn undoubled(alloc: Global, raw: &str) -> Result<String, AllocError>
+/// Appends a text with each pair of quotes as one. On an error a part of it may stand there.
+pub(crate) fn append_undoubled<S: TextSink>(out: &mut S, raw: &str) -> Result<(), AllocError>
     requires { IsDoubled raw.now }
-    ensures { (field : List ℕ) → raw.now ≡ doubled field → IfOk result (λ text. string_bytes text ≡ field) }
+    ensures appended { (field : List ℕ) → raw.now ≡ doubled field → OnOk result (S.bytes out.new ≡ S.bytes out.old ++ field) }
+    ensures kept { take (length (S.bytes out.old)) (S.bytes out.new) ≡ S.bytes out.old }
 {
-    let mut text = String::with_capacity(alloc, raw.len())?;
     let mut rest = raw;
     while let Some((before, behind)) = split_text(rest, b'"') {
-        text.push_str(before)?;
-        text.push('"')?;
+        out.push_text(before)?;
+        out.push_text("\"")?;
         rest = split_around(behind, 0).1;
     }
-    text.push_str(rest)?;
-    Ok(text)
+    out.push_text(rest)
 }

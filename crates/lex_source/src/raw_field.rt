@@ -1,10 +1,11 @@
 //! The first field of a text, where it stands.
-ghost use Rattle.std.specs.Prelude.{◌≡◌, ℕ, List, ◌∷◌, IfOk, IsTrue, IsFalse, ◌==◌, length, string_bytes, option_copied, option_map};
+ghost use Rattle.std.specs.Prelude.{◌≡◌, ℕ, List, ◌∷◌, ◌++◌, take, IfOk, OnOk, IsTrue, IsFalse, ◌==◌, length, string_bytes, option_copied, option_map};
 ghost use Rattle.mj_model.specs.Bytes.{quote};
 ghost use Rattle.mj_model.specs.Fields.{BeginsWithQuote, IsFieldOf, IsFirstField, rest_of as rest_behind};
 ghost use Rattle.lex_source.specs.Spelled.{IsSpelled, StandsFirst};
 
-use crate::quoted::{split_quoted, undoubled};
+use crate::quoted::{append_undoubled, split_quoted};
+use crate::sink::TextSink;
 use crate::text::{split_around, split_text, without_blanks};
 use std::alloc::{AllocError, Global};
 use std::string::String;
@@ -37,10 +38,21 @@ impl<'a> RawField<'a> {
         requires { (field : List ℕ) × IsSpelled self.raw.now self.quoted field }
         ensures { (field : List ℕ) → IsSpelled self.entry.raw.now self.entry.quoted field → IfOk result (λ text. string_bytes text ≡ field) }
     {
+        let mut text = String::with_capacity(alloc, self.raw.len())?;
+        self.append_to(&mut text)?;
+        Ok(text)
+    }
+
+    /// Appends the field without its quotes. On an error a part of it may stand there.
+    pub(crate) fn append_to<S: TextSink>(self, out: &mut S) -> Result<(), AllocError>
+        requires { (field : List ℕ) × IsSpelled self.raw.now self.quoted field }
+        ensures appended { (field : List ℕ) → IsSpelled self.entry.raw.now self.entry.quoted field → OnOk result (S.bytes out.new ≡ S.bytes out.old ++ field) }
+        ensures kept { take (length (S.bytes out.old)) (S.bytes out.new) ≡ S.bytes out.old }
+    {
         if self.quoted {
-            undoubled(alloc, self.raw)
+            append_undoubled(out, self.raw)
         } else {
-            String::from_str(alloc, self.raw)
+            out.push_text(self.raw)
         }
     }
 }

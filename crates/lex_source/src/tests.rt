@@ -1,5 +1,7 @@
 //! Rows of lexicons, fields and numbers.
-use crate::{FilledLines, Words, context_id, cost, field, lines, number, read_lexicon};
+use crate::{
+    FilledLines, Words, append_field, context_id, cost, field, lines, number, read_lexicon,
+};
 use mj_model::{Record, SourceFault, SourceKind};
 use std::test::Fail;
 
@@ -73,6 +75,24 @@ fn quoted_fields(rt: HostRuntime) -> Result<(), Fail> {
             Some(found) => assert_eq!(rt; Some(found.as_str()), expected, "{line} {n}"),
             None => assert_eq!(rt; None, expected, "{line} {n}"),
         }
+    }
+    Ok(())
+}
+
+#[test]
+fn appended_fields(rt: HostRuntime) -> Result<(), Fail> {
+    let rows = [
+        // (line, number of the field, whether it is there, what stands in the output)
+        ("x, \"y \"\"z\"w,*", 0, true, ">x"),
+        ("x, \"y \"\"z\"w,*", 1, true, ">y \"z"),
+        ("x, \"y \"\"z\"w,*", 2, true, ">*"),
+        ("x, \"y \"\"z\"w,*", 3, false, ">"),
+        ("", 0, true, ">"),
+    ];
+    for (line, n, there, expected) in rows {
+        let mut out = Vec::from_slice(rt.alloc(), b">")?;
+        assert_eq!(rt; append_field(&mut out, line, n)?, there, "{line} {n}");
+        assert_eq!(rt; out.as_slice(), expected.as_bytes(), "{line} {n}");
     }
     Ok(())
 }

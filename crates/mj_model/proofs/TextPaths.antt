@@ -57,7 +57,7 @@ some_there : (o : Overlay) (ks : List Word) (place start : ℕ) (cs : List ℕ) 
 some_there o [] place start cs covers there = unknown_there o place start cs covers there
 some_there o (k ∷ ks) place start cs covers there = omega arith
 
-words_there : (o : Overlay) (text : List ℕ) (p : ℕ) → CoversAll o → p ≤ length text → IsUtf8 (drop p text) → skip o text p < length text → 0 < length (words o text p)
+pub words_there : (o : Overlay) (text : List ℕ) (p : ℕ) → CoversAll o → p ≤ length text → IsUtf8 (drop p text) → skip o text p < length text → 0 < length (words o text p)
 words_there o text p covers low u less =
     let start = skip o text p in
     let rest = length-drop start text in

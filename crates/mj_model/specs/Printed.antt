@@ -1,13 +1,10 @@
--- The text of a path in the default format (MeCab): of each word the surface, a tab and the feature, each on a line, and then EOS.
-use Rattle.std.specs.Prelude.{ℕ, ◌-◌, ◌==◌, List, [], ◌∷◌, ◌++◌, map, flat_map, find, codes, slice_index_or, length}
+-- The feature of a word.
+use Rattle.std.specs.Prelude.{ℕ, ◌-◌, ◌==◌, List, [], map, flat_map, find, slice_index_or, length}
 use Rattle.std.specs.Option.{option_map_or}
-use Rattle.mj_model.specs.declared.word.Word.{Word}
 use Rattle.mj_model.specs.declared.word.Origin.{Origin}
 use Rattle.mj_model.specs.declared.word.Origin.TheVariants.{Known, Unknown}
-use Rattle.mj_model.specs.Bytes.{line_feed, tab}
 use Rattle.mj_model.specs.KnownWords.{up_to}
 use Rattle.mj_model.specs.Tables.{Overlay, Token, lexicons}
-use Rattle.mj_model.specs.Laws.{between}
 
 -- the feature of the entry with a number
 abbrev pub feature_in : List Token → ℕ → List ℕ
@@ -21,12 +18,3 @@ unknown_entries o = flat_map (λ n. o.system.unknown (n - 1)) (up_to (length o.s
 abbrev pub feature_of : Overlay → Origin → List ℕ
 feature_of o (Known dict number) = feature_in (map (λ e. e.token) (slice_index_or (lexicons o) dict [])) number
 feature_of o (Unknown number) = feature_in (unknown_entries o) number
-
-abbrev pub surface : List ℕ → Word → List ℕ
-surface text w = between text w.start w.end
-
-abbrev pub word_text : Overlay → List ℕ → Word → List ℕ
-word_text o text w = surface text w ++ tab ∷ (feature_of o w.origin ++ line_feed ∷ [])
-
-abbrev pub path_text : Overlay → List ℕ → List Word → List ℕ
-path_text o text path = flat_map (word_text o text) path ++ (codes "EOS" ++ line_feed ∷ [])

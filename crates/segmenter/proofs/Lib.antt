@@ -1,4 +1,3 @@
-pub mod PrintedPaths
 pub mod PieceLemmas
 pub mod PieceWork
 pub mod ResultLemmas

@@ -1,6 +1,5 @@
 pub mod LineErrors
 pub mod PrintedLines
-pub mod PrintedWords
 pub mod Progress
 pub mod Runs
 pub mod Steps

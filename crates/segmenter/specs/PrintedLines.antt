@@ -3,7 +3,8 @@ use Rattle.std.specs.Prelude.{◌≡◌, ℕ, ◌<◌, ◌≤◌, List, length, 
 use Rattle.mj_model.specs.declared.limits.TheConstants.{SENTENCE_MAX}
 use Rattle.mj_model.specs.declared.word.Word.{Word}
 use Rattle.mj_model.specs.BestOver.{IsBestOver}
-use Rattle.mj_model.specs.Printed.{path_text}
+use Rattle.mj_model.specs.Formats.{Format}
+use Rattle.mj_model.specs.PrintedPaths.{ShowsPath}
 use Rattle.mj_model.specs.Tables.{Overlay}
 use Rattle.segmenter.specs.declared.line_fault.LineFault.{LineFault}
 use Rattle.segmenter.specs.declared.line_fault.LineFault.TheVariants.{TooLong, NotUtf8}
@@ -14,6 +15,6 @@ Judges line None = (length line ≤ SENTENCE_MAX) × IsUtf8 line
 Judges line (Some TooLong) = SENTENCE_MAX < length line
 Judges line (Some NotUtf8) = (length line ≤ SENTENCE_MAX) × (IsUtf8 line → ⊥)
 
--- a good line prints the text of its best path
-abbrev pub Prints : Overlay → List ℕ → List ℕ → Type 0
-Prints o line text = (path : List Word) × IsBestOver o line path × (text ≡ path_text o line path)
+-- a good line prints the text of its best path in a format
+abbrev pub Prints : Overlay → Format → List ℕ → List ℕ → Type 0
+Prints o f line text = (path : List Word) × IsBestOver o line path × ShowsPath o f line path text

@@ -1,7 +1,6 @@
 //! Text in, words out: lines are read, cut into words and printed.
 #![tactic(auto)]
 
-mod default_format;
 mod lexicons;
 mod line_fault;
 mod line_printer;

@@ -13,12 +13,13 @@ ghost use Rattle.segmenter.specs.Runs.{Ran, IsEarly};
 
 use crate::reading::run_over;
 use crate::sources::read_sources;
-use crate::words_printer::LineMemory;
+use crate::words_printer::{LineMemory, WordsPrinter};
 use mj_model::{READS_MAX, RunFault, SourceFault, SourceKind, Sources, TextIn, TextOut};
+use out_format::Format;
 use std::alloc::Global;
 use word_lookup::Dictionaries;
 
-/// Cuts the text of a reader into words and writes them, by the tables of the sources; answers the number of lines.
+/// Cuts the text of a reader into words and writes them in a format, by the tables of the sources; answers the number of lines.
 ///
 /// `grouping` is how many characters may follow the first one of a grouped unknown word, 24 in MeCab. It works through the
 /// bytes of one read before it reads again, and flushes the writer once, at the end of the input; after a fault the caller
@@ -27,6 +28,7 @@ pub fn run_sources<R: TextIn, W: TextOut>(
     alloc: Global,
     sources: &Sources<'_>,
     grouping: u16,
+    format: &Format,
     reader: &mut R,
     writer: &mut W,
 ) -> Result<u64, RunFault>
@@ -42,7 +44,7 @@ pub fn run_sources<R: TextIn, W: TextOut>(
     // Either it ended before its first read, with nothing read or written, or it ran over the tables of the sources, which cover every text.
     ensures run { (IsEarly result × (reader.new ≡ reader.old) × (writer.new ≡ writer.old))
         ⊎ ((tables : TablesOf) × HaveTables sources.now tables × CoversTexts (alone tables grouping)
-        × Ran Judges (Prints (alone tables grouping)) ReadsMax (R.remaining reader.old) (R.remaining reader.new) (W.contents writer.old) (W.contents writer.new)
+        × Ran Judges (Prints (alone tables grouping) format.now) ReadsMax (R.remaining reader.old) (R.remaining reader.new) (W.contents writer.old) (W.contents writer.new)
         (record { reads = R.reads reader.old; ends = R.ends reader.old; read_failures = R.TextIn.failures reader.old; write_failures = W.TextOut.failures writer.old; unflushed = W.unflushed writer.old })
         (record { reads = R.reads reader.new; ends = R.ends reader.new; read_failures = R.TextIn.failures reader.new; write_failures = W.TextOut.failures writer.new; unflushed = W.unflushed writer.new })
         result) }
@@ -52,8 +54,13 @@ pub fn run_sources<R: TextIn, W: TextOut>(
         Err(fault) => return Err(early(fault)),
     };
     let dictionaries = Dictionaries::over(&tables).with_grouping(grouping);
+    let printer = WordsPrinter {
+        alloc,
+        dictionaries,
+        format,
+    };
     let mut kept = LineMemory::new(alloc);
-    run_over(alloc, &dictionaries, &mut kept, reader, writer, READS_MAX)
+    run_over(alloc, &printer, &mut kept, reader, writer, READS_MAX)
 }
 
 /// A source's fault as the end of a run.

@@ -2,6 +2,7 @@
 
 mod devices;
 mod failing;
+mod formats;
 mod paths;
 mod refusals;
 mod rows;

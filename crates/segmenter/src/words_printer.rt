@@ -1,14 +1,14 @@
 //! Lines are printed as the words of their best path.
 
-ghost use Rattle.std.specs.Prelude.{◌≡◌, ℕ, ◌++◌, ◌≤◌, List, length, IsUtf8, OnOk, OnErr};
+ghost use Rattle.std.specs.Prelude.{◌≡◌, ℕ, ◌++◌, ◌≤◌, List, length, OnOk, OnErr};
 ghost use Rattle.mj_model.specs.declared.limits.TheConstants.{SENTENCE_MAX};
 ghost use Rattle.segmenter.specs.PrintedLines.{Judges, Prints};
 ghost use Rattle.word_lookup.specs.Overlays.{overlay_of};
 
-use crate::default_format::append_path;
 use crate::line_fault::{LineError, LineFault};
 use crate::line_printer::LinePrinter;
 use lattice::{Lattice, Path};
+use out_format::{Format, print};
 use std::alloc::{AllocError, Global};
 use word_lookup::Dictionaries;
 
@@ -33,12 +33,20 @@ impl LineMemory {
     }
 }
 
-impl<'a> LinePrinter for Dictionaries<'a> {
+/// Dictionaries that lines are cut by, and the format of their words.
+#[derive(Drop)]
+pub struct WordsPrinter<'d, 'f> {
+    pub alloc: Global,
+    pub dictionaries: Dictionaries<'d>,
+    pub format: &'f Format,
+}
+
+impl<'d, 'f> LinePrinter for WordsPrinter<'d, 'f> {
     type Kept = LineMemory;
 
-    ghost judges = { λ d. Judges };
+    ghost judges = { λ p. Judges };
 
-    ghost prints = { λ d. Prints (overlay_of d) };
+    ghost prints = { λ p. Prints (overlay_of p.dictionaries) p.format.now };
 
     fn print_line(
         &self,
@@ -49,26 +57,36 @@ impl<'a> LinePrinter for Dictionaries<'a> {
         let Ok(text) = simdutf8::basic::from_utf8(line) else {
             return Err(LineError::Bad(LineFault::NotUtf8));
         };
-        match append_text(self, kept, text, out) {
+        match self.append_text(kept, text, out) {
             Ok(()) => Ok(()),
             Err(AllocError) => Err(LineError::Memory),
         }
     }
 
-    ghost too_long = { λ d line h. h };
+    ghost too_long = { λ p line h. h };
 }
 
-/// Appends the text of the best path.
-fn append_text(
-    dictionaries: &Dictionaries<'_>,
-    kept: &mut LineMemory,
-    text: &str,
-    out: &mut Vec<u8>,
-) -> Result<(), AllocError>
-    requires { length text.now ≤ SENTENCE_MAX }
-    ensures printed { OnOk result ((more : List ℕ) × Prints (overlay_of dictionaries.now) text.now more × (out.new.items ≡ out.old.items ++ more)) }
-    ensures kept { OnErr result (out.new.items ≡ out.old.items) }
-{
-    kept.lattice.fill_best(dictionaries, text, &mut kept.path)?;
-    append_path(dictionaries, text.as_bytes(), &kept.path.words, out)
+impl<'d, 'f> WordsPrinter<'d, 'f> {
+    /// Appends the text of the best path.
+    fn append_text(
+        &self,
+        kept: &mut LineMemory,
+        text: &str,
+        out: &mut Vec<u8>,
+    ) -> Result<(), AllocError>
+        requires { length text.now ≤ SENTENCE_MAX }
+        ensures printed { OnOk result ((more : List ℕ) × Prints (overlay_of self.now.dictionaries) self.now.format.now text.now more × (out.new.items ≡ out.old.items ++ more)) }
+        ensures kept { OnErr result (out.new.items ≡ out.old.items) }
+    {
+        kept.lattice
+            .fill_best(&self.dictionaries, text, &mut kept.path)?;
+        print(
+            self.alloc,
+            self.format,
+            &self.dictionaries,
+            text,
+            &kept.path,
+            out,
+        )
+    }
 }

@@ -1,6 +1,6 @@
 //! The dictionaries that words are looked up in.
 
-ghost use Rattle.std.specs.Prelude.{◌≡◌, ℕ, ◌+◌, ◌<◌, ◌≤◌, ◌^◌, ◌++◌, ◌∷◌, [], length, take, drop, vec_len, chars, IsTrue, OnOk, OnErr, Bool};
+ghost use Rattle.std.specs.Prelude.{◌≡◌, ℕ, ◌+◌, ◌<◌, ◌≤◌, ◌^◌, ◌++◌, ◌∷◌, [], length, take, drop, vec_len, chars, IsTrue, IsOk, OnOk, OnErr, Bool};
 ghost use Rattle.std.specs.Str.{IsUtf8};
 ghost use Rattle.mj_model.specs.Blanks.{skip, chars_from};
 ghost use Rattle.mj_model.specs.CharDef.{code_point_max};
@@ -68,6 +68,8 @@ impl<'a> Dictionaries<'a> {
         requires { IsTrue (is_place text.now place) }
         ensures appended { OnOk result (out.new.items ≡ out.old.items ++ words (overlay_of self.now) text.now place) }
         ensures kept { OnErr result (out.new.items ≡ out.old.items) }
+        // Where there are none, no memory is taken.
+        ensures none { words (overlay_of self.now) text.now place ≡ [] → IsOk result }
     {
         let start = self.blanks(text, place);
         if start == text.len() {

@@ -3,9 +3,10 @@
 use super::devices::{StepReader, StepWriter};
 use crate::reading::run_over;
 use crate::sources::read_sources;
-use crate::words_printer::LineMemory;
+use crate::words_printer::{LineMemory, WordsPrinter};
 use crate::{run_sources, sample};
 use mj_model::{Counted, GROUPING_DEFAULT, RunFault, SENTENCE_MAX, SourceFault, SourceKind};
+use out_format::Format;
 use std::alloc::{AllocError, Global};
 use std::test::Fail;
 use word_lookup::Dictionaries;
@@ -37,6 +38,7 @@ fn writer(alloc: Global, step: usize, room: usize) -> StepWriter {
 
 #[test]
 fn failing_writers(rt: HostRuntime) -> Result<(), Fail> {
+    let format = Format::default_of(rt.alloc())?;
     let all = usize::MAX;
     let whole = SUMOMO_OUTPUT.as_bytes();
     let rows = [
@@ -89,6 +91,7 @@ fn failing_writers(rt: HostRuntime) -> Result<(), Fail> {
             rt.alloc(),
             &sample(),
             GROUPING_DEFAULT,
+            &format,
             &mut input,
             &mut out,
         );
@@ -103,6 +106,7 @@ fn failing_writers(rt: HostRuntime) -> Result<(), Fail> {
 
 #[test]
 fn failing_readers(rt: HostRuntime) -> Result<(), Fail> {
+    let format = Format::default_of(rt.alloc())?;
     // The sample line has 16 bytes, the last of them its LF.
     for read in 1..=17 {
         let mut input = Counted::new(reader(SUMOMO.as_bytes(), 1, Some(read)));
@@ -111,6 +115,7 @@ fn failing_readers(rt: HostRuntime) -> Result<(), Fail> {
             rt.alloc(),
             &sample(),
             GROUPING_DEFAULT,
+            &format,
             &mut input,
             &mut out,
         );
@@ -130,6 +135,7 @@ fn failing_readers(rt: HostRuntime) -> Result<(), Fail> {
 
 #[test]
 fn faults_behind_line_1(rt: HostRuntime) -> Result<(), Fail> {
+    let format = Format::default_of(rt.alloc())?;
     let rows: [(&str, &[u8], Option<u64>, RunFault); 2] = [
         // (what, text, failing read, answer)
         (
@@ -152,6 +158,7 @@ fn faults_behind_line_1(rt: HostRuntime) -> Result<(), Fail> {
             rt.alloc(),
             &sample(),
             GROUPING_DEFAULT,
+            &format,
             &mut input,
             &mut out,
         );
@@ -166,6 +173,7 @@ fn faults_behind_line_1(rt: HostRuntime) -> Result<(), Fail> {
 
 #[test]
 fn bound_on_reads(rt: HostRuntime) -> Result<(), Fail> {
+    let format = Format::default_of(rt.alloc())?;
     let rows = [
         // (what, text, answer)
         (
@@ -177,18 +185,15 @@ fn bound_on_reads(rt: HostRuntime) -> Result<(), Fail> {
     ];
     for (what, text, answer) in rows {
         let tables = read_sources(rt.alloc(), &sample())?;
-        let dictionaries = Dictionaries::over(&tables);
+        let printer = WordsPrinter {
+            alloc: rt.alloc(),
+            dictionaries: Dictionaries::over(&tables),
+            format: &format,
+        };
         let mut kept = LineMemory::new(rt.alloc());
         let mut input = Counted::new(reader(text.as_bytes(), 1, None));
         let mut out = Counted::new(writer(rt.alloc(), usize::MAX, usize::MAX));
-        let got = run_over(
-            rt.alloc(),
-            &dictionaries,
-            &mut kept,
-            &mut input,
-            &mut out,
-            4,
-        );
+        let got = run_over(rt.alloc(), &printer, &mut kept, &mut input, &mut out, 4);
         assert!(rt; got == answer, "{what}");
         assert!(rt;
             out.get_ref().taken.as_slice() == "ab\t未知\nEOS\n".as_bytes(),
@@ -217,6 +222,7 @@ fn long_line(
 
 #[test]
 fn long_lines(rt: HostRuntime) -> Result<(), Fail> {
+    let format = Format::default_of(rt.alloc())?;
     let most = SENTENCE_MAX;
     let rows = [
         // (what, first byte, bytes with it, LF, failing read, answer)
@@ -254,6 +260,7 @@ fn long_lines(rt: HostRuntime) -> Result<(), Fail> {
             rt.alloc(),
             &sample(),
             GROUPING_DEFAULT,
+            &format,
             &mut input,
             &mut out,
         );

@@ -2,6 +2,7 @@
 
 use crate::{run_sources, sample};
 use mj_model::{Counted, GROUPING_DEFAULT, RunFault, SourceFault, SourceKind, Sources};
+use out_format::Format;
 use std::alloc::Global;
 use std::string::String;
 use std::test::Fail;
@@ -11,7 +12,17 @@ fn is_refused(alloc: Global, sources: &Sources<'_>, fault: SourceFault) -> bool 
     let mut reader = Counted::new("も\n".as_bytes());
     let mut written = Vec::new(alloc);
     let mut writer = Counted::new(&mut written);
-    let answer = run_sources(alloc, sources, GROUPING_DEFAULT, &mut reader, &mut writer);
+    let Ok(format) = Format::default_of(alloc) else {
+        return false;
+    };
+    let answer = run_sources(
+        alloc,
+        sources,
+        GROUPING_DEFAULT,
+        &format,
+        &mut reader,
+        &mut writer,
+    );
     answer == Err(RunFault::Source(fault)) && written.is_empty()
 }
 

@@ -1,5 +1,6 @@
 use crate::{run_sources, sample};
 use mj_model::{Counted, GROUPING_DEFAULT, RunFault, SourceFault, SourceKind, Sources};
+use out_format::Format;
 use std::alloc::Global;
 use std::test::Fail;
 
@@ -8,7 +9,17 @@ fn run(alloc: Global, sources: &Sources<'_>, text: &[u8]) -> (Result<u64, RunFau
     let mut reader = Counted::new(text);
     let mut written = Vec::new(alloc);
     let mut writer = Counted::new(&mut written);
-    let answer = run_sources(alloc, sources, GROUPING_DEFAULT, &mut reader, &mut writer);
+    let answer = match Format::default_of(alloc) {
+        Ok(format) => run_sources(
+            alloc,
+            sources,
+            GROUPING_DEFAULT,
+            &format,
+            &mut reader,
+            &mut writer,
+        ),
+        Err(_) => Err(RunFault::Memory(0)),
+    };
     (answer, written)
 }
 

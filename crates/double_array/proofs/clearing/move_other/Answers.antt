@@ -1,4 +1,4 @@
-use Rattle.std.proofs.Common.{arith, ◌≡◌, ◌+◌, ◌≤◌, ℕ, length, pos, true, false, Bool, set, refl, ap, sym, subst, ◌∙◌, inl, inr}
+use Rattle.std.proofs.Common.{◌≡◌, ◌+◌, ◌≤◌, pos, true, false, ap, sym, subst, ◌∙◌, inr}
 use Rattle.mj_model.specs.CellMap.{check}
 use Rattle.mj_model.specs.CellMoves.{IsMove}
 use Rattle.mj_model.proofs.CellMoveLaw.{Renames}

@@ -1,7 +1,7 @@
-use Rattle.std.proofs.Common.{arith, ◌≡◌, ◌+◌, ◌≤◌, ℕ, length, true, set, ap, sym, subst, ◌∙◌}
+use Rattle.std.proofs.Common.{◌+◌, ◌≤◌, sym, subst}
 use Rattle.mj_model.specs.CellMoves.{IsMove}
 use Rattle.double_array.specs.Pool.{Pool}
-use Rattle.double_array.specs.Family.{HasCode, FitsAt}
+use Rattle.double_array.specs.Family.{FitsAt}
 use Rattle.double_array.proofs.ClearingLemmas.{has_code, fits_less, cleared_by_own}
 use Rattle.double_array.proofs.clearing.move_own.Goals as goal
 

@@ -1,5 +1,5 @@
 use Rattle.double_array.proofs.InsertionLemmas.{grown_built}
-use Rattle.std.proofs.Common.{arith, ◌≡◌, ◌+◌, ◌≤◌, ◌^◌, ℕ, length}
+use Rattle.std.proofs.Common.{arith, ◌+◌}
 use Rattle.double_array.proofs.insertion.make_room.Goals as goal
 
 pub returns-in-Ok-clause-room : goal.returns-in-Ok-clause-room

@@ -1,5 +1,4 @@
-use Rattle.std.proofs.Common.{arith, ◌≡◌, ◌≤◌, ℕ, pos, ap, sym, subst, ◌∙◌}
-use Rattle.double_array.specs.Ring.{HasLinks}
+use Rattle.std.proofs.Common.{arith, ◌≡◌, pos, ap, sym, ◌∙◌}
 use Rattle.double_array.proofs.RingLemmas.{next_is_other, same_pos}
 use Rattle.double_array.proofs.pool.start_without.Goals as goal
 

@@ -1,4 +1,4 @@
-use Rattle.std.proofs.Common.{rules, arith, ◌≡◌, ◌<◌, ℕ, ℤ, List, length, set, pos, ap, sym, subst, ◌∙◌, w32, to_z, of_z}
+use Rattle.std.proofs.Common.{rules, arith, ◌≡◌, ℤ, set, pos, ap, subst, ◌∙◌, w32, to_z, of_z}
 use mir.Val.{SFits}
 use Rattle.std.proofs.lemmas.Int.{to_z-of_z}
 use Rattle.std.proofs.lemmas.Option.{get_or_from_slice_get}

@@ -1,11 +1,10 @@
-use Rattle.std.proofs.Common.{arith, ◌≡◌, ◌+◌, ◌<◌, ◌≤◌, ℕ, length, pos, ap, sym, subst, ◌∙◌, max}
-use Rattle.mj_model.specs.CellMap.{base}
+use Rattle.std.proofs.Common.{arith, ◌≡◌, ◌+◌, ◌≤◌, sym, subst}
 use Rattle.double_array.specs.Family.{HasCode}
 use Rattle.double_array.specs.Built.{values}
 use Rattle.double_array.specs.Moves.{IsMovedUpTo}
 use Rattle.double_array.specs.Pool.{Pool}
 use Rattle.double_array.proofs.FamilyLemmas.{code_by}
-use Rattle.double_array.proofs.Moving.{no_self, room_as_it_was, child_named, children_from_base, base_is_positive, state_in_use, moved_more, moved_past, moved_none, is_move, bases_kept, root_base_kept, state_base_kept, based_within}
+use Rattle.double_array.proofs.Moving.{no_self, room_as_it_was, child_named, children_from_base, base_is_positive, state_in_use, moved_more, moved_past, is_move, bases_kept, root_base_kept}
 use Rattle.double_array.proofs.PoolLemmas.{no_code}
 use Rattle.double_array.proofs.relocation.relocate.Goals as goal
 use Rattle.double_array.proofs.relocation.relocate.Goals.{then-family-code, else-family-code}

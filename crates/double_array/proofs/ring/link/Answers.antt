@@ -1,4 +1,4 @@
-use Rattle.std.proofs.Common.{arith, ◌≡◌, ◌<◌, ◌≤◌, ◌^◌, ℕ, length}
+use Rattle.std.proofs.Common.{arith}
 use Rattle.std.proofs.lemmas.List.{length-set}
 use Rattle.double_array.proofs.RingLemmas.{linked_within}
 use Rattle.double_array.proofs.RingWrites.{IsJoined, joined_by_writes}

@@ -1,6 +1,5 @@
-use Rattle.std.proofs.Common.{arith, ◌≡◌, ◌<◌, ◌≤◌, ◌^◌, ◌∙◌, ℕ, length, ap, sym, refl}
-use Rattle.double_array.proofs.SeenLemmas.{length-seen}
-use Rattle.double_array.proofs.RingWrites.{IsLinkedUpTo, IsJoined, linked_one_more, no_links_yet}
+use Rattle.std.proofs.Common.{arith}
+use Rattle.double_array.proofs.RingWrites.{IsJoined, linked_one_more}
 use Rattle.double_array.proofs.ring.link_from.Goals as goal
 
 pub loop-i-preserved : goal.loop-i-preserved

@@ -1,4 +1,4 @@
-use Rattle.std.proofs.Common.{arith, ◌≡◌, ◌<◌, ◌≤◌, ◌^◌, ℕ, length, pos, ℤ, ap, set, ◌∙◌, w32}
+use Rattle.std.proofs.Common.{arith, pos, ℤ, ap, set, ◌∙◌, w32}
 use Rattle.std.proofs.lemmas.Int.{to_z-of_z}
 use Rattle.std.proofs.lemmas.List.{length-set}
 use Rattle.double_array.proofs.RingLemmas.{linked_within}

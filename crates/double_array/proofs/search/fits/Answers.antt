@@ -1,4 +1,4 @@
-use Rattle.std.proofs.Common.{rules, arith, ◌≡◌, ℕ, ◌+◌, ◌<◌, ◌≤◌, length, below_more, w32, Some, slice_get, subst, ap}
+use Rattle.std.proofs.Common.{rules, arith, ◌≡◌, ℕ, ◌+◌, below_more, w32}
 use mir.Val.{SFits}
 use Rattle.std.proofs.lemmas.Option.{slice_get_within}
 use Rattle.mj_model.specs.CellMap.{free_cell, cell_at}

@@ -1,4 +1,4 @@
-use Rattle.std.proofs.Common.{◌≡◌, ℕ, subst, sym}
+use Rattle.std.proofs.Common.{subst, sym}
 use Rattle.double_array.specs.Ring.{HasLinks}
 use Rattle.double_array.proofs.search.search_family.Goals as goal
 use Rattle.double_array.proofs.search.search_family.Goals.{then-i-top+else-again, else-i-top+else-i-least}

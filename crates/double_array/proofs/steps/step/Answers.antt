@@ -1,4 +1,4 @@
-use Rattle.std.proofs.Common.{rules, arith, ap, sym, subst, ◌+◌, ◌≡◌, ◌∙◌, pos, w32}
+use Rattle.std.proofs.Common.{rules, arith, ap, sym, subst, ◌+◌, ◌∙◌, pos, w32}
 use lib.IntN.{nat_abs}
 use mir.Val.{SFits}
 use Rattle.std.proofs.lemmas.Int.{to_z-of_z}

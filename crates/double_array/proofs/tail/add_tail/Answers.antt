@@ -1,4 +1,4 @@
-use Rattle.std.proofs.Common.{arith, ◌≡◌, ◌+◌, ◌<◌, ◌≤◌, ℕ, length, get_or, ap, sym, subst, ◌∙◌}
+use Rattle.std.proofs.Common.{arith, ◌≡◌, ◌<◌, ◌≤◌, ℕ, length, get_or, subst, ◌∙◌}
 use Rattle.mj_model.specs.CellMap.{codes_of}
 use Rattle.double_array.specs.Tail.{IsReady}
 use Rattle.double_array.proofs.KeyWalks.{code_of_byte}

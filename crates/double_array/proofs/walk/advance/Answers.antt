@@ -1,9 +1,8 @@
-use Rattle.std.proofs.Common.{rules, arith, ◌≡◌, ◌+◌, ◌<◌, ◌≤◌, ◌++◌, ℕ, List, [], Option, Some, MatchOption, sym, ap, ◌∙◌, subst, length, get_or, drop}
+use Rattle.std.proofs.Common.{◌≡◌, ◌+◌, ◌<◌, ◌≤◌, ℕ, [], sym, subst, length, drop}
 use Rattle.std.proofs.lemmas.Bool.{ltb-false, ltb-true}
 use Rattle.std.proofs.lemmas.List.{get_or_read}
-use Rattle.double_array.specs.declared.steps.Place.{Place}
 use Rattle.double_array.specs.Steps.{IsStepTo}
-use Rattle.double_array.specs.Hits.{hit_at, value_here, hits_from, hits_at}
+use Rattle.double_array.specs.Hits.{hits_at}
 use Rattle.double_array.proofs.HitLemmas.{no_hits, hits_on}
 use Rattle.double_array.proofs.walk.advance.Goals as goal
 

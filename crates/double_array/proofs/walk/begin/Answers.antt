@@ -1,4 +1,4 @@
-use Rattle.std.proofs.Common.{◌≡◌, ℕ, sym, ap, ◌∙◌, drop}
+use Rattle.std.proofs.Common.{ℕ, ap, ◌∙◌}
 use Rattle.double_array.specs.Hits.{hits_from}
 use Rattle.double_array.proofs.HitLemmas.{all_hits}
 use Rattle.double_array.proofs.walk.begin.Goals as goal

@@ -19,5 +19,5 @@ returns-clause-refused g c = λ fault h. absurd (no_tables c.args.sources.now fa
 pub returns-clause-run : goal.returns-clause-run
 returns-clause-run g c =
     let d = c.with_grouping-dictionaries.result in
-    over_tables c.args.sources.now (tables_of c.in-Ok.tables) c.args.grouping _ (overlay_of d) _ _ _ _ _ _ c.run_over.result _ _
+    over_tables c.args.sources.now (tables_of c.in-Ok.tables) c.args.grouping _ (overlay_of d) c.args.format.now _ _ _ _ _ _ c.run_over.result _ _
     c.in-Ok.ensures.accepted (has_words d) (covers_all d) (c.with_grouping-dictionaries.ensures ∙ ap (λ (o : Overlay). record { system = o.system; users = o.users; grouping = c.args.grouping }) c.over.ensures) c.run_over.ensures.run

@@ -1,4 +1,4 @@
-use Rattle.std.proofs.Common.{rules, arith, ◌≡◌, ℕ, List, length, sym, ap, ◌∙◌, inl, inr, w32}
+use Rattle.std.proofs.Common.{rules, arith, ap, inl, inr, w32}
 use mir.Val.{SFits}
 use Rattle.double_array.specs.Pool.{Pool}
 use Rattle.double_array.proofs.PoolLemmas.{long_seen, read_free, read_used}

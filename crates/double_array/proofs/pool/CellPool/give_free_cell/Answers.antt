@@ -1,7 +1,7 @@
-use Rattle.std.proofs.Common.{arith, ◌≡◌, ℕ, length, pos, ap}
-use Rattle.double_array.specs.Pool.{Pool, IsPool}
+use Rattle.std.proofs.Common.{ap}
+use Rattle.double_array.specs.Pool.{Pool}
 use Rattle.double_array.proofs.RingWrites.{IsJoined}
-use Rattle.double_array.proofs.PoolLemmas.{pool_joined, used_no_links, used_within}
+use Rattle.double_array.proofs.PoolLemmas.{pool_joined, used_no_links}
 use Rattle.double_array.proofs.pool.CellPool.give_free_cell.Goals as goal
 
 pub link-requires-clause-outside : goal.link-requires-clause-outside

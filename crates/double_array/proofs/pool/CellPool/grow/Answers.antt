@@ -1,5 +1,5 @@
-use Rattle.std.proofs.Common.{arith, ◌≡◌, ◌+◌, ◌-◌, ◌≤◌, ◌^◌, ℕ, length, pos, ap}
-use Rattle.double_array.specs.Pool.{Pool, IsPool}
+use Rattle.std.proofs.Common.{arith, ◌≡◌, ◌+◌, ◌-◌, ◌≤◌, ◌^◌, length, ap}
+use Rattle.double_array.specs.Pool.{Pool}
 use Rattle.double_array.proofs.PoolLemmas.{long_seen, grown_ring, grown_linked, pool_grown, grown_view}
 use Rattle.double_array.proofs.pool.CellPool.grow.Goals as goal
 

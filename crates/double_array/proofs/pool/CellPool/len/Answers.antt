@@ -1,4 +1,4 @@
-use Rattle.std.proofs.Common.{◌≡◌, ℕ, List, length, sym, ap, ◌∙◌}
+use Rattle.std.proofs.Common.{sym, ap, ◌∙◌}
 use Rattle.double_array.specs.Pool.{Pool}
 use Rattle.double_array.proofs.PoolLemmas.{long_seen}
 use Rattle.double_array.proofs.pool.CellPool.len.Goals as goal

@@ -1,6 +1,6 @@
-use Rattle.std.proofs.Common.{arith, ◌≡◌, ℕ, length, pos, ap}
-use Rattle.double_array.specs.Pool.{Pool, IsPool}
-use Rattle.double_array.proofs.PoolLemmas.{pool_refilled, refilled_seen, rechecked, used_within, IsRefilled}
+use Rattle.std.proofs.Common.{pos, ap}
+use Rattle.double_array.specs.Pool.{Pool}
+use Rattle.double_array.proofs.PoolLemmas.{pool_refilled, refilled_seen, rechecked, IsRefilled}
 use Rattle.mj_model.specs.CellMap.{base}
 use Rattle.double_array.proofs.pool.CellPool.set_check.Goals as goal
 

@@ -1,4 +1,4 @@
-use Rattle.std.proofs.Common.{arith, ◌≡◌, ◌+◌, ◌<◌, ◌^◌, ◌≤◌, max, ℕ, length, pos, ℤ, set, ap, sym, subst, ◌∙◌, w32}
+use Rattle.std.proofs.Common.{arith, ℕ, pos, ℤ, set, ap, sym, subst, ◌∙◌, w32}
 use Rattle.std.proofs.lemmas.Int.{to_z-of_z}
 use Rattle.double_array.specs.Seen.{seen}
 use Rattle.double_array.specs.Pool.{Pool, IsPool}

@@ -1,8 +1,10 @@
-use Rattle.std.proofs.Common.{arith, ◌≡◌, ◌++◌, List, sym, subst}
+use Rattle.std.proofs.Common.{arith, ◌≡◌, ◌++◌, List, length, ap, sym, subst}
 use Rattle.std.specs.Prelude.{OnOk}
 use Rattle.mj_model.specs.declared.word.Word.{Word}
+use Rattle.mj_model.proofs.TextPaths.{words_there}
 use Rattle.word_lookup.specs.Overlays.{overlay_of}
-use Rattle.word_lookup.proofs.PlaceLemmas.{skip_within, words_are}
+use Rattle.word_lookup.proofs.DictionaryLaws.{covers_all}
+use Rattle.word_lookup.proofs.PlaceLemmas.{place_within, text_there, skip_within, words_are}
 use Rattle.word_lookup.proofs.dictionaries.Dictionaries.words_at.Goals as goal
 
 pub returns-else-is_err-clause-appended : goal.returns-else-is_err-clause-appended
@@ -12,3 +14,14 @@ returns-else-is_err-clause-appended c =
     let P : List Word → Type 0 = λ ws. OnOk c.append_words-appended.result (c.append_words-appended.new.out.items ≡ c.args.out.now.items ++ ws) in
     let are = words_are o c.args.text.now c.args.place c.blanks-start.result c.requires c.blanks-start.ensures (omega (arith, w, c.blanks-start.ensures)) in
     subst P (sym are) c.append_words-appended.ensures.appended
+
+pub returns-then-is_err-clause-none : goal.returns-then-is_err-clause-none
+returns-then-is_err-clause-none c = λ none.
+    let d = c.args.self.now in
+    let o = overlay_of d in
+    let text = c.args.text.now in
+    let place = c.args.place in
+    let w = skip_within o text place c.requires in
+    let some = words_there o text place (covers_all d) (place_within text place c.requires) (text_there text place c.requires) (omega (arith, w, c.blanks-start.ensures)) in
+    let count = ap length none in
+    absurd (omega (arith, some, count))

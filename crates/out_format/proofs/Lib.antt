@@ -1,0 +1,9 @@
+pub mod IndexLemmas
+pub mod ItemLemmas
+pub mod PieceLemmas
+pub mod FaultLemmas
+pub mod NamedFormats
+pub mod ShownLemmas
+pub mod FollowLemmas
+pub mod OneFormat
+pub mod AFormat

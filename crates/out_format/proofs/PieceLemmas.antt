@@ -1,0 +1,142 @@
+-- Pieces at the beginning of a part's text, and the text read piece by piece.
+use Rattle.std.proofs.Common.{◌≡◌, ℕ, ◌+◌, ◌-◌, ◌<◌, List, [], ◌∷◌, ◌++◌, length, take, drop, refl, sym, ◌∙◌, ap, subst, arith, Option, Some, None, inl, inr, ◌⊎◌, append_assoc, append-nil}
+use Rattle.std.proofs.lemmas.List.{take_at, drop_at, length-append}
+use Rattle.mj_model.specs.declared.format_item.FormatItem.{FormatItem}
+use Rattle.mj_model.specs.declared.format_fault.FormatPart.{FormatPart}
+use Rattle.mj_model.specs.declared.format_fault.FormatKind.{FormatKind}
+use Rattle.mj_model.specs.declared.format_fault.FormatKind.TheVariants.{BadEscape}
+use Rattle.mj_model.specs.Formats.{Piece, Byte, Shows, Spells, SpellsItem, escaped, MayShow, Begins, Reads, IsBadAt, bad_kind, bad_item}
+use Rattle.out_format.specs.FirstItems.{BeginsItem, HasNoItem, IsStuck}
+use Rattle.out_format.proofs.ItemLemmas.{percent_first, one_item}
+
+head_is : (c d : ℕ) (cs ds : List ℕ) → c ∷ cs ≡ d ∷ ds → c ≡ d
+head_is c d cs ds e = cc
+
+tail_is : (c d : ℕ) (cs ds : List ℕ) → c ∷ cs ≡ d ∷ ds → cs ≡ ds
+tail_is c d cs ds e = cc
+
+no_head : (c : ℕ) (cs : List ℕ) → [] ≡ c ∷ cs → ⊥
+no_head c cs e = cc
+
+none_some : (x : ℕ) → None ≡ Some x → ⊥
+none_some x e = cc
+
+-- ---- the pieces that begin a text
+
+pub begins_byte : (part : FormatPart) (b : ℕ) (rest : List ℕ) → (b ≡ 37 → ⊥) → (b ≡ 92 → ⊥) → Begins part (Byte b) (b ∷ rest) rest
+begins_byte part b rest not_item not_escape = record { front = b ∷ []; spelled = inl (refl, not_item, not_escape); may = tt; is = refl }
+
+pub begins_escape : (part : FormatPart) (c b : ℕ) (rest : List ℕ) → escaped c ≡ Some b → Begins part (Byte b) (92 ∷ c ∷ rest) rest
+begins_escape part c b rest e = record { front = 92 ∷ c ∷ []; spelled = inr (c, e, refl); may = tt; is = refl }
+
+pub begins_item : (part : FormatPart) (i : FormatItem) (text rest : List ℕ) → MayShow part i → BeginsItem i text rest → Begins part (Shows i) text rest
+begins_item part i text rest may h = record { front = h.front; spelled = h.spelled; may = may; is = h.is }
+
+-- ---- no piece begins a text
+
+item_at : (part : FormatPart) (i : FormatItem) (text rest : List ℕ) → Begins part (Shows i) text rest → BeginsItem i text rest
+item_at part i text rest h = record { front = h.front; spelled = h.spelled; is = h.is }
+
+numbers_apart : ◌≡◌ {A = ℕ} 92 37 → ⊥
+numbers_apart e = omega arith
+
+item_no_escape : (i : FormatItem) (behind front rest : List ℕ) → SpellsItem i front → 92 ∷ behind ≡ front ++ rest → ⊥
+item_no_escape i behind front rest h is =
+    let p = percent_first i front h in
+    numbers_apart (head_is 92 37 behind (p.0 ++ rest) (is ∙ ap (λ (xs : List ℕ). xs ++ rest) p.1))
+
+-- a byte as it is spelled, where the escapes are any table
+abbrev pub SpelledBy : (ℕ → Option ℕ) → ℕ → List ℕ → Type 0
+SpelledBy table b front = ((front ≡ b ∷ []) × (b ≡ 37 → ⊥) × (b ≡ 92 → ⊥)) ⊎ ((c : ℕ) × (table c ≡ Some b) × (front ≡ 92 ∷ c ∷ []))
+
+byte_no_escape : (table : ℕ → Option ℕ) (b : ℕ) (behind front rest : List ℕ) → SpelledBy table b front → 92 ∷ behind ≡ front ++ rest
+    → ((c : ℕ) (more : List ℕ) → behind ≡ c ∷ more → table c ≡ Some b → ⊥) → ⊥
+byte_no_escape table b behind front rest (inl plain) is none = plain.2 (sym (head_is 92 b behind rest (is ∙ ap (λ (xs : List ℕ). xs ++ rest) plain.0)))
+byte_no_escape table b behind front rest (inr (c, e, spelled)) is none = none c rest (tail_is 92 92 behind (c ∷ rest) (is ∙ ap (λ (xs : List ℕ). xs ++ rest) spelled)) e
+
+pub byte_no_item : (table : ℕ → Option ℕ) (b : ℕ) (behind front rest : List ℕ) → SpelledBy table b front → 37 ∷ behind ≡ front ++ rest → ⊥
+byte_no_item table b behind front rest (inl plain) is = plain.1 (sym (head_is 37 b behind rest (is ∙ ap (λ (xs : List ℕ). xs ++ rest) plain.0)))
+byte_no_item table b behind front rest (inr (c, e, spelled)) is = numbers_apart (sym (head_is 37 92 behind (c ∷ rest) (is ∙ ap (λ (xs : List ℕ). xs ++ rest) spelled)))
+
+byte_some : (table : ℕ → Option ℕ) (b : ℕ) (front : List ℕ) → SpelledBy table b front → 0 < length front
+byte_some table b front (inl plain) = let e : length front ≡ length (b ∷ []) = ap length plain.0 in omega (arith, e)
+byte_some table b front (inr (c, e, spelled)) = let long : length front ≡ length (92 ∷ c ∷ []) = ap length spelled in omega (arith, long)
+
+no_escape_by : (part : FormatPart) (behind : List ℕ) → ((c b : ℕ) (rest : List ℕ) → behind ≡ c ∷ rest → escaped c ≡ Some b → ⊥)
+    → (piece : Piece) (rest : List ℕ) → Begins part piece (92 ∷ behind) rest → ⊥
+no_escape_by part behind none (Shows i) rest h = item_no_escape i behind h.front rest h.spelled h.is
+no_escape_by part behind none (Byte b) rest h = byte_no_escape escaped b behind h.front rest h.spelled h.is (λ c more e found. none c b more e found)
+
+pub stuck_at_end : (part : FormatPart) → IsStuck part (92 ∷ []) BadEscape
+stuck_at_end part = record { stuck = no_escape_by part [] (λ c b rest e found. no_head c rest e); is_kind = refl }
+
+pub stuck_at_escape : (part : FormatPart) (c : ℕ) (rest : List ℕ) → escaped c ≡ None → IsStuck part (92 ∷ c ∷ rest) BadEscape
+stuck_at_escape part c rest none = record {
+  stuck = no_escape_by part (c ∷ rest) (λ d b more e found. none_some b (sym none ∙ ap escaped (head_is c d rest more e) ∙ found));
+  is_kind = refl;
+}
+
+no_item_by : (part : FormatPart) (behind : List ℕ) → ((i : FormatItem) (rest : List ℕ) → BeginsItem i (37 ∷ behind) rest → MayShow part i → ⊥)
+    → (piece : Piece) (rest : List ℕ) → Begins part piece (37 ∷ behind) rest → ⊥
+no_item_by part behind none (Shows i) rest h = none i rest (item_at part i (37 ∷ behind) rest h) h.may
+no_item_by part behind none (Byte b) rest h = byte_no_item escaped b behind h.front rest h.spelled h.is
+
+pub stuck_at_percent : (part : FormatPart) (behind : List ℕ) (kind : FormatKind) → HasNoItem (37 ∷ behind) → kind ≡ bad_item part behind → IsStuck part (37 ∷ behind) kind
+stuck_at_percent part behind kind none is = record { stuck = no_item_by part behind (λ i rest h may. none i rest h); is_kind = is }
+
+pub stuck_at_item : (part : FormatPart) (i : FormatItem) (behind rest : List ℕ) (kind : FormatKind) → BeginsItem i (37 ∷ behind) rest → (MayShow part i → ⊥) → kind ≡ bad_item part behind → IsStuck part (37 ∷ behind) kind
+stuck_at_item part i behind rest kind h may_not is = record {
+  stuck = no_item_by part behind (λ j more k may. may_not (subst (MayShow part) (one_item j i behind more rest k h).0 may));
+  is_kind = is;
+}
+
+-- ---- a text read piece by piece
+
+pub reads_more : (part : FormatPart) (pieces : List Piece) (done : List ℕ) (piece : Piece) (text rest : List ℕ) → Reads part pieces done → (h : Begins part piece text rest) → Reads part (pieces ++ piece ∷ []) (done ++ h.front)
+reads_more part [] done piece text rest is h =
+    ([], record { front = h.front; spelled = h.spelled; may = h.may; is = ap (λ (xs : List ℕ). xs ++ h.front) is ∙ sym (append-nil h.front) }, refl)
+reads_more part (p ∷ ps) done piece text rest (more, first, is) h =
+    (more ++ h.front, record { front = first.front; spelled = first.spelled; may = first.may; is = ap (λ (xs : List ℕ). xs ++ h.front) first.is ∙ append_assoc first.front more h.front }, reads_more part ps more piece text rest is h)
+
+-- the text up to here reads as these pieces
+pub record IsReadUpTo (part : FormatPart) (pieces : List Piece) (text rest : List ℕ) : Type 0 where
+  pub done : List ℕ
+  pub is : text ≡ done ++ rest
+  pub reads : Reads part pieces done
+
+pub read_more : (part : FormatPart) (pieces after : List Piece) (piece : Piece) (text rest next : List ℕ) → IsReadUpTo part pieces text rest → Begins part piece rest next → after ≡ pieces ++ piece ∷ []
+    → IsReadUpTo part after text next
+read_more part pieces after piece text rest next so_far h pushed = record {
+  done = so_far.done ++ h.front;
+  is = so_far.is ∙ ap (λ (xs : List ℕ). so_far.done ++ xs) h.is ∙ sym (append_assoc so_far.done h.front next);
+  reads = subst (λ (ps : List Piece). Reads part ps (so_far.done ++ h.front)) (sym pushed) (reads_more part pieces so_far.done piece rest next so_far.reads h);
+}
+
+pub read_whole : (part : FormatPart) (pieces : List Piece) (text rest : List ℕ) → IsReadUpTo part pieces text rest → length rest ≡ 0 → Reads part pieces text
+read_whole part pieces text [] so_far none = subst (Reads part pieces) (sym (so_far.is ∙ append-nil so_far.done)) so_far.reads
+read_whole part pieces text (c ∷ cs) so_far none = absurd (omega arith)
+
+pub bad_at : (part : FormatPart) (pieces : List Piece) (text rest : List ℕ) (at : ℕ) (kind : FormatKind) → IsReadUpTo part pieces text rest → at ≡ length text - length rest → 0 < length rest → IsStuck part rest kind
+    → IsBadAt part text at kind
+bad_at part pieces text rest at kind so_far is some stuck =
+    let long : length text ≡ length so_far.done + length rest = ap length so_far.is ∙ length-append so_far.done rest in
+    let count : length so_far.done ≡ at = omega (arith, long, is) in
+    let before : take at text ≡ so_far.done = ap (take at) so_far.is ∙ take_at so_far.done rest at count in
+    let behind : drop at text ≡ rest = ap (drop at) so_far.is ∙ drop_at so_far.done rest at count in
+    record {
+      pieces = pieces;
+      before = subst (Reads part pieces) (sym before) so_far.reads;
+      within = omega (arith, long, count, some);
+      stuck = λ piece more h. stuck.stuck piece more (subst (λ (xs : List ℕ). Begins part piece xs more) behind h);
+      is_kind = stuck.is_kind ∙ ap (bad_kind part) (sym behind);
+    }
+
+spelled_some : (piece : Piece) (front : List ℕ) → Spells piece front → 0 < length front
+spelled_some (Shows i) front h = let p = percent_first i front h in let e : length front ≡ length (37 ∷ p.0) = ap length p.1 in omega (arith, e)
+spelled_some (Byte b) front h = byte_some escaped b front h
+
+pub rest_shorter : (part : FormatPart) (piece : Piece) (text rest : List ℕ) → Begins part piece text rest → length rest < length text
+rest_shorter part piece text rest h =
+    let some = spelled_some piece h.front h.spelled in
+    let long = ap length h.is in
+    omega (arith, some, long, length-append h.front rest)

@@ -1,0 +1,130 @@
+-- What pieces and words show, one after another.
+use Rattle.std.proofs.Common.{◌≡◌, ℕ, ◌+◌, ◌<◌, ◌≤◌, List, [], ◌∷◌, ◌++◌, length, take, drop, get_or, refl, sym, ◌∙◌, ap, subst, arith, Result, Ok, Err, append_assoc, append-nil}
+use Rattle.std.specs.Prelude.{ℤ, pos, ◌+ℤ◌, OnOk, min}
+use Rattle.std.proofs.lemmas.List.{take_more, drop_more, drop_all, take-take, take_at, length-take}
+use Rattle.std.proofs.lemmas.List.Concat.{flat_map-append}
+use Rattle.mj_model.specs.declared.format_item.FormatItem.{FormatItem}
+use Rattle.mj_model.specs.declared.word.Word.{Word}
+use Rattle.mj_model.specs.declared.word.Origin.TheVariants.{Known}
+use Rattle.mj_model.specs.Formats.{Piece, Byte, Shows, Format}
+use Rattle.mj_model.specs.PrintedPaths.{ShowsItem, ShowsPieces, ShowsWords, ShowsPath, line_item, word_pieces}
+use Rattle.mj_model.specs.BestOver.{cost_over}
+use Rattle.mj_model.specs.Tables.{Overlay}
+use Rattle.out_format.specs.declared.part.Part.{Part}
+use Rattle.out_format.specs.Pieces.{bytes_as_pieces, pieces_in, pieces_of}
+
+pub shown_as : {E : Type 0} (r : Result (Unit {0}) E) (IsShown : List ℕ → Type 0) (old new shown : List ℕ) → IsShown shown → OnOk r (new ≡ old ++ shown) → OnOk r ((all : List ℕ) × IsShown all × (new ≡ old ++ all))
+shown_as (Ok x) IsShown old new shown is e = (shown, is, e)
+shown_as (Err x) IsShown old new shown is e = tt
+
+pub bytes_shown : (ShowsOne : FormatItem → List ℕ → Type 0) (bytes : List ℕ) → ShowsPieces ShowsOne (bytes_as_pieces bytes) bytes
+bytes_shown ShowsOne [] = refl
+bytes_shown ShowsOne (b ∷ bs) = (bs, bytes_shown ShowsOne bs, refl)
+
+pub pieces_then : (ShowsOne : FormatItem → List ℕ → Type 0) (ps qs : List Piece) (front more : List ℕ) → ShowsPieces ShowsOne ps front → ShowsPieces ShowsOne qs more → ShowsPieces ShowsOne (ps ++ qs) (front ++ more)
+pieces_then ShowsOne [] qs front more a b = subst (ShowsPieces ShowsOne qs) (ap (λ (xs : List ℕ). xs ++ more) (sym a)) b
+pieces_then ShowsOne (Byte c ∷ ps) qs front more (rest, a, is) b =
+    (rest ++ more, pieces_then ShowsOne ps qs rest more a b, ap (λ (xs : List ℕ). xs ++ more) is)
+pieces_then ShowsOne (Shows i ∷ ps) qs front more (one, rest, h, a, is) b =
+    (one, rest ++ more, h, pieces_then ShowsOne ps qs rest more a b, ap (λ (xs : List ℕ). xs ++ more) is ∙ append_assoc one rest more)
+
+-- pieces show these bytes, which were appended
+pub record Appended (IsShown : List ℕ → Type 0) (old new : List ℕ) : Type 0 where
+  pub shown : List ℕ
+  pub is_shown : IsShown shown
+  pub appended : new ≡ old ++ shown
+
+pub nothing_yet : (ShowsOne : FormatItem → List ℕ → Type 0) (old : List ℕ) → Appended (ShowsPieces ShowsOne []) old old
+nothing_yet ShowsOne old = record { shown = []; is_shown = refl; appended = sym (append-nil old) }
+
+pub part_more : (ShowsOne : FormatItem → List ℕ → Type 0) (parts : List Part) (i : ℕ) (part : Part) (old mid new : List ℕ) → i < length parts → get_or parts i part ≡ part
+    → Appended (ShowsPieces ShowsOne (pieces_of (take i parts))) old mid → (shown : List ℕ) × ShowsPieces ShowsOne (pieces_in part) shown × (new ≡ mid ++ shown)
+    → Appended (ShowsPieces ShowsOne (pieces_of (take (i + 1) parts))) old new
+part_more ShowsOne parts i part old mid new in' here so_far (front, is, e) =
+    let split : pieces_of (take (i + 1) parts) ≡ pieces_of (take i parts) ++ pieces_in part =
+    ap pieces_of (take_more parts i part in' ∙ ap (λ (p : Part). take i parts ++ p ∷ []) here) ∙ flat_map-append pieces_in (take i parts) (part ∷ [])
+    ∙ ap (λ (ps : List Piece). pieces_of (take i parts) ++ ps) (append-nil (pieces_in part)) in
+    record {
+      shown = so_far.shown ++ front;
+      is_shown = subst (λ (ps : List Piece). ShowsPieces ShowsOne ps (so_far.shown ++ front)) (sym split)
+          (pieces_then ShowsOne (pieces_of (take i parts)) (pieces_in part) so_far.shown front so_far.is_shown is);
+      appended = e ∙ ap (λ (xs : List ℕ). xs ++ front) so_far.appended ∙ append_assoc old so_far.shown front;
+    }
+
+-- ---- what stood in front stays there
+
+pub in_front : (old shown new : List ℕ) → new ≡ old ++ shown → take (length old) new ≡ old
+in_front old shown new e = ap (take (length old)) e ∙ take_at old shown (length old) refl
+
+pub front_kept : (old mid new : List ℕ) → take (length old) mid ≡ old → take (length mid) new ≡ mid → take (length old) new ≡ old
+front_kept old mid new a b =
+    let long : length (take (length old) mid) ≡ min (length old) (length mid) = length-take (length old) mid in
+    let same : length (take (length old) mid) ≡ length old = ap length a in
+    let low : length old ≤ length mid = omega (arith, long, same) in
+    sym (take-take (length old) (length mid) new low) ∙ ap (take (length old)) b ∙ a
+
+-- ---- words, one after another
+
+-- what the code takes for a word that is not there
+abbrev pub no_word : Word
+no_word = record { place = 0; start = 0; end = 0; left = 0; right = 0; cost = pos 0; origin = Known 0 0 }
+
+-- what the words so far show was appended: it and what the rest shows is what all show
+pub record WordsSoFar (o : Overlay) (f : Format) (line : List ℕ) (words : List Word) (i right : ℕ) (cost : ℤ) (old mid : List ℕ) : Type 0 where
+  pub so_far : List ℕ
+  pub appended : mid ≡ old ++ so_far
+  pub with_rest : (more : List ℕ) → ShowsWords o f line right cost (drop i words) more → ShowsWords o f line 0 (pos 0) words (so_far ++ more)
+
+pub no_words_yet : (o : Overlay) (f : Format) (line : List ℕ) (words : List Word) (old : List ℕ) → WordsSoFar o f line words 0 0 (pos 0) old old
+no_words_yet o f line words old = record { so_far = []; appended = sym (append-nil old); with_rest = λ more h. h }
+
+pub word_more : (o : Overlay) (f : Format) (line : List ℕ) (words : List Word) (w default : Word) (i right : ℕ) (cost next : ℤ) (ps : List Piece) (old mid new : List ℕ) → i < length words → w ≡ get_or words i default
+    → next ≡ (cost +ℤ o.system.connection right w.left) +ℤ w.cost → ps ≡ word_pieces f w.origin
+    → WordsSoFar o f line words i right cost old mid
+    → (shown : List ℕ) × ShowsPieces (ShowsItem o line (record { word = w; right_before = right; cost_so_far = next })) ps shown × (new ≡ mid ++ shown)
+    → WordsSoFar o f line words (i + 1) w.right next old new
+word_more o f line words w default i right cost next ps old mid new in' here costs pieces before (front, is, e) =
+    let now = (cost +ℤ o.system.connection right w.left) +ℤ w.cost in
+    let split : drop i words ≡ w ∷ drop (i + 1) words = drop_more words i default in' ∙ ap (λ (v : Word). v ∷ drop (i + 1) words) (sym here) in
+    let shown : ShowsPieces (ShowsItem o line (record { word = w; right_before = right; cost_so_far = now })) (word_pieces f w.origin) front =
+    subst (λ (z : ℤ). ShowsPieces (ShowsItem o line (record { word = w; right_before = right; cost_so_far = z })) (word_pieces f w.origin) front) costs
+    (subst (λ (qs : List Piece). ShowsPieces (ShowsItem o line (record { word = w; right_before = right; cost_so_far = next })) qs front) pieces is) in
+    record {
+      so_far = before.so_far ++ front;
+      appended = e ∙ ap (λ (xs : List ℕ). xs ++ front) before.appended ∙ append_assoc old before.so_far front;
+      with_rest = λ more h.
+          let rest : ShowsWords o f line w.right now (drop (i + 1) words) more = subst (λ (z : ℤ). ShowsWords o f line w.right z (drop (i + 1) words) more) costs h in
+          let all : ShowsWords o f line right cost (drop i words) (front ++ more) = subst (λ (ws : List Word). ShowsWords o f line right cost ws (front ++ more)) (sym split) (front, more, shown, rest, refl) in
+          subst (ShowsWords o f line 0 (pos 0) words) (sym (append_assoc before.so_far front more)) (before.with_rest (front ++ more) all);
+    }
+
+pub all_words : (o : Overlay) (f : Format) (line : List ℕ) (words : List Word) (i right : ℕ) (cost : ℤ) (old new : List ℕ) → length words ≤ i → WordsSoFar o f line words i right cost old new
+    → (shown : List ℕ) × ShowsWords o f line 0 (pos 0) words shown × (new ≡ old ++ shown)
+all_words o f line words i right cost old new past before =
+    let none : ShowsWords o f line right cost (drop i words) [] = subst (λ (ws : List Word). ShowsWords o f line right cost ws []) (sym (drop_all i words past)) refl in
+    (before.so_far, subst (ShowsWords o f line 0 (pos 0) words) (append-nil before.so_far) (before.with_rest [] none), before.appended)
+
+-- ---- a path
+
+pub path_shown : {E : Type 0} (r : Result (Unit {0}) E) (o : Overlay) (f : Format) (line : List ℕ) (path : List Word) (total : ℤ) (ps qs : List Piece) (old first second new : List ℕ)
+    → ps ≡ f.bos → qs ≡ f.eos → total ≡ cost_over o path
+    → (shown : List ℕ) × ShowsPieces (λ i text. text ≡ line_item line (pos 0) i) ps shown × (first ≡ old ++ shown)
+    → (shown : List ℕ) × ShowsWords o f line 0 (pos 0) path shown × (second ≡ first ++ shown)
+    → OnOk r ((shown : List ℕ) × ShowsPieces (λ i text. text ≡ line_item line total i) qs shown × (new ≡ second ++ shown))
+    → OnOk r ((shown : List ℕ) × ShowsPath o f line path shown × (new ≡ old ++ shown))
+path_shown (Err x) o f line path total ps qs old first second new before behind costs a b h = tt
+path_shown (Ok x) o f line path total ps qs old first second new before behind costs (bos, a, one) (words, b, two) (eos, c, three) = (
+  bos ++ (words ++ eos),
+  record {
+    bos = bos;
+    words = words;
+    eos = eos;
+    before = subst (λ (pieces : List Piece). ShowsPieces (λ i text. text ≡ line_item line (pos 0) i) pieces bos) before a;
+    of_words = b;
+    behind = subst (λ (z : ℤ). ShowsPieces (λ i text. text ≡ line_item line z i) f.eos eos) costs
+        (subst (λ (pieces : List Piece). ShowsPieces (λ i text. text ≡ line_item line total i) pieces eos) behind c);
+    is = refl;
+  },
+  three ∙ ap (λ (xs : List ℕ). xs ++ eos) (two ∙ ap (λ (xs : List ℕ). xs ++ words) one ∙ append_assoc old bos words) ∙ append_assoc old (bos ++ words) eos
+      ∙ ap (λ (xs : List ℕ). old ++ xs) (append_assoc bos words eos),
+)

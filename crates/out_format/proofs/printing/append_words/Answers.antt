@@ -1,0 +1,43 @@
+use Rattle.std.proofs.Common.{◌≡◌, rules, refl, sym, ◌∙◌, subst, get_or, drop, ◌+◌}
+use Rattle.std.specs.Prelude.{ℤ, ◌+ℤ◌}
+use Rattle.std.proofs.lemmas.Int.{to_z-of_z}
+use mir.Val.{to_z, of_z, SFits}
+use mir.Syntax.{w64}
+use Rattle.word_lookup.proofs.KnownFound.{front_kept}
+use Rattle.word_lookup.specs.Overlays.{overlay_of}
+use Rattle.out_format.specs.Followable.{AreFollowable}
+use Rattle.out_format.proofs.FollowLemmas.{next_followable}
+use Rattle.out_format.proofs.ShownLemmas.{no_word, word_more, all_words}
+use Rattle.out_format.proofs.printing.append_words.Goals as goal
+
+pub cost_with-cost_so_far-requires-clause-low : goal.cost_with-cost_so_far-requires-clause-low
+cost_with-cost_so_far-requires-clause-low c =
+    (next_followable (overlay_of c.args.dictionaries.now) c.args.text.now c.args.words.now (get_or c.args.words.now c.loop-word.word-index no_word) no_word c.loop-word.word-index c.loop-word.right_before
+    (to_z w64 c.loop-word.cost_so_far-bits) c.loop-word-test.true refl c.loop-word.invariant.follow).1
+
+pub returns-in_err-append_parts-clause-kept : goal.returns-in_err-append_parts-clause-kept
+returns-in_err-append_parts-clause-kept c = front_kept _ _ _ _ _ (search rules) (c.append_parts.ensures.kept ∙ c.loop-word.invariant.shown.appended)
+
+pub loop-word-preserved : goal.loop-word-preserved
+loop-word-preserved c =
+    let o = overlay_of c.args.dictionaries.now in
+    let line = c.args.text.now in
+    let words = c.args.words.now in
+    let i = c.loop-word.word-index in
+    let w = get_or words i no_word in
+    let right = c.loop-word.right_before in
+    let cost = to_z w64 c.loop-word.cost_so_far-bits in
+    let result = c.cost_with-cost_so_far.result in
+    let next = to_z w64 (of_z w64 result) in
+    let fits : SFits w64 result = search rules in
+    let costs : next ≡ (cost +ℤ o.system.connection right w.left) +ℤ w.cost = to_z-of_z w64 result fits ∙ c.cost_with-cost_so_far.ensures in
+    let follow = next_followable o line words w no_word i right cost c.loop-word-test.true refl c.loop-word.invariant.follow in
+    record {
+      follow = subst (λ (z : ℤ). AreFollowable o line w.right z (drop (i + 1) words)) (sym costs) follow.2;
+      shown = word_more o c.args.format.now line words w no_word i right cost next _ c.args.out.now.items c.loop-word.out.items c.append_parts.new.out.items c.loop-word-test.true refl costs c.word_parts.ensures
+          c.loop-word.invariant.shown c.in_ok-append_parts.ensures.appended;
+    }
+
+pub returns-clause-appended : goal.returns-clause-appended
+returns-clause-appended c =
+    all_words (overlay_of c.args.dictionaries.now) c.args.format.now c.args.text.now c.args.words.now c.loop-word.word-index _ _ c.args.out.now.items c.loop-word.out.items c.loop-word-test.false c.loop-word.invariant.shown

@@ -1,0 +1,23 @@
+-- A word of a line as its path has it.
+use Rattle.std.specs.Prelude.{ℕ, ◌≤◌, List, length, IsTrue}
+use Rattle.mj_model.specs.declared.word.Word.{Word}
+use Rattle.mj_model.specs.Connection.{is_pair}
+use Rattle.mj_model.specs.PrintedPaths.{Standing}
+use Rattle.mj_model.specs.Tables.{Overlay}
+use Rattle.mj_model.specs.Words.{is_place}
+use Rattle.out_format.specs.declared.word_in_path.WordInPath.{WordInPath}
+use Rattle.word_lookup.specs.Overlays.{overlay_of}
+
+abbrev pub standing_of : WordInPath → Standing
+standing_of w = record { word = w.word.now; right_before = w.right_before; cost_so_far = w.cost_so_far }
+
+-- a word's blanks and surface stand in the line, a character begins where the surface does, and the word may follow one of this right id
+pub record IsWordOf (o : Overlay) (line : List ℕ) (right : ℕ) (w : Word) : Type 0 where
+  pub blanks : w.place ≤ w.start
+  pub forward : w.start ≤ w.end
+  pub within : w.end ≤ length line
+  pub begins : IsTrue (is_place line w.start)
+  pub follows : IsTrue (is_pair o.system.sizes right w.left)
+
+abbrev pub CanStand : WordInPath → Type 0
+CanStand w = IsWordOf (overlay_of w.dictionaries.now) w.text.now w.right_before w.word.now

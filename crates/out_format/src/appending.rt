@@ -1,0 +1,47 @@
+//! Bytes, numbers and fields appended to an output. On an error a part of them may stand there.
+
+ghost use Rattle.std.specs.Prelude.{◌≡◌, ◌++◌, ℕ, List, take, vec_len, OnOk, slice_get};
+ghost use Rattle.std.specs.Fmt.{decimal, signed_decimal};
+ghost use Rattle.mj_model.specs.Fields.{AreFields};
+ghost use Rattle.mj_model.specs.PrintedPaths.{field_shown};
+
+use itoa::Buffer;
+use lex_source::append_field;
+use std::alloc::AllocError;
+
+/// Appends bytes as they are.
+pub fn append_bytes(bytes: &[u8], out: &mut Vec<u8>) -> Result<(), AllocError>
+    ensures appended { OnOk result (out.new.items ≡ out.old.items ++ bytes.now) }
+    ensures kept { take (vec_len out.old) out.new.items ≡ out.old.items }
+{
+    out.extend_from_slice(bytes)
+}
+
+/// Appends a count of bytes, an offset, an id or the number of a category.
+pub fn append_count(count: usize, out: &mut Vec<u8>) -> Result<(), AllocError>
+    ensures appended { OnOk result (out.new.items ≡ out.old.items ++ decimal count) }
+    ensures kept { take (vec_len out.old) out.new.items ≡ out.old.items }
+{
+    append_bytes(Buffer::new().format(count).as_bytes(), out)
+}
+
+/// Appends a cost.
+pub fn append_cost(cost: i64, out: &mut Vec<u8>) -> Result<(), AllocError>
+    ensures appended { OnOk result (out.new.items ≡ out.old.items ++ signed_decimal cost) }
+    ensures kept { take (vec_len out.old) out.new.items ≡ out.old.items }
+{
+    append_bytes(Buffer::new().format(cost).as_bytes(), out)
+}
+
+/// Appends field `n` of a feature, or nothing where it is missing or begins with `*`.
+pub fn append_shown_field(feature: &str, n: u16, out: &mut Vec<u8>) -> Result<(), AllocError>
+    ensures appended { OnOk result ((fields : List (List ℕ)) × AreFields feature.now fields × (out.new.items ≡ out.old.items ++ field_shown (slice_get fields n))) }
+    ensures kept { take (vec_len out.old) out.new.items ≡ out.old.items }
+{
+    let count = out.len();
+    let _found = append_field(out, feature, usize::from(n))?;
+    if out.len() > count && out[count] == b'*' {
+        out.truncate(count);
+    }
+    Ok(())
+}

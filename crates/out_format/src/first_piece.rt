@@ -1,0 +1,116 @@
+//! The piece that a format's text begins with: a byte, an escape or an item.
+
+ghost use Rattle.std.specs.Prelude.{◌≡◌, ◌<◌, ◌∷◌, ◌↔◌, length, IsTrue, MatchResult};
+ghost use Rattle.mj_model.specs.Formats.{Begins, MayShow, shows_fields as shows_fields_of, bad_item as bad_item_of};
+ghost use Rattle.out_format.specs.FirstItems.{IsStuck};
+ghost use Rattle.out_format.specs.Pieces.{piece_of};
+
+use crate::bytes::first_byte;
+use crate::escapes::escaped_byte;
+use crate::items::first_item;
+use mj_model::{FormatItem, FormatKind, FormatPart};
+
+/// What a format says at one place.
+#[derive(Clone, Copy)]
+pub enum NextPiece {
+    Byte(u8),
+    Item(FormatItem),
+}
+
+/// A piece, and what follows it.
+#[derive(Clone, Copy)]
+pub struct FirstPiece<'a> {
+    pub piece: NextPiece,
+    pub rest: &'a [u8],
+}
+
+/// The piece that a part's text begins with, or why it begins with none.
+pub fn first_piece(text: &[u8], part: FormatPart) -> Result<FirstPiece<'_>, FormatKind>
+    requires { 0 < length text.now }
+    ensures { MatchResult result (λ first. Begins part (piece_of first.piece) text.now first.rest.now) (IsStuck part text.now) }
+{
+    let Some((first, rest)) = first_byte(text) else {
+        unreachable!();
+    };
+    if first == b'\\' {
+        escape_of_part(rest, part)
+    } else if first == b'%' {
+        item_of_part(rest, part)
+    } else {
+        Ok(FirstPiece {
+            piece: NextPiece::Byte(first),
+            rest,
+        })
+    }
+}
+
+/// The escape behind a backslash, which may stand in any part.
+fn escape_of_part(behind: &[u8], part: FormatPart) -> Result<FirstPiece<'_>, FormatKind>
+    ensures { MatchResult result (λ first. Begins part (piece_of first.piece) (92 ∷ behind.now) first.rest.now) (IsStuck part (92 ∷ behind.now)) }
+{
+    let Some((character, rest)) = first_byte(behind) else {
+        return Err(FormatKind::BadEscape);
+    };
+    match escaped_byte(character) {
+        Some(byte) => Ok(FirstPiece {
+            piece: NextPiece::Byte(byte),
+            rest,
+        }),
+        None => Err(FormatKind::BadEscape),
+    }
+}
+
+/// The item of a part behind a percent sign.
+fn item_of_part(behind: &[u8], part: FormatPart) -> Result<FirstPiece<'_>, FormatKind>
+    ensures { MatchResult result (λ first. Begins part (piece_of first.piece) (37 ∷ behind.now) first.rest.now) (IsStuck part (37 ∷ behind.now)) }
+{
+    match first_item(behind) {
+        Some(first) if may_show(part, first.item) => Ok(FirstPiece {
+            piece: NextPiece::Item(first.item),
+            rest: first.rest,
+        }),
+        _ => Err(bad_item(part, behind)),
+    }
+}
+
+/// Whether an item may stand in a part.
+fn may_show(part: FormatPart, item: FormatItem) -> bool
+    ensures { IsTrue result ↔ MayShow part item }
+{
+    match part {
+        FormatPart::Node | FormatPart::Unk => true,
+        FormatPart::Bos => is_of_line(item),
+        FormatPart::Eos => is_of_line(item) || item == FormatItem::CostSoFar,
+    }
+}
+
+/// Whether an item says something of the line alone, or is a percent sign.
+fn is_of_line(item: FormatItem) -> bool
+    ensures { IsTrue result ↔ MayShow FormatPart.Bos item }
+{
+    matches!(
+        item,
+        FormatItem::Sentence | FormatItem::SentenceLength | FormatItem::Percent
+    )
+}
+
+/// What is wrong where no item of the part follows a percent sign.
+fn bad_item(part: FormatPart, behind: &[u8]) -> FormatKind
+    ensures { result ≡ bad_item_of part behind.now }
+{
+    if behind.first() == Some(&b'f') && shows_fields(part) {
+        FormatKind::BadIndex
+    } else {
+        FormatKind::BadItem
+    }
+}
+
+/// Whether a part shows the fields of words.
+fn shows_fields(part: FormatPart) -> bool
+    ensures { result ≡ shows_fields_of part }
+{
+    match part {
+        FormatPart::Node | FormatPart::Unk => true,
+        FormatPart::Bos | FormatPart::Eos => false,
+    }
+}

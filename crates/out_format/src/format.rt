@@ -1,0 +1,145 @@
+//! Formats, read once.
+
+ghost use Rattle.std.specs.Prelude.{◌≡◌, ◌⊎◌, Ok, Err, IfOk, IfErr, map};
+ghost use Rattle.mj_model.specs.declared.format_fault.FormatFault.TheVariants.{Memory};
+ghost use Rattle.mj_model.specs.Formats.{IsFormat, ReadsFormat};
+ghost use Rattle.mj_model.specs.PrintedPaths.{word_pieces};
+ghost use Rattle.out_format.specs.Pieces.{piece_of, pieces_of};
+ghost use Rattle.out_format.specs.Texts.{all_alike, texts_of, default_texts, wakati_texts};
+
+use crate::building::PartsSoFar;
+use crate::first_piece::NextPiece;
+use crate::parsing::parse_part;
+use crate::part::Part;
+use mj_model::{FormatFault, FormatItem, FormatPart, Origin};
+use std::alloc::{AllocError, Global};
+use std::marker::Model;
+
+/// How words and lines are printed. (MeCab, format.html)
+///
+/// The text of each part is read once, into runs of bytes and items.
+#[derive(Debug, Drop)]
+pub struct Format {
+    pub(crate) node: Vec<Part>,
+    pub(crate) unk: Vec<Part>,
+    pub(crate) bos: Vec<Part>,
+    pub(crate) eos: Vec<Part>,
+}
+
+impl Model for Format {
+    ghost use Rattle.mj_model.specs.Formats.{Format};
+
+    ghost Value = { Format };
+
+    ghost use Rattle.out_format.specs.Pieces.{pieces_of};
+
+    ghost view = { λ f. record {
+      node = pieces_of f.node.items;
+      unk = pieces_of f.unk.items;
+      bos = pieces_of f.bos.items;
+      eos = pieces_of f.eos.items;
+    } };
+}
+
+impl Format {
+    /// Reads the texts of the four parts; without one for unknown words, that of the known ones serves. The parts are looked at
+    /// in the order of `FormatPart`, and a fault tells the first byte of a part that doesn't read. (Items and escapes are
+    /// MeCab's; what is refused is this project's own choice)
+    pub fn parse(
+        alloc: Global,
+        node: &str,
+        unk: Option<&str>,
+        bos: &str,
+        eos: &str,
+    ) -> Result<Format, FormatFault>
+        ensures accepted { IfOk result (λ format. IsFormat (texts_of node.now unk.entry bos.now eos.now) (Ok format)) }
+        ensures refused { IfErr result (λ fault. (fault ≡ Memory) ⊎ IsFormat (texts_of node.now unk.entry bos.now eos.now) (Err fault)) }
+    {
+        let node_parts = parse_part(alloc, node, FormatPart::Node)?;
+        let unk_parts = parse_part(alloc, unk.unwrap_or(node), FormatPart::Unk)?;
+        let bos_parts = parse_part(alloc, bos, FormatPart::Bos)?;
+        let eos_parts = parse_part(alloc, eos, FormatPart::Eos)?;
+        Ok(Format {
+            node: node_parts,
+            unk: unk_parts,
+            bos: bos_parts,
+            eos: eos_parts,
+        })
+    }
+
+    /// A line for each word, with its surface, a tab and its feature, and a line EOS. (MeCab)
+    pub fn default_of(alloc: Global) -> Result<Format, AllocError>
+        ensures { IfOk result (ReadsFormat default_texts) }
+    {
+        let line = [
+            NextPiece::Item(FormatItem::Surface),
+            NextPiece::Byte(b'\t'),
+            NextPiece::Item(FormatItem::Feature),
+            NextPiece::Byte(b'\n'),
+        ];
+        let end = [
+            NextPiece::Byte(b'E'),
+            NextPiece::Byte(b'O'),
+            NextPiece::Byte(b'S'),
+            NextPiece::Byte(b'\n'),
+        ];
+        for_all_words(alloc, &line, &end)
+    }
+
+    /// The surface of each word and a blank behind it, and the end of the line. (MeCab)
+    pub fn wakati(alloc: Global) -> Result<Format, AllocError>
+        ensures { IfOk result (ReadsFormat wakati_texts) }
+    {
+        let word = [NextPiece::Item(FormatItem::Surface), NextPiece::Byte(b' ')];
+        for_all_words(alloc, &word, &[NextPiece::Byte(b'\n')])
+    }
+}
+
+impl Format {
+    /// The part for a word of this origin.
+    pub(crate) fn word_parts(&self, origin: Origin) -> &[Part]
+        ensures { pieces_of result.now ≡ word_pieces self.now origin }
+    {
+        match origin {
+            Origin::Known { .. } => &self.node,
+            Origin::Unknown { .. } => &self.unk,
+        }
+    }
+
+    /// The part before the first word.
+    pub(crate) fn bos_parts(&self) -> &[Part]
+        ensures { pieces_of result.now ≡ self.now.bos }
+    {
+        &self.bos
+    }
+
+    /// The part behind the last word.
+    pub(crate) fn eos_parts(&self) -> &[Part]
+        ensures { pieces_of result.now ≡ self.now.eos }
+    {
+        &self.eos
+    }
+}
+
+/// A format that prints known and unknown words alike, and nothing before the first.
+fn for_all_words(alloc: Global, word: &[NextPiece], end: &[NextPiece]) -> Result<Format, AllocError>
+    ensures { IfOk result (λ format. format ≡ all_alike (map piece_of word.now) (map piece_of end.now)) }
+{
+    Ok(Format {
+        node: parts_of(alloc, word)?,
+        unk: parts_of(alloc, word)?,
+        bos: Vec::new(alloc),
+        eos: parts_of(alloc, end)?,
+    })
+}
+
+/// The parts of pieces.
+fn parts_of(alloc: Global, pieces: &[NextPiece]) -> Result<Vec<Part>, AllocError>
+    ensures { IfOk result (λ parts. pieces_of parts.items ≡ map piece_of pieces.now) }
+{
+    let mut parts = PartsSoFar::new(alloc);
+    for piece in pieces {
+        parts.push(*piece)?;
+    }
+    parts.finish()
+}

@@ -1,0 +1,78 @@
+//! The index of a field, between brackets.
+
+ghost use Rattle.std.specs.Prelude.{◌≡◌, ◌∷◌, ◌≤◌, true, length, nat_le, if◌then◌else◌, Some, None, MatchOption};
+ghost use Rattle.std.specs.Char.{is_ascii_digit};
+ghost use Rattle.std.specs.List.{prefix_len};
+ghost use Rattle.std.specs.Str.{all_ascii_digits};
+ghost use Rattle.mj_model.specs.Numbers.{digits_value};
+ghost use Rattle.out_format.specs.FirstItems.{HasIndex, HasNoIndex};
+
+use crate::bytes::first_byte;
+
+/// The most digits of an index. (This project's own choice)
+const DIGITS_MAX: usize = 5;
+
+/// A number between brackets, and what follows it.
+#[derive(Clone, Copy)]
+pub struct Index<'a> {
+    pub number: u16,
+    pub rest: &'a [u8],
+}
+
+/// The index that a text begins with: one to five digits between brackets, of value at most 65,535.
+pub fn first_index(text: &[u8]) -> Option<Index<'_>>
+    ensures { MatchOption result (HasNoIndex text.now) (λ index. HasIndex text.now index.number index.rest.now) }
+{
+    let (bracket, inside) = first_byte(text)?;
+    if bracket == b'[' {
+        index_inside(inside)
+    } else {
+        None
+    }
+}
+
+/// The index behind an opening bracket.
+fn index_inside(inside: &[u8]) -> Option<Index<'_>>
+    ensures { MatchOption result (HasNoIndex (0x5b ∷ inside.now)) (λ index. HasIndex (0x5b ∷ inside.now) index.number index.rest.now) }
+{
+    let count = digits_before(inside);
+    if count == 0 || count > DIGITS_MAX {
+        return None;
+    }
+    let digits = &inside[..count];
+    let (closing, rest) = first_byte(&inside[count..])?;
+    if closing == b']' {
+        let number = index_value(digits)?;
+        Some(Index { number, rest })
+    } else {
+        None
+    }
+}
+
+/// How many digits a text begins with.
+fn digits_before(text: &[u8]) -> usize
+    ensures count { result ≡ prefix_len is_ascii_digit text.now }
+    ensures within { result ≤ length text.now }
+{
+    for (i, byte) in text.iter().enumerate() {
+        if !byte.is_ascii_digit() {
+            return i;
+        }
+    }
+    text.len()
+}
+
+/// The value of digits, if it is at most 65,535.
+fn index_value(digits: &[u8]) -> Option<u16>
+    requires { all_ascii_digits digits.now ≡ true }
+    ensures { result ≡ (if nat_le (digits_value digits.now) 65535 then Some (digits_value digits.now) else None) }
+{
+    let mut value: u32 = 0;
+    for digit in digits {
+        value = 10 * value + u32::from(digit - b'0');
+        if value > u32::from(u16::MAX) {
+            return None;
+        }
+    }
+    Some(value as u16)
+}

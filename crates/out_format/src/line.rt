@@ -1,0 +1,33 @@
+//! A line as a whole, before its first word or behind its last one.
+
+ghost use Rattle.std.specs.Prelude.{◌≡◌, codes};
+
+use crate::appending::{append_bytes, append_cost, append_count};
+use crate::shows_items::ShowsItems;
+use mj_model::FormatItem;
+use std::alloc::AllocError;
+
+/// A line, and what its path costs; 0 before the first word.
+#[derive(Clone, Copy)]
+pub struct Line<'a> {
+    pub text: &'a str,
+    pub cost: i64,
+}
+
+impl<'a> ShowsItems for Line<'a> {
+    ghost use Rattle.mj_model.specs.PrintedPaths.{line_item};
+
+    ghost can_show = { λ line. Unit {0} };
+
+    ghost shows = { λ line item shown. shown ≡ line_item line.text.now line.cost item };
+
+    fn append_item(&self, item: FormatItem, out: &mut Vec<u8>) -> Result<(), AllocError> {
+        match item {
+            FormatItem::Sentence => append_bytes(self.text.as_bytes(), out),
+            FormatItem::SentenceLength => append_count(self.text.len(), out),
+            FormatItem::CostSoFar => append_cost(self.cost, out),
+            FormatItem::Percent => append_bytes(b"%", out),
+            _ => Ok(()),
+        }
+    }
+}

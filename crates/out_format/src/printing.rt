@@ -1,0 +1,110 @@
+//! Paths printed in a format.
+
+ghost use Rattle.std.specs.Prelude.{◌≡◌, ◌++◌, ◌≤◌, ◌+ℤ◌, ℕ, List, length, take, vec_len, pos, OnOk, OnErr, IsTrue};
+ghost use Rattle.mj_model.specs.declared.limits.TheConstants.{SENTENCE_MAX};
+ghost use Rattle.mj_model.specs.BestOver.{cost_over};
+ghost use Rattle.mj_model.specs.Connection.{is_pair};
+ghost use Rattle.mj_model.specs.Paths.{IsPath};
+ghost use Rattle.mj_model.specs.PrintedPaths.{ShowsPath, ShowsWords};
+ghost use Rattle.mj_model.specs.Words.{words};
+ghost use Rattle.out_format.specs.Followable.{AreFollowable, IsLow};
+ghost use Rattle.word_lookup.specs.Overlays.{overlay_of};
+
+use crate::format::Format;
+use crate::line::Line;
+use crate::shows_items::append_parts;
+use crate::word_in_path::WordInPath;
+use lattice::Path;
+use mj_model::Word;
+use std::alloc::{AllocError, Global};
+use word_lookup::Dictionaries;
+
+/// Appends the text of a path of a text of at most `SENTENCE_MAX` bytes. No memory is taken but by `out` as it grows, and on an
+/// error `out` is as before.
+pub fn print(
+    _alloc: Global,
+    format: &Format,
+    dictionaries: &Dictionaries<'_>,
+    text: &str,
+    path: &Path,
+    out: &mut Vec<u8>,
+) -> Result<(), AllocError>
+    requires short { length text.now ≤ SENTENCE_MAX }
+    requires path { (to : ℕ) × IsPath (words (overlay_of dictionaries.now) text.now) path.now.words.items to }
+    requires total { path.now.total ≡ cost_over (overlay_of dictionaries.now) path.now.words.items }
+    ensures appended { OnOk result ((shown : List ℕ) × ShowsPath (overlay_of dictionaries.now) format.now text.now path.now.words.items shown × (out.new.items ≡ out.old.items ++ shown)) }
+    ensures kept { OnErr result (out.new.items ≡ out.old.items) }
+{
+    let count = out.len();
+    let appended = append_path(format, dictionaries, text, path, out);
+    if appended.is_err() {
+        out.truncate(count);
+    }
+    appended
+}
+
+/// Appends the parts before the first word, of the words, and behind the last one.
+fn append_path<'a>(
+    format: &Format,
+    dictionaries: &'a Dictionaries<'a>,
+    text: &'a str,
+    path: &'a Path,
+    out: &mut Vec<u8>,
+) -> Result<(), AllocError>
+    requires words { AreFollowable (overlay_of dictionaries.now) text.now 0 (pos 0) path.now.words.items }
+    requires total { path.now.total ≡ cost_over (overlay_of dictionaries.now) path.now.words.items }
+    ensures appended { OnOk result ((shown : List ℕ) × ShowsPath (overlay_of dictionaries.now) format.now text.now path.now.words.items shown × (out.new.items ≡ out.old.items ++ shown)) }
+    ensures kept { take (vec_len out.old) out.new.items ≡ out.old.items }
+{
+    append_parts(&Line { text, cost: 0 }, format.bos_parts(), out)?;
+    append_words(format, dictionaries, text, &path.words, out)?;
+    let behind = Line {
+        text,
+        cost: path.total,
+    };
+    append_parts(&behind, format.eos_parts(), out)
+}
+
+/// Appends the parts of words, of which the first follows BOS.
+fn append_words<'a>(
+    format: &Format,
+    dictionaries: &'a Dictionaries<'a>,
+    text: &'a str,
+    words: &'a [Word],
+    out: &mut Vec<u8>,
+) -> Result<(), AllocError>
+    requires { AreFollowable (overlay_of dictionaries.now) text.now 0 (pos 0) words.now }
+    ensures appended { OnOk result ((shown : List ℕ) × ShowsWords (overlay_of dictionaries.now) format.now text.now 0 (pos 0) words.now shown × (out.new.items ≡ out.old.items ++ shown)) }
+    ensures kept { take (vec_len out.old) out.new.items ≡ out.old.items }
+{
+    let mut right_before: u16 = 0;
+    let mut cost_so_far: i64 = 0;
+    for word in words {
+        cost_so_far = cost_with(dictionaries, right_before, cost_so_far, word);
+        let standing = WordInPath {
+            dictionaries,
+            text,
+            word,
+            right_before,
+            cost_so_far,
+        };
+        append_parts(&standing, format.word_parts(word.origin), out)?;
+        right_before = word.right;
+    }
+    Ok(())
+}
+
+/// What a path costs with a further word.
+fn cost_with(
+    dictionaries: &Dictionaries<'_>,
+    right_before: u16,
+    cost_before: i64,
+    word: &Word,
+) -> i64
+    requires pair { IsTrue (is_pair (overlay_of dictionaries.now).system.sizes right_before word.now.left) }
+    requires low { IsLow cost_before }
+    ensures { result ≡ (cost_before +ℤ (overlay_of dictionaries.now).system.connection right_before word.now.left) +ℤ word.now.cost }
+{
+    let connection = dictionaries.cost(right_before, word.left);
+    cost_before + i64::from(connection) + i64::from(word.cost)
+}

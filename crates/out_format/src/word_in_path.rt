@@ -1,0 +1,126 @@
+//! A word in its path, and what the items show of it.
+
+ghost use Rattle.std.specs.Prelude.{◌≡◌, ◌++◌, ◌≤◌, ◌+ℤ◌, length, take, drop, vec_len, OnOk, IsTrue};
+ghost use Rattle.mj_model.specs.Blanks.{chars_from};
+ghost use Rattle.mj_model.specs.Laws.{between};
+ghost use Rattle.mj_model.specs.Printed.{feature_of};
+ghost use Rattle.mj_model.specs.PrintedPaths.{connection_before, first_category as category_of_first, unknown_digit};
+ghost use Rattle.mj_model.specs.Words.{is_place};
+ghost use Rattle.out_format.specs.Standings.{CanStand, standing_of};
+ghost use Rattle.word_lookup.specs.Overlays.{overlay_of};
+
+use crate::appending::{append_bytes, append_cost, append_count, append_shown_field};
+use crate::shows_items::ShowsItems;
+use mj_model::{FormatItem, Origin, Word};
+use std::alloc::AllocError;
+use word_lookup::Dictionaries;
+
+/// A word of a line, the right id of the word before it, and what the path costs up to and with it.
+#[derive(Clone, Copy)]
+pub struct WordInPath<'a> {
+    pub dictionaries: &'a Dictionaries<'a>,
+    pub text: &'a str,
+    pub word: &'a Word,
+    pub right_before: u16,
+    pub cost_so_far: i64,
+}
+
+impl<'a> ShowsItems for WordInPath<'a> {
+    ghost use Rattle.mj_model.specs.PrintedPaths.{ShowsItem};
+    ghost use Rattle.word_lookup.specs.Overlays.{overlay_of};
+    ghost use Rattle.out_format.specs.Standings.{CanStand, standing_of};
+
+    ghost can_show = { CanStand };
+
+    ghost shows = { λ w. ShowsItem (overlay_of w.dictionaries.now) w.text.now (standing_of w) };
+
+    fn append_item(&self, item: FormatItem, out: &mut Vec<u8>) -> Result<(), AllocError> {
+        let word = self.word;
+        match item {
+            FormatItem::Surface => self.append_between(word.start, word.end, out),
+            FormatItem::SurfaceWithBlanks => self.append_between(word.place, word.end, out),
+            FormatItem::Blanks => self.append_between(word.place, word.start, out),
+            FormatItem::Feature => append_bytes(self.feature().as_bytes(), out),
+            FormatItem::Field(n) => append_shown_field(self.feature(), n, out),
+            FormatItem::WordCost => append_cost(i64::from(word.cost), out),
+            FormatItem::IsUnknown => append_bytes(unknown_mark(word.origin), out),
+            FormatItem::Sentence => append_bytes(self.text.as_bytes(), out),
+            FormatItem::SentenceLength => append_count(self.text.len(), out),
+            FormatItem::LeftId => append_count(usize::from(word.left), out),
+            FormatItem::RightId => append_count(usize::from(word.right), out),
+            FormatItem::ConnectionCost => append_cost(self.connection_cost(), out),
+            FormatItem::CostHere => append_cost(self.cost_here(), out),
+            FormatItem::CostSoFar => append_cost(self.cost_so_far, out),
+            FormatItem::SurfaceLength => append_count(word.end - word.start, out),
+            FormatItem::LengthWithBlanks => append_count(word.end - word.place, out),
+            FormatItem::Start => append_count(word.start, out),
+            FormatItem::End => append_count(word.end, out),
+            FormatItem::CharacterCategory => append_count(self.first_category(), out),
+            FormatItem::Percent => append_bytes(b"%", out),
+        }
+    }
+}
+
+impl<'a> WordInPath<'a> {
+    /// Appends the bytes of the line from one place to another.
+    fn append_between(&self, from: usize, to: usize, out: &mut Vec<u8>) -> Result<(), AllocError>
+        requires forward { from ≤ to }
+        requires within { to ≤ length self.now.text.now }
+        ensures appended { OnOk result (out.new.items ≡ out.old.items ++ between self.now.text.now from to) }
+        ensures kept { take (vec_len out.old) out.new.items ≡ out.old.items }
+    {
+        append_bytes(&self.text.as_bytes()[from..to], out)
+    }
+
+    fn feature(&self) -> &str
+        ensures { result.now ≡ feature_of (overlay_of self.now.dictionaries.now) self.now.word.now.origin }
+    {
+        self.dictionaries.feature(self.word)
+    }
+
+    /// The cost of the connection with the word before.
+    fn connection_cost(&self) -> i64
+        requires { CanStand self.now }
+        ensures { result ≡ connection_before (overlay_of self.now.dictionaries.now) (standing_of self.now) }
+    {
+        i64::from(self.dictionaries.cost(self.right_before, self.word.left))
+    }
+
+    /// The connection cost and the word cost.
+    fn cost_here(&self) -> i64
+        requires { CanStand self.now }
+        ensures { result ≡ connection_before (overlay_of self.now.dictionaries.now) (standing_of self.now) +ℤ self.now.word.now.cost }
+    {
+        let connection = self.dictionaries.cost(self.right_before, self.word.left);
+        i64::from(connection) + i64::from(self.word.cost)
+    }
+
+    /// The number of the first category of the surface's first character.
+    fn first_category(&self) -> usize
+        requires { CanStand self.now }
+        ensures { result ≡ category_of_first (overlay_of self.now.dictionaries.now) (chars_from self.now.text.now self.now.word.now.start) }
+    {
+        match text_from(self.text, self.word.start).chars().next() {
+            Some(first) => usize::from(self.dictionaries.info(first).first()),
+            None => 0,
+        }
+    }
+}
+
+/// The rest of a text from a place on.
+fn text_from(text: &str, place: usize) -> &str
+    requires { IsTrue (is_place text.now place) }
+    ensures { result.now ≡ drop place text.now }
+{
+    &text[place..]
+}
+
+/// 0 for a known word, 1 for an unknown one.
+fn unknown_mark(origin: Origin) -> &'static [u8]
+    ensures { result.now ≡ unknown_digit origin }
+{
+    match origin {
+        Origin::Known { .. } => b"0",
+        Origin::Unknown { .. } => b"1",
+    }
+}
