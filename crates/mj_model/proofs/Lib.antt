@@ -12,3 +12,5 @@ pub mod CoveredTexts
 pub mod AcceptedRows
 pub mod CellWalks
 pub mod CellMoveLaw
+pub mod SameTables
+pub mod ImageKeys

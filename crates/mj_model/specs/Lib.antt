@@ -36,3 +36,10 @@ pub mod TextLines
 pub mod CellMap
 pub mod CellRules
 pub mod CellMoves
+pub mod ImageFaultWords
+pub mod ImageBytes
+pub mod ImageSections
+pub mod ImageFaults
+pub mod ImageMeaning
+pub mod Overlays
+pub mod Compilation

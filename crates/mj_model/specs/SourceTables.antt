@@ -1,8 +1,8 @@
 -- What the four kinds of source say together. They are looked at in this order: matrix.def; char.def; unk.def; then each lexicon as given.
-use Rattle.std.specs.Prelude.{◌≡◌, ℕ, List, [], length, map, Result, Ok, Err, ◌⊎◌}
+use Rattle.std.specs.Prelude.{◌≡◌, ℕ, ◌≤◌, List, [], length, map, Result, Ok, Err, ◌⊎◌}
 use Rattle.mj_model.specs.declared.source_fault.SourceFault.{SourceFault}
 use Rattle.mj_model.specs.declared.sources.Sources.{Sources}
-use Rattle.mj_model.specs.CharDef.{CharSource, char_source, char_info, categories_of}
+use Rattle.mj_model.specs.CharDef.{CharSource, char_source, char_info, categories_of, code_point_max}
 use Rattle.mj_model.specs.Connection.{Connection, connection_of, connection_cost}
 use Rattle.mj_model.specs.Dictionary.{AreLexicons, IsLexiconOf}
 use Rattle.mj_model.specs.Lexicon.{Row}
@@ -40,6 +40,16 @@ system_tables connection chars unknown lexicon = record {
   lexicon = lexicon;
 }
 
+-- two tables say the same; what they give to numbers above all code points doesn't matter
+pub record SayTheSame (t u : Tables) : Type 0 where
+  pub kind : t.kind ≡ u.kind
+  pub sizes : t.sizes ≡ u.sizes
+  pub connection : t.connection ≡ u.connection
+  pub categories : t.categories ≡ u.categories
+  pub info : (code : ℕ) → code ≤ code_point_max → t.info code ≡ u.info code
+  pub unknown : t.unknown ≡ u.unknown
+  pub lexicon : t.lexicon ≡ u.lexicon
+
 -- the sources are accepted, and say what the tables say
 pub record HaveTables (s : Sources) (t : Tables) : Type 0 where
   pub connection : Connection
@@ -52,7 +62,7 @@ pub record HaveTables (s : Sources) (t : Tables) : Type 0 where
   pub are_unknown : AreUnknown s connection chars unknown
   pub are_rows : AreRows s connection (Ok rows)
   pub is_lexicon : IsLexiconOf rows lexicon
-  pub tables : t ≡ system_tables connection chars unknown lexicon
+  pub tables : SayTheSame t (system_tables connection chars unknown lexicon)
 
 abbrev pub IsMatrixFault : Sources → SourceFault → Type 0
 IsMatrixFault s fault = connection_of s.matrix.now ≡ Err fault

@@ -7,8 +7,10 @@ mod counted;
 mod entry;
 mod format_fault;
 mod format_item;
+mod image_fault;
 pub mod laws;
 mod limits;
+mod overlay_fault;
 mod run_fault;
 mod source_fault;
 mod sources;
@@ -21,10 +23,12 @@ pub use counted::Counted;
 pub use entry::{Entry, Record};
 pub use format_fault::{FormatFault, FormatKind, FormatPart};
 pub use format_item::FormatItem;
+pub use image_fault::ImageFault;
 pub use limits::{
     CATEGORIES_MAX, ENTRIES_MAX, GROUPING_DEFAULT, GROUPING_MAX, MATRIX_CELLS_MAX, READS_MAX,
     SENTENCE_MAX, SURFACE_MAX,
 };
+pub use overlay_fault::OverlayFault;
 pub use run_fault::RunFault;
 pub use source_fault::{SourceFault, SourceKind};
 pub use sources::Sources;

@@ -12,9 +12,10 @@ use Rattle.mj_model.specs.Connection.{Sizes, Connection, connection_of}
 use Rattle.mj_model.specs.Dictionary.{AreLexicons}
 use Rattle.mj_model.specs.FirstFault.{IsRefusal}
 use Rattle.mj_model.specs.Lexicon.{Row, row_of, rows_of}
-use Rattle.mj_model.specs.SourceTables.{HaveTables, IsSourcesFault, lexicon_bytes}
+use Rattle.mj_model.specs.SourceTables.{HaveTables, IsSourcesFault, lexicon_bytes, system_tables}
 use Rattle.mj_model.specs.Tables.{Tables, System}
 use Rattle.mj_model.specs.UnkDef.{IsUnkWithin, unknown_tokens}
+use Rattle.mj_model.proofs.SameTables.{equal_say_the_same}
 use Rattle.matrix_def.specs.Costs.{CostTable, IsTableOf as IsCostTableOf}
 use Rattle.char_def.specs.Categories.{CharCategories, IsTableOf}
 use Rattle.word_lookup.specs.Chars.{info_of}
@@ -83,7 +84,7 @@ module _ (s : Sources) (m : CostTable) (sizes : Sizes) (is_sizes : sizes ≡ siz
             are_unknown = unknown_read (Ok unknown) accepted;
             are_rows = rows_read (Ok (rows_of records)) h;
             is_lexicon = is.lexicon;
-            tables = is.is ∙ λ i. record {
+            tables = equal_say_the_same t (system_tables table.0 read.0 unknown t.lexicon) (is.is ∙ λ i. record {
               kind = System;
               sizes = sizes_are table.0 m table.2 i;
               connection = costs_are s.matrix.now table.0 m table.1 table.2 i;
@@ -91,5 +92,5 @@ module _ (s : Sources) (m : CostTable) (sizes : Sizes) (is_sizes : sizes ≡ siz
               info = same_info i;
               unknown = unknown_tokens (entries_are (rows_of records) t.lexicon is.lexicon i) unknown;
               lexicon = t.lexicon;
-            };
+            });
           }

@@ -1,0 +1,82 @@
+-- An image's bytes: a header, eight sections without a gap, and in layout 3 a digest. Numbers are little-endian. (The layout is this
+-- project's own.)
+use Rattle.std.specs.Prelude.{ℕ, ◌+◌, ◌*◌, ◌-◌, ◌==◌, if◌then◌else◌, ℤ, List, [], ◌∷◌, take, drop, map, sum, slice_range}
+use Rattle.std.specs.Int.{w16, w32, cast_signed}
+use Rattle.std.specs.List.{range_with_len}
+use Rattle.byteorder.specs.Endian.{little_number}
+use Rattle.mj_model.specs.Connection.{Sizes}
+use Rattle.mj_model.specs.Tables.{Kind, System, User}
+
+-- the number in the n bytes from a place on; a byte past the end counts as 0
+abbrev pub number_at : ℕ → List ℕ → ℕ → ℕ
+number_at n bytes at = little_number n (drop at bytes)
+
+-- the numbers of 2 and of 4 bytes with a sign
+abbrev pub signed_2_at : List ℕ → ℕ → ℤ
+signed_2_at bytes at = cast_signed w16 (number_at 2 bytes at)
+
+abbrev pub signed_4_at : List ℕ → ℕ → ℤ
+signed_4_at bytes at = cast_signed w32 (number_at 4 bytes at)
+
+-- the first 8 bytes of every image: `MJDICT`, CR, LF
+abbrev pub image_magic : List ℕ
+image_magic = 0x4d ∷ 0x4a ∷ 0x44 ∷ 0x49 ∷ 0x43 ∷ 0x54 ∷ 0x0d ∷ 0x0a ∷ []
+
+abbrev pub header_length : ℕ
+header_length = 104
+
+abbrev pub digest_length : ℕ
+digest_length = 32
+
+-- the header: the layout; 0 for a system dictionary, 1 for a user's; the sizes of the connection table; how many categories, groups (distinct
+-- surfaces), tokens of the lexicon and unknown tokens there are; the lengths of sections 1 to 8 in bytes
+pub record Header : Type 0 where
+  pub magic : List ℕ
+  pub layout : ℕ
+  pub kind : ℕ
+  pub sizes : Sizes
+  pub categories : ℕ
+  pub groups : ℕ
+  pub tokens : ℕ
+  pub unknown : ℕ
+  pub lengths : List ℕ
+
+abbrev pub header_of : List ℕ → Header
+header_of bytes = record {
+  magic = take 8 bytes;
+  layout = number_at 4 bytes 8;
+  kind = number_at 4 bytes 12;
+  sizes = record { right = number_at 4 bytes 16; left = number_at 4 bytes 20 };
+  categories = number_at 4 bytes 24;
+  groups = number_at 4 bytes 28;
+  tokens = number_at 4 bytes 32;
+  unknown = number_at 4 bytes 36;
+  lengths = map (λ k. number_at 8 bytes (40 + 8 * k)) (range_with_len 0 8);
+}
+
+-- a user dictionary, or else a system's
+abbrev pub kind_of : Header → Kind
+kind_of h = if h.kind == 1 then User else System
+
+-- how many tokens there are, those of the lexicon and then the unknown ones
+abbrev pub all_tokens : Header → ℕ
+all_tokens h = h.tokens + h.unknown
+
+-- where section k begins and ends, k from 1 to 8
+abbrev pub section_start : Header → ℕ → ℕ
+section_start h k = header_length + sum (take (k - 1) h.lengths)
+
+abbrev pub section_end : Header → ℕ → ℕ
+section_end h k = header_length + sum (take k h.lengths)
+
+-- the bytes of section k
+abbrev pub section : List ℕ → ℕ → List ℕ
+section bytes k = slice_range bytes (section_start (header_of bytes) k) (section_end (header_of bytes) k)
+
+-- how many bytes stand behind the sections
+abbrev pub behind_sections : ℕ → ℕ
+behind_sections layout = if layout == 3 then digest_length else 0
+
+-- how many bytes the header demands in all
+abbrev pub total_length : Header → ℕ
+total_length h = section_end h 8 + behind_sections h.layout

@@ -1,0 +1,113 @@
+-- When bytes are a well-formed image, and the first fault of those that are none.
+use Rattle.std.specs.Prelude.{◌≡◌, ℕ, ◌*◌, ◌<◌, ◌≤◌, ◌⊎◌, List, [], ◌∷◌, length, take, drop}
+use Rattle.sha2.specs.Sha256.{sha256}
+use Rattle.mj_model.specs.declared.image_fault.ImageFault.{ImageFault}
+use Rattle.mj_model.specs.declared.image_fault.ImageFault.TheVariants.{Truncated, BadMagic, BadLayout, BadSection, BadKey, BadToken, BadText, Digest}
+use Rattle.mj_model.specs.declared.limits.TheConstants.{MATRIX_CELLS_MAX, ENTRIES_MAX, CATEGORIES_MAX}
+use Rattle.mj_model.specs.CellMap.{Cell}
+use Rattle.mj_model.specs.ImageBytes.{Header, header_of, header_length, image_magic, kind_of, all_tokens, section, section_end, total_length}
+use Rattle.mj_model.specs.ImageSections.{AreCosts, AreCategories, AreRanges, IsIndex, HoldGroups, IsKeyOf, stored_cells, stored_token, FitsSizes, HasFeature}
+use Rattle.mj_model.specs.Tables.{Kind, System, User}
+
+-- ---- tests in order
+
+-- a test: what passes it, and the fault that it tells of what does not
+pub record Test : Type 1 where
+  pub Passes : Type 0
+  pub Tells : ImageFault → Type 0
+
+-- this is so, or else this is the fault
+abbrev pub unless : Type 0 → ImageFault → Test
+unless Fact fault = record { Passes = Fact; Tells = λ told. (Fact → ⊥) × (told ≡ fault) }
+
+-- the least number below n of which this is not so
+pub record IsLeastWithout (n : ℕ) (Fact : ℕ → Type 0) (i : ℕ) : Type 0 where
+  pub below : i < n
+  pub before : (j : ℕ) → j < i → Fact j
+  pub without : Fact i → ⊥
+
+-- this is so of each number below n, or else the fault is that of the least number of which it is not
+abbrev pub unless_each : ℕ → (ℕ → Type 0) → (ℕ → ImageFault) → Test
+unless_each n Fact fault = record {
+  Passes = (i : ℕ) → i < n → Fact i;
+  Tells = λ told. (i : ℕ) × IsLeastWithout n Fact i × (told ≡ fault i);
+}
+
+-- all tests are passed
+abbrev pub PassAll : List Test → Type 0
+PassAll [] = Unit {0}
+PassAll (test ∷ tests) = test.Passes × PassAll tests
+
+-- the fault that the first of the tests tells that is not passed
+abbrev pub IsFirstTold : List Test → ImageFault → Type 0
+IsFirstTold [] fault = ⊥
+IsFirstTold (test ∷ tests) fault = test.Tells fault ⊎ (test.Passes × IsFirstTold tests fault)
+
+-- ---- the tests of image bytes
+
+-- a layout that is read
+abbrev pub IsReadLayout : ℕ → Type 0
+IsReadLayout layout = layout ≡ 3
+
+-- in layout 3 the SHA-256 of all bytes before it stands behind the sections (FIPS 180-4)
+abbrev pub HasDigest : List ℕ → Type 0
+HasDigest bytes =
+    (header_of bytes).layout ≡ 3
+    → drop (section_end (header_of bytes) 8) bytes ≡ sha256 (take (section_end (header_of bytes) 8) bytes)
+
+-- how many categories and unknown tokens a dictionary of a kind may have
+abbrev pub AreCounts : Kind → ℕ → ℕ → Type 0
+AreCounts System categories unknown = (1 ≤ categories) × (categories ≤ CATEGORIES_MAX)
+AreCounts User categories unknown = (categories ≡ 0) × (unknown ≡ 0)
+
+-- the numbers of a header are within their bounds
+pub record IsHeader (h : Header) : Type 0 where
+  pub is_kind : h.kind ≤ 1
+  pub some_right : 1 ≤ h.sizes.right
+  pub few_right : h.sizes.right ≤ 65535
+  pub some_left : 1 ≤ h.sizes.left
+  pub few_left : h.sizes.left ≤ 65535
+  pub few_costs : h.sizes.right * h.sizes.left ≤ MATRIX_CELLS_MAX
+  pub counts : AreCounts (kind_of h) h.categories h.unknown
+  pub groups_have_tokens : h.groups ≤ h.tokens
+  pub few_tokens : h.tokens ≤ ENTRIES_MAX
+  pub few_unknown : h.unknown ≤ ENTRIES_MAX
+
+-- a section that a user dictionary leaves empty
+abbrev pub SystemAlone : Kind → (List ℕ → Type 0) → List ℕ → Type 0
+SystemAlone System Rule bytes = Rule bytes
+SystemAlone User Rule bytes = bytes ≡ []
+
+-- a group has a key
+abbrev pub HasKey : List Cell → ℕ → Type 0
+HasKey cells group = (key : List ℕ) × IsKeyOf cells group key
+
+-- what image bytes are tested for, in this order; in a fault, section 0 is the header, and 9 what stands behind the last section
+abbrev pub image_tests : Header → List ℕ → List Test
+image_tests h bytes =
+    unless (header_length ≤ length bytes) Truncated
+    ∷ unless (h.magic ≡ image_magic) BadMagic
+    ∷ unless (IsReadLayout h.layout) (BadLayout h.layout)
+    ∷ unless (total_length h ≤ length bytes) Truncated
+    ∷ unless (length bytes ≤ total_length h) (BadSection 9)
+    ∷ unless (HasDigest bytes) Digest
+    ∷ unless (IsHeader h) (BadSection 0)
+    ∷ unless (SystemAlone (kind_of h) (AreCosts h.sizes) (section bytes 1)) (BadSection 1)
+    ∷ unless (SystemAlone (kind_of h) (AreCategories h.categories) (section bytes 2)) (BadSection 2)
+    ∷ unless (SystemAlone (kind_of h) (AreRanges h.categories) (section bytes 3)) (BadSection 3)
+    ∷ unless (SystemAlone (kind_of h) (IsIndex h.categories h.tokens (all_tokens h)) (section bytes 4)) (BadSection 4)
+    ∷ unless (HoldGroups h.groups (section bytes 5)) (BadSection 5)
+    ∷ unless_each h.groups (HasKey (stored_cells (section bytes 5))) BadKey
+    ∷ unless (IsIndex h.groups 0 h.tokens (section bytes 6)) (BadSection 6)
+    ∷ unless (length (section bytes 7) ≡ 16 * all_tokens h) (BadSection 7)
+    ∷ unless_each (all_tokens h) (λ i. FitsSizes h.sizes (stored_token (section bytes 7) i)) BadToken
+    ∷ unless_each (all_tokens h) (λ i. HasFeature (section bytes 8) (stored_token (section bytes 7) i)) BadText
+    ∷ []
+
+-- the bytes are a well-formed image
+abbrev pub IsWellFormed : List ℕ → Type 0
+IsWellFormed bytes = PassAll (image_tests (header_of bytes) bytes)
+
+-- the first fault of bytes that are no well-formed image
+abbrev pub IsImageFault : List ℕ → ImageFault → Type 0
+IsImageFault bytes fault = IsFirstTold (image_tests (header_of bytes) bytes) fault

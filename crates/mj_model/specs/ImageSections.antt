@@ -1,0 +1,216 @@
+-- What the sections of an image say, each from its own bytes.
+use Rattle.std.specs.Prelude.{◌≡◌, ℕ, zero, suc, ◌+◌, ◌-◌, ◌*◌, ◌/◌, ◌%◌, ◌^◌, ◌<◌, ◌≤◌, ◌==◌, ℤ, pos, negsuc, Bool, false, if◌then◌else◌, nat_le, List, [], ◌∷◌, ◌++◌, length, map, flat_map, drop, find, reverse, All, slice_range, IsUtf8, Option, Some, None}
+use Rattle.std.specs.Int.{IsBitSet}
+use Rattle.std.specs.List.{range_with_len, position_or_len}
+use Rattle.std.specs.Option.{option_map_or}
+use Rattle.mj_model.specs.declared.category.CharInfo.{CharInfo}
+use Rattle.mj_model.specs.declared.limits.TheConstants.{SURFACE_MAX}
+use Rattle.mj_model.specs.CellMap.{Cell, base, check, value_of}
+use Rattle.mj_model.specs.CellRules.{MeetsRules}
+use Rattle.mj_model.specs.CharDef.{NamedCategory, code_point_max}
+use Rattle.mj_model.specs.Connection.{Sizes}
+use Rattle.mj_model.specs.ImageBytes.{number_at, signed_2_at, signed_4_at}
+use Rattle.mj_model.specs.Tables.{Token}
+
+-- ---- section 1: connection costs
+
+-- the connection cost of a right id and a left id
+abbrev pub stored_cost : Sizes → List ℕ → ℕ → ℕ → ℤ
+stored_cost sizes costs right left = signed_2_at costs (2 * (right * sizes.left + left))
+
+-- a cost of 2 bytes for each pair of ids
+abbrev pub AreCosts : Sizes → List ℕ → Type 0
+AreCosts sizes costs = length costs ≡ 2 * (sizes.right * sizes.left)
+
+-- ---- section 2: categories
+
+abbrev pub flag_byte : Bool → ℕ
+flag_byte set = if set then 1 else 0
+
+-- a category's bytes: INVOKE, GROUP, LENGTH, the length of its name, and its name
+abbrev pub category_bytes : NamedCategory → List ℕ
+category_bytes c =
+    flag_byte c.category.invoke ∷ flag_byte c.category.group ∷ c.category.length ∷ length c.name ∷ c.name
+
+-- a category that an image may hold
+pub record IsStorable (c : NamedCategory) : Type 0 where
+  pub length_within : c.category.length ≤ 15
+  pub name_some : 1 ≤ length c.name
+  pub name_short : length c.name ≤ 255
+  pub name_is_text : IsUtf8 c.name
+
+-- the category at the front of the bytes
+abbrev pub first_category : List ℕ → NamedCategory
+first_category bytes = record {
+  name = slice_range bytes 4 (4 + number_at 1 bytes 3);
+  category = record { invoke = number_at 1 bytes 0 == 1; group = number_at 1 bytes 1 == 1; length = number_at 1 bytes 2 };
+}
+
+-- so many categories, one behind another
+abbrev pub categories_in : ℕ → List ℕ → List NamedCategory
+categories_in zero bytes = []
+categories_in (suc n) bytes = first_category bytes ∷ categories_in n (drop (4 + number_at 1 bytes 3) bytes)
+
+-- so many categories are all that the section holds
+pub record AreCategories (count : ℕ) (categories : List ℕ) : Type 0 where
+  pub storable : All IsStorable (categories_in count categories)
+  pub fill : categories ≡ flat_map category_bytes (categories_in count categories)
+
+-- ---- section 3 of layout 3: the categories of code points
+
+-- code points from a first one on have these categories
+pub record StoredRange : Type 0 where
+  pub first : ℕ
+  pub info : CharInfo
+
+-- an entry: bits 0 to 17 are the set of the categories, and the bits above them the first one
+abbrev pub info_of_entry : ℕ → CharInfo
+info_of_entry entry = record { bits = entry % 2 ^ 18; head = entry / 2 ^ 18 }
+
+abbrev pub range_at : List ℕ → ℕ → StoredRange
+range_at ranges i = record { first = number_at 4 ranges (8 * i); info = info_of_entry (number_at 4 ranges (8 * i + 4)) }
+
+abbrev pub stored_ranges : List ℕ → List StoredRange
+stored_ranges ranges = map (range_at ranges) (range_with_len 0 (length ranges / 8))
+
+abbrev pub no_info : CharInfo
+no_info = record { bits = 0; head = 0 }
+
+-- the categories of a code point: those of the last range that begins at or before it
+abbrev pub stored_info : List ℕ → ℕ → CharInfo
+stored_info ranges code =
+    option_map_or (λ (range : StoredRange). range.info) (find (λ range. nat_le range.first code) (reverse (stored_ranges ranges))) no_info
+
+-- of this many categories, the first one is in the set, and the set has no others
+pub record IsInfoOf (categories : ℕ) (info : CharInfo) : Type 0 where
+  pub first_below : info.head < categories
+  pub first_in_set : IsBitSet info.bits info.head
+  pub set_below : info.bits < 2 ^ categories
+
+-- ranges of 8 bytes: the first begins at code point 0, each further one behind the one before it
+pub record AreRanges (categories : ℕ) (ranges : List ℕ) : Type 0 where
+  pub whole : length ranges % 8 ≡ 0
+  pub some : 8 ≤ length ranges
+  pub from_zero : (range_at ranges 0).first ≡ 0
+  pub rising : (i : ℕ) → suc i < length ranges / 8 → (range_at ranges i).first < (range_at ranges (suc i)).first
+  pub within : (i : ℕ) → i < length ranges / 8 → (range_at ranges i).first ≤ code_point_max
+  pub infos : (i : ℕ) → i < length ranges / 8 → IsInfoOf categories (range_at ranges i).info
+
+-- ---- sections 4 and 6: which tokens a category and a group have
+
+-- list i of an index has the tokens from its number i up to, not including, its number i + 1
+abbrev pub index_at : List ℕ → ℕ → ℕ
+index_at index i = number_at 4 index (4 * i)
+
+-- an index of n lists, none of them empty, which share out the tokens from the low number up to the high one
+pub record IsIndex (lists low high : ℕ) (index : List ℕ) : Type 0 where
+  pub fills : length index ≡ 4 * (lists + 1)
+  pub first : index_at index 0 ≡ low
+  pub rising : (i : ℕ) → i < lists → index_at index i < index_at index (suc i)
+  pub last : index_at index lists ≡ high
+
+-- ---- section 5 of layouts 2 and 3: the cells, which give each key its group
+
+abbrev pub stored_cell : List ℕ → ℕ → Cell
+stored_cell cells i = (signed_4_at cells (8 * i), signed_4_at cells (8 * i + 4))
+
+abbrev pub stored_cells : List ℕ → List Cell
+stored_cells cells = map (stored_cell cells) (range_with_len 0 (length cells / 8))
+
+-- exactly one cell holds this value
+pub record StandsOnce (cells : List Cell) (value : ℕ) : Type 0 where
+  pub place : ℕ
+  pub holds : base cells place ≡ negsuc value
+  pub only : (t : ℕ) → base cells t ≡ negsuc value → t ≡ place
+
+-- cells of 8 bytes that meet the rules, and hold each group once
+pub record HoldGroups (groups : ℕ) (cells : List ℕ) : Type 0 where
+  pub whole : length cells % 8 ≡ 0
+  pub some : 8 ≤ length cells
+  pub few : length cells / 8 ≤ 2 ^ 30
+  pub rules : MeetsRules groups (stored_cells cells)
+  pub once : (group : ℕ) → group < groups → StandsOnce (stored_cells cells) group
+
+-- the surface of a group, of 1 to `SURFACE_MAX` bytes of UTF-8: its value in the cells is the group
+pub record IsKeyOf (cells : List Cell) (group : ℕ) (key : List ℕ) : Type 0 where
+  pub some : 1 ≤ length key
+  pub short : length key ≤ SURFACE_MAX
+  pub is_text : IsUtf8 key
+  pub value : value_of cells key ≡ Some group
+
+-- the state from which a step leads to a cell, if one does
+abbrev pub state_in : ℤ → Option ℕ
+state_in (pos s) = Some s
+state_in (negsuc k) = None
+
+-- the byte of the step to cell t from a state of this base: its distance less 1
+abbrev pub byte_after : ℤ → ℕ → ℕ
+byte_after (pos b) t = t - b - 1
+byte_after (negsuc v) t = 0
+
+-- the bytes of the steps that lead to a cell, found by its checks; at most n of them, the last ones
+unfoldable pub bytes_to : List Cell → ℕ → ℕ → List ℕ
+bytes_to cells zero t = []
+bytes_to cells (suc n) t = option_map_or (λ s. bytes_to cells n s ++ byte_after (base cells s) t ∷ []) (state_in (check cells t)) []
+
+abbrev pub is_value : ℕ → Cell → Bool
+is_value group (pos b, c) = false
+is_value group (negsuc v, c) = v == group
+
+-- the cell that holds a group's value
+abbrev pub value_cell : List Cell → ℕ → ℕ
+value_cell cells group = position_or_len (is_value group) cells
+
+-- the surface of a group, where it has one
+abbrev pub key_of : List Cell → ℕ → List ℕ
+key_of cells group = option_map_or (bytes_to cells SURFACE_MAX) (state_in (check cells (value_cell cells group))) []
+
+-- ---- section 7: tokens
+
+-- a token's 16 bytes: its ids, its cost, two spare bytes, and where in section 8 its feature begins and how long it is
+pub record StoredToken : Type 0 where
+  pub left : ℕ
+  pub right : ℕ
+  pub cost : ℤ
+  pub spare : ℕ
+  pub feature_start : ℕ
+  pub feature_length : ℕ
+
+abbrev pub stored_token : List ℕ → ℕ → StoredToken
+stored_token tokens i = record {
+  left = number_at 2 tokens (16 * i);
+  right = number_at 2 tokens (16 * i + 2);
+  cost = signed_2_at tokens (16 * i + 4);
+  spare = number_at 2 tokens (16 * i + 6);
+  feature_start = number_at 4 tokens (16 * i + 8);
+  feature_length = number_at 4 tokens (16 * i + 12);
+}
+
+-- its ids lie within the sizes, and its spare bytes are 0
+pub record FitsSizes (sizes : Sizes) (t : StoredToken) : Type 0 where
+  pub left_below : t.left < sizes.left
+  pub right_below : t.right < sizes.right
+  pub spare_zero : t.spare ≡ 0
+
+-- ---- section 8: features
+
+abbrev pub feature_end : StoredToken → ℕ
+feature_end t = t.feature_start + t.feature_length
+
+abbrev pub stored_feature : List ℕ → StoredToken → List ℕ
+stored_feature features t = slice_range features t.feature_start (feature_end t)
+
+-- its feature lies in the section, and is UTF-8
+pub record HasFeature (features : List ℕ) (t : StoredToken) : Type 0 where
+  pub within : feature_end t ≤ length features
+  pub is_text : IsUtf8 (stored_feature features t)
+
+-- token i as an entry
+abbrev pub token_from : List ℕ → List ℕ → ℕ → Token
+token_from tokens features i = record {
+  number = i;
+  left = (stored_token tokens i).left;
+  right = (stored_token tokens i).right;
+  cost = (stored_token tokens i).cost;
+  feature = stored_feature features (stored_token tokens i);
+}

@@ -1,0 +1,72 @@
+//! What is wrong with the bytes of an image.
+
+ghost use Rattle.std.specs.Prelude.{◌≡◌};
+
+use thiserror::Error;
+
+/// Why an image is refused. Sections are counted from 1; keys and tokens from 0, and the least bad one is told.
+#[derive(Clone, Copy, Debug, PartialEq, Eq, Drop, Error)]
+pub enum ImageFault {
+    /// Fewer bytes than the header, or than it demands.
+    #[error("L1 Truncated")]
+    Truncated,
+    /// The first 8 bytes are not those of an image.
+    #[error("L2 BadMagic")]
+    BadMagic,
+    /// A layout that is not read here.
+    #[error("L3 BadLayout {0}")]
+    BadLayout(u32),
+    /// This section breaks its rule. Section 0 is the header, 9 what stands behind the last section.
+    #[error("L4 BadSection {0}")]
+    BadSection(u8),
+    /// This group has no key that is UTF-8 of 1 to `SURFACE_MAX` bytes.
+    #[error("L5 BadKey {0}")]
+    BadKey(u32),
+    /// An id of this token lies outside the connection table, or its two spare bytes are not 0.
+    #[error("L6 BadToken {0}")]
+    BadToken(u32),
+    /// The feature of this token lies outside the features, or is not UTF-8.
+    #[error("L7 BadText {0}")]
+    BadText(u32),
+    /// The digest at the end is not that of the bytes before it.
+    #[error("L8 Digest")]
+    Digest,
+    /// Memory was refused.
+    #[error("Memory")]
+    Memory,
+}
+
+impl ImageFault {
+    ghost use Rattle.mj_model.specs.ImageFaultWords.{image_words};
+
+    /// The short code, as `L1`.
+    pub fn code(self) -> &'static str
+        ensures { result.now ≡ (image_words self).code }
+    {
+        self.words().0
+    }
+
+    /// The name behind the code, as `Truncated`.
+    pub fn name(self) -> &'static str
+        ensures { result.now ≡ (image_words self).name }
+    {
+        self.words().1
+    }
+
+    fn words(self) -> (&'static str, &'static str)
+        ensures code { result.0.now ≡ (image_words self).code }
+        ensures name { result.1.now ≡ (image_words self).name }
+    {
+        match self {
+            ImageFault::Truncated => ("L1", "Truncated"),
+            ImageFault::BadMagic => ("L2", "BadMagic"),
+            ImageFault::BadLayout(_) => ("L3", "BadLayout"),
+            ImageFault::BadSection(_) => ("L4", "BadSection"),
+            ImageFault::BadKey(_) => ("L5", "BadKey"),
+            ImageFault::BadToken(_) => ("L6", "BadToken"),
+            ImageFault::BadText(_) => ("L7", "BadText"),
+            ImageFault::Digest => ("L8", "Digest"),
+            ImageFault::Memory => ("Memory", "Memory"),
+        }
+    }
+}
