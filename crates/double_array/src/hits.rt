@@ -54,7 +54,7 @@ impl<'a, C: CellRead> Prefixes<'a, C> {
 impl<'a, C: CellRead> Iterator for Prefixes<'a, C> {
     type Item = Hit;
 
-    ghost next_gives = { YieldsFirstBy (λ hit. (hit.length, hit.value)) (λ it. it.hits) };
+    ghost next_gives = { λ old found new. YieldsFirstBy (λ hit. (hit.length, hit.value)) (λ it. it.hits) old found new × (new.text ≡ old.text) };
 
     ghost remaining = { item_count (λ it. it.hits) };
 
