@@ -35,7 +35,7 @@ number_within cs name h =
 
 -- ---- what accepted lines say
 
-defined_by_none : (cs : List NamedCategory) (name : List ℕ) (kind : SourceKind) (b : Bool) → is_defined cs name ≡ b → cond b None (Some (let f : SourceFault = record { file = 1; line = 0; kind = kind } in f)) ≡ None → is_defined cs name ≡ true
+pub defined_by_none : (cs : List NamedCategory) (name : List ℕ) (kind : SourceKind) (b : Bool) → is_defined cs name ≡ b → cond b None (Some (let f : SourceFault = record { file = 1; line = 0; kind = kind } in f)) ≡ None → is_defined cs name ≡ true
 defined_by_none cs name kind true e h = e
 defined_by_none cs name kind false e h = absurd (cc)
 
@@ -52,15 +52,15 @@ first_defined cs (Defines category) h = tt
 first_defined cs (Maps m) h = (first_defined_by cs m (list_all (is_defined cs) (m.first ∷ m.others)) refl h, tt)
 first_defined cs (Bad kind) h = tt
 
-no_fault : (line : ℕ) (kind : Option SourceKind) (others : Option SourceFault) → fault_or 1 line kind others ≡ None → (kind ≡ None) × (others ≡ None)
+pub no_fault : (line : ℕ) (kind : Option SourceKind) (others : Option SourceFault) → fault_or 1 line kind others ≡ None → (kind ≡ None) × (others ≡ None)
 no_fault line None others h = (refl, h)
 no_fault line (Some kind) others h = absurd (cc)
 
-all_append : (P : Mapping → Type 0) (xs ys : List Mapping) → AllByRecursion P xs → AllByRecursion P ys → AllByRecursion P (xs ++ ys)
+pub all_append : (P : Mapping → Type 0) (xs ys : List Mapping) → AllByRecursion P xs → AllByRecursion P ys → AllByRecursion P (xs ++ ys)
 all_append P [] ys h k = k
 all_append P (x ∷ xs) ys h k = (h.0, all_append P xs ys h.1 k)
 
-all_reversed : (P : Mapping → Type 0) (xs : List Mapping) → AllByRecursion P xs → AllByRecursion P (reverse xs)
+pub all_reversed : (P : Mapping → Type 0) (xs : List Mapping) → AllByRecursion P xs → AllByRecursion P (reverse xs)
 all_reversed P [] h = tt
 all_reversed P (x ∷ xs) h = subst (AllByRecursion P) (sym (reverse-append (x ∷ []) xs)) (all_append P (reverse xs) (x ∷ []) (all_reversed P xs h.1) (h.0, tt))
 
@@ -85,7 +85,7 @@ head_within : (cs : List NamedCategory) (code : ℕ) (ms : List Mapping) (d : Ch
 head_within cs code [] d low all = low
 head_within cs code (m ∷ ms) d low all = head_by cs code m ms (covers code m) d low all.0 (head_within cs code ms d low all.1)
 
-no_or : (a b : Option SourceFault) → option_or a b ≡ None → (a ≡ None) × (b ≡ None)
+pub no_or : (a b : Option SourceFault) → option_or a b ≡ None → (a ≡ None) × (b ≡ None)
 no_or None b h = (refl, h)
 no_or (Some fault) b h = absurd (cc)
 
@@ -93,7 +93,7 @@ abbrev source_or : CharSource → Result CharSource SourceFault → CharSource
 source_or s (Ok source) = source
 source_or s (Err fault) = s
 
-accepted_by : (fault : Option SourceFault) (read source : CharSource) → source_unless fault read ≡ Ok source → (fault ≡ None) × (read ≡ source)
+pub accepted_by : (fault : Option SourceFault) (read source : CharSource) → source_unless fault read ≡ Ok source → (fault ≡ None) × (read ≡ source)
 accepted_by None read source h = (refl, ap (source_or read) h)
 accepted_by (Some fault) read source h = absurd (cc)
 

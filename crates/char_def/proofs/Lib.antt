@@ -8,3 +8,4 @@ pub mod UnkLemmas
 pub mod FirstCategories
 pub mod OutsideLemmas
 pub mod UnkFaults
+pub mod AcceptedChars

@@ -44,7 +44,7 @@ cost_more sizes cells x right left =
       | inr other ↦ ap price (cond-false (test x) (Some x) (find test (reverse cells)) other) ∙ sym (cond-false (test x) x.cost (price (find test (reverse cells))) other)
     ]
 
-within_table : (m : CostTable) (right left : ℕ) → IsMatrix m → IsPair m right left → cell_at m right left < length m.costs
+pub within_table : (m : CostTable) (right left : ℕ) → IsMatrix m → IsPair m right left → cell_at m right left < length m.costs
 within_table m right left formed p =
     let cells : length m.costs ≡ m.right_size * m.left_size = formed.cells in
     let low : right * m.left_size + left < m.left_size * m.right_size = mul-add-lt right m.left_size left m.right_size p.right_below p.left_below in

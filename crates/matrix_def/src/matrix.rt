@@ -68,6 +68,14 @@ impl Matrix {
         self.costs[cell(self.left_size, prev_right, next_left)]
     }
 
+    /// The costs of one right id after another, each in the order of the left ids.
+    pub fn costs(&self) -> &[i16]
+        ensures costs { result.now ≡ self.now.costs }
+        ensures formed { IsMatrix self.now }
+    {
+        &self.costs
+    }
+
     pub(crate) fn set(&mut self, right: u16, left: u16, cost: i16)
         requires { IsPair self.old right left }
         ensures value { self.new ≡ record self.old { costs = slice_set self.old.costs (cell_at self.old right left) cost } }
