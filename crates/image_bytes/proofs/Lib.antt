@@ -1,0 +1,4 @@
+pub mod CellLemmas
+pub mod EndLemmas
+pub mod ItemLemmas
+pub mod NumberLemmas

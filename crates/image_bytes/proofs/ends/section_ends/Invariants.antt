@@ -1,0 +1,8 @@
+use Rattle.std.proofs.Common.{◌≡◌, ◌≤◌, length, slice_index, ℕ}
+use Rattle.mj_model.specs.ImageBytes.{Header as Stated}
+use Rattle.mj_model.specs.ImageBytes.{section_end}
+use Rattle.image_bytes.specs.Headers.{IsHeaderOf}
+use Rattle.image_bytes.proofs.ends.section_ends.Given as goal
+
+abbrev pub invariant-loop-k : goal.invariant-loop-k
+invariant-loop-k l = (length l.ends ≡ 9) × ((stated : Stated) → IsHeaderOf l.header stated → (j : ℕ) → j ≤ l.k → slice_index l.ends j ≡ section_end stated j)

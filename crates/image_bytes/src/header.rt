@@ -1,0 +1,59 @@
+//! The header of an image.
+ghost use Rattle.std.specs.Prelude.{◌≡◌, ◌≤◌, length};
+ghost use Rattle.mj_model.specs.ImageBytes.{header_of, header_length};
+ghost use Rattle.image_bytes.specs.Headers.{IsHeaderOf};
+
+use crate::numbers::{u32_at, u64_at};
+
+/// The numbers of a header. Lengths are in bytes, the one of section k at k - 1.
+#[derive(Clone, Copy, Debug, Drop)]
+pub struct Header {
+    pub layout: u32,
+    /// 0 for a system dictionary, 1 for a user's.
+    pub kind: u32,
+    pub right: u32,
+    pub left: u32,
+    pub categories: u32,
+    /// Distinct surfaces.
+    pub groups: u32,
+    /// Entries of the lexicon.
+    pub tokens: u32,
+    /// Unknown entries.
+    pub unknown: u32,
+    pub lengths: [u64; 8],
+}
+
+/// The numbers of the first 104 bytes, behind the magic.
+pub fn read_header(bytes: &[u8]) -> Header
+    requires { header_length ≤ length bytes.now }
+    ensures { IsHeaderOf result (header_of bytes.now) }
+{
+    Header {
+        layout: u32_at(bytes, 8),
+        kind: u32_at(bytes, 12),
+        right: u32_at(bytes, 16),
+        left: u32_at(bytes, 20),
+        categories: u32_at(bytes, 24),
+        groups: u32_at(bytes, 28),
+        tokens: u32_at(bytes, 32),
+        unknown: u32_at(bytes, 36),
+        lengths: section_lengths(bytes),
+    }
+}
+
+/// The lengths of sections 1 to 8.
+fn section_lengths(bytes: &[u8]) -> [u64; 8]
+    requires { header_length ≤ length bytes.now }
+    ensures { result ≡ (header_of bytes.now).lengths }
+{
+    [
+        u64_at(bytes, 40),
+        u64_at(bytes, 48),
+        u64_at(bytes, 56),
+        u64_at(bytes, 64),
+        u64_at(bytes, 72),
+        u64_at(bytes, 80),
+        u64_at(bytes, 88),
+        u64_at(bytes, 96),
+    ]
+}

@@ -1,0 +1,12 @@
+//! The bytes of an image: numbers, the header, sections and cells, read where they lie.
+#![tactic(auto)]
+
+mod ends;
+mod header;
+mod image_cells;
+mod numbers;
+
+pub use ends::{section, section_ends};
+pub use header::{Header, read_header};
+pub use image_cells::ImageCells;
+pub use numbers::{i16_at, i32_at, u16_at, u32_at, u64_at};
