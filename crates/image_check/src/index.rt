@@ -1,0 +1,29 @@
+//! An index: which tokens each of its lists has.
+ghost use Rattle.std.specs.Prelude.{◌≡◌, ℕ, suc, ◌+◌, ◌*◌, ◌<◌, ◌↔◌, length, IsTrue};
+ghost use Rattle.mj_model.specs.ImageSections.{IsIndex, index_at};
+
+use image_bytes::u32_at;
+
+/// Whether an index of so many lists, none of them empty, shares out the tokens from `low` up to `high`.
+pub(crate) fn is_index(lists: u32, low: u32, high: usize, index: &[u8]) -> bool
+    ensures { IsTrue result ↔ IsIndex lists low high index.now }
+{
+    let lists = lists as usize;
+    index.len() == 4 * (lists + 1)
+        && u32_at(index, 0) == low
+        && is_rising(lists, index)
+        && u32_at(index, 4 * lists) as usize == high
+}
+
+/// Whether each number is below the next one.
+fn is_rising(lists: usize, index: &[u8]) -> bool
+    requires { length index.now ≡ 4 * (lists + 1) }
+    ensures { IsTrue result ↔ ((i : ℕ) → i < lists → index_at index.now i < index_at index.now (suc i)) }
+{
+    for i in 0..lists {
+        if u32_at(index, 4 * i) >= u32_at(index, 4 * (i + 1)) {
+            return false;
+        }
+    }
+    true
+}

@@ -1,0 +1,55 @@
+//! Tokens and their features.
+ghost use Rattle.std.specs.Prelude.{◌≡◌, ◌+◌, ◌*◌, ◌≤◌, ◌<◌, ◌↔◌, ℕ, length, IsTrue, MatchOption};
+ghost use Rattle.mj_model.specs.ImageFaults.{IsLeastWithout};
+ghost use Rattle.mj_model.specs.ImageSections.{FitsSizes, HasFeature, stored_token};
+
+use image_bytes::{u16_at, u32_at};
+use simdutf8::is_utf8;
+
+/// The first of so many tokens whose ids lie outside the sizes or whose spare bytes are not 0.
+pub(crate) fn first_misfit(right: u32, left: u32, count: u32, tokens: &[u8]) -> Option<u32>
+    requires { length tokens.now ≡ 16 * count }
+    ensures { let Fits : ℕ → Type 0 = λ i. FitsSizes (record { right = right; left = left }) (stored_token tokens.now i) in MatchOption result ((i : ℕ) → i < count → Fits i) (IsLeastWithout count Fits) }
+{
+    for token in 0..count {
+        if !fits_sizes(right, left, tokens, token as usize) {
+            return Some(token);
+        }
+    }
+    None
+}
+
+/// Whether the ids of a token lie within the sizes, and its spare bytes are 0.
+fn fits_sizes(right: u32, left: u32, tokens: &[u8], token: usize) -> bool
+    requires { 16 * token + 16 ≤ length tokens.now }
+    ensures { IsTrue result ↔ FitsSizes (record { right = right; left = left }) (stored_token tokens.now token) }
+{
+    let at = 16 * token;
+    u32::from(u16_at(tokens, at)) < left
+        && u32::from(u16_at(tokens, at + 2)) < right
+        && u16_at(tokens, at + 6) == 0
+}
+
+/// The first of so many tokens whose feature lies outside the features or is not UTF-8.
+pub(crate) fn first_without_feature(count: u32, tokens: &[u8], features: &[u8]) -> Option<u32>
+    requires { length tokens.now ≡ 16 * count }
+    ensures { let Has : ℕ → Type 0 = λ i. HasFeature features.now (stored_token tokens.now i) in MatchOption result ((i : ℕ) → i < count → Has i) (IsLeastWithout count Has) }
+{
+    for token in 0..count {
+        if !has_feature(tokens, token as usize, features) {
+            return Some(token);
+        }
+    }
+    None
+}
+
+/// Whether the feature of a token lies in the features, and is UTF-8.
+fn has_feature(tokens: &[u8], token: usize, features: &[u8]) -> bool
+    requires { 16 * token + 16 ≤ length tokens.now }
+    ensures { IsTrue result ↔ HasFeature features.now (stored_token tokens.now token) }
+{
+    let at = 16 * token;
+    let start = u32_at(tokens, at + 8) as usize;
+    let end = start + u32_at(tokens, at + 12) as usize;
+    end <= features.len() && is_utf8(&features[start..end])
+}
