@@ -1,0 +1,95 @@
+-- Where categories stand in their section.
+use Rattle.std.proofs.Common.{◌≡◌, ℕ, zero, suc, ◌+◌, ◌<◌, ◌≤◌, List, ◌++◌, map, length, drop, get_or, Some, ap, ◌∙◌, refl, arith, subst}
+use Rattle.std.specs.List.{flat_map, slice_get}
+use Rattle.std.proofs.lemmas.List.{length-append, length-map, drop_at, get_or-drop}
+use Rattle.mj_model.specs.CharDef.{NamedCategory}
+use Rattle.mj_model.specs.ImageBytes.{number_at, header_of, section}
+use Rattle.mj_model.specs.ImageMeaning.{image_categories}
+use Rattle.mj_model.specs.ImageSections.{AreCategories, IsStorable, category_bytes, first_category, categories_in}
+use Rattle.dict_image.specs.Categories.{HasFirst, HasFront, behind_first, bytes_from}
+use Rattle.dict_image.specs.Held.{IsImage}
+use Rattle.dict_image.proofs.FormedLemmas.{categories_are, system_of_categories}
+
+-- ---- numbers of one byte
+
+pub byte_at : (bytes : List ℕ) (i : ℕ) → number_at 1 bytes i ≡ get_or bytes i 0
+byte_at bytes i =
+    let e : i + 0 ≡ i = omega arith in
+    let d = get_or-drop i bytes 0 0 in
+    let s = ap (λ (k : ℕ). get_or bytes k 0) e in
+    omega (arith, d, s)
+
+-- ---- one category behind another
+
+pub category_there : (n i : ℕ) (bytes : List ℕ) → i < n → slice_get (categories_in n bytes) i ≡ Some (first_category (bytes_from i bytes))
+category_there zero i bytes less = absurd (omega (arith, less))
+category_there (suc n) zero bytes less = refl
+category_there (suc n) (suc i) bytes less = category_there n i (behind_first bytes) (omega (arith, less))
+
+pub count_is : (n : ℕ) (bytes : List ℕ) → length (categories_in n bytes) ≡ n
+count_is zero bytes = refl
+count_is (suc n) bytes = ap suc (count_is n (behind_first bytes))
+
+-- what stands in front of a section that is its categories
+pub record IsFront (n : ℕ) (bytes : List ℕ) : Type 0 where
+  pub first : HasFirst bytes
+  pub storable : IsStorable (first_category bytes)
+  pub rest : AreCategories n (behind_first bytes)
+
+pub front_of : (n : ℕ) (bytes : List ℕ) → AreCategories (suc n) bytes → IsFront n bytes
+front_of n bytes are =
+    let c = first_category bytes in
+    let rest = flat_map category_bytes (categories_in n (behind_first bytes)) in
+    let fill : bytes ≡ category_bytes c ++ rest = are.fill in
+    let counted : number_at 1 bytes 3 ≡ length c.name = byte_at bytes 3 ∙ ap (λ (xs : List ℕ). get_or xs 3 0) fill in
+    let whole : length bytes ≡ suc (suc (suc (suc (length c.name)))) + length rest = ap length fill ∙ length-append (category_bytes c) rest in
+    let own : suc (suc (suc (suc (length c.name)))) ≡ 4 + number_at 1 bytes 3 = omega (arith, counted) in
+    let behind : behind_first bytes ≡ rest =
+    ap (drop (4 + number_at 1 bytes 3)) fill ∙ drop_at (category_bytes c) rest (4 + number_at 1 bytes 3) own in
+    record {
+      first = record { numbers = omega (arith, whole); name = omega (arith, whole, counted) };
+      storable = are.storable 0 c (omega arith);
+      rest = record { storable = λ k d less. are.storable (suc k) d (omega (arith, less)); fill = behind };
+    }
+
+pub fronts_of : (n i : ℕ) (bytes : List ℕ) → AreCategories n bytes → i ≤ n → HasFront i bytes
+fronts_of n zero bytes are within = tt
+fronts_of zero (suc i) bytes are within = absurd (omega (arith, within))
+fronts_of (suc n) (suc i) bytes are within = let f = front_of n bytes are in (f.first, fronts_of n i (behind_first bytes) f.rest (omega (arith, within)))
+
+-- category i stands whole, and may be stored
+pub record IsWhole (bytes : List ℕ) : Type 0 where
+  pub first : HasFirst bytes
+  pub storable : IsStorable (first_category bytes)
+
+pub whole_there : (n i : ℕ) (bytes : List ℕ) → AreCategories n bytes → i < n → IsWhole (bytes_from i bytes)
+whole_there zero i bytes are less = absurd (omega (arith, less))
+whole_there (suc n) zero bytes are less = let f = front_of n bytes are in record { first = f.first; storable = f.storable }
+whole_there (suc n) (suc i) bytes are less = whole_there n i (behind_first bytes) (front_of n bytes are).rest (omega (arith, less))
+
+-- one step on
+pub front_more : (n m : ℕ) (bytes : List ℕ) → m ≡ suc n → HasFront m bytes → HasFirst bytes × HasFront n (behind_first bytes)
+front_more n m bytes e front = subst (λ (k : ℕ). HasFront k bytes) e front
+
+pub from_more : (n m : ℕ) (bytes : List ℕ) → m ≡ suc n → bytes_from m bytes ≡ bytes_from n (behind_first bytes)
+from_more n m bytes e = ap (λ (k : ℕ). bytes_from k bytes) e
+
+-- ---- categories of an image
+
+pub count_of_image : (bytes : List ℕ) → length (map (λ (n : NamedCategory). n.category) (image_categories bytes)) ≡ (header_of bytes).categories
+count_of_image bytes = length-map (image_categories bytes) (λ (n : NamedCategory). n.category) ∙ count_is (header_of bytes).categories (section bytes 2)
+
+-- category i of an image stands in its section
+pub whole_of_image : (bytes : List ℕ) (i : ℕ) → IsImage bytes → i < (header_of bytes).categories → IsWhole (bytes_from i (section bytes 2))
+whole_of_image bytes i w less =
+    whole_there (header_of bytes).categories i (section bytes 2) (categories_are bytes (system_of_categories bytes i w less) w) less
+
+pub fronts_of_image : (bytes : List ℕ) (i : ℕ) → IsImage bytes → i < (header_of bytes).categories → HasFront i (section bytes 2)
+fronts_of_image bytes i w less =
+    fronts_of (header_of bytes).categories i (section bytes 2) (categories_are bytes (system_of_categories bytes i w less) w) (omega (arith, less))
+
+pub below_count : (bytes : List ℕ) (i : ℕ) → i < length (map (λ (n : NamedCategory). n.category) (image_categories bytes)) → i < (header_of bytes).categories
+below_count bytes i less = let e = count_of_image bytes in omega (arith, less, e)
+
+pub category_of_image : (bytes : List ℕ) (i : ℕ) → i < (header_of bytes).categories → slice_get (image_categories bytes) i ≡ Some (first_category (bytes_from i (section bytes 2)))
+category_of_image bytes i less = category_there (header_of bytes).categories i (section bytes 2) less

@@ -1,0 +1,9 @@
+pub mod LexiconLemmas
+pub mod PrefixLemmas
+pub mod TokenLemmas
+pub mod RangeLemmas
+pub mod FormedLemmas
+pub mod CategoryLemmas
+pub mod ProgressLemmas
+pub mod FittingLemmas
+pub mod NumberLemmas

@@ -1,0 +1,28 @@
+-- The names of categories, and where categories stand in their section.
+use Rattle.std.specs.Prelude.{ℕ, zero, suc, ◌+◌, ◌≤◌, List, length, drop, map}
+use Rattle.mj_model.specs.CharDef.{NamedCategory}
+use Rattle.mj_model.specs.ImageBytes.{number_at}
+use Rattle.mj_model.specs.ImageMeaning.{image_categories}
+
+-- the bytes behind the first category
+abbrev pub behind_first : List ℕ → List ℕ
+behind_first bytes = drop (4 + number_at 1 bytes 3) bytes
+
+-- the bytes from category i on
+abbrev pub bytes_from : ℕ → List ℕ → List ℕ
+bytes_from zero bytes = bytes
+bytes_from (suc i) bytes = bytes_from i (behind_first bytes)
+
+-- the first category stands within the bytes
+pub record HasFirst (bytes : List ℕ) : Type 0 where
+  pub numbers : 4 ≤ length bytes
+  pub name : 4 + number_at 1 bytes 3 ≤ length bytes
+
+-- this many categories stand within the bytes
+abbrev pub HasFront : ℕ → List ℕ → Type 0
+HasFront zero bytes = Unit {0}
+HasFront (suc n) bytes = HasFirst bytes × HasFront n (behind_first bytes)
+
+-- the names of an image's categories
+abbrev pub category_names : List ℕ → List (List ℕ)
+category_names bytes = map (λ (c : NamedCategory). c.name) (image_categories bytes)

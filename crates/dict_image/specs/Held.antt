@@ -1,0 +1,22 @@
+-- What a dictionary and its iterators hold.
+use Rattle.std.specs.Prelude.{ℕ, ◌*◌, ◌<◌, ◌≤◌, List, length}
+use Rattle.image_bytes.specs.declared.header.Header.{Header}
+use Rattle.image_bytes.specs.Headers.{IsHeaderOf, AreEnds}
+use Rattle.mj_model.specs.ImageBytes.{header_of}
+use Rattle.mj_model.specs.ImageFaults.{IsWellFormed}
+use Rattle.mj_model.specs.ImageSections.{HasFeature, stored_token}
+
+-- a well-formed image, as a word that is not taken apart
+unfoldable pub IsImage : List ℕ → Type 0
+IsImage bytes = IsWellFormed bytes
+
+-- a well-formed image, the numbers of its header, and where its sections end
+pub record IsDict (bytes : List ℕ) (header : Header) (ends : List ℕ) : Type 0 where
+  pub formed : IsImage bytes
+  pub header_is : IsHeaderOf header (header_of bytes)
+  pub ends_are : AreEnds ends (header_of bytes)
+
+-- so many tokens stand in one section, and their features in another
+pub record HoldTokens (tokens features : List ℕ) (count : ℕ) : Type 0 where
+  pub room : 16 * count ≤ length tokens
+  pub each : (i : ℕ) → i < count → HasFeature features (stored_token tokens i)

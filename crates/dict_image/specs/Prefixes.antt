@@ -1,0 +1,23 @@
+-- The surfaces of a lexicon that begin a text.
+use Rattle.std.specs.Prelude.{ℕ, nat_lt, Bool, List, length, map, filter, take}
+use Rattle.mj_model.specs.ImageMeaning.{LexiconSections, entries_under, tokens_in}
+use Rattle.mj_model.specs.KnownWords.{up_to}
+use Rattle.mj_model.specs.Tables.{Token, Lexeme}
+
+-- the first n bytes of a text are a surface
+abbrev pub has_entries : ℕ × List Token → Bool
+has_entries prefix = nat_lt 0 (length prefix.1)
+
+-- the surfaces that begin a text, the shortest first: their lengths in bytes, and their entries
+abbrev pub prefixes_in : List ℕ → List Lexeme → List (ℕ × List Token)
+prefixes_in text lexicon = filter has_entries (map (λ n. (n, entries_under (take n text) lexicon)) (up_to (length text)))
+
+-- a hit in the cells: its length in bytes, and the tokens of the group that is its value
+abbrev pub prefix_in : LexiconSections → ℕ × ℕ → ℕ × List Token
+prefix_in s hit = (hit.0, tokens_in s.tokens s.features s.groups hit.1)
+
+-- what contracts see of the iterator over them: those that are left, the text, and the cells read so far
+pub record PrefixesSeen : Type 0 where
+  pub prefixes : List (ℕ × List Token)
+  pub text : List ℕ
+  pub reads : ℕ

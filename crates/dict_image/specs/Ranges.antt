@@ -1,0 +1,27 @@
+-- Ranges of code points in their order.
+use Rattle.std.specs.Prelude.{◌≡◌, ℕ, suc, ◌/◌, ◌<◌, ◌≤◌, List, length}
+use Rattle.mj_model.specs.declared.category.CharInfo.{CharInfo}
+use Rattle.mj_model.specs.ImageSections.{range_at}
+
+-- how many ranges there are
+abbrev pub range_count : List ℕ → ℕ
+range_count ranges = length ranges / 8
+
+-- the first range begins at code point 0, each further one behind the one before it, and the first category of each is of a byte
+pub record AreInOrder (ranges : List ℕ) : Type 0 where
+  pub some : 1 ≤ range_count ranges
+  pub from_zero : (range_at ranges 0).first ≡ 0
+  pub rising : (i : ℕ) → suc i < range_count ranges → (range_at ranges i).first < (range_at ranges (suc i)).first
+  pub short : (i : ℕ) → i < range_count ranges → (range_at ranges i).info.head < 256
+
+-- the last range that begins at or before a code point
+pub record IsLastUpTo (ranges : List ℕ) (code i : ℕ) : Type 0 where
+  pub within : i < range_count ranges
+  pub begun : (range_at ranges i).first ≤ code
+  pub next : suc i < range_count ranges → code < (range_at ranges (suc i)).first
+
+-- the categories of one of the ranges
+pub record IsOfRange (ranges : List ℕ) (info : CharInfo) : Type 0 where
+  pub number : ℕ
+  pub within : number < range_count ranges
+  pub same : info ≡ (range_at ranges number).info

@@ -1,0 +1,50 @@
+//! The section of categories.
+ghost use Rattle.std.specs.Prelude.{◌≡◌, ◌+◌, length, IsUtf8};
+ghost use Rattle.mj_model.specs.ImageSections.{first_category};
+ghost use Rattle.dict_image.specs.Categories.{HasFirst, HasFront, behind_first, bytes_from};
+
+use crate::entry_ref::text;
+use mj_model::Category;
+
+/// The bytes of a section from category `i` on.
+pub(crate) fn from_category(categories: &[u8], i: usize) -> &[u8]
+    requires { HasFront i categories.now }
+    ensures { result.now ≡ bytes_from i categories.now }
+{
+    let mut rest = categories;
+    for _ in 0..i {
+        rest = behind_category(rest);
+    }
+    rest
+}
+
+/// The first category.
+pub(crate) fn category_of(categories: &[u8]) -> Category
+    requires { HasFirst categories.now }
+    ensures { result ≡ (first_category categories.now).category }
+{
+    Category {
+        invoke: categories[0] == 1,
+        group: categories[1] == 1,
+        length: categories[2],
+    }
+}
+
+/// The name of the first category.
+pub(crate) fn name_of(categories: &[u8]) -> &str
+    requires first { HasFirst categories.now }
+    requires text { IsUtf8 (first_category categories.now).name }
+    ensures { result.now ≡ (first_category categories.now).name }
+{
+    let length = categories[3] as usize;
+    text(&categories[4..4 + length])
+}
+
+/// The bytes behind the first category.
+fn behind_category(categories: &[u8]) -> &[u8]
+    requires { HasFirst categories.now }
+    ensures { result.now ≡ behind_first categories.now }
+{
+    let name = categories[3] as usize;
+    &categories[4 + name..]
+}

@@ -1,0 +1,146 @@
+//! A dictionary: the bytes of a well-formed image.
+ghost use Rattle.std.specs.Prelude.{◌≡◌, ℕ, ◌<◌, ◌≤◌, List};
+ghost use Rattle.mj_model.specs.CellMap.{prefixes_of, value_of};
+ghost use Rattle.mj_model.specs.ImageBytes.{all_tokens, header_of, section as section_of};
+ghost use Rattle.mj_model.specs.ImageFaults.{IsWellFormed};
+ghost use Rattle.mj_model.specs.ImageMeaning.{image_tables, image_token, tokens_in};
+ghost use Rattle.mj_model.specs.ImageSections.{stored_cells};
+ghost use Rattle.mj_model.specs.Overlays.{is_user};
+ghost use Rattle.image_bytes.specs.Headers.{IsHeaderOf};
+ghost use Rattle.dict_image.specs.Held.{IsImage};
+ghost use Rattle.dict_image.specs.Seen.{token_seen};
+
+use crate::entries::Entries;
+use crate::entry_ref::{EntryRef, token_at};
+use double_array::{CellRead, Prefixes as Hits, get, prefixes};
+use image_bytes::{Header, ImageCells, read_header, section, section_ends};
+use std::marker::Model;
+
+/// A dictionary, as the bytes of its image, which are read where they lie.
+#[derive(Drop)]
+pub struct Dict {
+    bytes: Vec<u8>,
+    header: Header,
+    /// Where the header and sections 1 to 8 end.
+    ends: [usize; 9],
+}
+
+impl Model for Dict {
+    ghost use Rattle.std.specs.Prelude.{ℕ, List};
+    ghost use Rattle.dict_image.specs.Held.{IsDict};
+
+    ghost Value = { List ℕ };
+
+    ghost view = { λ d. d.bytes.items };
+
+    ghost invariant = { λ d. IsDict d.bytes.items d.header d.ends };
+}
+
+impl Dict {
+    /// The dictionary of a well-formed image. It takes no memory.
+    pub(crate) fn over(bytes: Vec<u8>) -> Dict
+        requires { IsWellFormed bytes.items }
+        ensures { result ≡ bytes.items }
+    {
+        let header = read_header(&bytes);
+        let Some(ends) = section_ends(&header) else {
+            unreachable!()
+        };
+        Dict {
+            bytes,
+            header,
+            ends,
+        }
+    }
+
+    /// Whether it is a user dictionary, which has a lexicon alone.
+    pub fn is_user(&self) -> bool
+        ensures kind { result ≡ is_user (image_tables self.now).kind }
+        ensures formed { IsWellFormed self.now }
+    {
+        self.header().kind == 1
+    }
+
+    /// How many right ids of the word before there are, and how many left ids of the word behind it.
+    pub fn matrix_sizes(&self) -> (u32, u32)
+        ensures right { result.0 ≡ (image_tables self.now).sizes.right }
+        ensures left { result.1 ≡ (image_tables self.now).sizes.left }
+    {
+        let header = self.header();
+        (header.right, header.left)
+    }
+
+    /// The entry of a number.
+    pub fn token(&self, i: u32) -> EntryRef<'_>
+        requires { i < all_tokens (header_of self.now) }
+        ensures { token_seen result ≡ image_token self.now i }
+    {
+        token_at(self.section(7), self.section(8), i)
+    }
+
+    /// The numbers of the header.
+    pub(crate) fn header(&self) -> &Header
+        ensures numbers { IsHeaderOf result.now (header_of self.now) }
+        ensures formed { IsImage self.now }
+    {
+        &self.header
+    }
+
+    /// The bytes of section `k`, from 1 to 8.
+    pub(crate) fn section(&self, k: usize) -> &[u8]
+        requires from_one { 1 ≤ k }
+        requires to_eight { k ≤ 8 }
+        ensures section { result.now ≡ section_of self.now k }
+        ensures formed { IsImage self.now }
+    {
+        section(&self.bytes, &self.ends, k)
+    }
+
+    /// The group of a key.
+    pub(crate) fn group_of(&self, key: &[u8]) -> Option<u32>
+        ensures group { result ≡ value_of (stored_cells (section_of self.now 5)) key.now }
+        ensures formed { IsImage self.now }
+    {
+        let _ = &self.bytes;
+        get(self, key)
+    }
+
+    /// The keys that begin a text, with their groups.
+    pub(crate) fn hits<'a>(&'a self, text: &'a [u8]) -> Hits<'a, Dict>
+        ensures hits { result.hits ≡ prefixes_of (stored_cells (section_of self.now 5)) text.now }
+        ensures text { result.text ≡ text.now }
+        ensures formed { IsImage self.now }
+    {
+        let _ = &self.bytes;
+        prefixes(self, text)
+    }
+
+    /// The entries of a group.
+    pub(crate) fn group(&self, i: u32) -> Entries<'_>
+        requires { i < (header_of self.now).groups }
+        ensures { result ≡ tokens_in (section_of self.now 7) (section_of self.now 8) (section_of self.now 6) i }
+    {
+        Entries::listed(
+            self.section(6),
+            self.section(7),
+            self.section(8),
+            i as usize,
+        )
+    }
+}
+
+/// The cells of the keys, which give each surface its group.
+impl CellRead for Dict {
+    ghost cells = { λ bytes. stored_cells (section_of bytes 5) };
+
+    fn len(&self) -> usize {
+        self.section(5).len() / 8
+    }
+
+    fn cell(&self, i: usize) -> (i32, i32) {
+        ImageCells {
+            bytes: self.section(5),
+        }
+        .cell(i)
+    }
+}

@@ -1,0 +1,22 @@
+//! Laws of the tables of every dictionary.
+ghost use Rattle.mj_model.specs.ImageMeaning.{image_tables};
+ghost use Rattle.dict_image.specs.Fitting.{AreBytes, AreFitting};
+
+use crate::dict::Dict;
+
+impl Dict {
+    /// The tables are as a search asks for them.
+    pub fn tables_fit(&self)
+        ensures { AreFitting (image_tables self.now) }
+    {
+        are_bytes(self.section(1));
+        are_bytes(self.section(7));
+    }
+}
+
+/// A byte is below 256.
+fn are_bytes(bytes: &[u8])
+    ensures { AreBytes bytes.now }
+{
+    let _ = bytes;
+}

@@ -1,0 +1,23 @@
+//! The compiled dictionary: an image's bytes, read where they lie.
+#![tactic(auto)]
+
+mod categories;
+mod costs;
+mod dict;
+mod entries;
+mod entry_ref;
+mod hits;
+mod laws;
+mod loading;
+mod lookup;
+mod ranges;
+mod system;
+
+pub use dict::Dict;
+pub use entries::Entries;
+pub use entry_ref::EntryRef;
+pub use hits::Prefixes;
+pub use loading::load;
+
+#[cfg(test)]
+mod tests;

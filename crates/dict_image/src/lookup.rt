@@ -1,0 +1,28 @@
+//! Lookup in the lexicon.
+ghost use Rattle.std.specs.Prelude.{◌≡◌};
+ghost use Rattle.mj_model.specs.ImageMeaning.{entries_under, image_tables};
+ghost use Rattle.dict_image.specs.Prefixes.{prefixes_in};
+
+use crate::dict::Dict;
+use crate::entries::Entries;
+use crate::hits::Prefixes;
+
+impl Dict {
+    /// The entries of a surface, in the order of their lines.
+    pub fn entries(&self, key: &str) -> Entries<'_>
+        ensures { result ≡ entries_under key.now (image_tables self.now).lexicon }
+    {
+        match self.group_of(key.as_bytes()) {
+            Some(group) => self.group(group),
+            None => Entries::none(),
+        }
+    }
+
+    /// The surfaces that begin a text, the shortest first: their lengths in bytes, and their entries.
+    pub fn prefixes<'a>(&'a self, text: &'a str) -> Prefixes<'a>
+        ensures prefixes { result.prefixes ≡ prefixes_in text.now (image_tables self.now).lexicon }
+        ensures text { result.text ≡ text.now }
+    {
+        Prefixes::new(self, text.as_bytes())
+    }
+}

@@ -1,0 +1,67 @@
+//! What a system dictionary says besides its lexicon.
+ghost use Rattle.std.specs.Prelude.{◌≡◌, ◌<◌, Some, length, slice_get, IsTrue};
+ghost use Rattle.mj_model.specs.Connection.{is_pair};
+ghost use Rattle.mj_model.specs.ImageMeaning.{image_tables};
+ghost use Rattle.mj_model.specs.Tables.{System};
+ghost use Rattle.dict_image.specs.Categories.{category_names};
+
+use crate::categories::{category_of, from_category, name_of};
+use crate::costs::cost_at;
+use crate::dict::Dict;
+use crate::entries::Entries;
+use crate::ranges::info_at;
+use mj_model::{Category, CharInfo};
+
+impl Dict {
+    /// What it costs to set a word of left id `next_left` behind one of right id `prev_right`. Smaller is preferred, and
+    /// BOS and EOS have id 0. (MeCab, `matrix.def`)
+    pub fn cost(&self, prev_right: u16, next_left: u16) -> i16
+        requires system { (image_tables self.now).kind ≡ System }
+        requires pair { IsTrue (is_pair (image_tables self.now).sizes prev_right next_left) }
+        ensures { result ≡ (image_tables self.now).connection prev_right next_left }
+    {
+        let (right, left) = self.matrix_sizes();
+        cost_at(self.section(1), right, left, prev_right, next_left)
+    }
+
+    /// The categories of a character, in the time of a binary search.
+    pub fn info(&self, c: char) -> CharInfo
+        requires { (image_tables self.now).kind ≡ System }
+        ensures info { result ≡ (image_tables self.now).info c }
+        ensures first { result.head < length (image_tables self.now).categories }
+    {
+        info_at(self.section(3), c as u32)
+    }
+
+    /// How many categories there are.
+    pub fn category_count(&self) -> usize
+        ensures { result ≡ length (image_tables self.now).categories }
+    {
+        self.header().categories as usize
+    }
+
+    /// Category `i`.
+    pub fn category(&self, i: usize) -> Category
+        requires { i < length (image_tables self.now).categories }
+        ensures { slice_get (image_tables self.now).categories i ≡ Some result }
+    {
+        category_of(from_category(self.section(2), i))
+    }
+
+    /// The name of category `i`.
+    pub fn category_name(&self, i: usize) -> &str
+        requires { i < length (image_tables self.now).categories }
+        ensures { slice_get (category_names self.now) i ≡ Some result.now }
+    {
+        name_of(from_category(self.section(2), i))
+    }
+
+    /// The unknown entries of category `i`. There is at least one.
+    pub fn unknown(&self, i: usize) -> Entries<'_>
+        requires { i < length (image_tables self.now).categories }
+        ensures unknown { result ≡ (image_tables self.now).unknown i }
+        ensures some { 0 < length result }
+    {
+        Entries::listed(self.section(4), self.section(7), self.section(8), i)
+    }
+}
