@@ -1,0 +1,10 @@
+pub mod Results
+pub mod TokenLemmas
+pub mod FeatureLemmas
+pub mod WriterLemmas
+pub mod GroupLemmas
+pub mod GroupingLemmas
+pub mod CellLemmas
+pub mod KeyLemmas
+pub mod LexiconLemmas
+pub mod SampleLemmas

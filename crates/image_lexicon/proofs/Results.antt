@@ -1,0 +1,13 @@
+-- Clauses on a `Result`, taken together.
+use Rattle.std.proofs.Common.{◌≡◌, Result, Ok, Err, sym, subst}
+use Rattle.std.specs.Prelude.{IfOk, OnOk, OnErr}
+
+-- what holds in either case
+pub in_both : {T E G P Q : Type 0} (r : Result T E) → OnOk r P → OnErr r Q → (P → G) → (Q → G) → G
+in_both (Ok x) p q f g = f p
+in_both (Err e) p q f g = g q
+
+-- an answer of a known value
+pub ok_known : {T E A : Type 0} (r : Result T E) (x : T) (P : T → Type 0) → IfOk r (λ y. y ≡ x) → OnOk r A → (A → P x) → IfOk r P
+ok_known (Ok y) x P is a f = subst P (sym is) (f a)
+ok_known (Err e) x P is a f = tt
