@@ -1,0 +1,5 @@
+pub mod CostLemmas
+pub mod IndexLemmas
+pub mod CategoryLemmas
+pub mod RangeLemmas
+pub mod CoverLemmas

@@ -1,0 +1,4 @@
+pub mod StoredTables
+pub mod Ranges
+pub mod FirstNumbers
+pub mod Covering

@@ -1,0 +1,12 @@
+-- The bytes of a range.
+use Rattle.std.specs.Prelude.{ℕ, ◌+◌, ◌*◌, ◌^◌, List, ◌++◌}
+use Rattle.byteorder.specs.Endian.{little_bytes}
+use Rattle.mj_model.specs.declared.category.CharInfo.{CharInfo}
+
+-- the set of the categories, and above its 18 bits the first one
+abbrev pub entry_of : CharInfo → ℕ
+entry_of info = info.bits + 2 ^ 18 * info.head
+
+-- the first code point, and the entry
+abbrev pub range_bytes : ℕ → CharInfo → List ℕ
+range_bytes first info = little_bytes 4 first ++ little_bytes 4 (entry_of info)
