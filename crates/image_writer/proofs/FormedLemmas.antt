@@ -1,0 +1,78 @@
+-- An image that was put together of well-formed sections is well formed.
+use Rattle.std.proofs.Common.{◌≡◌, ℕ, suc, ◌*◌, ◌≤◌, List, [], ◌∷◌, length, sym, subst, arith}
+use Rattle.std.specs.Prelude.{slice_index_or}
+use Rattle.mj_model.specs.declared.image_fault.ImageFault.TheVariants.{BadSection, BadKey, BadToken, BadText}
+use Rattle.mj_model.specs.ImageBytes.{Header, header_length, header_of, image_magic, kind_of, all_tokens, section, section_end, total_length}
+use Rattle.mj_model.specs.ImageFaults.{Test, unless, unless_each, HasKey, IsHeader, IsWellFormed, PassAll, SystemAlone}
+use Rattle.mj_model.specs.ImageSections.{AreCategories, AreCosts, AreRanges, FitsSizes, HasFeature, HoldGroups, IsIndex, stored_cells, stored_token}
+use Rattle.image_frame.specs.Frames.{IsFramed, Numbers}
+
+-- section k of some
+abbrev pub at : List (List ℕ) → ℕ → List ℕ
+at sections k = slice_index_or sections k []
+
+-- the numbers of a header and its sections, as they are tested
+abbrev pub part_tests : Header → List (List ℕ) → List Test
+part_tests h s =
+    unless (IsHeader h) (BadSection 0)
+    ∷ unless (SystemAlone (kind_of h) (AreCosts h.sizes) (at s 0)) (BadSection 1)
+    ∷ unless (SystemAlone (kind_of h) (AreCategories h.categories) (at s 1)) (BadSection 2)
+    ∷ unless (SystemAlone (kind_of h) (AreRanges h.categories) (at s 2)) (BadSection 3)
+    ∷ unless (SystemAlone (kind_of h) (IsIndex h.categories h.tokens (all_tokens h)) (at s 3)) (BadSection 4)
+    ∷ unless (HoldGroups h.groups (at s 4)) (BadSection 5)
+    ∷ unless_each h.groups (HasKey (stored_cells (at s 4))) BadKey
+    ∷ unless (IsIndex h.groups 0 h.tokens (at s 5)) (BadSection 6)
+    ∷ unless (length (at s 6) ≡ 16 * all_tokens h) (BadSection 7)
+    ∷ unless_each (all_tokens h) (λ i. FitsSizes h.sizes (stored_token (at s 6) i)) BadToken
+    ∷ unless_each (all_tokens h) (λ i. HasFeature (at s 7) (stored_token (at s 6) i)) BadText
+    ∷ []
+
+-- the header of an image with these numbers
+abbrev pub header_with : Numbers → List ℕ → Header
+header_with n lengths = record {
+  magic = image_magic;
+  layout = 3;
+  kind = n.kind;
+  sizes = n.sizes;
+  categories = n.categories;
+  groups = n.groups;
+  tokens = n.tokens;
+  unknown = n.unknown;
+  lengths = lengths;
+}
+
+abbrev pub eight_of : (ℕ → List ℕ) → List (List ℕ)
+eight_of s = s 0 ∷ s 1 ∷ s 2 ∷ s 3 ∷ s 4 ∷ s 5 ∷ s 6 ∷ s 7 ∷ []
+
+module _ (n : Numbers) (s : List (List ℕ)) (image : List ℕ) (framed : IsFramed n s image) where
+  pub header_is : header_of image ≡ header_with n (header_of image).lengths
+  header_is = λ i. record {
+    magic = framed.magic i;
+    layout = framed.layout i;
+    kind = framed.kind i;
+    sizes = framed.sizes i;
+    categories = framed.categories i;
+    groups = framed.groups i;
+    tokens = framed.tokens i;
+    unknown = framed.unknown i;
+    lengths = (header_of image).lengths;
+  }
+
+  pub sections_are : eight_of (λ k. section image (suc k)) ≡ eight_of (at s)
+  sections_are = λ i.
+      framed.sections_are 0 (omega (arith)) i ∷ framed.sections_are 1 (omega (arith)) i ∷ framed.sections_are 2 (omega (arith)) i
+      ∷ framed.sections_are 3 (omega (arith)) i ∷ framed.sections_are 4 (omega (arith)) i ∷ framed.sections_are 5 (omega (arith)) i
+      ∷ framed.sections_are 6 (omega (arith)) i ∷ framed.sections_are 7 (omega (arith)) i ∷ []
+
+  -- the numbers and the sections of an image are these
+  pub from_parts : (P : Header → List (List ℕ) → Type 0) → P (header_with n (header_of image).lengths) (eight_of (at s)) → P (header_of image) (eight_of (λ k. section image (suc k)))
+  from_parts P p =
+      subst (λ (h : Header). P h (eight_of (λ k. section image (suc k)))) (sym header_is)
+      (subst (λ (ss : List (List ℕ)). P (header_with n (header_of image).lengths) ss) (sym sections_are) p)
+
+  pub formed_of : PassAll (part_tests (header_with n (header_of image).lengths) (eight_of (at s))) → IsWellFormed image
+  formed_of pass =
+      let whole : length image ≡ total_length (header_of image) = framed.whole in
+      let long : header_length ≤ section_end (header_of image) 8 = omega (arith) in
+      let rest = from_parts (λ h ss. PassAll (part_tests h ss)) pass in
+      (omega (arith, whole, long), (framed.magic, (framed.layout, (omega (arith, whole), (omega (arith, whole), (framed.digest, rest))))))

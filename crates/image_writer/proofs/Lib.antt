@@ -1,0 +1,4 @@
+pub mod RowLemmas
+pub mod FormedLemmas
+pub mod SystemLemmas
+pub mod WholeLemmas

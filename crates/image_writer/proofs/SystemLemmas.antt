@@ -1,0 +1,78 @@
+-- The image of a system dictionary, from its parts.
+use Rattle.std.proofs.Common.{◌≡◌, ℕ, zero, suc, ◌+◌, ◌-◌, ◌<◌, ◌≤◌, Bool, true, false, List, [], ◌∷◌, length, take, refl, sym, ap, ◌∙◌, arith}
+use Rattle.std.specs.Prelude.{pos, if◌then◌else◌, map, nat_lt, slice_get, slice_index_or, sum_by, Some}
+use Rattle.std.specs.List.{range_with_len}
+use Rattle.std.proofs.lemmas.Bool.{and_parts, ltb-true, ltb-false}
+use Rattle.std.proofs.lemmas.List.{length-append}
+use Rattle.std.proofs.lemmas.List.Sums.{sum_by-cons}
+use Rattle.std.proofs.lemmas.Option.{slice_get_within}
+use Rattle.mj_model.specs.Connection.{is_pair}
+use Rattle.mj_model.specs.ImageMeaning.{tokens_in}
+use Rattle.mj_model.specs.ImageSections.{index_at, stored_cost, token_from}
+use Rattle.mj_model.specs.Lexicon.{Row}
+use Rattle.mj_model.specs.UnkDef.{unknown_tokens}
+use Rattle.matrix_def.specs.Costs.{CostTable, matrix_cost}
+use Rattle.image_tables.specs.StoredTables.{AreCostsOf, AreUnknownOf, sizes_of}
+use Rattle.image_lexicon.specs.Entries.{all_rows}
+use Rattle.image_lexicon.specs.Sections.{HoldTokens}
+use Rattle.image_writer.proofs.RowLemmas.{get_behind, get_joined, joined, joined_length, tokens_at, tokens_of_rows}
+
+-- what a row is at a place within all rows
+pub some_row : (rows : List Row) (i : ℕ) → i < length rows → (row : Row) × (slice_get rows i ≡ Some row)
+some_row [] i less = absurd (omega (arith, less))
+some_row (row ∷ rows) zero less = (row, refl)
+some_row (row ∷ rows) (suc i) less = some_row rows i (omega (arith, less))
+
+pub count_all : (rows : List Row) (unknown : List (List Row)) → length (all_rows rows unknown) ≡ length rows + sum_by length unknown
+count_all rows unknown = length-append rows (joined unknown) ∙ ap (λ n. length rows + n) (joined_length unknown)
+
+-- ---- the tables
+
+-- connection costs as functions
+pub same_cost : (m : CostTable) (costs : List ℕ) → AreCostsOf m costs → (right left : ℕ) (b : Bool) → is_pair (sizes_of m) right left ≡ b
+    → (if b then stored_cost (sizes_of m) costs right left else pos 0) ≡ (if b then matrix_cost m right left else pos 0)
+same_cost m costs are right left true is =
+    let parts = and_parts (nat_lt right m.right_size) (nat_lt left m.left_size) is in
+    are.costs right left (record { right_below = ltb-true right m.right_size parts.0; left_below = ltb-true left m.left_size parts.1 })
+same_cost m costs are right left false is = refl
+
+-- the rows of a category behind those of lower ones
+rows_there : (unknown : List (List Row)) (i : ℕ) → i < length unknown → sum_by length (take (suc i) unknown) ≡ sum_by length (take i unknown) + length (slice_index_or unknown i [])
+rows_there [] i less = absurd (omega (arith, less))
+rows_there (rows ∷ unknown) zero less = omega (arith)
+rows_there (rows ∷ unknown) (suc i) less =
+    let rest = rows_there unknown i (omega (arith, less)) in
+    let more : sum_by length (take (suc (suc i)) (rows ∷ unknown)) ≡ length rows + sum_by length (take (suc i) unknown) = sum_by-cons length rows (take (suc i) unknown) in
+    let fewer : sum_by length (take (suc i) (rows ∷ unknown)) ≡ length rows + sum_by length (take i unknown) = sum_by-cons length rows (take i unknown) in
+    omega (arith, rest, more, fewer)
+
+-- the unknown entries of a category
+unknown_at : (rows : List Row) (unknown : List (List Row)) (index tokens features : List ℕ) → AreUnknownOf (length rows) unknown index → HoldTokens (all_rows rows unknown) tokens features
+    → (i : ℕ) → i < length unknown → tokens_in tokens features index i ≡ unknown_tokens (length rows) unknown i
+unknown_at rows unknown index tokens features are hold i less =
+    let first = length rows + sum_by length (take i unknown) in
+    let here = slice_index_or unknown i [] in
+    let a : index_at index i ≡ first = are.each i (omega (arith, less)) in
+    let b = are.each (suc i) less in
+    let r = rows_there unknown i less in
+    let count : index_at index (suc i) - index_at index i ≡ length here = omega (arith, a, b, r) in
+    ap (λ n. map (token_from tokens features) (range_with_len (index_at index i) n)) count
+    ∙ ap (λ n. map (token_from tokens features) (range_with_len n (length here))) a
+    ∙ tokens_of_rows (token_from tokens features) here first (λ k row is.
+    let within = slice_get_within here k row is in
+    let place : first + k ≡ length rows + (sum_by length (take i unknown) + k) = omega (arith) in
+    let there : slice_get (all_rows rows unknown) (first + k) ≡ Some row =
+    ap (slice_get (all_rows rows unknown)) place ∙ get_behind rows (joined unknown) (sum_by length (take i unknown) + k) ∙ get_joined unknown i k within ∙ is in
+    (hold.each (first + k) row there).token)
+    ∙ sym (tokens_at (length rows) unknown i)
+
+-- past the categories there are none
+no_unknown : (first : ℕ) (unknown : List (List Row)) (i : ℕ) → length unknown ≤ i → [] ≡ unknown_tokens first unknown i
+no_unknown first [] i past = refl
+no_unknown first (rows ∷ unknown) zero past = absurd (omega (arith, past))
+no_unknown first (rows ∷ unknown) (suc i) past = no_unknown (first + length rows) unknown i (omega (arith, past))
+
+pub same_unknown : (rows : List Row) (unknown : List (List Row)) (index tokens features : List ℕ) → AreUnknownOf (length rows) unknown index → HoldTokens (all_rows rows unknown) tokens features
+    → (i : ℕ) (b : Bool) → nat_lt i (length unknown) ≡ b → (if b then tokens_in tokens features index i else []) ≡ unknown_tokens (length rows) unknown i
+same_unknown rows unknown index tokens features are hold i true is = unknown_at rows unknown index tokens features are hold i (ltb-true i (length unknown) is)
+same_unknown rows unknown index tokens features are hold i false is = no_unknown (length rows) unknown i (ltb-false i (length unknown) is)

@@ -1,0 +1,45 @@
+-- The image of a system dictionary.
+use Rattle.std.specs.Prelude.{◌≡◌, ℕ, ◌<◌, pos, List, length, map, if◌then◌else◌}
+use Rattle.std.specs.List.{AllByRecursion}
+use Rattle.mj_model.specs.CharDef.{NamedCategory}
+use Rattle.mj_model.specs.Compilation.{feature_bytes, feature_bytes_end}
+use Rattle.mj_model.specs.Connection.{Sizes, is_pair}
+use Rattle.mj_model.specs.ImageBytes.{header_of}
+use Rattle.mj_model.specs.ImageFaults.{IsWellFormed}
+use Rattle.mj_model.specs.ImageMeaning.{image_categories, image_tables}
+use Rattle.mj_model.specs.Lexicon.{Row}
+use Rattle.mj_model.specs.SourceTables.{SayTheSame}
+use Rattle.mj_model.specs.Tables.{Tables, System}
+use Rattle.mj_model.specs.UnkDef.{unknown_tokens}
+use Rattle.matrix_def.specs.Costs.{CostTable, matrix_cost}
+use Rattle.char_def.specs.Categories.{CharCategories, table_info}
+use Rattle.image_tables.specs.StoredTables.{sizes_of}
+use Rattle.image_lexicon.specs.Entries.{all_rows, lexemes_of, tokens_of}
+
+-- the ids of the rows lie within the sizes
+pub record IsWithin (sizes : Sizes) (row : Row) : Type 0 where
+  pub right_below : row.right < sizes.right
+  pub left_below : row.left < sizes.left
+
+abbrev pub AreWithin : Sizes → List Row → Type 0
+AreWithin sizes rows = AllByRecursion (IsWithin sizes) rows
+
+-- the tables of a system dictionary, part by part
+abbrev pub tables_with : CostTable → CharCategories → List (List Row) → List Row → Tables
+tables_with matrix chars unknown rows = record {
+  kind = System;
+  sizes = sizes_of matrix;
+  connection = λ right left. if is_pair (sizes_of matrix) right left then matrix_cost matrix right left else pos 0;
+  categories = map (λ (named : NamedCategory). named.category) chars.categories;
+  info = table_info chars;
+  unknown = unknown_tokens (length rows) unknown;
+  lexicon = lexemes_of rows;
+}
+
+-- a well-formed image of layout 3 whose tables are these
+pub record IsSystemImage (matrix : CostTable) (chars : CharCategories) (unknown : List (List Row)) (rows : List Row) (image : List ℕ) : Type 0 where
+  pub well_formed : IsWellFormed image
+  pub layout : (header_of image).layout ≡ 3
+  pub tables : SayTheSame (image_tables image) (tables_with matrix chars unknown rows)
+  pub categories : image_categories image ≡ chars.categories
+  pub few_features : feature_bytes (tokens_of (all_rows rows unknown)) < feature_bytes_end
