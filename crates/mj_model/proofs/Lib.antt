@@ -10,6 +10,7 @@ pub mod TextPaths
 pub mod ReadingLemmas
 pub mod CoveredTexts
 pub mod AcceptedRows
+pub mod ImageFaultLaws
 pub mod CellWalks
 pub mod CellMoveLaw
 pub mod SameTables

@@ -39,6 +39,7 @@ source_words Memory = record { code = codes "Memory"; name = codes "Memory" }
 
 abbrev pub run_words : RunFault → Words
 run_words (run.Source fault) = source_words fault.kind
+run_words (run.UserSource user fault) = source_words fault.kind
 run_words (run.Read line) = record { code = codes "G1"; name = codes "Read" }
 run_words (run.Write sent) = record { code = codes "G2"; name = codes "Write" }
 run_words (run.NotUtf8 line) = record { code = codes "G3"; name = codes "NotUtf8" }

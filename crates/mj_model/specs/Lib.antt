@@ -43,3 +43,4 @@ pub mod ImageFaults
 pub mod ImageMeaning
 pub mod Overlays
 pub mod Compilation
+pub mod SourceOverlays

@@ -11,6 +11,9 @@ pub enum RunFault {
     /// The sources are refused, and nothing was read.
     #[error("{0}")]
     Source(SourceFault),
+    /// The lexicons of this user dictionary, counted from 0, are refused, and nothing was read.
+    #[error("{1}")]
+    UserSource(usize, SourceFault),
     /// A read failed; the number is that of the lines read whole and one.
     #[error("line {0}: G1 Read")]
     Read(u64),
@@ -53,7 +56,9 @@ impl RunFault {
         ensures name { result.1.now ≡ (run_words self).name }
     {
         match self {
-            RunFault::Source(fault) => (fault.code(), fault.name()),
+            RunFault::Source(fault) | RunFault::UserSource(_, fault) => {
+                (fault.code(), fault.name())
+            }
             RunFault::Read(_) => ("G1", "Read"),
             RunFault::Write(_) => ("G2", "Write"),
             RunFault::NotUtf8(_) => ("G3", "NotUtf8"),

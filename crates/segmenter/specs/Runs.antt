@@ -64,6 +64,7 @@ IsBad Judges Prints lines written number fault = Output Judges Prints 1 lines wr
 abbrev pub EndsSo : (List ℕ → Option LineFault → Type 0) → (List ℕ → List ℕ → Type 0) → ℕ → List ℕ → List ℕ → Told → Told → Result ℕ RunFault → Type 0
 EndsSo Judges Prints bound bytes written before after (Ok lines) = IsDone Judges Prints bytes written before after lines
 EndsSo Judges Prints bound bytes written before after (Err (run.Source fault)) = ⊥
+EndsSo Judges Prints bound bytes written before after (Err (run.UserSource i fault)) = ⊥
 EndsSo Judges Prints bound bytes written before after (Err (run.Read line)) =
     StoppedBehind Judges Prints bytes written line × (after.read_failures ≡ before.read_failures + 1)
 EndsSo Judges Prints bound bytes written before after (Err (run.Write sent)) =
@@ -85,10 +86,11 @@ pub record Ran (Judges : List ℕ → Option LineFault → Type 0) (Prints : Lis
   pub ends : EndsSo Judges Prints bound bytes written before after result
   pub to_the_end : OnOk result (IsAtEnd left_after)
 
--- a run ended before its first read: the sources are at fault, or memory was refused
+-- a run ended before its first read: the sources or a user's lexicons are at fault, or memory was refused
 abbrev pub IsEarly : Result ℕ RunFault → Type 0
 IsEarly (Ok lines) = ⊥
 IsEarly (Err (run.Source fault)) = Unit {0}
+IsEarly (Err (run.UserSource i fault)) = Unit {0}
 IsEarly (Err (run.Read line)) = ⊥
 IsEarly (Err (run.Write sent)) = ⊥
 IsEarly (Err (run.NotUtf8 line)) = ⊥
