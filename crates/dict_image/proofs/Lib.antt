@@ -7,3 +7,4 @@ pub mod CategoryLemmas
 pub mod ProgressLemmas
 pub mod FittingLemmas
 pub mod NumberLemmas
+pub mod NumberedTokens

@@ -15,7 +15,7 @@ use Rattle.dict_image.proofs.LexiconLemmas.{AreKeys}
 
 -- ---- numbers that follow one another
 
-range_joined : (a m n : ℕ) → range_with_len a (m + n) ≡ range_with_len a m ++ range_with_len (a + m) n
+pub range_joined : (a m n : ℕ) → range_with_len a (m + n) ≡ range_with_len a m ++ range_with_len (a + m) n
 range_joined a zero n = let e : a ≡ a + 0 = omega arith in let f : 0 + n ≡ n = omega arith in ap (range_with_len a) f ∙ ap (λ (b : ℕ). range_with_len b n) e
 range_joined a (suc m) n =
     let e : a + 1 + m ≡ a + suc m = omega arith in
@@ -45,7 +45,7 @@ numbers_are : (tokens features : List ℕ) (a n : ℕ) → map number_of (map (t
 numbers_are tokens features a zero = refl
 numbers_are tokens features a (suc n) = ap (λ (xs : List ℕ). a ∷ xs) (numbers_are tokens features (a + 1) n)
 
-tokens_named : (surface : List ℕ) (ts : List Token) → map token_of (map (entry_under surface) ts) ≡ ts
+pub tokens_named : (surface : List ℕ) (ts : List Token) → map token_of (map (entry_under surface) ts) ≡ ts
 tokens_named surface [] = refl
 tokens_named surface (t ∷ ts) = ap (λ (xs : List Token). t ∷ xs) (tokens_named surface ts)
 
@@ -54,7 +54,7 @@ pub list_apart : (tokens features index : List ℕ) (i : ℕ) → HasApartTokens
 list_apart tokens features index i =
     subst AreApart (sym (numbers_are tokens features (index_at index i) (index_at index (suc i) - index_at index i))) (range_apart (index_at index i) (index_at index (suc i) - index_at index i))
 
-index_falls_not : (lists low high : ℕ) (index : List ℕ) (a n : ℕ) → IsIndex lists low high index → a + n ≤ lists → index_at index a ≤ index_at index (a + n)
+pub index_falls_not : (lists low high : ℕ) (index : List ℕ) (a n : ℕ) → IsIndex lists low high index → a + n ≤ lists → index_at index a ≤ index_at index (a + n)
 index_falls_not lists low high index a zero is within =
     let e : a + 0 ≡ a = omega arith in
     let same = ap (index_at index) e in

@@ -6,3 +6,4 @@ pub mod Ranges
 pub mod Categories
 pub mod Prefixes
 pub mod Fitting
+pub mod Numbered

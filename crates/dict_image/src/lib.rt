@@ -10,6 +10,7 @@ mod hits;
 mod laws;
 mod loading;
 mod lookup;
+mod numbered;
 mod ranges;
 mod system;
 

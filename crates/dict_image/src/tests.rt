@@ -59,6 +59,17 @@ fn entries_of_keys(rt: HostRuntime) -> Result<(), Fail> {
 }
 
 #[test]
+fn entries_of_numbers(rt: HostRuntime) -> Result<(), Fail> {
+    let dict = load(rt.alloc(), one_surface(rt.alloc())?)?;
+    for (number, feature) in [(0, Some("X")), (1, None)] {
+        let known = dict.known_token(number).map(|e| e.feature);
+        assert_eq!(rt; (number, known), (number, feature));
+        assert!(rt; dict.unknown_token(number).is_none());
+    }
+    Ok(())
+}
+
+#[test]
 fn keys_that_begin_a_text(rt: HostRuntime) -> Result<(), Fail> {
     let dict = load(rt.alloc(), one_surface(rt.alloc())?)?;
     let rows = [
