@@ -1,2 +1,3 @@
 pub mod Costs
 pub mod Rows
+pub mod Connections

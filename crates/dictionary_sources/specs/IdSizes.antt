@@ -1,0 +1,6 @@
+-- How many context ids there are, as the readers are told.
+use Rattle.mj_model.specs.Connection.{Sizes}
+use Rattle.dictionary_sources.specs.declared.sizes.IdSizes.{IdSizes}
+
+abbrev pub sizes_in : IdSizes → Sizes
+sizes_in sizes = record { right = sizes.right; left = sizes.left }

@@ -1,0 +1,4 @@
+pub mod IdSizes
+pub mod AddedLexicon
+pub mod Parts
+pub mod AcceptedRows

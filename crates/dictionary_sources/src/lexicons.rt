@@ -1,0 +1,105 @@
+//! The lexicons of a source directory.
+
+ghost use Rattle.std.specs.Prelude.{◌≡◌, ℕ, ◌+◌, ◌++◌, ◌<◌, ◌≤◌, ◌^◌, List, [], length, map, take, drop, Some, None, Ok, Err, IfOk, IfErr, OnOk, OnErr, option_map};
+ghost use Rattle.mj_model.specs.Compilation.{SkipLines};
+ghost use Rattle.mj_model.specs.Connection.{is_pair};
+ghost use Rattle.mj_model.specs.Dictionary.{AreLexicons, first_outside, next_file};
+ghost use Rattle.mj_model.specs.FirstFault.{IsRefusal};
+ghost use Rattle.mj_model.specs.Lexicon.{Row, rows_of};
+ghost use Rattle.mj_model.specs.declared.source_fault.SourceKind.TheVariants.{IdOutside};
+ghost use Rattle.dictionary_sources.specs.AddedLexicon.{AddsLexicon, IsLexiconFault};
+ghost use Rattle.dictionary_sources.specs.IdSizes.{sizes_in};
+
+use crate::sizes::IdSizes;
+use lex_source::read_lexicon;
+use mj_model::{Record, SourceFault, SourceKind};
+use std::alloc::Global;
+
+/// The file number of the first lexicon.
+const FIRST_LEXICON: u32 = 3;
+
+/// The greatest file number of a lexicon; every lexicon behind it has it too.
+const LAST_LEXICON: u32 = u32::MAX - 1;
+
+/// The line of the first record whose ids lie outside the sizes.
+fn line_outside(records: &[Record], sizes: IdSizes) -> Option<u64>
+    ensures { (file : ℕ) → first_outside file (sizes_in sizes) (rows_of records.now)
+        ≡ option_map (λ line. record { file = file; line = line; kind = IdOutside }) result }
+{
+    for record in records {
+        let entry = &record.entry;
+        if u32::from(entry.right) >= sizes.right || u32::from(entry.left) >= sizes.left {
+            return Some(record.line);
+        }
+    }
+    None
+}
+
+fn file_behind(file: u32) -> u32
+    ensures { result ≡ next_file file }
+{
+    if file < LAST_LEXICON {
+        file + 1
+    } else {
+        LAST_LEXICON
+    }
+}
+
+/// The records of some lexicons in source order, and how many lines were skipped.
+#[derive(Drop)]
+pub struct LexiconRecords {
+    pub records: Vec<Record>,
+    pub skipped: u128,
+}
+
+/// Adds the lines of one lexicon, and answers how many were skipped.
+fn add_lexicon(
+    alloc: Global,
+    bytes: &[u8],
+    file: u32,
+    sizes: IdSizes,
+    records: &mut Vec<Record>,
+) -> Result<u64, SourceFault>
+    ensures accepted { IfOk result (AddsLexicon file (sizes_in sizes) bytes.now records.old.items records.new.items) }
+    ensures refused { IfErr result (λ fault. IsRefusal fault (IsLexiconFault file (sizes_in sizes) bytes.now (length records.old.items) fault)) }
+{
+    let held = records.len();
+    let skipped = read_lexicon(alloc, bytes, file, records)?;
+    match line_outside(&records[held..], sizes) {
+        Some(line) => Err(SourceFault {
+            file,
+            line,
+            kind: SourceKind::IdOutside,
+        }),
+        None => Ok(skipped),
+    }
+}
+
+fn with_more(skipped: u128, more: u64) -> u128
+    requires { skipped + 2 ^ 64 ≤ 2 ^ 128 }
+    ensures sum { result ≡ skipped + more }
+    ensures bound { result ≤ skipped + 2 ^ 64 }
+{
+    skipped + u128::from(more)
+}
+
+/// Reads the lexicons one after another, up to the first fault.
+pub fn read_lexicons(
+    alloc: Global,
+    lexicons: &[&[u8]],
+    sizes: IdSizes,
+) -> Result<LexiconRecords, SourceFault>
+    ensures accepted { IfOk result (λ read. AreLexicons (sizes_in sizes) 3 [] (map (λ lexicon. lexicon.now) lexicons.now) (Ok (rows_of read.records.items))) }
+    ensures skipped { IfOk result (λ read. SkipLines (map (λ lexicon. lexicon.now) lexicons.now) read.skipped) }
+    ensures refused { IfErr result (λ fault. IsRefusal fault (AreLexicons (sizes_in sizes) 3 [] (map (λ lexicon. lexicon.now) lexicons.now) (Err fault))) }
+{
+    let mut records = Vec::new(alloc);
+    let mut skipped = 0;
+    let mut file = FIRST_LEXICON;
+    for lexicon in lexicons {
+        let more = add_lexicon(alloc, lexicon, file, sizes, &mut records)?;
+        skipped = with_more(skipped, more);
+        file = file_behind(file);
+    }
+    Ok(LexiconRecords { records, skipped })
+}
