@@ -8,6 +8,7 @@ use Rattle.std.proofs.lemmas.List.Sums.{sum_by-cons}
 use Rattle.mj_model.specs.Lexicon.{Row}
 use Rattle.mj_model.specs.Tables.{Token}
 use Rattle.mj_model.specs.UnkDef.{token_of, tokens_from}
+use Rattle.image_lexicon.specs.Entries.{all_rows}
 
 abbrev pub joined : List (List Row) → List Row
 joined unknown = flat_map (λ (rows : List Row). rows) unknown
@@ -70,3 +71,13 @@ pub each_row : (P : Row → Type 0) (rows : List Row) (k : ℕ) (row : Row) → 
 each_row P [] k row all at = absurd (cc)
 each_row P (first ∷ rows) zero row all at = subst P (same_Some first row at) all.0
 each_row P (first ∷ rows) (suc k) row all at = each_row P rows k row all.1 at
+
+-- a row at each place below their number
+pub some_row : (rows : List Row) (i : ℕ) → i < length rows → (row : Row) × (slice_get rows i ≡ Some row)
+some_row [] i less = absurd (omega (arith, less))
+some_row (row ∷ rows) zero less = (row, refl)
+some_row (row ∷ rows) (suc i) less = some_row rows i (omega (arith, less))
+
+-- how many entries there are in all
+pub count_all : (rows : List Row) (unknown : List (List Row)) → length (all_rows rows unknown) ≡ length rows + sum_by length unknown
+count_all rows unknown = length-append rows (joined unknown) ∙ ap (λ n. length rows + n) (joined_length unknown)

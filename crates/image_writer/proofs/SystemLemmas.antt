@@ -3,7 +3,6 @@ use Rattle.std.proofs.Common.{◌≡◌, ℕ, zero, suc, ◌+◌, ◌-◌, ◌<�
 use Rattle.std.specs.Prelude.{pos, if◌then◌else◌, map, nat_lt, slice_get, slice_index_or, sum_by, Some}
 use Rattle.std.specs.List.{range_with_len}
 use Rattle.std.proofs.lemmas.Bool.{and_parts, ltb-true, ltb-false}
-use Rattle.std.proofs.lemmas.List.{length-append}
 use Rattle.std.proofs.lemmas.List.Sums.{sum_by-cons}
 use Rattle.std.proofs.lemmas.Option.{slice_get_within}
 use Rattle.mj_model.specs.Connection.{is_pair}
@@ -15,18 +14,7 @@ use Rattle.matrix_def.specs.Costs.{CostTable, matrix_cost}
 use Rattle.image_tables.specs.StoredTables.{AreCostsOf, AreUnknownOf, sizes_of}
 use Rattle.image_lexicon.specs.Entries.{all_rows}
 use Rattle.image_lexicon.specs.Sections.{HoldTokens}
-use Rattle.image_writer.proofs.RowLemmas.{get_behind, get_joined, joined, joined_length, tokens_at, tokens_of_rows}
-
--- what a row is at a place within all rows
-pub some_row : (rows : List Row) (i : ℕ) → i < length rows → (row : Row) × (slice_get rows i ≡ Some row)
-some_row [] i less = absurd (omega (arith, less))
-some_row (row ∷ rows) zero less = (row, refl)
-some_row (row ∷ rows) (suc i) less = some_row rows i (omega (arith, less))
-
-pub count_all : (rows : List Row) (unknown : List (List Row)) → length (all_rows rows unknown) ≡ length rows + sum_by length unknown
-count_all rows unknown = length-append rows (joined unknown) ∙ ap (λ n. length rows + n) (joined_length unknown)
-
--- ---- the tables
+use Rattle.image_writer.proofs.RowLemmas.{get_behind, get_joined, joined, tokens_at, tokens_of_rows}
 
 -- connection costs as functions
 pub same_cost : (m : CostTable) (costs : List ℕ) → AreCostsOf m costs → (right left : ℕ) (b : Bool) → is_pair (sizes_of m) right left ≡ b

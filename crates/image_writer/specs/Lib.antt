@@ -1,1 +1,4 @@
+pub mod Ids
 pub mod SystemImages
+pub mod UserImages
+pub mod Samples

@@ -1,9 +1,8 @@
 -- The image of a system dictionary.
 use Rattle.std.specs.Prelude.{◌≡◌, ℕ, ◌<◌, pos, List, length, map, if◌then◌else◌}
-use Rattle.std.specs.List.{AllByRecursion}
 use Rattle.mj_model.specs.CharDef.{NamedCategory}
 use Rattle.mj_model.specs.Compilation.{feature_bytes, feature_bytes_end}
-use Rattle.mj_model.specs.Connection.{Sizes, is_pair}
+use Rattle.mj_model.specs.Connection.{is_pair}
 use Rattle.mj_model.specs.ImageBytes.{header_of}
 use Rattle.mj_model.specs.ImageFaults.{IsWellFormed}
 use Rattle.mj_model.specs.ImageMeaning.{image_categories, image_tables}
@@ -15,14 +14,6 @@ use Rattle.matrix_def.specs.Costs.{CostTable, matrix_cost}
 use Rattle.char_def.specs.Categories.{CharCategories, table_info}
 use Rattle.image_tables.specs.StoredTables.{sizes_of}
 use Rattle.image_lexicon.specs.Entries.{all_rows, lexemes_of, tokens_of}
-
--- the ids of the rows lie within the sizes
-pub record IsWithin (sizes : Sizes) (row : Row) : Type 0 where
-  pub right_below : row.right < sizes.right
-  pub left_below : row.left < sizes.left
-
-abbrev pub AreWithin : Sizes → List Row → Type 0
-AreWithin sizes rows = AllByRecursion (IsWithin sizes) rows
 
 -- the tables of a system dictionary, part by part
 abbrev pub tables_with : CostTable → CharCategories → List (List Row) → List Row → Tables

@@ -2,5 +2,10 @@
 #![tactic(auto)]
 
 mod system;
+mod user;
 
 pub use system::write_system;
+pub use user::write_user;
+
+#[cfg(test)]
+mod tests;

@@ -14,7 +14,8 @@ ghost use Rattle.image_tables.specs.StoredTables.{sizes_of};
 ghost use Rattle.image_lexicon.specs.Entries.{HasKeySurface, all_rows, lexemes_of};
 ghost use Rattle.image_lexicon.specs.Sections.{IsTooLarge};
 ghost use Rattle.image_lexicon.specs.declared.fault.LexiconFault.TheVariants.{ArrayFull, FeaturesTooLarge};
-ghost use Rattle.image_writer.specs.SystemImages.{AreWithin, IsSystemImage};
+ghost use Rattle.image_writer.specs.Ids.{AreWithin};
+ghost use Rattle.image_writer.specs.SystemImages.{IsSystemImage};
 
 use char_def::{CharTable, UnkTable};
 use image_frame::{Numbers, write_image};

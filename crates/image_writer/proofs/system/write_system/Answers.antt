@@ -1,11 +1,10 @@
 use Rattle.std.proofs.Common.{◌≡◌, ◌/◌, ◌-◌, ℕ, List, [], ◌∷◌, length, sym, subst, arith}
 use Rattle.std.specs.Prelude.{sum_by}
 use Rattle.std.proofs.lemmas.List.{length-map}
-use Rattle.mj_model.specs.ImageSections.{IsIndex}
 use Rattle.mj_model.specs.Lexicon.{row_of, rows_of}
 use Rattle.image_frame.specs.Frames.{IsFramed, Numbers}
 use Rattle.image_tables.specs.StoredTables.{AreUnknownOf}
-use Rattle.image_writer.proofs.SystemLemmas.{count_all}
+use Rattle.image_writer.proofs.RowLemmas.{count_all}
 use Rattle.image_writer.proofs.WholeLemmas.{system_image}
 use Rattle.image_writer.proofs.system.write_system.Goals as goal
 
@@ -27,9 +26,6 @@ returns-clause-image c =
     let rows = rows_of c.args.lexicon.now in
     let sections = c.in_ok-sections.sections in
     let made = c.in_ok-sections.ensures.sections in
-    let groups = sections.group_count in
-    let s : List (List ℕ) = c.in_ok-costs.costs.items ∷ c.in_ok-categories.categories.items ∷ c.in_ok-ranges.ranges.items ∷ c.in_ok-index.index.items
-    ∷ sections.keys.items ∷ sections.groups.items ∷ sections.tokens.items ∷ sections.features.items ∷ [] in
     let long : length c.args.lexicon.now ≡ length rows = sym (length-map c.args.lexicon.now row_of) in
     let few = c.requires.few in
     let few_categories = c.count-count.ensures.few in
@@ -38,7 +34,7 @@ returns-clause-image c =
     let count = count_all rows unknown in
     let len = c.len.ensures in
     let unknown_is : c.len.result / 16 - length c.args.lexicon.now ≡ sum_by length unknown = omega (arith, fill, count, long, len) in
-    system_image m chars unknown rows s groups
+    system_image m chars unknown rows c.in_ok-costs.costs.items c.in_ok-categories.categories.items c.in_ok-ranges.ranges.items c.in_ok-index.index.items sections
     (record {
       matrix = c.sizes-right.ensures.formed;
       few = omega (arith, long, few);
@@ -47,16 +43,11 @@ returns-clause-image c =
       some_categories = c.requires.some_categories;
       few_categories = omega (arith, few_categories, count_is);
       ids = c.requires.ids;
-      costs = c.in_ok-costs.ensures;
-      categories = c.in_ok-categories.ensures;
-      ranges = c.in_ok-ranges.ensures;
-      index = subst (λ n. AreUnknownOf n unknown c.in_ok-index.index.items) long c.in_ok-index.ensures;
-      keys = made.keys;
-      group_index = made.groups;
-      few_groups = made.few_groups;
-      tokens = made.tokens;
-      lexicon = made.means;
-      few_features = made.few_features;
+      costs_are = c.in_ok-costs.ensures;
+      categories_are = c.in_ok-categories.ensures;
+      ranges_are = c.in_ok-ranges.ensures;
+      index_are = subst (λ n. AreUnknownOf n unknown c.in_ok-index.index.items) long c.in_ok-index.ensures;
+      lexicon = made;
     })
     c.in_ok-write_image.field-0.items
     (subst (λ (x : Numbers × List (List ℕ)). IsFramed x.0 x.1 c.in_ok-write_image.field-0.items)
@@ -65,7 +56,7 @@ returns-clause-image c =
         kind = 0;
         sizes = record { right = c.sizes-right.ensures.right_size i; left = c.sizes-right.ensures.left_size i };
         categories = count_is i;
-        groups = groups;
+        groups = sections.group_count;
         tokens = long i;
         unknown = unknown_is i;
       },

@@ -1,0 +1,19 @@
+-- The image of a user dictionary.
+use Rattle.std.specs.Prelude.{◌≡◌, ℕ, ◌<◌, List}
+use Rattle.mj_model.specs.Compilation.{feature_bytes, feature_bytes_end}
+use Rattle.mj_model.specs.Connection.{Sizes}
+use Rattle.mj_model.specs.ImageBytes.{header_of}
+use Rattle.mj_model.specs.ImageFaults.{IsWellFormed}
+use Rattle.mj_model.specs.ImageMeaning.{image_lexicon, image_tables}
+use Rattle.mj_model.specs.Lexicon.{Row}
+use Rattle.mj_model.specs.Tables.{User}
+use Rattle.image_lexicon.specs.Entries.{lexemes_of, tokens_of}
+
+-- a well-formed image of layout 3 of a user dictionary with these sizes and these entries
+pub record IsUserImage (sizes : Sizes) (rows : List Row) (image : List ℕ) : Type 0 where
+  pub well_formed : IsWellFormed image
+  pub layout : (header_of image).layout ≡ 3
+  pub kind : (image_tables image).kind ≡ User
+  pub sizes_kept : (image_tables image).sizes ≡ sizes
+  pub lexicon : image_lexicon image ≡ lexemes_of rows
+  pub few_features : feature_bytes (tokens_of rows) < feature_bytes_end

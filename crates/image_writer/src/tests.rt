@@ -1,0 +1,5 @@
+//! Small images.
+mod samples;
+mod sources;
+mod system;
+mod user;

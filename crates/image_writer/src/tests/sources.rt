@@ -1,0 +1,53 @@
+//! Images of the sources of system dictionaries.
+ghost use Rattle.std.specs.Prelude.{◌≡◌, ◌<◌, length, IsTrue};
+ghost use Rattle.std.specs.List.{AllByRecursion};
+ghost use Rattle.mj_model.specs.Lexicon.{rows_of};
+ghost use Rattle.image_writer.specs.Samples.{AreAFew};
+
+use crate::tests::samples::{Line, are_within, records};
+use crate::write_system;
+use char_def::{UnkTable, read_chars, read_unk};
+use matrix_def::read_matrix;
+use mj_model::Record;
+use std::alloc::Global;
+use std::test::Fail;
+
+/// The image of `matrix.def`, `char.def`, `unk.def` and these lines.
+pub fn write_sources(
+    alloc: Global,
+    matrix: &[u8],
+    chars: &[u8],
+    unknown: &[u8],
+    lines: &[Line<'_>],
+) -> Result<Vec<u8>, Fail> {
+    let matrix = read_matrix(alloc, matrix)?;
+    let (right_size, left_size) = matrix.sizes();
+    let chars = read_chars(alloc, chars)?;
+    let unknown = read_unk(alloc, unknown, &chars)?;
+    let lexicon = records(alloc, right_size, left_size, lines)?;
+    let count = chars.count();
+    if count == 0 || !are_unknown(&unknown, count, right_size, left_size) {
+        return Err("each category has 1 to 8 unknown entries")?;
+    }
+    Ok(write_system(alloc, &matrix, &chars, &unknown, &lexicon)?)
+}
+
+/// Whether each category has 1 to 8 entries, whose ids lie within the sizes.
+fn are_unknown(unknown: &UnkTable, categories: usize, right_size: u32, left_size: u32) -> bool
+    requires { categories ≡ length unknown.now }
+    ensures { IsTrue result → AllByRecursion (AreAFew (record { right = right_size; left = left_size })) unknown.now }
+{
+    for category in 0..categories {
+        if !are_a_few(unknown.lines(category), right_size, left_size) {
+            return false;
+        }
+    }
+    true
+}
+
+/// Whether there are 1 to 8 entries, whose ids lie within the sizes.
+fn are_a_few(entries: &[Record], right_size: u32, left_size: u32) -> bool
+    ensures { IsTrue result → AreAFew (record { right = right_size; left = left_size }) (rows_of entries.now) }
+{
+    (1..=8).contains(&entries.len()) && are_within(entries, right_size, left_size)
+}

@@ -1,0 +1,62 @@
+//! The image of a user dictionary.
+ghost use Rattle.std.specs.Prelude.{◌≡◌, ◌<◌, ◌≤◌, length, All, IsSortedByKey, IfOk, IfErr};
+ghost use Rattle.std.specs.Cmp.Lexicographic.{slice_cmp};
+ghost use Rattle.std.specs.Ordering.{nat_cmp};
+ghost use Rattle.mj_model.specs.Compilation.{cells_max, most_cells};
+ghost use Rattle.mj_model.specs.Dictionary.{surface_of};
+ghost use Rattle.mj_model.specs.Lexicon.{rows_of};
+ghost use Rattle.mj_model.specs.declared.limits.TheConstants.{ENTRIES_MAX as EntriesMax};
+ghost use Rattle.image_lexicon.specs.Entries.{HasKeySurface, lexemes_of};
+ghost use Rattle.image_lexicon.specs.Sections.{IsTooLarge};
+ghost use Rattle.image_lexicon.specs.declared.fault.LexiconFault.TheVariants.{ArrayFull, FeaturesTooLarge};
+ghost use Rattle.image_writer.specs.Ids.{AreHeaderSizes, AreWithin};
+ghost use Rattle.image_writer.specs.UserImages.{IsUserImage};
+
+use image_frame::{Numbers, write_image};
+use image_lexicon::{LexiconFault, write_user_lexicon};
+use mj_model::Record;
+use std::alloc::Global;
+
+/// The image of a user dictionary for connection costs of these sizes, whose entries stand in the byte order of their surfaces.
+pub fn write_user(
+    alloc: Global,
+    right: u32,
+    left: u32,
+    lexicon: &[Record],
+) -> Result<Vec<u8>, LexiconFault>
+    requires few { length lexicon.now ≤ EntriesMax }
+    requires surfaces { All HasKeySurface (rows_of lexicon.now) }
+    requires sorted { IsSortedByKey surface_of (slice_cmp nat_cmp) (rows_of lexicon.now) }
+    requires ids { AreWithin (record { right = right; left = left }) (rows_of lexicon.now) }
+    requires sizes { AreHeaderSizes (record { right = right; left = left }) }
+    ensures image { IfOk result (λ image. IsUserImage (record { right = right; left = left }) (rows_of lexicon.now) image.items) }
+
+    // A refusal has its reason.
+    ensures large { IfErr result (λ fault. fault ≡ FeaturesTooLarge → IsTooLarge (rows_of lexicon.now)) }
+    ensures full { IfErr result (λ fault. fault ≡ ArrayFull → cells_max < most_cells (lexemes_of (rows_of lexicon.now))) }
+{
+    let sections = write_user_lexicon(alloc, lexicon)?;
+    let numbers = Numbers {
+        kind: 1,
+        right,
+        left,
+        categories: 0,
+        groups: sections.group_count,
+        tokens: lexicon.len() as u32,
+        unknown: 0,
+    };
+    Ok(write_image(
+        alloc,
+        numbers,
+        &[
+            b"".as_slice(),
+            b"",
+            b"",
+            b"",
+            &sections.keys,
+            &sections.groups,
+            &sections.tokens,
+            &sections.features,
+        ],
+    )?)
+}
