@@ -1,0 +1,145 @@
+-- The image of what sources say is their compilation.
+use Rattle.std.proofs.Common.{◌≡◌, ℕ, ◌≤◌, ◌<◌, List, [], ◌∷◌, ◌+◌, ◌++◌, length, map, refl, sym, ap, ◌∙◌, subst, arith, inl, inr}
+use Rattle.std.specs.Prelude.{flat_map}
+use Rattle.std.specs.List.{enumerate_from, range_with_len}
+use Rattle.std.proofs.lemmas.List.{length-map}
+use Rattle.std.proofs.lemmas.List.Sorted.{length_permutation}
+use Rattle.mj_model.specs.declared.source_fault.SourceFault.{SourceFault}
+use Rattle.mj_model.specs.declared.source_fault.SourceKind.TheVariants.{ArrayFull, FeaturesTooLarge}
+use Rattle.mj_model.specs.declared.sources.Sources.{Sources}
+use Rattle.mj_model.specs.CharDef.{NamedCategory}
+use Rattle.mj_model.specs.Compilation.{IsCompilation, IsCompilationCause, SkipLines, fault_of_image, feature_bytes, feature_bytes_end, lexicon_tokens, system_tokens}
+use Rattle.mj_model.specs.Dictionary.{IsInOrder, lexeme_of}
+use Rattle.mj_model.specs.ImageMeaning.{image_lexicon, image_tables}
+use Rattle.mj_model.specs.Lexicon.{Row, row_of, rows_of}
+use Rattle.mj_model.specs.SourceTables.{HaveTables, IsSourcesFault, SayTheSame, lexicon_bytes, system_tables}
+use Rattle.mj_model.specs.Tables.{Tables, Lexeme, Token}
+use Rattle.mj_model.specs.UnkDef.{unknown_tokens}
+use Rattle.dictionary_sources.specs.Parts.{AreParts}
+use Rattle.dictionary_sources.specs.declared.parts.SourceParts.{SourceParts}
+use Rattle.dictionary_sources.proofs.ConnectionLemmas.{costs_are, sizes_are}
+use Rattle.mj_model.specs.FirstFault.{IsRefusal}
+use Rattle.image_lexicon.specs.declared.fault.LexiconFault.{LexiconFault}
+use Rattle.image_lexicon.specs.declared.fault.LexiconFault.TheVariants as lexicon
+use Rattle.dict_compile.specs.Faults.{fault_told}
+use Rattle.image_lexicon.specs.Entries.{all_rows, lexemes_of, tokens_of}
+use Rattle.image_writer.specs.SystemImages.{tables_with}
+use Rattle.dict_compile.specs.Images.{HaveTooLarge, IsImageOf, MayLackCells}
+use Rattle.dict_compile.specs.declared.compiled.Compiled.{Compiled}
+use Rattle.dict_compile.proofs.PartLemmas.{are_storable}
+use Rattle.dict_compile.proofs.TokenLemmas.{all_tokens_are}
+
+-- ---- tables that say the same
+
+pub same_trans : (t u v : Tables) → SayTheSame t u → SayTheSame u v → SayTheSame t v
+same_trans t u v h k = record {
+  kind = h.kind ∙ k.kind;
+  sizes = h.sizes ∙ k.sizes;
+  connection = h.connection ∙ k.connection;
+  categories = h.categories ∙ k.categories;
+  info = λ code within. h.info code within ∙ k.info code within;
+  unknown = h.unknown ∙ k.unknown;
+  lexicon = h.lexicon ∙ k.lexicon;
+}
+
+-- they have the same tokens
+pub same_tokens : (t u : Tables) → SayTheSame t u → system_tokens t ≡ system_tokens u
+same_tokens t u h = λ i. lexicon_tokens (h.lexicon i) ++ flat_map (h.unknown i) (range_with_len 0 (length (h.categories i)))
+
+-- ---- the tables of parts
+
+pub numbered_length : (n : ℕ) (rows : List Row) → length (map lexeme_of (enumerate_from n rows)) ≡ length rows
+numbered_length n [] = refl
+numbered_length n (row ∷ rows) = let h = numbered_length (n + 1) rows in omega (arith, h)
+
+module _ (s : Sources) (parts : SourceParts) (h : AreParts s parts) (ordered : List Row) (o : IsInOrder (rows_of parts.records.items) ordered) where
+  abbrev tables : Tables
+  tables = tables_with parts.matrix parts.chars parts.unknown ordered
+
+  say_the_same : SayTheSame tables (system_tables h.connection h.chars parts.unknown (lexemes_of ordered))
+  say_the_same = record {
+    kind = refl;
+    sizes = sizes_are h.connection parts.matrix h.matrix;
+    connection = costs_are s.matrix.now h.connection parts.matrix h.is_connection h.matrix;
+    categories = ap (map (λ (named : NamedCategory). named.category)) h.table.categories;
+    info = λ code within. h.table.infos code;
+    unknown = ap (λ n. unknown_tokens n parts.unknown) (sym (numbered_length 0 ordered));
+    lexicon = refl;
+  }
+
+  -- tables that say the same as the parts are the sources'
+  pub have_tables : (t : Tables) → SayTheSame t tables → HaveTables s t
+  have_tables t same = record {
+    connection = h.connection;
+    chars = h.chars;
+    unknown = parts.unknown;
+    rows = rows_of parts.records.items;
+    lexicon = lexemes_of ordered;
+    is_connection = h.is_connection;
+    are_chars = h.are_chars;
+    are_unknown = h.unknown;
+    are_rows = h.rows;
+    is_lexicon = (ordered, o, refl);
+    tables = same_trans t tables (system_tables h.connection h.chars parts.unknown (lexemes_of ordered)) same say_the_same;
+  }
+
+  pub tokens_are : (t : Tables) → SayTheSame t tables → system_tokens t ≡ tokens_of (all_rows ordered parts.unknown)
+  tokens_are t same =
+      let storable = are_storable s parts h in
+      let count : length (map (λ (named : NamedCategory). named.category) parts.chars.categories) ≡ length parts.unknown =
+      length-map parts.chars.categories (λ (named : NamedCategory). named.category) ∙ sym storable.unknown.each_category in
+      same_tokens t tables same
+      ∙ ap (λ n. lexicon_tokens (lexemes_of ordered) ++ flat_map (unknown_tokens (length ordered) parts.unknown) (range_with_len 0 n)) count
+      ∙ all_tokens_are ordered parts.unknown
+
+same_self : (t : Tables) → SayTheSame t t
+same_self t = record { kind = refl; sizes = refl; connection = refl; categories = refl; info = λ code within. refl; unknown = refl; lexicon = refl }
+
+-- ---- the compilation
+
+as_many : (parts : SourceParts) (ordered : List Row) (lexicon : List Lexeme) → IsInOrder (rows_of parts.records.items) ordered → lexicon ≡ lexemes_of ordered → length parts.records.items ≡ length lexicon
+as_many parts ordered lexicon o is =
+    let a = length-map parts.records.items row_of in
+    let b = length_permutation (rows_of parts.records.items) ordered o.same_rows in
+    let c = numbered_length 0 ordered in
+    let d = ap length is in
+    omega (arith, a, b, c, d)
+
+pub is_compilation : (s : Sources) (parts : SourceParts) (c : Compiled) → AreParts s parts → IsImageOf parts c → IsCompilation s c.image.items c.entries c.skipped
+is_compilation s parts c h is = record {
+  have = have_tables s parts h is.ordered is.in_order (image_tables c.image.items) is.image.tables;
+  compiled = record {
+    well_formed = is.image.well_formed;
+    layout = is.image.layout;
+    few_features = subst (λ (ts : List Token). feature_bytes ts < feature_bytes_end) (sym (tokens_are s parts h is.ordered is.in_order (image_tables c.image.items) is.image.tables)) is.image.few_features;
+    all_entries = is.entries ∙ as_many parts is.ordered (image_lexicon c.image.items) is.in_order is.image.tables.lexicon;
+    all_skipped = subst (SkipLines (lexicon_bytes s)) (sym is.skipped) h.skipped;
+  };
+  categories = (h.chars, h.are_chars, is.image.categories ∙ h.table.categories);
+}
+
+-- ---- the refusals
+
+pub too_large : (s : Sources) (parts : SourceParts) → AreParts s parts → HaveTooLarge parts → IsCompilationCause s (fault_of_image FeaturesTooLarge)
+too_large s parts h large =
+    let t = tables_with parts.matrix parts.chars parts.unknown large.0 in
+    inl (inr (
+      t,
+      have_tables s parts h large.0 large.1 t (same_self t),
+      (subst (λ (ts : List Token). feature_bytes_end ≤ feature_bytes ts) (sym (tokens_are s parts h large.0 large.1 t (same_self t))) large.2, refl),
+    ))
+
+pub may_be_full : (s : Sources) (parts : SourceParts) → AreParts s parts → MayLackCells (rows_of parts.records.items) → IsCompilationCause s (fault_of_image ArrayFull)
+may_be_full s parts h full =
+    let t = tables_with parts.matrix parts.chars parts.unknown full.0 in
+    inr (t, have_tables s parts h full.0 full.1 t (same_self t), (full.2, refl))
+
+pub refusal : (s : Sources) (parts : SourceParts) (fault : LexiconFault) → AreParts s parts → (fault ≡ lexicon.FeaturesTooLarge → HaveTooLarge parts)
+    → (fault ≡ lexicon.ArrayFull → MayLackCells (rows_of parts.records.items)) → IsRefusal (fault_told fault) (IsCompilationCause s (fault_told fault))
+refusal s parts lexicon.ArrayFull h large full = inr (may_be_full s parts h (full refl))
+refusal s parts lexicon.FeaturesTooLarge h large full = inr (too_large s parts h (large refl))
+refusal s parts lexicon.Memory h large full = inl refl
+
+pub source_refused : (s : Sources) (fault : SourceFault) → IsRefusal fault (IsSourcesFault s fault) → IsRefusal fault (IsCompilationCause s fault)
+source_refused s fault (inl memory) = inl memory
+source_refused s fault (inr h) = inr (inl (inl h))

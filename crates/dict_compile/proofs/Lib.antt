@@ -1,0 +1,11 @@
+pub mod KindLemmas
+pub mod SortedRows
+pub mod SourceFaults
+pub mod RowLemmas
+pub mod TokenLemmas
+pub mod PartLemmas
+pub mod CompilationLemmas
+pub mod OrderLemmas
+pub mod FirstFaults
+pub mod UserLemmas
+pub mod EveryKey

@@ -1,0 +1,135 @@
+-- The user image of what lexicons say is their compilation; lexicons compile, or have one first fault.
+use Rattle.std.proofs.Common.{◌≡◌, ℕ, ◌≤◌, ◌<◌, List, [], length, refl, sym, ap, ◌∙◌, subst, arith, inl, inr}
+use Rattle.std.specs.Prelude.{false, Result, Ok, Err}
+use Rattle.std.proofs.lemmas.List.{length-map}
+use Rattle.std.proofs.lemmas.List.Sorted.{length_permutation}
+use Rattle.mj_model.specs.declared.source_fault.SourceFault.{SourceFault}
+use Rattle.mj_model.specs.Compilation.{HaveUserTables, IsUserCompilation, IsUserCause, IsUserFault, SkipLines, feature_bytes, feature_bytes_end, lexicon_tokens}
+use Rattle.mj_model.specs.Connection.{Sizes}
+use Rattle.mj_model.specs.Dictionary.{AreLexicons, IsInOrder, IsLexiconOf}
+use Rattle.mj_model.specs.FirstFault.{IsRefusal}
+use Rattle.mj_model.specs.ImageMeaning.{image_lexicon, image_tables}
+use Rattle.mj_model.specs.Lexicon.{Row, row_of, rows_of}
+use Rattle.mj_model.specs.Tables.{Tables, Lexeme, Token, User}
+use Rattle.dictionary_sources.specs.declared.lexicons.LexiconRecords.{LexiconRecords}
+use Rattle.image_lexicon.specs.declared.fault.LexiconFault.{LexiconFault}
+use Rattle.image_lexicon.specs.declared.fault.LexiconFault.TheVariants as lexicon
+use Rattle.image_lexicon.specs.Entries.{lexemes_of, tokens_of}
+use Rattle.dict_compile.specs.Answers.{IsToldFor}
+use Rattle.dict_compile.specs.Faults.{fault_told}
+use Rattle.dict_compile.specs.Images.{MayLackCells}
+use Rattle.dict_compile.specs.UserImages.{HasTooLarge, IsSystemOf, IsUserImageOf}
+use Rattle.dict_compile.specs.declared.compiled.Compiled.{Compiled}
+use Rattle.dict_compile.specs.declared.fault.CompileUserFault.{CompileUserFault}
+use Rattle.dict_compile.specs.declared.fault.CompileUserFault.TheVariants.{NotSystem, Source}
+use Rattle.mj_model.specs.Overlays.{is_user}
+use Rattle.dict_compile.proofs.KindLemmas.{a_system}
+use Rattle.dict_compile.proofs.CompilationLemmas.{numbered_length}
+use Rattle.dict_compile.proofs.FirstFaults.{few_or_large}
+use Rattle.dict_compile.proofs.OrderLemmas.{one_lexicon}
+use Rattle.dict_compile.proofs.SourceFaults.{both, lexicons_one, same_error, same_read}
+use Rattle.dict_compile.proofs.TokenLemmas.{lexicon_tokens_are}
+
+module _ (sizes : Sizes) (system : Tables) (is : IsSystemOf sizes system) (lexicons : List (List ℕ)) where
+  as_read : (rows : List Row) → AreLexicons sizes 3 [] lexicons (Ok rows) → AreLexicons system.sizes 3 [] lexicons (Ok rows)
+  as_read rows h = subst (λ (s : Sizes). AreLexicons s 3 [] lexicons (Ok rows)) (sym is.sizes_are) h
+
+  module _ (read : LexiconRecords) (h : AreLexicons sizes 3 [] lexicons (Ok (rows_of read.records.items))) where
+    have_user : (t : Tables) (ordered : List Row) → IsInOrder (rows_of read.records.items) ordered → t.kind ≡ User → t.sizes ≡ sizes → t.lexicon ≡ lexemes_of ordered → HaveUserTables system.sizes lexicons t
+    have_user t ordered o kind kept lexicon = record {
+      kind = kind;
+      sizes_kept = kept ∙ sym is.sizes_are;
+      rows = rows_of read.records.items;
+      are_rows = as_read (rows_of read.records.items) h;
+      is_lexicon = (ordered, o, lexicon);
+    }
+
+    pub user_compilation : (c : Compiled) → SkipLines lexicons read.skipped → IsUserImageOf sizes read c → IsUserCompilation system lexicons c.image.items c.entries c.skipped
+    user_compilation c skips i =
+        let tokens : lexicon_tokens (image_lexicon c.image.items) ≡ tokens_of i.ordered = ap lexicon_tokens i.image.lexicon ∙ lexicon_tokens_are i.ordered in
+        let a = length-map read.records.items row_of in
+        let b = length_permutation (rows_of read.records.items) i.ordered i.in_order.same_rows in
+        let n = numbered_length 0 i.ordered in
+        let d = ap length i.image.lexicon in
+        record {
+          is_system = is.kind;
+          have = have_user (image_tables c.image.items) i.ordered i.in_order i.image.kind i.image.sizes_kept i.image.lexicon;
+          compiled = record {
+            well_formed = i.image.well_formed;
+            layout = i.image.layout;
+            few_features = subst (λ (ts : List Token). feature_bytes ts < feature_bytes_end) (sym tokens) i.image.few_features;
+            all_entries = i.entries ∙ omega (arith, a, b, n, d);
+            all_skipped = subst (SkipLines lexicons) (sym i.skipped) skips;
+          };
+        }
+
+    -- the tables of the rows in order
+    user_tables : List Row → Tables
+    user_tables ordered = record system { kind = User; lexicon = lexemes_of ordered }
+
+    have_rows : (ordered : List Row) → IsInOrder (rows_of read.records.items) ordered → HaveUserTables system.sizes lexicons (user_tables ordered)
+    unfolding user_tables
+    have_rows ordered o = have_user (user_tables ordered) ordered o refl is.sizes_are refl
+
+    pub user_refusal : (fault : LexiconFault) → (fault ≡ lexicon.FeaturesTooLarge → HasTooLarge (rows_of read.records.items)) → (fault ≡ lexicon.ArrayFull → MayLackCells (rows_of read.records.items))
+        → IsRefusal (fault_told fault) (IsUserCause system lexicons (fault_told fault))
+    unfolding user_tables
+    user_refusal lexicon.ArrayFull large full = let f = full refl in inr (inr (is.kind, user_tables f.0, have_rows f.0 f.1, (f.2, refl)))
+    user_refusal lexicon.FeaturesTooLarge large full =
+        let l = large refl in
+        inr (inl (
+          is.kind,
+          inr (
+            user_tables l.0,
+            have_rows l.0 l.1,
+            (subst (λ (ts : List Token). feature_bytes_end ≤ feature_bytes ts) (sym (lexicon_tokens_are l.0)) l.2, refl),
+          ),
+        ))
+    user_refusal lexicon.Memory large full = inl refl
+
+  pub lexicons_refused : (fault : SourceFault) → IsRefusal fault (AreLexicons sizes 3 [] lexicons (Err fault)) → IsRefusal fault (IsUserCause system lexicons fault)
+  lexicons_refused fault (inl memory) = inl memory
+  lexicons_refused fault (inr h) = inr (inl (is.kind, inl (subst (λ (s : Sizes). AreLexicons s 3 [] lexicons (Err fault)) (sym is.sizes_are) h)))
+
+-- ---- the first fault
+
+module _ (system : Tables) (lexicons : List (List ℕ)) where
+  same_rows : (t : Tables) → HaveUserTables system.sizes lexicons t → (u : Tables) → HaveUserTables system.sizes lexicons u → t.lexicon ≡ u.lexicon
+  same_rows t h u k =
+      let r : h.rows ≡ k.rows = same_read (lexicons_one system.sizes 3 [] lexicons (Ok h.rows) (Ok k.rows) h.are_rows k.are_rows) in
+      one_lexicon k.rows t.lexicon u.lexicon (subst (λ (rows : List Row). IsLexiconOf rows t.lexicon) r h.is_lexicon) k.is_lexicon
+
+  no_user : (fault : SourceFault) (t : Tables) → AreLexicons system.sizes 3 [] lexicons (Err fault) → HaveUserTables system.sizes lexicons t → ⊥
+  no_user fault t h k = both (lexicons_one system.sizes 3 [] lexicons (Err fault) (Ok k.rows) h k.are_rows)
+
+  pub user_told_for : (fault told : SourceFault) → IsUserFault system lexicons fault → IsRefusal told (IsUserCause system lexicons told) → IsToldFor fault told
+  user_told_for fault told h (inl memory) = inr (inl memory)
+  user_told_for fault told (s, inl h) (inr (inl (r, inl k))) = inl (same_error (lexicons_one system.sizes 3 [] lexicons (Err told) (Err fault) k h))
+  user_told_for fault told (s, inl h) (inr (inl (r, inr k))) = absurd (no_user fault k.0 h k.1)
+  user_told_for fault told (s, inr h) (inr (inl (r, inl k))) = absurd (no_user told h.0 k h.1)
+  user_told_for fault told (s, inr h) (inr (inl (r, inr k))) = inl (k.2.1 ∙ sym h.2.1)
+  user_told_for fault told h (inr (inr k)) = inr (inr (ap (λ (f : SourceFault). f.kind) k.3.1))
+
+  -- lexicons at fault have no tables with few features
+  pub not_both_for : (t : Tables) (fault : SourceFault) → HaveUserTables system.sizes lexicons t → feature_bytes (lexicon_tokens t.lexicon) < feature_bytes_end → IsUserFault system lexicons fault → ⊥
+  not_both_for t fault have few (s, inl h) = no_user fault t h have
+  not_both_for t fault have few (s, inr h) =
+      few_or_large (feature_bytes (lexicon_tokens t.lexicon)) (feature_bytes (lexicon_tokens h.0.lexicon))
+      (ap (λ (l : List Lexeme). feature_bytes (lexicon_tokens l)) (same_rows t have h.0 h.1)) few h.2.0
+
+  pub user_not_compiled : (image : List ℕ) (entries skipped : ℕ) (fault : SourceFault) → IsUserCompilation system lexicons image entries skipped → IsUserFault system lexicons fault → ⊥
+  user_not_compiled image entries skipped fault c h = not_both_for (image_tables image) fault c.have c.compiled.few_features h
+
+-- ---- the sizes of a system dictionary
+
+pub is_system_of : (system : Tables) (right left : ℕ) → false ≡ is_user system.kind → right ≡ system.sizes.right → left ≡ system.sizes.left → IsSystemOf (record { right = right; left = left }) system
+is_system_of system right left kind r l = record { kind = a_system system.kind (sym kind); sizes_are = λ i. record { right = sym r i; left = sym l i } }
+
+abbrev told_or : SourceFault → Result Compiled CompileUserFault → SourceFault
+told_or other (Ok compiled) = other
+told_or other (Err NotSystem) = other
+told_or other (Err (Source fault)) = fault
+
+-- one fault is told
+pub same_told : {f g : SourceFault} → ◌≡◌ {A = Result Compiled CompileUserFault} (Err (Source f)) (Err (Source g)) → f ≡ g
+same_told {f} {g} e = ap (told_or f) e

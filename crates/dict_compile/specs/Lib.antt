@@ -1,0 +1,5 @@
+pub mod Faults
+pub mod Answers
+pub mod Images
+pub mod UserImages
+pub mod EveryKey

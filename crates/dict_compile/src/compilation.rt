@@ -1,0 +1,33 @@
+//! The compilation of a system dictionary.
+
+ghost use Rattle.std.specs.Prelude.{◌≡◌, IfOk, IfErr};
+ghost use Rattle.mj_model.specs.declared.source_fault.SourceFault.{SourceFault as FaultOf};
+ghost use Rattle.mj_model.specs.Compilation.{IsCompilation, IsCompilationCause, IsCompilationFault};
+ghost use Rattle.mj_model.specs.FirstFault.{IsRefusal};
+ghost use Rattle.mj_model.specs.ImageMeaning.{image_tables};
+ghost use Rattle.dict_compile.specs.Answers.{IsRefusedFor};
+ghost use Rattle.dict_compile.specs.EveryKey.{AnswersKeysOfSources};
+
+use crate::compiled::Compiled;
+use crate::fault::image_fault;
+use crate::system_image::system_image;
+use dictionary_sources::read_sources;
+use mj_model::{SourceFault, Sources};
+use std::alloc::Global;
+
+/// Compiles the sources of a system dictionary to an image of layout 3.
+///
+/// `matrix.def` is looked at first, then `char.def`, `unk.def`, and each lexicon as given. (MeCab, `mecab-dict-index`)
+pub fn compile(alloc: Global, sources: &Sources<'_>) -> Result<Compiled, SourceFault>
+    ensures compiled { IfOk result (λ compiled. IsCompilation sources.now compiled.image.items compiled.entries compiled.skipped) }
+    ensures every_key { IfOk result (λ compiled. AnswersKeysOfSources sources.now (image_tables compiled.image.items)) }
+    ensures refused { IfErr result (λ fault. IsRefusal fault (IsCompilationCause sources.now fault)) }
+    // Sources at fault are refused with their first fault, want of memory and of cells aside.
+    ensures first { (fault : FaultOf) → IsCompilationFault sources.now fault → IsRefusedFor fault result }
+{
+    let parts = read_sources(alloc, sources)?;
+    match system_image(alloc, parts) {
+        Ok(compiled) => Ok(compiled),
+        Err(fault) => Err(image_fault(fault)),
+    }
+}

@@ -1,0 +1,18 @@
+//! Dictionary sources compiled to images.
+#![tactic(auto)]
+
+mod compilation;
+mod compiled;
+mod fault;
+mod sorting;
+mod system_image;
+mod user_compilation;
+mod user_image;
+
+pub use compilation::compile;
+pub use compiled::Compiled;
+pub use fault::CompileUserFault;
+pub use user_compilation::compile_user;
+
+#[cfg(test)]
+mod tests;

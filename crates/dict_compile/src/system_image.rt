@@ -1,0 +1,32 @@
+//! The image of what sources say.
+
+ghost use Rattle.std.specs.Prelude.{◌≡◌, IfOk, IfErr};
+ghost use Rattle.mj_model.specs.Lexicon.{rows_of};
+ghost use Rattle.image_lexicon.specs.declared.fault.LexiconFault.TheVariants.{ArrayFull, FeaturesTooLarge};
+ghost use Rattle.dict_compile.specs.Images.{AreStorable, HaveTooLarge, IsImageOf, MayLackCells};
+
+use crate::compiled::Compiled;
+use crate::sorting::in_order;
+use dictionary_sources::SourceParts;
+use image_lexicon::LexiconFault;
+use image_writer::write_system;
+use std::alloc::Global;
+
+/// The image of a system dictionary, whose entries are sorted once.
+pub(crate) fn system_image(alloc: Global, parts: SourceParts) -> Result<Compiled, LexiconFault>
+    requires { AreStorable parts }
+    ensures image { IfOk result (IsImageOf parts) }
+
+    // A refusal has its reason.
+    ensures large { IfErr result (λ fault. fault ≡ FeaturesTooLarge → HaveTooLarge parts) }
+    ensures full { IfErr result (λ fault. fault ≡ ArrayFull → MayLackCells (rows_of parts.records.items)) }
+{
+    let entries = parts.records.len() as u64;
+    let lexicon = in_order(parts.records)?;
+    let image = write_system(alloc, &parts.matrix, &parts.chars, &parts.unknown, &lexicon)?;
+    Ok(Compiled {
+        image,
+        entries,
+        skipped: parts.skipped,
+    })
+}

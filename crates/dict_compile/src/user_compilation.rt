@@ -1,0 +1,65 @@
+//! The compilation of a user dictionary.
+
+ghost use Rattle.std.specs.Prelude.{◌≡◌, ◌↔◌, map, Err, IfOk, IfErr};
+ghost use Rattle.mj_model.specs.declared.source_fault.SourceFault.{SourceFault as FaultOf};
+ghost use Rattle.mj_model.specs.Compilation.{IsUserCompilation, IsUserCause, IsUserFault};
+ghost use Rattle.mj_model.specs.FirstFault.{IsRefusal};
+ghost use Rattle.mj_model.specs.ImageMeaning.{image_tables};
+ghost use Rattle.mj_model.specs.Tables.{Tables as TablesOf, User};
+ghost use Rattle.dictionary_sources.specs.IdSizes.{sizes_in};
+ghost use Rattle.image_writer.specs.Ids.{AreHeaderSizes};
+ghost use Rattle.dict_compile.specs.Answers.{IsRefusedFor, IsUserRefusedFor};
+ghost use Rattle.dict_compile.specs.EveryKey.{AnswersKeysOf};
+ghost use Rattle.dict_compile.specs.UserImages.{IsSystemOf};
+ghost use Rattle.dict_compile.specs.declared.fault.CompileUserFault.TheVariants.{NotSystem, Source};
+
+use crate::compiled::Compiled;
+use crate::fault::{CompileUserFault, image_fault};
+use crate::user_image::user_image;
+use dict_image::Dict;
+use dictionary_sources::{IdSizes, read_lexicons};
+use mj_model::SourceFault;
+use std::alloc::Global;
+
+/// Compiles the lexicons of a user dictionary, for the ids of a system dictionary, to an image of layout 3.
+///
+/// The first lexicon is file 3, as in a system's sources. (MeCab, `mecab-dict-index -u`)
+pub fn compile_user(
+    alloc: Global,
+    system: &Dict,
+    lexicons: &[&[u8]],
+) -> Result<Compiled, CompileUserFault>
+    ensures compiled { IfOk result (λ compiled. IsUserCompilation (image_tables system.now) (map (λ lexicon. lexicon.now) lexicons.now) compiled.image.items compiled.entries compiled.skipped) }
+    ensures every_key { IfOk result (λ compiled. AnswersKeysOf (image_tables system.now).sizes (map (λ lexicon. lexicon.now) lexicons.now) (image_tables compiled.image.items)) }
+    ensures not_system { (result ≡ Err NotSystem) ↔ ((image_tables system.now).kind ≡ User) }
+    ensures refused { (fault : FaultOf) → result ≡ Err (Source fault) → IsRefusal fault (IsUserCause (image_tables system.now) (map (λ lexicon. lexicon.now) lexicons.now) fault) }
+    // Lexicons at fault are refused with their first fault, want of memory and of cells aside.
+    ensures first { (fault : FaultOf) → IsUserFault (image_tables system.now) (map (λ lexicon. lexicon.now) lexicons.now) fault → IsUserRefusedFor fault result }
+{
+    if system.is_user() {
+        return Err(CompileUserFault::NotSystem);
+    }
+    let (right, left) = system.matrix_sizes();
+    match compile_lexicons(alloc, IdSizes { right, left }, lexicons) {
+        Ok(compiled) => Ok(compiled),
+        Err(fault) => Err(CompileUserFault::Source(fault)),
+    }
+}
+
+/// Compiles lexicons for a system dictionary of these sizes.
+fn compile_lexicons(
+    alloc: Global,
+    sizes: IdSizes,
+    lexicons: &[&[u8]],
+) -> Result<Compiled, SourceFault>
+    requires { AreHeaderSizes (sizes_in sizes) }
+    ensures compiled { (system : TablesOf) → IsSystemOf (sizes_in sizes) system → IfOk result (λ compiled. IsUserCompilation system (map (λ lexicon. lexicon.now) lexicons.now) compiled.image.items compiled.entries compiled.skipped) }
+    ensures refused { (system : TablesOf) → IsSystemOf (sizes_in sizes) system → IfErr result (λ fault. IsRefusal fault (IsUserCause system (map (λ lexicon. lexicon.now) lexicons.now) fault)) }
+    ensures first { (system : TablesOf) → IsSystemOf (sizes_in sizes) system → (fault : FaultOf) → IsUserFault system (map (λ lexicon. lexicon.now) lexicons.now) fault → IsRefusedFor fault result }
+{
+    let read = read_lexicons(alloc, lexicons, sizes)?;
+    match user_image(alloc, sizes, read) {
+        Ok(compiled) => Ok(compiled),
+        Err(fault) => Err(image_fault(fault)),
+    }
+}

@@ -1,0 +1,41 @@
+//! The image of what the lexicons of a user dictionary say.
+
+ghost use Rattle.std.specs.Prelude.{◌≡◌, IfOk, IfErr};
+ghost use Rattle.mj_model.specs.Lexicon.{rows_of};
+ghost use Rattle.dictionary_sources.specs.AcceptedRows.{AreLexiconRows};
+ghost use Rattle.dictionary_sources.specs.IdSizes.{sizes_in};
+ghost use Rattle.image_lexicon.specs.declared.fault.LexiconFault.TheVariants.{ArrayFull, FeaturesTooLarge};
+ghost use Rattle.image_writer.specs.Ids.{AreHeaderSizes};
+ghost use Rattle.dict_compile.specs.Images.{MayLackCells};
+ghost use Rattle.dict_compile.specs.UserImages.{HasTooLarge, IsUserImageOf};
+
+use crate::compiled::Compiled;
+use crate::sorting::in_order;
+use dictionary_sources::{IdSizes, LexiconRecords};
+use image_lexicon::LexiconFault;
+use image_writer::write_user;
+use std::alloc::Global;
+
+/// The image of a user dictionary, whose entries are sorted once.
+pub(crate) fn user_image(
+    alloc: Global,
+    sizes: IdSizes,
+    read: LexiconRecords,
+) -> Result<Compiled, LexiconFault>
+    requires header { AreHeaderSizes (sizes_in sizes) }
+    requires rows { AreLexiconRows (sizes_in sizes) (rows_of read.records.items) }
+    ensures image { IfOk result (IsUserImageOf (sizes_in sizes) read) }
+
+    // A refusal has its reason.
+    ensures large { IfErr result (λ fault. fault ≡ FeaturesTooLarge → HasTooLarge (rows_of read.records.items)) }
+    ensures full { IfErr result (λ fault. fault ≡ ArrayFull → MayLackCells (rows_of read.records.items)) }
+{
+    let entries = read.records.len() as u64;
+    let lexicon = in_order(read.records)?;
+    let image = write_user(alloc, sizes.right, sizes.left, &lexicon)?;
+    Ok(Compiled {
+        image,
+        entries,
+        skipped: read.skipped,
+    })
+}
