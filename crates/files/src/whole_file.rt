@@ -1,0 +1,60 @@
+//! A file that was read whole.
+
+ghost use Rattle.std.specs.Prelude.{◌≡◌, IfOk, map, string_bytes};
+
+use crate::fault::FileFault;
+use crate::reading::read_whole;
+use mj_model::READS_MAX;
+use std::alloc::{AllocError, Global};
+use std::string::String;
+use std::{fs, io};
+
+/// A file that was read whole.
+#[derive(Debug, Drop)]
+pub struct WholeFile {
+    pub path: String,
+    pub bytes: Vec<u8>,
+}
+
+impl WholeFile {
+    /// Reads the file at a path, within `READS_MAX` reads.
+    pub fn read(rt: &HostRuntime, path: &str) -> Result<WholeFile, FileFault>
+        ensures path { IfOk result (λ file. string_bytes file.path ≡ path.now) }
+    {
+        match bytes_at(rt, path) {
+            Ok(bytes) => Ok(WholeFile {
+                path: String::from_str(rt.alloc(), path)?,
+                bytes,
+            }),
+            Err(error) => Err(FileFault::at(rt.alloc(), path, &error)),
+        }
+    }
+}
+
+fn bytes_at(rt: &HostRuntime, path: &str) -> io::Result<Vec<u8>> {
+    let mut file = fs::open(rt, path)?;
+    read_whole(rt.alloc(), &mut file, READS_MAX)
+}
+
+/// Reads the files at paths, one after the other.
+pub fn read_files(rt: &HostRuntime, paths: &[String]) -> Result<Vec<WholeFile>, FileFault>
+    ensures paths { IfOk result (λ files. map (λ file. string_bytes file.path) files.items ≡ map (λ path. string_bytes path) paths.now) }
+{
+    let mut files = Vec::new(rt.alloc());
+    for path in paths {
+        let file = WholeFile::read(rt, path.as_str())?;
+        files.push(file).map_err(|_| FileFault::Memory)?;
+    }
+    Ok(files)
+}
+
+/// The bytes of each file.
+pub fn texts(alloc: Global, files: &[WholeFile]) -> Result<Vec<&[u8]>, AllocError>
+    ensures { IfOk result (λ texts. map (λ text. text.now) texts.items ≡ map (λ file. file.bytes.items) files.now) }
+{
+    let mut texts = Vec::new(alloc);
+    for file in files {
+        texts.push(file.bytes.as_slice())?;
+    }
+    Ok(texts)
+}
