@@ -2,9 +2,13 @@
 
 use std::string::String;
 
-/// The choices of a command line, as given. One of `sources` and `sample` is chosen.
+/// The choices of a command line, as given. One of `dic`, `sources` and `sample` is chosen.
 #[derive(Debug, PartialEq, Eq, Drop)]
 pub struct Options {
+    /// The image of the system dictionary.
+    pub dic: Option<String>,
+    /// The images of the user dictionaries, which come with `dic` alone.
+    pub users: Vec<String>,
     /// The directory of the source files.
     pub sources: Option<String>,
     /// Whether the sample's sources are used.

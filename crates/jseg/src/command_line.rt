@@ -14,7 +14,7 @@ const OUTPUTS: [&str; 1] = ["wakati"];
 pub fn options(alloc: Global, words: Vec<String>) -> Result<Options, OptionsFault> {
     let command = match command(alloc) {
         Ok(command) => command,
-        Err(error) => return Err(options_fault(alloc, &error)),
+        Err(_) => return Err(OptionsFault::Memory),
     };
     match command.try_get_matches_from(words.as_slice()) {
         Ok(matches) => choices(alloc, &matches).map_err(|_| OptionsFault::Memory),
@@ -23,7 +23,27 @@ pub fn options(alloc: Global, words: Vec<String>) -> Result<Options, OptionsFaul
 }
 
 /// What the program takes.
-fn command<'a>(alloc: Global) -> Result<Command<'a>, Error> {
+fn command<'a>(alloc: Global) -> Result<Command<'a>, AllocError> {
+    let command = Command::new(alloc, "jseg")
+        .about("Cuts the Japanese text on standard input into words")
+        .no_binary_name(true);
+    with_formats(alloc, with_dictionaries(alloc, command)?)
+}
+
+/// With the options that name dictionaries: an image, a directory or the sample, and users' images with an image.
+fn with_dictionaries<'a>(alloc: Global, command: Command<'a>) -> Result<Command<'a>, AllocError> {
+    let dic = Arg::new(alloc, "dic")
+        .short('d')
+        .value_name("IMG")
+        .action(ArgAction::Set)
+        .help("Cut the text with the system dictionary of an image");
+    let users = Arg::new(alloc, "users")
+        .short('u')
+        .value_name("IMG")
+        .action(ArgAction::Append)
+        .conflicts_with("sources")?
+        .conflicts_with("sample")?
+        .help("Cut it with the user dictionary of an image too, with -d; may be given again");
     let sources = Arg::new(alloc, "sources")
         .long("sources")
         .value_name("DIR")
@@ -35,6 +55,17 @@ fn command<'a>(alloc: Global) -> Result<Command<'a>, Error> {
         .long("sample")
         .action(ArgAction::SetTrue)
         .help("Cut the text with the sample's sources");
+    let input = ArgGroup::new(alloc, "input")
+        .arg("dic")?
+        .arg("sources")?
+        .arg("sample")?
+        .required(true);
+    let command = command.arg(dic)?.arg(users)?.arg(sources)?.arg(sample)?;
+    command.group(input)
+}
+
+/// With the options that say how words are cut and printed.
+fn with_formats<'a>(alloc: Global, command: Command<'a>) -> Result<Command<'a>, AllocError> {
     let grouping = Arg::new(alloc, "grouping")
         .short('M')
         .value_name("N")
@@ -47,34 +78,23 @@ fn command<'a>(alloc: Global) -> Result<Command<'a>, Error> {
         .action(ArgAction::Set)
         .value_parser(OUTPUTS.as_slice())
         .help("An output format by its name: a line of surfaces with a blank behind each");
-    let input = ArgGroup::new(alloc, "input")
-        .arg("sources")?
-        .arg("sample")?
-        .required(true);
-    Ok(
-        Command::new(alloc, "jseg")
-            .about("Cuts the Japanese text on standard input into words")
-            .no_binary_name(true)
-            .arg(sources)?
-            .arg(sample)?
-            .arg(grouping)?
-            .arg(output)?
-            .arg(format_arg(alloc, "node", 'F', "The format of known words"))?
-            .arg(format_arg(alloc, "unk", 'U', "The format of unknown words"))?
-            .arg(format_arg(
-                alloc,
-                "bos",
-                'B',
-                "What is printed before the first word of a line",
-            ))?
-            .arg(format_arg(
-                alloc,
-                "eos",
-                'E',
-                "What is printed behind the last word of a line",
-            ))?
-            .group(input)?,
-    )
+    command
+        .arg(grouping)?
+        .arg(output)?
+        .arg(format_arg(alloc, "node", 'F', "The format of known words"))?
+        .arg(format_arg(alloc, "unk", 'U', "The format of unknown words"))?
+        .arg(format_arg(
+            alloc,
+            "bos",
+            'B',
+            "What is printed before the first word of a line",
+        ))?
+        .arg(format_arg(
+            alloc,
+            "eos",
+            'E',
+            "What is printed behind the last word of a line",
+        ))
 }
 
 /// An option whose value is a format, taken as it stands, also where it is empty or begins with `-`.
@@ -90,6 +110,8 @@ fn format_arg<'a>(alloc: Global, id: &'a str, letter: char, help: &'a str) -> Ar
 /// The choices that were found.
 fn choices(alloc: Global, matches: &ArgMatches<'_>) -> Result<Options, AllocError> {
     Ok(Options {
+        dic: text_of(alloc, matches, "dic")?,
+        users: texts_of(alloc, matches.get_strs("users").unwrap_or(&[]))?,
         sources: text_of(alloc, matches, "sources")?,
         sample: matches.get_flag("sample"),
         grouping: matches.get_one("grouping").unwrap_or(GROUPING_DEFAULT),
@@ -111,6 +133,13 @@ fn text_of(
         Some(text) => Ok(Some(String::from_str(alloc, text)?)),
         None => Ok(None),
     }
+}
+
+fn texts_of(alloc: Global, given: &[&str]) -> Result<Vec<String>, AllocError> {
+    given
+        .iter()
+        .map(|text| String::from_str(alloc, text))
+        .try_collect(alloc)
 }
 
 fn options_fault(alloc: Global, error: &Error) -> OptionsFault {

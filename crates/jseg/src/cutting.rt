@@ -1,9 +1,11 @@
-//! Standard input is cut by the sources that the command line names.
+//! Standard input is cut by the dictionary that the command line names.
 
 use crate::choices::Options;
 use crate::fault::Fault;
 use crate::formatting::format_of;
-use crate::source_files::SourceFiles;
+use crate::images::cut_by_images;
+use crate::source_directory::read_directory;
+use files::texts;
 use mj_model::{Counted, GROUPING_MAX, RunFault, Sources};
 use out_format::Format;
 use segmenter::{run_sources, sample};
@@ -13,9 +15,9 @@ use std::string::String;
 
 /// How words are cut and printed.
 #[derive(Drop)]
-struct Manner {
-    grouping: u16,
-    format: Format,
+pub struct Manner {
+    pub grouping: u16,
+    pub format: Format,
 }
 
 /// Cuts standard input into words.
@@ -24,9 +26,10 @@ pub fn cut(rt: &HostRuntime, options: &Options) -> Result<(), Fault> {
         grouping: options.grouping,
         format: format_of(rt.alloc(), options).map_err(Fault::Format)?,
     };
-    match &options.sources {
-        Some(dir) => cut_by_directory(rt, dir.as_str(), &manner),
-        None => match cut_by(rt, &sample(), &manner) {
+    match (&options.dic, &options.sources) {
+        (Some(dic), _) => cut_by_images(rt, dic.as_str(), &options.users, &manner),
+        (None, Some(dir)) => cut_by_directory(rt, dir.as_str(), &manner),
+        (None, None) => match cut_by(rt, &sample(), &manner) {
             Ok(()) => Ok(()),
             Err(fault) => Err(fault_at(rt, "sample", fault)),
         },
@@ -35,13 +38,8 @@ pub fn cut(rt: &HostRuntime, options: &Options) -> Result<(), Fault> {
 
 /// Cuts it by the sources of a directory.
 fn cut_by_directory(rt: &HostRuntime, dir: &str, manner: &Manner) -> Result<(), Fault> {
-    let files = SourceFiles::read(rt, dir)?;
-    let mut lexicons = Vec::new(rt.alloc());
-    for lexicon in &files.lexicons {
-        lexicons
-            .push(lexicon.bytes.as_slice())
-            .map_err(|_| Fault::Memory)?;
-    }
+    let files = read_directory(rt, dir)?;
+    let lexicons = texts(rt.alloc(), &files.lexicons)?;
     let sources = Sources {
         matrix: &files.matrix.bytes,
         chars: &files.chars.bytes,
@@ -52,7 +50,7 @@ fn cut_by_directory(rt: &HostRuntime, dir: &str, manner: &Manner) -> Result<(), 
         Ok(()) => Ok(()),
         Err(RunFault::Source(fault)) => Err(fault_at(
             rt,
-            files.file(fault.file).path.as_str(),
+            files.path(fault.file),
             RunFault::Source(fault),
         )),
         Err(fault) => Err(Fault::Run(fault)),
@@ -67,6 +65,7 @@ fn cut_by(rt: &HostRuntime, sources: &Sources<'_>, manner: &Manner) -> Result<()
     match run_sources(
         rt.alloc(),
         sources,
+        &[],
         grouping,
         &manner.format,
         &mut reader,
@@ -83,10 +82,12 @@ fn cut_by(rt: &HostRuntime, sources: &Sources<'_>, manner: &Manner) -> Result<()
 /// A run's fault as the program tells it; a source's with its path.
 fn fault_at(rt: &HostRuntime, path: &str, fault: RunFault) -> Fault {
     match fault {
-        RunFault::Source(fault) => match String::from_str(rt.alloc(), path) {
-            Ok(path) => Fault::Source(path, fault),
-            Err(AllocError) => Fault::Memory,
-        },
+        RunFault::Source(fault) | RunFault::UserSource(_, fault) => {
+            match String::from_str(rt.alloc(), path) {
+                Ok(path) => Fault::Source(path, fault),
+                Err(AllocError) => Fault::Memory,
+            }
+        }
         fault => Fault::Run(fault),
     }
 }

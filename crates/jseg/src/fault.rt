@@ -1,6 +1,8 @@
 //! What the program tells when it ends early.
 
-use mj_model::{FormatFault, RunFault, SourceFault};
+use files::FileFault;
+use mj_model::{FormatFault, ImageFault, OverlayFault, RunFault, SourceFault};
+use std::alloc::AllocError;
 use std::string::String;
 
 /// Why the program ended before its work was done.
@@ -10,10 +12,29 @@ pub enum Fault {
     File(String),
     /// The source at this path is refused.
     Source(String, SourceFault),
+    /// The image at this path is refused.
+    Image(String, ImageFault),
+    /// The image at this path is of no use where it was given.
+    Overlay(String, OverlayFault),
     /// The format is refused.
     Format(FormatFault),
-    /// The run over the text ended; what it carries is no `Source`.
+    /// The run over the text ended; what it carries is neither `Source` nor `UserSource`.
     Run(RunFault),
     /// Memory was refused.
     Memory,
+}
+
+impl From<FileFault> for Fault {
+    fn from(fault: FileFault) -> Fault {
+        match fault {
+            FileFault::File(path) => Fault::File(path),
+            FileFault::Memory => Fault::Memory,
+        }
+    }
+}
+
+impl From<AllocError> for Fault {
+    fn from(_error: AllocError) -> Fault {
+        Fault::Memory
+    }
 }

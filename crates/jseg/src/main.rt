@@ -6,8 +6,9 @@ mod command_line;
 mod cutting;
 mod fault;
 mod formatting;
+mod images;
 mod reporting;
-mod source_files;
+mod source_directory;
 
 use choices::OptionsFault;
 use command_line::options;

@@ -1,30 +1,133 @@
--- A source's fault that is told before the first read.
-use Rattle.std.proofs.Common.{◌≡◌, ℕ, sym, ap, ◌∙◌, subst, ◌⊎◌, inl, inr}
+-- Ends of a run before its first read.
+use Rattle.std.proofs.Common.{◌≡◌, ℕ, List, [], refl, sym, ap, ◌∙◌, subst, ◌⊎◌, inl, inr}
 use Rattle.std.specs.Prelude.{Result, Ok, Err}
 use Rattle.mj_model.specs.declared.run_fault.RunFault.{RunFault}
-use Rattle.mj_model.specs.declared.run_fault.RunFault.TheVariants.{Source}
 use Rattle.mj_model.specs.declared.run_fault.RunFault.TheVariants as run
 use Rattle.mj_model.specs.declared.source_fault.SourceFault.{SourceFault}
 use Rattle.mj_model.specs.declared.source_fault.SourceKind.TheVariants.{Memory}
 use Rattle.mj_model.specs.declared.sources.Sources.{Sources}
+use Rattle.mj_model.specs.Compilation.{HaveUserTables, IsCompilationCause, IsUserFault}
+use Rattle.mj_model.specs.Connection.{Sizes}
+use Rattle.mj_model.specs.Dictionary.{AreLexicons}
 use Rattle.mj_model.specs.FirstFault.{IsRefusal}
-use Rattle.mj_model.specs.SourceTables.{IsSourcesFault}
-use Rattle.segmenter.proofs.SourceFaults.{fault_is_one}
+use Rattle.mj_model.specs.ImageMeaning.{image_tables}
+use Rattle.mj_model.specs.SourceOverlays.{CompileTo, IsOfUser, IsUsersCause, IsUsersFault}
+use Rattle.mj_model.specs.SourceTables.{SayTheSame}
+use Rattle.mj_model.specs.Tables.{Tables}
+use Rattle.dict_compile.specs.Answers.{IsToldFor as IsCompileToldFor}
+use Rattle.dict_compile.proofs.FirstFaults.{not_both_of, tables_are_one}
+use Rattle.segmenter.specs.EarlyFaults.{EndsEarly}
+use Rattle.segmenter.specs.Runs.{IsEarly}
+use Rattle.segmenter.specs.SourceDicts.{IsDictOf, IsToldFor, IsUsersRefusal, LacksCells}
 
-abbrev error_of : SourceFault → Result ℕ RunFault → RunFault
-error_of other (Ok n) = Source other
-error_of other (Err fault) = fault
+abbrev error_or : RunFault → Result ℕ RunFault → RunFault
+error_or other (Ok n) = other
+error_or other (Err fault) = fault
 
-pub source_told : (s : Sources) (read told : SourceFault) (early : RunFault) → IsRefusal read (IsSourcesFault s read)
-    → ((other : SourceFault) → early ≡ Source other → (other ≡ read) × (read.kind ≡ Memory → ⊥))
-    → ◌≡◌ {A = Result ℕ RunFault} (Err early) (Err (Source told)) → IsSourcesFault s told
-source_told s read told early (inl memory) from e = absurd ((from told (ap (error_of told) e)).1 memory)
-source_told s read told early (inr cause) from e = subst (IsSourcesFault s) (sym (from told (ap (error_of told) e)).0) cause
+pub same_end : (f g : RunFault) → ◌≡◌ {A = Result ℕ RunFault} (Err f) (Err g) → f ≡ g
+same_end f g e = ap (error_or f) e
 
--- the first fault of the sources is told, unless memory was refused
-pub fault_told : (s : Sources) (read fault : SourceFault) (early : RunFault) → IsSourcesFault s fault → IsRefusal read (IsSourcesFault s read)
-    → (read.kind ≡ Memory → early ≡ run.Memory 0) → (early ≡ run.Memory 0) ⊎ (early ≡ Source read)
-    → ◌⊎◌ (◌≡◌ {A = Result ℕ RunFault} (Err early) (Err (Source fault))) (◌≡◌ {A = Result ℕ RunFault} (Err early) (Err (run.Memory 0)))
-fault_told s read fault early h (inl memory) from either = inr (ap Err (from memory))
-fault_told s read fault early h (inr cause) from (inl e) = inr (ap Err e)
-fault_told s read fault early h (inr cause) from (inr e) = inl (ap Err (e ∙ ap Source (fault_is_one s read fault cause h)))
+-- ---- a fault of the sources
+
+abbrev fault_or : SourceFault → RunFault → SourceFault
+fault_or other (run.Source fault) = fault
+fault_or other (run.UserSource i fault) = fault
+fault_or other (run.Read line) = other
+fault_or other (run.Write sent) = other
+fault_or other (run.NotUtf8 line) = other
+fault_or other (run.TooLong line) = other
+fault_or other (run.InputTooLong line) = other
+fault_or other (run.Memory line) = other
+
+source_by : (s : Sources) (fault told : SourceFault) (end : RunFault) → (end ≡ run.Memory 0) ⊎ ((end ≡ run.Source fault) × (fault.kind ≡ Memory → ⊥)) → IsRefusal fault (IsCompilationCause s fault)
+    → end ≡ run.Source told → IsCompilationCause s told
+source_by s fault told end (inl memory) r e = absurd (let clash : run.Memory 0 ≡ run.Source told = sym memory ∙ e in cc)
+source_by s fault told end (inr is) (inl memory) e = absurd (is.1 memory)
+source_by s fault told end (inr is) (inr cause) e = let same : run.Source fault ≡ run.Source told = sym is.0 ∙ e in subst (IsCompilationCause s) (ap (fault_or fault) same) cause
+
+pub source_told : (s : Sources) (fault told : SourceFault) (end : RunFault) → EndsEarly run.Source fault end → IsRefusal fault (IsCompilationCause s fault)
+    → ◌≡◌ {A = Result ℕ RunFault} (Err end) (Err (run.Source told)) → IsCompilationCause s told
+source_told s fault told end ends r e = source_by s fault told end ends.either r (same_end end (run.Source told) e)
+
+no_user_by : (fault told : SourceFault) (i : ℕ) (end : RunFault) → (end ≡ run.Memory 0) ⊎ ((end ≡ run.Source fault) × (fault.kind ≡ Memory → ⊥)) → end ≡ run.UserSource i told → ⊥
+no_user_by fault told i end (inl memory) e = let clash : run.Memory 0 ≡ run.UserSource i told = sym memory ∙ e in cc
+no_user_by fault told i end (inr is) e = let clash : run.Source fault ≡ run.UserSource i told = sym is.0 ∙ e in cc
+
+-- it is told of no user
+pub source_of_no_user : (fault told : SourceFault) (i : ℕ) (end : RunFault) → EndsEarly run.Source fault end → ◌≡◌ {A = Result ℕ RunFault} (Err end) (Err (run.UserSource i told)) → ⊥
+source_of_no_user fault told i end ends e = no_user_by fault told i end ends.either (same_end end (run.UserSource i told) e)
+
+first_by : (fault first : SourceFault) (end : RunFault) → (end ≡ run.Memory 0) ⊎ ((end ≡ run.Source fault) × (fault.kind ≡ Memory → ⊥)) → IsCompileToldFor first fault → IsToldFor (run.Source first) end
+first_by fault first end (inl memory) t = inr (inl memory)
+first_by fault first end (inr is) (inl same) = inl (is.0 ∙ ap run.Source same)
+first_by fault first end (inr is) (inr (inl memory)) = absurd (is.1 memory)
+first_by fault first end (inr is) (inr (inr full)) = inr (inr (subst LacksCells (sym is.0) full))
+
+pub source_first : (fault first : SourceFault) (end : RunFault) → EndsEarly run.Source fault end → IsCompileToldFor first fault → IsToldFor (run.Source first) end
+source_first fault first end ends t = first_by fault first end ends.either t
+
+compiled_by : (s : Sources) (t : Tables) (fault : SourceFault) (first end : RunFault) → CompileTo s t → (end ≡ run.Memory 0) ⊎ ((end ≡ run.Source fault) × (fault.kind ≡ Memory → ⊥))
+    → IsRefusal fault (IsCompilationCause s fault) → IsToldFor first end
+compiled_by s t fault first end c (inl memory) r = inr (inl memory)
+compiled_by s t fault first end c (inr is) (inl memory) = absurd (is.1 memory)
+compiled_by s t fault first end c (inr is) (inr (inl cause)) = absurd (not_both_of s t fault c.have c.few_features cause)
+compiled_by s t fault first end c (inr is) (inr (inr full)) = inr (inr (subst LacksCells (sym is.0) (ap (λ (f : SourceFault). f.kind) full.2.1)))
+
+-- where the sources compile, what is told in a user's stead is want of memory or of cells
+pub source_before_users : (s : Sources) (t : Tables) (fault : SourceFault) (first end : RunFault) → CompileTo s t → EndsEarly run.Source fault end
+    → IsRefusal fault (IsCompilationCause s fault) → IsToldFor first end
+source_before_users s t fault first end c ends r = compiled_by s t fault first end c ends.either r
+
+early_by : (fault : SourceFault) (end : RunFault) → (end ≡ run.Memory 0) ⊎ ((end ≡ run.Source fault) × (fault.kind ≡ Memory → ⊥)) → IsEarly (Err end)
+early_by fault end (inl memory) = subst (λ (e : RunFault). IsEarly (Err e)) (sym memory) refl
+early_by fault end (inr is) = subst (λ (e : RunFault). IsEarly (Err e)) (sym is.0) tt
+
+pub source_is_early : (fault : SourceFault) (end : RunFault) → EndsEarly run.Source fault end → IsEarly (Err end)
+source_is_early fault end ends = early_by fault end ends.either
+
+-- ---- a fault of the users' lexicons
+
+pub users_are_early : (system : Tables) (users : List (List (List ℕ))) (end : RunFault) → IsUsersRefusal system users end → IsEarly (Err end)
+users_are_early system users (run.Source fault) r = absurd r
+users_are_early system users (run.UserSource i fault) r = tt
+users_are_early system users (run.Read line) r = absurd r
+users_are_early system users (run.Write sent) r = absurd r
+users_are_early system users (run.NotUtf8 line) r = absurd r
+users_are_early system users (run.TooLong line) r = absurd r
+users_are_early system users (run.InputTooLong line) r = absurd r
+users_are_early system users (run.Memory line) r = r
+
+pub users_tell_no_source : (system : Tables) (users : List (List (List ℕ))) (end : RunFault) (told : SourceFault) → IsUsersRefusal system users end
+    → ◌≡◌ {A = Result ℕ RunFault} (Err end) (Err (run.Source told)) → ⊥
+users_tell_no_source system users end told r e = subst (IsUsersRefusal system users) (same_end end (run.Source told) e) r
+
+compile_to : (s : Sources) (dict : List ℕ) → IsDictOf s dict → CompileTo s (image_tables dict)
+compile_to s dict d = record { have = d.2.have; few_features = d.2.compiled.few_features }
+
+pub users_told : (s : Sources) (dict : List ℕ) (users : List (List (List ℕ))) (end : RunFault) (i : ℕ) (told : SourceFault) → IsDictOf s dict → IsUsersRefusal (image_tables dict) users end
+    → ◌≡◌ {A = Result ℕ RunFault} (Err end) (Err (run.UserSource i told)) → IsUsersCause s users i told
+users_told s dict users end i told d r e =
+    (image_tables dict, compile_to s dict d, subst (IsUsersRefusal (image_tables dict) users) (same_end end (run.UserSource i told) e) r)
+
+-- ---- tables of one kind and of the same sizes ask the same of users
+
+fault_along : (t u : Tables) (lexicons : List (List ℕ)) (fault : SourceFault) → t.kind ≡ u.kind → t.sizes ≡ u.sizes → IsUserFault t lexicons fault → IsUserFault u lexicons fault
+fault_along t u lexicons fault k z (s, inl h) = (sym k ∙ s, inl (subst (λ (sizes : Sizes). AreLexicons sizes 3 [] lexicons (Err fault)) z h))
+fault_along t u lexicons fault k z (s, inr h) = (sym k ∙ s, inr (h.0, subst (λ (sizes : Sizes). HaveUserTables sizes lexicons h.0) z h.1, h.2))
+
+along : (t u : Tables) (users : List (List (List ℕ))) (i : ℕ) (fault : SourceFault) → t.kind ≡ u.kind → t.sizes ≡ u.sizes → IsOfUser (IsUserFault t) t users i fault → IsOfUser (IsUserFault u) u users i fault
+along t u users i fault k z h = record {
+  lexicons = h.lexicons;
+  there = h.there;
+  fault_is = fault_along t u h.lexicons fault k z h.fault_is;
+  before_compile = λ j others less e.
+      let c = h.before_compile j others less e in
+      (c.0, record { have = subst (λ (s : Sizes). HaveUserTables s others c.0) z c.1.have; few_features = c.1.few_features });
+}
+
+-- the first fault of the users is that over the image's tables
+pub users_over : (s : Sources) (dict : List ℕ) (users : List (List (List ℕ))) (i : ℕ) (fault : SourceFault) → IsDictOf s dict → IsUsersFault s users i fault
+    → IsOfUser (IsUserFault (image_tables dict)) (image_tables dict) users i fault
+users_over s dict users i fault d h =
+    let same : SayTheSame h.0 (image_tables dict) = tables_are_one s h.0 (image_tables dict) h.1.have d.2.have in
+    along h.0 (image_tables dict) users i fault same.kind same.sizes h.2

@@ -5,10 +5,7 @@ pub mod WritingLemmas
 pub mod StepLemmas
 pub mod RunWork
 pub mod RunEnds
-pub mod LexiconLemmas
-pub mod FittingLemmas
-pub mod ConnectionLemmas
-pub mod SourceFaults
+pub mod UserDicts
+pub mod OverlayLemmas
 pub mod EarlyEnds
-pub mod SourceLemmas
-pub mod OverTables
+pub mod LoadedLemmas

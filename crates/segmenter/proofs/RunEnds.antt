@@ -15,7 +15,8 @@ use Rattle.segmenter.specs.declared.line_fault.LineError.TheVariants.{Bad, Memor
 use Rattle.segmenter.specs.LineErrors.{run_fault}
 use Rattle.segmenter.specs.Progress.{AllPrint, IsCause}
 use Rattle.segmenter.specs.Steps.{Stepped, StepStopped, last_line, IsLastCause}
-use Rattle.segmenter.specs.Runs.{Told, IsStarved, IsBad, EndsSo, lines_read}
+use Rattle.segmenter.specs.Runs.{Told, IsStarved, IsBad, EndsSo, Ran, lines_read}
+use Rattle.mj_model.specs.declared.source_fault.SourceFault.{SourceFault}
 use Rattle.segmenter.proofs.PieceLemmas.{open_line-append}
 use Rattle.segmenter.proofs.RunWork.{Running, bad_behind, print_on, whole_on, text_lines-parts}
 
@@ -210,3 +211,15 @@ module _ (Judges : List ℕ → Option LineFault → Type 0) (Prints : List ℕ 
         → RanSo left0 left2 held0 held2 before after result
     ran_finish (Ok count) sent_after took ends s flushed stopped = ran_to_the_end count sent_after took ends s flushed
     ran_finish (Err fault) sent_after took ends s flushed stopped = ran_to_fault fault took ends stopped
+
+-- ---- a run tells no fault of sources
+
+pub ran_tells_no_source : (Judges : List ℕ → Option LineFault → Type 0) (Prints : List ℕ → List ℕ → Type 0) (bound : ℕ) (left0 left1 held0 held1 : Option (List ℕ)) (before after : Told)
+    (result : Result ℕ RunFault) (fault : SourceFault) → Ran Judges Prints bound left0 left1 held0 held1 before after result → result ≡ Err (run.Source fault) → ⊥
+ran_tells_no_source Judges Prints bound left0 left1 held0 held1 before after result fault ran e =
+    subst (EndsSo Judges Prints bound ran.bytes ran.written before after) e ran.ends
+
+pub ran_tells_no_user : (Judges : List ℕ → Option LineFault → Type 0) (Prints : List ℕ → List ℕ → Type 0) (bound : ℕ) (left0 left1 held0 held1 : Option (List ℕ)) (before after : Told)
+    (result : Result ℕ RunFault) (i : ℕ) (fault : SourceFault) → Ran Judges Prints bound left0 left1 held0 held1 before after result → result ≡ Err (run.UserSource i fault) → ⊥
+ran_tells_no_user Judges Prints bound left0 left1 held0 held1 before after result i fault ran e =
+    subst (EndsSo Judges Prints bound ran.bytes ran.written before after) e ran.ends

@@ -3,6 +3,6 @@ pub mod PrintedLines
 pub mod Progress
 pub mod Runs
 pub mod Steps
-pub mod IdSizes
-pub mod AddedLexicon
 pub mod Sample
+pub mod SourceDicts
+pub mod EarlyFaults

@@ -1,22 +1,22 @@
 //! Text in, words out: lines are read, cut into words and printed.
 #![tactic(auto)]
 
-mod lexicons;
+mod dicts;
+mod early_fault;
 mod line_fault;
 mod line_printer;
 mod progress;
 mod reading;
 mod running;
 mod sample_sources;
-mod sizes;
-mod sources;
+mod segmentation;
 mod steps;
-mod unknown;
 mod words_printer;
 mod writing;
 
 pub use running::run_sources;
 pub use sample_sources::sample;
+pub use segmentation::segment;
 
 #[cfg(test)]
 mod tests;

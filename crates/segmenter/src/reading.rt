@@ -1,9 +1,8 @@
 //! The loop over a text: read, work, write.
 
-ghost use Rattle.std.specs.Prelude.{◌≡◌, ℕ, List, ◌+◌, ◌≤◌, ◌<◌, ◌^◌, ◌++◌, length, [], false, OnOk, OnErr, IfOk, IfErr, Err, ◌⊎◌, vec_len};
+ghost use Rattle.std.specs.Prelude.{◌≡◌, ℕ, List, ◌+◌, ◌≤◌, ◌<◌, ◌^◌, ◌++◌, length, [], false, OnOk, OnErr, IfOk, IfErr, vec_len};
 ghost use Rattle.std.specs.Io.KnownBytes.{Appends, Consumes, IsAtEnd};
 ghost use Rattle.segmenter.specs.Progress.{HasNoFeed};
-ghost use Rattle.mj_model.specs.declared.run_fault.RunFault.TheVariants.{Memory};
 ghost use Rattle.segmenter.specs.Runs.{EndsSo, Ran};
 
 use crate::line_printer::LinePrinter;
@@ -69,7 +68,7 @@ fn new_buffer(alloc: Global) -> Result<Vec<u8>, AllocError>
     vec![in alloc; 0; BUFFER]
 }
 
-/// Runs over a text, with a buffer of its own. Memory(0) comes before the first read.
+/// Runs over a text, with a buffer of its own.
 pub fn run_over<P: LinePrinter, R: TextIn, W: TextOut>(
     alloc: Global,
     printer: &P,
@@ -83,14 +82,13 @@ pub fn run_over<P: LinePrinter, R: TextIn, W: TextOut>(
     requires ends { R.ends reader.old < 2 ^ 63 }
     requires read_failures { R.TextIn.failures reader.old < 2 ^ 63 }
     requires write_failures { W.TextOut.failures writer.old < 2 ^ 63 }
-    ensures run { ((result ≡ Err (Memory 0)) × (reader.new ≡ reader.old) × (writer.new ≡ writer.old))
-        ⊎ Ran (P.judges printer.now) (P.prints printer.now) bound (R.remaining reader.old) (R.remaining reader.new) (W.contents writer.old) (W.contents writer.new)
+    ensures run { Ran (P.judges printer.now) (P.prints printer.now) bound (R.remaining reader.old) (R.remaining reader.new) (W.contents writer.old) (W.contents writer.new)
         (record { reads = R.reads reader.old; ends = R.ends reader.old; read_failures = R.TextIn.failures reader.old; write_failures = W.TextOut.failures writer.old; unflushed = W.unflushed writer.old })
         (record { reads = R.reads reader.new; ends = R.ends reader.new; read_failures = R.TextIn.failures reader.new; write_failures = W.TextOut.failures writer.new; unflushed = W.unflushed writer.new })
         result }
 {
     let Ok(mut buffer) = new_buffer(alloc) else {
-        return Err(RunFault::Memory(0));
+        return Err(RunFault::Memory(1));
     };
     print_lines(alloc, printer, kept, reader, writer, &mut buffer, bound)
 }

@@ -6,3 +6,4 @@ mod formats;
 mod paths;
 mod refusals;
 mod rows;
+mod users;

@@ -1,7 +1,7 @@
--- What the search and the laws of paths ask of an overlay, met by tables that were read.
-use Rattle.std.proofs.Common.{ℕ, zero, suc, ◌+◌, ◌<◌, ◌≤◌, ◌^◌, Bool, true, false, cond, ◌&&◌, List, [], ◌∷◌, ◌++◌, length, take, drop, map, Contains, arith, subst, inl, inr}
+-- What the search asks of an overlay whose entries have ids within the sizes.
+use Rattle.std.proofs.Common.{ℕ, suc, ◌≤◌, ◌^◌, Bool, true, false, cond, ◌&&◌, List, [], ◌∷◌, ◌++◌, length, take, drop, map, Contains, arith, subst, inl, inr}
 use Rattle.std.specs.Prelude.{IsTrue, IsUtf8, nat_lt, bytes_eq}
-use Rattle.std.specs.List.{AllByRecursion, enumerate_from}
+use Rattle.std.specs.List.{AllByRecursion}
 use Rattle.std.proofs.lemmas.Bool.{and_parts, and_from}
 use Rattle.mj_model.specs.declared.limits.TheConstants.{SENTENCE_MAX}
 use Rattle.mj_model.specs.declared.word.Word.{Word}
@@ -9,72 +9,28 @@ use Rattle.mj_model.specs.Best.{IsWithin}
 use Rattle.mj_model.specs.Blanks.{skip, chars_from}
 use Rattle.mj_model.specs.Connection.{Sizes, is_pair}
 use Rattle.mj_model.specs.KnownWords.{up_to, known_word, entries_of_length, known_in, known_from, known}
-use Rattle.mj_model.specs.Laws.{StandsIn, HasApartTokens, HasWords}
-use Rattle.mj_model.specs.Lexicon.{Row}
+use Rattle.mj_model.specs.Laws.{StandsIn, HasWords}
 use Rattle.mj_model.specs.Run.{bytes_of}
-use Rattle.mj_model.specs.Tables.{Lexeme, Token, Overlay, lexicons}
-use Rattle.mj_model.specs.UnkDef.{token_of, unknown_tokens}
+use Rattle.mj_model.specs.Tables.{Lexeme, Overlay, lexicons}
 use Rattle.mj_model.specs.UnknownSpans.{spans}
 use Rattle.mj_model.specs.Words.{is_empty, is_place, unknown, unknown_word, words}
 use Rattle.mj_model.proofs.Members.{in_from_Contains, in_append, in_map, in_filter, in_flat_map, holds_in}
 use Rattle.mj_model.proofs.PlaceWords.{place_there, words_keep_places}
 use Rattle.mj_model.specs.Searchable.{IsSearchable}
-use Rattle.word_lookup.specs.Fitting.{AreFitting, IsFittingRow, IsFittingLexeme}
-
--- ---- unknown entries: their numbers are apart, and each category has one
-
-abbrev numbered : ℕ → List Row → List Token
-numbered n rows = map token_of (enumerate_from n rows)
-
-abbrev numbers : List Token → List ℕ
-numbers ts = map (λ (t : Token). t.number) ts
-
-later : (first n : ℕ) (rows : List Row) → StandsIn (numbers (numbered first rows)) n → first ≤ n
-later first n [] h = absurd h
-later first n (r ∷ rows) (inl e) = omega (arith, e)
-later first n (r ∷ rows) (inr h) = let l = later (first + 1) n rows h in omega (arith, l)
-
-numbered_apart : (first : ℕ) (rows : List Row) → HasApartTokens (numbered first rows)
-numbered_apart first [] = tt
-numbered_apart first (r ∷ rows) = (λ h. let l = later (first + 1) first rows h in omega (arith, l), numbered_apart (first + 1) rows)
-
-pub unknown_apart : (n i : ℕ) (unknown : List (List Row)) → HasApartTokens (unknown_tokens n unknown i)
-unknown_apart n i [] = tt
-unknown_apart n zero (rows ∷ unknown) = numbered_apart n rows
-unknown_apart n (suc i) (rows ∷ unknown) = unknown_apart (n + length rows) i unknown
-
-some_numbered : (n : ℕ) (rows : List Row) → 0 < length rows → 0 < length (numbered n rows)
-some_numbered n [] h = h
-some_numbered n (row ∷ rows) h = omega arith
-
-pub unknown_some : (n i : ℕ) (unknown : List (List Row)) → i < length unknown → AllByRecursion (λ rows. 0 < length rows) unknown → 0 < length (unknown_tokens n unknown i)
-unknown_some n i [] less all = absurd (omega arith)
-unknown_some n zero (rows ∷ unknown) less all = some_numbered n rows all.0
-unknown_some n (suc i) (rows ∷ unknown) less all = unknown_some (n + length rows) i unknown (omega arith) all.1
-
--- ---- ids and costs of the entries
-
-abbrev pub IsFittingToken : Sizes → Token → Type 0
-IsFittingToken sizes t = AreFitting sizes t.right t.left t.cost
-
-numbered_fit : (sizes : Sizes) (n : ℕ) (rows : List Row) → AllByRecursion (IsFittingRow sizes) rows → AllByRecursion (IsFittingToken sizes) (numbered n rows)
-numbered_fit sizes n [] all = tt
-numbered_fit sizes n (row ∷ rows) all = (all.0, numbered_fit sizes (n + 1) rows all.1)
-
-pub unknown_fit : (sizes : Sizes) (n i : ℕ) (unknown : List (List Row)) → AllByRecursion (AllByRecursion (IsFittingRow sizes)) unknown → AllByRecursion (IsFittingToken sizes) (unknown_tokens n unknown i)
-unknown_fit sizes n i [] all = tt
-unknown_fit sizes n zero (rows ∷ unknown) all = numbered_fit sizes n rows all.0
-unknown_fit sizes n (suc i) (rows ∷ unknown) all = unknown_fit sizes (n + length rows) i unknown all.1
+use Rattle.dict_image.specs.Fitting.{IsFitting}
 
 -- ---- each word is of an entry that fits
+
+abbrev pub IsFittingLexeme : Sizes → Lexeme → Type 0
+IsFittingLexeme sizes e = IsFitting sizes e.token
 
 -- the entries of an overlay have ids within the sizes, and costs of 16 bits
 pub record EntriesFit (sizes : Sizes) (o : Overlay) : Type 0 where
   pub known_fit : AllByRecursion (AllByRecursion (IsFittingLexeme sizes)) (lexicons o)
-  pub unknown_fit : (i : ℕ) → AllByRecursion (IsFittingToken sizes) (o.system.unknown i)
+  pub unknown_fit : (i : ℕ) → AllByRecursion (IsFitting sizes) (o.system.unknown i)
 
 abbrev pub IsFittingWord : Sizes → Word → Type 0
-IsFittingWord sizes w = AreFitting sizes w.right w.left w.cost
+IsFittingWord sizes w = IsTrue (is_pair sizes w.right w.left) × IsWithin (2 ^ 15) w.cost
 
 fitting_in : (sizes : Sizes) (place start : ℕ) (text : List ℕ) (dict : ℕ) (lexicon : List Lexeme) (w : Word) → AllByRecursion (IsFittingLexeme sizes) lexicon → StandsIn (known_in place start text dict lexicon) w → IsFittingWord sizes w
 fitting_in sizes place start text dict lexicon w all h =
@@ -90,13 +46,13 @@ fitting_from sizes place start text dict (lexicon ∷ more) w fit h = elim (in_a
   | inr j ↦ fitting_from sizes place start text (suc dict) more w fit.1 j
 ]
 
-fitting_unknown : (sizes : Sizes) (o : Overlay) (none_known : Bool) (place start : ℕ) (cs : List ℕ) (w : Word) → ((i : ℕ) → AllByRecursion (IsFittingToken sizes) (o.system.unknown i)) → StandsIn (unknown o none_known place start cs) w → IsFittingWord sizes w
+fitting_unknown : (sizes : Sizes) (o : Overlay) (none_known : Bool) (place start : ℕ) (cs : List ℕ) (w : Word) → ((i : ℕ) → AllByRecursion (IsFitting sizes) (o.system.unknown i)) → StandsIn (unknown o none_known place start cs) w → IsFittingWord sizes w
 fitting_unknown sizes o none_known place start [] w fit h = absurd h
 fitting_unknown sizes o none_known place start (c ∷ cs) w fit h =
     let ts = o.system.unknown (o.system.info c).head in
     let r = in_flat_map (λ n. map (unknown_word place start (bytes_of n (c ∷ cs))) ts) (spans o none_known c cs) w h in
     let m = in_map (unknown_word place start (bytes_of r.0 (c ∷ cs))) ts w r.2 in
-    subst (IsFittingWord sizes) m.2 (holds_in (IsFittingToken sizes) ts m.0 (fit (o.system.info c).head) m.1)
+    subst (IsFittingWord sizes) m.2 (holds_in (IsFitting sizes) ts m.0 (fit (o.system.info c).head) m.1)
 
 fitting_by : (sizes : Sizes) (o : Overlay) (text : List ℕ) (p : ℕ) (w : Word) (b : Bool) → EntriesFit sizes o
     → StandsIn (cond b (known o text p ++ unknown o (is_empty (known o text p)) p (skip o text p) (chars_from text (skip o text p))) []) w → IsFittingWord sizes w

@@ -4,7 +4,7 @@ use Rattle.std.specs.Prelude.{◌==◌, IsTrue, IsUtf8, chars, encode_utf8, min,
 use Rattle.std.specs.Char.{len_utf8}
 use Rattle.std.specs.Str.{IsCharBoundary, is_utf8}
 use Rattle.std.proofs.lemmas.Bool.{and_parts, and_from, and_right, eq-eqb, ne_eqb, leb-true, lt-ltb, le-ltb}
-use Rattle.std.proofs.lemmas.List.{get_or-drop, length-drop, length-append, append_assoc, drop_at}
+use Rattle.std.proofs.lemmas.List.{append-nil, nil_from_length, get_or-drop, length-drop, length-append, append_assoc, drop_at}
 use Rattle.std.proofs.lemmas.Str.{IsCharBoundary-start, IsUtf8-from_is_utf8, length-le-encodes, length-encode, encodes-chars, chars_past_char}
 use Rattle.mj_model.specs.declared.category.CharInfo.{CharInfo}
 use Rattle.mj_model.specs.declared.word.Word.{Word}
@@ -131,3 +131,12 @@ unknown_are o none_known place start c i all following ts ns e at t s =
     ∙ ap (λ (entries : List Token). words_of_spans place start (c ∷ following) entries ns) (t ∙ ap o.system.unknown at)
     ∙ ap (λ (lengths : List ℕ). words_of_spans place start (c ∷ following) (o.system.unknown (o.system.info c).head) lengths) s
     ∙ ap (λ (xs : List ℕ). unknown o none_known place start xs) (sym e)
+
+-- an empty text has no characters
+pub none_there : (o : Overlay) (none_known : Bool) (place start : ℕ) (text rest : List ℕ) (out : List Word) → IsUtf8 text → rest ≡ text → length rest ≡ 0 → out ≡ out ++ unknown o none_known place start (chars text)
+none_there o none_known place start text rest out u same none =
+    let short = length-le-encodes (chars text) in
+    let spelled = ap length (encodes-chars text u) in
+    let e = ap length same in
+    let empty : chars text ≡ [] = nil_from_length (chars text) (omega (arith, short, spelled, e, none)) in
+    sym (append-nil out) ∙ ap (λ (cs : List ℕ). out ++ unknown o none_known place start cs) (sym empty)

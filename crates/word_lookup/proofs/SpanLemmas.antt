@@ -1,13 +1,15 @@
 -- Unknown spans from what a bounded look ahead tells.
 use Rattle.std.proofs.Common.{◌≡◌, ℕ, zero, suc, ◌+◌, ◌-◌, ◌<◌, ◌≤◌, Bool, true, false, cond, ◌&&◌, ◌||◌, List, [], ◌∷◌, ◌++◌, length, take, filter, sym, ap, ◌∙◌, refl, arith, subst}
 use Rattle.std.specs.Char.{len_utf8}
-use Rattle.std.specs.Prelude.{IfSome, not, min, nat_lt, nat_le, take_while, Option, Some, None}
+use Rattle.mj_model.specs.Tables.{no_category}
+use Rattle.std.specs.Prelude.{IfSome, slice_get, slice_index_or, not, max, min, nat_lt, nat_le, take_while, Option, Some, None}
 use Rattle.std.specs.List.{prefix_len}
 use Rattle.std.proofs.lemmas.Bool.{cases_Bool}
 use Rattle.std.proofs.Common.{inl, inr}
 use Rattle.std.proofs.lemmas.Bool.Decides.{nat_tests}
-use Rattle.std.proofs.lemmas.List.{append-nil}
+use Rattle.std.proofs.lemmas.List.{append-nil, length-take}
 use Rattle.std.proofs.lemmas.List.Folds.{length-prefix_len}
+use Rattle.std.proofs.lemmas.List.Sums.{prefix_len-le-length}
 use Rattle.std.proofs.lemmas.List.Elements.{filter-append, filter_agree}
 use Rattle.mj_model.specs.declared.category.Category.{Category}
 use Rattle.mj_model.specs.declared.category.CharInfo.{CharInfo}
@@ -176,3 +178,31 @@ spans_found_from info category wanted none_known grouping limit first entry cs s
 pub no_spans_from : (category wanted : Category) (none_known : Bool) (grouping whole same : ℕ) → wanted ≡ category → (category.invoke || none_known) ≡ false → [] ≡ spans_of wanted none_known grouping whole same
 no_spans_from category wanted none_known grouping whole same w made =
     sym (ap (λ (k : Category). spans_of k none_known grouping whole same) w ∙ no_spans category none_known grouping whole same made)
+
+-- ---- the category
+
+found_in : (categories : List Category) (i : ℕ) (found : Category) → slice_get categories i ≡ Some found → slice_index_or categories i no_category ≡ found
+found_in [] i found h = absurd (cc)
+found_in (c ∷ categories) zero found h = cc
+found_in (c ∷ categories) (suc i) found h = found_in categories i found h
+
+pub category_is : (categories : List Category) (head i : ℕ) (found : Category) → i ≡ head → slice_get categories i ≡ Some found → slice_index_or categories head no_category ≡ found
+category_is categories head i found at h = ap (λ (k : ℕ). slice_index_or categories k no_category) (sym at) ∙ found_in categories i found h
+
+-- ---- the longest length
+
+few_alike : (p : ℕ → Bool) (cs : List ℕ) → length (take_while p cs) ≤ length cs
+few_alike p cs =
+    let e = length-prefix_len p cs in
+    let low = prefix_len-le-length p cs in
+    omega (arith, e, low)
+
+within_by : (group : Bool) (len seen following long result n : ℕ) → seen ≤ n → long ≡ longest group len (1 + seen) following → result ≤ max 1 long → result ≤ suc n
+within_by true len seen following long result n few is most = omega (arith, few, is, most)
+within_by false len seen following long result n few is most = omega (arith, few, is, most)
+
+pub longest_within : (group : Bool) (p : ℕ → Bool) (limit len seen following long result : ℕ) (cs : List ℕ) → seen ≡ length (take_while p (take limit cs)) → long ≡ longest group len (1 + seen) following → result ≤ max 1 long → result ≤ suc (length cs)
+longest_within group p limit len seen following long result cs are is most =
+    let few = few_alike p (take limit cs) in
+    let short = length-take limit cs in
+    within_by group len seen following long result (length cs) (omega (arith, are, few, short)) is most

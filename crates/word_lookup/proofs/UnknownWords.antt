@@ -1,47 +1,31 @@
--- The unknown words of entries and of spans, one after another.
+-- The unknown words of spans, one after another.
 use Rattle.std.proofs.Common.{◌≡◌, ℕ, suc, ◌+◌, ◌-◌, ◌<◌, ◌≤◌, List, [], ◌∷◌, ◌++◌, length, get_or, take, map, flat_map, sym, ap, ◌∙◌, arith, add-one}
 use Rattle.std.specs.Char.{len_utf8}
-use Rattle.std.proofs.lemmas.List.{length-take-le, append-nil, append_assoc, map-append, take_more, get_or-take}
+use Rattle.std.specs.Prelude.{OnOk, Option, Some, None, Result, Ok, Err}
+use Rattle.std.proofs.lemmas.List.{append-nil, append_assoc, get_or-take}
 use Rattle.std.proofs.lemmas.List.Concat.{flat_map-append}
-use Rattle.mj_model.specs.declared.entry.Record.{Record}
+use Rattle.mj_model.specs.declared.word.Origin.TheVariants.{Unknown}
 use Rattle.mj_model.specs.declared.word.Word.{Word}
-use Rattle.mj_model.specs.KnownWords.{up_to}
-use Rattle.mj_model.specs.Lexicon.{row_of}
+use Rattle.mj_model.specs.KnownWords.{up_to, word_of}
 use Rattle.mj_model.specs.Run.{bytes_of}
 use Rattle.mj_model.specs.Tables.{Token}
-use Rattle.mj_model.specs.UnkDef.{token_of}
 use Rattle.mj_model.specs.Words.{unknown_word}
-use Rattle.word_lookup.specs.UnknownEntries.{tokens, words_of_spans}
+use Rattle.word_lookup.specs.declared.entry_words.EntryList.TheVariants.{Categories}
+use Rattle.word_lookup.specs.declared.run.Run.{Run}
+use Rattle.word_lookup.specs.declared.spans.Spans.{Spans}
+use Rattle.word_lookup.specs.EntryWords.{entry_word}
+use Rattle.word_lookup.specs.Spans.{grouped_spans, spans_in}
+use Rattle.word_lookup.specs.UnknownEntries.{words_of_spans}
 use Rattle.word_lookup.proofs.RunLemmas.{one_more_byte}
 
-pub tokens-append : (first : ℕ) (rs qs : List Record) → tokens first (rs ++ qs) ≡ tokens first rs ++ tokens (first + length rs) qs
-tokens-append first [] qs = ap (λ (n : ℕ). tokens n qs) (let e : first ≡ first + 0 = omega arith in e)
-tokens-append first (r ∷ rs) qs =
-    let e : first + 1 + length rs ≡ first + length (r ∷ rs) = omega arith in
-    ap (λ (ts : List Token). token_of (first, row_of r) ∷ ts) (tokens-append (first + 1) rs qs ∙ ap (λ (n : ℕ). tokens (first + 1) rs ++ tokens n qs) e)
+-- the words of entries from a start to an end
+from_start : (place start end : ℕ) (ts : List Token) → start ≤ end → map (entry_word Categories place start end) ts ≡ map (unknown_word place start (end - start)) ts
+from_start place start end ts low =
+    let e : end ≡ start + (end - start) = omega (arith, low) in
+    ap (λ (k : ℕ). map (λ (t : Token). word_of place start k (Unknown t.number) t) ts) e
 
-tokens_more : (first i : ℕ) (rs : List Record) (d : Record) → i < length rs → tokens first (take (i + 1) rs) ≡ tokens first (take i rs) ++ token_of (first + i, row_of (get_or rs i d)) ∷ []
-tokens_more first i rs d less =
-    let long : length (take i rs) ≡ i = length-take-le i rs (omega (arith, less)) in
-    ap (tokens first) (take_more rs i d less)
-    ∙ tokens-append first (take i rs) (get_or rs i d ∷ [])
-    ∙ ap (λ (k : ℕ). tokens first (take i rs) ++ token_of (first + k, row_of (get_or rs i d)) ∷ []) long
-
--- one entry more
-pub one_entry_more : (f : Token → Word) (first i : ℕ) (rs : List Record) (r : Record) (before all after : List Word) (w : Word) → i < length rs → r ≡ get_or rs i r
-    → w ≡ f (token_of (first + i, row_of r))
-    → all ≡ before ++ map f (tokens first (take i rs)) → after ≡ all ++ w ∷ []
-    → after ≡ before ++ map f (tokens first (take (i + 1) rs))
-one_entry_more f first i rs r before all after w less at is so_far more =
-    let ts = tokens first (take i rs) in
-    let t = token_of (first + i, row_of r) in
-    let front : tokens first (take (i + 1) rs) ≡ ts ++ t ∷ [] = tokens_more first i rs r less ∙ ap (λ (q : Record). ts ++ token_of (first + i, row_of q) ∷ []) (sym at) in
-    more
-    ∙ ap (λ (l : List Word). l ++ w ∷ []) so_far
-    ∙ ap (λ (v : Word). (before ++ map f ts) ++ v ∷ []) is
-    ∙ append_assoc before (map f ts) (f t ∷ [])
-    ∙ ap (λ (l : List Word). before ++ l) (sym (map-append f ts (t ∷ [])))
-    ∙ ap (λ (l : List Token). before ++ map f l) (sym front)
+pub words_from_start : (place start end : ℕ) (found ts : List Token) → start ≤ end → found ≡ ts → map (entry_word Categories place start end) found ≡ map (unknown_word place start (end - start)) ts
+words_from_start place start end found ts low e = ap (map (entry_word Categories place start end)) e ∙ from_start place start end ts low
 
 -- one length more
 pub one_span_more : (place start : ℕ) (cs : List ℕ) (entries : List Token) (n end : ℕ) (before all after : List Word) → end ≡ start + bytes_of (n + 1) cs
@@ -77,3 +61,22 @@ grouped_first place start cs entries n bytes spans before all after at one more 
     more
     ∙ ap (λ (xs : List Word). xs ++ rest) (one ∙ ap (λ (b : ℕ). before ++ map (unknown_word place start b) entries) far)
     ∙ append_assoc before (map (unknown_word place start (bytes_of n cs)) entries) rest
+
+-- ---- all spans
+
+-- the grouped span's words and then those of the lengths
+pub grouped_appended : {E : Type 0} (place start : ℕ) (cs : List ℕ) (entries : List Token) (spans : Spans) (run : Run) (before one all after : List Word) (r : Result (Unit {0}) E) → spans.grouped ≡ Some run → run.bytes ≡ bytes_of run.characters cs
+    → one ≡ before ++ map (unknown_word place start ((start + run.bytes) - start)) entries → all ≡ one → OnOk r (after ≡ all ++ words_of_spans place start cs entries (up_to spans.longest))
+    → OnOk r (after ≡ before ++ words_of_spans place start cs entries (spans_in spans))
+grouped_appended {E} place start cs entries spans run before one all after (Ok u) is has first at more =
+    let at_end : start + run.bytes ≡ start + bytes_of run.characters cs = ap (λ (k : ℕ). start + k) has in
+    grouped_first place start cs entries run.characters (start + run.bytes) (up_to spans.longest) before all after at_end (at ∙ first) more
+    ∙ ap (λ (g : Option Run). before ++ words_of_spans place start cs entries (grouped_spans g ++ up_to spans.longest)) (sym is)
+grouped_appended {E} place start cs entries spans run before one all after (Err e) is has first at more = tt
+
+pub lengths_appended : {E : Type 0} (place start : ℕ) (cs : List ℕ) (entries : List Token) (spans : Spans) (before all after : List Word) (r : Result (Unit {0}) E) → spans.grouped ≡ None
+    → all ≡ before → OnOk r (after ≡ all ++ words_of_spans place start cs entries (up_to spans.longest)) → OnOk r (after ≡ before ++ words_of_spans place start cs entries (spans_in spans))
+lengths_appended {E} place start cs entries spans before all after (Ok u) is at more =
+    more ∙ ap (λ (ws : List Word). ws ++ words_of_spans place start cs entries (up_to spans.longest)) at
+    ∙ ap (λ (g : Option Run). before ++ words_of_spans place start cs entries (grouped_spans g ++ up_to spans.longest)) (sym is)
+lengths_appended {E} place start cs entries spans before all after (Err e) is at more = tt

@@ -1,16 +1,26 @@
--- What the search asks of the entries of a dictionary.
-use Rattle.std.specs.Prelude.{ℕ, ℤ, ◌^◌, IsTrue}
-use Rattle.mj_model.specs.Best.{IsWithin}
-use Rattle.mj_model.specs.Connection.{Sizes, is_pair}
-use Rattle.mj_model.specs.Lexicon.{Row}
-use Rattle.mj_model.specs.Tables.{Lexeme}
+-- Dictionaries that make an overlay, and what a search asks of them.
+use Rattle.std.specs.Prelude.{◌≡◌, ℕ, true, false, List}
+use Rattle.std.specs.List.{AllByRecursion}
+use Rattle.mj_model.specs.Connection.{Sizes}
+use Rattle.mj_model.specs.Overlays.{is_user, are_same_sizes}
+use Rattle.mj_model.specs.Tables.{Tables}
+use Rattle.dict_image.specs.Fitting.{AreFitting}
 
--- ids within the sizes, and a cost of 16 bits
-abbrev pub AreFitting : Sizes → ℕ → ℕ → ℤ → Type 0
-AreFitting sizes right left cost = IsTrue (is_pair sizes right left) × IsWithin (2 ^ 15) cost
+abbrev pub sizes_of : ℕ × ℕ → Sizes
+sizes_of sizes = record { right = sizes.0; left = sizes.1 }
 
-abbrev pub IsFittingRow : Sizes → Row → Type 0
-IsFittingRow sizes row = AreFitting sizes row.right row.left row.cost
+-- a user dictionary, made for these sizes
+pub record IsUserOf (sizes : Sizes) (t : Tables) : Type 0 where
+  pub is_users : is_user t.kind ≡ true
+  pub same_sizes : are_same_sizes t.sizes sizes ≡ true
+  pub fits : AreFitting t
 
-abbrev pub IsFittingLexeme : Sizes → Lexeme → Type 0
-IsFittingLexeme sizes e = AreFitting sizes e.token.right e.token.left e.token.cost
+-- a system dictionary, with user dictionaries that were made for its sizes
+pub record AreLaidOver (system : Tables) (users : List Tables) : Type 0 where
+  pub is_system : is_user system.kind ≡ false
+  pub fits : AreFitting system
+  pub users_fit : AllByRecursion (IsUserOf system.sizes) users
+
+-- the same, as a word that is not taken apart
+unfoldable pub IsOverlay : Tables → List Tables → Type 0
+IsOverlay system users = AreLaidOver system users

@@ -1,12 +1,6 @@
-pub mod Connections
 pub mod Fitting
-pub mod Chars
 pub mod Spans
+pub mod EntryWords
 pub mod UnknownEntries
-pub mod FirstNumbers
-pub mod Features
-pub mod Lexemes
-pub mod Beginnings
-pub mod SortedLexicons
 pub mod Overlays
-pub mod TablesOf
+pub mod Props

@@ -1,17 +1,9 @@
--- The unknown entries of a category, and their words.
+-- The words of unknown entries.
 use Rattle.std.specs.Prelude.{ℕ, List, map, flat_map}
-use Rattle.std.specs.List.{enumerate_from}
-use Rattle.mj_model.specs.declared.entry.Record.{Record}
 use Rattle.mj_model.specs.declared.word.Word.{Word}
-use Rattle.mj_model.specs.Lexicon.{rows_of}
 use Rattle.mj_model.specs.Run.{bytes_of}
 use Rattle.mj_model.specs.Tables.{Token}
-use Rattle.mj_model.specs.UnkDef.{token_of}
 use Rattle.mj_model.specs.Words.{unknown_word}
-
--- the entries of records that are numbered from `first` on
-abbrev pub tokens : ℕ → List Record → List Token
-tokens first records = map token_of (enumerate_from first (rows_of records))
 
 -- the words of spans of these characters: of each span one for each entry
 abbrev pub words_of_spans : ℕ → ℕ → List ℕ → List Token → List ℕ → List Word

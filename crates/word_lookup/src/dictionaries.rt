@@ -1,47 +1,69 @@
 //! The dictionaries that words are looked up in.
 
-ghost use Rattle.std.specs.Prelude.{◌≡◌, ℕ, ◌+◌, ◌<◌, ◌≤◌, ◌^◌, ◌++◌, ◌∷◌, [], length, take, drop, vec_len, chars, IsTrue, IsOk, OnOk, OnErr, Bool};
+ghost use Rattle.std.specs.Prelude.{◌≡◌, ℕ, ◌+◌, ◌<◌, ◌≤◌, ◌^◌, ◌++◌, ◌∷◌, [], length, map, take, drop, vec_len, chars, IsTrue, IsOk, IfOk, OnOk, OnErr, IfErr, Bool, Some, None, slice_index_or};
 ghost use Rattle.std.specs.Str.{IsUtf8};
 ghost use Rattle.mj_model.specs.Blanks.{skip, chars_from};
-ghost use Rattle.mj_model.specs.CharDef.{code_point_max};
 ghost use Rattle.mj_model.specs.Connection.{is_pair};
-ghost use Rattle.mj_model.specs.KnownWords.{known};
+ghost use Rattle.mj_model.specs.ImageMeaning.{image_tables};
+ghost use Rattle.mj_model.specs.KnownWords.{known, known_from};
+ghost use Rattle.mj_model.specs.Overlays.{overlay_fault};
 ghost use Rattle.mj_model.specs.Printed.{feature_of};
+ghost use Rattle.mj_model.specs.Tables.{lexicons};
 ghost use Rattle.mj_model.specs.Words.{is_place, is_empty, unknown, words};
-ghost use Rattle.word_lookup.specs.Features.{feature_in_record};
-ghost use Rattle.word_lookup.specs.Overlays.{overlay_of, tables_of};
+ghost use Rattle.word_lookup.specs.Fitting.{IsOverlay};
+ghost use Rattle.word_lookup.specs.Props.{IsOverlay-prop};
 
+use crate::known::append_known;
+use crate::overlay::check_users;
 use crate::run::run_up_to;
 use crate::spans::spans_from;
-use crate::tables::Tables;
-use mj_model::{CharInfo, GROUPING_DEFAULT, Origin, Record, Word};
+use crate::unknown_entries::UnknownEntries;
+use dict_image::{Dict, EntryRef};
+use mj_model::{CharInfo, GROUPING_DEFAULT, Origin, OverlayFault, Word};
 use std::alloc::{AllocError, Global};
 
-/// A system dictionary, and how many characters may follow the first one of a grouped unknown word.
+/// A system dictionary with users' dictionaries laid over it, and how many characters may follow the first one of a grouped
+/// unknown word.
 #[derive(Clone, Copy, Drop)]
 pub struct Dictionaries<'a> {
-    pub(crate) tables: &'a Tables,
+    pub(crate) system: &'a Dict,
+    pub(crate) users: &'a [Dict],
     pub(crate) grouping: u16,
+    ghost fitting: { IsOverlay (image_tables system.now) (map image_tables users.now) } by { IsOverlay-prop (image_tables system.now) (map image_tables users.now) },
 }
 
 impl<'a> Dictionaries<'a> {
-    /// The dictionary alone, with a grouping of 24 characters.
-    pub fn over(tables: &'a Tables) -> Dictionaries<'a>
-        ensures { overlay_of result ≡ record { system = tables_of tables.now; users = []; grouping = 24 } }
+    ghost use Rattle.word_lookup.specs.EntryWords.{feature_in_entry};
+    ghost use Rattle.word_lookup.specs.Overlays.{lexicon_in, overlay_of};
+
+    /// The system dictionary and the users' laid over it, with a grouping of 24 characters. Takes no memory.
+    #[tactic(auto, unfolding(crate::specs::Overlays::overlay_of))]
+    pub fn new(system: &'a Dict, users: &'a [Dict]) -> Result<Dictionaries<'a>, OverlayFault>
+        ensures overlay { IfOk result (λ d. overlay_of d ≡ record { system = image_tables system.now; users = map image_tables users.now; grouping = 24 }) }
+        ensures accepted { OnOk result (overlay_fault (image_tables system.now) (map image_tables users.now) ≡ None) }
+        ensures refused { IfErr result (λ fault. overlay_fault (image_tables system.now) (map image_tables users.now) ≡ Some fault) }
     {
-        Dictionaries {
-            tables,
-            grouping: GROUPING_DEFAULT,
+        if system.is_user() {
+            return Err(OverlayFault::NotSystem);
         }
+        check_users(users, system.matrix_sizes())?;
+        system.tables_fit();
+        Ok(Dictionaries {
+            system,
+            users,
+            grouping: GROUPING_DEFAULT,
+        })
     }
 
     /// With another grouping.
+    #[tactic(auto, unfolding(crate::specs::Overlays::overlay_of))]
     pub fn with_grouping(self, grouping: u16) -> Dictionaries<'a>
         requires { grouping ≤ 1000 }
         ensures { overlay_of result ≡ record (overlay_of self.entry) { grouping = grouping } }
     {
         Dictionaries {
-            tables: self.tables,
+            system: self.system,
+            users: self.users,
             grouping,
         }
     }
@@ -51,13 +73,13 @@ impl<'a> Dictionaries<'a> {
         requires { IsTrue (is_place text.now place) }
         ensures { result ≡ skip (overlay_of self.now) text.now place }
     {
-        let space = self.tables.chars.info(u32::from(' '));
+        let space = self.system.info(' ');
         let rest = behind(text, place);
-        place + run_up_to(&self.tables.chars, space, rest, rest.len()).bytes
+        place + run_up_to(self.system, space, rest, rest.len()).bytes
     }
 
-    /// Appends the words of a place to `out`, known before unknown and shorter known before longer. On `Err`
-    /// memory was refused, and `out` is as before.
+    /// Appends the words of a place to `out`: the known ones, of one dictionary after another and shorter ones first, and then the
+    /// unknown ones. On `Err` memory was refused, and `out` is as before.
     pub fn words_at(
         &self,
         _alloc: Global,
@@ -98,10 +120,28 @@ impl<'a> Dictionaries<'a> {
     {
         let count = out.len();
         let rest = behind(text, start);
-        let lexicon = &self.tables.lexicon;
-        lexicon.append_words(rest.as_bytes(), place, start, out)?;
+        self.append_known(rest, place, start, out)?;
         let none_known = out.len() == count;
         self.append_unknown(rest, place, start, none_known, out)
+    }
+
+    /// Appends the known words of a place of which this is the rest of the text: those of the system, then those of each user.
+    fn append_known(
+        &self,
+        rest: &str,
+        place: usize,
+        start: usize,
+        out: &mut Vec<Word>,
+    ) -> Result<(), AllocError>
+        requires { start + length rest.now < 2 ^ 64 }
+        ensures appended { OnOk result (out.new.items ≡ out.old.items ++ known_from place start rest.now 0 (lexicons (overlay_of self.now))) }
+        ensures kept { take (vec_len out.old) out.new.items ≡ out.old.items }
+    {
+        append_known(self.system, 0, rest, place, start, out)?;
+        for (i, user) in self.users.iter().enumerate() {
+            append_known(user, i + 1, rest, place, start, out)?;
+        }
+        Ok(())
     }
 
     /// Appends the unknown words of a place of which this is the rest of the text.
@@ -121,53 +161,67 @@ impl<'a> Dictionaries<'a> {
             return Ok(());
         };
         let following = behind(rest, first.len_utf8());
-        let info = self.tables.chars.info(u32::from(first));
+        let info = self.system.info(first);
         let spans = spans_from(
-            &self.tables.chars,
+            self.system,
             self.grouping,
             none_known,
+            info,
             first,
             following,
         );
-        self.tables
-            .unknown_entries(usize::from(info.first()))
-            .append_spans(spans, rest, place, start, out)
+        let entries = UnknownEntries {
+            system: self.system,
+            category: usize::from(info.first()),
+        };
+        entries.append_spans(spans, rest, place, start, out)
     }
 
     /// The feature of a word's entry; empty where no entry of these dictionaries has its number.
+    #[tactic(auto, unfolding(crate::specs::Overlays::overlay_of))]
     pub fn feature(&self, word: &Word) -> &str
         ensures { result.now ≡ feature_of (overlay_of self.now) word.now.origin }
     {
-        match self.record_of(word.origin) {
-            Some(record) => record.entry.feature.as_str(),
-            None => "",
+        self.entry_of(word.origin).map_or("", |entry| entry.feature)
+    }
+
+    /// The entry from which a word comes.
+    fn entry_of(&self, origin: Origin) -> Option<EntryRef<'_>>
+        ensures { feature_in_entry result ≡ feature_of (overlay_of self.now) origin }
+    {
+        match origin {
+            Origin::Known { dict, token } => self.dictionary(dict)?.known_token(token),
+            Origin::Unknown { token } => self.system.unknown_token(token),
         }
     }
 
-    /// The record of an entry.
-    fn record_of(&self, origin: Origin) -> Option<&Record>
-        ensures { feature_in_record result ≡ feature_of (overlay_of self.now) origin }
+    /// The dictionary with a number: that of the system is 0.
+    #[tactic(auto, unfolding(crate::specs::Overlays::overlay_of))]
+    fn dictionary(&self, number: usize) -> Option<&Dict>
+        ensures { lexicon_in result ≡ slice_index_or (lexicons (overlay_of self.now)) number [] }
     {
-        match origin {
-            Origin::Known { dict: 0, token } => self.tables.lexicon.records.get(token as usize),
-            Origin::Known { .. } => None,
-            Origin::Unknown { token } => self.tables.unknown_record(token as usize),
+        if number == 0 {
+            Some(self.system)
+        } else {
+            self.users.get(number - 1)
         }
     }
 
     /// The connection cost of the right id of the word before and the left id of the word behind it.
+    #[tactic(auto, unfolding(crate::specs::Overlays::overlay_of))]
     pub fn cost(&self, prev_right: u16, next_left: u16) -> i16
         requires { IsTrue (is_pair (overlay_of self.now).system.sizes prev_right next_left) }
         ensures { result ≡ (overlay_of self.now).system.connection prev_right next_left }
     {
-        self.tables.matrix.cost(prev_right, next_left)
+        self.system.cost(prev_right, next_left)
     }
 
     /// The categories of a character.
+    #[tactic(auto, unfolding(crate::specs::Overlays::overlay_of))]
     pub fn info(&self, c: char) -> CharInfo
         ensures { result ≡ (overlay_of self.now).system.info c }
     {
-        self.tables.chars.info(u32::from(c))
+        self.system.info(c)
     }
 }
 

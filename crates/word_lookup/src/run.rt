@@ -3,9 +3,10 @@
 ghost use Rattle.std.specs.Prelude.{◌≡◌, ℕ, ◌+◌, length, min, chars, take, take_while};
 ghost use Rattle.mj_model.specs.Categories.{shares};
 ghost use Rattle.mj_model.specs.Run.{run, bytes_of};
-ghost use Rattle.word_lookup.specs.Chars.{info_of};
+ghost use Rattle.mj_model.specs.ImageMeaning.{image_tables};
+ghost use Rattle.mj_model.specs.Tables.{System};
 
-use char_def::CharTable;
+use dict_image::Dict;
 use mj_model::CharInfo;
 
 /// The first characters of a text, and the bytes that they take.
@@ -17,15 +18,16 @@ pub struct Run {
 
 /// The run at the beginning of a text, from the categories `entry`; no more than `limit` characters
 /// are looked at.
-pub fn run_up_to(table: &CharTable, entry: CharInfo, text: &str, limit: usize) -> Run
-    ensures characters { result.characters ≡ min limit (run (info_of table.now) entry (chars text.now)) }
+pub fn run_up_to(system: &Dict, entry: CharInfo, text: &str, limit: usize) -> Run
+    requires { (image_tables system.now).kind ≡ System }
+    ensures characters { result.characters ≡ min limit (run (image_tables system.now).info entry (chars text.now)) }
     ensures bytes { result.bytes ≡ bytes_of result.characters (chars text.now) }
 {
     let mut last = entry;
     let mut characters = 0;
     let mut bytes = 0;
     for c in text.chars().take(limit) {
-        let next = table.info(u32::from(c));
+        let next = system.info(c);
         if !last.shares(next) {
             return Run { characters, bytes };
         }
@@ -38,11 +40,12 @@ pub fn run_up_to(table: &CharTable, entry: CharInfo, text: &str, limit: usize) -
 
 /// How many characters at the beginning of a text share with the categories `first`; no more than
 /// `limit` characters are looked at.
-pub fn alike_up_to(table: &CharTable, first: CharInfo, text: &str, limit: usize) -> usize
-    ensures { result ≡ length (take_while (λ c. shares first (info_of table.now c)) (take limit (chars text.now))) }
+pub fn alike_up_to(system: &Dict, first: CharInfo, text: &str, limit: usize) -> usize
+    requires { (image_tables system.now).kind ≡ System }
+    ensures { result ≡ length (take_while (λ c. shares first ((image_tables system.now).info c)) (take limit (chars text.now))) }
 {
     text.chars()
         .take(limit)
-        .take_while(|c| first.shares(table.info(u32::from(*c))))
+        .take_while(|c| first.shares(system.info(*c)))
         .count()
 }

@@ -3,15 +3,15 @@
 ghost use Rattle.std.specs.Prelude.{◌≡◌, ℕ, ◌+◌, ◌<◌, ◌≤◌, ◌&&◌, ◌||◌, ◌^◌, ◌∷◌, [], length, min, chars, take, take_while, nat_le, if◌then◌else◌, IfSome, slice_index_or, max, true};
 ghost use Rattle.std.specs.Char.{len_utf8};
 ghost use Rattle.mj_model.specs.Run.{run, bytes_of, alike};
-ghost use Rattle.mj_model.specs.Tables.{no_category};
 ghost use Rattle.mj_model.specs.UnknownSpans.{spans_of, one_if_none, grouped_span, length_spans};
 ghost use Rattle.mj_model.specs.KnownWords.{up_to};
-ghost use Rattle.word_lookup.specs.Chars.{info_of, categories_of};
+ghost use Rattle.mj_model.specs.ImageMeaning.{image_tables};
+ghost use Rattle.mj_model.specs.Tables.{System, no_category};
 ghost use Rattle.word_lookup.specs.Spans.{grouped_spans, spans_in, HasBytes};
 
 use crate::run::{Run, alike_up_to, run_up_to};
-use char_def::CharTable;
-use mj_model::Category;
+use dict_image::Dict;
+use mj_model::{Category, CharInfo};
 
 /// The unknown spans of a place: that of the whole run, where it is grouped, and those of 1 to
 /// `longest` characters.
@@ -21,29 +21,32 @@ pub struct Spans {
     pub longest: usize,
 }
 
-/// The unknown spans of a text that begins with the character `first`.
+/// The unknown spans of a text that begins with the character `first`, which has the categories `info`.
 pub fn spans_from(
-    table: &CharTable,
+    system: &Dict,
     grouping: u16,
     none_known: bool,
+    info: CharInfo,
     first: char,
     following: &str,
 ) -> Spans
-    requires { len_utf8 first + length following.now < 2 ^ 64 }
-    ensures spans { spans_in result ≡ spans_of (slice_index_or (categories_of table.now) (info_of table.now first).head no_category) none_known grouping (1 + run (info_of table.now) (info_of table.now first) (chars following.now)) (alike (info_of table.now) first (chars following.now)) }
+    requires fits { len_utf8 first + length following.now < 2 ^ 64 }
+    requires system { (image_tables system.now).kind ≡ System }
+    requires info { info ≡ (image_tables system.now).info first }
+    requires category { info.head < length (image_tables system.now).categories }
+    ensures spans { spans_in result ≡ spans_of (slice_index_or (image_tables system.now).categories ((image_tables system.now).info first).head no_category) none_known grouping (1 + run (image_tables system.now).info ((image_tables system.now).info first) (chars following.now)) (alike (image_tables system.now).info first (chars following.now)) }
     ensures bytes { IfSome result.grouped (HasBytes (first ∷ chars following.now)) }
     ensures within { result.longest ≤ length (first ∷ chars following.now) }
 {
-    let info = table.info(u32::from(first));
-    let category = table.category(usize::from(info.first()));
+    let category = system.category(usize::from(info.first()));
     if !makes_words(category, none_known) {
         return Spans {
             grouped: None,
             longest: 0,
         };
     }
-    let run = run_up_to(table, info, following, look_ahead(category, grouping));
-    let alike = 1 + alike_up_to(table, info, following, usize::from(category.length));
+    let run = run_up_to(system, info, following, look_ahead(category, grouping));
+    let alike = 1 + alike_up_to(system, info, following, usize::from(category.length));
     let spans = Spans {
         grouped: grouped_run(category, grouping, first, run),
         longest: longest_length(category, run.characters, alike),

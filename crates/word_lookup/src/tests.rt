@@ -1,4 +1,5 @@
-//! Words at places of texts, over the sample's sources.
+//! Words at places of texts, over compiled dictionaries.
 
+mod overlays;
 mod samples;
 mod words;

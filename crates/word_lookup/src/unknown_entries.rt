@@ -1,39 +1,26 @@
 //! The unknown entries of a category.
 
-ghost use Rattle.std.specs.Prelude.{◌≡◌, ℕ, ◌+◌, ◌<◌, ◌≤◌, ◌-◌, ◌^◌, ◌++◌, length, map, flat_map, take, vec_len, chars, IsUtf8, IfSome, OnOk, OnErr, ◌==◌, option_map, find};
-ghost use Rattle.std.specs.Borrow.{Bor};
-ghost use Rattle.std.specs.List.{enumerate_from};
-ghost use Rattle.mj_model.specs.Lexicon.{row_of, rows_of};
+ghost use Rattle.std.specs.Prelude.{◌≡◌, ◌+◌, ◌<◌, ◌≤◌, ◌-◌, ◌^◌, ◌++◌, length, map, take, vec_len, chars, IfSome, OnOk};
+ghost use Rattle.mj_model.specs.ImageMeaning.{image_tables};
 ghost use Rattle.mj_model.specs.KnownWords.{up_to};
-ghost use Rattle.mj_model.specs.Run.{bytes_of};
-ghost use Rattle.mj_model.specs.UnkDef.{token_of};
 ghost use Rattle.mj_model.specs.Words.{unknown_word};
 ghost use Rattle.word_lookup.specs.Spans.{spans_in, HasBytes};
-ghost use Rattle.word_lookup.specs.UnknownEntries.{tokens, words_of_spans};
-ghost use Rattle.mj_model.specs.declared.entry.Record.{Record};
+ghost use Rattle.word_lookup.specs.UnknownEntries.{words_of_spans};
 
+use crate::entry_words::{EntryList, append_entries};
 use crate::spans::Spans;
-use mj_model::{Origin, Record, Word};
+use dict_image::Dict;
+use mj_model::Word;
 use std::alloc::AllocError;
 
-/// The unknown entries of a category, of which the first has this number.
+/// The unknown entries of a category of a system dictionary.
 #[derive(Clone, Copy)]
 pub struct UnknownEntries<'a> {
-    pub first: usize,
-    pub records: &'a [Record],
+    pub system: &'a Dict,
+    pub category: usize,
 }
 
 impl<'a> UnknownEntries<'a> {
-    /// The record of the entry with a number, if it is one of these.
-    pub fn with_number(self, number: usize) -> Option<&'a Record>
-        ensures { option_map (λ (r : Bor Record). token_of (number, row_of r.now)) result ≡ find (λ t. t.number == number) (tokens self.entry.first self.entry.records.now) }
-    {
-        if number < self.first {
-            return None;
-        }
-        self.records.get(number - self.first)
-    }
-
     /// Appends the unknown words of these spans of `rest`, which stands at `start`.
     pub fn append_spans(
         self,
@@ -43,11 +30,11 @@ impl<'a> UnknownEntries<'a> {
         start: usize,
         out: &mut Vec<Word>,
     ) -> Result<(), AllocError>
-        requires few { self.first + length self.records.now ≤ 2 ^ 32 }
+        requires there { self.category < length (image_tables self.system.now).categories }
         requires bytes { IfSome spans.grouped (HasBytes (chars rest.now)) }
         requires within { spans.longest ≤ length (chars rest.now) }
         requires fits { start + length rest.now < 2 ^ 64 }
-        ensures appended { OnOk result (out.new.items ≡ out.old.items ++ words_of_spans place start (chars rest.now) (tokens self.entry.first self.entry.records.now) (spans_in spans)) }
+        ensures appended { OnOk result (out.new.items ≡ out.old.items ++ words_of_spans place start (chars rest.now) ((image_tables self.entry.system.now).unknown self.entry.category) (spans_in spans)) }
         ensures kept { take (vec_len out.old) out.new.items ≡ out.old.items }
     {
         if let Some(run) = spans.grouped {
@@ -65,10 +52,10 @@ impl<'a> UnknownEntries<'a> {
         start: usize,
         out: &mut Vec<Word>,
     ) -> Result<(), AllocError>
-        requires few { self.first + length self.records.now ≤ 2 ^ 32 }
+        requires there { self.category < length (image_tables self.system.now).categories }
         requires within { longest ≤ length (chars rest.now) }
         requires fits { start + length rest.now < 2 ^ 64 }
-        ensures appended { OnOk result (out.new.items ≡ out.old.items ++ words_of_spans place start (chars rest.now) (tokens self.entry.first self.entry.records.now) (up_to longest)) }
+        ensures appended { OnOk result (out.new.items ≡ out.old.items ++ words_of_spans place start (chars rest.now) ((image_tables self.entry.system.now).unknown self.entry.category) (up_to longest)) }
         ensures kept { take (vec_len out.old) out.new.items ≡ out.old.items }
     {
         let mut end = start;
@@ -87,33 +74,12 @@ impl<'a> UnknownEntries<'a> {
         end: usize,
         out: &mut Vec<Word>,
     ) -> Result<(), AllocError>
-        requires few { self.first + length self.records.now ≤ 2 ^ 32 }
+        requires there { self.category < length (image_tables self.system.now).categories }
         requires forward { start ≤ end }
-        ensures appended { OnOk result (out.new.items ≡ out.old.items ++ map (unknown_word place start (end - start)) (tokens self.entry.first self.entry.records.now)) }
+        ensures appended { OnOk result (out.new.items ≡ out.old.items ++ map (unknown_word place start (end - start)) ((image_tables self.entry.system.now).unknown self.entry.category)) }
         ensures kept { take (vec_len out.old) out.new.items ≡ out.old.items }
     {
-        for (i, record) in self.records.iter().enumerate() {
-            out.push(word_of(record, self.first + i, place, start, end))?;
-        }
-        Ok(())
-    }
-}
-
-/// The unknown word of a record with this number.
-fn word_of(row: &Record, number: usize, place: usize, start: usize, end: usize) -> Word
-    requires number { number < 2 ^ 32 }
-    requires forward { start ≤ end }
-    ensures { result ≡ unknown_word place start (end - start) (token_of (number, row_of row.now)) }
-{
-    Word {
-        place,
-        start,
-        end,
-        left: row.entry.left,
-        right: row.entry.right,
-        cost: row.entry.cost,
-        origin: Origin::Unknown {
-            token: number as u32,
-        },
+        let entries = self.system.unknown(self.category);
+        append_entries(entries, EntryList::Categories, place, start, end, out)
     }
 }

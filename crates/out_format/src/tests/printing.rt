@@ -1,6 +1,6 @@
 //! Paths printed in formats.
 
-use super::samples::{LEXICON, tables};
+use super::samples::{LEXICON, system};
 use crate::{Format, print};
 use lattice::best_path;
 use mj_model::SENTENCE_MAX;
@@ -24,14 +24,29 @@ fn printed(
     Ok(out)
 }
 
+/// The texts of a format for known words, for unknown words, and of what stands before and behind them.
+type Texts = (
+    &'static str,
+    Option<&'static str>,
+    &'static str,
+    &'static str,
+);
+
+/// What the best path of a text prints in a format of these texts, over the sample's dictionary with a further mapping.
+fn sample_printed(
+    alloc: Global,
+    (node, unk, bos, eos): Texts,
+    mapping: &str,
+    text: &str,
+) -> Result<Vec<u8>, Fail> {
+    let format = Format::parse(alloc, node, unk, bos, eos)?;
+    let system = system(alloc, mapping, LEXICON)?;
+    let dictionaries = Dictionaries::new(&system, &[])?;
+    printed(alloc, &dictionaries, &format, text)
+}
+
 #[test]
 fn printed_formats(rt: HostRuntime) -> Result<(), Fail> {
-    type Texts = (
-        &'static str,
-        Option<&'static str>,
-        &'static str,
-        &'static str,
-    );
     let rows: [(&str, &str, Texts, &str, &str); 14] = [
         // (what, a further mapping, node, unk, bos and eos, text, output)
         (
@@ -127,11 +142,8 @@ fn printed_formats(rt: HostRuntime) -> Result<(), Fail> {
             ">文頭語語文末",
         ),
     ];
-    for (what, mapping, (node, unk, bos, eos), text, expected) in rows {
-        let tables = tables(rt.alloc(), mapping, LEXICON)?;
-        let dictionaries = Dictionaries::over(&tables);
-        let format = Format::parse(rt.alloc(), node, unk, bos, eos)?;
-        let out = printed(rt.alloc(), &dictionaries, &format, text)?;
+    for (what, mapping, texts, text, expected) in rows {
+        let out = sample_printed(rt.alloc(), texts, mapping, text)?;
         assert_eq!(rt; out.as_slice(), expected.as_bytes(), "{what}");
     }
     Ok(())
@@ -148,8 +160,8 @@ fn quoted_fields_and_stars(rt: HostRuntime) -> Result<(), Fail> {
         ("blanks before a field", "%f[3]", ">d"),
         ("a missing field", "%f[4]", ">"),
     ];
-    let tables = tables(rt.alloc(), "", lexicon)?;
-    let dictionaries = Dictionaries::over(&tables);
+    let system = system(rt.alloc(), "", lexicon)?;
+    let dictionaries = Dictionaries::new(&system, &[])?;
     for (what, node, expected) in rows {
         let format = Format::parse(rt.alloc(), node, None, "", "")?;
         let out = printed(rt.alloc(), &dictionaries, &format, "も")?;
@@ -160,8 +172,8 @@ fn quoted_fields_and_stars(rt: HostRuntime) -> Result<(), Fail> {
 
 #[test]
 fn negative_costs(rt: HostRuntime) -> Result<(), Fail> {
-    let tables = tables(rt.alloc(), "", "も,1,1,-120,助詞\n")?;
-    let dictionaries = Dictionaries::over(&tables);
+    let system = system(rt.alloc(), "", "も,1,1,-120,助詞\n")?;
+    let dictionaries = Dictionaries::new(&system, &[])?;
     let format = Format::parse(rt.alloc(), "%c|%pn|%pc;", None, "", "%pc")?;
     let out = printed(rt.alloc(), &dictionaries, &format, "もも")?;
     let expected = ">-120|-110|-110;-120|-113|-223;-218";
@@ -171,8 +183,8 @@ fn negative_costs(rt: HostRuntime) -> Result<(), Fail> {
 
 #[test]
 fn named_formats(rt: HostRuntime) -> Result<(), Fail> {
-    let tables = tables(rt.alloc(), "", LEXICON)?;
-    let dictionaries = Dictionaries::over(&tables);
+    let system = system(rt.alloc(), "", LEXICON)?;
+    let dictionaries = Dictionaries::new(&system, &[])?;
     let default_format = Format::default_of(rt.alloc())?;
     let wakati = Format::wakati(rt.alloc())?;
     let rows = [

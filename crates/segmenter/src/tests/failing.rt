@@ -1,8 +1,8 @@
 //! Runs over devices that fail, give little at a time, or give long lines.
 
 use super::devices::{StepReader, StepWriter};
+use crate::dicts::system_dict;
 use crate::reading::run_over;
-use crate::sources::read_sources;
 use crate::words_printer::{LineMemory, WordsPrinter};
 use crate::{run_sources, sample};
 use mj_model::{Counted, GROUPING_DEFAULT, RunFault, SENTENCE_MAX, SourceFault, SourceKind};
@@ -90,6 +90,7 @@ fn failing_writers(rt: HostRuntime) -> Result<(), Fail> {
         let got = run_sources(
             rt.alloc(),
             &sample(),
+            &[],
             GROUPING_DEFAULT,
             &format,
             &mut input,
@@ -114,6 +115,7 @@ fn failing_readers(rt: HostRuntime) -> Result<(), Fail> {
         let got = run_sources(
             rt.alloc(),
             &sample(),
+            &[],
             GROUPING_DEFAULT,
             &format,
             &mut input,
@@ -157,6 +159,7 @@ fn faults_behind_line_1(rt: HostRuntime) -> Result<(), Fail> {
         let got = run_sources(
             rt.alloc(),
             &sample(),
+            &[],
             GROUPING_DEFAULT,
             &format,
             &mut input,
@@ -184,10 +187,10 @@ fn bound_on_reads(rt: HostRuntime) -> Result<(), Fail> {
         ("the end at the 4th", "ab\n", Ok(1)),
     ];
     for (what, text, answer) in rows {
-        let tables = read_sources(rt.alloc(), &sample())?;
+        let system = system_dict(rt.alloc(), &sample())?;
         let printer = WordsPrinter {
             alloc: rt.alloc(),
-            dictionaries: Dictionaries::over(&tables),
+            dictionaries: Dictionaries::new(&system, &[])?,
             format: &format,
         };
         let mut kept = LineMemory::new(rt.alloc());
@@ -259,6 +262,7 @@ fn long_lines(rt: HostRuntime) -> Result<(), Fail> {
         let got = run_sources(
             rt.alloc(),
             &sample(),
+            &[],
             GROUPING_DEFAULT,
             &format,
             &mut input,

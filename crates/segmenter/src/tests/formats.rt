@@ -14,6 +14,7 @@ fn printed(alloc: Global, format: &Format, text: &[u8]) -> Result<Vec<u8>, RunFa
     run_sources(
         alloc,
         &sample(),
+        &[],
         GROUPING_DEFAULT,
         format,
         &mut reader,

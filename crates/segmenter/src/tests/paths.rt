@@ -1,7 +1,8 @@
 //! Best paths over sources, with their totals.
 
+use crate::dicts::system_dict;
 use crate::sample;
-use crate::sources::read_sources;
+use dict_image::Dict;
 use lattice::{Lattice, best_path};
 use mj_model::{SENTENCE_MAX, Sources};
 use std::alloc::Global;
@@ -9,12 +10,12 @@ use std::process::Abort;
 use std::str;
 use std::string::String;
 use std::test::Fail;
-use word_lookup::{Dictionaries, Tables};
+use word_lookup::Dictionaries;
 
 const PLUMS: &str = "すもも,1,1,100,名詞,すもも\nも,1,1,20,助詞,も\nもも,1,1,30,名詞,もも\n";
 
-/// The sample's tables, with further lines of `char.def` and this lexicon.
-fn tables(alloc: Global, further: &str, lexicon: &str) -> Result<Tables, Fail> {
+/// The sample's dictionary, with further lines of `char.def` and this lexicon.
+fn dict(alloc: Global, further: &str, lexicon: &str) -> Result<Dict, Fail> {
     let mut chars = Vec::from_slice(alloc, sample().chars)?;
     chars.extend_from_slice(further.as_bytes())?;
     let sources = Sources {
@@ -22,13 +23,13 @@ fn tables(alloc: Global, further: &str, lexicon: &str) -> Result<Tables, Fail> {
         lexicons: &[lexicon.as_bytes()],
         ..sample()
     };
-    Ok(read_sources(alloc, &sources)?)
+    Ok(system_dict(alloc, &sources)?)
 }
 
 /// Asks for the best path of a text: these words at this total.
 fn expect_path(
     rt: &(impl Abort + Alloc<A = Global>),
-    tables: &Tables,
+    dict: &Dict,
     grouping: u16,
     text: &str,
     total: i64,
@@ -36,7 +37,7 @@ fn expect_path(
 ) -> Result<(), Fail> {
     assert!(rt; grouping <= 1000);
     assert!(rt; text.len() <= SENTENCE_MAX);
-    let dictionaries = Dictionaries::over(tables).with_grouping(grouping);
+    let dictionaries = Dictionaries::new(dict, &[])?.with_grouping(grouping);
     let path = best_path(rt.alloc(), &dictionaries, text)?;
     assert_eq!(rt; path.total, total, "{text}");
     assert_eq!(rt; path.words.len(), surfaces.len(), "{text}");
@@ -94,8 +95,8 @@ fn best_paths(rt: HostRuntime) -> Result<(), Fail> {
         ("empty_lexicon", "", "", "も", 1015, &["も"]),
     ];
     for (what, further, lexicon, text, total, surfaces) in rows {
-        let tables = tables(rt.alloc(), further, lexicon)?;
-        expect_path(&rt, &tables, 24, text, total, surfaces)?;
+        let dict = dict(rt.alloc(), further, lexicon)?;
+        expect_path(&rt, &dict, 24, text, total, surfaces)?;
         assert!(rt; !what.is_empty());
     }
     Ok(())
@@ -120,13 +121,13 @@ fn grouping_limit(rt: HostRuntime) -> Result<(), Fail> {
         (0, "アイ", 2022, &["ア", "イ"]),
         (1000, LETTERS_27, 1015, &[LETTERS_27]),
     ];
-    let tables = tables(rt.alloc(), "", PLUMS)?;
+    let dict = dict(rt.alloc(), "", PLUMS)?;
     for (grouping, text, total, surfaces) in rows {
-        expect_path(&rt, &tables, grouping, text, total, surfaces)?;
+        expect_path(&rt, &dict, grouping, text, total, surfaces)?;
     }
     let long = letters(rt.alloc(), 1001)?;
     assert!(rt; long.len() <= SENTENCE_MAX);
-    let dictionaries = Dictionaries::over(&tables).with_grouping(1000);
+    let dictionaries = Dictionaries::new(&dict, &[])?.with_grouping(1000);
     let path = best_path(rt.alloc(), &dictionaries, long.as_str())?;
     assert_eq!(rt; path.total, 1015);
     assert_eq!(rt; path.words.len(), 1);
@@ -146,8 +147,8 @@ fn asymmetric_matrix(rt: HostRuntime) -> Result<(), Fail> {
         lexicons: &["も,2,1,20,X\n".as_bytes()],
         ..sample()
     };
-    let tables = read_sources(rt.alloc(), &sources)?;
-    expect_path(&rt, &tables, 24, "も", 129, &["も"])
+    let dict = system_dict(rt.alloc(), &sources)?;
+    expect_path(&rt, &dict, 24, "も", 129, &["も"])
 }
 
 #[test]
@@ -158,8 +159,8 @@ fn longest_line(rt: HostRuntime) -> Result<(), Fail> {
         (65_536, 65_970_592, 65_512),
         (SENTENCE_MAX, 1_055_891_872, 1_048_552),
     ];
-    let tables = tables(rt.alloc(), "", PLUMS)?;
-    let dictionaries = Dictionaries::over(&tables);
+    let dict = dict(rt.alloc(), "", PLUMS)?;
+    let dictionaries = Dictionaries::new(&dict, &[])?;
     for (bytes, total, words) in rows {
         let text = letters(rt.alloc(), bytes)?;
         assert!(rt; text.len() <= SENTENCE_MAX);
@@ -179,8 +180,8 @@ fn one_lattice(rt: HostRuntime) -> Result<(), Fail> {
         ("すもももも", 152, 2),
         ("", 0, 0),
     ];
-    let tables = tables(rt.alloc(), "", PLUMS)?;
-    let dictionaries = Dictionaries::over(&tables);
+    let dict = dict(rt.alloc(), "", PLUMS)?;
+    let dictionaries = Dictionaries::new(&dict, &[])?;
     let mut lattice = Lattice::new(rt.alloc());
     for (text, total, words) in rows {
         assert!(rt; text.len() <= SENTENCE_MAX);

@@ -18,6 +18,7 @@ fn is_refused(alloc: Global, sources: &Sources<'_>, fault: SourceFault) -> bool 
     let answer = run_sources(
         alloc,
         sources,
+        &[],
         GROUPING_DEFAULT,
         &format,
         &mut reader,

@@ -13,6 +13,7 @@ fn run(alloc: Global, sources: &Sources<'_>, text: &[u8]) -> (Result<u64, RunFau
         Ok(format) => run_sources(
             alloc,
             sources,
+            &[],
             GROUPING_DEFAULT,
             &format,
             &mut reader,

@@ -1,20 +1,17 @@
-//! Dictionaries of sources.
+//! Dictionaries that are compiled from the sample's sources.
 
-ghost use Rattle.std.specs.Prelude.{IsTrue};
-ghost use Rattle.std.specs.List.{AllByRecursion};
-ghost use Rattle.mj_model.specs.Lexicon.{rows_of};
-ghost use Rattle.word_lookup.specs.Fitting.{AreFitting, IsFittingRow};
-
-use crate::Tables;
-use char_def::{read_chars, read_unk};
-use lex_source::read_lexicon;
-use matrix_def::read_matrix;
-use mj_model::{ENTRIES_MAX, Entry, Record};
+use crate::Dictionaries;
+use dict_compile::{compile, compile_user};
+use dict_image::{Dict, load};
+use mj_model::{OverlayFault, Sources};
 use std::alloc::Global;
 use std::string::String;
 use std::test::Fail;
 
-const MATRIX: &[u8] = b"2 2\n0 0 0\n0 1 10\n1 0 5\n1 1 7\n";
+const MATRIX: &str = "2 2\n0 0 0\n0 1 10\n1 0 5\n1 1 7\n";
+
+/// A connection table of 2 right ids and 3 left ids.
+const WIDE_MATRIX: &str = "2 3\n";
 
 /// Six categories, numbered from 0, and their mappings.
 const CHARS: &str =
@@ -26,58 +23,36 @@ const UNKNOWN: &str =
 /// The sample's lexicon.
 pub const LEXICON: &str = "すもも,1,1,100,名詞,すもも\nも,1,1,20,助詞,も\nもも,1,1,30,名詞,もも\n";
 
-/// The tables of the sample's sources with a further line of `char.def` and with this lexicon.
-pub fn tables(alloc: Global, mapping: &str, lexicon: &str) -> Result<Tables, Fail> {
+/// The sample's dictionary with a further line of `char.def` and with this lexicon.
+pub fn system(alloc: Global, mapping: &str, lexicon: &str) -> Result<Dict, Fail> {
+    compiled(alloc, MATRIX, mapping, lexicon)
+}
+
+/// The sample's dictionary for other sizes of the connection table.
+pub fn wide_system(alloc: Global) -> Result<Dict, Fail> {
+    compiled(alloc, WIDE_MATRIX, "", LEXICON)
+}
+
+fn compiled(alloc: Global, matrix: &str, mapping: &str, lexicon: &str) -> Result<Dict, Fail> {
     let mut chars = String::from_str(alloc, CHARS)?;
     chars.push_str(mapping)?;
-    read_tables(
-        alloc,
-        MATRIX,
-        chars.as_bytes(),
-        UNKNOWN.as_bytes(),
-        lexicon.as_bytes(),
-    )
+    let sources = Sources {
+        matrix: matrix.as_bytes(),
+        chars: chars.as_bytes(),
+        unk: UNKNOWN.as_bytes(),
+        lexicons: &[lexicon.as_bytes()],
+    };
+    let compiled = compile(alloc, &sources)?;
+    Ok(load(alloc, compiled.image)?)
 }
 
-/// The tables of sources whose ids all lie within the matrix.
-fn read_tables(
-    alloc: Global,
-    matrix: &[u8],
-    chars: &[u8],
-    unk: &[u8],
-    lexicon: &[u8],
-) -> Result<Tables, Fail> {
-    let matrix = read_matrix(alloc, matrix)?;
-    let (right_size, left_size) = matrix.sizes();
-    let chars = read_chars(alloc, chars)?;
-    let unknown = read_unk(alloc, unk, &chars)?;
-    let mut records = Vec::new(alloc);
-    read_lexicon(alloc, lexicon, 3, &mut records)?;
-    if let Some(line) = unknown.first_line_outside(right_size, left_size) {
-        return Err(line)?;
-    }
-    if records.len() > ENTRIES_MAX || !all_fit(&records, right_size, left_size) {
-        return Err("an id lies outside")?;
-    }
-    Ok(Tables::new(alloc, matrix, chars, unknown, records)?)
+/// The user dictionary with this lexicon, for the ids of a system.
+pub fn user(alloc: Global, system: &Dict, lexicon: &str) -> Result<Dict, Fail> {
+    let compiled = compile_user(alloc, system, &[lexicon.as_bytes()])?;
+    Ok(load(alloc, compiled.image)?)
 }
 
-/// Whether all ids lie within the sizes.
-fn all_fit(records: &[Record], right_size: u32, left_size: u32) -> bool
-    ensures { IsTrue result → AllByRecursion (IsFittingRow (record { right = right_size; left = left_size })) (rows_of records.now) }
-{
-    for record in records {
-        if !fits(&record.entry, right_size, left_size) {
-            return false;
-        }
-    }
-    true
-}
-
-/// Whether the ids lie within the sizes. Each cost is in range.
-fn fits(entry: &Entry, right_size: u32, left_size: u32) -> bool
-    ensures { IsTrue result → AreFitting (record { right = right_size; left = left_size }) entry.now.right entry.now.left entry.now.cost }
-{
-    let _in_range = entry.cost;
-    u32::from(entry.right) < right_size && u32::from(entry.left) < left_size
+/// A system's dictionary alone.
+pub fn alone(system: &Dict) -> Result<Dictionaries<'_>, OverlayFault> {
+    Dictionaries::new(system, &[])
 }

@@ -3,7 +3,7 @@
 ghost use Rattle.std.specs.Prelude.{IsTrue};
 ghost use Rattle.mj_model.specs.Words.{is_place};
 
-use super::samples::{LEXICON, tables};
+use super::samples::{LEXICON, alone, system};
 use crate::{Dictionaries, Origin};
 use std::alloc::{AllocError, Global};
 use std::string::String;
@@ -13,7 +13,7 @@ use std::test::Fail;
 type Expected = (usize, usize, i16, &'static str, bool);
 
 /// Whether a character begins or the text ends there.
-fn is_at(text: &str, place: usize) -> bool
+pub fn is_at(text: &str, place: usize) -> bool
     ensures { IsTrue result → IsTrue (is_place text.now place) }
 {
     text.is_char_boundary(place)
@@ -43,6 +43,35 @@ fn are_words(
         }
     }
     Ok(words.len() == expected.len())
+}
+
+/// Whether these are the words of a place, over the sample's dictionary with a further mapping and this lexicon.
+fn sample_has(
+    alloc: Global,
+    mapping: &str,
+    lexicon: &str,
+    text: &str,
+    place: usize,
+    expected: &[Expected],
+) -> Result<bool, Fail> {
+    let system = system(alloc, mapping, lexicon)?;
+    Ok(are_words(alloc, alone(&system)?, text, place, expected)?)
+}
+
+/// The place behind the blanks of a place, over the sample's dictionary with a further mapping.
+fn blanks_behind(
+    alloc: Global,
+    mapping: &str,
+    text: &str,
+    place: usize,
+) -> Result<Option<usize>, Fail> {
+    let system = system(alloc, mapping, LEXICON)?;
+    let dictionaries = alone(&system)?;
+    if is_at(text, place) {
+        Ok(Some(dictionaries.blanks(text, place)))
+    } else {
+        Ok(None)
+    }
 }
 
 #[test]
@@ -150,15 +179,8 @@ fn words_of_the_sample(rt: HostRuntime) -> Result<(), Fail> {
         ),
     ];
     for (what, mapping, text, place, expected) in rows {
-        let tables = tables(rt.alloc(), mapping, LEXICON)?;
         assert!(rt;
-            are_words(
-                rt.alloc(),
-                Dictionaries::over(&tables),
-                text,
-                place,
-                expected
-            )?,
+            sample_has(rt.alloc(), mapping, LEXICON, text, place, expected)?,
             "{what}"
         );
     }
@@ -204,9 +226,8 @@ fn words_of_lexicons(rt: HostRuntime) -> Result<(), Fail> {
         ("empty_lexicon", "", "も", &[(0, 3, 1000, "未知", false)]),
     ];
     for (what, lexicon, text, expected) in rows {
-        let tables = tables(rt.alloc(), "", lexicon)?;
         assert!(rt;
-            are_words(rt.alloc(), Dictionaries::over(&tables), text, 0, expected)?,
+            sample_has(rt.alloc(), "", lexicon, text, 0, expected)?,
             "{what}"
         );
     }
@@ -236,11 +257,11 @@ fn grouping_limit(rt: HostRuntime) -> Result<(), Fail> {
         (0, 2, 0, 1),
         (1000, 1001, 0, 1001),
     ];
-    let tables = tables(rt.alloc(), "", LEXICON)?;
+    let system = system(rt.alloc(), "", LEXICON)?;
     for (grouping, count, place, end) in rows {
         let text = letters(&rt, count)?;
         if grouping <= 1000 {
-            let dictionaries = Dictionaries::over(&tables).with_grouping(grouping);
+            let dictionaries = alone(&system)?.with_grouping(grouping);
             let expected = [(place, end, 1000, "未知", false)];
             assert!(rt;
                 are_words(rt.alloc(), dictionaries, text.as_str(), place, &expected)?,
@@ -248,7 +269,7 @@ fn grouping_limit(rt: HostRuntime) -> Result<(), Fail> {
             );
         }
     }
-    let none_follows = Dictionaries::over(&tables).with_grouping(0);
+    let none_follows = alone(&system)?.with_grouping(0);
     let expected = [(0, 3, 1000, "未知", false)];
     assert!(rt; are_words(rt.alloc(), none_follows, "アイ", 0, &expected)?);
     Ok(())
@@ -267,11 +288,9 @@ fn blanks(rt: HostRuntime) -> Result<(), Fail> {
         ("on over a letter", "0x0009 SPACE ALPHA\n", "\tzも", 0, 2),
     ];
     for (what, mapping, text, place, behind) in rows {
-        let tables = tables(rt.alloc(), mapping, LEXICON)?;
-        assert!(rt; is_at(text, place), "{what}");
         assert_eq!(rt;
-            Dictionaries::over(&tables).blanks(text, place),
-            behind,
+            blanks_behind(rt.alloc(), mapping, text, place)?,
+            Some(behind),
             "{what}"
         );
     }
@@ -289,8 +308,8 @@ fn categories(rt: HostRuntime) -> Result<(), Fail> {
         ("mapped", "0x20000..0x2A6DF KANJI\n", '𠮷', 16, 4),
     ];
     for (what, mapping, c, bits, first) in rows {
-        let tables = tables(rt.alloc(), mapping, LEXICON)?;
-        let info = Dictionaries::over(&tables).info(c);
+        let system = system(rt.alloc(), mapping, LEXICON)?;
+        let info = alone(&system)?.info(c);
         assert_eq!(rt; info.bits, bits, "{what}");
         assert_eq!(rt; info.first(), first, "{what}");
     }

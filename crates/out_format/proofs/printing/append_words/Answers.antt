@@ -3,12 +3,18 @@ use Rattle.std.specs.Prelude.{ℤ, ◌+ℤ◌}
 use Rattle.std.proofs.lemmas.Int.{to_z-of_z}
 use mir.Val.{to_z, of_z, SFits}
 use mir.Syntax.{w64}
-use Rattle.word_lookup.proofs.KnownFound.{front_kept}
+use Rattle.word_lookup.proofs.AppendLemmas.{front_kept}
 use Rattle.word_lookup.specs.Overlays.{overlay_of}
 use Rattle.out_format.specs.Followable.{AreFollowable}
 use Rattle.out_format.proofs.FollowLemmas.{next_followable}
-use Rattle.out_format.proofs.ShownLemmas.{no_word, word_more, all_words}
+use Rattle.out_format.proofs.ShownLemmas.{no_word, no_words_yet, word_more, all_words}
 use Rattle.out_format.proofs.printing.append_words.Goals as goal
+
+pub loop-word-init : goal.loop-word-init
+loop-word-init c = record {
+  follow = c.requires;
+  shown = no_words_yet (overlay_of c.args.dictionaries.now) c.args.format.now c.args.text.now c.args.words.now c.args.out.now.items;
+}
 
 pub cost_with-cost_so_far-requires-clause-low : goal.cost_with-cost_so_far-requires-clause-low
 cost_with-cost_so_far-requires-clause-low c =

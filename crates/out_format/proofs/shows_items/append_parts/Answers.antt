@@ -1,5 +1,5 @@
 use Rattle.std.proofs.Common.{rules, ◌∙◌, sym}
-use Rattle.word_lookup.proofs.KnownFound.{front_kept}
+use Rattle.word_lookup.proofs.AppendLemmas.{front_kept}
 use Rattle.out_format.proofs.ShownLemmas.{part_more}
 use Rattle.out_format.proofs.shows_items.append_parts.Goals as goal
 

@@ -1,23 +1,83 @@
-use Rattle.std.proofs.Common.{ap, ◌∙◌}
-use Rattle.mj_model.specs.Tables.{Overlay}
-use Rattle.word_lookup.specs.Overlays.{tables_of, overlay_of}
-use Rattle.word_lookup.proofs.DictionaryLaws.{has_words, covers_all}
-use Rattle.segmenter.proofs.EarlyEnds.{source_told, fault_told}
-use Rattle.segmenter.proofs.OverTables.{over_tables}
-use Rattle.segmenter.proofs.SourceFaults.{no_tables}
+use Rattle.std.proofs.Common.{◌∙◌, subst, refl, inl, inr, map, ◌≡◌}
+use Rattle.std.specs.Prelude.{Some}
+use Rattle.mj_model.specs.ImageMeaning.{image_tables}
+use Rattle.mj_model.specs.Overlays.{overlay_fault}
+use Rattle.dict_compile.proofs.FirstFaults.{not_compiled}
+use Rattle.word_lookup.specs.Overlays.{overlay_of}
+use Rattle.segmenter.specs.SourceDicts.{users_of}
+use Rattle.segmenter.proofs.EarlyEnds.{source_first, source_before_users, source_is_early, source_of_no_user, source_told, users_are_early, users_over, users_tell_no_source, users_told}
+use Rattle.segmenter.proofs.OverlayLemmas.{have_overlay, no_overlay_fault, none_and_some, with_grouping}
+use Rattle.segmenter.proofs.RunEnds.{ran_tells_no_source, ran_tells_no_user}
+use Rattle.segmenter.proofs.UserDicts.{none_at_fault}
 use Rattle.segmenter.proofs.running.run_sources.Goals as goal
 
 pub returns-in-Err-clause-source : goal.returns-in-Err-clause-source
-returns-in-Err-clause-source g c = λ told e. source_told c.args.sources.now c.in-Err.fault told c.early.result c.in-Err.ensures.refused c.early.ensures.source e
+returns-in-Err-clause-source g c = λ told e. source_told c.args.sources.now c.in-Err.fault told c.source_fault.result c.source_fault.ensures c.in-Err.ensures.refused e
+
+pub returns-in-Err-clause-user_source : goal.returns-in-Err-clause-user_source
+returns-in-Err-clause-user_source g c = λ i told e. absurd (source_of_no_user c.in-Err.fault told i c.source_fault.result c.source_fault.ensures e)
 
 pub returns-in-Err-clause-refused : goal.returns-in-Err-clause-refused
-returns-in-Err-clause-refused g c = λ fault h. fault_told c.args.sources.now c.in-Err.fault fault c.early.result h c.in-Err.ensures.refused c.early.ensures.memory c.early.ensures.either
+returns-in-Err-clause-refused g c = λ fault h. source_first c.in-Err.fault fault c.source_fault.result c.source_fault.ensures (c.in-Err.ensures.first fault h)
+
+pub returns-in-Err-clause-user_refused : goal.returns-in-Err-clause-user_refused
+returns-in-Err-clause-user_refused g c = λ i fault h.
+    source_before_users c.args.sources.now h.0 c.in-Err.fault _ c.source_fault.result h.1 c.source_fault.ensures c.in-Err.ensures.refused
+
+pub returns-in-Err-clause-run : goal.returns-in-Err-clause-run
+returns-in-Err-clause-run g c = inl (source_is_early c.in-Err.fault c.source_fault.result c.source_fault.ensures, refl, refl)
+
+pub user_dicts-requires : goal.user_dicts-requires
+user_dicts-requires g c = c.in-Ok.ensures.dict.2.have.tables.kind
+
+pub returns-in-Err-user_dicts-clause-source : goal.returns-in-Err-user_dicts-clause-source
+returns-in-Err-user_dicts-clause-source g c = λ told e. absurd (users_tell_no_source (image_tables c.in-Ok.system) (users_of c.args.users.now) c.in-Err-user_dicts.fault told c.in-Err-user_dicts.ensures.refused e)
+
+pub returns-in-Err-user_dicts-clause-user_source : goal.returns-in-Err-user_dicts-clause-user_source
+returns-in-Err-user_dicts-clause-user_source g c = λ i told e.
+    users_told c.args.sources.now c.in-Ok.system (users_of c.args.users.now) c.in-Err-user_dicts.fault i told c.in-Ok.ensures.dict c.in-Err-user_dicts.ensures.refused e
+
+pub returns-in-Err-user_dicts-clause-refused : goal.returns-in-Err-user_dicts-clause-refused
+returns-in-Err-user_dicts-clause-refused g c = λ fault h.
+    absurd (not_compiled c.args.sources.now c.in-Ok.system c.in-Ok.ensures.dict.0 c.in-Ok.ensures.dict.1 fault c.in-Ok.ensures.dict.2 h)
+
+pub returns-in-Err-user_dicts-clause-user_refused : goal.returns-in-Err-user_dicts-clause-user_refused
+returns-in-Err-user_dicts-clause-user_refused g c = λ i fault h.
+    c.in-Err-user_dicts.ensures.first i fault (users_over c.args.sources.now c.in-Ok.system (users_of c.args.users.now) i fault c.in-Ok.ensures.dict h)
+
+pub returns-in-Err-user_dicts-clause-run : goal.returns-in-Err-user_dicts-clause-run
+returns-in-Err-user_dicts-clause-run g c = inl (users_are_early (image_tables c.in-Ok.system) (users_of c.args.users.now) c.in-Err-user_dicts.fault c.in-Err-user_dicts.ensures.refused, refl, refl)
+
+pub unreachable-requires : goal.unreachable-requires
+unreachable-requires g c =
+    let system = image_tables c.in-Ok.system in
+    none_and_some (overlay_fault system (map image_tables c.in-Ok-user_dicts.users.items)) c.in_default.field-0
+    (no_overlay_fault system (users_of c.args.users.now) c.in-Ok-user_dicts.users.items c.in-Ok.ensures.dict.2.have.tables.kind c.in-Ok-user_dicts.ensures.dicts)
+    (subst (λ dicts. overlay_fault system (map image_tables dicts) ≡ Some c.in_default.field-0) c.deref.ensures.value c.in_default.ensures.refused)
+
+pub returns-clause-source : goal.returns-clause-source
+returns-clause-source g c = λ told e. absurd (ran_tells_no_source _ _ _ _ _ _ _ _ _ c.segment.result told c.segment.ensures.run e)
+
+pub returns-clause-user_source : goal.returns-clause-user_source
+returns-clause-user_source g c = λ i told e. absurd (ran_tells_no_user _ _ _ _ _ _ _ _ _ c.segment.result i told c.segment.ensures.run e)
 
 pub returns-clause-refused : goal.returns-clause-refused
-returns-clause-refused g c = λ fault h. absurd (no_tables c.args.sources.now fault (tables_of c.in-Ok.tables) h c.in-Ok.ensures.accepted)
+returns-clause-refused g c = λ fault h.
+    absurd (not_compiled c.args.sources.now c.in-Ok.system c.in-Ok.ensures.dict.0 c.in-Ok.ensures.dict.1 fault c.in-Ok.ensures.dict.2 h)
+
+pub returns-clause-user_refused : goal.returns-clause-user_refused
+returns-clause-user_refused g c = λ i fault h.
+    absurd (none_at_fault (image_tables c.in-Ok.system) (users_of c.args.users.now) c.in-Ok-user_dicts.users.items c.in-Ok-user_dicts.ensures.dicts i fault
+    (users_over c.args.sources.now c.in-Ok.system (users_of c.args.users.now) i fault c.in-Ok.ensures.dict h))
 
 pub returns-clause-run : goal.returns-clause-run
 returns-clause-run g c =
-    let d = c.with_grouping-dictionaries.result in
-    over_tables c.args.sources.now (tables_of c.in-Ok.tables) c.args.grouping _ (overlay_of d) c.args.format.now _ _ _ _ _ _ c.run_over.result _ _
-    c.in-Ok.ensures.accepted (has_words d) (covers_all d) (c.with_grouping-dictionaries.ensures ∙ ap (λ (o : Overlay). record { system = o.system; users = o.users; grouping = c.args.grouping }) c.over.ensures) c.run_over.ensures.run
+    let o = overlay_of c.with_grouping-dictionaries.result in
+    inr (
+      o,
+      have_overlay c.args.sources.now (users_of c.args.users.now) c.args.grouping c.in-Ok.system c.in-Ok-user_dicts.users.items o c.in-Ok.ensures.dict c.in-Ok-user_dicts.ensures.dicts
+          (c.with_grouping-dictionaries.ensures
+          ∙ with_grouping c.args.grouping (overlay_of c.in-Ok-new.dictionaries) (image_tables c.in-Ok.system) c.deref.result.now c.in-Ok-user_dicts.users.items c.in-Ok-new.ensures.overlay c.deref.ensures.value),
+      c.segment.ensures.covered,
+      c.segment.ensures.run,
+    )

@@ -6,16 +6,16 @@ use Rattle.std.proofs.lemmas.List.{length_push, length-take}
 use Rattle.mj_model.specs.declared.category.CharInfo.{CharInfo}
 use Rattle.mj_model.specs.Categories.{shares}
 use Rattle.mj_model.specs.Run.{run, bytes_of}
-use Rattle.word_lookup.specs.Chars.{info_of}
+use Rattle.mj_model.specs.ImageMeaning.{image_tables}
 use Rattle.word_lookup.proofs.RunLemmas.{turn, stop, end, one_more_byte, bytes_fit, counted, counted_bytes}
 use Rattle.word_lookup.proofs.run.run_up_to.Goals as goal
 
 pub returns-then-not-shares-clause-characters : goal.returns-then-not-shares-clause-characters
 returns-then-not-shares-clause-characters c =
-    let info = info_of c.args.table.now in
+    let info = (image_tables c.args.system.now).info in
     let cs = take c.args.limit (chars c.args.text.now) in
     let t = YieldsList-turn (YieldsList-from_take c.args.limit (YieldsList-from_chars c.args.text.now c.utf8.text cc) cc) c.loop-c.yielded _ c.loop-c.yielded_by _ _ c.in-Some.c c.in-Some.is c.next.ensures.steps in
-    let off : shares c.loop-c.last (info c.in-Some.c) ≡ false = ap (shares c.loop-c.last) (sym (c.info-next.ensures.info ∙ ap info c.from.ensures)) ∙ sym c.shares.ensures ∙ c.if-not-shares.true in
+    let off : shares c.loop-c.last (info c.in-Some.c) ≡ false = ap (shares c.loop-c.last) (sym (c.info-next.ensures.info)) ∙ sym c.shares.ensures ∙ c.if-not-shares.true in
     counted info c.args.limit c.args.entry (chars c.args.text.now) c.loop-c.characters
     (stop info c.args.entry c.loop-c.last cs (length c.loop-c.yielded) c.loop-c.characters c.in-Some.c t.0 t.1 c.loop-c.invariant.run_goes_on off)
 
@@ -31,10 +31,10 @@ overflow_add-bytes c =
 
 pub loop-c-preserved : goal.loop-c-preserved
 loop-c-preserved c =
-    let info = info_of c.args.table.now in
+    let info = (image_tables c.args.system.now).info in
     let cs = take c.args.limit (chars c.args.text.now) in
     let t = YieldsList-turn (YieldsList-from_take c.args.limit (YieldsList-from_chars c.args.text.now c.utf8.text cc) cc) c.loop-c.yielded _ c.loop-c.yielded_by _ _ c.in-Some.c c.in-Some.is c.next.ensures.steps in
-    let next : c.info-next.result ≡ info c.in-Some.c = c.info-next.ensures.info ∙ ap info c.from.ensures in
+    let next : c.info-next.result ≡ info c.in-Some.c = c.info-next.ensures.info in
     let on : shares c.loop-c.last (info c.in-Some.c) ≡ true = ap (shares c.loop-c.last) (sym next) ∙ sym c.shares.ensures ∙ c.if-not-shares.false in
     let more = turn info c.args.entry c.loop-c.last cs (length c.loop-c.yielded) c.loop-c.characters c.in-Some.c t.0 t.1 c.loop-c.invariant.run_goes_on on in
     let long = length_push c.loop-c.yielded c.in-Some.c in
@@ -56,7 +56,7 @@ returns-then-not-shares-clause-bytes c =
 
 pub returns-clause-characters : goal.returns-clause-characters
 returns-clause-characters c =
-    let info = info_of c.args.table.now in
+    let info = (image_tables c.args.system.now).info in
     let cs = take c.args.limit (chars c.args.text.now) in
     let t = YieldsList-end (YieldsList-from_take c.args.limit (YieldsList-from_chars c.args.text.now c.utf8.text cc) cc) c.loop-c.yielded _ c.loop-c.yielded_by _ _ c.in-None.is c.next.ensures.steps in
     counted info c.args.limit c.args.entry (chars c.args.text.now) c.loop-c.characters

@@ -1,13 +1,13 @@
 use Rattle.std.proofs.Common.{◌≡◌, ◌+◌, length, drop, take}
 use Rattle.std.specs.Prelude.{chars}
 use Rattle.mj_model.specs.Run.{run, bytes_of}
-use Rattle.word_lookup.specs.Chars.{info_of}
+use Rattle.mj_model.specs.ImageMeaning.{image_tables}
 use Rattle.word_lookup.proofs.run.run_up_to.Given as goal
 
 -- the characters so far belong to the run, which goes on from the last of them
 abbrev pub invariant-loop-c : goal.invariant-loop-c
 invariant-loop-c l = record {
   counted : l.characters ≡ length l.yielded;
-  run_goes_on : l.characters + run (info_of l.table) l.last (drop (length l.yielded) (take l.limit (chars l.text))) ≡ run (info_of l.table) l.fn.entry (take l.limit (chars l.text));
+  run_goes_on : l.characters + run (image_tables l.system).info l.last (drop (length l.yielded) (take l.limit (chars l.text))) ≡ run (image_tables l.system).info l.fn.entry (take l.limit (chars l.text));
   bytes_counted : l.bytes ≡ bytes_of l.characters (take l.limit (chars l.text));
 }

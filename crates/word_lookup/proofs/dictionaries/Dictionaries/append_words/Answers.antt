@@ -1,40 +1,35 @@
 use Rattle.std.proofs.Common.{arith, rules, ◌≡◌, List, ℕ, drop, sym, ap, ◌∙◌, subst}
 use Rattle.std.specs.Prelude.{chars, OnOk}
-use Rattle.std.proofs.lemmas.List.{append-nil}
 use Rattle.mj_model.specs.declared.word.Word.{Word}
-use Rattle.mj_model.specs.Blanks.{skip, chars_from}
-use Rattle.mj_model.specs.KnownWords.{known, known_in}
+use Rattle.mj_model.specs.Blanks.{chars_from}
+use Rattle.mj_model.specs.KnownWords.{known, known_from}
+use Rattle.mj_model.specs.Tables.{lexicons}
 use Rattle.word_lookup.specs.Overlays.{overlay_of}
-use Rattle.word_lookup.specs.SortedLexicons.{lexicon_of}
-use Rattle.word_lookup.proofs.KnownFound.{front_kept}
+use Rattle.word_lookup.proofs.AppendLemmas.{front_kept}
 use Rattle.word_lookup.proofs.PlaceLemmas.{skip_within, place_behind_blanks, known_then_unknown}
 use Rattle.word_lookup.proofs.dictionaries.Dictionaries.append_words.Goals as goal
 
-pub append_words-requires : goal.append_words-requires
-append_words-requires c =
-    let w = skip_within (overlay_of c.args.self.now) c.args.text.now c.args.place c.requires.there in
-    omega (arith, w, c.requires.behind_blanks)
-
 pub behind-rest-requires : goal.behind-rest-requires
+unfolding overlay_of
 behind-rest-requires c =
     let o = overlay_of c.args.self.now in
     let w = skip_within o c.args.text.now c.args.place c.requires.there in
     place_behind_blanks o c.args.text.now c.args.place c.args.start c.requires.there c.requires.behind_blanks (omega (arith, w, c.requires.behind_blanks))
 
 pub returns-clause-appended : goal.returns-clause-appended
+unfolding overlay_of
 returns-clause-appended c =
     let o = overlay_of c.args.self.now in
     let text = c.args.text.now in
-    let lexicon = lexicon_of c.args.self.now.tables.now.lexicon in
     let P : List Word → Type 0 = λ ws. OnOk c.append_unknown.result (c.append_unknown.new.out.items ≡ ws) in
-    let k : known o text c.args.place ≡ known_in c.args.place c.args.start c.as_bytes.result.now 0 lexicon =
-    append-nil (known_in c.args.place (skip o text c.args.place) (drop (skip o text c.args.place) text) 0 lexicon)
-    ∙ ap (λ (s : ℕ). known_in c.args.place s (drop s text) 0 lexicon) (sym c.requires.behind_blanks)
-    ∙ ap (λ (bytes : List ℕ). known_in c.args.place c.args.start bytes 0 lexicon) (sym (c.as_bytes.ensures.value ∙ c.behind-rest.ensures)) in
-    let all = known_then_unknown o c.args.place c.args.start c.behind-rest.result.now (chars_from text c.args.start) (known o text c.args.place) _ c.args.out.now.items c.append_words.new.out.items c.len.result c.len-count.result
-    k c.in_ok-append_words.ensures.appended (search rules) (search rules) (ap chars c.behind-rest.ensures) in
+    let k : known o text c.args.place ≡ known_from c.args.place c.args.start c.behind-rest.result.now 0 (lexicons o) =
+    ap (λ (s : ℕ). known_from c.args.place s (drop s text) 0 (lexicons o)) (sym c.requires.behind_blanks)
+    ∙ ap (λ (bytes : List ℕ). known_from c.args.place c.args.start bytes 0 (lexicons o)) (sym c.behind-rest.ensures) in
+    let all = known_then_unknown o c.args.place c.args.start c.behind-rest.result.now (chars_from text c.args.start) (known o text c.args.place) _ c.args.out.now.items c.append_known.new.out.items c.len.result c.len-count.result
+    k c.in_ok-append_known.ensures.appended (search rules) (search rules) (ap chars c.behind-rest.ensures) in
     subst P all c.append_unknown.ensures.appended
 
 pub returns-clause-kept : goal.returns-clause-kept
+unfolding overlay_of
 returns-clause-kept c =
-    front_kept _ _ _ _ _ (search rules) (c.append_unknown.ensures.kept ∙ c.in_ok-append_words.ensures.appended)
+    front_kept _ _ _ _ _ (search rules) (c.append_unknown.ensures.kept ∙ c.in_ok-append_known.ensures.appended)

@@ -1,15 +1,26 @@
-use Rattle.std.proofs.Common.{arith, ap, ◌∙◌}
+use Rattle.std.proofs.Common.{arith}
 use Rattle.word_lookup.specs.Overlays.{overlay_of}
+use Rattle.word_lookup.proofs.DictionaryLaws.{is_system}
 use Rattle.word_lookup.proofs.PlaceLemmas.{blanks_fit, blanks_are}
 use Rattle.word_lookup.proofs.dictionaries.Dictionaries.blanks.Goals as goal
 
 pub overflow_add-result : goal.overflow_add-result
+unfolding overlay_of
 overflow_add-result c =
     let b = blanks_fit c.args.text.now c.behind-rest.result.now c.args.place c.run_up_to.result.characters c.run_up_to.result.bytes c.requires c.behind-rest.ensures c.run_up_to.ensures.bytes in
     omega (arith, b)
 
 pub returns : goal.returns
+unfolding overlay_of
 returns c =
     let o = overlay_of c.args.self.now in
     blanks_are o c.args.text.now c.behind-rest.result.now c.args.place c.info-space.result c.run_up_to.result.characters c.run_up_to.result.bytes c.requires c.behind-rest.ensures
-    (c.info-space.ensures.info ∙ ap o.system.info c.from.ensures) c.run_up_to.ensures.characters c.run_up_to.ensures.bytes
+    c.info-space.ensures.info c.run_up_to.ensures.characters c.run_up_to.ensures.bytes
+
+pub info-space-requires : goal.info-space-requires
+unfolding overlay_of
+info-space-requires c = is_system c.args.self.now
+
+pub run_up_to-requires : goal.run_up_to-requires
+unfolding overlay_of
+run_up_to-requires c = is_system c.args.self.now

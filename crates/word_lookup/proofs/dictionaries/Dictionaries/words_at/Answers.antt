@@ -1,13 +1,16 @@
-use Rattle.std.proofs.Common.{arith, ◌≡◌, ◌++◌, List, length, ap, sym, subst}
+use Rattle.std.proofs.Common.{arith, ◌≡◌, ◌++◌, List, length, take, ap, sym, ◌∙◌, subst}
 use Rattle.std.specs.Prelude.{OnOk}
 use Rattle.mj_model.specs.declared.word.Word.{Word}
 use Rattle.mj_model.proofs.TextPaths.{words_there}
 use Rattle.word_lookup.specs.Overlays.{overlay_of}
+use Rattle.std.proofs.lemmas.List.{append-nil}
+use Rattle.word_lookup.proofs.AppendLemmas.{on_err, on_err_of_ok, on_ok_of_err}
 use Rattle.word_lookup.proofs.DictionaryLaws.{covers_all}
-use Rattle.word_lookup.proofs.PlaceLemmas.{place_within, text_there, skip_within, words_are}
+use Rattle.word_lookup.proofs.PlaceLemmas.{no_words, place_within, text_there, skip_within, words_are}
 use Rattle.word_lookup.proofs.dictionaries.Dictionaries.words_at.Goals as goal
 
 pub returns-else-is_err-clause-appended : goal.returns-else-is_err-clause-appended
+unfolding overlay_of
 returns-else-is_err-clause-appended c =
     let o = overlay_of c.args.self.now in
     let w = skip_within o c.args.text.now c.args.place c.requires in
@@ -16,6 +19,7 @@ returns-else-is_err-clause-appended c =
     subst P (sym are) c.append_words-appended.ensures.appended
 
 pub returns-then-is_err-clause-none : goal.returns-then-is_err-clause-none
+unfolding overlay_of
 returns-then-is_err-clause-none c = λ none.
     let d = c.args.self.now in
     let o = overlay_of d in
@@ -25,3 +29,25 @@ returns-then-is_err-clause-none c = λ none.
     let some = words_there o text place (covers_all d) (place_within text place c.requires) (text_there text place c.requires) (omega (arith, w, c.blanks-start.ensures)) in
     let count = ap length none in
     absurd (omega (arith, some, count))
+
+pub returns-then-start-text-clause-appended : goal.returns-then-start-text-clause-appended
+unfolding overlay_of
+returns-then-start-text-clause-appended c =
+    let o = overlay_of c.args.self.now in
+    let out = c.args.out.now.items in
+    let at = c.blanks-start.ensures in
+    let none = no_words o c.args.text.now c.args.place c.blanks-start.result at (omega (arith, c.if-start-text.true)) in
+    sym (append-nil out) ∙ ap (λ (ws : List Word). out ++ ws) (sym none)
+
+pub returns-then-is_err-clause-appended : goal.returns-then-is_err-clause-appended
+unfolding overlay_of
+returns-then-is_err-clause-appended c = on_ok_of_err _ c.append_words-appended.result c.is_err.result c.is_err.ensures.value c.if-is_err.true
+
+pub returns-then-is_err-clause-kept : goal.returns-then-is_err-clause-kept
+unfolding overlay_of
+returns-then-is_err-clause-kept c =
+    on_err c.append_words-appended.result (c.truncate.ensures.items ∙ ap (λ (n : _). take n c.append_words-appended.new.out.items) c.len-count.ensures ∙ c.append_words-appended.ensures.kept)
+
+pub returns-else-is_err-clause-kept : goal.returns-else-is_err-clause-kept
+unfolding overlay_of
+returns-else-is_err-clause-kept c = on_err_of_ok _ c.append_words-appended.result c.is_err.result c.is_err.ensures.value c.if-is_err.false

@@ -6,8 +6,9 @@ use Rattle.std.proofs.lemmas.List.{length_push, length-take}
 use Rattle.mj_model.specs.KnownWords.{up_to}
 use Rattle.mj_model.specs.Run.{bytes_of}
 use Rattle.mj_model.proofs.CharBytes.{chars_within}
-use Rattle.word_lookup.specs.UnknownEntries.{tokens, words_of_spans}
-use Rattle.word_lookup.proofs.KnownFound.{front_kept}
+use Rattle.mj_model.specs.ImageMeaning.{image_tables}
+use Rattle.word_lookup.specs.UnknownEntries.{words_of_spans}
+use Rattle.word_lookup.proofs.AppendLemmas.{front_kept}
 use Rattle.word_lookup.proofs.UnknownWords.{one_span_more, one_character_more}
 use Rattle.word_lookup.proofs.unknown_entries.UnknownEntries.append_lengths.Goals as goal
 
@@ -23,7 +24,7 @@ overflow_add-end c =
 pub loop-c-preserved : goal.loop-c-preserved
 loop-c-preserved c =
     let cs = chars c.args.rest.now in
-    let ts = tokens c.args.self.first c.args.self.records.now in
+    let ts = (image_tables c.args.self.system.now).unknown c.args.self.category in
     let t = YieldsList-turn (YieldsList-from_take c.args.longest (YieldsList-from_chars c.args.rest.now c.utf8.rest cc) cc) c.loop-c.yielded _ c.loop-c.yielded_by _ _ c.in-Some.c c.in-Some.is c.next.ensures.steps in
     let len = length-take c.args.longest cs in
     let n = length c.loop-c.yielded in
@@ -48,4 +49,4 @@ returns-clause-appended c =
     let len = length-take c.args.longest cs in
     let low = c.requires.within in
     let e : length c.loop-c.yielded ≡ c.args.longest = omega (arith, t.1, len, low) in
-    c.loop-c.invariant.words ∙ ap (λ (k : ℕ). c.args.out.now.items ++ words_of_spans c.args.place c.args.start cs (tokens c.args.self.first c.args.self.records.now) (up_to k)) e
+    c.loop-c.invariant.words ∙ ap (λ (k : ℕ). c.args.out.now.items ++ words_of_spans c.args.place c.args.start cs ((image_tables c.args.self.system.now).unknown c.args.self.category) (up_to k)) e

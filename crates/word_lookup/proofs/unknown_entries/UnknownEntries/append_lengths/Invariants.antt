@@ -2,12 +2,13 @@ use Rattle.std.proofs.Common.{◌≡◌, ◌++◌, ◌+◌, length}
 use Rattle.std.specs.Prelude.{chars}
 use Rattle.mj_model.specs.KnownWords.{up_to}
 use Rattle.mj_model.specs.Run.{bytes_of}
-use Rattle.word_lookup.specs.UnknownEntries.{tokens, words_of_spans}
+use Rattle.mj_model.specs.ImageMeaning.{image_tables}
+use Rattle.word_lookup.specs.UnknownEntries.{words_of_spans}
 use Rattle.word_lookup.proofs.unknown_entries.UnknownEntries.append_lengths.Given as goal
 
 -- the words of the lengths so far were appended, and the last of them ends here
 abbrev pub invariant-loop-c : goal.invariant-loop-c
 invariant-loop-c l = record {
-  words : l.out.items ≡ l.initial.out.items ++ words_of_spans l.place l.start (chars l.rest) (tokens l.self.first l.self.records.now) (up_to (length l.yielded));
+  words : l.out.items ≡ l.initial.out.items ++ words_of_spans l.place l.start (chars l.rest) ((image_tables l.self.system.now).unknown l.self.category) (up_to (length l.yielded));
   end_is : l.end ≡ l.start + bytes_of (length l.yielded) (chars l.rest);
 }

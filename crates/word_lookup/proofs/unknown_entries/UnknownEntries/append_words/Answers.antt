@@ -1,9 +1,11 @@
-use Rattle.std.proofs.Common.{arith, ◌-◌}
-use Rattle.mj_model.specs.Words.{unknown_word}
-use Rattle.word_lookup.proofs.UnknownWords.{one_entry_more}
+use Rattle.std.proofs.Common.{◌≡◌, ◌++◌, List, subst}
+use Rattle.std.specs.Prelude.{OnOk}
+use Rattle.mj_model.specs.declared.word.Word.{Word}
+use Rattle.mj_model.specs.ImageMeaning.{image_tables}
+use Rattle.word_lookup.proofs.UnknownWords.{words_from_start}
 use Rattle.word_lookup.proofs.unknown_entries.UnknownEntries.append_words.Goals as goal
 
-pub loop-i-preserved : goal.loop-i-preserved
-loop-i-preserved c =
-    one_entry_more (unknown_word c.args.place c.args.start (c.args.end - c.args.start)) c.args.self.first c.loop-i.i c.args.self.records.now c.record-item.result _ _ _ _
-    (omega arith) c.record-item.is c.word_of.ensures c.loop-i.invariant c.in_ok-push.ensures.items
+pub returns-clause-appended : goal.returns-clause-appended
+returns-clause-appended c =
+    let P : List Word → Type 0 = λ ws. OnOk c.append_entries.result (c.append_entries.new.out.items ≡ c.args.out.now.items ++ ws) in
+    subst P (words_from_start c.args.place c.args.start c.args.end _ ((image_tables c.args.self.system.now).unknown c.args.self.category) c.requires.forward c.unknown-entries.ensures.unknown) c.append_entries.ensures.appended

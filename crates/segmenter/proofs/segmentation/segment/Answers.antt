@@ -1,0 +1,7 @@
+use Rattle.mj_model.proofs.CoveredTexts.{is_covered}
+use Rattle.word_lookup.specs.Overlays.{overlay_of}
+use Rattle.word_lookup.proofs.DictionaryLaws.{covers_all, has_words}
+use Rattle.segmenter.proofs.segmentation.segment.Goals as goal
+
+pub returns-clause-covered : goal.returns-clause-covered
+returns-clause-covered g c = is_covered (overlay_of c.args.dictionaries.now) (has_words c.args.dictionaries.now) (covers_all c.args.dictionaries.now)

@@ -1,6 +1,0 @@
--- How many context ids there are, as the readers are told.
-use Rattle.mj_model.specs.Connection.{Sizes}
-use Rattle.segmenter.specs.declared.sizes.IdSizes.{IdSizes}
-
-abbrev pub sizes_in : IdSizes → Sizes
-sizes_in sizes = record { right = sizes.right; left = sizes.left }

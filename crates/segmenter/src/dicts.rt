@@ -1,0 +1,103 @@
+//! The dictionaries of sources.
+
+ghost use Rattle.std.specs.Prelude.{◌≡◌, ℕ, ◌++◌, ◌∷◌, [], IfOk, IfErr, OnOk};
+ghost use Rattle.std.specs.List.{AllZip};
+ghost use Rattle.mj_model.specs.declared.image_fault.ImageFault.TheVariants.{Memory as MemoryOfImage};
+ghost use Rattle.mj_model.specs.declared.run_fault.RunFault.TheVariants.{UserSource};
+ghost use Rattle.mj_model.specs.declared.source_fault.SourceFault.{SourceFault as FaultOf};
+ghost use Rattle.mj_model.specs.declared.source_fault.SourceKind.TheVariants.{Memory};
+ghost use Rattle.mj_model.specs.Compilation.{IsCompilationCause, IsCompilationFault, IsUserCause, IsUserFault};
+ghost use Rattle.mj_model.specs.FirstFault.{IsRefusal};
+ghost use Rattle.mj_model.specs.ImageFaults.{IsWellFormed};
+ghost use Rattle.mj_model.specs.ImageMeaning.{image_tables};
+ghost use Rattle.mj_model.specs.SourceOverlays.{IsOfUser};
+ghost use Rattle.mj_model.specs.Tables.{System};
+ghost use Rattle.dict_compile.specs.Answers.{IsRefusedFor as IsCompileRefusedFor};
+ghost use Rattle.segmenter.specs.SourceDicts.{IsDictOf, IsUserDictOf, IsUsersRefusal, IsRefusedFor, lexicons_of, users_of};
+
+use crate::early_fault::user_fault;
+use dict_compile::{CompileUserFault, compile, compile_user};
+use dict_image::{Dict, load};
+use mj_model::{ImageFault, RunFault, SourceFault, SourceKind, Sources};
+use std::alloc::{AllocError, Global};
+
+/// The dictionary of sources.
+pub(crate) fn system_dict(alloc: Global, sources: &Sources<'_>) -> Result<Dict, SourceFault>
+    ensures dict { IfOk result (λ dict. IsDictOf sources.now dict) }
+    ensures refused { IfErr result (λ fault. IsRefusal fault (IsCompilationCause sources.now fault)) }
+    ensures first { (fault : FaultOf) → IsCompilationFault sources.now fault → IsCompileRefusedFor fault result }
+{
+    match compile(alloc, sources) {
+        Ok(compiled) => loaded(alloc, compiled.image),
+        Err(fault) => Err(fault),
+    }
+}
+
+/// The user dictionary of lexicons.
+fn user_dict(alloc: Global, system: &Dict, lexicons: &[&[u8]]) -> Result<Dict, SourceFault>
+    requires { (image_tables system.now).kind ≡ System }
+    ensures dict { IfOk result (λ dict. IsUserDictOf (image_tables system.now) (lexicons_of lexicons.now) dict) }
+    ensures refused { IfErr result (λ fault. IsRefusal fault (IsUserCause (image_tables system.now) (lexicons_of lexicons.now) fault)) }
+{
+    match compile_user(alloc, system, lexicons) {
+        Ok(compiled) => loaded(alloc, compiled.image),
+        Err(CompileUserFault::Source(fault)) => Err(fault),
+        Err(CompileUserFault::NotSystem) => unreachable!(),
+    }
+}
+
+/// The user dictionaries of each user's lexicons, up to the first fault.
+pub(crate) fn user_dicts(
+    alloc: Global,
+    system: &Dict,
+    users: &[&[&[u8]]],
+) -> Result<Vec<Dict>, RunFault>
+    requires { (image_tables system.now).kind ≡ System }
+    ensures dicts { IfOk result (λ dicts. AllZip (IsUserDictOf (image_tables system.now)) (users_of users.now) dicts.items) }
+    ensures refused { IfErr result (IsUsersRefusal (image_tables system.now) (users_of users.now)) }
+    ensures first { (i : ℕ) (fault : FaultOf) → IsOfUser (IsUserFault (image_tables system.now)) (image_tables system.now) (users_of users.now) i fault → IsRefusedFor (UserSource i fault) result }
+{
+    let mut dicts = Vec::new(alloc);
+    for (i, lexicons) in users.iter().enumerate() {
+        let dict = match user_dict(alloc, system, lexicons) {
+            Ok(dict) => dict,
+            Err(fault) => return Err(user_fault(i, fault)),
+        };
+        if add(&mut dicts, dict).is_err() {
+            return Err(RunFault::Memory(0));
+        }
+    }
+    Ok(dicts)
+}
+
+/// Appends a dictionary.
+fn add(dicts: &mut Vec<Dict>, dict: Dict) -> Result<(), AllocError>
+    ensures { OnOk result (dicts.new.items ≡ dicts.old.items ++ dict ∷ []) }
+{
+    dicts.push(dict)?;
+    Ok(())
+}
+
+/// The dictionary of a well-formed image.
+fn loaded(alloc: Global, image: Vec<u8>) -> Result<Dict, SourceFault>
+    requires { IsWellFormed image.items }
+    ensures dict { IfOk result (λ dict. dict ≡ image.items) }
+    ensures refused { IfErr result (λ fault. fault.kind ≡ Memory) }
+{
+    match load(alloc, image) {
+        Ok(dict) => Ok(dict),
+        Err(fault) => Err(refusal(fault)),
+    }
+}
+
+/// Want of memory, as a source's fault.
+fn refusal(_memory: ImageFault) -> SourceFault
+    requires { _memory ≡ MemoryOfImage }
+    ensures { result.kind ≡ Memory }
+{
+    SourceFault {
+        file: 0,
+        line: 0,
+        kind: SourceKind::Memory,
+    }
+}

@@ -1,0 +1,46 @@
+//! From text to words.
+
+ghost use Rattle.std.specs.Prelude.{◌≤◌, ◌<◌, ◌^◌};
+ghost use Rattle.mj_model.specs.declared.limits.TheConstants.{READS_MAX as ReadsMax};
+ghost use Rattle.mj_model.specs.PathLaws.{CoversTexts};
+ghost use Rattle.segmenter.specs.PrintedLines.{Judges, Prints};
+ghost use Rattle.segmenter.specs.Runs.{Ran};
+ghost use Rattle.word_lookup.specs.Overlays.{overlay_of};
+
+use crate::reading::run_over;
+use crate::words_printer::{LineMemory, WordsPrinter};
+use mj_model::{READS_MAX, RunFault, TextIn, TextOut};
+use out_format::Format;
+use std::alloc::Global;
+use word_lookup::Dictionaries;
+
+/// Cuts the text of a reader into words and writes them in a format; answers the number of lines.
+///
+/// It works through the bytes of one read before it reads again, and flushes the writer once, at the end of the input; after a
+/// fault the caller flushes. No count of reader or writer is above 2^63 at entry.
+pub fn segment<R: TextIn, W: TextOut>(
+    alloc: Global,
+    dictionaries: &Dictionaries<'_>,
+    format: &Format,
+    reader: &mut R,
+    writer: &mut W,
+) -> Result<u64, RunFault>
+    requires reads { R.reads reader.old < 2 ^ 63 }
+    requires ends { R.ends reader.old < 2 ^ 63 }
+    requires read_failures { R.TextIn.failures reader.old < 2 ^ 63 }
+    requires write_failures { W.TextOut.failures writer.old < 2 ^ 63 }
+    // The dictionaries cover every text: each has exactly one best path.
+    ensures covered { CoversTexts (overlay_of dictionaries.now) }
+    ensures run { Ran Judges (Prints (overlay_of dictionaries.now) format.now) ReadsMax (R.remaining reader.old) (R.remaining reader.new) (W.contents writer.old) (W.contents writer.new)
+        (record { reads = R.reads reader.old; ends = R.ends reader.old; read_failures = R.TextIn.failures reader.old; write_failures = W.TextOut.failures writer.old; unflushed = W.unflushed writer.old })
+        (record { reads = R.reads reader.new; ends = R.ends reader.new; read_failures = R.TextIn.failures reader.new; write_failures = W.TextOut.failures writer.new; unflushed = W.unflushed writer.new })
+        result }
+{
+    let printer = WordsPrinter {
+        alloc,
+        dictionaries: *dictionaries,
+        format,
+    };
+    let mut kept = LineMemory::new(alloc);
+    run_over(alloc, &printer, &mut kept, reader, writer, READS_MAX)
+}

@@ -1,0 +1,13 @@
+use Rattle.std.proofs.Common.{◌+◌, drop, map}
+use Rattle.mj_model.specs.ImageMeaning.{image_tables}
+use Rattle.mj_model.specs.KnownWords.{known_from}
+use Rattle.mj_model.specs.Tables.{lexicons, lexicons_of}
+use Rattle.word_lookup.specs.Overlays.{overlay_of}
+use Rattle.word_lookup.proofs.AppendLemmas.{AreAppended}
+use Rattle.word_lookup.proofs.dictionaries.Dictionaries.append_known.Given as goal
+
+-- the words of the system and of the users so far were appended
+abbrev pub invariant-loop-i : goal.invariant-loop-i
+invariant-loop-i l =
+    AreAppended l.fn.out.items l.out.items (known_from l.place l.start l.rest 0 (lexicons (overlay_of l.self)))
+    (known_from l.place l.start l.rest (l.i + 1) (lexicons_of (map image_tables (drop l.i l.self.users.now))))
