@@ -1,0 +1,69 @@
+//! `dictc`: compiles dictionary sources to images.
+#![tactic(auto)]
+
+mod choices;
+mod command_line;
+mod compiling;
+mod fault;
+mod reporting;
+
+use choices::{Options, OptionsFault};
+use command_line::options;
+use compiling::compile_image;
+use fault::Fault;
+use reporting::{done, report};
+use std::process::ExitCode;
+use std::string::String;
+use std::{env, io};
+
+fn main(rt: HostRuntime) -> ExitCode {
+    let status = match words_given(&rt) {
+        Ok(words) => run(&rt, words),
+        Err(_) => told(&rt, &Fault::Memory),
+    };
+    ExitCode::from(status)
+}
+
+/// The words that follow the program's name.
+fn words_given(rt: &HostRuntime) -> io::Result<Vec<String>> {
+    let mut words = Vec::new(rt.alloc());
+    for word in env::args(rt)?.skip(1) {
+        words.push(word)?;
+    }
+    Ok(words)
+}
+
+/// Does what the words ask for, and answers the exit status.
+fn run(rt: &HostRuntime, words: Vec<String>) -> u8 {
+    match options(rt.alloc(), words) {
+        Ok(options) => run_with(rt, &options),
+        Err(OptionsFault::Help(text)) => {
+            let _ = rt.print(text);
+            0
+        }
+        Err(OptionsFault::Bad(text)) => {
+            let _ = rt.eprint(text);
+            2
+        }
+        Err(OptionsFault::Memory) => told(rt, &Fault::Memory),
+    }
+}
+
+/// Compiles, and answers the exit status.
+fn run_with(rt: &HostRuntime, options: &Options) -> u8 {
+    match compile_image(rt, options) {
+        Ok(compiled) => match done(&compiled, &mut rt.stdout()) {
+            0 => 0,
+            _ => told(rt, &Fault::Output),
+        },
+        Err(fault) => told(rt, &fault),
+    }
+}
+
+/// Tells a fault on standard error.
+fn told(rt: &HostRuntime, fault: &Fault) -> u8 {
+    report(fault, &mut rt.stderr())
+}
+
+#[cfg(test)]
+mod tests;

@@ -1,0 +1,82 @@
+//! Files that can't be read, or are no image.
+
+use crate::choices::Options;
+use crate::compiling::compile_image;
+use crate::fault::Fault;
+use mj_model::ImageFault;
+use std::string::String;
+use std::test::Fail;
+use std::{fs, io, process};
+
+/// A new directory of this test's own.
+fn new_directory(rt: &HostRuntime, test: &str) -> io::Result<String> {
+    let id = process::id(rt.process());
+    let dir = format!(in rt.alloc(); "/tmp/dictc_{test}_{id}")?;
+    fs::create_dir(rt, dir.as_str())?;
+    Ok(dir)
+}
+
+/// The path of a name in a directory, as an option has it.
+fn in_directory(rt: &HostRuntime, dir: &str, name: &str) -> io::Result<String> {
+    Ok(format!(in rt.alloc(); "{dir}/{name}")?)
+}
+
+/// What compiles the files of a directory to its file `img`.
+fn options_in(rt: &HostRuntime, dir: &str, user: bool) -> io::Result<Options> {
+    let mut lexicons = Vec::new(rt.alloc());
+    lexicons.push(in_directory(rt, dir, "lexicon.csv")?)?;
+    Ok(Options {
+        user,
+        matrix: Some(in_directory(rt, dir, "matrix.def")?),
+        chars: Some(in_directory(rt, dir, "char.def")?),
+        unk: Some(in_directory(rt, dir, "unk.def")?),
+        dic: Some(in_directory(rt, dir, "sys.img")?),
+        out: in_directory(rt, dir, "img")?,
+        lexicons,
+    })
+}
+
+#[test]
+fn files_that_cannot_be_read(rt: HostRuntime) -> Result<(), Fail> {
+    let dir = new_directory(&rt, "unreadable")?;
+    let rows = [
+        // (whether for a user, the file that is made before, the one that is told)
+        (true, "", "sys.img"),
+        (false, "", "matrix.def"),
+        (false, "matrix.def", "char.def"),
+        (false, "char.def", "unk.def"),
+        (false, "unk.def", "lexicon.csv"),
+    ];
+    for (user, name, wanted) in rows {
+        if !name.is_empty() {
+            let path = in_directory(&rt, dir.as_str(), name)?;
+            fs::write(&rt, path.as_str(), "x")?;
+        }
+        let path = in_directory(&rt, dir.as_str(), wanted)?;
+        match &compile_image(&rt, &options_in(&rt, dir.as_str(), user)?) {
+            Err(Fault::File(told)) => assert!(rt; *told == path, "{wanted}"),
+            _ => assert!(rt; false, "{wanted}"),
+        }
+        assert!(rt;
+            !fs::exists(&rt, in_directory(&rt, dir.as_str(), "img")?)?,
+            "{wanted}"
+        );
+    }
+    fs::remove_dir_all(&rt, dir.as_str())?;
+    Ok(())
+}
+
+#[test]
+fn images_that_are_none(rt: HostRuntime) -> Result<(), Fail> {
+    let dir = new_directory(&rt, "images")?;
+    let path = in_directory(&rt, dir.as_str(), "sys.img")?;
+    fs::write(&rt, path.as_str(), "no image")?;
+    let compiled = compile_image(&rt, &options_in(&rt, dir.as_str(), true)?);
+    fs::remove_dir_all(&rt, dir.as_str())?;
+    // The image is loaded before the lexicon is read, which isn't there.
+    match &compiled {
+        Err(Fault::Image(told, ImageFault::Truncated)) => assert!(rt; *told == path),
+        _ => assert!(rt; false),
+    }
+    Ok(())
+}
