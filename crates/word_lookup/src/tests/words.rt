@@ -1,4 +1,4 @@
-//! Words, blanks and categories.
+//! Words of places.
 
 ghost use Rattle.std.specs.Prelude.{IsTrue};
 ghost use Rattle.mj_model.specs.Words.{is_place};
@@ -56,22 +56,6 @@ fn sample_has(
 ) -> Result<bool, Fail> {
     let system = system(alloc, mapping, lexicon)?;
     Ok(are_words(alloc, alone(&system)?, text, place, expected)?)
-}
-
-/// The place behind the blanks of a place, over the sample's dictionary with a further mapping.
-fn blanks_behind(
-    alloc: Global,
-    mapping: &str,
-    text: &str,
-    place: usize,
-) -> Result<Option<usize>, Fail> {
-    let system = system(alloc, mapping, LEXICON)?;
-    let dictionaries = alone(&system)?;
-    if is_at(text, place) {
-        Ok(Some(dictionaries.blanks(text, place)))
-    } else {
-        Ok(None)
-    }
 }
 
 #[test]
@@ -272,46 +256,5 @@ fn grouping_limit(rt: HostRuntime) -> Result<(), Fail> {
     let none_follows = alone(&system)?.with_grouping(0);
     let expected = [(0, 3, 1000, "未知", false)];
     assert!(rt; are_words(rt.alloc(), none_follows, "アイ", 0, &expected)?);
-    Ok(())
-}
-
-#[test]
-fn blanks(rt: HostRuntime) -> Result<(), Fail> {
-    let rows = [
-        // (what, a further mapping, text, place, place behind the blanks)
-        ("no blank", "", "も", 0, 0),
-        ("one blank", "", " すもも  もも ", 0, 1),
-        ("two blanks", "", " すもも  もも ", 10, 12),
-        ("a blank at the end", "", " すもも  もも ", 18, 19),
-        ("only_blanks", "", "   ", 0, 3),
-        ("a wide blank", "0x3000 SPACE\n", "\u{3000}も", 0, 3),
-        ("on over a letter", "0x0009 SPACE ALPHA\n", "\tzも", 0, 2),
-    ];
-    for (what, mapping, text, place, behind) in rows {
-        assert_eq!(rt;
-            blanks_behind(rt.alloc(), mapping, text, place)?,
-            Some(behind),
-            "{what}"
-        );
-    }
-    Ok(())
-}
-
-#[test]
-fn categories(rt: HostRuntime) -> Result<(), Fail> {
-    let rows = [
-        // (what, a further mapping, character, set of categories, first category)
-        ("a letter", "", 'z', 4, 2),
-        ("a blank", "", ' ', 2, 1),
-        ("two categories", "0x30FC KATAKANA HIRAGANA\n", 'ー', 40, 3),
-        ("not mapped", "", '𠮷', 1, 0),
-        ("mapped", "0x20000..0x2A6DF KANJI\n", '𠮷', 16, 4),
-    ];
-    for (what, mapping, c, bits, first) in rows {
-        let system = system(rt.alloc(), mapping, LEXICON)?;
-        let info = alone(&system)?.info(c);
-        assert_eq!(rt; info.bits, bits, "{what}");
-        assert_eq!(rt; info.first(), first, "{what}");
-    }
     Ok(())
 }
