@@ -24,7 +24,7 @@ use word_lookup::Dictionaries;
 /// Cuts the text of a reader into words and writes them in a format, by the dictionaries of sources; answers the number of lines.
 ///
 /// Each of `users` is the lexicons of one user dictionary. `grouping` is how many characters may follow the first one of a grouped
-/// unknown word, 24 in MeCab. Reader and writer are used as by `segment`.
+/// unknown word, 24 by default. Reader and writer are used as by `segment`.
 pub fn run_sources<R: TextIn, W: TextOut>(
     alloc: Global,
     sources: &Sources<'_>,

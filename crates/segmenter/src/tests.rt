@@ -2,8 +2,10 @@
 
 mod devices;
 mod failing;
+mod faults;
 mod formats;
 mod paths;
 mod refusals;
 mod rows;
+mod runs;
 mod users;

@@ -5,7 +5,7 @@ use crate::dicts::system_dict;
 use crate::reading::run_over;
 use crate::words_printer::{LineMemory, WordsPrinter};
 use crate::{run_sources, sample};
-use mj_model::{Counted, GROUPING_DEFAULT, RunFault, SENTENCE_MAX, SourceFault, SourceKind};
+use mj_model::{Counted, GROUPING_DEFAULT, RunFault, SENTENCE_MAX};
 use out_format::Format;
 use std::alloc::{AllocError, Global};
 use std::test::Fail;
@@ -279,36 +279,6 @@ fn long_lines(rt: HostRuntime) -> Result<(), Fail> {
                 .count()
                 == words,
             "{what}"
-        );
-    }
-    Ok(())
-}
-
-#[test]
-fn fault_words(rt: HostRuntime) -> Result<(), Fail> {
-    let fault = SourceFault {
-        file: 3,
-        line: 1,
-        kind: SourceKind::TooFewFields,
-    };
-    let rows = [
-        // (fault, code, name, text)
-        (
-            RunFault::Source(fault),
-            "S2",
-            "TooFewFields",
-            "file 3, line 1: S2 TooFewFields",
-        ),
-        (RunFault::Write(120), "G2", "Write", "G2 Write 120"),
-        (RunFault::NotUtf8(3), "G3", "NotUtf8", "line 3: G3 NotUtf8"),
-        (RunFault::Memory(0), "Memory", "Memory", "Memory"),
-    ];
-    for (fault, code, name, text) in rows {
-        assert!(rt; fault.code() == code, "{text}");
-        assert!(rt; fault.name() == name, "{text}");
-        assert!(rt;
-            format!(in rt.alloc(); "{fault}")?.as_str() == text,
-            "{text}"
         );
     }
     Ok(())

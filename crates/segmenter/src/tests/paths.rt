@@ -8,11 +8,16 @@ use mj_model::{SENTENCE_MAX, Sources};
 use std::alloc::Global;
 use std::process::Abort;
 use std::str;
+use std::str::Utf8Error;
 use std::string::String;
 use std::test::Fail;
 use word_lookup::Dictionaries;
 
-const PLUMS: &str = "すもも,1,1,100,名詞,すもも\nも,1,1,20,助詞,も\nもも,1,1,30,名詞,もも\n";
+/// The sample's lexicon.
+fn plums() -> Result<&'static str, Utf8Error> {
+    let lexicon = sample().lexicons.first();
+    lexicon.map_or(Ok(""), |lexicon| str::from_utf8(lexicon))
+}
 
 /// The sample's dictionary, with further lines of `char.def` and this lexicon.
 fn dict(alloc: Global, further: &str, lexicon: &str) -> Result<Dict, Fail> {
@@ -49,29 +54,30 @@ fn expect_path(
 
 #[test]
 fn best_paths(rt: HostRuntime) -> Result<(), Fail> {
+    let plums = plums()?;
     let letters = "a,1,1,10,X\nb,1,1,10,X\nab,1,1,27,X\n";
     let blank = "すもも,1,1,100,X\nも,1,1,20,X\nもも,1,1,30,X\nも ,1,1,500,Z\n";
     let rows: [(&str, &str, &str, &str, i64, &[&str]); 12] = [
         // (what, further lines of char.def, lexicon, text, total, surfaces)
-        ("sumomo", "", PLUMS, "すもももも", 152, &["すもも", "もも"]),
-        ("only_blanks", "", PLUMS, "   ", 0, &[]),
+        ("sumomo", "", plums, "すもももも", 152, &["すもも", "もも"]),
+        ("only_blanks", "", plums, "   ", 0, &[]),
         ("tie_later_place", "", letters, "ab", 42, &["a", "b"]),
-        ("tokyo_tie", "", PLUMS, "東京都", 2022, &["東京", "都"]),
-        ("katakana_group_and_length", "", PLUMS, "アイ", 1015, &["アイ"]),
+        ("tokyo_tie", "", plums, "東京都", 2022, &["東京", "都"]),
+        ("katakana_group_and_length", "", plums, "アイ", 1015, &["アイ"]),
         (
             "chain_over_prolonged_mark",
             "0x30FC KATAKANA HIRAGANA\n",
-            PLUMS,
+            plums,
             "アーす",
             1015,
             &["アーす"],
         ),
         ("ends_later", "", blank, "も ", 515, &["も "]),
-        ("beyond_the_basic_plane", "", PLUMS, "𠮷野", 2022, &["𠮷", "野"]),
+        ("beyond_the_basic_plane", "", plums, "𠮷野", 2022, &["𠮷", "野"]),
         (
             "U+0000 is itself alone",
             "0x0000 KANJI\n",
-            PLUMS,
+            plums,
             "𠮷野",
             2022,
             &["𠮷", "野"],
@@ -79,7 +85,7 @@ fn best_paths(rt: HostRuntime) -> Result<(), Fail> {
         (
             "mapped beyond the basic plane",
             "0x20000..0x2A6DF KANJI\n",
-            PLUMS,
+            plums,
             "𠮷野",
             1015,
             &["𠮷野"],
@@ -87,7 +93,7 @@ fn best_paths(rt: HostRuntime) -> Result<(), Fail> {
         (
             "U+FFFF may be mapped",
             "0xFFFF KANJI\n",
-            PLUMS,
+            plums,
             "も",
             35,
             &["も"],
@@ -121,7 +127,7 @@ fn grouping_limit(rt: HostRuntime) -> Result<(), Fail> {
         (0, "アイ", 2022, &["ア", "イ"]),
         (1000, LETTERS_27, 1015, &[LETTERS_27]),
     ];
-    let dict = dict(rt.alloc(), "", PLUMS)?;
+    let dict = dict(rt.alloc(), "", plums()?)?;
     for (grouping, text, total, surfaces) in rows {
         expect_path(&rt, &dict, grouping, text, total, surfaces)?;
     }
@@ -159,7 +165,7 @@ fn longest_line(rt: HostRuntime) -> Result<(), Fail> {
         (65_536, 65_970_592, 65_512),
         (SENTENCE_MAX, 1_055_891_872, 1_048_552),
     ];
-    let dict = dict(rt.alloc(), "", PLUMS)?;
+    let dict = dict(rt.alloc(), "", plums()?)?;
     let dictionaries = Dictionaries::new(&dict, &[])?;
     for (bytes, total, words) in rows {
         let text = letters(rt.alloc(), bytes)?;
@@ -180,7 +186,7 @@ fn one_lattice(rt: HostRuntime) -> Result<(), Fail> {
         ("すもももも", 152, 2),
         ("", 0, 0),
     ];
-    let dict = dict(rt.alloc(), "", PLUMS)?;
+    let dict = dict(rt.alloc(), "", plums()?)?;
     let dictionaries = Dictionaries::new(&dict, &[])?;
     let mut lattice = Lattice::new(rt.alloc());
     for (text, total, words) in rows {

@@ -1,30 +1,15 @@
 //! Sources that are refused.
 
-use crate::{run_sources, sample};
-use mj_model::{Counted, GROUPING_DEFAULT, RunFault, SourceFault, SourceKind, Sources};
-use out_format::Format;
+use super::runs::run;
+use crate::sample;
+use mj_model::{RunFault, SourceFault, SourceKind, Sources};
 use std::alloc::Global;
 use std::string::String;
 use std::test::Fail;
 
-/// Whether a run over the sources is refused with this fault, with nothing written.
+/// Whether a run over the sources is refused with this fault, with nothing read or written.
 fn is_refused(alloc: Global, sources: &Sources<'_>, fault: SourceFault) -> bool {
-    let mut reader = Counted::new("も\n".as_bytes());
-    let mut written = Vec::new(alloc);
-    let mut writer = Counted::new(&mut written);
-    let Ok(format) = Format::default_of(alloc) else {
-        return false;
-    };
-    let answer = run_sources(
-        alloc,
-        sources,
-        &[],
-        GROUPING_DEFAULT,
-        &format,
-        &mut reader,
-        &mut writer,
-    );
-    answer == Err(RunFault::Source(fault)) && written.is_empty()
+    run(alloc, sources, &[], "も\n".as_bytes()).is_refusal(RunFault::Source(fault))
 }
 
 #[test]

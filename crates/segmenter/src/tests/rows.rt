@@ -1,28 +1,9 @@
-use crate::{run_sources, sample};
-use mj_model::{Counted, GROUPING_DEFAULT, RunFault, SourceFault, SourceKind, Sources};
-use out_format::Format;
-use std::alloc::Global;
-use std::test::Fail;
+//! Texts with their output, over the sample and over other sources.
 
-/// What a run over a text answers, and what it wrote.
-fn run(alloc: Global, sources: &Sources<'_>, text: &[u8]) -> (Result<u64, RunFault>, Vec<u8>) {
-    let mut reader = Counted::new(text);
-    let mut written = Vec::new(alloc);
-    let mut writer = Counted::new(&mut written);
-    let answer = match Format::default_of(alloc) {
-        Ok(format) => run_sources(
-            alloc,
-            sources,
-            &[],
-            GROUPING_DEFAULT,
-            &format,
-            &mut reader,
-            &mut writer,
-        ),
-        Err(_) => Err(RunFault::Memory(0)),
-    };
-    (answer, written)
-}
+use super::runs::run;
+use crate::sample;
+use mj_model::{RunFault, SourceFault, SourceKind, Sources};
+use std::test::Fail;
 
 #[test]
 fn sample_lines(rt: HostRuntime) -> Result<(), Fail> {
@@ -66,9 +47,9 @@ fn sample_lines(rt: HostRuntime) -> Result<(), Fail> {
         ("tokyo_tie", "東京都\n", Ok(1), "東京\t未知\n都\t未知\nEOS\n"),
     ];
     for (what, text, answer, output) in rows {
-        let (got, written) = run(rt.alloc(), &sample(), text.as_bytes());
-        assert!(rt; got == answer, "{what}");
-        assert!(rt; written.as_slice() == output.as_bytes(), "{what}");
+        let outcome = run(rt.alloc(), &sample(), &[], text.as_bytes());
+        assert!(rt; outcome.answer == answer, "{what}");
+        assert!(rt; outcome.written.as_slice() == output.as_bytes(), "{what}");
     }
     Ok(())
 }
@@ -119,9 +100,9 @@ fn lexicons(rt: HostRuntime) -> Result<(), Fail> {
             lexicons: &[lexicon.as_bytes()],
             ..sample()
         };
-        let (got, written) = run(rt.alloc(), &sources, text.as_bytes());
-        assert!(rt; got == Ok(1), "{what}");
-        assert!(rt; written.as_slice() == output.as_bytes(), "{what}");
+        let outcome = run(rt.alloc(), &sources, &[], text.as_bytes());
+        assert!(rt; outcome.answer == Ok(1), "{what}");
+        assert!(rt; outcome.written.as_slice() == output.as_bytes(), "{what}");
     }
     Ok(())
 }
@@ -150,9 +131,9 @@ fn blanks_of_other_kinds(rt: HostRuntime) -> Result<(), Fail> {
             chars: &chars,
             ..sample()
         };
-        let (got, written) = run(rt.alloc(), &sources, text.as_bytes());
-        assert!(rt; got == Ok(1), "{what}");
-        assert!(rt; written.as_slice() == output.as_bytes(), "{what}");
+        let outcome = run(rt.alloc(), &sources, &[], text.as_bytes());
+        assert!(rt; outcome.answer == Ok(1), "{what}");
+        assert!(rt; outcome.written.as_slice() == output.as_bytes(), "{what}");
     }
     Ok(())
 }
@@ -171,9 +152,12 @@ fn accepted_costs(rt: HostRuntime) -> Result<(), Fail> {
             lexicons: &[lexicon.as_bytes()],
             ..sample()
         };
-        let (got, written) = run(rt.alloc(), &sources, "も\n".as_bytes());
-        assert!(rt; got == Ok(1), "{what}");
-        assert!(rt; written.as_slice() == "も\tX\nEOS\n".as_bytes(), "{what}");
+        let outcome = run(rt.alloc(), &sources, &[], "も\n".as_bytes());
+        assert!(rt; outcome.answer == Ok(1), "{what}");
+        assert!(rt;
+            outcome.written.as_slice() == "も\tX\nEOS\n".as_bytes(),
+            "{what}"
+        );
     }
     Ok(())
 }
@@ -186,20 +170,20 @@ fn lexicons_in_the_order_given(rt: HostRuntime) -> Result<(), Fail> {
         lexicons: &[first.as_bytes(), second.as_bytes()],
         ..sample()
     };
-    let (got, written) = run(rt.alloc(), &sources, "も\nもも\n".as_bytes());
-    assert!(rt; got == Ok(2));
-    assert!(rt; written.as_slice() == "も\tA\nEOS\nもも\tC\nEOS\n".as_bytes());
+    let outcome = run(rt.alloc(), &sources, &[], "も\nもも\n".as_bytes());
+    assert!(rt; outcome.answer == Ok(2));
+    assert!(rt; outcome.written.as_slice() == "も\tA\nEOS\nもも\tC\nEOS\n".as_bytes());
     let bad = "も,1,1,20\n";
     let sources = Sources {
         lexicons: &[first.as_bytes(), bad.as_bytes()],
         ..sources
     };
-    let (got, _) = run(rt.alloc(), &sources, b"");
     let fault = SourceFault {
         file: 4,
         line: 1,
         kind: SourceKind::TooFewFields,
     };
-    assert!(rt; got == Err(RunFault::Source(fault)));
+    let outcome = run(rt.alloc(), &sources, &[], b"");
+    assert!(rt; outcome.is_refusal(RunFault::Source(fault)));
     Ok(())
 }

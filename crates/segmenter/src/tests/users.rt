@@ -1,9 +1,10 @@
 //! User dictionaries over the sample.
 
-use crate::{run_sources, sample, segment};
+use super::runs::{run, run_in};
+use crate::{sample, segment};
 use dict_compile::{compile, compile_user};
 use dict_image::load;
-use mj_model::{Counted, GROUPING_DEFAULT, RunFault, SourceFault, SourceKind, Sources};
+use mj_model::{Counted, RunFault, SourceFault, SourceKind, Sources};
 use out_format::Format;
 use std::alloc::Global;
 use std::process::Abort;
@@ -12,67 +13,54 @@ use word_lookup::Dictionaries;
 
 const USER: &str = "もも,1,1,1,名詞,ユーザ\n";
 
-/// What a run over `もも` answers, and what it wrote.
-fn run(
-    alloc: Global,
-    sources: &Sources<'_>,
-    users: &[&[&[u8]]],
-) -> (Result<u64, RunFault>, Vec<u8>) {
-    let mut reader = Counted::new("もも\n".as_bytes());
-    let mut written = Vec::new(alloc);
-    let mut writer = Counted::new(&mut written);
-    let answer = match Format::default_of(alloc) {
-        Ok(format) => run_sources(
-            alloc,
-            sources,
-            users,
-            GROUPING_DEFAULT,
-            &format,
-            &mut reader,
-            &mut writer,
-        ),
-        Err(_) => Err(RunFault::Memory(0)),
-    };
-    (answer, written)
-}
+const MOMO: &str = "もも\n";
 
-/// Asks that a run with users prints this.
+/// Asks that a run with users prints this in a format.
 fn expect_output(
     rt: &(impl Abort + Alloc<A = Global>),
     what: &str,
+    format: &Format,
     users: &[&[&[u8]]],
     output: &str,
 ) {
-    let (got, written) = run(rt.alloc(), &sample(), users);
-    assert!(rt; got == Ok(1), "{what}");
-    assert!(rt; written.as_slice() == output.as_bytes(), "{what}");
+    let outcome = run_in(rt.alloc(), format, &sample(), users, MOMO.as_bytes());
+    assert!(rt; outcome.answer == Ok(1), "{what}");
+    assert!(rt; outcome.written.as_slice() == output.as_bytes(), "{what}");
 }
 
 #[test]
-fn users_words(rt: HostRuntime) {
+fn users_words(rt: HostRuntime) -> Result<(), Fail> {
+    let format = Format::default_of(rt.alloc())?;
     let user = USER.as_bytes();
     let cheap = "もも,1,1,1,A\n".as_bytes();
     let same = "もも,1,1,1,B\n".as_bytes();
     let dear = "もも,1,1,3000,C\n".as_bytes();
-    expect_output(&rt, "no user", &[], "もも\t名詞,もも\nEOS\n");
-    expect_output(&rt, "user_dictionary", &[&[user]], "もも\t名詞,ユーザ\nEOS\n");
-    expect_output(&rt, "two users tie", &[&[cheap], &[same]], "もも\tA\nEOS\n");
-    expect_output(
-        &rt,
-        "a tie the other way",
-        &[&[same], &[cheap]],
-        "もも\tB\nEOS\n",
-    );
-    expect_output(&rt, "a dear word", &[&[dear]], "もも\t名詞,もも\nEOS\n");
-    expect_output(
-        &rt,
-        "two lexicons of a user",
-        &[&[dear, user]],
-        "もも\t名詞,ユーザ\nEOS\n",
-    );
+    let of_system = "もも\t名詞,もも\nEOS\n";
+    let of_user = "もも\t名詞,ユーザ\nEOS\n";
+    let a = "もも\tA\nEOS\n";
+    let b = "もも\tB\nEOS\n";
+    expect_output(&rt, "no user", &format, &[], of_system);
+    expect_output(&rt, "user_dictionary", &format, &[&[user]], of_user);
+    expect_output(&rt, "two users tie", &format, &[&[cheap], &[same]], a);
+    expect_output(&rt, "tie the other way", &format, &[&[same], &[cheap]], b);
+    expect_output(&rt, "a dear word", &format, &[&[dear]], of_system);
+    expect_output(&rt, "two lexicons", &format, &[&[dear, user]], of_user);
+    Ok(())
 }
 
-/// Asks that a run with users is refused for a fault of this user's lexicons, on line 1, with nothing written.
+#[test]
+fn costs_of_users_words(rt: HostRuntime) -> Result<(), Fail> {
+    let format = Format::parse(rt.alloc(), "%m/%f[1]/%pc ", None, "", "%pc\\n")?;
+    let user = USER.as_bytes();
+    let same = "もも,1,1,1,名詞,B\n".as_bytes();
+    let output = "もも/ユーザ/11 16\n";
+    expect_output(&rt, "user_dictionary", &format, &[&[user]], output);
+    expect_output(&rt, "equal users", &format, &[&[user], &[user]], output);
+    expect_output(&rt, "two users tie", &format, &[&[user], &[same]], output);
+    Ok(())
+}
+
+/// Asks that a run with users is refused for a fault of this user's lexicons, on line 1, with nothing read or written.
 fn expect_refusal(
     rt: &(impl Abort + Alloc<A = Global>),
     what: &str,
@@ -81,14 +69,16 @@ fn expect_refusal(
     file: u32,
     kind: SourceKind,
 ) {
-    let (got, written) = run(rt.alloc(), &sample(), users);
+    let outcome = run(rt.alloc(), &sample(), users, MOMO.as_bytes());
     let fault = SourceFault {
         file,
         line: 1,
         kind,
     };
-    assert!(rt; got == Err(RunFault::UserSource(user, fault)), "{what}");
-    assert!(rt; written.is_empty(), "{what}");
+    assert!(rt;
+        outcome.is_refusal(RunFault::UserSource(user, fault)),
+        "{what}"
+    );
 }
 
 #[test]
@@ -117,13 +107,14 @@ fn sources_before_users(rt: HostRuntime) {
         lexicons: &[b"a,1,1\n"],
         ..sample()
     };
-    let (got, _) = run(rt.alloc(), &sources, &[&["も,1,1,x,Z\n".as_bytes()]]);
+    let users: [&[&[u8]]; 1] = [&["も,1,1,x,Z\n".as_bytes()]];
+    let outcome = run(rt.alloc(), &sources, &users, MOMO.as_bytes());
     let fault = SourceFault {
         file: 3,
         line: 1,
         kind: SourceKind::TooFewFields,
     };
-    assert!(rt; got == Err(RunFault::Source(fault)));
+    assert!(rt; outcome.is_refusal(RunFault::Source(fault)));
 }
 
 #[test]
@@ -133,19 +124,26 @@ fn segment_over_images(rt: HostRuntime) -> Result<(), Fail> {
     let compiled = compile_user(alloc, &system, &[USER.as_bytes()])?;
     assert_eq!(rt; compiled.entries, 1);
     let users = [load(alloc, compiled.image)?];
-    let format = Format::parse(alloc, "%m/%f[1]/%pc ", None, "", "%pc\\n")?;
+    let words = Format::default_of(alloc)?;
+    let costs = Format::parse(alloc, "%m/%f[1]/%pc ", None, "", "%pc\\n")?;
     let rows = [
-        // (what, whether the user's dictionary is laid over it, output)
-        ("sumomo", false, "すもも/すもも/110 もも/もも/147 152\n"),
-        ("with a user", true, "すもも/すもも/110 もも/ユーザ/118 123\n"),
+        // (what, format, whether the user's dictionary is laid over it, output)
+        ("sumomo", &words, false, "すもも\t名詞,すもも\nもも\t名詞,もも\nEOS\n"),
+        (
+            "costs of sumomo",
+            &costs,
+            false,
+            "すもも/すもも/110 もも/もも/147 152\n",
+        ),
+        ("with a user", &costs, true, "すもも/すもも/110 もも/ユーザ/118 123\n"),
     ];
-    for (what, with_user, output) in rows {
+    for (what, format, with_user, output) in rows {
         let laid_over = if with_user { &users[..] } else { &users[..0] };
         let dictionaries = Dictionaries::new(&system, laid_over)?;
         let mut reader = Counted::new("すもももも\n".as_bytes());
         let mut written = Vec::new(alloc);
         let mut writer = Counted::new(&mut written);
-        let got = segment(alloc, &dictionaries, &format, &mut reader, &mut writer);
+        let got = segment(alloc, &dictionaries, format, &mut reader, &mut writer);
         assert!(rt; got == Ok(1), "{what}");
         assert!(rt; written.as_slice() == output.as_bytes(), "{what}");
     }
