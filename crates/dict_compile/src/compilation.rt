@@ -17,7 +17,8 @@ use std::alloc::Global;
 
 /// Compiles the sources of a system dictionary to an image of layout 3.
 ///
-/// `matrix.def` is looked at first, then `char.def`, `unk.def`, and each lexicon as given. (MeCab, `mecab-dict-index`)
+/// `matrix.def` is looked at first, then `char.def`, `unk.def`, and each lexicon as given. (MeCab, `mecab-dict-index`; the order is this
+/// project's own choice)
 pub fn compile(alloc: Global, sources: &Sources<'_>) -> Result<Compiled, SourceFault>
     ensures compiled { IfOk result (λ compiled. IsCompilation sources.now compiled.image.items compiled.entries compiled.skipped) }
     ensures every_key { IfOk result (λ compiled. AnswersKeysOfSources sources.now (image_tables compiled.image.items)) }

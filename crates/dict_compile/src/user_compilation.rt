@@ -23,7 +23,7 @@ use std::alloc::Global;
 
 /// Compiles the lexicons of a user dictionary, for the ids of a system dictionary, to an image of layout 3.
 ///
-/// The first lexicon is file 3, as in a system's sources. (MeCab, `mecab-dict-index -u`)
+/// The first lexicon is file 3, as in a system's sources. (MeCab, `mecab-dict-index -u`; the numbers are this project's own choice)
 pub fn compile_user(
     alloc: Global,
     system: &Dict,
