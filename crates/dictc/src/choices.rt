@@ -1,5 +1,7 @@
 //! What the command line asks for.
 
+use std::alloc::{AllocError, Global};
+use std::io::{self, ErrorKind};
 use std::string::String;
 
 /// The choices of a command line, as given.
@@ -30,4 +32,17 @@ pub enum OptionsFault {
     Bad(String),
     /// Memory was refused.
     Memory,
+}
+
+impl OptionsFault {
+    /// The fault of a command line whose words can't be had: memory was refused, or an argument is not UTF-8.
+    pub fn of_words(alloc: Global, error: &io::Error) -> OptionsFault {
+        if error.kind() == ErrorKind::OutOfMemory {
+            return OptionsFault::Memory;
+        }
+        match String::from_str(alloc, "dictc: an argument is not UTF-8\n") {
+            Ok(text) => OptionsFault::Bad(text),
+            Err(AllocError) => OptionsFault::Memory,
+        }
+    }
 }

@@ -19,7 +19,7 @@ use std::{env, io};
 fn main(rt: HostRuntime) -> ExitCode {
     let status = match words_given(&rt) {
         Ok(words) => run(&rt, words),
-        Err(_) => told(&rt, &Fault::Memory),
+        Err(error) => ended(&rt, OptionsFault::of_words(rt.alloc(), &error)),
     };
     ExitCode::from(status)
 }
@@ -37,15 +37,22 @@ fn words_given(rt: &HostRuntime) -> io::Result<Vec<String>> {
 fn run(rt: &HostRuntime, words: Vec<String>) -> u8 {
     match options(rt.alloc(), words) {
         Ok(options) => run_with(rt, &options),
-        Err(OptionsFault::Help(text)) => {
+        Err(fault) => ended(rt, fault),
+    }
+}
+
+/// Prints why there are no choices, and answers the exit status.
+fn ended(rt: &HostRuntime, fault: OptionsFault) -> u8 {
+    match fault {
+        OptionsFault::Help(text) => {
             let _ = rt.print(text);
             0
         }
-        Err(OptionsFault::Bad(text)) => {
+        OptionsFault::Bad(text) => {
             let _ = rt.eprint(text);
             2
         }
-        Err(OptionsFault::Memory) => told(rt, &Fault::Memory),
+        OptionsFault::Memory => told(rt, &Fault::Memory),
     }
 }
 

@@ -6,10 +6,10 @@ use crate::formatting::format_of;
 use crate::images::cut_by_images;
 use crate::source_directory::read_directory;
 use files::texts;
-use mj_model::{Counted, GROUPING_MAX, RunFault, Sources};
+use mj_model::{Counted, GROUPING_MAX, RunFault, SourceFault, Sources};
 use out_format::Format;
 use segmenter::{run_sources, sample};
-use std::alloc::AllocError;
+use std::alloc::{AllocError, Global};
 use std::io::Write;
 use std::string::String;
 
@@ -31,7 +31,8 @@ pub fn cut(rt: &HostRuntime, options: &Options) -> Result<(), Fault> {
         (None, Some(dir)) => cut_by_directory(rt, dir.as_str(), &manner),
         (None, None) => match cut_by(rt, &sample(), &manner) {
             Ok(()) => Ok(()),
-            Err(fault) => Err(fault_at(rt, "sample", fault)),
+            Err(RunFault::Source(fault)) => Err(source_fault(rt.alloc(), "sample", fault)),
+            Err(fault) => Err(Fault::Run(fault)),
         },
     }
 }
@@ -48,16 +49,14 @@ fn cut_by_directory(rt: &HostRuntime, dir: &str, manner: &Manner) -> Result<(), 
     };
     match cut_by(rt, &sources, manner) {
         Ok(()) => Ok(()),
-        Err(RunFault::Source(fault)) => Err(fault_at(
-            rt,
-            files.path(fault.file),
-            RunFault::Source(fault),
-        )),
+        Err(RunFault::Source(fault)) => {
+            Err(source_fault(rt.alloc(), files.path(fault.file), fault))
+        }
         Err(fault) => Err(Fault::Run(fault)),
     }
 }
 
-/// Cuts it by sources. After a fault what was printed before is flushed.
+/// Cuts it by sources, without users' ones. After a fault what was printed before is flushed.
 fn cut_by(rt: &HostRuntime, sources: &Sources<'_>, manner: &Manner) -> Result<(), RunFault> {
     let mut reader = Counted::new(rt.reader());
     let mut writer = Counted::new(rt.stdout());
@@ -79,15 +78,10 @@ fn cut_by(rt: &HostRuntime, sources: &Sources<'_>, manner: &Manner) -> Result<()
     }
 }
 
-/// A run's fault as the program tells it; a source's with its path.
-fn fault_at(rt: &HostRuntime, path: &str, fault: RunFault) -> Fault {
-    match fault {
-        RunFault::Source(fault) | RunFault::UserSource(_, fault) => {
-            match String::from_str(rt.alloc(), path) {
-                Ok(path) => Fault::Source(path, fault),
-                Err(AllocError) => Fault::Memory,
-            }
-        }
-        fault => Fault::Run(fault),
+/// A source's fault with its path.
+fn source_fault(alloc: Global, path: &str, fault: SourceFault) -> Fault {
+    match String::from_str(alloc, path) {
+        Ok(path) => Fault::Source(path, fault),
+        Err(AllocError) => Fault::Memory,
     }
 }

@@ -1,25 +1,12 @@
 //! Files that can't be read, or are no image.
 
+use super::{in_directory, new_directory};
 use crate::choices::Options;
 use crate::compiling::compile_image;
 use crate::fault::Fault;
 use mj_model::ImageFault;
-use std::string::String;
 use std::test::Fail;
-use std::{fs, io, process};
-
-/// A new directory of this test's own.
-fn new_directory(rt: &HostRuntime, test: &str) -> io::Result<String> {
-    let id = process::id(rt.process());
-    let dir = format!(in rt.alloc(); "/tmp/dictc_{test}_{id}")?;
-    fs::create_dir(rt, dir.as_str())?;
-    Ok(dir)
-}
-
-/// The path of a name in a directory, as an option has it.
-fn in_directory(rt: &HostRuntime, dir: &str, name: &str) -> io::Result<String> {
-    Ok(format!(in rt.alloc(); "{dir}/{name}")?)
-}
+use std::{fs, io};
 
 /// What compiles the files of a directory to its file `img`.
 fn options_in(rt: &HostRuntime, dir: &str, user: bool) -> io::Result<Options> {

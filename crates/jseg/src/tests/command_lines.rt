@@ -3,6 +3,7 @@
 use super::{is_text, words};
 use crate::choices::OptionsFault;
 use crate::command_line::options;
+use std::io::{Error, ErrorKind};
 use std::string::String;
 use std::test::Fail;
 
@@ -182,6 +183,27 @@ fn command_lines_that_end_at_once(rt: HostRuntime) -> Result<(), Fail> {
             Err(OptionsFault::Memory) => Some(4),
         };
         assert!(rt; got == Some(status), "{what}");
+    }
+    Ok(())
+}
+
+#[test]
+fn words_that_cannot_be_had(rt: HostRuntime) -> Result<(), Fail> {
+    let rows = [
+        // (what, kind, text of a wrong command line)
+        (
+            "an argument that is not UTF-8",
+            ErrorKind::InvalidData,
+            Some("jseg: an argument is not UTF-8\n"),
+        ),
+        ("no memory", ErrorKind::OutOfMemory, None),
+    ];
+    for (what, kind, wanted) in rows {
+        match &OptionsFault::of_words(rt.alloc(), &Error::from(kind)) {
+            OptionsFault::Bad(text) => assert!(rt; wanted == Some(text.as_str()), "{what}"),
+            OptionsFault::Memory => assert!(rt; wanted == None, "{what}"),
+            OptionsFault::Help(_) => assert!(rt; false, "{what}"),
+        }
     }
     Ok(())
 }

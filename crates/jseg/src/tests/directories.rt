@@ -1,20 +1,12 @@
 //! Source directories and images that are read, and those that can't be.
 
+use super::new_directory;
 use crate::fault::Fault;
 use crate::images::dictionary_at;
 use crate::source_directory::read_directory;
 use mj_model::ImageFault;
-use std::string::String;
 use std::test::Fail;
 use std::{fs, io};
-
-/// A new directory of this test's own.
-fn new_directory(rt: &HostRuntime, test: &str) -> io::Result<String> {
-    let id = std::process::id(rt.process());
-    let dir = format!(in rt.alloc(); "/tmp/jseg_{test}_{id}")?;
-    fs::create_dir(rt, dir.as_str())?;
-    Ok(dir)
-}
 
 fn write_file(rt: &HostRuntime, dir: &str, name: &str, text: &str) -> io::Result<()> {
     let path = format!(in rt.alloc(); "{dir}/{name}")?;

@@ -20,6 +20,10 @@ fn images_at_fault(rt: HostRuntime) -> Result<(), Fail> {
         (OverlayFault::NotUser(0), "jseg: a.img: O2 NotUser 0\n"),
         (OverlayFault::NotUser(1), "jseg: b.img: O2 NotUser 1\n"),
         (
+            OverlayFault::OtherSizes(0),
+            "jseg: a.img: O3 OtherSizes 0\n",
+        ),
+        (
             OverlayFault::OtherSizes(1),
             "jseg: b.img: O3 OtherSizes 1\n",
         ),
