@@ -39,9 +39,9 @@ fault_or other (run.TooLong line) = other
 fault_or other (run.InputTooLong line) = other
 fault_or other (run.Memory line) = other
 
-source_by : (s : Sources) (fault told : SourceFault) (end : RunFault) → (end ≡ run.Memory 0) ⊎ ((end ≡ run.Source fault) × (fault.kind ≡ Memory → ⊥)) → IsRefusal fault (IsCompilationCause s fault)
+source_by : (s : Sources) (fault told : SourceFault) (end : RunFault) → ((end ≡ run.Memory 0) × (fault.kind ≡ Memory)) ⊎ ((end ≡ run.Source fault) × (fault.kind ≡ Memory → ⊥)) → IsRefusal fault (IsCompilationCause s fault)
     → end ≡ run.Source told → IsCompilationCause s told
-source_by s fault told end (inl memory) r e = absurd (let clash : run.Memory 0 ≡ run.Source told = sym memory ∙ e in cc)
+source_by s fault told end (inl (memory, want)) r e = absurd (let clash : run.Memory 0 ≡ run.Source told = sym memory ∙ e in cc)
 source_by s fault told end (inr is) (inl memory) e = absurd (is.1 memory)
 source_by s fault told end (inr is) (inr cause) e = let same : run.Source fault ≡ run.Source told = sym is.0 ∙ e in subst (IsCompilationCause s) (ap (fault_or fault) same) cause
 
@@ -49,16 +49,16 @@ pub source_told : (s : Sources) (fault told : SourceFault) (end : RunFault) → 
     → ◌≡◌ {A = Result ℕ RunFault} (Err end) (Err (run.Source told)) → IsCompilationCause s told
 source_told s fault told end ends r e = source_by s fault told end ends.either r (same_end end (run.Source told) e)
 
-no_user_by : (fault told : SourceFault) (i : ℕ) (end : RunFault) → (end ≡ run.Memory 0) ⊎ ((end ≡ run.Source fault) × (fault.kind ≡ Memory → ⊥)) → end ≡ run.UserSource i told → ⊥
-no_user_by fault told i end (inl memory) e = let clash : run.Memory 0 ≡ run.UserSource i told = sym memory ∙ e in cc
+no_user_by : (fault told : SourceFault) (i : ℕ) (end : RunFault) → ((end ≡ run.Memory 0) × (fault.kind ≡ Memory)) ⊎ ((end ≡ run.Source fault) × (fault.kind ≡ Memory → ⊥)) → end ≡ run.UserSource i told → ⊥
+no_user_by fault told i end (inl (memory, want)) e = let clash : run.Memory 0 ≡ run.UserSource i told = sym memory ∙ e in cc
 no_user_by fault told i end (inr is) e = let clash : run.Source fault ≡ run.UserSource i told = sym is.0 ∙ e in cc
 
 -- it is told of no user
 pub source_of_no_user : (fault told : SourceFault) (i : ℕ) (end : RunFault) → EndsEarly run.Source fault end → ◌≡◌ {A = Result ℕ RunFault} (Err end) (Err (run.UserSource i told)) → ⊥
 source_of_no_user fault told i end ends e = no_user_by fault told i end ends.either (same_end end (run.UserSource i told) e)
 
-first_by : (fault first : SourceFault) (end : RunFault) → (end ≡ run.Memory 0) ⊎ ((end ≡ run.Source fault) × (fault.kind ≡ Memory → ⊥)) → IsCompileToldFor first fault → IsToldFor (run.Source first) end
-first_by fault first end (inl memory) t = inr (inl memory)
+first_by : (fault first : SourceFault) (end : RunFault) → ((end ≡ run.Memory 0) × (fault.kind ≡ Memory)) ⊎ ((end ≡ run.Source fault) × (fault.kind ≡ Memory → ⊥)) → IsCompileToldFor first fault → IsToldFor (run.Source first) end
+first_by fault first end (inl (memory, want)) t = inr (inl memory)
 first_by fault first end (inr is) (inl same) = inl (is.0 ∙ ap run.Source same)
 first_by fault first end (inr is) (inr (inl memory)) = absurd (is.1 memory)
 first_by fault first end (inr is) (inr (inr full)) = inr (inr (subst LacksCells (sym is.0) full))
@@ -66,9 +66,9 @@ first_by fault first end (inr is) (inr (inr full)) = inr (inr (subst LacksCells 
 pub source_first : (fault first : SourceFault) (end : RunFault) → EndsEarly run.Source fault end → IsCompileToldFor first fault → IsToldFor (run.Source first) end
 source_first fault first end ends t = first_by fault first end ends.either t
 
-compiled_by : (s : Sources) (t : Tables) (fault : SourceFault) (first end : RunFault) → CompileTo s t → (end ≡ run.Memory 0) ⊎ ((end ≡ run.Source fault) × (fault.kind ≡ Memory → ⊥))
+compiled_by : (s : Sources) (t : Tables) (fault : SourceFault) (first end : RunFault) → CompileTo s t → ((end ≡ run.Memory 0) × (fault.kind ≡ Memory)) ⊎ ((end ≡ run.Source fault) × (fault.kind ≡ Memory → ⊥))
     → IsRefusal fault (IsCompilationCause s fault) → IsToldFor first end
-compiled_by s t fault first end c (inl memory) r = inr (inl memory)
+compiled_by s t fault first end c (inl (memory, want)) r = inr (inl memory)
 compiled_by s t fault first end c (inr is) (inl memory) = absurd (is.1 memory)
 compiled_by s t fault first end c (inr is) (inr (inl cause)) = absurd (not_both_of s t fault c.have c.few_features cause)
 compiled_by s t fault first end c (inr is) (inr (inr full)) = inr (inr (subst LacksCells (sym is.0) (ap (λ (f : SourceFault). f.kind) full.2.1)))
@@ -78,8 +78,8 @@ pub source_before_users : (s : Sources) (t : Tables) (fault : SourceFault) (firs
     → IsRefusal fault (IsCompilationCause s fault) → IsToldFor first end
 source_before_users s t fault first end c ends r = compiled_by s t fault first end c ends.either r
 
-early_by : (fault : SourceFault) (end : RunFault) → (end ≡ run.Memory 0) ⊎ ((end ≡ run.Source fault) × (fault.kind ≡ Memory → ⊥)) → IsEarly (Err end)
-early_by fault end (inl memory) = subst (λ (e : RunFault). IsEarly (Err e)) (sym memory) refl
+early_by : (fault : SourceFault) (end : RunFault) → ((end ≡ run.Memory 0) × (fault.kind ≡ Memory)) ⊎ ((end ≡ run.Source fault) × (fault.kind ≡ Memory → ⊥)) → IsEarly (Err end)
+early_by fault end (inl (memory, want)) = subst (λ (e : RunFault). IsEarly (Err e)) (sym memory) refl
 early_by fault end (inr is) = subst (λ (e : RunFault). IsEarly (Err e)) (sym is.0) tt
 
 pub source_is_early : (fault : SourceFault) (end : RunFault) → EndsEarly run.Source fault end → IsEarly (Err end)

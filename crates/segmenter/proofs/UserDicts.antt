@@ -50,9 +50,9 @@ module _ (system : Tables) where
   module _ (users : List (List (List ℕ))) (i : ℕ) (lexicons : List (List ℕ)) (there : slice_get users i ≡ Some lexicons)
       (before : (j : ℕ) (others : List (List ℕ)) → j < i → slice_get users j ≡ Some others → (t : Tables) × UserCompileTo system others t)
       (fault : SourceFault) (told : RunFault) (ends : EndsEarly (run.UserSource i) fault told) (refused : IsRefusal fault (IsUserCause system lexicons fault)) where
-    refused_by : (told ≡ run.Memory 0) ⊎ ((told ≡ run.UserSource i fault) × (fault.kind ≡ Memory → ⊥))
+    refused_by : ((told ≡ run.Memory 0) × (fault.kind ≡ Memory)) ⊎ ((told ≡ run.UserSource i fault) × (fault.kind ≡ Memory → ⊥))
         → IsRefusal fault (IsUserCause system lexicons fault) → IsUsersRefusal system users told
-    refused_by (inl memory) r = subst (IsUsersRefusal system users) (sym memory) refl
+    refused_by (inl (memory, want)) r = subst (IsUsersRefusal system users) (sym memory) refl
     refused_by (inr is) (inl memory) = absurd (is.1 memory)
     refused_by (inr is) (inr cause) =
         subst (IsUsersRefusal system users) (sym is.0) (record { lexicons = lexicons; there = there; fault_is = cause; before_compile = before })
@@ -61,16 +61,16 @@ module _ (system : Tables) where
     pub users_refusal : IsUsersRefusal system users told
     users_refusal = refused_by ends.either refused
 
-    told_here : (first : SourceFault) → IsUserFault system lexicons first → (told ≡ run.Memory 0) ⊎ ((told ≡ run.UserSource i fault) × (fault.kind ≡ Memory → ⊥))
+    told_here : (first : SourceFault) → IsUserFault system lexicons first → ((told ≡ run.Memory 0) × (fault.kind ≡ Memory)) ⊎ ((told ≡ run.UserSource i fault) × (fault.kind ≡ Memory → ⊥))
         → (fault ≡ first) ⊎ ((fault.kind ≡ Memory) ⊎ (fault.kind ≡ ArrayFull)) → IsToldFor (run.UserSource i first) told
-    told_here first h (inl memory) t = inr (inl memory)
+    told_here first h (inl (memory, want)) t = inr (inl memory)
     told_here first h (inr is) (inl same) = inl (is.0 ∙ ap (run.UserSource i) same)
     told_here first h (inr is) (inr (inl memory)) = absurd (is.1 memory)
     told_here first h (inr is) (inr (inr full)) = inr (inr (subst LacksCells (sym is.0) full))
 
-    told_later : (first : RunFault) (t : Tables) → UserCompileTo system lexicons t → (told ≡ run.Memory 0) ⊎ ((told ≡ run.UserSource i fault) × (fault.kind ≡ Memory → ⊥))
+    told_later : (first : RunFault) (t : Tables) → UserCompileTo system lexicons t → ((told ≡ run.Memory 0) × (fault.kind ≡ Memory)) ⊎ ((told ≡ run.UserSource i fault) × (fault.kind ≡ Memory → ⊥))
         → IsRefusal fault (IsUserCause system lexicons fault) → IsToldFor first told
-    told_later first t c (inl memory) r = inr (inl memory)
+    told_later first t c (inl (memory, want)) r = inr (inl memory)
     told_later first t c (inr is) (inl memory) = absurd (is.1 memory)
     told_later first t c (inr is) (inr (inl cause)) = absurd (not_both_for system lexicons t fault c.have c.few_features cause)
     told_later first t c (inr is) (inr (inr full)) = inr (inr (subst LacksCells (sym is.0) (ap (λ (f : SourceFault). f.kind) full.3.1)))

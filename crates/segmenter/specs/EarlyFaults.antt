@@ -5,7 +5,6 @@ use Rattle.mj_model.specs.declared.run_fault.RunFault.TheVariants as run
 use Rattle.mj_model.specs.declared.source_fault.SourceFault.{SourceFault}
 use Rattle.mj_model.specs.declared.source_fault.SourceKind.TheVariants.{Memory}
 
--- a run ends before its first read for a fault of sources: want of memory belongs to no line, and any other fault ends it so
+-- a run ends before its first read for a fault of sources: want of memory, which belongs to no line, or any other fault, which ends it so
 pub record EndsEarly (end : SourceFault → RunFault) (fault : SourceFault) (told : RunFault) : Type 0 where
-  pub memory : fault.kind ≡ Memory → told ≡ run.Memory 0
-  pub either : (told ≡ run.Memory 0) ⊎ ((told ≡ end fault) × (fault.kind ≡ Memory → ⊥))
+  pub either : ((told ≡ run.Memory 0) × (fault.kind ≡ Memory)) ⊎ ((told ≡ end fault) × (fault.kind ≡ Memory → ⊥))
