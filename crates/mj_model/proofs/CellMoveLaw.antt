@@ -9,6 +9,7 @@ use Rattle.mj_model.specs.CellMap.{Cell, free_cell, cell_at, base, check, step, 
 use Rattle.mj_model.specs.CellRules.{IsBaseAfter, IsUsed, MeetsRules, AreOnKeys}
 use Rattle.mj_model.specs.CellMoves.{IsApart, IsMove, IsKept, MovesKeepTheMap}
 use Rattle.mj_model.proofs.CellWalks.{step_parts, step_from, step_place, step_named, step_at, IsChild, child_of, walk_one, walk_none, walk_first, leads_back, no_way_back, value_parts, value_from, same_value}
+use Rattle.mj_model.proofs.Basics.{same_pos}
 
 pub cases_pos : (z : ℤ) (s : ℕ) → (z ≡ pos s) ⊎ (z ≡ pos s → ⊥)
 cases_pos (pos k) s = elim (cases_eq k s) [ inl e ↦ inl (ap pos e) | inr e ↦ inr (λ h. e (cc)) ]
@@ -17,9 +18,6 @@ cases_pos (negsuc k) s = inr (λ h. cc)
 pub pos_or : (z : ℤ) → ((k : ℕ) × (z ≡ pos k)) ⊎ ((k : ℕ) → z ≡ pos k → ⊥)
 pos_or (pos k) = inl (k, refl)
 pos_or (negsuc k) = inr (λ n h. cc)
-
-pub same_pos : (m n : ℕ) → pos m ≡ pos n → m ≡ n
-same_pos m n h = cc
 
 -- a walk leads to every used cell
 pub walked : (values : ℕ) (cells : List Cell) (t : ℕ) → MeetsRules values cells → AreOnKeys cells → (b : ℕ) → base cells t ≡ pos b → 1 ≤ b → t < length cells → (xs : List ℕ) × (walk cells 0 xs ≡ Some t)
@@ -75,12 +73,6 @@ module _ (values : ℕ) (old new : List Cell) (s b : ℕ) (rules : MeetsRules va
       let f : check old 0 ≡ negsuc 0 = subst (λ (i : ℕ). check old i ≡ negsuc 0) e (ap (λ (x : Cell). x.1) free) in
       absurd (let g : negsuc 1 ≡ negsuc 0 = sym r ∙ f in cc)
   use_is_not_free t (inr u) free = free_no_check old t u.0 free u.1
-
-  rename : (t : ℕ) → (u : ℕ) × Renames t u
-  rename t = elim (cases_pos (check old t) s) [
-    | inl named ↦ let i = child_step t named in (b + i.0, inl (i.0, i.1, refl))
-    | inr other ↦ (t, inr (other, refl))
-  ]
 
   same_code : (c d t : ℕ) → step old s c ≡ Some t → step old s d ≡ Some t → c ≡ d
   same_code c d t h k =

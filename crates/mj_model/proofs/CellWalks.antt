@@ -7,6 +7,7 @@ use Rattle.std.proofs.lemmas.List.{get_or_past, reverse-reverse, length-append}
 use Rattle.mj_model.specs.CellMap.{Cell, free_cell, base, check, if_named, step_to, step, walk, codes_of, value_in, value_of}
 use Rattle.mj_model.specs.CellRules.{IsBaseAfter, IsUsed, MeetsRules, LeadsToRoot}
 use Rattle.mj_model.specs.CellRules.LeadsToRoot.{at_root, by_check}
+use Rattle.mj_model.proofs.Basics.{same_pos}
 
 -- ---- steps
 
@@ -32,9 +33,6 @@ step_parts cells s c t h = step_to_parts cells s (base cells s +ℤ pos c) t h
 pub step_from : (cells : List Cell) (s c t : ℕ) → base cells s +ℤ pos c ≡ pos t → check cells t ≡ pos s → step cells s c ≡ Some t
 unfolding step
 step_from cells s c t at named = step_to_from cells s (base cells s +ℤ pos c) t at named
-
-same_pos : (m n : ℕ) → pos m ≡ pos n → m ≡ n
-same_pos m n h = cc
 
 -- where a step from a state of a known base leads
 pub step_place : (cells : List Cell) (s c t b : ℕ) → step cells s c ≡ Some t → base cells s ≡ pos b → t ≡ b + c

@@ -141,11 +141,6 @@ module _ (words : ℕ → List Word) (conn : ℕ → ℕ → ℤ) (len : ℕ) (a
       let o2 = t.in_order in
       omega (arith, g1, g2, o1, o2)
 
-  pub tie_not_self : (vs : List Word) → WinsTie words vs vs → ⊥
-  tie_not_self [] h = h
-  tie_not_self (v ∷ vs) (inl p) = preferred_not_self v p
-  tie_not_self (v ∷ vs) (inr (e, t)) = tie_not_self vs t
-
   pub tie_one_way : (vs ws : List Word) → WinsTie words vs ws → WinsTie words ws vs → ⊥
   tie_one_way [] ws h k = h
   tie_one_way (v ∷ vs) [] h k = h

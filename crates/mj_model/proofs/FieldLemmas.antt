@@ -5,25 +5,20 @@ use Rattle.std.proofs.lemmas.Bool.{eq-eqb, ne_eqb, cases_eq}
 use Rattle.std.proofs.lemmas.List.{append-nil}
 use Rattle.mj_model.specs.Bytes.{is_comma, quote}
 use Rattle.mj_model.specs.Fields.{rest_of, doubled, BeginsWithQuote, IsFieldOf}
+use Rattle.mj_model.proofs.Basics.{same_head, same_tail}
 
 -- the end of a quoted field: nothing, or a quote that no quote follows
 Tail : List ℕ → Type 0
 Tail t = (t ≡ []) ⊎ ((v : List ℕ) × (t ≡ quote ∷ v) × (BeginsWithQuote v → ⊥))
 
-doubled_quote : (c : ℕ) (cs : List ℕ) → c ≡ quote → doubled (c ∷ cs) ≡ quote ∷ quote ∷ doubled cs
+pub doubled_quote : (c : ℕ) (cs : List ℕ) → c ≡ quote → doubled (c ∷ cs) ≡ quote ∷ quote ∷ doubled cs
 doubled_quote c cs e = ap (λ (b : Bool). cond b (quote ∷ quote ∷ []) (c ∷ []) ++ doubled cs) (eq-eqb c quote e)
 
-doubled_other : (c : ℕ) (cs : List ℕ) → (c ≡ quote → ⊥) → doubled (c ∷ cs) ≡ c ∷ doubled cs
+pub doubled_other : (c : ℕ) (cs : List ℕ) → (c ≡ quote → ⊥) → doubled (c ∷ cs) ≡ c ∷ doubled cs
 doubled_other c cs e = ap (λ (b : Bool). cond b (quote ∷ quote ∷ []) (c ∷ []) ++ doubled cs) (ne_eqb c quote e)
 
 begins : (d : ℕ) (ds v : List ℕ) → v ≡ d ∷ ds → d ≡ quote → BeginsWithQuote v
 begins d ds v e is = subst BeginsWithQuote (sym e) is
-
-head_of : (c d : ℕ) (cs ds : List ℕ) → c ∷ cs ≡ d ∷ ds → c ≡ d
-head_of c d cs ds h = cc
-
-tail_of : (c d : ℕ) (cs ds : List ℕ) → c ∷ cs ≡ d ∷ ds → cs ≡ ds
-tail_of c d cs ds h = cc
 
 -- a tail begins with no pair of quotes and no other character
 tail_first : (t : List ℕ) (c : ℕ) (cs rest : List ℕ) → Tail t → t ≡ doubled (c ∷ cs) ++ rest → ⊥
@@ -35,10 +30,10 @@ tail_first t c cs rest (inl empty) h = elim (cases_eq c quote) [
 tail_first t c cs rest (inr (v, is, out)) h = elim (cases_eq c quote) [
   | inl q ↦
       let e : quote ∷ v ≡ quote ∷ quote ∷ (doubled cs ++ rest) = sym is ∙ h ∙ ap (λ (xs : List ℕ). xs ++ rest) (doubled_quote c cs q) in
-      out (begins quote (doubled cs ++ rest) v (tail_of quote quote v (quote ∷ (doubled cs ++ rest)) e) refl)
+      out (begins quote (doubled cs ++ rest) v (same_tail quote quote v (quote ∷ (doubled cs ++ rest)) e) refl)
   | inr o ↦
       let e : quote ∷ v ≡ c ∷ (doubled cs ++ rest) = sym is ∙ h ∙ ap (λ (xs : List ℕ). xs ++ rest) (doubled_other c cs o) in
-      o (sym (head_of quote c v (doubled cs ++ rest) e))
+      o (sym (same_head quote c v (doubled cs ++ rest) e))
 ]
 
 -- a text is a doubled one and a tail in one way
@@ -58,12 +53,12 @@ one_way (f ∷ fs) (g ∷ gs) s t a b h =
             (cc, r.1)
         | inr o ↦
             let e : quote ∷ quote ∷ (doubled fs ++ s) ≡ g ∷ (doubled gs ++ t) = sym (ap (on s) (doubled_quote f fs p)) ∙ h ∙ ap (on t) (doubled_other g gs o) in
-            absurd (o (sym (head_of quote g (quote ∷ (doubled fs ++ s)) (doubled gs ++ t) e)))
+            absurd (o (sym (same_head quote g (quote ∷ (doubled fs ++ s)) (doubled gs ++ t) e)))
       ]
       | inr n ↦ elim (cases_eq g quote) [
         | inl q ↦
             let e : f ∷ (doubled fs ++ s) ≡ quote ∷ quote ∷ (doubled gs ++ t) = sym (ap (on s) (doubled_other f fs n)) ∙ h ∙ ap (on t) (doubled_quote g gs q) in
-            absurd (n (head_of f quote (doubled fs ++ s) (quote ∷ (doubled gs ++ t)) e))
+            absurd (n (same_head f quote (doubled fs ++ s) (quote ∷ (doubled gs ++ t)) e))
         | inr o ↦
             let e : f ∷ (doubled fs ++ s) ≡ g ∷ (doubled gs ++ t) = sym (ap (on s) (doubled_other f fs n)) ∙ h ∙ ap (on t) (doubled_other g gs o) in
             let r = one_way fs gs s t a b (cc) in
@@ -128,7 +123,7 @@ one_field u f g r s a b = elim (quoted u f r a) [
   | inr p ↦ elim (quoted u g s b) [
     | inl q ↦ absurd (q.0 (begins_quoted u f r p))
     | inr q ↦
-        let e : doubled f ++ p.tail ≡ doubled g ++ q.tail = tail_of quote quote (doubled f ++ p.tail) (doubled g ++ q.tail) (sym p.spelled ∙ q.spelled) in
+        let e : doubled f ++ p.tail ≡ doubled g ++ q.tail = same_tail quote quote (doubled f ++ p.tail) (doubled g ++ q.tail) (sym p.spelled ∙ q.spelled) in
         let w = one_way f g p.tail q.tail p.is_tail q.is_tail e in
         (w.0, p.rest_is ∙ ap rest_at w.1 ∙ sym q.rest_is)
   ]

@@ -1,8 +1,8 @@
 -- The key of a group is the one key whose value is the group: the steps of its codes, gone back by the checks from the cell that
 -- holds the group's value, are those of its bytes.
-use Rattle.std.proofs.Common.{◌≡◌, ℕ, zero, suc, ◌+◌, ◌-◌, ◌<◌, ◌≤◌, ℤ, pos, negsuc, Bool, true, false, List, [], ◌∷◌, ◌++◌, append_assoc, append-nil, length, map, Some, inl, inr, sym, ap, ◌∙◌, refl, arith, subst}
+use Rattle.std.proofs.Common.{◌≡◌, ℕ, zero, suc, ◌+◌, ◌-◌, ◌<◌, ◌≤◌, ℤ, pos, negsuc, true, List, [], ◌∷◌, ◌++◌, append_assoc, append-nil, length, map, Some, inl, inr, sym, ap, ◌∙◌, refl, arith, subst}
 use Rattle.std.specs.Option.{option_map_or}
-use Rattle.std.proofs.lemmas.Bool.{cases_lt, eqb-true, eq-eqb}
+use Rattle.std.proofs.lemmas.Bool.{cases_lt, eqb-true, eq-eqb, false_from_ne_true}
 use Rattle.std.proofs.lemmas.Option.{same_Some}
 use Rattle.std.proofs.lemmas.List.{get_or_past}
 use Rattle.std.proofs.lemmas.List.Sums.{position_or_len_is}
@@ -87,15 +87,11 @@ value_within cells t v at = elim (cases_lt t (length cells)) [
   | inr past ↦ let e : base cells t ≡ pos 0 = ap (λ (x : Cell). x.0) (get_or_past cells t free_cell past) in absurd (cc)
 ]
 
-not_true : (b : Bool) → (b ≡ true → ⊥) → b ≡ false
-not_true true h = absurd (h refl)
-not_true false h = refl
-
 pub value_cell_is : (cells : List Cell) (group t : ℕ) → StandsOnce cells group → base cells t ≡ negsuc group → value_cell cells group ≡ t
 value_cell_is cells group t once at =
     let within = value_within cells t group at in
     position_or_len_is (is_value group) cells t free_cell (omega arith)
-    (λ k before. not_true (is_value group (cell_at cells k)) (λ h. let e = once.only k (is_value_of group (cell_at cells k) h) in let f = once.only t at in omega (arith, before, e, f)))
+    (λ k before. false_from_ne_true (is_value group (cell_at cells k)) (λ h. let e = once.only k (is_value_of group (cell_at cells k) h) in let f = once.only t at in omega (arith, before, e, f)))
     (λ less. value_is group (cell_at cells t) at)
 
 -- ---- keys

@@ -13,5 +13,5 @@ pub mod AcceptedRows
 pub mod ImageFaultLaws
 pub mod CellWalks
 pub mod CellMoveLaw
-pub mod SameTables
 pub mod ImageKeys
+pub mod Basics

@@ -117,10 +117,6 @@ pub record IsUserCompilation (system : Tables) (lexicons : List (List ℕ)) (ima
   pub have : HaveUserTables system.sizes lexicons (image_tables image)
   pub compiled : IsCompiled (lexicon_tokens (image_lexicon image)) lexicons image entries skipped
 
--- a user dictionary is compiled for no user dictionary; this is looked at before the lexicons
-abbrev pub IsForNoSystem : Tables → Type 0
-IsForNoSystem dict = dict.kind ≡ User
-
 -- the first fault of lexicons for a system dictionary: their own, else that of the features
 abbrev pub IsUserFault : Tables → List (List ℕ) → SourceFault → Type 0
 IsUserFault system lexicons fault =

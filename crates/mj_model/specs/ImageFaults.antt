@@ -111,3 +111,11 @@ IsWellFormed bytes = PassAll (image_tests (header_of bytes) bytes)
 -- the first fault of bytes that are no well-formed image
 abbrev pub IsImageFault : List ℕ → ImageFault → Type 0
 IsImageFault bytes fault = IsFirstTold (image_tests (header_of bytes) bytes) fault
+
+-- well-formed bytes have no fault, and no bytes have two first faults
+pub record HasOneFault (bytes : List ℕ) : Type 0 where
+  pub none_where_well_formed : (fault : ImageFault) → IsWellFormed bytes → IsImageFault bytes fault → ⊥
+  pub at_most_one : (fault other : ImageFault) → IsImageFault bytes fault → IsImageFault bytes other → fault ≡ other
+
+abbrev pub ImagesHaveOneFault : Type 0
+ImagesHaveOneFault = (bytes : List ℕ) → HasOneFault bytes

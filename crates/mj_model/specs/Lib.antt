@@ -44,3 +44,4 @@ pub mod ImageMeaning
 pub mod Overlays
 pub mod Compilation
 pub mod SourceOverlays
+pub mod Sample

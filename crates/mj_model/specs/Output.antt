@@ -19,8 +19,3 @@ Output Judges Prints number [] out bad = (out ≡ []) × (bad ≡ None)
 Output {Fault} Judges Prints number (line ∷ lines) out bad =
     ((fault : Fault) × Judges line (Some fault) × (out ≡ []) × (bad ≡ Some (record { number = number; fault = fault })))
     ⊎ (Judges line None × (text : List ℕ) × (more : List ℕ) × Prints line text × Output Judges Prints (number + 1) lines more bad × (out ≡ text ++ more))
-
--- a text prints as `out`, all of it where no line is bad
-abbrev pub IsOutput : {Fault : Type 0} → (List ℕ → Option Fault → Type 0) → (List ℕ → List ℕ → Type 0)
-    → List ℕ → List ℕ → Option (BadLine Fault) → Type 0
-IsOutput Judges Prints bytes out bad = Output Judges Prints 1 (text_lines bytes) out bad

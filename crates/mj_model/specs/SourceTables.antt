@@ -6,7 +6,7 @@ use Rattle.mj_model.specs.CharDef.{CharSource, char_source, char_info, categorie
 use Rattle.mj_model.specs.Connection.{Connection, connection_of, connection_cost}
 use Rattle.mj_model.specs.Dictionary.{AreLexicons, IsLexiconOf}
 use Rattle.mj_model.specs.Lexicon.{Row}
-use Rattle.mj_model.specs.Tables.{Tables, Lexeme, Overlay, System}
+use Rattle.mj_model.specs.Tables.{Tables, Lexeme, System}
 use Rattle.mj_model.specs.UnkDef.{IsUnkWithin, unknown_tokens}
 
 abbrev pub lexicon_bytes : Sources → List (List ℕ)
@@ -83,7 +83,3 @@ IsRowsFault s fault =
 -- the first fault of the sources: each kind is looked at where those before it are accepted
 abbrev pub IsSourcesFault : Sources → SourceFault → Type 0
 IsSourcesFault s fault = IsMatrixFault s fault ⊎ IsCharFault s fault ⊎ IsUnkFault s fault ⊎ IsRowsFault s fault
-
--- a system dictionary alone, with how many characters may follow the first one of a grouped word
-abbrev pub alone : Tables → ℕ → Overlay
-alone t grouping = record { system = t; users = []; grouping = grouping }

@@ -2,6 +2,7 @@
 
 ghost use Rattle.mj_model.specs.Best.{HasOneBest, KeepsOrder};
 ghost use Rattle.mj_model.specs.Fields.{HasOneFirstField};
+ghost use Rattle.mj_model.specs.ImageFaults.{ImagesHaveOneFault};
 ghost use Rattle.mj_model.specs.Lexicon.{HasOneReading};
 ghost use Rattle.mj_model.specs.PathLaws.{TextsAreCovered};
 ghost use Rattle.mj_model.specs.Laws.{OnlyBlanksRemain, WordsJoin, WordsKeepPlaces};
@@ -48,4 +49,9 @@ pub fn texts_are_covered()
 /// Each lexicon has exactly one reading.
 pub fn one_reading()
     ensures { HasOneReading }
+{}
+
+/// Well-formed image bytes have no fault, and all others at most one first fault.
+pub fn one_image_fault()
+    ensures { ImagesHaveOneFault }
 {}

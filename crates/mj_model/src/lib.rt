@@ -12,6 +12,7 @@ pub mod laws;
 mod limits;
 mod overlay_fault;
 mod run_fault;
+mod sample_sources;
 mod source_fault;
 mod sources;
 mod text_in;
@@ -30,6 +31,7 @@ pub use limits::{
 };
 pub use overlay_fault::OverlayFault;
 pub use run_fault::RunFault;
+pub use sample_sources::sample;
 pub use source_fault::{SourceFault, SourceKind};
 pub use sources::Sources;
 pub use text_in::TextIn;

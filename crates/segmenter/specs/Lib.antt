@@ -3,6 +3,5 @@ pub mod PrintedLines
 pub mod Progress
 pub mod Runs
 pub mod Steps
-pub mod Sample
 pub mod SourceDicts
 pub mod EarlyFaults

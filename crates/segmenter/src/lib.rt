@@ -8,14 +8,13 @@ mod line_printer;
 mod progress;
 mod reading;
 mod running;
-mod sample_sources;
 mod segmentation;
 mod steps;
 mod words_printer;
 mod writing;
 
+pub use mj_model::sample;
 pub use running::run_sources;
-pub use sample_sources::sample;
 pub use segmentation::segment;
 
 #[cfg(test)]

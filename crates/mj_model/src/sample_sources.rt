@@ -1,9 +1,9 @@
-//! Small sources to try the segmenter on.
+//! Small sources to try the programs on.
 
 ghost use Rattle.std.specs.Prelude.{◌≡◌, ◌∷◌, [], map};
-ghost use Rattle.segmenter.specs.Sample.{matrix_text, chars_text, unk_text, lexicon_text};
+ghost use Rattle.mj_model.specs.Sample.{matrix_text, chars_text, unk_text, lexicon_text};
 
-use mj_model::Sources;
+use crate::sources::Sources;
 
 const MATRIX: &str = "2 2\n0 0 0\n0 1 10\n1 0 5\n1 1 7\n";
 

@@ -1,5 +1,5 @@
 use Rattle.std.proofs.Common.{refl}
-use Rattle.segmenter.proofs.sample_sources.sample.Goals as goal
+use Rattle.mj_model.proofs.sample_sources.sample.Goals as goal
 
 pub returns-clause-chars : goal.returns-clause-chars
 unfolding lib.Utf8.encode
