@@ -8,7 +8,7 @@ use Rattle.std.proofs.lemmas.List.{take_more, map-append, append-nil}
 use Rattle.std.proofs.lemmas.List.Concat.{flat_map-append}
 use Rattle.std.proofs.lemmas.List.Elements.{filter-append}
 use Rattle.mj_model.specs.declared.entry.Record.{Record}
-use Rattle.mj_model.specs.Connection.{Sizes}
+use Rattle.mj_model.specs.declared.matrix_sizes.MatrixSizes.{MatrixSizes}
 use Rattle.mj_model.specs.Lexicon.{Row, row_of, rows_of}
 use Rattle.mj_model.proofs.Members.{append_in}
 use Rattle.char_def.specs.UnkRows.{lists_are}
@@ -51,7 +51,7 @@ line_by : (b : Bool) (row : Row) → map (λ (r : Row). r.line) (cond b (row ∷
 line_by true row = refl
 line_by false row = refl
 
-outside_one : (sizes : Sizes) (xs : List Row) (row : Row) → lines_outside sizes (xs ++ row ∷ []) ≡ lines_outside sizes xs ++ cond (is_outside sizes row) (row.line ∷ []) []
+outside_one : (sizes : MatrixSizes) (xs : List Row) (row : Row) → lines_outside sizes (xs ++ row ∷ []) ≡ lines_outside sizes xs ++ cond (is_outside sizes row) (row.line ∷ []) []
 outside_one sizes xs row = ap (map (λ (r : Row). r.line)) (filter-append (is_outside sizes) xs (row ∷ [])) ∙ map-append (λ (r : Row). r.line) (filter (is_outside sizes) xs) (filter (is_outside sizes) (row ∷ []))
     ∙ ap (λ (ls : List ℕ). lines_outside sizes xs ++ ls) (line_by (is_outside sizes row) row)
 
@@ -59,32 +59,32 @@ rows_more : (records : List Record) (i : ℕ) (r : Record) → i < length record
 rows_more records i r low is = ap rows_of (take_more records i r low) ∙ map-append row_of (take i records) (get_or records i r ∷ []) ∙ ap (λ (x : Record). rows_of (take i records) ++ row_of x ∷ []) (sym is)
 
 -- the lines so far, and those of one record more
-lines_more : (sizes : Sizes) (before : List ℕ) (records : List Record) (i : ℕ) (r : Record) → i < length records → r ≡ get_or records i r
+lines_more : (sizes : MatrixSizes) (before : List ℕ) (records : List Record) (i : ℕ) (r : Record) → i < length records → r ≡ get_or records i r
     → before ++ lines_outside sizes (rows_of (take (i + 1) records)) ≡ (before ++ lines_outside sizes (rows_of (take i records))) ++ cond (is_outside sizes (row_of r)) (r.line ∷ []) []
 lines_more sizes before records i r low is =
     ap (λ (rows : List Row). before ++ lines_outside sizes rows) (rows_more records i r low is) ∙ ap (λ (ls : List ℕ). before ++ ls) (outside_one sizes (rows_of (take i records)) (row_of r))
     ∙ sym (append_assoc before (lines_outside sizes (rows_of (take i records))) (cond (is_outside sizes (row_of r)) (r.line ∷ []) []))
 
-pub outside_more : (sizes : Sizes) (before : List ℕ) (records : List Record) (i : ℕ) (r : Record) (found : Option ℕ) → i < length records → r ≡ get_or records i r → is_outside sizes (row_of r) ≡ true
+pub outside_more : (sizes : MatrixSizes) (before : List ℕ) (records : List Record) (i : ℕ) (r : Record) (found : Option ℕ) → i < length records → r ≡ get_or records i r → is_outside sizes (row_of r) ≡ true
     → IsLeastOf ((before ++ lines_outside sizes (rows_of (take i records))) ++ r.line ∷ []) found → IsLeastOf (before ++ lines_outside sizes (rows_of (take (i + 1) records))) found
 outside_more sizes before records i r found low is out h =
     subst (λ (ls : List ℕ). IsLeastOf ls found)
     (sym (lines_more sizes before records i r low is ∙ ap (λ (b : Bool). (before ++ lines_outside sizes (rows_of (take i records))) ++ cond b (r.line ∷ []) []) out)) h
 
-pub inside_more : (sizes : Sizes) (before : List ℕ) (records : List Record) (i : ℕ) (r : Record) (found : Option ℕ) → i < length records → r ≡ get_or records i r → is_outside sizes (row_of r) ≡ false
+pub inside_more : (sizes : MatrixSizes) (before : List ℕ) (records : List Record) (i : ℕ) (r : Record) (found : Option ℕ) → i < length records → r ≡ get_or records i r → is_outside sizes (row_of r) ≡ false
     → IsLeastOf (before ++ lines_outside sizes (rows_of (take i records))) found → IsLeastOf (before ++ lines_outside sizes (rows_of (take (i + 1) records))) found
 inside_more sizes before records i r found low is out h =
     subst (λ (ls : List ℕ). IsLeastOf ls found)
     (sym (lines_more sizes before records i r low is ∙ ap (λ (b : Bool). (before ++ lines_outside sizes (rows_of (take i records))) ++ cond b (r.line ∷ []) []) out
     ∙ append-nil (before ++ lines_outside sizes (rows_of (take i records))))) h
 
-pub all_looked_at : (sizes : Sizes) (before : List ℕ) (records : List Record) (i : ℕ) (found : Option ℕ) → length records ≤ i
+pub all_looked_at : (sizes : MatrixSizes) (before : List ℕ) (records : List Record) (i : ℕ) (found : Option ℕ) → length records ≤ i
     → IsLeastOf (before ++ lines_outside sizes (rows_of (take i records))) found → IsLeastOf (before ++ lines_outside sizes (rows_of records)) found
 all_looked_at sizes before records i found all h = subst (λ (rs : List Record). IsLeastOf (before ++ lines_outside sizes (rows_of rs)) found) (take_all i records all) h
 
 -- ---- the records of one category after another
 
-pub lists_more : (sizes : Sizes) (lists : List (Vec Record Global)) (i : ℕ) (list : Vec Record Global) (found : Option ℕ) → i < length lists → list ≡ get_or lists i list
+pub lists_more : (sizes : MatrixSizes) (lists : List (Vec Record Global)) (i : ℕ) (list : Vec Record Global) (found : Option ℕ) → i < length lists → list ≡ get_or lists i list
     → IsLeastOf (all_lines_outside sizes (lists_are (take i lists)) ++ lines_outside sizes (rows_of list.items)) found → IsLeastOf (all_lines_outside sizes (lists_are (take (i + 1) lists))) found
 lists_more sizes lists i list found low is h =
     let last : List (List Row) = rows_of list.items ∷ [] in

@@ -7,7 +7,8 @@ use Rattle.mj_model.specs.declared.source_fault.SourceFault.{SourceFault}
 use Rattle.mj_model.specs.declared.source_fault.SourceKind.TheVariants.{NoSuchCategory, MissingCategory, IdOutside}
 use Rattle.mj_model.specs.Best.{IsWithin}
 use Rattle.mj_model.specs.CharDef.{NamedCategory, is_defined, category_number}
-use Rattle.mj_model.specs.Connection.{Sizes, is_pair}
+use Rattle.mj_model.specs.declared.matrix_sizes.MatrixSizes.{MatrixSizes}
+use Rattle.mj_model.specs.Connection.{is_pair}
 use Rattle.mj_model.specs.Dictionary.{first_outside}
 use Rattle.mj_model.specs.FirstFault.{IsRefusal}
 use Rattle.mj_model.specs.Laws.{StandsIn}
@@ -42,13 +43,13 @@ unk_rows categories bytes reading h =
 
 -- ---- rows and the rows of each category: the same lines lie outside
 
-outside_in : (sizes : Sizes) (rows : List Row) (n : ℕ) → StandsIn (lines_outside sizes rows) n → (row : Row) × StandsIn rows row × (is_outside sizes row ≡ true) × (row.line ≡ n)
+outside_in : (sizes : MatrixSizes) (rows : List Row) (n : ℕ) → StandsIn (lines_outside sizes rows) n → (row : Row) × StandsIn rows row × (is_outside sizes row ≡ true) × (row.line ≡ n)
 outside_in sizes rows n h =
     let m = in_map (λ (row : Row). row.line) (filter (is_outside sizes) rows) n h in
     let f = in_filter (is_outside sizes) rows m.0 m.1 in
     (m.0, f.0, f.1, m.2)
 
-in_outside : (sizes : Sizes) (rows : List Row) (row : Row) (n : ℕ) → StandsIn rows row → is_outside sizes row ≡ true → row.line ≡ n → StandsIn (lines_outside sizes rows) n
+in_outside : (sizes : MatrixSizes) (rows : List Row) (row : Row) (n : ℕ) → StandsIn rows row → is_outside sizes row ≡ true → row.line ≡ n → StandsIn (lines_outside sizes rows) n
 in_outside sizes rows row n h out is = subst (StandsIn (lines_outside sizes rows)) is (map_in (λ (r : Row). r.line) (filter (is_outside sizes) rows) row (filter_in (is_outside sizes) rows row h out))
 
 abbrev rows_numbered : List NamedCategory → List Row → (ℕ × NamedCategory) → List Row
@@ -60,7 +61,7 @@ numbered_in n zero (c ∷ cs) d less = inl (ap (λ (k : ℕ). (k, c)) (let e : n
 numbered_in n (suc i) (c ∷ cs) d less =
     inr (subst (λ (k : ℕ). StandsIn (enumerate_from (n + 1) cs) (k, get_or cs i d)) (let e : n + 1 + i ≡ n + suc i = omega arith in e) (numbered_in (n + 1) i cs d (omega arith)))
 
-from_categories : (sizes : Sizes) (categories : List NamedCategory) (rows : List Row) (n : ℕ) → StandsIn (all_lines_outside sizes (rows_by_category categories rows)) n → StandsIn (lines_outside sizes rows) n
+from_categories : (sizes : MatrixSizes) (categories : List NamedCategory) (rows : List Row) (n : ℕ) → StandsIn (all_lines_outside sizes (rows_by_category categories rows)) n → StandsIn (lines_outside sizes rows) n
 from_categories sizes categories rows n h =
     let list = in_flat_map (lines_outside sizes) (rows_by_category categories rows) n h in
     let its = in_map (rows_numbered categories rows) (enumerate_from 0 categories) list.0 list.1 in
@@ -71,7 +72,7 @@ from_categories sizes categories rows n h =
 no_name : NamedCategory
 no_name = record { name = []; category = record { invoke = false; group = false; length = 0 } }
 
-to_categories : (sizes : Sizes) (categories : List NamedCategory) (rows : List Row) (n : ℕ) → AllByRecursion (IsUnkRow categories) rows → StandsIn (lines_outside sizes rows) n
+to_categories : (sizes : MatrixSizes) (categories : List NamedCategory) (rows : List Row) (n : ℕ) → AllByRecursion (IsUnkRow categories) rows → StandsIn (lines_outside sizes rows) n
     → StandsIn (all_lines_outside sizes (rows_by_category categories rows)) n
 to_categories sizes categories rows n named h =
     let out = outside_in sizes rows n h in
@@ -84,7 +85,7 @@ to_categories sizes categories rows n named h =
 
 -- ---- the first row outside is the one with the least line
 
-later_lines : (sizes : Sizes) (from n : ℕ) (rows : List Row) → LinesRise from rows → StandsIn (lines_outside sizes rows) n → from ≤ n
+later_lines : (sizes : MatrixSizes) (from n : ℕ) (rows : List Row) → LinesRise from rows → StandsIn (lines_outside sizes rows) n → from ≤ n
 later_lines sizes from n [] rise h = absurd h
 later_lines sizes from n (row ∷ rows) rise h =
     let out = outside_in sizes (row ∷ rows) n h in
@@ -93,7 +94,7 @@ later_lines sizes from n (row ∷ rows) rise h =
       | inr more ↦ let l = later_lines sizes (row.line + 1) n rows rise.1 (in_outside sizes rows out.0 n more out.2 out.3) in omega (arith, rise.0, l)
     ]
 
-first_by : (sizes : Sizes) (row : Row) (rows : List Row) (n : ℕ) (b : Bool) → is_pair sizes row.right row.left ≡ b → LinesRise (row.line + 1) rows
+first_by : (sizes : MatrixSizes) (row : Row) (rows : List Row) (n : ℕ) (b : Bool) → is_pair sizes row.right row.left ≡ b → LinesRise (row.line + 1) rows
     → (IsLeast (lines_outside sizes rows) n → first_outside 2 sizes rows ≡ Some (record { file = 2; line = n; kind = IdOutside }))
     → IsLeast (map (λ (r : Row). r.line) (cond (not b) (row ∷ filter (is_outside sizes) rows) (filter (is_outside sizes) rows))) n
     → cond b (first_outside 2 sizes rows) (Some (record { file = 2; line = row.line; kind = IdOutside })) ≡ Some (record { file = 2; line = n; kind = IdOutside })
@@ -105,17 +106,17 @@ first_by sizes row rows n false e rise rest h =
       | inr more ↦ let l = later_lines sizes (row.line + 1) n rows rise more in let low = h.none_below.0 in absurd (omega (arith, l, low))
     ])
 
-first_is : (sizes : Sizes) (from n : ℕ) (rows : List Row) → LinesRise from rows → IsLeast (lines_outside sizes rows) n → first_outside 2 sizes rows ≡ Some (record { file = 2; line = n; kind = IdOutside })
+first_is : (sizes : MatrixSizes) (from n : ℕ) (rows : List Row) → LinesRise from rows → IsLeast (lines_outside sizes rows) n → first_outside 2 sizes rows ≡ Some (record { file = 2; line = n; kind = IdOutside })
 first_is sizes from n [] rise h = absurd h.is_one
 first_is sizes from n (row ∷ rows) rise h = first_by sizes row rows n (is_pair sizes row.right row.left) refl rise.1 (first_is sizes (row.line + 1) n rows rise.1) h
 
-none_by : (sizes : Sizes) (row : Row) (rows : List Row) (b : Bool) → (lines_outside sizes rows ≡ [] → first_outside 2 sizes rows ≡ None)
+none_by : (sizes : MatrixSizes) (row : Row) (rows : List Row) (b : Bool) → (lines_outside sizes rows ≡ [] → first_outside 2 sizes rows ≡ None)
     → map (λ (r : Row). r.line) (cond (not b) (row ∷ filter (is_outside sizes) rows) (filter (is_outside sizes) rows)) ≡ []
     → cond b (first_outside 2 sizes rows) (Some (record { file = 2; line = row.line; kind = IdOutside })) ≡ None
 none_by sizes row rows true rest h = rest h
 none_by sizes row rows false rest h = absurd (cc)
 
-none_is : (sizes : Sizes) (rows : List Row) → lines_outside sizes rows ≡ [] → first_outside 2 sizes rows ≡ None
+none_is : (sizes : MatrixSizes) (rows : List Row) → lines_outside sizes rows ≡ [] → first_outside 2 sizes rows ≡ None
 none_is sizes [] h = refl
 none_is sizes (row ∷ rows) h = none_by sizes row rows (is_pair sizes row.right row.left) (none_is sizes rows) h
 
@@ -147,18 +148,18 @@ read_from_by categories bytes unknown (Ok lines) reads h =
 pub read_from : (categories : List NamedCategory) (bytes : List ℕ) (unknown : List (List Row)) → IsUnkDef categories bytes (Ok unknown) → IsReadFrom categories bytes unknown
 read_from categories bytes unknown h = read_from_by categories bytes unknown h.0 h.1 h.2
 
-told_by : (sizes : Sizes) (categories : List NamedCategory) (bytes : List ℕ) (fault : SourceFault) (reading : Result Reading SourceFault) → ReadsAs (unk_outcome categories) 2 0 bytes reading → Err fault ≡ unknown_from categories reading
+told_by : (sizes : MatrixSizes) (categories : List NamedCategory) (bytes : List ℕ) (fault : SourceFault) (reading : Result Reading SourceFault) → ReadsAs (unk_outcome categories) 2 0 bytes reading → Err fault ≡ unknown_from categories reading
     → IsUnkWithin sizes categories bytes (Err fault)
 told_by sizes categories bytes fault (Err found) reads h = (Err found, reads, h)
 told_by sizes categories bytes fault (Ok lines) reads h = (Ok lines, reads, ap (unless_outside sizes lines.rows) h)
 
 -- a fault of the reader is the first one
-pub reader_told : (sizes : Sizes) (categories : List NamedCategory) (bytes : List ℕ) (fault : SourceFault) → IsRefusal fault (IsUnkDef categories bytes (Err fault)) → IsRefusal fault (IsUnkWithin sizes categories bytes (Err fault))
+pub reader_told : (sizes : MatrixSizes) (categories : List NamedCategory) (bytes : List ℕ) (fault : SourceFault) → IsRefusal fault (IsUnkDef categories bytes (Err fault)) → IsRefusal fault (IsUnkWithin sizes categories bytes (Err fault))
 reader_told sizes categories bytes fault (inl memory) = inl memory
 reader_told sizes categories bytes fault (inr cause) = inr (told_by sizes categories bytes fault cause.0 cause.1 cause.2)
 
 -- the least line outside is the first fault where the reader finds none
-pub line_told : (sizes : Sizes) (categories : List NamedCategory) (bytes : List ℕ) (unknown : List (List Row)) (line : ℕ) → IsUnkDef categories bytes (Ok unknown) → IsLeast (all_lines_outside sizes unknown) line
+pub line_told : (sizes : MatrixSizes) (categories : List NamedCategory) (bytes : List ℕ) (unknown : List (List Row)) (line : ℕ) → IsUnkDef categories bytes (Ok unknown) → IsLeast (all_lines_outside sizes unknown) line
     → IsUnkWithin sizes categories bytes (Err (record { file = 2; line = line; kind = IdOutside }))
 line_told sizes categories bytes unknown line h least =
     let r = read_from categories bytes unknown h in
@@ -173,7 +174,7 @@ line_told sizes categories bytes unknown line h least =
     (Ok r.reading, r.reads, sym (ap (unless_outside sizes rows) (sym r.none_missing) ∙ ap (λ (o : Option SourceFault). rows_or o unknown) first))
 
 -- with no line outside there is no fault
-pub none_told : (sizes : Sizes) (categories : List NamedCategory) (bytes : List ℕ) (unknown : List (List Row)) → IsUnkDef categories bytes (Ok unknown) → all_lines_outside sizes unknown ≡ [] → IsUnkWithin sizes categories bytes (Ok unknown)
+pub none_told : (sizes : MatrixSizes) (categories : List NamedCategory) (bytes : List ℕ) (unknown : List (List Row)) → IsUnkDef categories bytes (Ok unknown) → all_lines_outside sizes unknown ≡ [] → IsUnkWithin sizes categories bytes (Ok unknown)
 none_told sizes categories bytes unknown h none =
     let r = read_from categories bytes unknown h in
     let rows = r.reading.rows in
@@ -183,14 +184,14 @@ none_told sizes categories bytes unknown h none =
     (Ok r.reading, r.reads, sym (ap (unless_outside sizes rows) (sym r.none_missing) ∙ ap (λ (o : Option SourceFault). rows_or o unknown) (none_is sizes rows empty)))
 
 -- an `unk.def` is read in one way
-pub unk_is_one : (sizes : Sizes) (categories : List NamedCategory) (bytes : List ℕ) (unknown other : Result (List (List Row)) SourceFault) → IsUnkWithin sizes categories bytes unknown → IsUnkWithin sizes categories bytes other → other ≡ unknown
+pub unk_is_one : (sizes : MatrixSizes) (categories : List NamedCategory) (bytes : List ℕ) (unknown other : Result (List (List Row)) SourceFault) → IsUnkWithin sizes categories bytes unknown → IsUnkWithin sizes categories bytes other → other ≡ unknown
 unk_is_one sizes categories bytes unknown other h k =
     k.2 ∙ ap (unknown_within sizes categories) (readings_are_one (unk_outcome categories) 2 0 bytes h.0 k.0 h.1 k.1) ∙ sym h.2
 
 -- ---- an accepted file has no line outside
 
 -- what an `unk.def` with no fault is read from
-pub record IsReadWithin (sizes : Sizes) (categories : List NamedCategory) (bytes : List ℕ) (unknown : List (List Row)) : Type 0 where
+pub record IsReadWithin (sizes : MatrixSizes) (categories : List NamedCategory) (bytes : List ℕ) (unknown : List (List Row)) : Type 0 where
   pub from : IsReadFrom categories bytes unknown
   pub none_outside : first_outside 2 sizes from.reading.rows ≡ None
 
@@ -198,7 +199,7 @@ within_by : (unknown rows : List (List Row)) (found : Option SourceFault) → Ok
 within_by unknown rows None h = (ap rows_told h, refl)
 within_by unknown rows (Some fault) h = absurd (cc)
 
-read_within_by : (sizes : Sizes) (categories : List NamedCategory) (bytes : List ℕ) (unknown : List (List Row)) (lines : Reading) (read : Result (List (List Row)) SourceFault) → ReadsAs (unk_outcome categories) 2 0 bytes (Ok lines)
+read_within_by : (sizes : MatrixSizes) (categories : List NamedCategory) (bytes : List ℕ) (unknown : List (List Row)) (lines : Reading) (read : Result (List (List Row)) SourceFault) → ReadsAs (unk_outcome categories) 2 0 bytes (Ok lines)
     → read ≡ unknown_from categories (Ok lines) → Ok unknown ≡ unless_outside sizes lines.rows read → IsReadWithin sizes categories bytes unknown
 read_within_by sizes categories bytes unknown lines (Err fault) reads is h = absurd (cc)
 read_within_by sizes categories bytes unknown lines (Ok rows) reads is h =
@@ -210,10 +211,10 @@ read_within_by sizes categories bytes unknown lines (Ok rows) reads is h =
       none_outside = w.1;
     }
 
-within_told : (sizes : Sizes) (categories : List NamedCategory) (bytes : List ℕ) (unknown : List (List Row)) (reading : Result Reading SourceFault) → ReadsAs (unk_outcome categories) 2 0 bytes reading
+within_told : (sizes : MatrixSizes) (categories : List NamedCategory) (bytes : List ℕ) (unknown : List (List Row)) (reading : Result Reading SourceFault) → ReadsAs (unk_outcome categories) 2 0 bytes reading
     → Ok unknown ≡ unknown_within sizes categories reading → IsReadWithin sizes categories bytes unknown
 within_told sizes categories bytes unknown (Err fault) reads h = absurd (cc)
 within_told sizes categories bytes unknown (Ok lines) reads h = read_within_by sizes categories bytes unknown lines (unknown_from categories (Ok lines)) reads refl h
 
-pub read_within : (sizes : Sizes) (categories : List NamedCategory) (bytes : List ℕ) (unknown : List (List Row)) → IsUnkWithin sizes categories bytes (Ok unknown) → IsReadWithin sizes categories bytes unknown
+pub read_within : (sizes : MatrixSizes) (categories : List NamedCategory) (bytes : List ℕ) (unknown : List (List Row)) → IsUnkWithin sizes categories bytes (Ok unknown) → IsReadWithin sizes categories bytes unknown
 read_within sizes categories bytes unknown h = within_told sizes categories bytes unknown h.0 h.1 h.2

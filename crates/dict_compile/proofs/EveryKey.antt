@@ -13,7 +13,7 @@ use Rattle.std.proofs.lemmas.List.Elements.{filter_agree}
 use Rattle.std.proofs.lemmas.Map.Text.{is_eq-slice_cmp}
 use Rattle.mj_model.specs.declared.sources.Sources.{Sources}
 use Rattle.mj_model.specs.Compilation.{HaveUserTables}
-use Rattle.mj_model.specs.Connection.{Sizes}
+use Rattle.mj_model.specs.declared.matrix_sizes.MatrixSizes.{MatrixSizes}
 use Rattle.mj_model.specs.Dictionary.{AreLexicons, IsInOrder, IsLexiconOf, lexeme_of}
 use Rattle.mj_model.specs.ImageMeaning.{entries_under}
 use Rattle.mj_model.specs.Lexicon.{Row}
@@ -70,12 +70,12 @@ every_key rows lexicon is key =
     ∙ ap (map said_by_row) (kept_in_order rows is.0 is.1 key)
 
 -- tables whose lexicon is that of the rows that the lexicons read as
-keys_of : (sizes : Sizes) (lexicons : List (List ℕ)) (t : Tables) (rows : List Row) → AreLexicons sizes 3 [] lexicons (Ok rows) → IsLexiconOf rows t.lexicon → AnswersKeysOf sizes lexicons t
+keys_of : (sizes : MatrixSizes) (lexicons : List (List ℕ)) (t : Tables) (rows : List Row) → AreLexicons sizes 3 [] lexicons (Ok rows) → IsLexiconOf rows t.lexicon → AnswersKeysOf sizes lexicons t
 keys_of sizes lexicons t rows are is others h key =
     every_key rows t.lexicon is key
     ∙ ap (λ (rs : List Row). map said_by_row (filter (has_surface key) rs)) (same_read (lexicons_one sizes 3 [] lexicons (Ok rows) (Ok others) are h))
 
-pub keys_of_lexicons : (sizes : Sizes) (lexicons : List (List ℕ)) (t : Tables) → HaveUserTables sizes lexicons t → AnswersKeysOf sizes lexicons t
+pub keys_of_lexicons : (sizes : MatrixSizes) (lexicons : List (List ℕ)) (t : Tables) → HaveUserTables sizes lexicons t → AnswersKeysOf sizes lexicons t
 keys_of_lexicons sizes lexicons t h = keys_of sizes lexicons t h.rows h.are_rows h.is_lexicon
 
 pub keys_of_sources : (s : Sources) (t : Tables) → HaveTables s t → AnswersKeysOfSources s t

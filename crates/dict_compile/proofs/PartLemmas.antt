@@ -2,7 +2,7 @@
 use Rattle.std.proofs.Common.{◌≡◌, List, sym, subst}
 use Rattle.mj_model.specs.declared.sources.Sources.{Sources}
 use Rattle.mj_model.specs.CharDef.{NamedCategory}
-use Rattle.mj_model.specs.Connection.{Sizes}
+use Rattle.mj_model.specs.declared.matrix_sizes.MatrixSizes.{MatrixSizes}
 use Rattle.mj_model.specs.Lexicon.{rows_of}
 use Rattle.mj_model.specs.SourceTables.{lexicon_bytes}
 use Rattle.matrix_def.specs.Connections.{sizes_of}
@@ -22,7 +22,7 @@ are_storable s parts h =
       rows = subst (λ sizes. AreLexiconRows sizes (rows_of parts.records.items)) sizes (lexicons_fit h.connection.sizes (lexicon_bytes s) (rows_of parts.records.items) h.rows);
       unknown =
           subst (λ (categories : List NamedCategory). AreUnknownRows (sizes_of parts.matrix) categories parts.unknown) (sym h.table.categories)
-          (subst (λ (sizes : Sizes). AreUnknownRows sizes h.chars.categories parts.unknown) sizes (unknown_fits h.connection.sizes h.chars.categories s.unk.now parts.unknown h.unknown));
+          (subst (λ (sizes : MatrixSizes). AreUnknownRows sizes h.chars.categories parts.unknown) sizes (unknown_fits h.connection.sizes h.chars.categories s.unk.now parts.unknown h.unknown));
       categories = table_storable s.chars.now h.chars parts.chars h.are_chars h.table;
       infos = λ code within. table_infos_fit s.chars.now h.chars parts.chars h.are_chars h.table code;
     }

@@ -4,7 +4,7 @@ use Rattle.std.specs.Prelude.{All, flat_map}
 use Rattle.std.specs.List.{AllByRecursion}
 use Rattle.std.proofs.lemmas.List.Sorted.{All-permutation, length_permutation}
 use Rattle.mj_model.specs.declared.limits.TheConstants.{ENTRIES_MAX}
-use Rattle.mj_model.specs.Connection.{Sizes}
+use Rattle.mj_model.specs.declared.matrix_sizes.MatrixSizes.{MatrixSizes}
 use Rattle.mj_model.specs.Dictionary.{IsInOrder}
 use Rattle.mj_model.specs.declared.entry.Record.{Record}
 use Rattle.mj_model.specs.Lexicon.{Row, row_of, rows_of}
@@ -35,7 +35,7 @@ all_joined P [] h = tt
 all_joined P (xs ∷ xss) h = all_behind P xs (flat_map (λ (ys : List _). ys) xss) h.0 (all_joined P xss h.1)
 
 -- sorted rows are the same rows
-pub rows_in_order : (sizes : Sizes) (rows ordered : List Row) → IsInOrder rows ordered → AreLexiconRows sizes rows → AreLexiconRows sizes ordered
+pub rows_in_order : (sizes : MatrixSizes) (rows ordered : List Row) → IsInOrder rows ordered → AreLexiconRows sizes rows → AreLexiconRows sizes ordered
 rows_in_order sizes rows ordered o h =
     let same = length_permutation rows ordered o.same_rows in
     record {
@@ -43,21 +43,21 @@ rows_in_order sizes rows ordered o h =
       few = (let few = h.few in omega (arith, few, same));
     }
 
-pub have_surfaces : (sizes : Sizes) (rows : List Row) → AreLexiconRows sizes rows → All HasKeySurface rows
+pub have_surfaces : (sizes : MatrixSizes) (rows : List Row) → AreLexiconRows sizes rows → All HasKeySurface rows
 have_surfaces sizes rows h =
     at_each HasKeySurface rows (all_mapped (IsLexiconRow sizes) HasKeySurface rows (λ row r. record { some = r.some; short = r.short }) h.each)
 
-pub have_ids : (sizes : Sizes) (rows : List Row) → AreLexiconRows sizes rows → AreWithin sizes rows
+pub have_ids : (sizes : MatrixSizes) (rows : List Row) → AreLexiconRows sizes rows → AreWithin sizes rows
 have_ids sizes rows h =
     all_mapped (IsLexiconRow sizes) (IsWithin sizes) rows (λ row r. record { right_below = r.ids.right_below; left_below = r.ids.left_below }) h.each
 
 -- the ids of all rows
-pub all_have_ids : (sizes : Sizes) (rows : List Row) (unknown : List (List Row)) → AreLexiconRows sizes rows → AllByRecursion (AllByRecursion (HasIdsWithin sizes)) unknown
+pub all_have_ids : (sizes : MatrixSizes) (rows : List Row) (unknown : List (List Row)) → AreLexiconRows sizes rows → AllByRecursion (AllByRecursion (HasIdsWithin sizes)) unknown
     → AreWithin sizes (all_rows rows unknown)
 all_have_ids sizes rows unknown h u =
     all_behind (IsWithin sizes) rows (flat_map (λ (rows : List Row). rows) unknown) (have_ids sizes rows h)
     (all_mapped (HasIdsWithin sizes) (IsWithin sizes) (flat_map (λ (rows : List Row). rows) unknown) (λ row r. record { right_below = r.right_below; left_below = r.left_below })
     (all_joined (HasIdsWithin sizes) unknown u))
 
-pub few_records : (sizes : Sizes) (records : List Record) → AreLexiconRows sizes (rows_of records) → length records ≤ ENTRIES_MAX
+pub few_records : (sizes : MatrixSizes) (records : List Record) → AreLexiconRows sizes (rows_of records) → length records ≤ ENTRIES_MAX
 few_records sizes records h = let few = h.few in let same = length-map records row_of in omega (arith, few, same)

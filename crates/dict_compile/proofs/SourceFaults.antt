@@ -5,7 +5,8 @@ use Rattle.std.proofs.lemmas.Option.{same_Some}
 use Rattle.mj_model.specs.declared.source_fault.SourceFault.{SourceFault}
 use Rattle.mj_model.specs.declared.sources.Sources.{Sources}
 use Rattle.mj_model.specs.CharDef.{CharSource}
-use Rattle.mj_model.specs.Connection.{Sizes, Connection}
+use Rattle.mj_model.specs.declared.matrix_sizes.MatrixSizes.{MatrixSizes}
+use Rattle.mj_model.specs.Connection.{Connection}
 use Rattle.mj_model.specs.Dictionary.{AreLexicons, first_outside, next_file}
 use Rattle.mj_model.specs.Lexicon.{Row, Reading, lexicon_outcome, IsLexicon}
 use Rattle.mj_model.specs.SourceTables.{HaveTables, IsSourcesFault, lexicon_bytes}
@@ -47,7 +48,7 @@ not_both read h k = both (sym h ∙ k)
 same_reading : (file held : ℕ) (bytes : List ℕ) (r q : Result Reading SourceFault) → IsLexicon file held bytes r → IsLexicon file held bytes q → r ≡ q
 same_reading file held bytes r q h k = readings_are_one lexicon_outcome file held bytes q r k h
 
-pub lexicons_one : (sizes : Sizes) (file : ℕ) (before : List Row) (lexicons : List (List ℕ)) (r q : Result (List Row) SourceFault)
+pub lexicons_one : (sizes : MatrixSizes) (file : ℕ) (before : List Row) (lexicons : List (List ℕ)) (r q : Result (List Row) SourceFault)
     → AreLexicons sizes file before lexicons r → AreLexicons sizes file before lexicons q → r ≡ q
 lexicons_one sizes file before [] r q h k = h ∙ sym k
 lexicons_one sizes file before (bytes ∷ more) r q (inl h) (inl k) =

@@ -5,7 +5,7 @@ use Rattle.std.proofs.lemmas.List.{length-map}
 use Rattle.std.proofs.lemmas.List.Sorted.{length_permutation}
 use Rattle.mj_model.specs.declared.source_fault.SourceFault.{SourceFault}
 use Rattle.mj_model.specs.Compilation.{HaveUserTables, IsUserCompilation, IsUserCause, IsUserFault, SkipLines, feature_bytes, feature_bytes_end, lexicon_tokens}
-use Rattle.mj_model.specs.Connection.{Sizes}
+use Rattle.mj_model.specs.declared.matrix_sizes.MatrixSizes.{MatrixSizes}
 use Rattle.mj_model.specs.Dictionary.{AreLexicons, IsInOrder, IsLexiconOf}
 use Rattle.mj_model.specs.FirstFault.{IsRefusal}
 use Rattle.mj_model.specs.ImageMeaning.{image_lexicon, image_tables}
@@ -30,9 +30,9 @@ use Rattle.dict_compile.proofs.OrderLemmas.{one_lexicon}
 use Rattle.dict_compile.proofs.SourceFaults.{both, lexicons_one, same_error, same_read}
 use Rattle.dict_compile.proofs.TokenLemmas.{lexicon_tokens_are}
 
-module _ (sizes : Sizes) (system : Tables) (is : IsSystemOf sizes system) (lexicons : List (List ℕ)) where
+module _ (sizes : MatrixSizes) (system : Tables) (is : IsSystemOf sizes system) (lexicons : List (List ℕ)) where
   as_read : (rows : List Row) → AreLexicons sizes 3 [] lexicons (Ok rows) → AreLexicons system.sizes 3 [] lexicons (Ok rows)
-  as_read rows h = subst (λ (s : Sizes). AreLexicons s 3 [] lexicons (Ok rows)) (sym is.sizes_are) h
+  as_read rows h = subst (λ (s : MatrixSizes). AreLexicons s 3 [] lexicons (Ok rows)) (sym is.sizes_are) h
 
   module _ (read : LexiconRecords) (h : AreLexicons sizes 3 [] lexicons (Ok (rows_of read.records.items))) where
     have_user : (t : Tables) (ordered : List Row) → IsInOrder (rows_of read.records.items) ordered → t.kind ≡ User → t.sizes ≡ sizes → t.lexicon ≡ lexemes_of ordered → HaveUserTables system.sizes lexicons t
@@ -89,7 +89,7 @@ module _ (sizes : Sizes) (system : Tables) (is : IsSystemOf sizes system) (lexic
 
   pub lexicons_refused : (fault : SourceFault) → IsRefusal fault (AreLexicons sizes 3 [] lexicons (Err fault)) → IsRefusal fault (IsUserCause system lexicons fault)
   lexicons_refused fault (inl memory) = inl memory
-  lexicons_refused fault (inr h) = inr (inl (is.kind, inl (subst (λ (s : Sizes). AreLexicons s 3 [] lexicons (Err fault)) (sym is.sizes_are) h)))
+  lexicons_refused fault (inr h) = inr (inl (is.kind, inl (subst (λ (s : MatrixSizes). AreLexicons s 3 [] lexicons (Err fault)) (sym is.sizes_are) h)))
 
 -- ---- the first fault
 

@@ -2,7 +2,8 @@
 -- count the entries in the byte order of the surfaces.
 use Rattle.std.specs.Prelude.{◌≡◌, ℕ, ℤ, Bool, List, [], map, filter, bytes_eq, Ok}
 use Rattle.mj_model.specs.declared.sources.Sources.{Sources}
-use Rattle.mj_model.specs.Connection.{Connection, Sizes}
+use Rattle.mj_model.specs.declared.matrix_sizes.MatrixSizes.{MatrixSizes}
+use Rattle.mj_model.specs.Connection.{Connection}
 use Rattle.mj_model.specs.Dictionary.{AreLexicons}
 use Rattle.mj_model.specs.ImageMeaning.{entries_under}
 use Rattle.mj_model.specs.Lexicon.{Row}
@@ -30,7 +31,7 @@ abbrev pub AnswersEveryKey : List Row → List Lexeme → Type 0
 AnswersEveryKey rows lexicon = (key : List ℕ) → map said_by_token (entries_under key lexicon) ≡ map said_by_row (filter (has_surface key) rows)
 
 -- whatever rows the lexicons read as, the tables answer every key with them
-abbrev pub AnswersKeysOf : Sizes → List (List ℕ) → Tables → Type 0
+abbrev pub AnswersKeysOf : MatrixSizes → List (List ℕ) → Tables → Type 0
 AnswersKeysOf sizes lexicons t = (rows : List Row) → AreLexicons sizes 3 [] lexicons (Ok rows) → AnswersEveryKey rows t.lexicon
 
 -- the same of the lexicons of a system dictionary's sources, whose ids lie within the sizes of `matrix.def`

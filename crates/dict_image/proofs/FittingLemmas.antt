@@ -11,7 +11,8 @@ use Rattle.std.proofs.lemmas.Bool.{le-leb, lt-ltb, ltb-true}
 use Rattle.std.proofs.lemmas.List.{get_or-drop, reverse-append}
 use Rattle.std.proofs.lemmas.List.FromFn.{map-range_with_len_more}
 use Rattle.mj_model.specs.Best.{IsWithin}
-use Rattle.mj_model.specs.Connection.{Sizes, is_pair}
+use Rattle.mj_model.specs.declared.matrix_sizes.MatrixSizes.{MatrixSizes}
+use Rattle.mj_model.specs.Connection.{is_pair}
 use Rattle.mj_model.specs.ImageBytes.{kind_of, number_at, signed_2_at, header_of, all_tokens, section}
 use Rattle.mj_model.specs.ImageMeaning.{image_unknown, tokens_in, entry_under, image_tables, lexicon_sections, entries_of_group}
 use Rattle.mj_model.specs.ImageSections.{AreRanges, IsIndex, StoredRange, range_at, stored_info, no_info, token_from, stored_token, stored_cost, index_at, key_of, stored_cells}
@@ -55,7 +56,7 @@ cost_by false z within = none_within
 
 -- ---- entries
 
-pair_from : (sizes : Sizes) (right left : ℕ) → right < sizes.right → left < sizes.left → IsTrue (is_pair sizes right left)
+pair_from : (sizes : MatrixSizes) (right left : ℕ) → right < sizes.right → left < sizes.left → IsTrue (is_pair sizes right left)
 pair_from sizes right left r l = rw (lt-ltb right sizes.right r, lt-ltb left sizes.left l) refl
 
 token_fit : (bytes : List ℕ) (i : ℕ) → IsImage bytes → AreBytes (section bytes 7) → i < all_tokens (header_of bytes) → IsFitting (header_of bytes).sizes (token_from (section bytes 7) (section bytes 8) i)
@@ -75,7 +76,7 @@ list_fits bytes index lists low high i w are is few less =
     let rises = is.rising i less in
     tokens_fit bytes (index_at index i) (index_at index (suc i) - index_at index i) w are (omega (arith, end, rises, few))
 
-named : (sizes : Sizes) (surface : List ℕ) (ts : List Token) → AllByRecursion (IsFitting sizes) ts → AllByRecursion (λ (e : Lexeme). IsFitting sizes e.token) (map (entry_under surface) ts)
+named : (sizes : MatrixSizes) (surface : List ℕ) (ts : List Token) → AllByRecursion (IsFitting sizes) ts → AllByRecursion (λ (e : Lexeme). IsFitting sizes e.token) (map (entry_under surface) ts)
 named sizes surface [] fit = tt
 named sizes surface (t ∷ ts) fit = (fit.0, named sizes surface ts fit.1)
 

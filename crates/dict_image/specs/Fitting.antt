@@ -2,7 +2,8 @@
 use Rattle.std.specs.Prelude.{◌≡◌, ℕ, ◌^◌, ◌<◌, IsTrue, List, length, map, slice_index}
 use Rattle.std.specs.List.{AllByRecursion}
 use Rattle.mj_model.specs.Best.{IsWithin}
-use Rattle.mj_model.specs.Connection.{Sizes, is_pair}
+use Rattle.mj_model.specs.declared.matrix_sizes.MatrixSizes.{MatrixSizes}
+use Rattle.mj_model.specs.Connection.{is_pair}
 use Rattle.mj_model.specs.Laws.{HasApartTokens, HasText}
 use Rattle.mj_model.specs.Tables.{Tables, Token, Lexeme, System}
 
@@ -11,7 +12,7 @@ abbrev pub AreBytes : List ℕ → Type 0
 AreBytes bytes = (i : ℕ) → slice_index bytes i < 256
 
 -- ids within the sizes, and a cost of 16 bits
-abbrev pub IsFitting : Sizes → Token → Type 0
+abbrev pub IsFitting : MatrixSizes → Token → Type 0
 IsFitting sizes t = IsTrue (is_pair sizes t.right t.left) × IsWithin (2 ^ 15) t.cost
 
 -- all entries have such ids and costs, connection costs are of 16 bits, and BOS and EOS may stand side by side; surfaces are text, and no

@@ -8,7 +8,8 @@ use Rattle.std.proofs.lemmas.Bool.{ltb-true, eqb-true}
 use Rattle.mj_model.specs.declared.limits.TheConstants.{MATRIX_CELLS_MAX}
 use Rattle.mj_model.specs.declared.source_fault.SourceFault.{SourceFault}
 use Rattle.mj_model.specs.declared.source_fault.SourceKind.TheVariants.{PairOutside, TooLarge}
-use Rattle.mj_model.specs.Connection.{Sizes, Cell, Connection, is_pair, cell_from, cell_fault, row_fault, words_of, sizes_from, matrix_fault, connection_unless, connection_under, connection_from, connection_of, connection_cost}
+use Rattle.mj_model.specs.declared.matrix_sizes.MatrixSizes.{MatrixSizes}
+use Rattle.mj_model.specs.Connection.{Cell, Connection, is_pair, cell_from, cell_fault, row_fault, words_of, sizes_from, matrix_fault, connection_unless, connection_under, connection_from, connection_of, connection_cost}
 use Rattle.mj_model.specs.FirstFault.{first_fault, fault_or}
 use Rattle.mj_model.specs.Lines.{numbered_lines, is_blank_line}
 use Rattle.matrix_def.specs.Costs.{CostTable, IsPair, IsTableOf, matrix_cost}
@@ -20,25 +21,25 @@ and_both false b h = absurd (cc)
 
 -- ---- the cells of a connection lie within its sizes
 
-abbrev IsWithinSizes : Sizes → Cell → Type 0
+abbrev IsWithinSizes : MatrixSizes → Cell → Type 0
 IsWithinSizes sizes cell = is_pair sizes cell.right cell.left ≡ true
 
 abbrev row_cell : (ℕ × List ℕ) → Option Cell
 row_cell row = cell_from (words_of row.1)
 
-cell_by : (sizes : Sizes) (line : ℕ) (cell : Cell) (b : Bool) (others : Option SourceFault) → is_pair sizes cell.right cell.left ≡ b
+cell_by : (sizes : MatrixSizes) (line : ℕ) (cell : Cell) (b : Bool) (others : Option SourceFault) → is_pair sizes cell.right cell.left ≡ b
     → fault_or 0 line (cond b None (Some PairOutside)) others ≡ None → IsWithinSizes sizes cell × (others ≡ None)
 cell_by sizes line cell true others e h = (e, h)
 cell_by sizes line cell false others e h = absurd (cc)
 
-cells_by : (sizes : Sizes) (line : ℕ) (found : Option Cell) (others : Option SourceFault) (cells : List Cell)
+cells_by : (sizes : MatrixSizes) (line : ℕ) (found : Option Cell) (others : Option SourceFault) (cells : List Cell)
     → fault_or 0 line (cell_fault sizes found) others ≡ None → (others ≡ None → AllByRecursion (IsWithinSizes sizes) cells)
     → AllByRecursion (IsWithinSizes sizes) (cons_option found cells)
 cells_by sizes line None others cells h rest = absurd (cc)
 cells_by sizes line (Some cell) others cells h rest =
     let p = cell_by sizes line cell (is_pair sizes cell.right cell.left) others refl h in (p.0, rest p.1)
 
-cells_within : (sizes : Sizes) (rows : List (ℕ × List ℕ)) → first_fault 0 (row_fault sizes) rows ≡ None → AllByRecursion (IsWithinSizes sizes) (filter_map row_cell rows)
+cells_within : (sizes : MatrixSizes) (rows : List (ℕ × List ℕ)) → first_fault 0 (row_fault sizes) rows ≡ None → AllByRecursion (IsWithinSizes sizes) (filter_map row_cell rows)
 cells_within sizes [] h = tt
 cells_within sizes (row ∷ rows) h =
     cells_by sizes row.0 (row_cell row) (first_fault 0 (row_fault sizes) rows) (filter_map row_cell rows) h (λ e. cells_within sizes rows e)
@@ -50,7 +51,7 @@ abbrev GivesWithin : Result Connection SourceFault → Type 0
 GivesWithin (Ok c) = AreWithin c
 GivesWithin (Err fault) = Unit {0}
 
-unless_within : (fault : Option SourceFault) (sizes : Sizes) (rows : List (ℕ × List ℕ)) → first_fault 0 (row_fault sizes) rows ≡ fault → GivesWithin (connection_unless fault sizes rows)
+unless_within : (fault : Option SourceFault) (sizes : MatrixSizes) (rows : List (ℕ × List ℕ)) → first_fault 0 (row_fault sizes) rows ≡ fault → GivesWithin (connection_unless fault sizes rows)
 unless_within None sizes rows e = cells_within sizes rows e
 unless_within (Some fault) sizes rows e = tt
 
@@ -58,7 +59,7 @@ large_within : (b : Bool) (line : ℕ) (read : Result Connection SourceFault) �
 large_within true line read h = h
 large_within false line read h = tt
 
-under_within : (line : ℕ) (sizes : Option Sizes) (rows : List (ℕ × List ℕ)) → GivesWithin (connection_under line sizes rows)
+under_within : (line : ℕ) (sizes : Option MatrixSizes) (rows : List (ℕ × List ℕ)) → GivesWithin (connection_under line sizes rows)
 under_within line None rows = tt
 under_within line (Some sizes) rows =
     large_within (nat_le (sizes.right * sizes.left) MATRIX_CELLS_MAX) line (connection_unless (first_fault 0 (row_fault sizes) rows) sizes rows)
@@ -80,7 +81,7 @@ all_reversed P (x ∷ xs) ys h k = all_reversed P xs (x ∷ ys) h.1 (h.0, k)
 abbrev is_cell : ℕ → ℕ → Cell → Bool
 is_cell right left cell = cell.right == right && cell.left == left
 
-none_by : (sizes : Sizes) (right left : ℕ) (cell : Cell) (b : Bool) (others : Option Cell) → is_cell right left cell ≡ b → IsWithinSizes sizes cell
+none_by : (sizes : MatrixSizes) (right left : ℕ) (cell : Cell) (b : Bool) (others : Option Cell) → is_cell right left cell ≡ b → IsWithinSizes sizes cell
     → is_pair sizes right left ≡ false → others ≡ None → cond b (Some cell) others ≡ None
 none_by sizes right left cell false others e within out rest = rest
 none_by sizes right left cell true others e within out rest =
@@ -90,7 +91,7 @@ none_by sizes right left cell true others e within out rest =
     let inside : is_pair sizes right left ≡ true = ap (λ n. is_pair sizes n left) (sym r) ∙ ap (λ n. is_pair sizes cell.right n) (sym l) ∙ within in
     absurd (let bad = sym out ∙ inside in cc)
 
-none_found : (sizes : Sizes) (right left : ℕ) (cells : List Cell) → AllByRecursion (IsWithinSizes sizes) cells → is_pair sizes right left ≡ false → find (is_cell right left) cells ≡ None
+none_found : (sizes : MatrixSizes) (right left : ℕ) (cells : List Cell) → AllByRecursion (IsWithinSizes sizes) cells → is_pair sizes right left ≡ false → find (is_cell right left) cells ≡ None
 none_found sizes right left [] h out = refl
 none_found sizes right left (cell ∷ cells) h out =
     none_by sizes right left cell (is_cell right left cell) (find (is_cell right left) cells) refl h.0 out (none_found sizes right left cells h.1 out)

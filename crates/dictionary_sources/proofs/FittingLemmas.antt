@@ -6,7 +6,8 @@ use Rattle.std.proofs.lemmas.Bool.{eqb-false, leb-true, ltb-true}
 use Rattle.mj_model.specs.declared.limits.TheConstants.{SURFACE_MAX}
 use Rattle.mj_model.specs.declared.source_fault.SourceFault.{SourceFault}
 use Rattle.mj_model.specs.declared.source_fault.SourceKind.TheVariants.{SurfaceTooLong, IdOutside}
-use Rattle.mj_model.specs.Connection.{Sizes, is_pair}
+use Rattle.mj_model.specs.declared.matrix_sizes.MatrixSizes.{MatrixSizes}
+use Rattle.mj_model.specs.Connection.{is_pair}
 use Rattle.mj_model.specs.Dictionary.{AreLexicons, first_outside, next_file}
 use Rattle.mj_model.specs.Lexicon.{Row, Parts, Skipped, Refused, Accepted, lexicon_outcome, accept_short, row_from, Reading, IsLexicon}
 use Rattle.mj_model.specs.Numbers.{context_id, cost}
@@ -64,7 +65,7 @@ pair_parts : (a b : Bool) → (a && b) ≡ true → (a ≡ true) × (b ≡ true)
 pair_parts true b h = (refl, h)
 pair_parts false b h = absurd (cc)
 
-pub ids_within : (sizes : Sizes) (row : Row) → is_pair sizes row.right row.left ≡ true → HasIdsWithin sizes row
+pub ids_within : (sizes : MatrixSizes) (row : Row) → is_pair sizes row.right row.left ≡ true → HasIdsWithin sizes row
 ids_within sizes row h =
     let p = pair_parts (nat_lt row.right sizes.right) (nat_lt row.left sizes.left) h in
     record { right_below = ltb-true row.right sizes.right p.0; left_below = ltb-true row.left sizes.left p.1 }
@@ -83,13 +84,13 @@ pub within_by : (b : Bool) (fault : SourceFault) (others : Option SourceFault) �
 within_by true fault others h = (refl, h)
 within_by false fault others h = absurd (cc)
 
-fitting_rows : (file : ℕ) (sizes : Sizes) (rows : List Row) → first_outside file sizes rows ≡ None → AllByRecursion HasSurface rows → AllByRecursion (IsLexiconRow sizes) rows
+fitting_rows : (file : ℕ) (sizes : MatrixSizes) (rows : List Row) → first_outside file sizes rows ≡ None → AllByRecursion HasSurface rows → AllByRecursion (IsLexiconRow sizes) rows
 fitting_rows file sizes [] e h = tt
 fitting_rows file sizes (row ∷ rows) e h =
     let p = within_by (is_pair sizes row.right row.left) (record { file = file; line = row.line; kind = IdOutside }) (first_outside file sizes rows) e in
     (record { ids = ids_within sizes row p.0; some = h.0.0; short = h.0.1 }, fitting_rows file sizes rows p.1 h.1)
 
-fitting_behind : (sizes : Sizes) (file : ℕ) (before : List Row) (bytes : List ℕ) (lines : Reading) → AreLexiconRows sizes before
+fitting_behind : (sizes : MatrixSizes) (file : ℕ) (before : List Row) (bytes : List ℕ) (lines : Reading) → AreLexiconRows sizes before
     → IsLexicon file (length before) bytes (Ok lines) → first_outside file sizes lines.rows ≡ None → AreLexiconRows sizes (before ++ lines.rows)
 fitting_behind sizes file before bytes lines f reads within =
     let r = rows_read lexicon_outcome HasSurface judged_fits file (length before) bytes lines reads in
@@ -97,7 +98,7 @@ fitting_behind sizes file before bytes lines f reads within =
     let total = length-append before lines.rows in
     record { each = all_append (IsLexiconRow sizes) before lines.rows f.each (fitting_rows file sizes lines.rows within r.each); few = omega (arith, few, total) }
 
-lexicons_fit_by : (sizes : Sizes) (file : ℕ) (before : List Row) (lexicons : List (List ℕ)) (read : Result (List Row) SourceFault) (rows : List Row) → read ≡ Ok rows
+lexicons_fit_by : (sizes : MatrixSizes) (file : ℕ) (before : List Row) (lexicons : List (List ℕ)) (read : Result (List Row) SourceFault) (rows : List Row) → read ≡ Ok rows
     → AreLexiconRows sizes before → AreLexicons sizes file before lexicons read → AreLexiconRows sizes rows
 lexicons_fit_by sizes file before [] read rows e f h = subst (AreLexiconRows sizes) (ap rows_or_none (sym h ∙ e)) f
 lexicons_fit_by sizes file before (bytes ∷ more) read rows e f (inl h) = absurd (let a = h.2 in cc)
@@ -106,5 +107,5 @@ lexicons_fit_by sizes file before (bytes ∷ more) read rows e f (inr (inr h)) =
     lexicons_fit_by sizes (next_file file) (before ++ h.0.rows) more read rows e (fitting_behind sizes file before bytes h.0 f h.1 h.2) h.3
 
 -- the rows of accepted lexicons fit
-pub lexicons_fit : (sizes : Sizes) (lexicons : List (List ℕ)) (rows : List Row) → AreLexicons sizes 3 [] lexicons (Ok rows) → AreLexiconRows sizes rows
+pub lexicons_fit : (sizes : MatrixSizes) (lexicons : List (List ℕ)) (rows : List Row) → AreLexicons sizes 3 [] lexicons (Ok rows) → AreLexiconRows sizes rows
 lexicons_fit sizes lexicons rows h = lexicons_fit_by sizes 3 [] lexicons (Ok rows) rows refl (record { each = tt; few = omega arith }) h

@@ -6,7 +6,7 @@ use Rattle.std.proofs.lemmas.List.{length-map}
 use Rattle.mj_model.specs.declared.entry.Record.{Record}
 use Rattle.mj_model.specs.declared.source_fault.SourceFault.{SourceFault}
 use Rattle.mj_model.specs.declared.source_fault.SourceKind.TheVariants.{IdOutside}
-use Rattle.mj_model.specs.Connection.{Sizes}
+use Rattle.mj_model.specs.declared.matrix_sizes.MatrixSizes.{MatrixSizes}
 use Rattle.mj_model.specs.Dictionary.{first_outside, next_file, AreLexicons}
 use Rattle.mj_model.specs.FirstFault.{IsRefusal}
 use Rattle.mj_model.specs.Lexicon.{Row, Reading, row_of, rows_of, IsLexicon}
@@ -24,14 +24,14 @@ outside_by : (right left : Bool) (fault others : Option SourceFault) → right �
 outside_by right left fault others r l = ap (λ b. cond (b && left) others fault) r ∙ ap (λ b. cond b others fault) l
 
 -- a row whose ids lie within the sizes is passed over
-pub first_outside-within : (file : ℕ) (sizes : Sizes) (row : Row) (rows : List Row) → row.right < sizes.right → row.left < sizes.left
+pub first_outside-within : (file : ℕ) (sizes : MatrixSizes) (row : Row) (rows : List Row) → row.right < sizes.right → row.left < sizes.left
     → first_outside file sizes (row ∷ rows) ≡ first_outside file sizes rows
 first_outside-within file sizes row rows right left =
     outside_by (nat_lt row.right sizes.right) (nat_lt row.left sizes.left) (Some (record { file = file; line = row.line; kind = IdOutside })) (first_outside file sizes rows)
     (lt-ltb row.right sizes.right right) (lt-ltb row.left sizes.left left)
 
 -- the records so far were passed over, and one more is
-pub outside_more : (sizes : Sizes) (records : List Record) (i : ℕ) (r : Record) → i < length records → r ≡ get_or records i r → r.entry.right < sizes.right → r.entry.left < sizes.left
+pub outside_more : (sizes : MatrixSizes) (records : List Record) (i : ℕ) (r : Record) → i < length records → r ≡ get_or records i r → r.entry.right < sizes.right → r.entry.left < sizes.left
     → ((file : ℕ) → first_outside file sizes (rows_of records) ≡ first_outside file sizes (rows_of (drop i records)))
     → (file : ℕ) → first_outside file sizes (rows_of records) ≡ first_outside file sizes (rows_of (drop (i + 1) records))
 outside_more sizes records i r low is right left before file =
@@ -65,7 +65,7 @@ left_parts : (lexicons : List (Bor (List ℕ))) (i : ℕ) (d : Bor (List ℕ)) �
 left_parts lexicons i d low =
     ap (map (λ (lexicon : Bor (List ℕ)). lexicon.now)) (drop-cons lexicons i d low ∙ ap (λ n. get_or lexicons i d ∷ drop n lexicons) {x = suc i} {y = i + 1} (omega arith))
 
-module _ (sizes : Sizes) (file : ℕ) (lexicons : List (Bor (List ℕ))) (i : ℕ) (d : Bor (List ℕ)) (low : i < length lexicons) (old : List Record)
+module _ (sizes : MatrixSizes) (file : ℕ) (lexicons : List (Bor (List ℕ))) (i : ℕ) (d : Bor (List ℕ)) (low : i < length lexicons) (old : List Record)
     (so_far : (read : Result (List Row) SourceFault) → AreLexicons sizes file (rows_of old) (bytes_left lexicons i) read
     → AreLexicons sizes 3 [] (map (λ (lexicon : Bor (List ℕ)). lexicon.now) lexicons) read) where
   first_apart : (read : Result (List Row) SourceFault) → AreLexicons sizes file (rows_of old) ((get_or lexicons i d).now ∷ bytes_left lexicons (i + 1)) read
@@ -95,7 +95,7 @@ module _ (sizes : Sizes) (file : ℕ) (lexicons : List (Bor (List ℕ))) (i : �
       inr (first_apart (Err fault) (inr (inl (ids.0, fault, held_is (get_or lexicons i d).now (Ok ids.0) ids.1, ids.2, refl))))
 
 -- no lexicon is left
-pub lexicons_end : (sizes : Sizes) (file : ℕ) (lexicons : List (Bor (List ℕ))) (i : ℕ) (old : List Record) → length lexicons ≤ i
+pub lexicons_end : (sizes : MatrixSizes) (file : ℕ) (lexicons : List (Bor (List ℕ))) (i : ℕ) (old : List Record) → length lexicons ≤ i
     → ((read : Result (List Row) SourceFault) → AreLexicons sizes file (rows_of old) (bytes_left lexicons i) read
     → AreLexicons sizes 3 [] (map (λ (lexicon : Bor (List ℕ)). lexicon.now) lexicons) read)
     → AreLexicons sizes 3 [] (map (λ (lexicon : Bor (List ℕ)). lexicon.now) lexicons) (Ok (rows_of old))
@@ -103,7 +103,7 @@ lexicons_end sizes file lexicons i old all so_far =
     so_far (Ok (rows_of old)) (subst (λ ls. AreLexicons sizes file (rows_of old) (map (λ (lexicon : Bor (List ℕ)). lexicon.now) ls) (Ok (rows_of old))) (sym (drop_of_length-le lexicons all)) refl)
 
 -- a lexicon that was added is one more that skips lines
-pub added_skips : (sizes : Sizes) (file : ℕ) (lexicons : List (Bor (List ℕ))) (i : ℕ) (d : Bor (List ℕ)) → i < length lexicons → (old new : List Record) (skipped n : ℕ)
+pub added_skips : (sizes : MatrixSizes) (file : ℕ) (lexicons : List (Bor (List ℕ))) (i : ℕ) (d : Bor (List ℕ)) → i < length lexicons → (old new : List Record) (skipped n : ℕ)
     → SkipLines (bytes_before lexicons i) skipped → AddsLexicon file sizes (get_or lexicons i d).now old new n → SkipLines (bytes_before lexicons (i + 1)) (skipped + n)
 added_skips sizes file lexicons i d low old new skipped n h a =
     skips_more lexicons i d skipped n low h (subst (SkipsLines (get_or lexicons i d).now) a.skips (skips_of file (length old) (get_or lexicons i d).now a.lines a.reads))

@@ -4,7 +4,8 @@ use Rattle.std.specs.Prelude.{Result, Ok, Err}
 use Rattle.mj_model.specs.declared.source_fault.SourceFault.{SourceFault}
 use Rattle.mj_model.specs.declared.sources.Sources.{Sources}
 use Rattle.mj_model.specs.CharDef.{CharSource, NamedCategory, char_source}
-use Rattle.mj_model.specs.Connection.{Sizes, Connection, connection_of}
+use Rattle.mj_model.specs.declared.matrix_sizes.MatrixSizes.{MatrixSizes}
+use Rattle.mj_model.specs.Connection.{Connection, connection_of}
 use Rattle.mj_model.specs.Dictionary.{AreLexicons}
 use Rattle.mj_model.specs.FirstFault.{IsRefusal}
 use Rattle.mj_model.specs.Lexicon.{Row}
@@ -15,7 +16,7 @@ use Rattle.matrix_def.specs.Costs.{CostTable, IsTableOf as IsCostTableOf}
 use Rattle.char_def.specs.Categories.{CharCategories, IsTableOf}
 use Rattle.dictionary_sources.proofs.ConnectionLemmas.{sizes_are}
 
-module _ (s : Sources) (m : CostTable) (sizes : Sizes) (is_sizes : sizes ≡ sizes_of m)
+module _ (s : Sources) (m : CostTable) (sizes : MatrixSizes) (is_sizes : sizes ≡ sizes_of m)
     (table : (c : Connection) × (connection_of s.matrix.now ≡ Ok c) × IsCostTableOf c m) where
   same_sizes : sizes ≡ table.0.sizes
   same_sizes = is_sizes ∙ sizes_are table.0 m table.2

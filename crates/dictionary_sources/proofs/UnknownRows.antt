@@ -7,7 +7,8 @@ use Rattle.std.proofs.lemmas.List.Sums.{sum_by-cons}
 use Rattle.mj_model.specs.declared.source_fault.SourceFault.{SourceFault}
 use Rattle.mj_model.specs.declared.source_fault.SourceKind.TheVariants.{MissingCategory, IdOutside}
 use Rattle.mj_model.specs.CharDef.{NamedCategory, category_number}
-use Rattle.mj_model.specs.Connection.{Sizes, is_pair}
+use Rattle.mj_model.specs.declared.matrix_sizes.MatrixSizes.{MatrixSizes}
+use Rattle.mj_model.specs.Connection.{is_pair}
 use Rattle.mj_model.specs.Dictionary.{first_outside}
 use Rattle.mj_model.specs.Lexicon.{Row}
 use Rattle.mj_model.specs.UnkDef.{rows_by_category, first_without_rows, IsUnkWithin}
@@ -45,7 +46,7 @@ filled_if unknown rows false e h = filled rows (ltb-false (first_without_rows ro
 
 -- ---- ids within the sizes
 
-fitting : (sizes : Sizes) (rows : List Row) → first_outside 2 sizes rows ≡ None → AllByRecursion (HasIdsWithin sizes) rows
+fitting : (sizes : MatrixSizes) (rows : List Row) → first_outside 2 sizes rows ≡ None → AllByRecursion (HasIdsWithin sizes) rows
 fitting sizes [] e = tt
 fitting sizes (row ∷ rows) e =
     let p = within_by (is_pair sizes row.right row.left) (record { file = 2; line = row.line; kind = IdOutside }) (first_outside 2 sizes rows) e in
@@ -111,7 +112,7 @@ total_few number categories (row ∷ rows) =
 
 -- ---- the file
 
-pub unknown_fits : (sizes : Sizes) (categories : List NamedCategory) (bytes : List ℕ) (unknown : List (List Row)) → IsUnkWithin sizes categories bytes (Ok unknown) → AreUnknownRows sizes categories unknown
+pub unknown_fits : (sizes : MatrixSizes) (categories : List NamedCategory) (bytes : List ℕ) (unknown : List (List Row)) → IsUnkWithin sizes categories bytes (Ok unknown) → AreUnknownRows sizes categories unknown
 unfolding rows_from
 unknown_fits sizes categories bytes unknown h =
     let r = read_within sizes categories bytes unknown h in

@@ -2,7 +2,7 @@
 use Rattle.std.specs.Prelude.{◌≡◌, ℕ, suc, ◌^◌, ◌<◌, List, [], ◌∷◌, ◌++◌, length, flat_map, slice_index_or}
 use Rattle.std.specs.List.{AllByRecursion}
 use Rattle.byteorder.specs.Endian.{little_bytes}
-use Rattle.mj_model.specs.Connection.{Sizes}
+use Rattle.mj_model.specs.declared.matrix_sizes.MatrixSizes.{MatrixSizes}
 use Rattle.mj_model.specs.ImageBytes.{header_of, image_magic, section, total_length}
 use Rattle.mj_model.specs.ImageFaults.{HasDigest}
 use Rattle.image_frame.specs.declared.header.Numbers.{Numbers as Given}
@@ -10,7 +10,7 @@ use Rattle.image_frame.specs.declared.header.Numbers.{Numbers as Given}
 -- what a header says besides the layout and the lengths
 pub record Numbers : Type 0 where
   pub kind : ℕ
-  pub sizes : Sizes
+  pub sizes : MatrixSizes
   pub categories : ℕ
   pub groups : ℕ
   pub tokens : ℕ

@@ -2,7 +2,7 @@
 use Rattle.std.proofs.Common.{◌≡◌, ℕ, ◌+◌, ◌*◌, ◌<◌, ◌≤◌, List, [], ◌∷◌, length, ap, ◌∙◌, arith}
 use Rattle.std.specs.Prelude.{sum_by}
 use Rattle.mj_model.specs.declared.limits.TheConstants.{ENTRIES_MAX}
-use Rattle.mj_model.specs.Connection.{Sizes}
+use Rattle.mj_model.specs.declared.matrix_sizes.MatrixSizes.{MatrixSizes}
 use Rattle.mj_model.specs.ImageBytes.{header_of, kind_of}
 use Rattle.mj_model.specs.ImageFaults.{AreCounts, IsHeader, IsWellFormed, PassAll, SystemAlone}
 use Rattle.mj_model.specs.ImageSections.{AreCategories, AreCosts, AreRanges, FitsSizes, HasFeature, IsIndex, stored_token}
@@ -22,7 +22,7 @@ sections_with costs categories ranges index bytes =
     costs ∷ categories ∷ ranges ∷ index ∷ bytes.keys.items ∷ bytes.groups.items ∷ bytes.tokens.items ∷ bytes.features.items ∷ []
 
 -- the numbers of an image with these entries
-abbrev pub numbers_with : ℕ → Sizes → ℕ → List Row → List (List Row) → LexiconBytes → Numbers
+abbrev pub numbers_with : ℕ → MatrixSizes → ℕ → List Row → List (List Row) → LexiconBytes → Numbers
 numbers_with kind sizes categories rows unknown bytes = record {
   kind = kind;
   sizes = sizes;
@@ -32,7 +32,7 @@ numbers_with kind sizes categories rows unknown bytes = record {
   unknown = sum_by length unknown;
 }
 
-module _ (number : ℕ) (sizes : Sizes) (count : ℕ) (rows : List Row) (unknown : List (List Row)) (costs categories ranges index : List ℕ) (bytes : LexiconBytes) where
+module _ (number : ℕ) (sizes : MatrixSizes) (count : ℕ) (rows : List Row) (unknown : List (List Row)) (costs categories ranges index : List ℕ) (bytes : LexiconBytes) where
   abbrev pub numbers : Numbers
   numbers = numbers_with number sizes count rows unknown bytes
 

@@ -6,7 +6,7 @@ use Rattle.std.proofs.lemmas.List.Elements.{All-from_get_or, recursion_from_All}
 use Rattle.std.proofs.lemmas.List.Sums.{sum_by-cons}
 use Rattle.mj_model.specs.declared.category.CharInfo.{CharInfo}
 use Rattle.mj_model.specs.CharDef.{CharSource, char_info, char_source, code_point_max}
-use Rattle.mj_model.specs.Connection.{Sizes}
+use Rattle.mj_model.specs.declared.matrix_sizes.MatrixSizes.{MatrixSizes}
 use Rattle.mj_model.specs.ImageSections.{IsInfoOf, IsStorable}
 use Rattle.mj_model.specs.Lexicon.{Row}
 use Rattle.char_def.specs.Categories.{CharCategories, IsTableOf, table_info}
@@ -22,22 +22,22 @@ each_has P xs d each = recursion_from_All P xs (All-from_get_or P xs d each)
 
 -- ---- unknown entries
 
-within_both : (sizes : Sizes) (rows more : List Row) → AreWithin sizes rows → AreWithin sizes more → AreWithin sizes (rows ++ more)
+within_both : (sizes : MatrixSizes) (rows more : List Row) → AreWithin sizes rows → AreWithin sizes more → AreWithin sizes (rows ++ more)
 within_both sizes [] more ids others = others
 within_both sizes (row ∷ rows) more ids others = (ids.0, within_both sizes rows more ids.1 others)
 
-within_each : (sizes : Sizes) (unknown : List (List Row)) → AllByRecursion (AreAFew sizes) unknown → AreWithin sizes (joined unknown)
+within_each : (sizes : MatrixSizes) (unknown : List (List Row)) → AllByRecursion (AreAFew sizes) unknown → AreWithin sizes (joined unknown)
 within_each sizes [] each = tt
 within_each sizes (rows ∷ unknown) each = within_both sizes rows (joined unknown) each.0.ids (within_each sizes unknown each.1)
 
-pub all_within : (sizes : Sizes) (rows : List Row) (unknown : List (List Row)) → AreWithin sizes rows → AllByRecursion (AreAFew sizes) unknown → AreWithin sizes (all_rows rows unknown)
+pub all_within : (sizes : MatrixSizes) (rows : List Row) (unknown : List (List Row)) → AreWithin sizes rows → AllByRecursion (AreAFew sizes) unknown → AreWithin sizes (all_rows rows unknown)
 all_within sizes rows unknown ids each = within_both sizes rows (joined unknown) ids (within_each sizes unknown each)
 
-pub some_each : (sizes : Sizes) (unknown : List (List Row)) → AllByRecursion (AreAFew sizes) unknown → AllByRecursion (λ rows. 0 < length rows) unknown
+pub some_each : (sizes : MatrixSizes) (unknown : List (List Row)) → AllByRecursion (AreAFew sizes) unknown → AllByRecursion (λ rows. 0 < length rows) unknown
 some_each sizes [] each = tt
 some_each sizes (rows ∷ unknown) each = (each.0.some, some_each sizes unknown each.1)
 
-pub few_in_all : (sizes : Sizes) (unknown : List (List Row)) → AllByRecursion (AreAFew sizes) unknown → sum_by length unknown ≤ 8 * length unknown
+pub few_in_all : (sizes : MatrixSizes) (unknown : List (List Row)) → AllByRecursion (AreAFew sizes) unknown → sum_by length unknown ≤ 8 * length unknown
 few_in_all sizes [] each = omega (arith)
 few_in_all sizes (rows ∷ unknown) each =
     let sum = sum_by-cons length rows unknown in

@@ -2,7 +2,7 @@
 use Rattle.std.proofs.Common.{◌≡◌, ℕ, ◌<◌, ◌≤◌, List, [], length, append-nil, refl, sym, subst, arith}
 use Rattle.mj_model.specs.declared.limits.TheConstants.{ENTRIES_MAX}
 use Rattle.mj_model.specs.Compilation.{feature_bytes, feature_bytes_end}
-use Rattle.mj_model.specs.Connection.{Sizes}
+use Rattle.mj_model.specs.declared.matrix_sizes.MatrixSizes.{MatrixSizes}
 use Rattle.mj_model.specs.ImageBytes.{kind_of}
 use Rattle.mj_model.specs.ImageMeaning.{lexicon_in}
 use Rattle.mj_model.specs.Lexicon.{Row}
@@ -16,7 +16,7 @@ use Rattle.image_writer.specs.UserImages.{IsUserImage}
 use Rattle.image_writer.proofs.FormedLemmas.{at, from_parts}
 use Rattle.image_writer.proofs.PartLemmas.{AreParts, numbers_with, sections_with, well_formed}
 
-module _ (sizes : Sizes) (rows : List Row) (bytes : LexiconBytes) where
+module _ (sizes : MatrixSizes) (rows : List Row) (bytes : LexiconBytes) where
   -- what the parts say of a user dictionary
   pub record AreUserParts : Type 0 where
     pub sizes_fit : AreHeaderSizes sizes

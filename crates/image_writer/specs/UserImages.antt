@@ -1,7 +1,7 @@
 -- The image of a user dictionary.
 use Rattle.std.specs.Prelude.{◌≡◌, ℕ, ◌<◌, List}
 use Rattle.mj_model.specs.Compilation.{feature_bytes, feature_bytes_end}
-use Rattle.mj_model.specs.Connection.{Sizes}
+use Rattle.mj_model.specs.declared.matrix_sizes.MatrixSizes.{MatrixSizes}
 use Rattle.mj_model.specs.ImageBytes.{header_of}
 use Rattle.mj_model.specs.ImageFaults.{IsWellFormed}
 use Rattle.mj_model.specs.ImageMeaning.{image_lexicon, image_tables}
@@ -10,7 +10,7 @@ use Rattle.mj_model.specs.Tables.{User}
 use Rattle.image_lexicon.specs.Entries.{lexemes_of, tokens_of}
 
 -- a well-formed image of layout 3 of a user dictionary with these sizes and these entries
-pub record IsUserImage (sizes : Sizes) (rows : List Row) (image : List ℕ) : Type 0 where
+pub record IsUserImage (sizes : MatrixSizes) (rows : List Row) (image : List ℕ) : Type 0 where
   pub well_formed : IsWellFormed image
   pub layout : (header_of image).layout ≡ 3
   pub kind : (image_tables image).kind ≡ User

@@ -11,7 +11,8 @@ use Rattle.mj_model.specs.declared.source_fault.SourceFault.{SourceFault}
 use Rattle.mj_model.specs.declared.source_fault.SourceKind.{SourceKind}
 use Rattle.mj_model.specs.declared.source_fault.SourceKind.TheVariants.{PairOutside}
 use Rattle.mj_model.specs.FirstFault.{fault_or, first_fault}
-use Rattle.mj_model.specs.Connection.{Sizes, Cell, cell_from, words_of, cell_fault, row_fault, connection_cost}
+use Rattle.mj_model.specs.declared.matrix_sizes.MatrixSizes.{MatrixSizes}
+use Rattle.mj_model.specs.Connection.{Cell, cell_from, words_of, cell_fault, row_fault, connection_cost}
 use Rattle.matrix_def.specs.Costs.{CostTable, IsPair, IsMatrix, IsTableOf, cell_at, matrix_cost}
 use Rattle.matrix_def.specs.Rows.{cells_of, IsRow, HoldsUpTo}
 
@@ -27,12 +28,12 @@ fault-append file test (x ∷ xs) ys none =
     let p = no_fault file x.0 (test x.1) (first_fault file test xs) none in
     ap (λ (here : Option SourceKind). fault_or file x.0 here (first_fault file test (xs ++ ys))) p.0 ∙ fault-append file test xs ys p.1
 
-row_good : (sizes : Sizes) (line : List ℕ) (cell : Cell) → IsRow sizes line cell → row_fault sizes line ≡ None
+row_good : (sizes : MatrixSizes) (line : List ℕ) (cell : Cell) → IsRow sizes line cell → row_fault sizes line ≡ None
 row_good sizes line cell r = ap (cell_fault sizes) r.listed ∙ ap (λ (b : Bool). cond b None (Some PairOutside)) r.within
 
 -- ---- costs
 
-cost_more : (sizes : Sizes) (cells : List Cell) (x : Cell) (right left : ℕ) →
+cost_more : (sizes : MatrixSizes) (cells : List Cell) (x : Cell) (right left : ℕ) →
     connection_cost (record { sizes = sizes; cells = cells ++ x ∷ [] }) right left
     ≡ cond (x.right == right && x.left == left) x.cost (connection_cost (record { sizes = sizes; cells = cells }) right left)
 cost_more sizes cells x right left =
@@ -64,7 +65,7 @@ apart m a b right left p q differ same =
 as_pair : (m : CostTable) (costs : List ℤ) (right left : ℕ) → IsPair (record m { costs = costs }) right left → IsPair m right left
 as_pair m costs right left p = record { right_below = p.right_below; left_below = p.left_below }
 
-costs_more : (sizes : Sizes) (cells : List Cell) (m : CostTable) (x : Cell) → IsMatrix m → IsPair m x.right x.left → IsTableOf (record { sizes = sizes; cells = cells }) m
+costs_more : (sizes : MatrixSizes) (cells : List Cell) (m : CostTable) (x : Cell) → IsMatrix m → IsPair m x.right x.left → IsTableOf (record { sizes = sizes; cells = cells }) m
     → (right left : ℕ) → IsPair m right left
     → get_or (set m.costs (cell_at m x.right x.left) x.cost) (cell_at m right left) (pos 0) ≡ connection_cost (record { sizes = sizes; cells = cells ++ x ∷ [] }) right left
 costs_more sizes cells m x formed p holds right left q =
@@ -94,7 +95,7 @@ cells-append rows line cell listed =
     filter_map-append (λ row. cell_from (words_of row.1)) rows (line ∷ []) ∙ ap (λ (found : Option Cell). cells_of rows ++ cons_option found []) listed
 
 -- a row's ids lie within the table
-pub row_pair : (sizes : Sizes) (all left : List (ℕ × List ℕ)) (m : CostTable) (line : List ℕ) (cell : Cell) → HoldsUpTo sizes all left m → IsRow sizes line cell → IsPair m cell.right cell.left
+pub row_pair : (sizes : MatrixSizes) (all left : List (ℕ × List ℕ)) (m : CostTable) (line : List ℕ) (cell : Cell) → HoldsUpTo sizes all left m → IsRow sizes line cell → IsPair m cell.right cell.left
 row_pair sizes all left m line cell h r =
     let p = and_parts (ltb cell.right sizes.right) (ltb cell.left sizes.left) r.within in
     let right_size : m.right_size ≡ sizes.right = h.holds.right_size in
@@ -103,7 +104,7 @@ row_pair sizes all left m line cell h r =
     let left_low : cell.left < sizes.left = ltb-true cell.left sizes.left p.1 in
     record { right_below = omega arith; left_below = omega arith }
 
-pub row_held : (sizes : Sizes) (all left lines : List (ℕ × List ℕ)) (m new : CostTable) (number : ℕ) (line : List ℕ) (cell : Cell) → HoldsUpTo sizes all lines m → lines ≡ (number, line) ∷ left → IsRow sizes line cell
+pub row_held : (sizes : MatrixSizes) (all left lines : List (ℕ × List ℕ)) (m new : CostTable) (number : ℕ) (line : List ℕ) (cell : Cell) → HoldsUpTo sizes all lines m → lines ≡ (number, line) ∷ left → IsRow sizes line cell
     → new ≡ record m { costs = set m.costs (cell_at m cell.right cell.left) cell.cost } → IsMatrix new → HoldsUpTo sizes all left new
 row_held sizes all left lines m new number line cell h is r set_is formed =
     let here : ℕ × List ℕ = (number, line) in
@@ -123,7 +124,7 @@ row_held sizes all left lines m new number line cell h is r set_is formed =
       holds = subst (λ (t : CostTable). IsTableOf (record { sizes = sizes; cells = cells_of (h.rows ++ here ∷ []) }) t) (sym set_is) held;
     }
 
-pub row_bad : (sizes : Sizes) (all left lines : List (ℕ × List ℕ)) (m : CostTable) (number : ℕ) (line : List ℕ) (kind : SourceKind) (fault : SourceFault) → HoldsUpTo sizes all lines m → lines ≡ (number, line) ∷ left
+pub row_bad : (sizes : MatrixSizes) (all left lines : List (ℕ × List ℕ)) (m : CostTable) (number : ℕ) (line : List ℕ) (kind : SourceKind) (fault : SourceFault) → HoldsUpTo sizes all lines m → lines ≡ (number, line) ∷ left
     → row_fault sizes line ≡ Some kind → fault ≡ record { file = 0; line = number; kind = kind } → first_fault 0 (row_fault sizes) all ≡ Some fault
 row_bad sizes all left lines m number line kind fault h is bad fault_is =
     ap (first_fault 0 (row_fault sizes)) (h.parts ∙ ap (λ (xs : List (ℕ × List ℕ)). h.rows ++ xs) is)

@@ -1,9 +1,10 @@
 -- What a table of connection costs says. A pair outside the sizes costs 0.
 use Rattle.std.specs.Prelude.{ℕ, ℤ, pos, if◌then◌else◌}
-use Rattle.mj_model.specs.Connection.{Sizes, is_pair}
+use Rattle.mj_model.specs.declared.matrix_sizes.MatrixSizes.{MatrixSizes}
+use Rattle.mj_model.specs.Connection.{is_pair}
 use Rattle.matrix_def.specs.Costs.{CostTable, matrix_cost}
 
-abbrev pub sizes_of : CostTable → Sizes
+abbrev pub sizes_of : CostTable → MatrixSizes
 sizes_of m = record { right = m.right_size; left = m.left_size }
 
 abbrev pub cost_of : CostTable → ℕ → ℕ → ℤ

@@ -1,12 +1,13 @@
 -- The rows of `matrix.def`.
 use Rattle.std.specs.Prelude.{◌≡◌, ℕ, IsTrue, List, ◌++◌, filter_map, Some, None}
-use Rattle.mj_model.specs.Connection.{Sizes, Cell, cell_from, words_of, row_fault, is_pair}
+use Rattle.mj_model.specs.declared.matrix_sizes.MatrixSizes.{MatrixSizes}
+use Rattle.mj_model.specs.Connection.{Cell, cell_from, words_of, row_fault, is_pair}
 use Rattle.mj_model.specs.FirstFault.{first_fault}
-use Rattle.matrix_def.specs.declared.rows.MatrixSizes.{MatrixSizes}
+use Rattle.matrix_def.specs.declared.rows.MatrixSizes.{MatrixSizes as HeaderSizes}
 use Rattle.matrix_def.specs.declared.rows.MatrixCell.{MatrixCell}
 use Rattle.matrix_def.specs.Costs.{CostTable, IsMatrix, IsTableOf}
 
-abbrev pub sizes_of : MatrixSizes → Sizes
+abbrev pub sizes_of : HeaderSizes → MatrixSizes
 sizes_of sizes = record { right = sizes.right; left = sizes.left }
 
 abbrev pub cell_of : MatrixCell → Cell
@@ -17,12 +18,12 @@ abbrev pub cells_of : List (ℕ × List ℕ) → List Cell
 cells_of rows = filter_map (λ row. cell_from (words_of row.1)) rows
 
 -- a row lists this cell, within the sizes
-pub record IsRow (sizes : Sizes) (line : List ℕ) (cell : Cell) : Type 0 where
+pub record IsRow (sizes : MatrixSizes) (line : List ℕ) (cell : Cell) : Type 0 where
   pub listed : cell_from (words_of line) ≡ Some cell
   pub within : IsTrue (is_pair sizes cell.right cell.left)
 
 -- the table holds what the rows before `left` list, and none of them is at fault
-pub record HoldsUpTo (sizes : Sizes) (all left : List (ℕ × List ℕ)) (m : CostTable) : Type 0 where
+pub record HoldsUpTo (sizes : MatrixSizes) (all left : List (ℕ × List ℕ)) (m : CostTable) : Type 0 where
   pub rows : List (ℕ × List ℕ)
   pub parts : all ≡ rows ++ left
   pub none : first_fault 0 (row_fault sizes) rows ≡ None

@@ -8,6 +8,7 @@ use Rattle.std.specs.Str.{is_utf8}
 use Rattle.mj_model.specs.declared.category.Category.{Category}
 use Rattle.mj_model.specs.declared.category.CharInfo.{CharInfo}
 use Rattle.mj_model.specs.declared.limits.TheConstants.{CATEGORIES_MAX}
+use Rattle.mj_model.specs.declared.source_fault.TheConstants.{CHAR_FILE}
 use Rattle.mj_model.specs.declared.source_fault.SourceFault.{SourceFault}
 use Rattle.mj_model.specs.declared.source_fault.SourceKind.{SourceKind}
 use Rattle.mj_model.specs.declared.source_fault.SourceKind.TheVariants.{BadLine, BadRange, Twice, TooManyCategories, UndefinedCategory, NoDefault, NoSpace}
@@ -189,11 +190,11 @@ mapping_fault categories (Defines category) = None
 mapping_fault categories (Maps mapping) = if list_all (is_defined categories) (mapping.first ∷ mapping.others) then None else Some UndefinedCategory
 mapping_fault categories (Bad kind) = None
 
--- the first bad one of the numbered lines, where these categories are defined before them; `char.def` is file 1
+-- the first bad one of the numbered lines, where these categories are defined before them
 abbrev pub first_bad_line : List NamedCategory → List (ℕ × List ℕ) → Option SourceFault
 first_bad_line before [] = None
 first_bad_line before (line ∷ lines) =
-    fault_or 1 line.0 (line_fault before (char_line line.1)) (first_bad_line (before ++ defined_by (char_line line.1)) lines)
+    fault_or CHAR_FILE line.0 (line_fault before (char_line line.1)) (first_bad_line (before ++ defined_by (char_line line.1)) lines)
 
 -- the categories that every `char.def` defines
 abbrev pub default_name : List ℕ
@@ -204,7 +205,7 @@ space_name = codes "SPACE"
 
 -- a category that is not defined is a fault of the file as a whole
 abbrev pub unless_defined : List NamedCategory → List ℕ → SourceKind → Option SourceFault
-unless_defined categories name kind = if is_defined categories name then None else Some (record { file = 1; line = 0; kind = kind })
+unless_defined categories name kind = if is_defined categories name then None else Some (record { file = CHAR_FILE; line = 0; kind = kind })
 
 -- what the lines say, whether it is refused or not
 abbrev pub source_from : List (ℕ × List ℕ) → CharSource
@@ -218,7 +219,7 @@ abbrev pub whole_fault : List NamedCategory → List (ℕ × List ℕ) → Optio
 whole_fault categories lines =
     option_or (unless_defined categories default_name NoDefault)
     (option_or (unless_defined categories space_name NoSpace)
-    (first_fault 1 (λ line. mapping_fault categories (char_line line)) lines))
+    (first_fault CHAR_FILE (λ line. mapping_fault categories (char_line line)) lines))
 
 abbrev pub source_unless : Option SourceFault → CharSource → Result CharSource SourceFault
 source_unless (Some fault) source = Err fault

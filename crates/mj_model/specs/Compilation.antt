@@ -1,12 +1,13 @@
 -- What a compilation answers: an image that means the tables of its sources, with the counts of their lines, or the sources' first fault.
 use Rattle.std.specs.Prelude.{◌≡◌, ℕ, ◌+◌, ◌<◌, ◌≤◌, ◌^◌, ◌⊎◌, not, List, [], ◌∷◌, ◌++◌, length, map, filter, flat_map, sum, sum_by, count_by, bytes_eq, Ok, Err}
 use Rattle.std.specs.List.{range_with_len, AllZip}
+use Rattle.mj_model.specs.declared.source_fault.TheConstants.{FIRST_LEXICON_FILE, NO_FILE}
 use Rattle.mj_model.specs.declared.source_fault.SourceFault.{SourceFault}
 use Rattle.mj_model.specs.declared.source_fault.SourceKind.{SourceKind}
 use Rattle.mj_model.specs.declared.source_fault.SourceKind.TheVariants.{ArrayFull, FeaturesTooLarge}
 use Rattle.mj_model.specs.declared.sources.Sources.{Sources}
 use Rattle.mj_model.specs.CharDef.{CharSource}
-use Rattle.mj_model.specs.Connection.{Sizes}
+use Rattle.mj_model.specs.declared.matrix_sizes.MatrixSizes.{MatrixSizes}
 use Rattle.mj_model.specs.Dictionary.{AreLexicons, IsLexiconOf}
 use Rattle.mj_model.specs.ImageBytes.{header_of}
 use Rattle.mj_model.specs.ImageFaults.{IsWellFormed}
@@ -69,7 +70,7 @@ pub record IsCompiled (tokens : List Token) (lexicons : List (List ℕ)) (image 
 
 -- a fault of no file
 abbrev pub fault_of_image : SourceKind → SourceFault
-fault_of_image kind = record { file = 4294967295; line = 0; kind = kind }
+fault_of_image kind = record { file = NO_FILE; line = 0; kind = kind }
 
 -- the features are too many
 abbrev pub IsFeaturesFault : List Token → SourceFault → Type 0
@@ -103,12 +104,12 @@ IsCompilationCause s fault =
 
 -- ---- a user dictionary, for the sizes of a system's
 
--- the lexicons are accepted, and say what a user dictionary's tables say; their first one is file 3
-pub record HaveUserTables (sizes : Sizes) (lexicons : List (List ℕ)) (t : Tables) : Type 0 where
+-- the lexicons are accepted, and say what a user dictionary's tables say
+pub record HaveUserTables (sizes : MatrixSizes) (lexicons : List (List ℕ)) (t : Tables) : Type 0 where
   pub kind : t.kind ≡ User
   pub sizes_kept : t.sizes ≡ sizes
   pub rows : List Row
-  pub are_rows : AreLexicons sizes 3 [] lexicons (Ok rows)
+  pub are_rows : AreLexicons sizes FIRST_LEXICON_FILE [] lexicons (Ok rows)
   pub is_lexicon : IsLexiconOf rows t.lexicon
 
 -- a user image of the lexicons, made for a system dictionary, with its counts
@@ -121,7 +122,7 @@ pub record IsUserCompilation (system : Tables) (lexicons : List (List ℕ)) (ima
 abbrev pub IsUserFault : Tables → List (List ℕ) → SourceFault → Type 0
 IsUserFault system lexicons fault =
     (system.kind ≡ System)
-    × (AreLexicons system.sizes 3 [] lexicons (Err fault)
+    × (AreLexicons system.sizes FIRST_LEXICON_FILE [] lexicons (Err fault)
     ⊎ ((t : Tables) × HaveUserTables system.sizes lexicons t × IsFeaturesFault (lexicon_tokens t.lexicon) fault))
 
 -- why the lexicons may be refused, want of memory aside

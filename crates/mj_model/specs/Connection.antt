@@ -4,6 +4,8 @@ use Rattle.std.specs.Prelude.{ℕ, ◌*◌, ℤ, pos, Bool, not, ◌==◌, ◌&&
 use Rattle.std.specs.List.{slice_split}
 use Rattle.std.specs.Option.{option_map_or}
 use Rattle.mj_model.specs.declared.limits.TheConstants.{MATRIX_CELLS_MAX}
+use Rattle.mj_model.specs.declared.matrix_sizes.MatrixSizes.{MatrixSizes}
+use Rattle.mj_model.specs.declared.source_fault.TheConstants.{MATRIX_FILE}
 use Rattle.mj_model.specs.declared.source_fault.SourceFault.{SourceFault}
 use Rattle.mj_model.specs.declared.source_fault.SourceKind.{SourceKind}
 use Rattle.mj_model.specs.declared.source_fault.SourceKind.TheVariants.{BadHeader, BadRow, PairOutside, TooLarge}
@@ -16,11 +18,6 @@ use Rattle.mj_model.specs.FirstFault.{first_fault}
 abbrev pub words_of : List ℕ → List (List ℕ)
 words_of line = filter (λ word. nat_lt 0 (length word)) (slice_split is_blank line)
 
--- how many right ids of the word before there are, and how many left ids of the word behind it
-pub record Sizes : Type 0 where
-  pub right : ℕ
-  pub left : ℕ
-
 pub record Cell : Type 0 where
   pub right : ℕ
   pub left : ℕ
@@ -28,7 +25,7 @@ pub record Cell : Type 0 where
 
 -- the sizes, and the rows in their order
 pub record Connection : Type 0 where
-  pub sizes : Sizes
+  pub sizes : MatrixSizes
   pub cells : List Cell
 
 -- a size: a number from 1 to 65,535
@@ -36,7 +33,7 @@ abbrev pub size : List ℕ → Option ℕ
 size word = option_and_then (λ n. if nat_lt 0 n then Some n else None) (natural_in 65535 word)
 
 -- the words of a header
-abbrev pub sizes_from : List (List ℕ) → Option Sizes
+abbrev pub sizes_from : List (List ℕ) → Option MatrixSizes
 sizes_from (first ∷ second ∷ []) = option_and_then (λ right. option_map (λ left. record { right = right; left = left }) (size second)) (size first)
 sizes_from [] = None
 sizes_from (first ∷ []) = None
@@ -52,30 +49,29 @@ cell_from (first ∷ second ∷ []) = None
 cell_from (first ∷ second ∷ third ∷ fourth ∷ more) = None
 
 -- a right id and a left id lie within the sizes
-abbrev pub is_pair : Sizes → ℕ → ℕ → Bool
+abbrev pub is_pair : MatrixSizes → ℕ → ℕ → Bool
 is_pair sizes right left = nat_lt right sizes.right && nat_lt left sizes.left
 
 -- what is wrong with a row
-abbrev pub cell_fault : Sizes → Option Cell → Option SourceKind
+abbrev pub cell_fault : MatrixSizes → Option Cell → Option SourceKind
 cell_fault sizes None = Some BadRow
 cell_fault sizes (Some cell) = if is_pair sizes cell.right cell.left then None else Some PairOutside
 
-abbrev pub row_fault : Sizes → List ℕ → Option SourceKind
+abbrev pub row_fault : MatrixSizes → List ℕ → Option SourceKind
 row_fault sizes line = cell_fault sizes (cell_from (words_of line))
 
--- `matrix.def` is file 0
 abbrev pub matrix_fault : ℕ → SourceKind → SourceFault
-matrix_fault line kind = record { file = 0; line = line; kind = kind }
+matrix_fault line kind = record { file = MATRIX_FILE; line = line; kind = kind }
 
-abbrev pub connection_unless : Option SourceFault → Sizes → List (ℕ × List ℕ) → Result Connection SourceFault
+abbrev pub connection_unless : Option SourceFault → MatrixSizes → List (ℕ × List ℕ) → Result Connection SourceFault
 connection_unless (Some fault) sizes rows = Err fault
 connection_unless None sizes rows = Ok (record { sizes = sizes; cells = filter_map (λ row. cell_from (words_of row.1)) rows })
 
-abbrev pub connection_under : ℕ → Option Sizes → List (ℕ × List ℕ) → Result Connection SourceFault
+abbrev pub connection_under : ℕ → Option MatrixSizes → List (ℕ × List ℕ) → Result Connection SourceFault
 connection_under line None rows = Err (matrix_fault line BadHeader)
 connection_under line (Some sizes) rows =
     if nat_le (sizes.right * sizes.left) MATRIX_CELLS_MAX
-    then connection_unless (first_fault 0 (row_fault sizes) rows) sizes rows
+    then connection_unless (first_fault MATRIX_FILE (row_fault sizes) rows) sizes rows
     else Err (matrix_fault line TooLarge)
 
 -- the first line is the header

@@ -5,9 +5,11 @@ use Rattle.std.specs.Cmp.Lexicographic.{slice_cmp}
 use Rattle.std.specs.List.{enumerate_from}
 use Rattle.std.specs.List.Sorted.{IsStableByKey, IsPermutation}
 use Rattle.std.specs.Ordering.{nat_cmp}
+use Rattle.mj_model.specs.declared.source_fault.TheConstants.{LAST_LEXICON_FILE}
 use Rattle.mj_model.specs.declared.source_fault.SourceFault.{SourceFault}
 use Rattle.mj_model.specs.declared.source_fault.SourceKind.TheVariants.{IdOutside}
-use Rattle.mj_model.specs.Connection.{Sizes, is_pair}
+use Rattle.mj_model.specs.declared.matrix_sizes.MatrixSizes.{MatrixSizes}
+use Rattle.mj_model.specs.Connection.{is_pair}
 use Rattle.mj_model.specs.Lexicon.{Row, Reading, IsLexicon}
 use Rattle.mj_model.specs.Tables.{Lexeme}
 
@@ -29,7 +31,7 @@ abbrev pub IsLexiconOf : List Row → List Lexeme → Type 0
 IsLexiconOf rows lexicon = (ordered : List Row) × IsInOrder rows ordered × (lexicon ≡ map lexeme_of (enumerate_from 0 ordered))
 
 -- the first row whose ids lie outside the sizes
-abbrev pub first_outside : ℕ → Sizes → List Row → Option SourceFault
+abbrev pub first_outside : ℕ → MatrixSizes → List Row → Option SourceFault
 first_outside file sizes [] = None
 first_outside file sizes (row ∷ rows) =
     if is_pair sizes row.right row.left
@@ -38,10 +40,10 @@ first_outside file sizes (row ∷ rows) =
 
 -- the number of the file behind a lexicon; numbers end at the greatest but one of 32 bits
 abbrev pub next_file : ℕ → ℕ
-next_file file = min (file + 1) 4294967294
+next_file file = min (file + 1) LAST_LEXICON_FILE
 
 -- the lexicons from a file number on read so, after these rows: all rows, or the first fault; of each file what its lines say is looked at before its ids
-abbrev pub AreLexicons : Sizes → ℕ → List Row → List (List ℕ) → Result (List Row) SourceFault → Type 0
+abbrev pub AreLexicons : MatrixSizes → ℕ → List Row → List (List ℕ) → Result (List Row) SourceFault → Type 0
 AreLexicons sizes file before [] read = read ≡ Ok before
 AreLexicons sizes file before (bytes ∷ more) read =
     ((fault : SourceFault) × IsLexicon file (length before) bytes (Err fault) × (read ≡ Err fault))

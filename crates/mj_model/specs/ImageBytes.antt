@@ -4,7 +4,7 @@ use Rattle.std.specs.Prelude.{ℕ, ◌+◌, ◌*◌, ◌-◌, ◌==◌, if◌the
 use Rattle.std.specs.Int.{w16, w32, cast_signed}
 use Rattle.std.specs.List.{range_with_len}
 use Rattle.byteorder.specs.Endian.{little_number}
-use Rattle.mj_model.specs.Connection.{Sizes}
+use Rattle.mj_model.specs.declared.matrix_sizes.MatrixSizes.{MatrixSizes}
 use Rattle.mj_model.specs.Tables.{Kind, System, User}
 
 -- the number in the n bytes from a place on; a byte past the end counts as 0
@@ -34,7 +34,7 @@ pub record Header : Type 0 where
   pub magic : List ℕ
   pub layout : ℕ
   pub kind : ℕ
-  pub sizes : Sizes
+  pub sizes : MatrixSizes
   pub categories : ℕ
   pub groups : ℕ
   pub tokens : ℕ

@@ -8,18 +8,18 @@ use Rattle.mj_model.specs.declared.limits.TheConstants.{SURFACE_MAX}
 use Rattle.mj_model.specs.CellMap.{Cell, base, check, value_of}
 use Rattle.mj_model.specs.CellRules.{MeetsRules}
 use Rattle.mj_model.specs.CharDef.{NamedCategory, code_point_max}
-use Rattle.mj_model.specs.Connection.{Sizes}
+use Rattle.mj_model.specs.declared.matrix_sizes.MatrixSizes.{MatrixSizes}
 use Rattle.mj_model.specs.ImageBytes.{number_at, signed_2_at, signed_4_at}
 use Rattle.mj_model.specs.Tables.{Token}
 
 -- ---- section 1: connection costs
 
 -- the connection cost of a right id and a left id
-abbrev pub stored_cost : Sizes → List ℕ → ℕ → ℕ → ℤ
+abbrev pub stored_cost : MatrixSizes → List ℕ → ℕ → ℕ → ℤ
 stored_cost sizes costs right left = signed_2_at costs (2 * (right * sizes.left + left))
 
 -- a cost of 2 bytes for each pair of ids
-abbrev pub AreCosts : Sizes → List ℕ → Type 0
+abbrev pub AreCosts : MatrixSizes → List ℕ → Type 0
 AreCosts sizes costs = length costs ≡ 2 * (sizes.right * sizes.left)
 
 -- ---- section 2: categories
@@ -187,7 +187,7 @@ stored_token tokens i = record {
 }
 
 -- its ids lie within the sizes, and its spare bytes are 0
-pub record FitsSizes (sizes : Sizes) (t : StoredToken) : Type 0 where
+pub record FitsSizes (sizes : MatrixSizes) (t : StoredToken) : Type 0 where
   pub left_below : t.left < sizes.left
   pub right_below : t.right < sizes.right
   pub spare_zero : t.spare ≡ 0

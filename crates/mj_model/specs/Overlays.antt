@@ -2,18 +2,18 @@
 use Rattle.std.specs.Prelude.{ℕ, suc, ◌==◌, ◌&&◌, if◌then◌else◌, Bool, true, false, not, List, [], ◌∷◌, Option, Some, None}
 use Rattle.mj_model.specs.declared.overlay_fault.OverlayFault.{OverlayFault}
 use Rattle.mj_model.specs.declared.overlay_fault.OverlayFault.TheVariants.{NotSystem, NotUser, OtherSizes}
-use Rattle.mj_model.specs.Connection.{Sizes}
+use Rattle.mj_model.specs.declared.matrix_sizes.MatrixSizes.{MatrixSizes}
 use Rattle.mj_model.specs.Tables.{Tables, Kind, System, User}
 
 abbrev pub is_user : Kind → Bool
 is_user System = false
 is_user User = true
 
-abbrev pub are_same_sizes : Sizes → Sizes → Bool
+abbrev pub are_same_sizes : MatrixSizes → MatrixSizes → Bool
 are_same_sizes a b = a.right == b.right && a.left == b.left
 
 -- the first fault of the users from number i on, over a system of these sizes; of each its kind is looked at before its sizes
-abbrev pub first_user_fault : Sizes → ℕ → List Tables → Option OverlayFault
+abbrev pub first_user_fault : MatrixSizes → ℕ → List Tables → Option OverlayFault
 first_user_fault sizes i [] = None
 first_user_fault sizes i (user ∷ users) =
     if not (is_user user.kind) then Some (NotUser i)

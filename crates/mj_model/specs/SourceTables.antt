@@ -1,5 +1,6 @@
 -- What the four kinds of source say together. They are looked at in this order: matrix.def; char.def; unk.def; then each lexicon as given.
 use Rattle.std.specs.Prelude.{◌≡◌, ℕ, ◌≤◌, List, [], length, map, Result, Ok, Err, ◌⊎◌}
+use Rattle.mj_model.specs.declared.source_fault.TheConstants.{FIRST_LEXICON_FILE}
 use Rattle.mj_model.specs.declared.source_fault.SourceFault.{SourceFault}
 use Rattle.mj_model.specs.declared.sources.Sources.{Sources}
 use Rattle.mj_model.specs.CharDef.{CharSource, char_source, char_info, categories_of, code_point_max}
@@ -26,7 +27,7 @@ AreUnknown s connection chars unknown = IsUnkWithin connection.sizes chars.categ
 
 -- the lexicons read so; the first of them is file 3
 abbrev pub AreRows : Sources → Connection → Result (List Row) SourceFault → Type 0
-AreRows s connection read = AreLexicons connection.sizes 3 [] (lexicon_bytes s) read
+AreRows s connection read = AreLexicons connection.sizes FIRST_LEXICON_FILE [] (lexicon_bytes s) read
 
 -- a system dictionary's tables
 abbrev pub system_tables : Connection → CharSource → List (List Row) → List Lexeme → Tables

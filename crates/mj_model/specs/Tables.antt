@@ -2,7 +2,7 @@
 use Rattle.std.specs.Prelude.{ℕ, ℤ, false, List, [], ◌∷◌, slice_index_or}
 use Rattle.mj_model.specs.declared.category.CharInfo.{CharInfo}
 use Rattle.mj_model.specs.declared.category.Category.{Category}
-use Rattle.mj_model.specs.Connection.{Sizes}
+use Rattle.mj_model.specs.declared.matrix_sizes.MatrixSizes.{MatrixSizes}
 
 -- an entry by its number in its dictionary
 pub record Token : Type 0 where
@@ -26,7 +26,7 @@ pub data Kind : Type 0 where
 -- unknown entries of each category, and its lexicon
 pub record Tables : Type 0 where
   pub kind : Kind
-  pub sizes : Sizes
+  pub sizes : MatrixSizes
   pub connection : ℕ → ℕ → ℤ
   pub categories : List Category
   pub info : ℕ → CharInfo

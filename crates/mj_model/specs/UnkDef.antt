@@ -1,10 +1,11 @@
 -- Unknown entries, as `unk.def` lists them (MeCab): lines of a lexicon's form, with the name of a category as surface.
 use Rattle.std.specs.Prelude.{◌≡◌, ℕ, ◌+◌, ◌==◌, nat_lt, if◌then◌else◌, List, [], ◌∷◌, length, map, filter, Option, Some, None, Result, Ok, Err, slice_index_or}
 use Rattle.std.specs.List.{enumerate_from, position_or_len}
+use Rattle.mj_model.specs.declared.source_fault.TheConstants.{UNK_FILE}
 use Rattle.mj_model.specs.declared.source_fault.SourceFault.{SourceFault}
 use Rattle.mj_model.specs.declared.source_fault.SourceKind.TheVariants.{BadNumber, NoSuchCategory, MissingCategory}
 use Rattle.mj_model.specs.Lexicon.{Row, Parts, Reading, Outcome, Refused, Accepted, ReadsAs, row_from}
-use Rattle.mj_model.specs.Connection.{Sizes}
+use Rattle.mj_model.specs.declared.matrix_sizes.MatrixSizes.{MatrixSizes}
 use Rattle.mj_model.specs.Dictionary.{lexeme_of, first_outside}
 use Rattle.mj_model.specs.Tables.{Token}
 use Rattle.mj_model.specs.CharDef.{NamedCategory, is_defined, category_number}
@@ -33,7 +34,7 @@ first_without_rows unknown = position_or_len (λ rows. length rows == 0) unknown
 abbrev pub unless_missing : List (List Row) → Result (List (List Row)) SourceFault
 unless_missing unknown =
     if nat_lt (first_without_rows unknown) (length unknown)
-    then Err (record { file = 2; line = 0; kind = MissingCategory (first_without_rows unknown) })
+    then Err (record { file = UNK_FILE; line = 0; kind = MissingCategory (first_without_rows unknown) })
     else Ok unknown
 
 abbrev pub unknown_from : List NamedCategory → Result Reading SourceFault → Result (List (List Row)) SourceFault
@@ -43,26 +44,26 @@ unknown_from categories (Ok reading) = unless_missing (rows_by_category categori
 -- the bytes of `unk.def` read so, where these are the categories: the rows of each category, or the first fault
 abbrev pub IsUnkDef : List NamedCategory → List ℕ → Result (List (List Row)) SourceFault → Type 0
 IsUnkDef categories bytes unknown =
-    (reading : Result Reading SourceFault) × ReadsAs (unk_outcome categories) 2 0 bytes reading × (unknown ≡ unknown_from categories reading)
+    (reading : Result Reading SourceFault) × ReadsAs (unk_outcome categories) UNK_FILE 0 bytes reading × (unknown ≡ unknown_from categories reading)
 
 -- the rows of each category, or the fault of the first row whose ids lie outside
 abbrev pub rows_or : Option SourceFault → List (List Row) → Result (List (List Row)) SourceFault
 rows_or None unknown = Ok unknown
 rows_or (Some fault) unknown = Err fault
 
-abbrev pub unless_outside : Sizes → List Row → Result (List (List Row)) SourceFault → Result (List (List Row)) SourceFault
+abbrev pub unless_outside : MatrixSizes → List Row → Result (List (List Row)) SourceFault → Result (List (List Row)) SourceFault
 unless_outside sizes rows (Err fault) = Err fault
 unless_outside sizes rows (Ok unknown) = rows_or (first_outside 2 sizes rows) unknown
 
-abbrev pub unknown_within : Sizes → List NamedCategory → Result Reading SourceFault → Result (List (List Row)) SourceFault
+abbrev pub unknown_within : MatrixSizes → List NamedCategory → Result Reading SourceFault → Result (List (List Row)) SourceFault
 unknown_within sizes categories (Err fault) = Err fault
 unknown_within sizes categories (Ok reading) = unless_outside sizes reading.rows (unknown_from categories (Ok reading))
 
 -- the bytes of `unk.def` read so, where these are the sizes and the categories: the rows of each category, or the first fault; what the lines
 -- say, and which categories have one, is looked at before the ids
-abbrev pub IsUnkWithin : Sizes → List NamedCategory → List ℕ → Result (List (List Row)) SourceFault → Type 0
+abbrev pub IsUnkWithin : MatrixSizes → List NamedCategory → List ℕ → Result (List (List Row)) SourceFault → Type 0
 IsUnkWithin sizes categories bytes unknown =
-    (reading : Result Reading SourceFault) × ReadsAs (unk_outcome categories) 2 0 bytes reading × (unknown ≡ unknown_within sizes categories reading)
+    (reading : Result Reading SourceFault) × ReadsAs (unk_outcome categories) UNK_FILE 0 bytes reading × (unknown ≡ unknown_within sizes categories reading)
 
 -- a row as an entry of this number
 abbrev pub token_of : (ℕ × Row) → Token

@@ -2,6 +2,7 @@
 
 ghost use Rattle.std.specs.Prelude.{◌≡◌};
 
+use std::alloc::{AllocError, AllocFailed};
 use thiserror::Error;
 
 /// One of the four texts of an output format.
@@ -38,7 +39,7 @@ pub enum FormatFault {
         kind: FormatKind,
     },
     /// Memory was refused.
-    #[error("Memory")]
+    #[error("{}", self.name())]
     Memory,
 }
 
@@ -78,5 +79,27 @@ impl FormatFault {
             } => ("P3", "BadIndex"),
             FormatFault::Memory => ("Memory", "Memory"),
         }
+    }
+}
+
+impl From<AllocError> for FormatFault {
+    ghost use Rattle.std.specs.Prelude.{◌≡◌};
+    ghost use Rattle.mj_model.specs.declared.format_fault.FormatFault.TheVariants.{Memory};
+
+    ghost from_gives = { λ _ fault. fault ≡ Memory };
+
+    fn from(_refused: AllocError) -> FormatFault {
+        FormatFault::Memory
+    }
+}
+
+impl<T: Drop> From<AllocFailed<T>> for FormatFault {
+    ghost use Rattle.std.specs.Prelude.{◌≡◌};
+    ghost use Rattle.mj_model.specs.declared.format_fault.FormatFault.TheVariants.{Memory};
+
+    ghost from_gives = { λ _ fault. fault ≡ Memory };
+
+    fn from(_refused: AllocFailed<T>) -> FormatFault {
+        FormatFault::Memory
     }
 }

@@ -10,6 +10,7 @@ mod format_item;
 mod image_fault;
 pub mod laws;
 mod limits;
+mod matrix_sizes;
 mod overlay_fault;
 mod run_fault;
 mod sample_sources;
@@ -29,10 +30,14 @@ pub use limits::{
     CATEGORIES_MAX, ENTRIES_MAX, GROUPING_DEFAULT, GROUPING_MAX, MATRIX_CELLS_MAX, READS_MAX,
     SENTENCE_MAX, SURFACE_MAX,
 };
+pub use matrix_sizes::MatrixSizes;
 pub use overlay_fault::OverlayFault;
 pub use run_fault::RunFault;
 pub use sample_sources::sample;
-pub use source_fault::{SourceFault, SourceKind};
+pub use source_fault::{
+    CHAR_FILE, FIRST_LEXICON_FILE, LAST_LEXICON_FILE, MATRIX_FILE, NO_FILE, SourceFault,
+    SourceKind, UNK_FILE,
+};
 pub use sources::Sources;
 pub use text_in::TextIn;
 pub use text_out::TextOut;

@@ -8,13 +8,13 @@ use thiserror::Error;
 #[derive(Clone, Copy, Debug, PartialEq, Eq, Drop, Error)]
 pub enum OverlayFault {
     /// The first dictionary is not a system dictionary.
-    #[error("O1 NotSystem")]
+    #[error("{} {}", self.code(), self.name())]
     NotSystem,
     /// This one is not a user dictionary.
-    #[error("O2 NotUser {0}")]
+    #[error("{} {} {}", self.code(), self.name(), .0)]
     NotUser(usize),
     /// This one was made for another connection table's sizes.
-    #[error("O3 OtherSizes {0}")]
+    #[error("{} {} {}", self.code(), self.name(), .0)]
     OtherSizes(usize),
 }
 

@@ -15,22 +15,22 @@ pub enum RunFault {
     #[error("{1}")]
     UserSource(usize, SourceFault),
     /// A read failed; the number is that of the lines read whole and one.
-    #[error("line {0}: G1 Read")]
+    #[error("line {}: {} {}", .0, self.code(), self.name())]
     Read(u64),
     /// A write or a flush failed, or a write took no byte; the number is that of the bytes taken before.
-    #[error("G2 Write {0}")]
+    #[error("{} {} {}", self.code(), self.name(), .0)]
     Write(u128),
     /// This line is not UTF-8.
-    #[error("line {0}: G3 NotUtf8")]
+    #[error("line {}: {} {}", .0, self.code(), self.name())]
     NotUtf8(u64),
     /// This line has more than `SENTENCE_MAX` bytes.
-    #[error("line {0}: G4 TooLong")]
+    #[error("line {}: {} {}", .0, self.code(), self.name())]
     TooLong(u64),
     /// `READS_MAX` reads came to no end; the number is that of the lines read whole and one.
-    #[error("line {0}: G5 InputTooLong")]
+    #[error("line {}: {} {}", .0, self.code(), self.name())]
     InputTooLong(u64),
     /// Memory was refused; the number is that of the lines written whole and one, and 0 before the first read.
-    #[error("Memory")]
+    #[error("{}", self.name())]
     Memory(u64),
 }
 

@@ -2,81 +2,111 @@
 
 ghost use Rattle.std.specs.Prelude.{◌≡◌};
 
+use std::alloc::{AllocError, AllocFailed};
 use thiserror::Error;
+
+/// The number of `matrix.def` among the files of sources.
+pub const MATRIX_FILE: u32 = 0;
+
+/// The number of `char.def`.
+pub const CHAR_FILE: u32 = 1;
+
+/// The number of `unk.def`.
+pub const UNK_FILE: u32 = 2;
+
+/// The number of the first lexicon; those after it count on.
+pub const FIRST_LEXICON_FILE: u32 = 3;
+
+/// The greatest number of a lexicon; every lexicon after the one with this number has it too.
+pub const LAST_LEXICON_FILE: u32 = u32::MAX - 1;
+
+/// The number of no file: that of a fault of the whole compilation.
+pub const NO_FILE: u32 = u32::MAX;
 
 /// Why a source is refused. A code names the file's kind by its letter.
 #[derive(Clone, Copy, Debug, PartialEq, Eq, Drop, Error)]
 pub enum SourceKind {
     /// A line of a lexicon or of `unk.def` is not UTF-8.
-    #[error("S1 NotUtf8")]
+    #[error("{} {}", self.code(), self.name())]
     NotUtf8,
     /// No comma ends the fourth field.
-    #[error("S2 TooFewFields")]
+    #[error("{} {}", self.code(), self.name())]
     TooFewFields,
     /// An id is no number from 0 to 65,535, or the cost none from -32,768 to 32,767.
-    #[error("S3 BadNumber")]
+    #[error("{} {}", self.code(), self.name())]
     BadNumber,
     /// A surface of more than `SURFACE_MAX` bytes.
-    #[error("S4 SurfaceTooLong")]
+    #[error("{} {}", self.code(), self.name())]
     SurfaceTooLong,
     /// More than `ENTRIES_MAX` entries.
-    #[error("S5 TooMany")]
+    #[error("{} {}", self.code(), self.name())]
     TooManyEntries,
     /// The first line of `matrix.def` is not two numbers from 1 to 65,535; line 0 where no line is there.
-    #[error("M1 BadHeader")]
+    #[error("{} {}", self.code(), self.name())]
     BadHeader,
     /// A further line of `matrix.def` is not two ids and a cost.
-    #[error("M2 BadRow")]
+    #[error("{} {}", self.code(), self.name())]
     BadRow,
     /// A row's ids lie outside the sizes.
-    #[error("M3 PairOutside")]
+    #[error("{} {}", self.code(), self.name())]
     PairOutside,
     /// The product of the sizes is above `MATRIX_CELLS_MAX`.
-    #[error("M4 TooLarge")]
+    #[error("{} {}", self.code(), self.name())]
     TooLarge,
     /// Too few words, a bad number or a bad name.
-    #[error("C1 BadLine")]
+    #[error("{} {}", self.code(), self.name())]
     BadLine,
     /// Code points that are no range from U+0000 to U+10FFFF.
-    #[error("C2 BadRange")]
+    #[error("{} {}", self.code(), self.name())]
     BadRange,
     /// A category that is defined already.
-    #[error("C3 Twice")]
+    #[error("{} {}", self.code(), self.name())]
     Twice,
     /// A mapping names a category that `char.def` does not define.
-    #[error("C4 NoSuchCategory")]
+    #[error("{} {}", self.code(), self.name())]
     UndefinedCategory,
     /// More than `CATEGORIES_MAX` categories.
-    #[error("C5 TooMany")]
+    #[error("{} {}", self.code(), self.name())]
     TooManyCategories,
     /// `char.def` does not define DEFAULT.
-    #[error("C6 NoDefault")]
+    #[error("{} {}", self.code(), self.name())]
     NoDefault,
     /// `char.def` does not define SPACE.
-    #[error("C7 NoSpace")]
+    #[error("{} {}", self.code(), self.name())]
     NoSpace,
     /// A line of `unk.def` names no category of `char.def`.
-    #[error("U1 NoSuchCategory")]
+    #[error("{} {}", self.code(), self.name())]
     NoSuchCategory,
     /// This category, the least such, has no line in `unk.def`.
-    #[error("U2 MissingCategory {0}")]
+    #[error("{} {} {}", self.code(), self.name(), .0)]
     MissingCategory(u8),
     /// An id of a lexicon or of `unk.def` lies outside the connection table.
-    #[error("I1 IdOutside")]
+    #[error("{} {}", self.code(), self.name())]
     IdOutside,
     /// The key index of an image has no room left.
-    #[error("I2 ArrayFull")]
+    #[error("{} {}", self.code(), self.name())]
     ArrayFull,
     /// The features of an image have 2^32 bytes or more.
-    #[error("I3 FeaturesTooLarge")]
+    #[error("{} {}", self.code(), self.name())]
     FeaturesTooLarge,
     /// Memory was refused.
-    #[error("Memory")]
+    #[error("{}", self.name())]
     Memory,
 }
 
 impl SourceKind {
     ghost use Rattle.mj_model.specs.FaultWords.{source_words};
+
+    /// As a fault of a line of a file.
+    pub fn at(self, file: u32, line: u64) -> SourceFault
+        ensures { result ≡ record { file = file; line = line; kind = self } }
+    {
+        SourceFault {
+            file,
+            line,
+            kind: self,
+        }
+    }
 
     /// The short code, as `S1`.
     pub fn code(self) -> &'static str
@@ -123,6 +153,28 @@ impl SourceKind {
     }
 }
 
+impl From<AllocError> for SourceKind {
+    ghost use Rattle.std.specs.Prelude.{◌≡◌};
+    ghost use Rattle.mj_model.specs.declared.source_fault.SourceKind.TheVariants.{Memory};
+
+    ghost from_gives = { λ _ kind. kind ≡ Memory };
+
+    fn from(_refused: AllocError) -> SourceKind {
+        SourceKind::Memory
+    }
+}
+
+impl<T: Drop> From<AllocFailed<T>> for SourceKind {
+    ghost use Rattle.std.specs.Prelude.{◌≡◌};
+    ghost use Rattle.mj_model.specs.declared.source_fault.SourceKind.TheVariants.{Memory};
+
+    ghost from_gives = { λ _ kind. kind ≡ Memory };
+
+    fn from(_refused: AllocFailed<T>) -> SourceKind {
+        SourceKind::Memory
+    }
+}
+
 /// Where a source is at fault, and why. With kind `Memory`, `file` and `line` carry no meaning.
 #[derive(Clone, Copy, Debug, PartialEq, Eq, Drop, Error)]
 #[error("file {file}, line {line}: {kind}")]
@@ -149,5 +201,27 @@ impl SourceFault {
         ensures { result.now ≡ (source_words self.kind).name }
     {
         self.kind.name()
+    }
+}
+
+impl From<AllocError> for SourceFault {
+    ghost use Rattle.std.specs.Prelude.{◌≡◌};
+    ghost use Rattle.mj_model.specs.declared.source_fault.SourceKind.TheVariants.{Memory};
+
+    ghost from_gives = { λ _ fault. fault.kind ≡ Memory };
+
+    fn from(_refused: AllocError) -> SourceFault {
+        SourceKind::Memory.at(NO_FILE, 0)
+    }
+}
+
+impl<T: Drop> From<AllocFailed<T>> for SourceFault {
+    ghost use Rattle.std.specs.Prelude.{◌≡◌};
+    ghost use Rattle.mj_model.specs.declared.source_fault.SourceKind.TheVariants.{Memory};
+
+    ghost from_gives = { λ _ fault. fault.kind ≡ Memory };
+
+    fn from(_refused: AllocFailed<T>) -> SourceFault {
+        SourceKind::Memory.at(NO_FILE, 0)
     }
 }

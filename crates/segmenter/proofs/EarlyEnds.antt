@@ -7,7 +7,7 @@ use Rattle.mj_model.specs.declared.source_fault.SourceFault.{SourceFault}
 use Rattle.mj_model.specs.declared.source_fault.SourceKind.TheVariants.{Memory}
 use Rattle.mj_model.specs.declared.sources.Sources.{Sources}
 use Rattle.mj_model.specs.Compilation.{HaveUserTables, IsCompilationCause, IsUserFault}
-use Rattle.mj_model.specs.Connection.{Sizes}
+use Rattle.mj_model.specs.declared.matrix_sizes.MatrixSizes.{MatrixSizes}
 use Rattle.mj_model.specs.Dictionary.{AreLexicons}
 use Rattle.mj_model.specs.FirstFault.{IsRefusal}
 use Rattle.mj_model.specs.ImageMeaning.{image_tables}
@@ -112,8 +112,8 @@ users_told s dict users end i told d r e =
 -- ---- tables of one kind and of the same sizes ask the same of users
 
 fault_along : (t u : Tables) (lexicons : List (List ℕ)) (fault : SourceFault) → t.kind ≡ u.kind → t.sizes ≡ u.sizes → IsUserFault t lexicons fault → IsUserFault u lexicons fault
-fault_along t u lexicons fault k z (s, inl h) = (sym k ∙ s, inl (subst (λ (sizes : Sizes). AreLexicons sizes 3 [] lexicons (Err fault)) z h))
-fault_along t u lexicons fault k z (s, inr h) = (sym k ∙ s, inr (h.0, subst (λ (sizes : Sizes). HaveUserTables sizes lexicons h.0) z h.1, h.2))
+fault_along t u lexicons fault k z (s, inl h) = (sym k ∙ s, inl (subst (λ (sizes : MatrixSizes). AreLexicons sizes 3 [] lexicons (Err fault)) z h))
+fault_along t u lexicons fault k z (s, inr h) = (sym k ∙ s, inr (h.0, subst (λ (sizes : MatrixSizes). HaveUserTables sizes lexicons h.0) z h.1, h.2))
 
 along : (t u : Tables) (users : List (List (List ℕ))) (i : ℕ) (fault : SourceFault) → t.kind ≡ u.kind → t.sizes ≡ u.sizes → IsOfUser (IsUserFault t) t users i fault → IsOfUser (IsUserFault u) u users i fault
 along t u users i fault k z h = record {
@@ -122,7 +122,7 @@ along t u users i fault k z h = record {
   fault_is = fault_along t u h.lexicons fault k z h.fault_is;
   before_compile = λ j others less e.
       let c = h.before_compile j others less e in
-      (c.0, record { have = subst (λ (s : Sizes). HaveUserTables s others c.0) z c.1.have; few_features = c.1.few_features });
+      (c.0, record { have = subst (λ (s : MatrixSizes). HaveUserTables s others c.0) z c.1.have; few_features = c.1.few_features });
 }
 
 -- the first fault of the users is that over the image's tables

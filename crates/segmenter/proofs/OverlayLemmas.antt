@@ -7,15 +7,15 @@ use Rattle.mj_model.specs.declared.overlay_fault.OverlayFault.{OverlayFault}
 use Rattle.mj_model.specs.declared.overlay_fault.OverlayFault.TheVariants.{NotSystem, NotUser, OtherSizes}
 use Rattle.mj_model.specs.declared.sources.Sources.{Sources}
 use Rattle.mj_model.specs.Compilation.{HaveUserTables}
-use Rattle.mj_model.specs.Connection.{Sizes}
+use Rattle.mj_model.specs.declared.matrix_sizes.MatrixSizes.{MatrixSizes}
 use Rattle.mj_model.specs.ImageMeaning.{image_tables}
 use Rattle.mj_model.specs.Overlays.{are_same_sizes, first_user_fault, is_user, overlay_fault}
 use Rattle.mj_model.specs.SourceOverlays.{HaveOverlay}
 use Rattle.mj_model.specs.Tables.{Kind, Tables, Overlay, System, User}
 use Rattle.segmenter.specs.SourceDicts.{IsDictOf, IsUserDictOf}
 
-same_sizes : (a b : Sizes) → a ≡ b → are_same_sizes a b ≡ true
-same_sizes a b e = subst (λ (s : Sizes). are_same_sizes s b ≡ true) (sym e) (ap (λ c. c && (b.left == b.left)) (eq-eqb b.right b.right refl) ∙ eq-eqb b.left b.left refl)
+same_sizes : (a b : MatrixSizes) → a ≡ b → are_same_sizes a b ≡ true
+same_sizes a b e = subst (λ (s : MatrixSizes). are_same_sizes s b ≡ true) (sym e) (ap (λ c. c && (b.left == b.left)) (eq-eqb b.right b.right refl) ∙ eq-eqb b.left b.left refl)
 
 no_fault_by : (kind : Kind) (same : Bool) (not_user other rest : Option OverlayFault) → kind ≡ User → same ≡ true → rest ≡ None
     → (if not (is_user kind) then not_user else if not same then other else rest) ≡ None

@@ -4,7 +4,8 @@ use Rattle.std.specs.Prelude.{IsTrue, IsUtf8}
 use Rattle.std.specs.List.{AllByRecursion}
 use Rattle.std.proofs.lemmas.Bool.{and_parts, eqb-true}
 use Rattle.mj_model.specs.declared.limits.TheConstants.{SENTENCE_MAX}
-use Rattle.mj_model.specs.Connection.{Sizes, is_pair}
+use Rattle.mj_model.specs.declared.matrix_sizes.MatrixSizes.{MatrixSizes}
+use Rattle.mj_model.specs.Connection.{is_pair}
 use Rattle.mj_model.specs.ImageMeaning.{image_tables}
 use Rattle.mj_model.specs.Laws.{HasWords, HasText, HasApartTokens, CoversAll}
 use Rattle.mj_model.specs.Overlays.{is_user, are_same_sizes}
@@ -19,25 +20,25 @@ use Rattle.word_lookup.proofs.OverlayLaws.{searchable_overlay, EntriesFit, IsFit
 
 -- ---- the users
 
-users_text : (sizes : Sizes) (users : List Tables) → AllByRecursion (IsUserOf sizes) users → AllByRecursion (AllByRecursion HasText) (lexicons_of users)
+users_text : (sizes : MatrixSizes) (users : List Tables) → AllByRecursion (IsUserOf sizes) users → AllByRecursion (AllByRecursion HasText) (lexicons_of users)
 users_text sizes [] all = tt
 users_text sizes (user ∷ users) all = (all.0.fits.surfaces, users_text sizes users all.1)
 
-users_apart : (sizes : Sizes) (users : List Tables) → AllByRecursion (IsUserOf sizes) users → AllByRecursion (λ lexicon. HasApartTokens (map (λ (e : Lexeme). e.token) lexicon)) (lexicons_of users)
+users_apart : (sizes : MatrixSizes) (users : List Tables) → AllByRecursion (IsUserOf sizes) users → AllByRecursion (λ lexicon. HasApartTokens (map (λ (e : Lexeme). e.token) lexicon)) (lexicons_of users)
 users_apart sizes [] all = tt
 users_apart sizes (user ∷ users) all = (all.0.fits.lexicon_apart, users_apart sizes users all.1)
 
-same_sizes : (a b : Sizes) → are_same_sizes a b ≡ true → a ≡ b
+same_sizes : (a b : MatrixSizes) → are_same_sizes a b ≡ true → a ≡ b
 same_sizes a b h =
     let both = and_parts (a.right == b.right) (a.left == b.left) h in
     let right = eqb-true a.right b.right both.0 in
     let left = eqb-true a.left b.left both.1 in
     λ i. record { right = right i; left = left i }
 
-users_fit : (sizes : Sizes) (users : List Tables) → AllByRecursion (IsUserOf sizes) users → AllByRecursion (AllByRecursion (IsFittingLexeme sizes)) (lexicons_of users)
+users_fit : (sizes : MatrixSizes) (users : List Tables) → AllByRecursion (IsUserOf sizes) users → AllByRecursion (AllByRecursion (IsFittingLexeme sizes)) (lexicons_of users)
 users_fit sizes [] all = tt
 users_fit sizes (user ∷ users) all =
-    (subst (λ (s : Sizes). AllByRecursion (IsFittingLexeme s) user.lexicon) (same_sizes user.sizes sizes all.0.same_sizes) all.0.fits.lexicon, users_fit sizes users all.1)
+    (subst (λ (s : MatrixSizes). AllByRecursion (IsFittingLexeme s) user.lexicon) (same_sizes user.sizes sizes all.0.same_sizes) all.0.fits.lexicon, users_fit sizes users all.1)
 
 -- ---- the laws
 

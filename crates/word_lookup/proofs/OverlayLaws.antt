@@ -7,7 +7,8 @@ use Rattle.mj_model.specs.declared.limits.TheConstants.{SENTENCE_MAX}
 use Rattle.mj_model.specs.declared.word.Word.{Word}
 use Rattle.mj_model.specs.Best.{IsWithin}
 use Rattle.mj_model.specs.Blanks.{skip, chars_from}
-use Rattle.mj_model.specs.Connection.{Sizes, is_pair}
+use Rattle.mj_model.specs.declared.matrix_sizes.MatrixSizes.{MatrixSizes}
+use Rattle.mj_model.specs.Connection.{is_pair}
 use Rattle.mj_model.specs.KnownWords.{up_to, known_word, entries_of_length, known_in, known_from, known}
 use Rattle.mj_model.specs.Laws.{StandsIn, HasWords}
 use Rattle.mj_model.specs.Run.{bytes_of}
@@ -21,32 +22,32 @@ use Rattle.dict_image.specs.Fitting.{IsFitting}
 
 -- ---- each word is of an entry that fits
 
-abbrev pub IsFittingLexeme : Sizes → Lexeme → Type 0
+abbrev pub IsFittingLexeme : MatrixSizes → Lexeme → Type 0
 IsFittingLexeme sizes e = IsFitting sizes e.token
 
 -- the entries of an overlay have ids within the sizes, and costs of 16 bits
-pub record EntriesFit (sizes : Sizes) (o : Overlay) : Type 0 where
+pub record EntriesFit (sizes : MatrixSizes) (o : Overlay) : Type 0 where
   pub known_fit : AllByRecursion (AllByRecursion (IsFittingLexeme sizes)) (lexicons o)
   pub unknown_fit : (i : ℕ) → AllByRecursion (IsFitting sizes) (o.system.unknown i)
 
-abbrev pub IsFittingWord : Sizes → Word → Type 0
+abbrev pub IsFittingWord : MatrixSizes → Word → Type 0
 IsFittingWord sizes w = IsTrue (is_pair sizes w.right w.left) × IsWithin (2 ^ 15) w.cost
 
-fitting_in : (sizes : Sizes) (place start : ℕ) (text : List ℕ) (dict : ℕ) (lexicon : List Lexeme) (w : Word) → AllByRecursion (IsFittingLexeme sizes) lexicon → StandsIn (known_in place start text dict lexicon) w → IsFittingWord sizes w
+fitting_in : (sizes : MatrixSizes) (place start : ℕ) (text : List ℕ) (dict : ℕ) (lexicon : List Lexeme) (w : Word) → AllByRecursion (IsFittingLexeme sizes) lexicon → StandsIn (known_in place start text dict lexicon) w → IsFittingWord sizes w
 fitting_in sizes place start text dict lexicon w all h =
     let r = in_flat_map (λ n. map (known_word place start dict) (entries_of_length text lexicon n)) (up_to (length text)) w h in
     let m = in_map (known_word place start dict) (entries_of_length text lexicon r.0) w r.2 in
     let f = in_filter (λ e. bytes_eq e.surface (take r.0 text)) lexicon m.0 m.1 in
     subst (IsFittingWord sizes) m.2 (holds_in (IsFittingLexeme sizes) lexicon m.0 all f.0)
 
-fitting_from : (sizes : Sizes) (place start : ℕ) (text : List ℕ) (dict : ℕ) (all : List (List Lexeme)) (w : Word) → AllByRecursion (AllByRecursion (IsFittingLexeme sizes)) all → StandsIn (known_from place start text dict all) w → IsFittingWord sizes w
+fitting_from : (sizes : MatrixSizes) (place start : ℕ) (text : List ℕ) (dict : ℕ) (all : List (List Lexeme)) (w : Word) → AllByRecursion (AllByRecursion (IsFittingLexeme sizes)) all → StandsIn (known_from place start text dict all) w → IsFittingWord sizes w
 fitting_from sizes place start text dict [] w fit h = absurd h
 fitting_from sizes place start text dict (lexicon ∷ more) w fit h = elim (in_append (known_in place start text dict lexicon) (known_from place start text (suc dict) more) w h) [
   | inl i ↦ fitting_in sizes place start text dict lexicon w fit.0 i
   | inr j ↦ fitting_from sizes place start text (suc dict) more w fit.1 j
 ]
 
-fitting_unknown : (sizes : Sizes) (o : Overlay) (none_known : Bool) (place start : ℕ) (cs : List ℕ) (w : Word) → ((i : ℕ) → AllByRecursion (IsFitting sizes) (o.system.unknown i)) → StandsIn (unknown o none_known place start cs) w → IsFittingWord sizes w
+fitting_unknown : (sizes : MatrixSizes) (o : Overlay) (none_known : Bool) (place start : ℕ) (cs : List ℕ) (w : Word) → ((i : ℕ) → AllByRecursion (IsFitting sizes) (o.system.unknown i)) → StandsIn (unknown o none_known place start cs) w → IsFittingWord sizes w
 fitting_unknown sizes o none_known place start [] w fit h = absurd h
 fitting_unknown sizes o none_known place start (c ∷ cs) w fit h =
     let ts = o.system.unknown (o.system.info c).head in
@@ -54,7 +55,7 @@ fitting_unknown sizes o none_known place start (c ∷ cs) w fit h =
     let m = in_map (unknown_word place start (bytes_of r.0 (c ∷ cs))) ts w r.2 in
     subst (IsFittingWord sizes) m.2 (holds_in (IsFitting sizes) ts m.0 (fit (o.system.info c).head) m.1)
 
-fitting_by : (sizes : Sizes) (o : Overlay) (text : List ℕ) (p : ℕ) (w : Word) (b : Bool) → EntriesFit sizes o
+fitting_by : (sizes : MatrixSizes) (o : Overlay) (text : List ℕ) (p : ℕ) (w : Word) (b : Bool) → EntriesFit sizes o
     → StandsIn (cond b (known o text p ++ unknown o (is_empty (known o text p)) p (skip o text p) (chars_from text (skip o text p))) []) w → IsFittingWord sizes w
 fitting_by sizes o text p w false fit h = absurd h
 fitting_by sizes o text p w true fit h = elim (in_append (known o text p) (unknown o (is_empty (known o text p)) p (skip o text p) (chars_from text (skip o text p))) w h) [
@@ -63,19 +64,19 @@ fitting_by sizes o text p w true fit h = elim (in_append (known o text p) (unkno
 ]
 
 -- each word has ids within the sizes, and a cost of 16 bits
-pub fitting : (sizes : Sizes) (o : Overlay) (text : List ℕ) (p : ℕ) (w : Word) → EntriesFit sizes o → Contains (words o text p) w → IsFittingWord sizes w
+pub fitting : (sizes : MatrixSizes) (o : Overlay) (text : List ℕ) (p : ℕ) (w : Word) → EntriesFit sizes o → Contains (words o text p) w → IsFittingWord sizes w
 fitting sizes o text p w fit h = fitting_by sizes o text p w (is_place text p && nat_lt (skip o text p) (length text)) fit (in_from_Contains (words o text p) w h)
 
 -- ---- the search
 
 -- ids that lie within the sizes with some other lie there with each other
-crossed : (sizes : Sizes) (right other_left other_right left : ℕ) → IsTrue (is_pair sizes right other_left) → IsTrue (is_pair sizes other_right left) → IsTrue (is_pair sizes right left)
+crossed : (sizes : MatrixSizes) (right other_left other_right left : ℕ) → IsTrue (is_pair sizes right other_left) → IsTrue (is_pair sizes other_right left) → IsTrue (is_pair sizes right left)
 crossed sizes right other_left other_right left a b =
     and_from (nat_lt right sizes.right) (nat_lt left sizes.left)
     (and_parts (nat_lt right sizes.right) (nat_lt other_left sizes.left) a).0
     (and_parts (nat_lt other_right sizes.right) (nat_lt left sizes.left) b).1
 
-pub searchable_overlay : (sizes : Sizes) (o : Overlay) (text : List ℕ) → HasWords o → EntriesFit sizes o → IsTrue (is_pair sizes 0 0) → ((right left : ℕ) → IsWithin (2 ^ 15) (o.system.connection right left))
+pub searchable_overlay : (sizes : MatrixSizes) (o : Overlay) (text : List ℕ) → HasWords o → EntriesFit sizes o → IsTrue (is_pair sizes 0 0) → ((right left : ℕ) → IsWithin (2 ^ 15) (o.system.connection right left))
     → IsUtf8 text → length text ≤ SENTENCE_MAX
     → IsSearchable (λ p. IsTrue (is_place text p)) (λ right left. IsTrue (is_pair sizes right left)) (words o text) o.system.connection (length text)
 searchable_overlay sizes o text has fit some costs u short =

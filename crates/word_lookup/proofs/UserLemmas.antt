@@ -6,7 +6,7 @@ use Rattle.std.proofs.lemmas.Bool.{and_right, ne_eqb, and_from, eq-eqb}
 use Rattle.std.proofs.lemmas.List.{take_more, drop_more, take_all, map-append}
 use Rattle.mj_model.specs.declared.overlay_fault.OverlayFault.{OverlayFault}
 use Rattle.mj_model.specs.declared.overlay_fault.OverlayFault.TheVariants.{NotSystem, NotUser, OtherSizes}
-use Rattle.mj_model.specs.Connection.{Sizes}
+use Rattle.mj_model.specs.declared.matrix_sizes.MatrixSizes.{MatrixSizes}
 use Rattle.mj_model.specs.Overlays.{is_user, are_same_sizes, first_user_fault, overlay_fault}
 use Rattle.mj_model.specs.Tables.{Tables}
 use Rattle.dict_image.specs.Fitting.{AreFitting}
@@ -14,24 +14,24 @@ use Rattle.word_lookup.specs.Fitting.{AreLaidOver, IsOverlay, IsUserOf, sizes_of
 
 -- ---- sizes
 
-pub right_differs : (t : Sizes) (s : ℕ × ℕ) (right : ℕ) → right ≡ t.right → (right ≡ s.0 → ⊥) → are_same_sizes t (sizes_of s) ≡ false
+pub right_differs : (t : MatrixSizes) (s : ℕ × ℕ) (right : ℕ) → right ≡ t.right → (right ≡ s.0 → ⊥) → are_same_sizes t (sizes_of s) ≡ false
 right_differs t s right is other = ap (λ (b : Bool). b && (t.left == s.1)) (ne_eqb t.right s.0 (λ e. other (is ∙ e)))
 
-pub left_differs : (t : Sizes) (s : ℕ × ℕ) (left : ℕ) → left ≡ t.left → (left ≡ s.1 → ⊥) → are_same_sizes t (sizes_of s) ≡ false
+pub left_differs : (t : MatrixSizes) (s : ℕ × ℕ) (left : ℕ) → left ≡ t.left → (left ≡ s.1 → ⊥) → are_same_sizes t (sizes_of s) ≡ false
 left_differs t s left is other = and_right (t.right == s.0) (t.left == s.1) (ne_eqb t.left s.1 (λ e. other (is ∙ e)))
 
-pub same : (t : Sizes) (s : ℕ × ℕ) (right left : ℕ) → right ≡ t.right → left ≡ t.left → right ≡ s.0 → left ≡ s.1 → are_same_sizes t (sizes_of s) ≡ true
+pub same : (t : MatrixSizes) (s : ℕ × ℕ) (right left : ℕ) → right ≡ t.right → left ≡ t.left → right ≡ s.0 → left ≡ s.1 → are_same_sizes t (sizes_of s) ≡ true
 same t s right left r l a b = and_from (t.right == s.0) (t.left == s.1) (eq-eqb t.right s.0 (sym r ∙ a)) (eq-eqb t.left s.1 (sym l ∙ b))
 
 -- ---- faults
 
-pub other_sizes : (sizes : Sizes) (i : ℕ) (user : Tables) (others : List Tables) → is_user user.kind ≡ true → are_same_sizes user.sizes sizes ≡ false → first_user_fault sizes i (user ∷ others) ≡ Some (OtherSizes i)
+pub other_sizes : (sizes : MatrixSizes) (i : ℕ) (user : Tables) (others : List Tables) → is_user user.kind ≡ true → are_same_sizes user.sizes sizes ≡ false → first_user_fault sizes i (user ∷ others) ≡ Some (OtherSizes i)
 other_sizes sizes i user others is differ =
     let rest = first_user_fault sizes (suc i) others in
     ap (λ (b : Bool). cond (not b) (Some (NotUser i)) (cond (not (are_same_sizes user.sizes sizes)) (Some (OtherSizes i)) rest)) is
     ∙ ap (λ (b : Bool). cond (not b) (Some (OtherSizes i)) rest) differ
 
-passed : (sizes : Sizes) (i : ℕ) (user : Tables) (others : List Tables) → IsUserOf sizes user → first_user_fault sizes i (user ∷ others) ≡ first_user_fault sizes (suc i) others
+passed : (sizes : MatrixSizes) (i : ℕ) (user : Tables) (others : List Tables) → IsUserOf sizes user → first_user_fault sizes i (user ∷ others) ≡ first_user_fault sizes (suc i) others
 passed sizes i user others is =
     let rest = first_user_fault sizes (suc i) others in
     ap (λ (b : Bool). cond (not b) (Some (NotUser i)) (cond (not (are_same_sizes user.sizes sizes)) (Some (OtherSizes i)) rest)) is.is_users
@@ -40,7 +40,7 @@ passed sizes i user others is =
 -- ---- the first users
 
 -- the first i users are users of a system of these sizes, so a first fault is that of the others
-pub record HavePassed (sizes : Sizes) (view : List ℕ → Tables) (users : List (List ℕ)) (i : ℕ) : Type 0 where
+pub record HavePassed (sizes : MatrixSizes) (view : List ℕ → Tables) (users : List (List ℕ)) (i : ℕ) : Type 0 where
   pub each : AllByRecursion (IsUserOf sizes) (map view (take i users))
   pub rest : first_user_fault sizes 0 (map view users) ≡ first_user_fault sizes i (map view (drop i users))
 
@@ -48,7 +48,7 @@ all_push : (P : Tables → Type 0) (ts : List Tables) (t : Tables) → AllByRecu
 all_push P [] t all h = (h, tt)
 all_push P (s ∷ ts) t all h = (all.0, all_push P ts t all.1 h)
 
-pub one_user_more : (sizes : Sizes) (view : List ℕ → Tables) (users : List (List ℕ)) (i : ℕ) (user : List ℕ) → i < length users → user ≡ get_or users i user → IsUserOf sizes (view user)
+pub one_user_more : (sizes : MatrixSizes) (view : List ℕ → Tables) (users : List (List ℕ)) (i : ℕ) (user : List ℕ) → i < length users → user ≡ get_or users i user → IsUserOf sizes (view user)
     → HavePassed sizes view users i → HavePassed sizes view users (i + 1)
 one_user_more sizes view users i user less at is have =
     let front : map view (take (i + 1) users) ≡ map view (take i users) ++ view user ∷ [] =
@@ -61,17 +61,17 @@ one_user_more sizes view users i user less at is have =
           ∙ ap (λ (k : ℕ). first_user_fault sizes k (map view (drop (i + 1) users))) (sym (add-one i));
     }
 
-pub user_told : (sizes : Sizes) (view : List ℕ → Tables) (users : List (List ℕ)) (i : ℕ) (user : List ℕ) (fault : OverlayFault) → i < length users → user ≡ get_or users i user → HavePassed sizes view users i
+pub user_told : (sizes : MatrixSizes) (view : List ℕ → Tables) (users : List (List ℕ)) (i : ℕ) (user : List ℕ) (fault : OverlayFault) → i < length users → user ≡ get_or users i user → HavePassed sizes view users i
     → ((others : List Tables) → first_user_fault sizes i (view user ∷ others) ≡ Some fault) → first_user_fault sizes 0 (map view users) ≡ Some fault
 user_told sizes view users i user fault less at have told =
     have.rest ∙ ap (λ (us : List (List ℕ)). first_user_fault sizes i (map view us)) (drop_more users i user less ∙ ap (λ (u : List ℕ). u ∷ drop (i + 1) users) (sym at))
     ∙ told (map view (drop (i + 1) users))
 
-pub all_passed : (sizes : Sizes) (view : List ℕ → Tables) (users : List (List ℕ)) (i : ℕ) → length users ≤ i → HavePassed sizes view users i → AllByRecursion (IsUserOf sizes) (map view users)
+pub all_passed : (sizes : MatrixSizes) (view : List ℕ → Tables) (users : List (List ℕ)) (i : ℕ) → length users ≤ i → HavePassed sizes view users i → AllByRecursion (IsUserOf sizes) (map view users)
 all_passed sizes view users i high have = subst (λ (us : List (List ℕ)). AllByRecursion (IsUserOf sizes) (map view us)) (take_all i users high) have.each
 
 -- users of a system of these sizes have no fault
-pub no_user_fault : (sizes : Sizes) (i : ℕ) (users : List Tables) → AllByRecursion (IsUserOf sizes) users → first_user_fault sizes i users ≡ None
+pub no_user_fault : (sizes : MatrixSizes) (i : ℕ) (users : List Tables) → AllByRecursion (IsUserOf sizes) users → first_user_fault sizes i users ≡ None
 no_user_fault sizes i [] all = refl
 no_user_fault sizes i (user ∷ users) all = passed sizes i user users all.0 ∙ no_user_fault sizes (suc i) users all.1
 
@@ -84,7 +84,7 @@ pub overlay_found : (system : Tables) (users : List Tables) (s : ℕ × ℕ) (fo
     → first_user_fault (sizes_of s) 0 users ≡ found → overlay_fault system users ≡ found
 overlay_found system users s found is right left told =
     ap (λ (b : Bool). cond b (Some NotSystem) (first_user_fault system.sizes 0 users)) is
-    ∙ ap (λ (sizes : Sizes). first_user_fault sizes 0 users) (sym (sizes_are system s right left)) ∙ told
+    ∙ ap (λ (sizes : MatrixSizes). first_user_fault sizes 0 users) (sym (sizes_are system s right left)) ∙ told
 
 pub overlay_is : (system : Tables) (users : List Tables) (s : ℕ × ℕ) → is_user system.kind ≡ false → AreFitting system → s.0 ≡ system.sizes.right → s.1 ≡ system.sizes.left → AllByRecursion (IsUserOf (sizes_of s)) users
     → IsOverlay system users
@@ -92,7 +92,7 @@ unfolding IsOverlay
 overlay_is system users s is fits right left all = record {
   is_system = is;
   fits = fits;
-  users_fit = subst (λ (sizes : Sizes). AllByRecursion (IsUserOf sizes) users) (sizes_are system s right left) all;
+  users_fit = subst (λ (sizes : MatrixSizes). AllByRecursion (IsUserOf sizes) users) (sizes_are system s right left) all;
 }
 
 pub laid_over : (system : Tables) (users : List Tables) → IsOverlay system users → AreLaidOver system users

@@ -1,5 +1,5 @@
 use Rattle.std.proofs.Common.{ℕ, ◌++◌, ◌∷◌, [], List, sym, subst, ◌∙◌, take}
-use Rattle.mj_model.specs.Connection.{Sizes}
+use Rattle.mj_model.specs.declared.matrix_sizes.MatrixSizes.{MatrixSizes}
 use Rattle.mj_model.specs.Lexicon.{rows_of}
 use Rattle.char_def.specs.Outside.{lines_outside, IsLeastOf}
 use Rattle.char_def.proofs.OutsideLemmas.{outside_more, inside_more, all_looked_at}
@@ -8,7 +8,7 @@ use Rattle.char_def.proofs.outside.least_line_outside.Goals.{then-is_outside, el
 
 pub loop-record-preserved : goal.loop-record-preserved
 loop-record-preserved c = λ before h.
-    let sizes : Sizes = record { right = c.args.right_size; left = c.args.left_size } in
+    let sizes : MatrixSizes = record { right = c.args.right_size; left = c.args.left_size } in
     let so_far : List ℕ = before ++ lines_outside sizes (rows_of (take c.loop-record.record-index c.args.records.now)) in
     elim c.if-is_outside.branch [
       | then-is_outside w ↦

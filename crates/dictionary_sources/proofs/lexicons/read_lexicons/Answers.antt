@@ -2,7 +2,7 @@ use Rattle.std.proofs.Common.{ap, subst, sym, take, ◌+◌, List, arith}
 use Rattle.std.specs.Prelude.{map}
 use Rattle.mj_model.specs.Dictionary.{AreLexicons}
 use Rattle.mj_model.specs.Compilation.{SkipLines}
-use Rattle.mj_model.specs.Connection.{Sizes}
+use Rattle.mj_model.specs.declared.matrix_sizes.MatrixSizes.{MatrixSizes}
 use Rattle.mj_model.specs.Lexicon.{Row, rows_of}
 use Rattle.std.proofs.lemmas.Result.{err_from_is_err_and}
 use Rattle.dictionary_sources.proofs.LexiconLemmas.{lexicons_more, lexicons_fault, lexicons_end, added_skips, skips_end}
@@ -19,7 +19,7 @@ loop-lexicon-init c = (
 pub loop-lexicon-preserved : goal.loop-lexicon-preserved
 loop-lexicon-preserved c =
     let adds = c.in_ok-more.ensures.accepted in
-    let sizes : Sizes = record { right = c.args.sizes.right; left = c.args.sizes.left } in (
+    let sizes : MatrixSizes = record { right = c.args.sizes.right; left = c.args.sizes.left } in (
       lexicons_more sizes c.loop-lexicon.file c.args.lexicons.now c.loop-lexicon.lexicon-index _ c.loop-lexicon-test.true c.loop-lexicon.records.items
           c.loop-lexicon.invariant.0 c.add_lexicon.new.records.items _ c.file_behind-file.result c.file_behind-file.ensures adds,
       subst (SkipLines (map (λ lexicon. lexicon.now) (take (c.loop-lexicon.lexicon-index + 1) c.args.lexicons.now))) (sym c.with_more-skipped.ensures.sum) (added_skips sizes c.loop-lexicon.file c.args.lexicons.now c.loop-lexicon.lexicon-index _ c.loop-lexicon-test.true c.loop-lexicon.records.items c.add_lexicon.new.records.items

@@ -1,6 +1,6 @@
 use Rattle.std.proofs.Common.{◌≡◌, ℕ, List, [], ◌∷◌, length, sym, subst, arith}
 use Rattle.std.proofs.lemmas.List.{length-map}
-use Rattle.mj_model.specs.Connection.{Sizes}
+use Rattle.mj_model.specs.declared.matrix_sizes.MatrixSizes.{MatrixSizes}
 use Rattle.mj_model.specs.Lexicon.{row_of, rows_of}
 use Rattle.image_frame.specs.Frames.{IsFramed, Numbers}
 use Rattle.image_writer.proofs.UserLemmas.{user_image}
@@ -8,7 +8,7 @@ use Rattle.image_writer.proofs.user.write_user.Goals as goal
 
 pub returns-clause-image : goal.returns-clause-image
 returns-clause-image c =
-    let sizes : Sizes = record { right = c.args.right; left = c.args.left } in
+    let sizes : MatrixSizes = record { right = c.args.right; left = c.args.left } in
     let rows = rows_of c.args.lexicon.now in
     let sections = c.in_ok-sections.sections in
     let long : length c.args.lexicon.now ≡ length rows = sym (length-map c.args.lexicon.now row_of) in

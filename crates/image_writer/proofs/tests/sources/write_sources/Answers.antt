@@ -1,5 +1,5 @@
 use Rattle.std.proofs.Common.{◌≡◌, List, refl, sym, subst, arith}
-use Rattle.mj_model.specs.Connection.{Sizes}
+use Rattle.mj_model.specs.declared.matrix_sizes.MatrixSizes.{MatrixSizes}
 use Rattle.mj_model.specs.Lexicon.{Row, rows_of}
 use Rattle.image_lexicon.specs.Entries.{all_rows}
 use Rattle.image_tables.specs.StoredTables.{sizes_of}
@@ -9,7 +9,7 @@ use Rattle.image_writer.proofs.tests.sources.write_sources.Goals as goal
 
 pub write_system-requires-clause-few_unknown : goal.write_system-requires-clause-few_unknown
 write_system-requires-clause-few_unknown c =
-    let sizes : Sizes = record { right = c.sizes-right_size.result.0; left = c.sizes-right_size.result.1 } in
+    let sizes : MatrixSizes = record { right = c.sizes-right_size.result.0; left = c.sizes-right_size.result.1 } in
     let few = few_in_all sizes c.in_ok-unknown.unknown (c.if-not-are_unknown.ensures refl) in
     let many = c.in_ok-unknown.ensures.count in
     let count = c.count-count.ensures.count in
@@ -22,11 +22,11 @@ write_system-requires-clause-some c =
 
 pub write_system-requires-clause-ids : goal.write_system-requires-clause-ids
 write_system-requires-clause-ids c =
-    let sizes : Sizes = record { right = c.sizes-right_size.result.0; left = c.sizes-right_size.result.1 } in
+    let sizes : MatrixSizes = record { right = c.sizes-right_size.result.0; left = c.sizes-right_size.result.1 } in
     let same : sizes ≡ sizes_of c.in_ok-matrix.matrix = λ i. record { right = c.sizes-right_size.ensures.right_size i; left = c.sizes-right_size.ensures.left_size i } in
     let rows : List Row = rows_of c.deref.result.now in
     let ids = subst (AreWithin sizes) (λ i. rows_of (sym c.deref.ensures.value i)) c.in_ok-lexicon.ensures.ids in
-    subst (λ (s : Sizes). AreWithin s (all_rows rows c.in_ok-unknown.unknown)) same (all_within sizes rows c.in_ok-unknown.unknown ids (c.if-not-are_unknown.ensures refl))
+    subst (λ (s : MatrixSizes). AreWithin s (all_rows rows c.in_ok-unknown.unknown)) same (all_within sizes rows c.in_ok-unknown.unknown ids (c.if-not-are_unknown.ensures refl))
 
 pub write_system-requires-clause-storable : goal.write_system-requires-clause-storable
 write_system-requires-clause-storable c =
