@@ -5,13 +5,13 @@ use Rattle.std.specs.List.{AllByRecursion, enumerate_from}
 use Rattle.std.proofs.lemmas.Bool.{eq-eqb}
 use Rattle.mj_model.specs.declared.source_fault.SourceFault.{SourceFault}
 use Rattle.mj_model.specs.declared.source_fault.SourceKind.TheVariants.{NoSuchCategory, MissingCategory, IdOutside}
-use Rattle.mj_model.specs.Best.{IsWithin}
+use Rattle.mj_model.specs.Bounds.{IsWithin}
 use Rattle.mj_model.specs.CharDef.{NamedCategory, is_defined, category_number}
 use Rattle.mj_model.specs.declared.matrix_sizes.MatrixSizes.{MatrixSizes}
 use Rattle.mj_model.specs.Connection.{is_pair}
 use Rattle.mj_model.specs.Dictionary.{first_outside}
 use Rattle.mj_model.specs.FirstFault.{IsRefusal}
-use Rattle.mj_model.specs.Laws.{StandsIn}
+use Rattle.mj_model.specs.Lists.{StandsIn}
 use Rattle.mj_model.specs.Lexicon.{Row, Accepted, Refused, row_from, Reading, ReadsAs}
 use Rattle.mj_model.specs.UnkDef.{accept_defined, unk_outcome, rows_named, rows_by_category, first_without_rows, unknown_from, IsUnkDef, rows_or, unless_outside, unknown_within, IsUnkWithin}
 use Rattle.mj_model.proofs.AcceptedRows.{IsRowOf, OnRow, OnAccepted, row_is, LinesRise, AreReadRows, rows_read}

@@ -3,7 +3,7 @@ use Rattle.std.specs.Prelude.{◌≡◌, ◌≤◌, ℕ, Bool, not, List, [], ma
 use Rattle.std.specs.List.{AllByRecursion}
 use Rattle.mj_model.specs.declared.matrix_sizes.MatrixSizes.{MatrixSizes}
 use Rattle.mj_model.specs.Connection.{is_pair}
-use Rattle.mj_model.specs.Laws.{StandsIn}
+use Rattle.mj_model.specs.Lists.{StandsIn}
 use Rattle.mj_model.specs.Lexicon.{Row}
 
 abbrev pub is_outside : MatrixSizes → Row → Bool

@@ -10,13 +10,13 @@ use Rattle.std.specs.Option.{option_map_or}
 use Rattle.std.proofs.lemmas.Bool.{le-leb, lt-ltb, ltb-true}
 use Rattle.std.proofs.lemmas.List.{get_or-drop, reverse-append}
 use Rattle.std.proofs.lemmas.List.FromFn.{map-range_with_len_more}
-use Rattle.mj_model.specs.Best.{IsWithin}
+use Rattle.mj_model.specs.Bounds.{IsWithin}
 use Rattle.mj_model.specs.declared.matrix_sizes.MatrixSizes.{MatrixSizes}
 use Rattle.mj_model.specs.Connection.{is_pair}
 use Rattle.mj_model.specs.ImageBytes.{kind_of, number_at, signed_2_at, header_of, all_tokens, section}
 use Rattle.mj_model.specs.ImageMeaning.{image_unknown, tokens_in, entry_under, image_tables, lexicon_sections, entries_of_group}
 use Rattle.mj_model.specs.ImageSections.{AreRanges, IsIndex, StoredRange, range_at, stored_info, no_info, token_from, stored_token, stored_cost, index_at, key_of, stored_cells}
-use Rattle.mj_model.specs.Tables.{System, Token, Lexeme}
+use Rattle.mj_model.specs.Tables.{System, Token, Lexeme, HasApartTokens}
 use Rattle.dict_image.specs.Fitting.{AreBytes, AreFitting, IsFitting}
 use Rattle.dict_image.specs.Held.{IsImage}
 use Rattle.dict_image.specs.Ranges.{range_count}
@@ -25,7 +25,6 @@ use Rattle.dict_image.proofs.FormedLemmas.{few_categories, groups_are, is_header
 use Rattle.dict_image.proofs.RangeLemmas.{in_order}
 use Rattle.dict_image.proofs.TokenLemmas.{index_within, some_tokens}
 use Rattle.dict_image.proofs.NumberLemmas.{lexicon_apart, lexicon_texts, list_apart}
-use Rattle.mj_model.specs.Laws.{HasApartTokens}
 
 -- ---- costs
 

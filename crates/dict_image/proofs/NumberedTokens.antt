@@ -10,7 +10,7 @@ use Rattle.mj_model.specs.ImageBytes.{header_of, section, all_tokens, kind_of}
 use Rattle.mj_model.specs.ImageFaults.{AreCounts}
 use Rattle.mj_model.specs.ImageMeaning.{LexiconSections, entries_of_group, image_tables, image_token, image_unknown, lexicon_sections, tokens_in}
 use Rattle.mj_model.specs.ImageSections.{IsIndex, index_at, key_of, stored_cells, token_from}
-use Rattle.mj_model.specs.KnownWords.{up_to}
+use Rattle.mj_model.specs.Lists.{up_to}
 use Rattle.mj_model.specs.Tables.{Lexeme, Token, Kind, System, User}
 use Rattle.dict_image.specs.Held.{IsImage}
 use Rattle.dict_image.specs.Numbered.{unknown_tokens}

@@ -7,7 +7,7 @@ use Rattle.mj_model.specs.CellMap.{Cell, value_of, prefixes_of}
 use Rattle.mj_model.specs.CellRules.{MeetsRules}
 use Rattle.mj_model.specs.ImageMeaning.{tokens_in, LexiconSections, lexicon_in, entries_under}
 use Rattle.mj_model.specs.ImageSections.{stored_cells, index_at}
-use Rattle.mj_model.specs.KnownWords.{up_to}
+use Rattle.mj_model.specs.Lists.{up_to}
 use Rattle.mj_model.specs.Tables.{Token, Lexeme}
 use Rattle.dict_image.specs.Prefixes.{has_entries, prefixes_in, prefix_in}
 use Rattle.dict_image.proofs.LexiconLemmas.{AreKeys, value_below, entries_of_value, entries_of_none}

@@ -1,11 +1,10 @@
 -- What a search asks of a dictionary's tables.
 use Rattle.std.specs.Prelude.{◌≡◌, ℕ, ◌^◌, ◌<◌, IsTrue, List, length, map, slice_index}
 use Rattle.std.specs.List.{AllByRecursion}
-use Rattle.mj_model.specs.Best.{IsWithin}
+use Rattle.mj_model.specs.Bounds.{IsWithin}
 use Rattle.mj_model.specs.declared.matrix_sizes.MatrixSizes.{MatrixSizes}
 use Rattle.mj_model.specs.Connection.{is_pair}
-use Rattle.mj_model.specs.Laws.{HasApartTokens, HasText}
-use Rattle.mj_model.specs.Tables.{Tables, Token, Lexeme, System}
+use Rattle.mj_model.specs.Tables.{HasApartTokens, HasText, Tables, Token, Lexeme, System}
 
 -- bytes, each below 256
 abbrev pub AreBytes : List ℕ → Type 0

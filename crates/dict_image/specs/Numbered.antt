@@ -1,6 +1,6 @@
 -- The unknown entries of a dictionary by their numbers.
 use Rattle.std.specs.Prelude.{◌-◌, List, length, flat_map}
-use Rattle.mj_model.specs.KnownWords.{up_to}
+use Rattle.mj_model.specs.Lists.{up_to}
 use Rattle.mj_model.specs.Tables.{Tables, Token}
 
 -- the unknown entries of all categories, those of lower categories before

@@ -3,7 +3,7 @@ use Rattle.std.proofs.Common.{◌≡◌, ℕ, zero, suc, ◌+◌, ◌<◌, ◌�
 use Rattle.std.specs.Option.{option_map}
 use Rattle.std.specs.List.{filter_map}
 use Rattle.std.proofs.lemmas.List.{drop_more, drop_all, take-take, take-map, take-append-le, length-take-le, length-map, get_or-take}
-use Rattle.mj_model.specs.KnownWords.{up_to}
+use Rattle.mj_model.specs.Lists.{up_to}
 use Rattle.mj_model.specs.CellMap.{Cell, step, walk, codes_of, value_of, prefixes_of}
 use Rattle.mj_model.proofs.CellWalks.{walk_none}
 use Rattle.double_array.specs.declared.steps.Place.{Place}

@@ -6,7 +6,8 @@ use Rattle.mj_model.specs.CellMap.{Cell, free_cell, cell_at, base, check, step, 
 use Rattle.mj_model.specs.CellRules.{MeetsRules, AreOnKeys, IsUsed, IsBaseAfter}
 use Rattle.mj_model.specs.CellMoves.{IsMove}
 use Rattle.mj_model.proofs.CellWalks.{step_named, step_place, step_at, child_of, step_child, no_way_back, walk_one, walk_none}
-use Rattle.mj_model.proofs.CellMoveLaw.{walked, free_no_check, free_no_base, cases_pos, same_pos}
+use Rattle.mj_model.proofs.CellMoveLaw.{walked, free_no_check, free_no_base, cases_pos}
+use Rattle.mj_model.proofs.Basics.{same_pos}
 use Rattle.double_array.specs.Family.{HasCode, FitsAt}
 use Rattle.double_array.specs.Moves.{IsFamilyOf, IsRenamed, IsChildMoved, IsMovedUpTo, AreChildrenRenamed, HasChildrenFromBase}
 use Rattle.double_array.specs.Pool.{IsInUse}

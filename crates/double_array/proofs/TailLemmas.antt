@@ -4,7 +4,7 @@ use Rattle.std.proofs.lemmas.Bool.{cases_eq}
 use Rattle.std.proofs.lemmas.List.{length-set, set-set}
 use Rattle.mj_model.specs.CellMap.{Cell, free_cell, cell_at, base, check, walk, codes_of, HasSameMap, IsMapWith}
 use Rattle.mj_model.specs.CellRules.{IsBaseAfter}
-use Rattle.mj_model.proofs.CellMoveLaw.{same_pos}
+use Rattle.mj_model.proofs.Basics.{same_pos}
 use Rattle.double_array.specs.Pool.{Pool}
 use Rattle.double_array.specs.Built.{values, AreBases, IsBuilt}
 use Rattle.double_array.specs.Tail.{IsReady, IsStateAdded}

@@ -1,39 +1,28 @@
 //! Why an insertion is refused.
-ghost use Rattle.std.specs.Prelude.{◌≡◌};
 
+use mj_model::NamedFault;
 use thiserror::Error;
 
 /// Why an insertion is refused. The map is as before.
 #[derive(Clone, Copy, Debug, PartialEq, Eq, Drop, Error)]
 pub enum DaFault {
     /// The array would have more than 2^30 cells.
-    #[error("X1 Full")]
+    #[error("{} {}", self.code(), self.name())]
     Full,
     /// Memory was refused.
-    #[error("Memory")]
+    #[error("{}", self.name())]
     Memory,
 }
 
-impl DaFault {
-    ghost use Rattle.double_array.specs.FaultWords.{words_of};
+impl NamedFault for DaFault {
+    ghost use Rattle.double_array.specs.FaultWords.{words_of as fault_words};
 
-    /// The short code, as `X1`.
-    pub fn code(self) -> &'static str
-        ensures { result.now ≡ (words_of self).code }
-    {
-        match self {
-            DaFault::Full => "X1",
-            DaFault::Memory => "Memory",
-        }
-    }
+    ghost words_of = { fault_words };
 
-    /// The name behind the code, as `Full`.
-    pub fn name(self) -> &'static str
-        ensures { result.now ≡ (words_of self).name }
-    {
+    fn words(self) -> (&'static str, &'static str) {
         match self {
-            DaFault::Full => "Full",
-            DaFault::Memory => "Memory",
+            DaFault::Full => ("X1", "Full"),
+            DaFault::Memory => ("Memory", "Memory"),
         }
     }
 }

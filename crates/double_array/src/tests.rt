@@ -5,6 +5,7 @@ mod relocated;
 
 use crate::tests::access::{Borrowed, expect_hits, insert, value};
 use crate::{CellRead, DaFault, DoubleArray, Inserted};
+use mj_model::NamedFault;
 use std::test::Fail;
 
 #[test]

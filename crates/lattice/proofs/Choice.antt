@@ -14,13 +14,14 @@ use Rattle.mj_model.specs.declared.word.Word.{Word}
 use Rattle.lattice.specs.declared.node.Node.{Node}
 use Rattle.lattice.specs.declared.node.End.{End}
 use Rattle.lattice.specs.declared.node.Join.{Join}
-use Rattle.mj_model.specs.Order.{StandsBefore, IsPreferred}
-use Rattle.mj_model.specs.Best.{IsWithin, IsSource}
-use Rattle.mj_model.specs.ChainsBack.{IsChainTo, last_right, cost_to, joined, HoldsAgainst, IsBestTo}
+use Rattle.paths.specs.Order.{StandsBefore, IsPreferred}
+use Rattle.mj_model.specs.Bounds.{IsWithin}
+use Rattle.paths.specs.Best.{IsSource}
+use Rattle.paths.specs.ChainsBack.{IsChainTo, last_right, cost_to, joined, HoldsAgainst, IsBestTo}
 use Rattle.lattice.specs.Nodes.{end_cost, HoldsOver, NoEnd, IsBestEnd, HasSmallTotal, IsFollowedBy}
 use Rattle.lattice.specs.Lattice.{IsDone, IsLattice, IsJoin, NoChain}
-use Rattle.mj_model.specs.Searchable.{MayFollow}
-use Rattle.mj_model.proofs.ChainsBackLemmas.{best_empty, best_among}
+use Rattle.paths.specs.Searchable.{MayFollow}
+use Rattle.paths.proofs.ChainsBackLemmas.{best_empty, best_among}
 
 module _ (words : ℕ → List Word) (conn : ℕ → ℕ → ℤ) (len : ℕ) (source : IsSource words conn len) where
   -- a chain to a place costs at most 2 ^ 16 a byte

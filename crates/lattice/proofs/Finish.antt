@@ -5,12 +5,12 @@ use Rattle.std.proofs.lemmas.Option.{slice_get_within}
 use Rattle.mj_model.specs.declared.word.Word.{Word}
 use Rattle.lattice.specs.declared.node.Node.{Node}
 use Rattle.lattice.specs.declared.node.Join.{Join}
-use Rattle.mj_model.specs.Best.{IsSource, IsBestPath}
-use Rattle.mj_model.specs.Cost.{path_cost}
-use Rattle.mj_model.specs.ChainsBack.{IsChainTo, joined}
+use Rattle.paths.specs.Best.{IsSource, IsBestPath}
+use Rattle.paths.specs.Cost.{path_cost}
+use Rattle.paths.specs.ChainsBack.{IsChainTo, joined}
 use Rattle.lattice.specs.Lattice.{Traces, IsBelow, IsLattice, IsJoin, NoChain, LinksGoBack, IsLastEnd, ReachesTo}
 use Rattle.std.proofs.lemmas.List.{reverse-reverse}
-use Rattle.mj_model.proofs.ChainsBackLemmas.{best_path_from, cost_reversed}
+use Rattle.paths.proofs.ChainsBackLemmas.{best_path_from, cost_reversed}
 use Rattle.lattice.proofs.Links.{below_all, traced_same}
 
 module _ (words : ℕ → List Word) (conn : ℕ → ℕ → ℤ) (len : ℕ) (source : IsSource words conn len) where

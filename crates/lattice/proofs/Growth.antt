@@ -6,12 +6,12 @@ use Rattle.std.proofs.lemmas.Option.{same_Some, slice_get_within, slice_get-get_
 use Rattle.mj_model.specs.declared.word.Word.{Word}
 use Rattle.lattice.specs.declared.node.Node.{Node}
 use Rattle.lattice.specs.declared.node.Join.{Join}
-use Rattle.mj_model.specs.Order.{StandsBefore}
-use Rattle.mj_model.specs.Best.{IsSource}
-use Rattle.mj_model.specs.ChainsBack.{IsChainTo, IsBestTo}
+use Rattle.paths.specs.Order.{StandsBefore}
+use Rattle.paths.specs.Best.{IsSource}
+use Rattle.paths.specs.ChainsBack.{IsChainTo, IsBestTo}
 use Rattle.lattice.specs.Nodes.{AreLinked, reached}
 use Rattle.lattice.specs.Lattice.{IsBestNode, IsDone, IsLattice, IsJoin, NoChain, node_of}
-use Rattle.mj_model.specs.Searchable.{StaysOnPlaces}
+use Rattle.paths.specs.Searchable.{StaysOnPlaces}
 use Rattle.lattice.proofs.Pushed.{get_push_old, get_push_new, get_push_cases, get_from_Contains, Contains_from_get}
 use Rattle.lattice.proofs.Links.{traces_push, below_all}
 use Rattle.lattice.proofs.Choice.{none_leads}

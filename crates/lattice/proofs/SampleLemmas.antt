@@ -8,8 +8,8 @@ use Rattle.std.proofs.Math.Seq.{drop-cons}
 use Rattle.std.proofs.lemmas.Option.{same_Some}
 use Rattle.mj_model.specs.declared.word.Word.{Word}
 use Rattle.mj_model.specs.declared.word.Origin.TheVariants.{Known}
-use Rattle.mj_model.specs.Best.{IsWithin}
-use Rattle.mj_model.specs.Searchable.{IsSearchable}
+use Rattle.mj_model.specs.Bounds.{IsWithin}
+use Rattle.paths.specs.Searchable.{IsSearchable}
 use Rattle.lattice.specs.Sample.{lies_at, numbered, sample_word, sample_words, sample_connection}
 use Rattle.lattice.proofs.Pushed.{get_from_Contains}
 

@@ -3,8 +3,8 @@ use Rattle.std.specs.Prelude.{◌≡◌, ℕ, ℤ, ◌+ℤ◌, ◌<◌, ◌≤�
 use Rattle.mj_model.specs.declared.word.Word.{Word}
 use Rattle.lattice.specs.declared.node.Node.{Node}
 use Rattle.lattice.specs.declared.node.Join.{Join}
-use Rattle.mj_model.specs.Order.{StandsBefore}
-use Rattle.mj_model.specs.ChainsBack.{IsChainTo, joined, IsBestTo}
+use Rattle.paths.specs.Order.{StandsBefore}
+use Rattle.paths.specs.ChainsBack.{IsChainTo, joined, IsBestTo}
 
 -- the words of the nodes from a link back, the last word first
 abbrev pub Traces : List Node → Option ℕ → List Word → Type 0

@@ -1,6 +1,6 @@
 -- Nodes that end at a place: the best of them where a word follows, and the links from one to the next.
 use Rattle.std.specs.Prelude.{◌≡◌, ℕ, ℤ, ◌+ℤ◌, ◌<ℤ◌, ◌<◌, ◌≤◌, ◌^◌, List, slice_get, Option, Some, None, Bool, true, MatchOption, ◌⊎◌, length, nat_eq}
-use Rattle.mj_model.specs.Best.{IsWithin}
+use Rattle.mj_model.specs.Bounds.{IsWithin}
 use Rattle.lattice.specs.declared.node.Node.{Node}
 use Rattle.lattice.specs.declared.node.End.{End}
 

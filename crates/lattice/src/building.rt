@@ -1,9 +1,9 @@
 //! The lattice of a text, place by place.
 
 ghost use Rattle.std.specs.Prelude.{◌≡◌, ◌+◌, ◌<◌, ◌^◌, ◌++◌, ◌∷◌, [], slice_set, length, OnOk};
-ghost use Rattle.mj_model.specs.Best.{IsWithin};
+ghost use Rattle.mj_model.specs.Bounds.{IsWithin};
 ghost use Rattle.lattice.specs.Nodes.{AreLinked, reached};
-ghost use Rattle.mj_model.specs.Searchable.{IsSearchable};
+ghost use Rattle.paths.specs.Searchable.{IsSearchable};
 ghost use Rattle.lattice.specs.Lattice.{IsLattice, node_of};
 
 use crate::joining::join;

@@ -2,9 +2,9 @@
 
 ghost use Rattle.std.specs.Prelude.{◌≡◌, ℕ, ◌≤◌, length, IsTrue, IfOk, OnOk, OnErr};
 ghost use Rattle.mj_model.specs.declared.limits.TheConstants.{SENTENCE_MAX};
-ghost use Rattle.mj_model.specs.BestOver.{IsBestOver, cost_over};
+ghost use Rattle.paths.specs.BestOver.{IsBestOver, cost_over};
 ghost use Rattle.mj_model.specs.Connection.{is_pair};
-ghost use Rattle.mj_model.specs.Words.{is_place, words};
+ghost use Rattle.paths.specs.Words.{is_place, words};
 ghost use Rattle.word_lookup.specs.Overlays.{overlay_of};
 
 use crate::lattice::Lattice;

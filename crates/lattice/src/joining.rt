@@ -2,7 +2,7 @@
 
 ghost use Rattle.std.specs.Prelude.{◌≡◌, length, All};
 ghost use Rattle.lattice.specs.Nodes.{IsBestOf, HasSmallTotal, IsBetterOf, IsFollowedBy, end_at, LinksAreLatest, IsLatest};
-ghost use Rattle.mj_model.specs.Searchable.{IsSearchable, MayFollow};
+ghost use Rattle.paths.specs.Searchable.{IsSearchable, MayFollow};
 ghost use Rattle.lattice.specs.Nodes.{IsBestOf};
 ghost use Rattle.lattice.specs.Lattice.{ReachesTo, IsJoinOf};
 

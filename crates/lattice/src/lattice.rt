@@ -1,9 +1,9 @@
 //! The lattice that is kept from line to line.
 
 ghost use Rattle.std.specs.Prelude.{◌≡◌, IfOk, OnOk, OnErr};
-ghost use Rattle.mj_model.specs.Best.{IsBestPath};
-ghost use Rattle.mj_model.specs.Cost.{path_cost};
-ghost use Rattle.mj_model.specs.Searchable.{IsSearchable};
+ghost use Rattle.paths.specs.Best.{IsBestPath};
+ghost use Rattle.paths.specs.Cost.{path_cost};
+ghost use Rattle.paths.specs.Searchable.{IsSearchable};
 
 use crate::building::build;
 use crate::node::Node;

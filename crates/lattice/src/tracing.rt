@@ -1,10 +1,10 @@
 //! The way back through a lattice, from its end.
 
 ghost use Rattle.std.specs.Prelude.{◌≡◌, ◌+◌, length, IfOk, OnOk};
-ghost use Rattle.mj_model.specs.Best.{IsBestPath};
-ghost use Rattle.mj_model.specs.Cost.{path_cost};
+ghost use Rattle.paths.specs.Best.{IsBestPath};
+ghost use Rattle.paths.specs.Cost.{path_cost};
 ghost use Rattle.lattice.specs.Nodes.{AreLinked};
-ghost use Rattle.mj_model.specs.Searchable.{IsSearchable};
+ghost use Rattle.paths.specs.Searchable.{IsSearchable};
 ghost use Rattle.lattice.specs.Lattice.{IsLattice, IsLastEnd, LinksGoBack, IsBelow, Traces};
 
 use crate::joining::join;

@@ -8,7 +8,7 @@ use Rattle.std.proofs.lemmas.Int.{ints}
 use Rattle.mj_model.specs.declared.limits.TheConstants.{ENTRIES_MAX}
 use Rattle.mj_model.specs.declared.source_fault.SourceFault.{SourceFault}
 use Rattle.mj_model.specs.declared.source_fault.SourceKind.TheVariants.{TooManyEntries}
-use Rattle.mj_model.specs.Best.{IsWithin}
+use Rattle.mj_model.specs.Bounds.{IsWithin}
 use Rattle.mj_model.specs.Lexicon.{Row, Parts, Outcome, Blank, Skipped, Refused, Accepted, IsOutcome, AreOutcomes, row_from, first_refused, accepted_rows, Reading, reading_unless, ReadsAs}
 use Rattle.mj_model.specs.Lines.{source_lines}
 use Rattle.mj_model.specs.Numbers.{number, context_id, cost}

@@ -1,14 +1,6 @@
-pub mod ChainsBackLemmas
-pub mod BestExists
 pub mod FieldLemmas
 pub mod Members
-pub mod CharBytes
-pub mod KnownMembers
-pub mod UnknownMembers
-pub mod PlaceWords
-pub mod TextPaths
 pub mod ReadingLemmas
-pub mod CoveredTexts
 pub mod AcceptedRows
 pub mod ImageFaultLaws
 pub mod CellWalks

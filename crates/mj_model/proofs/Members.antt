@@ -2,8 +2,7 @@
 use Rattle.std.proofs.Common.{◌≡◌, ℕ, zero, suc, ◌<◌, ◌≤◌, Bool, true, false, cond, List, [], ◌∷◌, ◌++◌, map, filter, flat_map, slice_get, Contains, Some, ◌⊎◌, inl, inr, sym, ap, ◌∙◌, refl, arith, subst}
 use Rattle.std.specs.List.{AllByRecursion}
 use Rattle.std.proofs.lemmas.Option.{same_Some, slice_get-get_or}
-use Rattle.mj_model.specs.KnownWords.{up_to}
-use Rattle.mj_model.specs.Laws.{StandsIn, AreApart}
+use Rattle.mj_model.specs.Lists.{up_to, StandsIn, AreApart}
 
 -- ---- what stands in a list
 

@@ -1,7 +1,7 @@
 -- The cells of a double array, and the map that they hold. (Aoe 1989)
 use Rattle.std.specs.Prelude.{◌≡◌, ℕ, suc, ℤ, pos, negsuc, ◌+ℤ◌, List, [], ◌∷◌, ◌++◌, map, Option, Some, None, option_and_then, option_map, if◌then◌else◌, ◌==◌, slice_index_or, length, take}
 use Rattle.std.specs.List.{filter_map}
-use Rattle.mj_model.specs.KnownWords.{up_to}
+use Rattle.mj_model.specs.Lists.{up_to}
 
 -- a cell: its base and its check
 abbrev pub Cell : Type 0

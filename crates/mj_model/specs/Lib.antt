@@ -1,9 +1,3 @@
-pub mod Paths
-pub mod Cost
-pub mod Order
-pub mod Best
-pub mod Searchable
-pub mod ChainsBack
 pub mod FaultWords
 pub mod Categories
 pub mod Bytes
@@ -14,17 +8,7 @@ pub mod FirstFault
 pub mod Lexicon
 pub mod Connection
 pub mod CharDef
-pub mod Run
 pub mod Tables
-pub mod Blanks
-pub mod KnownWords
-pub mod UnknownSpans
-pub mod Words
-pub mod Laws
-pub mod BestOver
-pub mod PathLaws
-pub mod Formats
-pub mod PrintedPaths
 pub mod Dictionary
 pub mod UnkDef
 pub mod SourceTables
@@ -45,3 +29,5 @@ pub mod Overlays
 pub mod Compilation
 pub mod SourceOverlays
 pub mod Sample
+pub mod Lists
+pub mod Bounds

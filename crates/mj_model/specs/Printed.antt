@@ -3,7 +3,7 @@ use Rattle.std.specs.Prelude.{ℕ, ◌-◌, ◌==◌, List, [], map, flat_map, f
 use Rattle.std.specs.Option.{option_map_or}
 use Rattle.mj_model.specs.declared.word.Origin.{Origin}
 use Rattle.mj_model.specs.declared.word.Origin.TheVariants.{Known, Unknown}
-use Rattle.mj_model.specs.KnownWords.{up_to}
+use Rattle.mj_model.specs.Lists.{up_to}
 use Rattle.mj_model.specs.Tables.{Overlay, Token, lexicons}
 
 -- the feature of the entry with a number

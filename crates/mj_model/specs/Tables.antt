@@ -1,8 +1,9 @@
 -- What dictionaries say: the tables of one dictionary, and an overlay of a system's and its users'.
-use Rattle.std.specs.Prelude.{ℕ, ℤ, false, List, [], ◌∷◌, slice_index_or}
+use Rattle.std.specs.Prelude.{ℕ, ℤ, false, List, [], ◌∷◌, map, slice_index_or, IsUtf8}
 use Rattle.mj_model.specs.declared.category.CharInfo.{CharInfo}
 use Rattle.mj_model.specs.declared.category.Category.{Category}
 use Rattle.mj_model.specs.declared.matrix_sizes.MatrixSizes.{MatrixSizes}
+use Rattle.mj_model.specs.Lists.{AreApart}
 
 -- an entry by its number in its dictionary
 pub record Token : Type 0 where
@@ -16,6 +17,14 @@ pub record Token : Type 0 where
 pub record Lexeme : Type 0 where
   pub surface : List ℕ
   pub token : Token
+
+-- the surface is text
+abbrev pub HasText : Lexeme → Type 0
+HasText e = IsUtf8 e.surface
+
+-- no two entries have the same number
+abbrev pub HasApartTokens : List Token → Type 0
+HasApartTokens ts = AreApart (map (λ t. t.number) ts)
 
 -- a system dictionary stands by itself; a user dictionary is laid over one, and has a lexicon alone
 pub data Kind : Type 0 where

@@ -2,6 +2,7 @@
 
 ghost use Rattle.std.specs.Prelude.{◌≡◌};
 
+use crate::named_fault::NamedFault;
 use std::alloc::{AllocError, AllocFailed};
 use thiserror::Error;
 
@@ -43,27 +44,12 @@ pub enum FormatFault {
     Memory,
 }
 
-impl FormatFault {
+impl NamedFault for FormatFault {
     ghost use Rattle.mj_model.specs.FaultWords.{format_words};
 
-    /// The short code, as `P1`.
-    pub fn code(self) -> &'static str
-        ensures { result.now ≡ (format_words self).code }
-    {
-        self.words().0
-    }
+    ghost words_of = { format_words };
 
-    /// The name behind the code, as `BadEscape`.
-    pub fn name(self) -> &'static str
-        ensures { result.now ≡ (format_words self).name }
-    {
-        self.words().1
-    }
-
-    fn words(self) -> (&'static str, &'static str)
-        ensures code { result.0.now ≡ (format_words self).code }
-        ensures name { result.1.now ≡ (format_words self).name }
-    {
+    fn words(self) -> (&'static str, &'static str) {
         match self {
             FormatFault::Bad {
                 kind: FormatKind::BadEscape,

@@ -2,6 +2,7 @@
 
 ghost use Rattle.std.specs.Prelude.{◌≡◌};
 
+use crate::named_fault::NamedFault;
 use std::alloc::{AllocError, AllocFailed};
 use thiserror::Error;
 
@@ -37,27 +38,12 @@ pub enum ImageFault {
     Memory,
 }
 
-impl ImageFault {
+impl NamedFault for ImageFault {
     ghost use Rattle.mj_model.specs.ImageFaultWords.{image_words};
 
-    /// The short code, as `L1`.
-    pub fn code(self) -> &'static str
-        ensures { result.now ≡ (image_words self).code }
-    {
-        self.words().0
-    }
+    ghost words_of = { image_words };
 
-    /// The name behind the code, as `Truncated`.
-    pub fn name(self) -> &'static str
-        ensures { result.now ≡ (image_words self).name }
-    {
-        self.words().1
-    }
-
-    fn words(self) -> (&'static str, &'static str)
-        ensures code { result.0.now ≡ (image_words self).code }
-        ensures name { result.1.now ≡ (image_words self).name }
-    {
+    fn words(self) -> (&'static str, &'static str) {
         match self {
             ImageFault::Truncated => ("L1", "Truncated"),
             ImageFault::BadMagic => ("L2", "BadMagic"),

@@ -11,6 +11,7 @@ mod image_fault;
 pub mod laws;
 mod limits;
 mod matrix_sizes;
+mod named_fault;
 mod overlay_fault;
 mod run_fault;
 mod sample_sources;
@@ -31,6 +32,7 @@ pub use limits::{
     SENTENCE_MAX, SURFACE_MAX,
 };
 pub use matrix_sizes::MatrixSizes;
+pub use named_fault::NamedFault;
 pub use overlay_fault::OverlayFault;
 pub use run_fault::RunFault;
 pub use sample_sources::sample;

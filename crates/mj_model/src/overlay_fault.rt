@@ -2,6 +2,7 @@
 
 ghost use Rattle.std.specs.Prelude.{◌≡◌};
 
+use crate::named_fault::NamedFault;
 use thiserror::Error;
 
 /// Why dictionaries make no overlay. User dictionaries are counted from 0, in the order given.
@@ -18,27 +19,12 @@ pub enum OverlayFault {
     OtherSizes(usize),
 }
 
-impl OverlayFault {
+impl NamedFault for OverlayFault {
     ghost use Rattle.mj_model.specs.ImageFaultWords.{overlay_words};
 
-    /// The short code, as `O1`.
-    pub fn code(self) -> &'static str
-        ensures { result.now ≡ (overlay_words self).code }
-    {
-        self.words().0
-    }
+    ghost words_of = { overlay_words };
 
-    /// The name behind the code, as `NotSystem`.
-    pub fn name(self) -> &'static str
-        ensures { result.now ≡ (overlay_words self).name }
-    {
-        self.words().1
-    }
-
-    fn words(self) -> (&'static str, &'static str)
-        ensures code { result.0.now ≡ (overlay_words self).code }
-        ensures name { result.1.now ≡ (overlay_words self).name }
-    {
+    fn words(self) -> (&'static str, &'static str) {
         match self {
             OverlayFault::NotSystem => ("O1", "NotSystem"),
             OverlayFault::NotUser(_) => ("O2", "NotUser"),

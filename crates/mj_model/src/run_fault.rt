@@ -2,6 +2,7 @@
 
 ghost use Rattle.std.specs.Prelude.{◌≡◌};
 
+use crate::named_fault::NamedFault;
 use crate::source_fault::SourceFault;
 use thiserror::Error;
 
@@ -34,31 +35,14 @@ pub enum RunFault {
     Memory(u64),
 }
 
-impl RunFault {
+impl NamedFault for RunFault {
     ghost use Rattle.mj_model.specs.FaultWords.{run_words};
 
-    /// The short code, as `G1`; that of the carried fault where it carries one.
-    pub fn code(self) -> &'static str
-        ensures { result.now ≡ (run_words self).code }
-    {
-        self.words().0
-    }
+    ghost words_of = { run_words };
 
-    /// The name behind the code, as `Read`; that of the carried fault where it carries one.
-    pub fn name(self) -> &'static str
-        ensures { result.now ≡ (run_words self).name }
-    {
-        self.words().1
-    }
-
-    fn words(self) -> (&'static str, &'static str)
-        ensures code { result.0.now ≡ (run_words self).code }
-        ensures name { result.1.now ≡ (run_words self).name }
-    {
+    fn words(self) -> (&'static str, &'static str) {
         match self {
-            RunFault::Source(fault) | RunFault::UserSource(_, fault) => {
-                (fault.code(), fault.name())
-            }
+            RunFault::Source(fault) | RunFault::UserSource(_, fault) => fault.words(),
             RunFault::Read(_) => ("G1", "Read"),
             RunFault::Write(_) => ("G2", "Write"),
             RunFault::NotUtf8(_) => ("G3", "NotUtf8"),

@@ -2,6 +2,7 @@
 
 ghost use Rattle.std.specs.Prelude.{◌≡◌};
 
+use crate::named_fault::NamedFault;
 use std::alloc::{AllocError, AllocFailed};
 use thiserror::Error;
 
@@ -95,8 +96,6 @@ pub enum SourceKind {
 }
 
 impl SourceKind {
-    ghost use Rattle.mj_model.specs.FaultWords.{source_words};
-
     /// As a fault of a line of a file.
     pub fn at(self, file: u32, line: u64) -> SourceFault
         ensures { result ≡ record { file = file; line = line; kind = self } }
@@ -107,25 +106,14 @@ impl SourceKind {
             kind: self,
         }
     }
+}
 
-    /// The short code, as `S1`.
-    pub fn code(self) -> &'static str
-        ensures { result.now ≡ (source_words self).code }
-    {
-        self.words().0
-    }
+impl NamedFault for SourceKind {
+    ghost use Rattle.mj_model.specs.FaultWords.{source_words};
 
-    /// The name behind the code, as `NotUtf8`.
-    pub fn name(self) -> &'static str
-        ensures { result.now ≡ (source_words self).name }
-    {
-        self.words().1
-    }
+    ghost words_of = { source_words };
 
-    fn words(self) -> (&'static str, &'static str)
-        ensures code { result.0.now ≡ (source_words self).code }
-        ensures name { result.1.now ≡ (source_words self).name }
-    {
+    fn words(self) -> (&'static str, &'static str) {
         match self {
             SourceKind::NotUtf8 => ("S1", "NotUtf8"),
             SourceKind::TooFewFields => ("S2", "TooFewFields"),
@@ -186,21 +174,13 @@ pub struct SourceFault {
     pub kind: SourceKind,
 }
 
-impl SourceFault {
+impl NamedFault for SourceFault {
     ghost use Rattle.mj_model.specs.FaultWords.{source_words};
 
-    /// The code of its kind.
-    pub fn code(self) -> &'static str
-        ensures { result.now ≡ (source_words self.kind).code }
-    {
-        self.kind.code()
-    }
+    ghost words_of = { λ fault. source_words fault.kind };
 
-    /// The name of its kind.
-    pub fn name(self) -> &'static str
-        ensures { result.now ≡ (source_words self.kind).name }
-    {
-        self.kind.name()
+    fn words(self) -> (&'static str, &'static str) {
+        self.kind.words()
     }
 }
 

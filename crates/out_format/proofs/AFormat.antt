@@ -12,7 +12,7 @@ use Rattle.mj_model.specs.declared.format_fault.FormatKind.{FormatKind}
 use Rattle.mj_model.specs.declared.format_fault.FormatKind.TheVariants.{BadEscape}
 use Rattle.mj_model.specs.declared.format_fault.FormatFault.{FormatFault}
 use Rattle.mj_model.specs.declared.format_fault.FormatFault.TheVariants as fault
-use Rattle.mj_model.specs.Formats.{Piece, Byte, Shows, escaped, bad_item, MayShow, Begins, Reads, IsBadAt, Format, FormatTexts, part_text, IsFormat, HasOneFormat}
+use Rattle.out_format.specs.Formats.{Piece, Byte, Shows, escaped, bad_item, MayShow, Begins, Reads, IsBadAt, Format, FormatTexts, part_text, IsFormat, HasOneFormat}
 use Rattle.mj_model.specs.Numbers.{digits_value}
 use Rattle.out_format.specs.FirstItems.{HasIndex, HasNoIndex, BeginsItem, HasNoItem, IsStuck}
 use Rattle.out_format.specs.ItemTables.{letter_item, property_item, id_item}

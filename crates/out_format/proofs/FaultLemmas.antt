@@ -5,7 +5,7 @@ use Rattle.mj_model.specs.declared.format_fault.FormatPart.{FormatPart}
 use Rattle.mj_model.specs.declared.format_fault.FormatPart.TheVariants.{Unk}
 use Rattle.mj_model.specs.declared.format_fault.FormatFault.{FormatFault}
 use Rattle.mj_model.specs.declared.format_fault.FormatFault.TheVariants as fault
-use Rattle.mj_model.specs.Formats.{FormatTexts, part_text, AreGoodBefore, IsGood, IsBadAt, IsFormat, Reads, Piece}
+use Rattle.out_format.specs.Formats.{FormatTexts, part_text, AreGoodBefore, IsGood, IsBadAt, IsFormat, Reads, Piece}
 use Rattle.out_format.specs.FirstItems.{IsFaultOf}
 use Rattle.out_format.specs.Texts.{texts_of}
 

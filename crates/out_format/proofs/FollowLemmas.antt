@@ -5,14 +5,14 @@ use Rattle.std.proofs.lemmas.Int.{ints}
 use Rattle.std.proofs.lemmas.List.{drop_more}
 use Rattle.mj_model.specs.declared.limits.TheConstants.{SENTENCE_MAX}
 use Rattle.mj_model.specs.declared.word.Word.{Word}
-use Rattle.mj_model.specs.Best.{IsWithin}
+use Rattle.mj_model.specs.Bounds.{IsWithin}
 use Rattle.mj_model.specs.Connection.{is_pair}
-use Rattle.mj_model.specs.Laws.{HasWords}
-use Rattle.mj_model.specs.Paths.{IsChain, IsPath}
-use Rattle.mj_model.specs.Searchable.{IsSearchable}
+use Rattle.paths.specs.Laws.{HasWords}
+use Rattle.paths.specs.Paths.{IsChain, IsPath}
+use Rattle.paths.specs.Searchable.{IsSearchable}
 use Rattle.mj_model.specs.Tables.{Overlay}
-use Rattle.mj_model.specs.Words.{is_place, words}
-use Rattle.mj_model.proofs.PlaceWords.{in_words}
+use Rattle.paths.specs.Words.{is_place, words}
+use Rattle.paths.proofs.PlaceWords.{in_words}
 use Rattle.out_format.specs.Standings.{IsWordOf}
 use Rattle.out_format.specs.Followable.{IsLow, AreFollowable}
 use Rattle.word_lookup.specs.declared.dictionaries.Dictionaries.{Dictionaries}

@@ -6,7 +6,7 @@ use Rattle.std.specs.List.{prefix_len}
 use Rattle.std.specs.Str.{all_ascii_digits}
 use Rattle.std.proofs.lemmas.Bool.{cases_Bool, and_parts, and_from, leb-true, cond-true, cond-false, le-leb, lt-leb}
 use Rattle.std.proofs.lemmas.List.{take_at, drop_at, drop_more, drop_all, take-append-drop, length-append, length-drop, length-take-le}
-use Rattle.mj_model.specs.Formats.{IsIndex}
+use Rattle.out_format.specs.Formats.{IsIndex}
 use Rattle.mj_model.specs.Numbers.{digits_value}
 use Rattle.out_format.specs.FirstItems.{HasIndex, HasNoIndex}
 

@@ -5,7 +5,7 @@ use Rattle.std.specs.List.{AllByRecursion}
 use Rattle.std.proofs.lemmas.Bool.{cases_Bool, eqb-true, cond-false, ne_eqb}
 use Rattle.mj_model.specs.declared.format_item.FormatItem.{FormatItem}
 use Rattle.mj_model.specs.declared.format_item.FormatItem.TheVariants as item
-use Rattle.mj_model.specs.Formats.{SpellsItem, IsIndex}
+use Rattle.out_format.specs.Formats.{SpellsItem, IsIndex}
 use Rattle.out_format.specs.FirstItems.{HasIndex, HasNoIndex, BeginsItem, HasNoItem}
 use Rattle.out_format.specs.ItemTables.{item_in, letters, properties, ids, letter_item, property_item, id_item}
 use Rattle.out_format.proofs.IndexLemmas.{facts_of}

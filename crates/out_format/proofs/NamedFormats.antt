@@ -7,7 +7,7 @@ use Rattle.mj_model.specs.declared.format_item.FormatItem.{FormatItem}
 use Rattle.mj_model.specs.declared.format_item.FormatItem.TheVariants as item
 use Rattle.mj_model.specs.declared.format_fault.FormatPart.{FormatPart}
 use Rattle.mj_model.specs.declared.format_fault.FormatPart.TheVariants.{Node, Unk, Eos}
-use Rattle.mj_model.specs.Formats.{Byte, Shows, Begins, Reads, MayShow, Format, FormatTexts, ReadsFormat}
+use Rattle.out_format.specs.Formats.{Byte, Shows, Begins, Reads, MayShow, Format, FormatTexts, ReadsFormat}
 use Rattle.out_format.specs.Texts.{all_alike, default_texts, wakati_texts}
 use Rattle.out_format.proofs.PieceLemmas.{begins_byte, begins_escape}
 

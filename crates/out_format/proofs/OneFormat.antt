@@ -8,7 +8,7 @@ use Rattle.mj_model.specs.declared.format_fault.FormatPart.TheVariants.{Node, Un
 use Rattle.mj_model.specs.declared.format_fault.FormatKind.{FormatKind}
 use Rattle.mj_model.specs.declared.format_fault.FormatFault.{FormatFault}
 use Rattle.mj_model.specs.declared.format_fault.FormatFault.TheVariants as fault
-use Rattle.mj_model.specs.Formats.{Piece, Byte, Shows, escaped, Begins, Reads, IsBadAt, bad_kind, Format, FormatTexts, part_text, IsGood, AreGoodBefore, ReadsFormat, IsFormat}
+use Rattle.out_format.specs.Formats.{Piece, Byte, Shows, escaped, Begins, Reads, IsBadAt, bad_kind, Format, FormatTexts, part_text, IsGood, AreGoodBefore, ReadsFormat, IsFormat}
 use Rattle.out_format.proofs.ItemLemmas.{percent_first, one_item}
 use Rattle.out_format.proofs.PieceLemmas.{SpelledBy, byte_no_item, rest_shorter}
 

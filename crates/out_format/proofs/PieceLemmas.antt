@@ -5,7 +5,7 @@ use Rattle.mj_model.specs.declared.format_item.FormatItem.{FormatItem}
 use Rattle.mj_model.specs.declared.format_fault.FormatPart.{FormatPart}
 use Rattle.mj_model.specs.declared.format_fault.FormatKind.{FormatKind}
 use Rattle.mj_model.specs.declared.format_fault.FormatKind.TheVariants.{BadEscape}
-use Rattle.mj_model.specs.Formats.{Piece, Byte, Shows, Spells, SpellsItem, escaped, MayShow, Begins, Reads, IsBadAt, bad_kind, bad_item}
+use Rattle.out_format.specs.Formats.{Piece, Byte, Shows, Spells, SpellsItem, escaped, MayShow, Begins, Reads, IsBadAt, bad_kind, bad_item}
 use Rattle.out_format.specs.FirstItems.{BeginsItem, HasNoItem, IsStuck}
 use Rattle.out_format.proofs.ItemLemmas.{percent_first, one_item}
 

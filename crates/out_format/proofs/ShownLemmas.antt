@@ -6,9 +6,9 @@ use Rattle.std.proofs.lemmas.List.Concat.{flat_map-append}
 use Rattle.mj_model.specs.declared.format_item.FormatItem.{FormatItem}
 use Rattle.mj_model.specs.declared.word.Word.{Word}
 use Rattle.mj_model.specs.declared.word.Origin.TheVariants.{Known}
-use Rattle.mj_model.specs.Formats.{Piece, Byte, Shows, Format}
-use Rattle.mj_model.specs.PrintedPaths.{ShowsItem, ShowsPieces, ShowsWords, ShowsPath, line_item, word_pieces}
-use Rattle.mj_model.specs.BestOver.{cost_over}
+use Rattle.out_format.specs.Formats.{Piece, Byte, Shows, Format}
+use Rattle.out_format.specs.PrintedPaths.{ShowsItem, ShowsPieces, ShowsWords, ShowsPath, line_item, word_pieces}
+use Rattle.paths.specs.BestOver.{cost_over}
 use Rattle.mj_model.specs.Tables.{Overlay}
 use Rattle.out_format.specs.declared.part.Part.{Part}
 use Rattle.out_format.specs.Pieces.{bytes_as_pieces, pieces_in, pieces_of}

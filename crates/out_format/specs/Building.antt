@@ -1,6 +1,6 @@
 -- The pieces so far of parts that are put together.
 use Rattle.std.specs.Prelude.{List, ◌++◌}
-use Rattle.mj_model.specs.Formats.{Piece}
+use Rattle.out_format.specs.Formats.{Piece}
 use Rattle.out_format.specs.declared.building.PartsSoFar.{PartsSoFar}
 use Rattle.out_format.specs.Pieces.{bytes_as_pieces, pieces_of}
 

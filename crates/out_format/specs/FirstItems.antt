@@ -5,7 +5,7 @@ use Rattle.mj_model.specs.declared.format_fault.FormatPart.{FormatPart}
 use Rattle.mj_model.specs.declared.format_fault.FormatKind.{FormatKind}
 use Rattle.mj_model.specs.declared.format_fault.FormatFault.{FormatFault}
 use Rattle.mj_model.specs.declared.format_fault.FormatFault.TheVariants as fault
-use Rattle.mj_model.specs.Formats.{IsIndex, SpellsItem, Piece, Begins, IsBadAt, bad_kind}
+use Rattle.out_format.specs.Formats.{IsIndex, SpellsItem, Piece, Begins, IsBadAt, bad_kind}
 
 -- a text begins with the index n between brackets, and goes on so
 pub record HasIndex (text : List ℕ) (n : ℕ) (rest : List ℕ) : Type 0 where

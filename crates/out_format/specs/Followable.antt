@@ -1,7 +1,7 @@
 -- Words of a line each of which may follow the one before.
 use Rattle.std.specs.Prelude.{ℕ, ◌^◌, ℤ, ◌+ℤ◌, List, [], ◌∷◌}
 use Rattle.mj_model.specs.declared.word.Word.{Word}
-use Rattle.mj_model.specs.Best.{IsWithin}
+use Rattle.mj_model.specs.Bounds.{IsWithin}
 use Rattle.mj_model.specs.Tables.{Overlay}
 use Rattle.out_format.specs.Standings.{IsWordOf}
 

@@ -5,3 +5,5 @@ pub mod Building
 pub mod Texts
 pub mod Standings
 pub mod Followable
+pub mod PrintedPaths
+pub mod Formats

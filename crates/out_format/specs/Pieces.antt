@@ -1,6 +1,6 @@
 -- The pieces that parts hold: a run of bytes holds one for each.
 use Rattle.std.specs.Prelude.{ℕ, List, [], ◌∷◌, map, flat_map}
-use Rattle.mj_model.specs.Formats.{Piece, Byte, Shows}
+use Rattle.out_format.specs.Formats.{Piece, Byte, Shows}
 use Rattle.out_format.specs.declared.first_piece.NextPiece.{NextPiece}
 use Rattle.out_format.specs.declared.first_piece.NextPiece.TheVariants as next
 use Rattle.out_format.specs.declared.part.Part.{Part}

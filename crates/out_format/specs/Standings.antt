@@ -2,9 +2,9 @@
 use Rattle.std.specs.Prelude.{ℕ, ◌≤◌, List, length, IsTrue}
 use Rattle.mj_model.specs.declared.word.Word.{Word}
 use Rattle.mj_model.specs.Connection.{is_pair}
-use Rattle.mj_model.specs.PrintedPaths.{Standing}
+use Rattle.out_format.specs.PrintedPaths.{Standing}
 use Rattle.mj_model.specs.Tables.{Overlay}
-use Rattle.mj_model.specs.Words.{is_place}
+use Rattle.paths.specs.Words.{is_place}
 use Rattle.out_format.specs.declared.word_in_path.WordInPath.{WordInPath}
 use Rattle.word_lookup.specs.Overlays.{overlay_of}
 

@@ -1,7 +1,7 @@
 -- The texts of the formats that have a name. (MeCab)
 use Rattle.std.specs.Prelude.{ℕ, List, [], Option, None, option_map, codes}
 use Rattle.std.specs.Borrow.{Bor}
-use Rattle.mj_model.specs.Formats.{FormatTexts, Format, Piece}
+use Rattle.out_format.specs.Formats.{FormatTexts, Format, Piece}
 
 abbrev pub texts_of : List ℕ → Option (Bor (List ℕ)) → List ℕ → List ℕ → FormatTexts
 texts_of node unk bos eos = record { node = node; unk = option_map (λ (text : Bor (List ℕ)). text.now) unk; bos = bos; eos = eos }

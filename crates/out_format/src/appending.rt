@@ -3,7 +3,7 @@
 ghost use Rattle.std.specs.Prelude.{◌≡◌, ◌++◌, ℕ, List, take, vec_len, OnOk, slice_get};
 ghost use Rattle.std.specs.Fmt.{decimal, signed_decimal};
 ghost use Rattle.mj_model.specs.Fields.{AreFields};
-ghost use Rattle.mj_model.specs.PrintedPaths.{field_shown};
+ghost use Rattle.out_format.specs.PrintedPaths.{field_shown};
 
 use itoa::Buffer;
 use lex_source::append_field;

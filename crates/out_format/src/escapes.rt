@@ -1,7 +1,7 @@
 //! The escapes of formats.
 
 ghost use Rattle.std.specs.Prelude.{◌≡◌};
-ghost use Rattle.mj_model.specs.Formats.{escaped};
+ghost use Rattle.out_format.specs.Formats.{escaped};
 
 /// The byte that a character behind a backslash stands for. (MeCab)
 pub fn escaped_byte(character: u8) -> Option<u8>

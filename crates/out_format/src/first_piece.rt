@@ -1,7 +1,7 @@
 //! The piece that a format's text begins with: a byte, an escape or an item.
 
 ghost use Rattle.std.specs.Prelude.{◌≡◌, ◌<◌, ◌∷◌, ◌↔◌, length, IsTrue, MatchResult};
-ghost use Rattle.mj_model.specs.Formats.{Begins, MayShow, shows_fields as shows_fields_of, bad_item as bad_item_of};
+ghost use Rattle.out_format.specs.Formats.{Begins, MayShow, shows_fields as shows_fields_of, bad_item as bad_item_of};
 ghost use Rattle.out_format.specs.FirstItems.{IsStuck};
 ghost use Rattle.out_format.specs.Pieces.{piece_of};
 

@@ -2,8 +2,8 @@
 
 ghost use Rattle.std.specs.Prelude.{◌≡◌, ◌⊎◌, Ok, Err, IfOk, IfErr, map};
 ghost use Rattle.mj_model.specs.declared.format_fault.FormatFault.TheVariants.{Memory};
-ghost use Rattle.mj_model.specs.Formats.{IsFormat, ReadsFormat};
-ghost use Rattle.mj_model.specs.PrintedPaths.{word_pieces};
+ghost use Rattle.out_format.specs.Formats.{IsFormat, ReadsFormat};
+ghost use Rattle.out_format.specs.PrintedPaths.{word_pieces};
 ghost use Rattle.out_format.specs.Pieces.{piece_of, pieces_of};
 ghost use Rattle.out_format.specs.Texts.{all_alike, texts_of, default_texts, wakati_texts};
 
@@ -27,7 +27,7 @@ pub struct Format {
 }
 
 impl Model for Format {
-    ghost use Rattle.mj_model.specs.Formats.{Format};
+    ghost use Rattle.out_format.specs.Formats.{Format};
 
     ghost Value = { Format };
 

@@ -15,7 +15,7 @@ pub struct Line<'a> {
 }
 
 impl<'a> ShowsItems for Line<'a> {
-    ghost use Rattle.mj_model.specs.PrintedPaths.{line_item};
+    ghost use Rattle.out_format.specs.PrintedPaths.{line_item};
 
     ghost can_show = { λ line. Unit {0} };
 

@@ -2,11 +2,11 @@
 
 ghost use Rattle.std.specs.Prelude.{◌≡◌, ◌++◌, ◌≤◌, ◌+ℤ◌, ℕ, List, length, take, vec_len, pos, OnOk, OnErr, IsTrue};
 ghost use Rattle.mj_model.specs.declared.limits.TheConstants.{SENTENCE_MAX};
-ghost use Rattle.mj_model.specs.BestOver.{cost_over};
+ghost use Rattle.paths.specs.BestOver.{cost_over};
 ghost use Rattle.mj_model.specs.Connection.{is_pair};
-ghost use Rattle.mj_model.specs.Paths.{IsPath};
-ghost use Rattle.mj_model.specs.PrintedPaths.{ShowsPath, ShowsWords};
-ghost use Rattle.mj_model.specs.Words.{words};
+ghost use Rattle.paths.specs.Paths.{IsPath};
+ghost use Rattle.out_format.specs.PrintedPaths.{ShowsPath, ShowsWords};
+ghost use Rattle.paths.specs.Words.{words};
 ghost use Rattle.out_format.specs.Followable.{AreFollowable, IsLow};
 ghost use Rattle.word_lookup.specs.Overlays.{overlay_of};
 

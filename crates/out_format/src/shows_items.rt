@@ -2,7 +2,7 @@
 
 ghost use Rattle.std.specs.Prelude.{◌≡◌, ◌++◌, ℕ, List, take, vec_len, OnOk};
 ghost use Rattle.mj_model.specs.declared.format_item.FormatItem.{FormatItem};
-ghost use Rattle.mj_model.specs.PrintedPaths.{ShowsPieces};
+ghost use Rattle.out_format.specs.PrintedPaths.{ShowsPieces};
 ghost use Rattle.out_format.specs.Pieces.{pieces_in, pieces_of};
 
 use crate::appending::append_bytes;

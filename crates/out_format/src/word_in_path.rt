@@ -1,11 +1,11 @@
 //! A word in its path, and what the items show of it.
 
 ghost use Rattle.std.specs.Prelude.{◌≡◌, ◌++◌, ◌≤◌, ◌+ℤ◌, length, take, drop, vec_len, OnOk, IsTrue};
-ghost use Rattle.mj_model.specs.Blanks.{chars_from};
-ghost use Rattle.mj_model.specs.Laws.{between};
+ghost use Rattle.paths.specs.Blanks.{chars_from};
+ghost use Rattle.paths.specs.Laws.{between};
 ghost use Rattle.mj_model.specs.Printed.{feature_of};
-ghost use Rattle.mj_model.specs.PrintedPaths.{connection_before, first_category as category_of_first, unknown_digit};
-ghost use Rattle.mj_model.specs.Words.{is_place};
+ghost use Rattle.out_format.specs.PrintedPaths.{connection_before, first_category as category_of_first, unknown_digit};
+ghost use Rattle.paths.specs.Words.{is_place};
 ghost use Rattle.out_format.specs.Standings.{CanStand, standing_of};
 ghost use Rattle.word_lookup.specs.Overlays.{overlay_of};
 
@@ -26,7 +26,7 @@ pub struct WordInPath<'a> {
 }
 
 impl<'a> ShowsItems for WordInPath<'a> {
-    ghost use Rattle.mj_model.specs.PrintedPaths.{ShowsItem};
+    ghost use Rattle.out_format.specs.PrintedPaths.{ShowsItem};
     ghost use Rattle.word_lookup.specs.Overlays.{overlay_of};
     ghost use Rattle.out_format.specs.Standings.{CanStand, standing_of};
 

@@ -2,9 +2,9 @@
 use Rattle.std.specs.Prelude.{ℕ, ◌<◌, ◌≤◌, List, length, IsUtf8, Option, Some, None}
 use Rattle.mj_model.specs.declared.limits.TheConstants.{SENTENCE_MAX}
 use Rattle.mj_model.specs.declared.word.Word.{Word}
-use Rattle.mj_model.specs.BestOver.{IsBestOver}
-use Rattle.mj_model.specs.Formats.{Format}
-use Rattle.mj_model.specs.PrintedPaths.{ShowsPath}
+use Rattle.paths.specs.BestOver.{IsBestOver}
+use Rattle.out_format.specs.Formats.{Format}
+use Rattle.out_format.specs.PrintedPaths.{ShowsPath}
 use Rattle.mj_model.specs.Tables.{Overlay}
 use Rattle.segmenter.specs.declared.line_fault.LineFault.{LineFault}
 use Rattle.segmenter.specs.declared.line_fault.LineFault.TheVariants.{TooLong, NotUtf8}

@@ -6,7 +6,7 @@ ghost use Rattle.mj_model.specs.declared.run_fault.RunFault.TheVariants.{Source,
 ghost use Rattle.mj_model.specs.declared.source_fault.SourceFault.{SourceFault as FaultOf};
 ghost use Rattle.mj_model.specs.declared.source_fault.SourceKind.TheVariants.{Memory};
 ghost use Rattle.mj_model.specs.Compilation.{IsCompilationCause, IsCompilationFault};
-ghost use Rattle.mj_model.specs.PathLaws.{CoversTexts};
+ghost use Rattle.paths.specs.PathLaws.{CoversTexts};
 ghost use Rattle.mj_model.specs.SourceOverlays.{HaveOverlay, IsUsersCause, IsUsersFault};
 ghost use Rattle.mj_model.specs.Tables.{Overlay};
 ghost use Rattle.segmenter.specs.PrintedLines.{Judges, Prints};

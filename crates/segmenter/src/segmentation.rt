@@ -2,7 +2,7 @@
 
 ghost use Rattle.std.specs.Prelude.{◌≤◌, ◌<◌, ◌^◌};
 ghost use Rattle.mj_model.specs.declared.limits.TheConstants.{READS_MAX as ReadsMax};
-ghost use Rattle.mj_model.specs.PathLaws.{CoversTexts};
+ghost use Rattle.paths.specs.PathLaws.{CoversTexts};
 ghost use Rattle.segmenter.specs.PrintedLines.{Judges, Prints};
 ghost use Rattle.segmenter.specs.Runs.{Ran};
 ghost use Rattle.word_lookup.specs.Overlays.{overlay_of};

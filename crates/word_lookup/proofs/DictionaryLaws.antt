@@ -7,11 +7,11 @@ use Rattle.mj_model.specs.declared.limits.TheConstants.{SENTENCE_MAX}
 use Rattle.mj_model.specs.declared.matrix_sizes.MatrixSizes.{MatrixSizes}
 use Rattle.mj_model.specs.Connection.{is_pair}
 use Rattle.mj_model.specs.ImageMeaning.{image_tables}
-use Rattle.mj_model.specs.Laws.{HasWords, HasText, HasApartTokens, CoversAll}
+use Rattle.mj_model.specs.Tables.{HasText, HasApartTokens, Kind, System, User, Tables, Lexeme, lexicons_of}
+use Rattle.paths.specs.Laws.{HasWords, CoversAll}
 use Rattle.mj_model.specs.Overlays.{is_user, are_same_sizes}
-use Rattle.mj_model.specs.Searchable.{IsSearchable}
-use Rattle.mj_model.specs.Tables.{Kind, System, User, Tables, Lexeme, lexicons_of}
-use Rattle.mj_model.specs.Words.{is_place, words}
+use Rattle.paths.specs.Searchable.{IsSearchable}
+use Rattle.paths.specs.Words.{is_place, words}
 use Rattle.word_lookup.specs.declared.dictionaries.Dictionaries.{Dictionaries}
 use Rattle.word_lookup.specs.Fitting.{AreLaidOver, IsUserOf}
 use Rattle.word_lookup.specs.Overlays.{overlay_of}

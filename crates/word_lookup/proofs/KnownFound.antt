@@ -8,8 +8,8 @@ use Rattle.std.proofs.lemmas.Slice.Eq.{bytes_eq-Decides}
 use Rattle.mj_model.specs.declared.word.Word.{Word}
 use Rattle.mj_model.specs.declared.word.Origin.TheVariants.{Known}
 use Rattle.mj_model.specs.ImageMeaning.{entries_under}
-use Rattle.mj_model.specs.KnownWords.{up_to, word_of, known_word, entries_of_length, known_in, known_from}
-use Rattle.mj_model.specs.Laws.{StandsIn}
+use Rattle.mj_model.specs.Lists.{up_to, StandsIn}
+use Rattle.paths.specs.KnownWords.{word_of, known_word, entries_of_length, known_in, known_from}
 use Rattle.mj_model.specs.Tables.{Lexeme, Tables, Token, lexicons_of}
 use Rattle.mj_model.proofs.Members.{each_holds, in_filter, in_map, in_up_to}
 use Rattle.dict_image.specs.Prefixes.{has_entries, prefixes_in}

@@ -5,19 +5,20 @@ use Rattle.std.specs.List.{AllByRecursion}
 use Rattle.std.proofs.lemmas.Bool.{and_parts, and_from}
 use Rattle.mj_model.specs.declared.limits.TheConstants.{SENTENCE_MAX}
 use Rattle.mj_model.specs.declared.word.Word.{Word}
-use Rattle.mj_model.specs.Best.{IsWithin}
-use Rattle.mj_model.specs.Blanks.{skip, chars_from}
+use Rattle.mj_model.specs.Bounds.{IsWithin}
+use Rattle.paths.specs.Blanks.{skip, chars_from}
 use Rattle.mj_model.specs.declared.matrix_sizes.MatrixSizes.{MatrixSizes}
 use Rattle.mj_model.specs.Connection.{is_pair}
-use Rattle.mj_model.specs.KnownWords.{up_to, known_word, entries_of_length, known_in, known_from, known}
-use Rattle.mj_model.specs.Laws.{StandsIn, HasWords}
-use Rattle.mj_model.specs.Run.{bytes_of}
+use Rattle.mj_model.specs.Lists.{up_to, StandsIn}
+use Rattle.paths.specs.KnownWords.{known_word, entries_of_length, known_in, known_from, known}
+use Rattle.paths.specs.Laws.{HasWords}
+use Rattle.paths.specs.Run.{bytes_of}
 use Rattle.mj_model.specs.Tables.{Lexeme, Overlay, lexicons}
-use Rattle.mj_model.specs.UnknownSpans.{spans}
-use Rattle.mj_model.specs.Words.{is_empty, is_place, unknown, unknown_word, words}
+use Rattle.paths.specs.UnknownSpans.{spans}
+use Rattle.paths.specs.Words.{is_empty, is_place, unknown, unknown_word, words}
 use Rattle.mj_model.proofs.Members.{in_from_Contains, in_append, in_map, in_filter, in_flat_map, holds_in}
-use Rattle.mj_model.proofs.PlaceWords.{place_there, words_keep_places}
-use Rattle.mj_model.specs.Searchable.{IsSearchable}
+use Rattle.paths.proofs.PlaceWords.{place_there, words_keep_places}
+use Rattle.paths.specs.Searchable.{IsSearchable}
 use Rattle.dict_image.specs.Fitting.{IsFitting}
 
 -- ---- each word is of an entry that fits

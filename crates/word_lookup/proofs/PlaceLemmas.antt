@@ -8,14 +8,14 @@ use Rattle.std.proofs.lemmas.List.{append-nil, nil_from_length, get_or-drop, len
 use Rattle.std.proofs.lemmas.Str.{IsCharBoundary-start, IsUtf8-from_is_utf8, length-le-encodes, length-encode, encodes-chars, chars_past_char}
 use Rattle.mj_model.specs.declared.category.CharInfo.{CharInfo}
 use Rattle.mj_model.specs.declared.word.Word.{Word}
-use Rattle.mj_model.specs.Blanks.{skip, space, chars_from}
-use Rattle.mj_model.specs.KnownWords.{known}
-use Rattle.mj_model.specs.Run.{run, bytes_of}
+use Rattle.paths.specs.Blanks.{skip, space, chars_from}
+use Rattle.paths.specs.KnownWords.{known}
+use Rattle.paths.specs.Run.{run, bytes_of}
 use Rattle.mj_model.specs.Tables.{Overlay, Token}
-use Rattle.mj_model.specs.UnknownSpans.{spans}
-use Rattle.mj_model.specs.Words.{is_place, is_empty, unknown, words}
-use Rattle.mj_model.proofs.CharBytes.{run_within, chars_within, text_behind, text_behind_blanks}
-use Rattle.mj_model.proofs.PlaceWords.{place_there}
+use Rattle.paths.specs.UnknownSpans.{spans}
+use Rattle.paths.specs.Words.{is_place, is_empty, unknown, words}
+use Rattle.paths.proofs.CharBytes.{run_within, chars_within, text_behind, text_behind_blanks}
+use Rattle.paths.proofs.PlaceWords.{place_there}
 use Rattle.word_lookup.specs.UnknownEntries.{words_of_spans}
 
 pub place_within : (text : List ℕ) (p : ℕ) → IsTrue (is_place text p) → p ≤ length text

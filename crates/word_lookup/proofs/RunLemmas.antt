@@ -6,8 +6,8 @@ use Rattle.std.proofs.lemmas.List.{at_drop_more, at_drop_all, length-append, tak
 use Rattle.std.proofs.lemmas.Str.{length-encode, encodes-append}
 use Rattle.mj_model.specs.declared.category.CharInfo.{CharInfo}
 use Rattle.mj_model.specs.Categories.{shares}
-use Rattle.mj_model.specs.Run.{run, bytes_of}
-use Rattle.mj_model.proofs.CharBytes.{chars_within}
+use Rattle.paths.specs.Run.{run, bytes_of}
+use Rattle.paths.proofs.CharBytes.{chars_within}
 
 -- ---- bytes
 

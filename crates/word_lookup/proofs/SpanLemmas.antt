@@ -14,9 +14,9 @@ use Rattle.std.proofs.lemmas.List.Elements.{filter-append, filter_agree}
 use Rattle.mj_model.specs.declared.category.Category.{Category}
 use Rattle.mj_model.specs.declared.category.CharInfo.{CharInfo}
 use Rattle.mj_model.specs.Categories.{shares}
-use Rattle.mj_model.specs.KnownWords.{up_to}
-use Rattle.mj_model.specs.Run.{run, alike, bytes_of}
-use Rattle.mj_model.specs.UnknownSpans.{grouped_span, length_spans, one_if_none, spans_of}
+use Rattle.mj_model.specs.Lists.{up_to}
+use Rattle.paths.specs.Run.{run, alike, bytes_of}
+use Rattle.paths.specs.UnknownSpans.{grouped_span, length_spans, one_if_none, spans_of}
 use Rattle.word_lookup.specs.declared.run.Run.{Run}
 use Rattle.word_lookup.specs.declared.spans.Spans.{Spans}
 use Rattle.word_lookup.specs.Spans.{grouped_spans, spans_in, HasBytes}

@@ -6,10 +6,11 @@ use Rattle.std.proofs.lemmas.List.{append-nil, append_assoc, get_or-take}
 use Rattle.std.proofs.lemmas.List.Concat.{flat_map-append}
 use Rattle.mj_model.specs.declared.word.Origin.TheVariants.{Unknown}
 use Rattle.mj_model.specs.declared.word.Word.{Word}
-use Rattle.mj_model.specs.KnownWords.{up_to, word_of}
-use Rattle.mj_model.specs.Run.{bytes_of}
+use Rattle.mj_model.specs.Lists.{up_to}
+use Rattle.paths.specs.KnownWords.{word_of}
+use Rattle.paths.specs.Run.{bytes_of}
 use Rattle.mj_model.specs.Tables.{Token}
-use Rattle.mj_model.specs.Words.{unknown_word}
+use Rattle.paths.specs.Words.{unknown_word}
 use Rattle.word_lookup.specs.declared.entry_words.EntryList.TheVariants.{Categories}
 use Rattle.word_lookup.specs.declared.run.Run.{Run}
 use Rattle.word_lookup.specs.declared.spans.Spans.{Spans}

@@ -4,7 +4,7 @@ use Rattle.dict_image.specs.declared.entry_ref.EntryRef.{EntryRef}
 use Rattle.mj_model.specs.declared.word.Origin.{Origin}
 use Rattle.mj_model.specs.declared.word.Origin.TheVariants.{Known, Unknown}
 use Rattle.mj_model.specs.declared.word.Word.{Word}
-use Rattle.mj_model.specs.KnownWords.{word_of}
+use Rattle.paths.specs.KnownWords.{word_of}
 use Rattle.mj_model.specs.Tables.{Token}
 use Rattle.word_lookup.specs.declared.entry_words.EntryList.{EntryList}
 use Rattle.word_lookup.specs.declared.entry_words.EntryList.TheVariants.{Lexicon, Categories}

@@ -2,7 +2,7 @@
 use mathlib.Core.HLevel.{Unit-prop, ×_prop}
 use Rattle.std.specs.Prelude.{List, [], ◌∷◌}
 use Rattle.std.proofs.Props.{props}
-use Rattle.mj_model.specs.Laws.{StandsIn, AreApart}
+use Rattle.mj_model.specs.Lists.{StandsIn, AreApart}
 use Rattle.mj_model.specs.Tables.{Tables}
 use Rattle.word_lookup.specs.Fitting.{IsOverlay}
 

@@ -1,7 +1,7 @@
 -- Unknown spans as they are looked up.
 use Rattle.std.specs.Prelude.{◌≡◌, ℕ, List, [], ◌∷◌, ◌++◌, Option, Some, None}
-use Rattle.mj_model.specs.KnownWords.{up_to}
-use Rattle.mj_model.specs.Run.{bytes_of}
+use Rattle.mj_model.specs.Lists.{up_to}
+use Rattle.paths.specs.Run.{bytes_of}
 use Rattle.word_lookup.specs.declared.run.Run.{Run}
 use Rattle.word_lookup.specs.declared.spans.Spans.{Spans}
 

@@ -1,9 +1,9 @@
 -- The words of unknown entries.
 use Rattle.std.specs.Prelude.{ℕ, List, map, flat_map}
 use Rattle.mj_model.specs.declared.word.Word.{Word}
-use Rattle.mj_model.specs.Run.{bytes_of}
+use Rattle.paths.specs.Run.{bytes_of}
 use Rattle.mj_model.specs.Tables.{Token}
-use Rattle.mj_model.specs.Words.{unknown_word}
+use Rattle.paths.specs.Words.{unknown_word}
 
 -- the words of spans of these characters: of each span one for each entry
 abbrev pub words_of_spans : ℕ → ℕ → List ℕ → List Token → List ℕ → List Word

@@ -2,14 +2,14 @@
 
 ghost use Rattle.std.specs.Prelude.{◌≡◌, ℕ, ◌+◌, ◌<◌, ◌≤◌, ◌^◌, ◌++◌, ◌∷◌, [], length, map, take, drop, vec_len, chars, IsTrue, IsOk, IfOk, OnOk, OnErr, IfErr, Bool, Some, None, slice_index_or};
 ghost use Rattle.std.specs.Str.{IsUtf8};
-ghost use Rattle.mj_model.specs.Blanks.{skip, chars_from};
+ghost use Rattle.paths.specs.Blanks.{skip, chars_from};
 ghost use Rattle.mj_model.specs.Connection.{is_pair};
 ghost use Rattle.mj_model.specs.ImageMeaning.{image_tables};
-ghost use Rattle.mj_model.specs.KnownWords.{known, known_from};
+ghost use Rattle.paths.specs.KnownWords.{known, known_from};
 ghost use Rattle.mj_model.specs.Overlays.{overlay_fault};
 ghost use Rattle.mj_model.specs.Printed.{feature_of};
 ghost use Rattle.mj_model.specs.Tables.{lexicons};
-ghost use Rattle.mj_model.specs.Words.{is_place, is_empty, unknown, words};
+ghost use Rattle.paths.specs.Words.{is_place, is_empty, unknown, words};
 ghost use Rattle.word_lookup.specs.Fitting.{IsOverlay};
 ghost use Rattle.word_lookup.specs.Props.{IsOverlay-prop};
 

@@ -2,7 +2,7 @@
 
 ghost use Rattle.std.specs.Prelude.{◌≡◌, ◌+◌, ◌<◌, ◌^◌, ◌++◌, length, take, vec_len, OnOk};
 ghost use Rattle.mj_model.specs.ImageMeaning.{image_tables};
-ghost use Rattle.mj_model.specs.KnownWords.{known_in};
+ghost use Rattle.paths.specs.KnownWords.{known_in};
 
 use crate::entry_words::{EntryList, append_entries};
 use dict_image::Dict;

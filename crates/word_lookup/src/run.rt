@@ -2,7 +2,7 @@
 
 ghost use Rattle.std.specs.Prelude.{◌≡◌, ℕ, ◌+◌, length, min, chars, take, take_while};
 ghost use Rattle.mj_model.specs.Categories.{shares};
-ghost use Rattle.mj_model.specs.Run.{run, bytes_of};
+ghost use Rattle.paths.specs.Run.{run, bytes_of};
 ghost use Rattle.mj_model.specs.ImageMeaning.{image_tables};
 ghost use Rattle.mj_model.specs.Tables.{System};
 

@@ -2,9 +2,9 @@
 
 ghost use Rattle.std.specs.Prelude.{◌≡◌, ℕ, ◌+◌, ◌<◌, ◌≤◌, ◌&&◌, ◌||◌, ◌^◌, ◌∷◌, [], length, min, chars, take, take_while, nat_le, if◌then◌else◌, IfSome, slice_index_or, max, true};
 ghost use Rattle.std.specs.Char.{len_utf8};
-ghost use Rattle.mj_model.specs.Run.{run, bytes_of, alike};
-ghost use Rattle.mj_model.specs.UnknownSpans.{spans_of, one_if_none, grouped_span, length_spans};
-ghost use Rattle.mj_model.specs.KnownWords.{up_to};
+ghost use Rattle.paths.specs.Run.{run, bytes_of, alike};
+ghost use Rattle.paths.specs.UnknownSpans.{spans_of, one_if_none, grouped_span, length_spans};
+ghost use Rattle.mj_model.specs.Lists.{up_to};
 ghost use Rattle.mj_model.specs.ImageMeaning.{image_tables};
 ghost use Rattle.mj_model.specs.Tables.{System, no_category};
 ghost use Rattle.word_lookup.specs.Spans.{grouped_spans, spans_in, HasBytes};

@@ -2,8 +2,8 @@
 
 ghost use Rattle.std.specs.Prelude.{◌≡◌, ◌+◌, ◌<◌, ◌≤◌, ◌-◌, ◌^◌, ◌++◌, length, map, take, vec_len, chars, IfSome, OnOk};
 ghost use Rattle.mj_model.specs.ImageMeaning.{image_tables};
-ghost use Rattle.mj_model.specs.KnownWords.{up_to};
-ghost use Rattle.mj_model.specs.Words.{unknown_word};
+ghost use Rattle.mj_model.specs.Lists.{up_to};
+ghost use Rattle.paths.specs.Words.{unknown_word};
 ghost use Rattle.word_lookup.specs.Spans.{spans_in, HasBytes};
 ghost use Rattle.word_lookup.specs.UnknownEntries.{words_of_spans};
 

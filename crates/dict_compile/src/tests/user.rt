@@ -2,7 +2,7 @@
 use crate::tests::samples::{Expected, LEXICON, NONE, are_entries, sample, sources};
 use crate::{CompileUserFault, compile, compile_user};
 use dict_image::{Dict, load};
-use mj_model::{SourceFault, SourceKind, Sources};
+use mj_model::{NamedFault, SourceFault, SourceKind, Sources};
 use std::alloc::Global;
 use std::test::Fail;
 

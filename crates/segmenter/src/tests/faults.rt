@@ -1,6 +1,6 @@
 //! Codes, names and texts of faults.
 
-use mj_model::{RunFault, SourceFault, SourceKind};
+use mj_model::{NamedFault, RunFault, SourceFault, SourceKind};
 use std::test::Fail;
 
 #[test]

@@ -1,7 +1,7 @@
 //! Words of places.
 
 ghost use Rattle.std.specs.Prelude.{IsTrue};
-ghost use Rattle.mj_model.specs.Words.{is_place};
+ghost use Rattle.paths.specs.Words.{is_place};
 
 use super::samples::{LEXICON, alone, system};
 use crate::{Dictionaries, Origin};

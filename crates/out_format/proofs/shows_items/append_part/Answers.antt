@@ -1,4 +1,4 @@
-use Rattle.mj_model.specs.PrintedPaths.{ShowsPieces}
+use Rattle.out_format.specs.PrintedPaths.{ShowsPieces}
 use Rattle.out_format.specs.Pieces.{pieces_in}
 use Rattle.out_format.proofs.ShownLemmas.{shown_as, bytes_shown}
 use Rattle.out_format.proofs.shows_items.append_part.Goals as goal

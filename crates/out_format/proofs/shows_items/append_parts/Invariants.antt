@@ -1,5 +1,5 @@
 use Rattle.std.proofs.Common.{take}
-use Rattle.mj_model.specs.PrintedPaths.{ShowsPieces}
+use Rattle.out_format.specs.PrintedPaths.{ShowsPieces}
 use Rattle.out_format.specs.Pieces.{pieces_of}
 use Rattle.out_format.proofs.ShownLemmas.{Appended}
 use Rattle.out_format.proofs.shows_items.append_parts.Given as goal

@@ -1,4 +1,4 @@
-use Rattle.mj_model.proofs.CoveredTexts.{is_covered}
+use Rattle.paths.proofs.CoveredTexts.{is_covered}
 use Rattle.word_lookup.specs.Overlays.{overlay_of}
 use Rattle.word_lookup.proofs.DictionaryLaws.{covers_all, has_words}
 use Rattle.segmenter.proofs.segmentation.segment.Goals as goal

@@ -1,6 +1,6 @@
 use Rattle.std.proofs.Common.{◌≡◌, ◌+◌, length, drop, take}
 use Rattle.std.specs.Prelude.{chars}
-use Rattle.mj_model.specs.Run.{run, bytes_of}
+use Rattle.paths.specs.Run.{run, bytes_of}
 use Rattle.mj_model.specs.ImageMeaning.{image_tables}
 use Rattle.word_lookup.proofs.run.run_up_to.Given as goal
 

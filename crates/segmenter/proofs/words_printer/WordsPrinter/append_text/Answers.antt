@@ -1,6 +1,6 @@
 use Rattle.std.proofs.Common.{◌≡◌, ◌++◌, List}
 use Rattle.std.specs.Prelude.{ℕ}
-use Rattle.mj_model.specs.PrintedPaths.{ShowsPath}
+use Rattle.out_format.specs.PrintedPaths.{ShowsPath}
 use Rattle.word_lookup.specs.Overlays.{overlay_of}
 use Rattle.segmenter.specs.PrintedLines.{Prints}
 use Rattle.segmenter.proofs.ResultLemmas.{on_ok_by}

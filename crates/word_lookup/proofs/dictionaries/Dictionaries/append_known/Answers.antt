@@ -1,7 +1,7 @@
 use Rattle.std.proofs.Common.{rules, arith, ◌+◌, map, ap, refl}
 use Rattle.std.proofs.lemmas.List.{drop_all}
 use Rattle.mj_model.specs.ImageMeaning.{image_tables}
-use Rattle.mj_model.specs.KnownWords.{known_from}
+use Rattle.paths.specs.KnownWords.{known_from}
 use Rattle.mj_model.specs.Tables.{lexicons_of}
 use Rattle.word_lookup.proofs.AppendLemmas.{begun_with, more_appended, all_appended, before_kept}
 use Rattle.word_lookup.proofs.KnownFound.{users_left}

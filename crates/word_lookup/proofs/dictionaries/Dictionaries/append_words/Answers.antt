@@ -1,8 +1,8 @@
 use Rattle.std.proofs.Common.{arith, rules, ◌≡◌, List, ℕ, drop, sym, ap, ◌∙◌, subst}
 use Rattle.std.specs.Prelude.{chars, OnOk}
 use Rattle.mj_model.specs.declared.word.Word.{Word}
-use Rattle.mj_model.specs.Blanks.{chars_from}
-use Rattle.mj_model.specs.KnownWords.{known, known_from}
+use Rattle.paths.specs.Blanks.{chars_from}
+use Rattle.paths.specs.KnownWords.{known, known_from}
 use Rattle.mj_model.specs.Tables.{lexicons}
 use Rattle.word_lookup.specs.Overlays.{overlay_of}
 use Rattle.word_lookup.proofs.AppendLemmas.{front_kept}

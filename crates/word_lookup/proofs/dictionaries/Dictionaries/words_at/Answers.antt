@@ -1,7 +1,7 @@
 use Rattle.std.proofs.Common.{arith, ◌≡◌, ◌++◌, List, length, take, ap, sym, ◌∙◌, subst}
 use Rattle.std.specs.Prelude.{OnOk}
 use Rattle.mj_model.specs.declared.word.Word.{Word}
-use Rattle.mj_model.proofs.TextPaths.{words_there}
+use Rattle.paths.proofs.TextPaths.{words_there}
 use Rattle.word_lookup.specs.Overlays.{overlay_of}
 use Rattle.std.proofs.lemmas.List.{append-nil}
 use Rattle.word_lookup.proofs.AppendLemmas.{on_err, on_err_of_ok, on_ok_of_err}

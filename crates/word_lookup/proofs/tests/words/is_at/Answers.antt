@@ -1,5 +1,5 @@
 use Rattle.std.proofs.lemmas.Str.{IsUtf8-drop}
-use Rattle.mj_model.proofs.PlaceWords.{place_there}
+use Rattle.paths.proofs.PlaceWords.{place_there}
 use Rattle.word_lookup.proofs.tests.words.is_at.Goals as goal
 
 pub returns : goal.returns

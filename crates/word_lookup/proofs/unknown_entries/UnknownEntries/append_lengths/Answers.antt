@@ -3,9 +3,9 @@ use Rattle.std.specs.Prelude.{chars}
 use Rattle.std.proofs.lemmas.Iterator.{YieldsList-from_chars, YieldsList-from_take}
 use Rattle.std.proofs.lemmas.Iterator.Consumers.{YieldsList-turn, YieldsList-end}
 use Rattle.std.proofs.lemmas.List.{length_push, length-take}
-use Rattle.mj_model.specs.KnownWords.{up_to}
-use Rattle.mj_model.specs.Run.{bytes_of}
-use Rattle.mj_model.proofs.CharBytes.{chars_within}
+use Rattle.mj_model.specs.Lists.{up_to}
+use Rattle.paths.specs.Run.{bytes_of}
+use Rattle.paths.proofs.CharBytes.{chars_within}
 use Rattle.mj_model.specs.ImageMeaning.{image_tables}
 use Rattle.word_lookup.specs.UnknownEntries.{words_of_spans}
 use Rattle.word_lookup.proofs.AppendLemmas.{front_kept}

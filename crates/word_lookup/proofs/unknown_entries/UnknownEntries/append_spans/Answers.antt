@@ -2,7 +2,7 @@ use Rattle.std.proofs.Common.{[], rules, arith, sym, ap, ◌∙◌, subst}
 use Rattle.std.specs.Prelude.{chars, IfSome, Option}
 use Rattle.mj_model.specs.ImageMeaning.{image_tables}
 use Rattle.std.proofs.lemmas.List.{append-nil}
-use Rattle.mj_model.proofs.CharBytes.{chars_within}
+use Rattle.paths.proofs.CharBytes.{chars_within}
 use Rattle.word_lookup.specs.declared.run.Run.{Run}
 use Rattle.word_lookup.specs.Spans.{HasBytes}
 use Rattle.word_lookup.proofs.AppendLemmas.{front_kept}

@@ -1,5 +1,0 @@
-use Rattle.mj_model.proofs.CoveredTexts.{is_covered}
-use Rattle.mj_model.proofs.laws.texts_are_covered.Goals as goal
-
-pub returns : goal.returns
-returns c = is_covered

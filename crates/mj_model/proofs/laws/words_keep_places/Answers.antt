@@ -1,5 +1,0 @@
-use Rattle.mj_model.proofs.PlaceWords.{words_keep_places}
-use Rattle.mj_model.proofs.laws.words_keep_places.Goals as goal
-
-pub returns : goal.returns
-returns c = words_keep_places

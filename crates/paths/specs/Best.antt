@@ -1,0 +1,35 @@
+-- The best path, and what it asks of the words of a text for there to be exactly one.
+use Rattle.std.specs.Prelude.{◌≡◌, ℕ, ℤ, ◌<◌, ◌≤◌, ◌^◌, ◌⊎◌, ◌++◌, ◌∷◌, [], ◌↔◌, List, Contains, slice_get, Some}
+use Rattle.mj_model.specs.declared.word.Word.{Word}
+use Rattle.paths.specs.Paths.{IsPath}
+use Rattle.paths.specs.Order.{IsBefore}
+use Rattle.mj_model.specs.Bounds.{IsWithin}
+
+-- the best path: the one that is before every other
+pub record IsBestPath (words : ℕ → List Word) (conn : ℕ → ℕ → ℤ) (ws : List Word) : Type 0 where
+  pub to : ℕ
+  pub path : IsPath words ws to
+  pub before_others : (vs : List Word) (end : ℕ) → IsPath words vs end → (vs ≡ ws) ⊎ IsBefore words conn ws vs
+
+-- what the words of a text keep: each begins at its place, is not empty and ends in the text, and none stands twice at its place
+pub record AreWords (words : ℕ → List Word) (len : ℕ) : Type 0 where
+  pub places : (p : ℕ) (w : Word) → Contains (words p) w → w.place ≡ p
+  pub go_on : (p : ℕ) (w : Word) → Contains (words p) w → p < w.end
+  pub within : (p : ℕ) (w : Word) → Contains (words p) w → w.end ≤ len
+  pub distinct : (p i j : ℕ) (w : Word) → slice_get (words p) i ≡ Some w → slice_get (words p) j ≡ Some w → i ≡ j
+
+-- words of a text of this many bytes, and connections, with costs of 16 bits
+pub record IsSource (words : ℕ → List Word) (conn : ℕ → ℕ → ℤ) (len : ℕ) : Type 0 where
+  pub are : AreWords words len
+  pub costs : (p : ℕ) (w : Word) → Contains (words p) w → IsWithin (2 ^ 15) w.cost
+  pub connections : (right left : ℕ) → IsWithin (2 ^ 15) (conn right left)
+
+-- there is exactly one best path
+abbrev pub HasOneBest : Type 0
+HasOneBest = (words : ℕ → List Word) (conn : ℕ → ℕ → ℤ) (len : ℕ) → AreWords words len
+    → (best : List Word) × IsBestPath words conn best × ((other : List Word) → IsBestPath words conn other → other ≡ best)
+
+-- what follows two chains that end in one word changes nothing in their order
+abbrev pub KeepsOrder : Type 0
+KeepsOrder = (words : ℕ → List Word) (conn : ℕ → ℕ → ℤ) (len : ℕ) → AreWords words len → (ps qs rs : List Word) (w : Word)
+    → IsBefore words conn (ps ++ w ∷ []) (qs ++ w ∷ []) ↔ IsBefore words conn ((ps ++ w ∷ []) ++ rs) ((qs ++ w ∷ []) ++ rs)

@@ -1,0 +1,33 @@
+-- Known words: the entries of the lexicons with whose surface a text goes on.
+use Rattle.std.specs.Prelude.{ℕ, suc, ◌+◌, List, [], ◌∷◌, ◌++◌, length, take, drop, map, filter, flat_map, bytes_eq}
+use Rattle.mj_model.specs.declared.word.Word.{Word}
+use Rattle.mj_model.specs.declared.word.Origin.{Origin}
+use Rattle.mj_model.specs.declared.word.Origin.TheVariants.{Known}
+use Rattle.mj_model.specs.Tables.{Overlay, Token, Lexeme, lexicons}
+use Rattle.paths.specs.Blanks.{skip}
+use Rattle.mj_model.specs.Lists.{up_to}
+
+-- the word of a place whose surface stands from a start to an end
+abbrev pub word_of : ℕ → ℕ → ℕ → Origin → Token → Word
+word_of place start end origin t = record { place = place; start = start; end = end; left = t.left; right = t.right; cost = t.cost; origin = origin }
+
+abbrev pub known_word : ℕ → ℕ → ℕ → Lexeme → Word
+known_word place start dict e = word_of place start (start + length e.surface) (Known dict e.token.number) e.token
+
+-- of a lexicon, the entries whose surface is the first n bytes of a text, in the lexicon's order
+abbrev pub entries_of_length : List ℕ → List Lexeme → ℕ → List Lexeme
+entries_of_length text lexicon n = filter (λ e. bytes_eq e.surface (take n text)) lexicon
+
+-- the words of a lexicon with which a text begins: shorter ones first
+abbrev pub known_in : ℕ → ℕ → List ℕ → ℕ → List Lexeme → List Word
+known_in place start text dict lexicon =
+    flat_map (λ n. map (known_word place start dict) (entries_of_length text lexicon n)) (up_to (length text))
+
+-- the words of the lexicons from a number on, one lexicon after another
+abbrev pub known_from : ℕ → ℕ → List ℕ → ℕ → List (List Lexeme) → List Word
+known_from place start text dict [] = []
+known_from place start text dict (lexicon ∷ more) = known_in place start text dict lexicon ++ known_from place start text (suc dict) more
+
+-- the known words of a place
+abbrev pub known : Overlay → List ℕ → ℕ → List Word
+known o text p = known_from p (skip o text p) (drop (skip o text p) text) 0 (lexicons o)

@@ -1,0 +1,14 @@
+pub mod Run
+pub mod Blanks
+pub mod KnownWords
+pub mod UnknownSpans
+pub mod Words
+pub mod Paths
+pub mod Cost
+pub mod Order
+pub mod Best
+pub mod BestOver
+pub mod ChainsBack
+pub mod Searchable
+pub mod Laws
+pub mod PathLaws

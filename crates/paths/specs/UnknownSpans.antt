@@ -1,0 +1,31 @@
+-- Unknown spans: how many characters the unknown words of a place have (MeCab, unk; what it leaves open is this project's own choice).
+use Rattle.std.specs.Prelude.{ℕ, ◌+◌, ◌-◌, Bool, not, ◌&&◌, ◌||◌, nat_lt, nat_le, ◌==◌, if◌then◌else◌, List, [], ◌∷◌, ◌++◌, length, filter}
+use Rattle.mj_model.specs.declared.category.Category.{Category}
+use Rattle.mj_model.specs.Tables.{Overlay, category_at}
+use Rattle.paths.specs.Run.{run, alike}
+use Rattle.mj_model.specs.Lists.{up_to}
+
+-- the whole run, where the category groups and no more characters than the grouping follow the first one
+abbrev pub grouped_span : Category → ℕ → ℕ → List ℕ
+grouped_span category grouping whole = if category.group && nat_le (whole - 1) grouping then whole ∷ [] else []
+
+-- the lengths from 1 to the category's, of characters that share with the first; where the category groups, below the run's
+abbrev pub length_spans : Category → ℕ → ℕ → List ℕ
+length_spans category whole same = filter (λ n. nat_le n same && (not category.group || nat_lt n whole)) (up_to category.length)
+
+-- where nothing else is there, one character
+abbrev pub one_if_none : Bool → List ℕ → List ℕ
+one_if_none none_known spans = if none_known && length spans == 0 then 1 ∷ [] else spans
+
+-- the spans of a category, whose run has `whole` characters, of which `same` share with the first
+abbrev pub spans_of : Category → Bool → ℕ → ℕ → ℕ → List ℕ
+spans_of category none_known grouping whole same =
+    if category.invoke || none_known
+    then one_if_none none_known (grouped_span category grouping whole ++ length_spans category whole same)
+    else []
+
+-- the unknown spans of the characters from a start on, the first of them apart
+abbrev pub spans : Overlay → Bool → ℕ → List ℕ → List ℕ
+spans o none_known c cs =
+    let info = o.system.info in
+    spans_of (category_at o (info c).head) none_known o.grouping (1 + run info (info c) cs) (alike info c cs)

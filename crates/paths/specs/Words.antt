@@ -1,0 +1,35 @@
+-- The words at a place of a text.
+use Rattle.std.specs.Prelude.{ℕ, ◌+◌, Bool, true, false, ◌&&◌, nat_lt, nat_le, if◌then◌else◌, List, [], ◌∷◌, ◌++◌, length, drop, map, flat_map}
+use Rattle.std.specs.Str.{is_utf8}
+use Rattle.mj_model.specs.declared.word.Word.{Word}
+use Rattle.mj_model.specs.declared.word.Origin.TheVariants.{Unknown}
+use Rattle.mj_model.specs.Tables.{Overlay, Token}
+use Rattle.paths.specs.Run.{bytes_of}
+use Rattle.paths.specs.Blanks.{skip, chars_from}
+use Rattle.paths.specs.KnownWords.{known, word_of}
+use Rattle.paths.specs.UnknownSpans.{spans}
+
+abbrev pub is_empty : List Word → Bool
+is_empty [] = true
+is_empty (w ∷ ws) = false
+
+-- an unknown word of a place, of these bytes from its start
+abbrev pub unknown_word : ℕ → ℕ → ℕ → Token → Word
+unknown_word place start bytes t = word_of place start (start + bytes) (Unknown t.number) t
+
+-- the unknown words of the characters from the start of a place: for each span the unknown entries of the first character's first category
+abbrev pub unknown : Overlay → Bool → ℕ → ℕ → List ℕ → List Word
+unknown o none_known place start [] = []
+unknown o none_known place start (c ∷ cs) =
+    flat_map (λ n. map (unknown_word place start (bytes_of n (c ∷ cs))) (o.system.unknown (o.system.info c).head)) (spans o none_known c cs)
+
+-- a place: what follows is text
+abbrev pub is_place : List ℕ → ℕ → Bool
+is_place text p = nat_le p (length text) && is_utf8 (drop p text)
+
+-- the words of a place, the known before the unknown; none where only blanks follow, and none where no character begins
+abbrev pub words : Overlay → List ℕ → ℕ → List Word
+words o text p =
+    if is_place text p && nat_lt (skip o text p) (length text)
+    then known o text p ++ unknown o (is_empty (known o text p)) p (skip o text p) (chars_from text (skip o text p))
+    else []
