@@ -12,6 +12,10 @@ run info entry (c ∷ cs) = if shares entry (info c) then suc (run info (info c)
 abbrev pub bytes_of : ℕ → List ℕ → ℕ
 bytes_of n cs = length (encode_utf8_all (take n cs))
 
+-- how many characters at the front share a category with these
+abbrev pub alike_with : CharInfo → (ℕ → CharInfo) → List ℕ → ℕ
+alike_with first info cs = length (take_while (λ c. shares first (info c)) cs)
+
 -- how many characters, from the first on, share a category with the first
 abbrev pub alike : (ℕ → CharInfo) → ℕ → List ℕ → ℕ
-alike info first cs = 1 + length (take_while (λ c. shares (info first) (info c)) cs)
+alike info first cs = 1 + alike_with (info first) info cs

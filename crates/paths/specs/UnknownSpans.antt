@@ -1,7 +1,7 @@
 -- Unknown spans: how many characters the unknown words of a place have (MeCab, unk; what it leaves open is this project's own choice).
-use Rattle.std.specs.Prelude.{ℕ, ◌+◌, ◌-◌, Bool, not, ◌&&◌, ◌||◌, nat_lt, nat_le, ◌==◌, if◌then◌else◌, List, [], ◌∷◌, ◌++◌, length, filter}
+use Rattle.std.specs.Prelude.{ℕ, ◌+◌, ◌-◌, Bool, not, ◌&&◌, ◌||◌, nat_lt, nat_le, ◌==◌, if◌then◌else◌, List, [], ◌∷◌, ◌++◌, length, filter, slice_index_or}
 use Rattle.mj_model.specs.declared.category.Category.{Category}
-use Rattle.mj_model.specs.Tables.{Overlay, category_at}
+use Rattle.mj_model.specs.Tables.{Overlay, Tables, no_category}
 use Rattle.paths.specs.Run.{run, alike}
 use Rattle.mj_model.specs.Lists.{up_to}
 
@@ -24,8 +24,11 @@ spans_of category none_known grouping whole same =
     then one_if_none none_known (grouped_span category grouping whole ++ length_spans category whole same)
     else []
 
--- the unknown spans of the characters from a start on, the first of them apart
+-- the unknown spans that tables make of the characters from a start on, the first of them apart
+abbrev pub spans_by : Tables → ℕ → Bool → ℕ → List ℕ → List ℕ
+spans_by t grouping none_known c cs =
+    spans_of (slice_index_or t.categories (t.info c).head no_category) none_known grouping (1 + run t.info (t.info c) cs) (alike t.info c cs)
+
+-- those of an overlay, by its system
 abbrev pub spans : Overlay → Bool → ℕ → List ℕ → List ℕ
-spans o none_known c cs =
-    let info = o.system.info in
-    spans_of (category_at o (info c).head) none_known o.grouping (1 + run info (info c) cs) (alike info c cs)
+spans o none_known c cs = spans_by o.system o.grouping none_known c cs

@@ -27,9 +27,13 @@ unknown o none_known place start (c ∷ cs) =
 abbrev pub is_place : List ℕ → ℕ → Bool
 is_place text p = nat_le p (length text) && is_utf8 (drop p text)
 
+-- the words of a place whose surfaces begin at a start, the known before the unknown
+abbrev pub words_from : Overlay → List ℕ → ℕ → ℕ → List Word
+words_from o text p start = known o text p ++ unknown o (is_empty (known o text p)) p start (chars_from text start)
+
 -- the words of a place, the known before the unknown; none where only blanks follow, and none where no character begins
 abbrev pub words : Overlay → List ℕ → ℕ → List Word
 words o text p =
     if is_place text p && nat_lt (skip o text p) (length text)
-    then known o text p ++ unknown o (is_empty (known o text p)) p (skip o text p) (chars_from text (skip o text p))
+    then words_from o text p (skip o text p)
     else []

@@ -1,5 +1,7 @@
 -- Unknown spans as they are looked up.
-use Rattle.std.specs.Prelude.{◌≡◌, ℕ, List, [], ◌∷◌, ◌++◌, Option, Some, None}
+use Rattle.std.specs.Prelude.{◌≡◌, ℕ, ◌+◌, min, nat_le, ◌&&◌, if◌then◌else◌, List, [], ◌∷◌, ◌++◌, Option, Some, None}
+use Rattle.std.specs.Char.{len_utf8}
+use Rattle.mj_model.specs.declared.category.Category.{Category}
 use Rattle.mj_model.specs.Lists.{up_to}
 use Rattle.paths.specs.Run.{bytes_of}
 use Rattle.word_lookup.specs.declared.run.Run.{Run}
@@ -12,6 +14,18 @@ grouped_spans (Some run) = run.characters ∷ []
 -- the grouped span, then those of 1 character to the longest
 abbrev pub spans_in : Spans → List ℕ
 spans_in s = grouped_spans s.grouped ++ up_to s.longest
+
+-- the whole run of a first character and those after it, where the category groups and no more than the grouping follow
+abbrev pub grouped_with : Category → ℕ → ℕ → Run → Option Run
+grouped_with category grouping first run =
+    if category.group && nat_le run.characters grouping
+    then Some (record { characters = 1 + run.characters; bytes = len_utf8 first + run.bytes })
+    else None
+
+-- the longest of the lengths from 1 on, where so many characters follow in the run and so many are alike
+abbrev pub longest_of : Category → ℕ → ℕ → ℕ
+longest_of category following alike =
+    if category.group then min (min category.length alike) following else min category.length alike
 
 -- the bytes are those of the characters
 abbrev pub HasBytes : List ℕ → Run → Type 0

@@ -2,14 +2,13 @@
 
 ghost use Rattle.std.specs.Prelude.{◌≡◌, ℕ, ◌+◌, ◌<◌, ◌≤◌, ◌^◌, ◌++◌, ◌∷◌, [], length, map, take, drop, vec_len, chars, IsTrue, IsOk, IfOk, OnOk, OnErr, IfErr, Bool, Some, None, slice_index_or};
 ghost use Rattle.std.specs.Str.{IsUtf8};
-ghost use Rattle.paths.specs.Blanks.{skip, chars_from};
+ghost use Rattle.paths.specs.Blanks.{skip};
 ghost use Rattle.mj_model.specs.Connection.{is_pair};
 ghost use Rattle.mj_model.specs.ImageMeaning.{image_tables};
-ghost use Rattle.paths.specs.KnownWords.{known, known_from};
-ghost use Rattle.mj_model.specs.Overlays.{overlay_fault};
+ghost use Rattle.paths.specs.KnownWords.{known_from};
 ghost use Rattle.mj_model.specs.Printed.{feature_of};
 ghost use Rattle.mj_model.specs.Tables.{lexicons};
-ghost use Rattle.paths.specs.Words.{is_place, is_empty, unknown, words};
+ghost use Rattle.paths.specs.Words.{is_place, unknown, words, words_from};
 ghost use Rattle.word_lookup.specs.Fitting.{IsOverlay};
 ghost use Rattle.word_lookup.specs.Props.{IsOverlay-prop};
 
@@ -34,14 +33,14 @@ pub struct Dictionaries<'a> {
 
 impl<'a> Dictionaries<'a> {
     ghost use Rattle.word_lookup.specs.EntryWords.{feature_in_entry};
-    ghost use Rattle.word_lookup.specs.Overlays.{lexicon_in, overlay_of};
+    ghost use Rattle.word_lookup.specs.Overlays.{fault_of_images, lexicon_in, overlay_by_default, overlay_of};
 
     /// The system dictionary and the users' laid over it, with a grouping of 24 characters. Takes no memory.
     #[tactic(auto, unfolding(crate::specs::Overlays::overlay_of))]
     pub fn new(system: &'a Dict, users: &'a [Dict]) -> Result<Dictionaries<'a>, OverlayFault>
-        ensures overlay { IfOk result (λ d. overlay_of d ≡ record { system = image_tables system.now; users = map image_tables users.now; grouping = 24 }) }
-        ensures accepted { OnOk result (overlay_fault (image_tables system.now) (map image_tables users.now) ≡ None) }
-        ensures refused { IfErr result (λ fault. overlay_fault (image_tables system.now) (map image_tables users.now) ≡ Some fault) }
+        ensures overlay { IfOk result (λ d. overlay_of d ≡ overlay_by_default system.now users.now) }
+        ensures accepted { OnOk result (fault_of_images system.now users.now ≡ None) }
+        ensures refused { IfErr result (λ fault. fault_of_images system.now users.now ≡ Some fault) }
     {
         if system.is_user() {
             return Err(OverlayFault::NotSystem);
@@ -88,7 +87,8 @@ impl<'a> Dictionaries<'a> {
         out: &mut Vec<Word>,
     ) -> Result<(), AllocError>
         requires { IsTrue (is_place text.now place) }
-        ensures appended { OnOk result (out.new.items ≡ out.old.items ++ words (overlay_of self.now) text.now place) }
+        ensures appended { OnOk result (out.new.items
+            ≡ out.old.items ++ words (overlay_of self.now) text.now place) }
         ensures kept { OnErr result (out.new.items ≡ out.old.items) }
         // Where there are none, no memory is taken.
         ensures none { words (overlay_of self.now) text.now place ≡ [] → IsOk result }
@@ -115,7 +115,8 @@ impl<'a> Dictionaries<'a> {
     ) -> Result<(), AllocError>
         requires there { IsTrue (is_place text.now place) }
         requires behind_blanks { start ≡ skip (overlay_of self.now) text.now place }
-        ensures appended { OnOk result (out.new.items ≡ out.old.items ++ (known (overlay_of self.now) text.now place ++ unknown (overlay_of self.now) (is_empty (known (overlay_of self.now) text.now place)) place start (chars_from text.now start))) }
+        ensures appended { OnOk result (out.new.items
+            ≡ out.old.items ++ words_from (overlay_of self.now) text.now place start) }
         ensures kept { take (vec_len out.old) out.new.items ≡ out.old.items }
     {
         let count = out.len();
@@ -134,7 +135,8 @@ impl<'a> Dictionaries<'a> {
         out: &mut Vec<Word>,
     ) -> Result<(), AllocError>
         requires { start + length rest.now < 2 ^ 64 }
-        ensures appended { OnOk result (out.new.items ≡ out.old.items ++ known_from place start rest.now 0 (lexicons (overlay_of self.now))) }
+        ensures appended { OnOk result (out.new.items
+            ≡ out.old.items ++ known_from place start rest.now 0 (lexicons (overlay_of self.now))) }
         ensures kept { take (vec_len out.old) out.new.items ≡ out.old.items }
     {
         append_known(self.system, 0, rest, place, start, out)?;
@@ -154,7 +156,8 @@ impl<'a> Dictionaries<'a> {
         out: &mut Vec<Word>,
     ) -> Result<(), AllocError>
         requires { start + length rest.now < 2 ^ 64 }
-        ensures appended { OnOk result (out.new.items ≡ out.old.items ++ unknown (overlay_of self.now) none_known place start (chars rest.now)) }
+        ensures appended { OnOk result (out.new.items
+            ≡ out.old.items ++ unknown (overlay_of self.now) none_known place start (chars rest.now)) }
         ensures kept { take (vec_len out.old) out.new.items ≡ out.old.items }
     {
         let Some(first) = rest.chars().next() else {

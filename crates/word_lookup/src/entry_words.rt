@@ -38,7 +38,8 @@ pub fn append_entries(
     end: usize,
     out: &mut Vec<Word>,
 ) -> Result<(), AllocError>
-    ensures appended { OnOk result (out.new.items ≡ out.old.items ++ map (entry_word list place start end) entries.entry) }
+    ensures appended { OnOk result (out.new.items
+        ≡ out.old.items ++ map (entry_word list place start end) entries.entry) }
     ensures kept { take (vec_len out.old) out.new.items ≡ out.old.items }
 {
     for entry in entries {

@@ -20,7 +20,8 @@ pub fn append_known(
     out: &mut Vec<Word>,
 ) -> Result<(), AllocError>
     requires { start + length rest.now < 2 ^ 64 }
-    ensures appended { OnOk result (out.new.items ≡ out.old.items ++ known_in place start rest.now number (image_tables dict.now).lexicon) }
+    ensures appended { OnOk result (out.new.items
+        ≡ out.old.items ++ known_in place start rest.now number (image_tables dict.now).lexicon) }
     ensures kept { take (vec_len out.old) out.new.items ≡ out.old.items }
 {
     let list = EntryList::Lexicon(number);

@@ -1,8 +1,7 @@
 //! Runs of characters of one kind.
 
-ghost use Rattle.std.specs.Prelude.{◌≡◌, ℕ, ◌+◌, length, min, chars, take, take_while};
-ghost use Rattle.mj_model.specs.Categories.{shares};
-ghost use Rattle.paths.specs.Run.{run, bytes_of};
+ghost use Rattle.std.specs.Prelude.{◌≡◌, min, chars, take};
+ghost use Rattle.paths.specs.Run.{run, bytes_of, alike_with};
 ghost use Rattle.mj_model.specs.ImageMeaning.{image_tables};
 ghost use Rattle.mj_model.specs.Tables.{System};
 
@@ -20,7 +19,8 @@ pub struct Run {
 /// are looked at.
 pub fn run_up_to(system: &Dict, entry: CharInfo, text: &str, limit: usize) -> Run
     requires { (image_tables system.now).kind ≡ System }
-    ensures characters { result.characters ≡ min limit (run (image_tables system.now).info entry (chars text.now)) }
+    ensures characters { result.characters
+        ≡ min limit (run (image_tables system.now).info entry (chars text.now)) }
     ensures bytes { result.bytes ≡ bytes_of result.characters (chars text.now) }
 {
     let mut last = entry;
@@ -42,7 +42,7 @@ pub fn run_up_to(system: &Dict, entry: CharInfo, text: &str, limit: usize) -> Ru
 /// `limit` characters are looked at.
 pub fn alike_up_to(system: &Dict, first: CharInfo, text: &str, limit: usize) -> usize
     requires { (image_tables system.now).kind ≡ System }
-    ensures { result ≡ length (take_while (λ c. shares first ((image_tables system.now).info c)) (take limit (chars text.now))) }
+    ensures { result ≡ alike_with first (image_tables system.now).info (take limit (chars text.now)) }
 {
     text.chars()
         .take(limit)

@@ -1,13 +1,11 @@
 //! How many characters the unknown words of a place have. (MeCab, unk)
 
-ghost use Rattle.std.specs.Prelude.{◌≡◌, ℕ, ◌+◌, ◌<◌, ◌≤◌, ◌&&◌, ◌||◌, ◌^◌, ◌∷◌, [], length, min, chars, take, take_while, nat_le, if◌then◌else◌, IfSome, slice_index_or, max, true};
+ghost use Rattle.std.specs.Prelude.{◌≡◌, ◌+◌, ◌<◌, ◌≤◌, ◌||◌, ◌^◌, ◌∷◌, length, chars, IfSome, max, true};
 ghost use Rattle.std.specs.Char.{len_utf8};
-ghost use Rattle.paths.specs.Run.{run, bytes_of, alike};
-ghost use Rattle.paths.specs.UnknownSpans.{spans_of, one_if_none, grouped_span, length_spans};
-ghost use Rattle.mj_model.specs.Lists.{up_to};
+ghost use Rattle.paths.specs.UnknownSpans.{spans_by, one_if_none};
 ghost use Rattle.mj_model.specs.ImageMeaning.{image_tables};
-ghost use Rattle.mj_model.specs.Tables.{System, no_category};
-ghost use Rattle.word_lookup.specs.Spans.{grouped_spans, spans_in, HasBytes};
+ghost use Rattle.mj_model.specs.Tables.{System};
+ghost use Rattle.word_lookup.specs.Spans.{spans_in, grouped_with, longest_of, HasBytes};
 
 use crate::run::{Run, alike_up_to, run_up_to};
 use dict_image::Dict;
@@ -34,7 +32,8 @@ pub fn spans_from(
     requires system { (image_tables system.now).kind ≡ System }
     requires info { info ≡ (image_tables system.now).info first }
     requires category { info.head < length (image_tables system.now).categories }
-    ensures spans { spans_in result ≡ spans_of (slice_index_or (image_tables system.now).categories ((image_tables system.now).info first).head no_category) none_known grouping (1 + run (image_tables system.now).info ((image_tables system.now).info first) (chars following.now)) (alike (image_tables system.now).info first (chars following.now)) }
+    ensures spans { spans_in result
+        ≡ spans_by (image_tables system.now) grouping none_known first (chars following.now) }
     ensures bytes { IfSome result.grouped (HasBytes (first ∷ chars following.now)) }
     ensures within { result.longest ≤ length (first ∷ chars following.now) }
 {
@@ -76,7 +75,7 @@ fn look_ahead(category: Category, grouping: u16) -> usize
 /// The whole run, where the category groups and no more characters than the grouping follow the first.
 fn grouped_run(category: Category, grouping: u16, first: char, run: Run) -> Option<Run>
     requires { len_utf8 first + run.bytes < 2 ^ 64 }
-    ensures { result ≡ (if category.group && nat_le run.characters grouping then Some (record { characters = 1 + run.characters; bytes = len_utf8 first + run.bytes }) else None) }
+    ensures { result ≡ grouped_with category grouping first run }
 {
     if category.group && run.characters <= usize::from(grouping) {
         Some(Run {
@@ -90,7 +89,7 @@ fn grouped_run(category: Category, grouping: u16, first: char, run: Run) -> Opti
 
 /// The longest of the lengths from 1 on.
 fn longest_length(category: Category, following: usize, alike: usize) -> usize
-    ensures { result ≡ (if category.group then min (min category.length alike) following else min category.length alike) }
+    ensures { result ≡ longest_of category following alike }
 {
     let longest = usize::from(category.length).min(alike);
     if category.group {

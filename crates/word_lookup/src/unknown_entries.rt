@@ -5,7 +5,7 @@ ghost use Rattle.mj_model.specs.ImageMeaning.{image_tables};
 ghost use Rattle.mj_model.specs.Lists.{up_to};
 ghost use Rattle.paths.specs.Words.{unknown_word};
 ghost use Rattle.word_lookup.specs.Spans.{spans_in, HasBytes};
-ghost use Rattle.word_lookup.specs.UnknownEntries.{words_of_spans};
+ghost use Rattle.word_lookup.specs.UnknownEntries.{entries_of, words_of_spans};
 
 use crate::entry_words::{EntryList, append_entries};
 use crate::spans::Spans;
@@ -34,7 +34,9 @@ impl<'a> UnknownEntries<'a> {
         requires bytes { IfSome spans.grouped (HasBytes (chars rest.now)) }
         requires within { spans.longest ≤ length (chars rest.now) }
         requires fits { start + length rest.now < 2 ^ 64 }
-        ensures appended { OnOk result (out.new.items ≡ out.old.items ++ words_of_spans place start (chars rest.now) ((image_tables self.entry.system.now).unknown self.entry.category) (spans_in spans)) }
+        ensures appended { OnOk result (out.new.items
+            ≡ out.old.items ++ words_of_spans place start (chars rest.now) (entries_of self.entry)
+            (spans_in spans)) }
         ensures kept { take (vec_len out.old) out.new.items ≡ out.old.items }
     {
         if let Some(run) = spans.grouped {
@@ -55,7 +57,9 @@ impl<'a> UnknownEntries<'a> {
         requires there { self.category < length (image_tables self.system.now).categories }
         requires within { longest ≤ length (chars rest.now) }
         requires fits { start + length rest.now < 2 ^ 64 }
-        ensures appended { OnOk result (out.new.items ≡ out.old.items ++ words_of_spans place start (chars rest.now) ((image_tables self.entry.system.now).unknown self.entry.category) (up_to longest)) }
+        ensures appended { OnOk result (out.new.items
+            ≡ out.old.items ++ words_of_spans place start (chars rest.now) (entries_of self.entry)
+            (up_to longest)) }
         ensures kept { take (vec_len out.old) out.new.items ≡ out.old.items }
     {
         let mut end = start;
@@ -76,7 +80,8 @@ impl<'a> UnknownEntries<'a> {
     ) -> Result<(), AllocError>
         requires there { self.category < length (image_tables self.system.now).categories }
         requires forward { start ≤ end }
-        ensures appended { OnOk result (out.new.items ≡ out.old.items ++ map (unknown_word place start (end - start)) ((image_tables self.entry.system.now).unknown self.entry.category)) }
+        ensures appended { OnOk result (out.new.items
+            ≡ out.old.items ++ map (unknown_word place start (end - start)) (entries_of self.entry)) }
         ensures kept { take (vec_len out.old) out.new.items ≡ out.old.items }
     {
         let entries = self.system.unknown(self.category);
