@@ -6,6 +6,10 @@ abbrev pub up_to : ℕ → List ℕ
 up_to zero = []
 up_to (suc n) = up_to n ++ suc n ∷ []
 
+-- a list grows by something that is so
+abbrev pub GrowsBy : {X : Type 0} → (List X → Type 0) → List X → List X → Type 0
+GrowsBy {X} Is old new = (more : List X) × Is more × (new ≡ old ++ more)
+
 -- x stands in a list
 abbrev pub StandsIn : {X : Type 0} → List X → X → Type 0
 StandsIn [] x = ⊥

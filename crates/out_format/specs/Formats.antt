@@ -163,6 +163,10 @@ IsFormat texts (Ok f) = ReadsFormat texts f
 IsFormat texts (Err (fault.Bad part at kind)) = AreGoodBefore texts part × IsBadAt part (part_text texts part) at kind
 IsFormat texts (Err fault.Memory) = ⊥
 
+-- the texts are refused: memory was, or this is their first fault
+abbrev pub IsFormatRefusal : FormatTexts → FormatFault → Type 0
+IsFormatRefusal texts refusal = (refusal ≡ fault.Memory) ⊎ IsFormat texts (Err refusal)
+
 -- each four texts read in exactly one way
 abbrev pub HasOneFormat : Type 0
 HasOneFormat = (texts : FormatTexts) → (read : Result Format FormatFault) × IsFormat texts read

@@ -7,3 +7,4 @@ pub mod Standings
 pub mod Followable
 pub mod PrintedPaths
 pub mod Formats
+pub mod Answers

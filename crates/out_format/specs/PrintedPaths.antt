@@ -24,6 +24,10 @@ pub record Standing : Type 0 where
 abbrev pub connection_before : Overlay → Standing → ℤ
 connection_before o s = o.system.connection s.right_before s.word.left
 
+-- the connection cost and the word cost
+abbrev pub cost_here : Overlay → Standing → ℤ
+cost_here o s = connection_before o s +ℤ s.word.cost
+
 -- what is shown of a field: nothing where it is missing or begins with `*`
 abbrev pub unless_star : List ℕ → List ℕ
 unless_star [] = []
@@ -57,7 +61,7 @@ ShowsItem o line s item.SentenceLength shown = shown ≡ decimal (length line)
 ShowsItem o line s item.LeftId shown = shown ≡ decimal s.word.left
 ShowsItem o line s item.RightId shown = shown ≡ decimal s.word.right
 ShowsItem o line s item.ConnectionCost shown = shown ≡ signed_decimal (connection_before o s)
-ShowsItem o line s item.CostHere shown = shown ≡ signed_decimal (connection_before o s +ℤ s.word.cost)
+ShowsItem o line s item.CostHere shown = shown ≡ signed_decimal (cost_here o s)
 ShowsItem o line s item.CostSoFar shown = shown ≡ signed_decimal s.cost_so_far
 ShowsItem o line s item.SurfaceLength shown = shown ≡ decimal (s.word.end - s.word.start)
 ShowsItem o line s item.LengthWithBlanks shown = shown ≡ decimal (s.word.end - s.word.place)
@@ -101,11 +105,15 @@ abbrev pub word_pieces : Format → Origin → List Piece
 word_pieces f (Known dict number) = f.node
 word_pieces f (Unknown number) = f.unk
 
+-- what a path costs up to and with a word, where the word before it has this right id and it costs this much up to it
+abbrev pub cost_with_word : Overlay → ℕ → ℤ → Word → ℤ
+cost_with_word o right cost w = (cost +ℤ o.system.connection right w.left) +ℤ w.cost
+
 -- the words from one on, where the word before has this right id and the path costs this much up to it
 abbrev pub ShowsWords : Overlay → Format → List ℕ → ℕ → ℤ → List Word → List ℕ → Type 0
 ShowsWords o f line right cost [] shown = shown ≡ []
 ShowsWords o f line right cost (w ∷ ws) shown =
-    let so_far = (cost +ℤ o.system.connection right w.left) +ℤ w.cost in
+    let so_far = cost_with_word o right cost w in
     (front : List ℕ) × (more : List ℕ) × ShowsPieces (ShowsItem o line (record { word = w; right_before = right; cost_so_far = so_far })) (word_pieces f w.origin) front
     × ShowsWords o f line w.right so_far ws more × (shown ≡ front ++ more)
 

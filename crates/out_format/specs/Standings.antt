@@ -4,6 +4,7 @@ use Rattle.mj_model.specs.declared.word.Word.{Word}
 use Rattle.mj_model.specs.Connection.{is_pair}
 use Rattle.out_format.specs.PrintedPaths.{Standing}
 use Rattle.mj_model.specs.Tables.{Overlay}
+use Rattle.paths.specs.Blanks.{chars_from}
 use Rattle.paths.specs.Words.{is_place}
 use Rattle.out_format.specs.declared.word_in_path.WordInPath.{WordInPath}
 use Rattle.word_lookup.specs.Overlays.{overlay_of}
@@ -19,5 +20,13 @@ pub record IsWordOf (o : Overlay) (line : List ℕ) (right : ℕ) (w : Word) : T
   pub begins : IsTrue (is_place line w.start)
   pub follows : IsTrue (is_pair o.system.sizes right w.left)
 
+-- the dictionaries that it comes from
+abbrev pub overlay_in : WordInPath → Overlay
+overlay_in w = overlay_of w.dictionaries.now
+
+-- the characters of the line from its surface on
+abbrev pub chars_of : WordInPath → List ℕ
+chars_of w = chars_from w.text.now w.word.now.start
+
 abbrev pub CanStand : WordInPath → Type 0
-CanStand w = IsWordOf (overlay_of w.dictionaries.now) w.text.now w.right_before w.word.now
+CanStand w = IsWordOf (overlay_in w) w.text.now w.right_before w.word.now

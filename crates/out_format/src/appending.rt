@@ -1,9 +1,8 @@
 //! Bytes, numbers and fields appended to an output. On an error a part of them may stand there.
 
-ghost use Rattle.std.specs.Prelude.{◌≡◌, ◌++◌, ℕ, List, take, vec_len, OnOk, slice_get};
+ghost use Rattle.std.specs.Prelude.{◌≡◌, ◌++◌, take, vec_len, OnOk};
 ghost use Rattle.std.specs.Fmt.{decimal, signed_decimal};
-ghost use Rattle.mj_model.specs.Fields.{AreFields};
-ghost use Rattle.out_format.specs.PrintedPaths.{field_shown};
+ghost use Rattle.out_format.specs.Answers.{GrowsByField};
 
 use itoa::Buffer;
 use lex_source::append_field;
@@ -35,7 +34,7 @@ pub fn append_cost(cost: i64, out: &mut Vec<u8>) -> Result<(), AllocError>
 
 /// Appends field `n` of a feature, or nothing where it is missing or begins with `*`.
 pub fn append_shown_field(feature: &str, n: u16, out: &mut Vec<u8>) -> Result<(), AllocError>
-    ensures appended { OnOk result ((fields : List (List ℕ)) × AreFields feature.now fields × (out.new.items ≡ out.old.items ++ field_shown (slice_get fields n))) }
+    ensures appended { OnOk result (GrowsByField feature.now n out.old.items out.new.items) }
     ensures kept { take (vec_len out.old) out.new.items ≡ out.old.items }
 {
     let count = out.len();

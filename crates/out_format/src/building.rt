@@ -31,7 +31,8 @@ impl PartsSoFar {
 
     /// Adds a piece.
     pub fn push(&mut self, piece: NextPiece) -> Result<(), AllocError>
-        ensures { OnOk result (pieces_so_far self.new ≡ pieces_so_far self.old ++ piece_of piece ∷ []) }
+        ensures { OnOk result (pieces_so_far self.new
+            ≡ pieces_so_far self.old ++ piece_of piece ∷ []) }
     {
         match piece {
             NextPiece::Byte(byte) => self.run.push(byte)?,

@@ -1,9 +1,8 @@
 //! The piece that a format's text begins with: a byte, an escape or an item.
 
-ghost use Rattle.std.specs.Prelude.{◌≡◌, ◌<◌, ◌∷◌, ◌↔◌, length, IsTrue, MatchResult};
-ghost use Rattle.out_format.specs.Formats.{Begins, MayShow, shows_fields as shows_fields_of, bad_item as bad_item_of};
-ghost use Rattle.out_format.specs.FirstItems.{IsStuck};
-ghost use Rattle.out_format.specs.Pieces.{piece_of};
+ghost use Rattle.std.specs.Prelude.{◌≡◌, ◌<◌, ◌∷◌, ◌↔◌, length, IsTrue};
+ghost use Rattle.out_format.specs.Formats.{MayShow, shows_fields as shows_fields_of, bad_item as bad_item_of};
+ghost use Rattle.out_format.specs.Answers.{IsFirstPiece};
 
 use crate::bytes::first_byte;
 use crate::escapes::escaped_byte;
@@ -27,7 +26,7 @@ pub struct FirstPiece<'a> {
 /// The piece that a part's text begins with, or why it begins with none.
 pub fn first_piece(text: &[u8], part: FormatPart) -> Result<FirstPiece<'_>, FormatKind>
     requires { 0 < length text.now }
-    ensures { MatchResult result (λ first. Begins part (piece_of first.piece) text.now first.rest.now) (IsStuck part text.now) }
+    ensures { IsFirstPiece part text.now result }
 {
     let Some((first, rest)) = first_byte(text) else {
         unreachable!();
@@ -46,7 +45,7 @@ pub fn first_piece(text: &[u8], part: FormatPart) -> Result<FirstPiece<'_>, Form
 
 /// The escape behind a backslash, which may stand in any part.
 fn escape_of_part(behind: &[u8], part: FormatPart) -> Result<FirstPiece<'_>, FormatKind>
-    ensures { MatchResult result (λ first. Begins part (piece_of first.piece) (92 ∷ behind.now) first.rest.now) (IsStuck part (92 ∷ behind.now)) }
+    ensures { IsFirstPiece part (92 ∷ behind.now) result }
 {
     let Some((character, rest)) = first_byte(behind) else {
         return Err(FormatKind::BadEscape);
@@ -62,7 +61,7 @@ fn escape_of_part(behind: &[u8], part: FormatPart) -> Result<FirstPiece<'_>, For
 
 /// The item of a part behind a percent sign.
 fn item_of_part(behind: &[u8], part: FormatPart) -> Result<FirstPiece<'_>, FormatKind>
-    ensures { MatchResult result (λ first. Begins part (piece_of first.piece) (37 ∷ behind.now) first.rest.now) (IsStuck part (37 ∷ behind.now)) }
+    ensures { IsFirstPiece part (37 ∷ behind.now) result }
 {
     match first_item(behind) {
         Some(first) if may_show(part, first.item) => Ok(FirstPiece {

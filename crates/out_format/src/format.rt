@@ -1,8 +1,7 @@
 //! Formats, read once.
 
-ghost use Rattle.std.specs.Prelude.{◌≡◌, ◌⊎◌, Ok, Err, IfOk, IfErr, map};
-ghost use Rattle.mj_model.specs.declared.format_fault.FormatFault.TheVariants.{Memory};
-ghost use Rattle.out_format.specs.Formats.{IsFormat, ReadsFormat};
+ghost use Rattle.std.specs.Prelude.{◌≡◌, IfOk, IfErr, map};
+ghost use Rattle.out_format.specs.Formats.{IsFormatRefusal, ReadsFormat};
 ghost use Rattle.out_format.specs.PrintedPaths.{word_pieces};
 ghost use Rattle.out_format.specs.Pieces.{piece_of, pieces_of};
 ghost use Rattle.out_format.specs.Texts.{all_alike, texts_of, default_texts, wakati_texts};
@@ -52,8 +51,8 @@ impl Format {
         bos: &str,
         eos: &str,
     ) -> Result<Format, FormatFault>
-        ensures accepted { IfOk result (λ format. IsFormat (texts_of node.now unk.entry bos.now eos.now) (Ok format)) }
-        ensures refused { IfErr result (λ fault. (fault ≡ Memory) ⊎ IsFormat (texts_of node.now unk.entry bos.now eos.now) (Err fault)) }
+        ensures accepted { IfOk result (ReadsFormat (texts_of node.now unk.entry bos.now eos.now)) }
+        ensures refused { IfErr result (IsFormatRefusal (texts_of node.now unk.entry bos.now eos.now)) }
     {
         let node_parts = parse_part(alloc, node, FormatPart::Node)?;
         let unk_parts = parse_part(alloc, unk.unwrap_or(node), FormatPart::Unk)?;
@@ -123,7 +122,8 @@ impl Format {
 
 /// A format that prints known and unknown words alike, and nothing before the first.
 fn for_all_words(alloc: Global, word: &[NextPiece], end: &[NextPiece]) -> Result<Format, AllocError>
-    ensures { IfOk result (λ format. format ≡ all_alike (map piece_of word.now) (map piece_of end.now)) }
+    ensures { IfOk result (λ format. format
+        ≡ all_alike (map piece_of word.now) (map piece_of end.now)) }
 {
     Ok(Format {
         node: parts_of(alloc, word)?,

@@ -1,11 +1,10 @@
 //! The index of a field, between brackets.
 
-ghost use Rattle.std.specs.Prelude.{◌≡◌, ◌∷◌, ◌≤◌, true, length, nat_le, if◌then◌else◌, Some, None, MatchOption};
+ghost use Rattle.std.specs.Prelude.{◌≡◌, ◌∷◌, ◌≤◌, true, length};
 ghost use Rattle.std.specs.Char.{is_ascii_digit};
 ghost use Rattle.std.specs.List.{prefix_len};
 ghost use Rattle.std.specs.Str.{all_ascii_digits};
-ghost use Rattle.mj_model.specs.Numbers.{digits_value};
-ghost use Rattle.out_format.specs.FirstItems.{HasIndex, HasNoIndex};
+ghost use Rattle.out_format.specs.Answers.{IsFirstIndex, index_of};
 
 use crate::bytes::first_byte;
 
@@ -21,7 +20,7 @@ pub struct Index<'a> {
 
 /// The index that a text begins with: one to five digits between brackets, of value at most 65,535.
 pub fn first_index(text: &[u8]) -> Option<Index<'_>>
-    ensures { MatchOption result (HasNoIndex text.now) (λ index. HasIndex text.now index.number index.rest.now) }
+    ensures { IsFirstIndex text.now result }
 {
     let (bracket, inside) = first_byte(text)?;
     if bracket == b'[' {
@@ -33,7 +32,7 @@ pub fn first_index(text: &[u8]) -> Option<Index<'_>>
 
 /// The index behind an opening bracket.
 fn index_inside(inside: &[u8]) -> Option<Index<'_>>
-    ensures { MatchOption result (HasNoIndex (0x5b ∷ inside.now)) (λ index. HasIndex (0x5b ∷ inside.now) index.number index.rest.now) }
+    ensures { IsFirstIndex (0x5b ∷ inside.now) result }
 {
     let count = digits_before(inside);
     if count == 0 || count > DIGITS_MAX {
@@ -65,7 +64,7 @@ fn digits_before(text: &[u8]) -> usize
 /// The value of digits, if it is at most 65,535.
 fn index_value(digits: &[u8]) -> Option<u16>
     requires { all_ascii_digits digits.now ≡ true }
-    ensures { result ≡ (if nat_le (digits_value digits.now) 65535 then Some (digits_value digits.now) else None) }
+    ensures { result ≡ index_of digits.now }
 {
     let mut value: u32 = 0;
     for digit in digits {

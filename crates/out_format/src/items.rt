@@ -1,7 +1,7 @@
 //! How the items of formats are spelled.
 
-ghost use Rattle.std.specs.Prelude.{◌≡◌, ◌∷◌, MatchOption};
-ghost use Rattle.out_format.specs.FirstItems.{BeginsItem, HasNoItem};
+ghost use Rattle.std.specs.Prelude.{◌≡◌, ◌∷◌};
+ghost use Rattle.out_format.specs.Answers.{IsFirstItem};
 ghost use Rattle.out_format.specs.ItemTables.{letter_item as item_of_letter, property_item as item_of_property, id_item as item_of_id};
 
 use crate::bytes::first_byte;
@@ -17,7 +17,7 @@ pub struct FirstItem<'a> {
 
 /// The item that a text begins with, from what follows its percent sign.
 pub fn first_item(behind: &[u8]) -> Option<FirstItem<'_>>
-    ensures { MatchOption result (HasNoItem (37 ∷ behind.now)) (λ first. BeginsItem first.item (37 ∷ behind.now) first.rest.now) }
+    ensures { IsFirstItem (37 ∷ behind.now) result }
 {
     let (letter, rest) = first_byte(behind)?;
     match letter {
@@ -32,7 +32,7 @@ pub fn first_item(behind: &[u8]) -> Option<FirstItem<'_>>
 
 /// The item of a field, from what follows `%f`.
 fn first_field(behind: &[u8]) -> Option<FirstItem<'_>>
-    ensures { MatchOption result (HasNoItem (37 ∷ 102 ∷ behind.now)) (λ first. BeginsItem first.item (37 ∷ 102 ∷ behind.now) first.rest.now) }
+    ensures { IsFirstItem (37 ∷ 102 ∷ behind.now) result }
 {
     let index = first_index(behind)?;
     Some(FirstItem {
@@ -43,7 +43,7 @@ fn first_field(behind: &[u8]) -> Option<FirstItem<'_>>
 
 /// The item of two or three letters, from what follows `%p`.
 fn first_property(behind: &[u8]) -> Option<FirstItem<'_>>
-    ensures { MatchOption result (HasNoItem (37 ∷ 112 ∷ behind.now)) (λ first. BeginsItem first.item (37 ∷ 112 ∷ behind.now) first.rest.now) }
+    ensures { IsFirstItem (37 ∷ 112 ∷ behind.now) result }
 {
     let (letter, rest) = first_byte(behind)?;
     match letter {
@@ -57,7 +57,7 @@ fn first_property(behind: &[u8]) -> Option<FirstItem<'_>>
 
 /// The item of a context id, from what follows `%ph`.
 fn first_id(behind: &[u8]) -> Option<FirstItem<'_>>
-    ensures { MatchOption result (HasNoItem (37 ∷ 112 ∷ 104 ∷ behind.now)) (λ first. BeginsItem first.item (37 ∷ 112 ∷ 104 ∷ behind.now) first.rest.now) }
+    ensures { IsFirstItem (37 ∷ 112 ∷ 104 ∷ behind.now) result }
 {
     let (letter, rest) = first_byte(behind)?;
     Some(FirstItem {

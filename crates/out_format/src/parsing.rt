@@ -13,7 +13,8 @@ use std::alloc::{AllocError, Global};
 
 /// Reads the text of a part. A fault tells its first byte that no piece begins at.
 pub fn parse_part(alloc: Global, text: &str, part: FormatPart) -> Result<Vec<Part>, FormatFault>
-    ensures { MatchResult result (λ parts. Reads part (pieces_of parts.items) text.now) (IsFaultOf part text.now) }
+    ensures { MatchResult result (λ parts. Reads part (pieces_of parts.items) text.now)
+        (IsFaultOf part text.now) }
 {
     let mut parts = PartsSoFar::new(alloc);
     let mut rest = text.as_bytes();

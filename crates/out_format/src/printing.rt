@@ -1,12 +1,11 @@
 //! Paths printed in a format.
 
-ghost use Rattle.std.specs.Prelude.{◌≡◌, ◌++◌, ◌≤◌, ◌+ℤ◌, ℕ, List, length, take, vec_len, pos, OnOk, OnErr, IsTrue};
+ghost use Rattle.std.specs.Prelude.{◌≡◌, ◌≤◌, length, take, vec_len, pos, OnOk, OnErr, IsTrue};
 ghost use Rattle.mj_model.specs.declared.limits.TheConstants.{SENTENCE_MAX};
-ghost use Rattle.paths.specs.BestOver.{cost_over};
+ghost use Rattle.mj_model.specs.Lists.{GrowsBy};
+ghost use Rattle.paths.specs.BestOver.{IsPathOver, cost_over};
 ghost use Rattle.mj_model.specs.Connection.{is_pair};
-ghost use Rattle.paths.specs.Paths.{IsPath};
-ghost use Rattle.out_format.specs.PrintedPaths.{ShowsPath, ShowsWords};
-ghost use Rattle.paths.specs.Words.{words};
+ghost use Rattle.out_format.specs.PrintedPaths.{ShowsPath, ShowsWords, cost_with_word};
 ghost use Rattle.out_format.specs.Followable.{AreFollowable, IsLow};
 ghost use Rattle.word_lookup.specs.Overlays.{overlay_of};
 
@@ -30,9 +29,10 @@ pub fn print(
     out: &mut Vec<u8>,
 ) -> Result<(), AllocError>
     requires short { length text.now ≤ SENTENCE_MAX }
-    requires path { (to : ℕ) × IsPath (words (overlay_of dictionaries.now) text.now) path.now.words.items to }
+    requires path { IsPathOver (overlay_of dictionaries.now) text.now path.now.words.items }
     requires total { path.now.total ≡ cost_over (overlay_of dictionaries.now) path.now.words.items }
-    ensures appended { OnOk result ((shown : List ℕ) × ShowsPath (overlay_of dictionaries.now) format.now text.now path.now.words.items shown × (out.new.items ≡ out.old.items ++ shown)) }
+    ensures appended { OnOk result (GrowsBy (ShowsPath (overlay_of dictionaries.now) format.now text.now
+        path.now.words.items) out.old.items out.new.items) }
     ensures kept { OnErr result (out.new.items ≡ out.old.items) }
 {
     let count = out.len();
@@ -51,9 +51,11 @@ fn append_path<'a>(
     path: &'a Path,
     out: &mut Vec<u8>,
 ) -> Result<(), AllocError>
-    requires words { AreFollowable (overlay_of dictionaries.now) text.now 0 (pos 0) path.now.words.items }
+    requires words { AreFollowable (overlay_of dictionaries.now) text.now 0 (pos 0)
+        path.now.words.items }
     requires total { path.now.total ≡ cost_over (overlay_of dictionaries.now) path.now.words.items }
-    ensures appended { OnOk result ((shown : List ℕ) × ShowsPath (overlay_of dictionaries.now) format.now text.now path.now.words.items shown × (out.new.items ≡ out.old.items ++ shown)) }
+    ensures appended { OnOk result (GrowsBy (ShowsPath (overlay_of dictionaries.now) format.now text.now
+        path.now.words.items) out.old.items out.new.items) }
     ensures kept { take (vec_len out.old) out.new.items ≡ out.old.items }
 {
     append_parts(&Line { text, cost: 0 }, format.bos_parts(), out)?;
@@ -74,7 +76,8 @@ fn append_words<'a>(
     out: &mut Vec<u8>,
 ) -> Result<(), AllocError>
     requires { AreFollowable (overlay_of dictionaries.now) text.now 0 (pos 0) words.now }
-    ensures appended { OnOk result ((shown : List ℕ) × ShowsWords (overlay_of dictionaries.now) format.now text.now 0 (pos 0) words.now shown × (out.new.items ≡ out.old.items ++ shown)) }
+    ensures appended { OnOk result (GrowsBy (ShowsWords (overlay_of dictionaries.now) format.now text.now 0
+        (pos 0) words.now) out.old.items out.new.items) }
     ensures kept { take (vec_len out.old) out.new.items ≡ out.old.items }
 {
     let mut right_before: u16 = 0;
@@ -101,9 +104,10 @@ fn cost_with(
     cost_before: i64,
     word: &Word,
 ) -> i64
-    requires pair { IsTrue (is_pair (overlay_of dictionaries.now).system.sizes right_before word.now.left) }
+    requires pair { IsTrue (is_pair (overlay_of dictionaries.now).system.sizes right_before
+        word.now.left) }
     requires low { IsLow cost_before }
-    ensures { result ≡ (cost_before +ℤ (overlay_of dictionaries.now).system.connection right_before word.now.left) +ℤ word.now.cost }
+    ensures { result ≡ cost_with_word (overlay_of dictionaries.now) right_before cost_before word.now }
 {
     let connection = dictionaries.cost(right_before, word.left);
     cost_before + i64::from(connection) + i64::from(word.cost)

@@ -1,7 +1,8 @@
 //! What shows the items of a part.
 
-ghost use Rattle.std.specs.Prelude.{◌≡◌, ◌++◌, ℕ, List, take, vec_len, OnOk};
+ghost use Rattle.std.specs.Prelude.{◌≡◌, ℕ, List, take, vec_len, OnOk};
 ghost use Rattle.mj_model.specs.declared.format_item.FormatItem.{FormatItem};
+ghost use Rattle.mj_model.specs.Lists.{GrowsBy};
 ghost use Rattle.out_format.specs.PrintedPaths.{ShowsPieces};
 ghost use Rattle.out_format.specs.Pieces.{pieces_in, pieces_of};
 
@@ -21,7 +22,7 @@ pub trait ShowsItems {
     /// Appends what an item shows. On an error a part of it may stand there.
     fn append_item(&self, item: FormatItem, out: &mut Vec<u8>) -> Result<(), AllocError>
         requires { can_show self.now }
-        ensures appended { OnOk result ((shown : List ℕ) × shows self.now item shown × (out.new.items ≡ out.old.items ++ shown)) }
+        ensures appended { OnOk result (GrowsBy (shows self.now item) out.old.items out.new.items) }
         ensures kept { take (vec_len out.old) out.new.items ≡ out.old.items };
 }
 
@@ -32,7 +33,8 @@ pub fn append_parts<S: ShowsItems>(
     out: &mut Vec<u8>,
 ) -> Result<(), AllocError>
     requires { S.can_show subject.now }
-    ensures appended { OnOk result ((shown : List ℕ) × ShowsPieces (S.shows subject.now) (pieces_of parts.now) shown × (out.new.items ≡ out.old.items ++ shown)) }
+    ensures appended { OnOk result (GrowsBy (ShowsPieces (S.shows subject.now) (pieces_of parts.now))
+        out.old.items out.new.items) }
     ensures kept { take (vec_len out.old) out.new.items ≡ out.old.items }
 {
     for part in parts {
@@ -44,7 +46,8 @@ pub fn append_parts<S: ShowsItems>(
 /// Appends what a part shows.
 fn append_part<S: ShowsItems>(subject: &S, part: &Part, out: &mut Vec<u8>) -> Result<(), AllocError>
     requires { S.can_show subject.now }
-    ensures appended { OnOk result ((shown : List ℕ) × ShowsPieces (S.shows subject.now) (pieces_in part.now) shown × (out.new.items ≡ out.old.items ++ shown)) }
+    ensures appended { OnOk result (GrowsBy (ShowsPieces (S.shows subject.now) (pieces_in part.now))
+        out.old.items out.new.items) }
     ensures kept { take (vec_len out.old) out.new.items ≡ out.old.items }
 {
     match part {

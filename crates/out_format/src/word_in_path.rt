@@ -1,13 +1,11 @@
 //! A word in its path, and what the items show of it.
 
-ghost use Rattle.std.specs.Prelude.{◌≡◌, ◌++◌, ◌≤◌, ◌+ℤ◌, length, take, drop, vec_len, OnOk, IsTrue};
-ghost use Rattle.paths.specs.Blanks.{chars_from};
+ghost use Rattle.std.specs.Prelude.{◌≡◌, ◌++◌, ◌≤◌, length, take, drop, vec_len, OnOk, IsTrue};
 ghost use Rattle.paths.specs.Laws.{between};
 ghost use Rattle.mj_model.specs.Printed.{feature_of};
-ghost use Rattle.out_format.specs.PrintedPaths.{connection_before, first_category as category_of_first, unknown_digit};
+ghost use Rattle.out_format.specs.PrintedPaths.{connection_before, cost_here, first_category as category_of_first, unknown_digit};
 ghost use Rattle.paths.specs.Words.{is_place};
-ghost use Rattle.out_format.specs.Standings.{CanStand, standing_of};
-ghost use Rattle.word_lookup.specs.Overlays.{overlay_of};
+ghost use Rattle.out_format.specs.Standings.{CanStand, chars_of, overlay_in, standing_of};
 
 use crate::appending::{append_bytes, append_cost, append_count, append_shown_field};
 use crate::shows_items::ShowsItems;
@@ -27,12 +25,11 @@ pub struct WordInPath<'a> {
 
 impl<'a> ShowsItems for WordInPath<'a> {
     ghost use Rattle.out_format.specs.PrintedPaths.{ShowsItem};
-    ghost use Rattle.word_lookup.specs.Overlays.{overlay_of};
-    ghost use Rattle.out_format.specs.Standings.{CanStand, standing_of};
+    ghost use Rattle.out_format.specs.Standings.{CanStand, overlay_in, standing_of};
 
     ghost can_show = { CanStand };
 
-    ghost shows = { λ w. ShowsItem (overlay_of w.dictionaries.now) w.text.now (standing_of w) };
+    ghost shows = { λ w. ShowsItem (overlay_in w) w.text.now (standing_of w) };
 
     fn append_item(&self, item: FormatItem, out: &mut Vec<u8>) -> Result<(), AllocError> {
         let word = self.word;
@@ -66,14 +63,15 @@ impl<'a> WordInPath<'a> {
     fn append_between(&self, from: usize, to: usize, out: &mut Vec<u8>) -> Result<(), AllocError>
         requires forward { from ≤ to }
         requires within { to ≤ length self.now.text.now }
-        ensures appended { OnOk result (out.new.items ≡ out.old.items ++ between self.now.text.now from to) }
+        ensures appended { OnOk result (out.new.items ≡ out.old.items
+            ++ between self.now.text.now from to) }
         ensures kept { take (vec_len out.old) out.new.items ≡ out.old.items }
     {
         append_bytes(&self.text.as_bytes()[from..to], out)
     }
 
     fn feature(&self) -> &str
-        ensures { result.now ≡ feature_of (overlay_of self.now.dictionaries.now) self.now.word.now.origin }
+        ensures { result.now ≡ feature_of (overlay_in self.now) self.now.word.now.origin }
     {
         self.dictionaries.feature(self.word)
     }
@@ -81,7 +79,7 @@ impl<'a> WordInPath<'a> {
     /// The cost of the connection with the word before.
     fn connection_cost(&self) -> i64
         requires { CanStand self.now }
-        ensures { result ≡ connection_before (overlay_of self.now.dictionaries.now) (standing_of self.now) }
+        ensures { result ≡ connection_before (overlay_in self.now) (standing_of self.now) }
     {
         i64::from(self.dictionaries.cost(self.right_before, self.word.left))
     }
@@ -89,7 +87,7 @@ impl<'a> WordInPath<'a> {
     /// The connection cost and the word cost.
     fn cost_here(&self) -> i64
         requires { CanStand self.now }
-        ensures { result ≡ connection_before (overlay_of self.now.dictionaries.now) (standing_of self.now) +ℤ self.now.word.now.cost }
+        ensures { result ≡ cost_here (overlay_in self.now) (standing_of self.now) }
     {
         let connection = self.dictionaries.cost(self.right_before, self.word.left);
         i64::from(connection) + i64::from(self.word.cost)
@@ -98,7 +96,7 @@ impl<'a> WordInPath<'a> {
     /// The number of the first category of the surface's first character.
     fn first_category(&self) -> usize
         requires { CanStand self.now }
-        ensures { result ≡ category_of_first (overlay_of self.now.dictionaries.now) (chars_from self.now.text.now self.now.word.now.start) }
+        ensures { result ≡ category_of_first (overlay_in self.now) (chars_of self.now) }
     {
         match text_from(self.text, self.word.start).chars().next() {
             Some(first) => usize::from(self.dictionaries.info(first).first()),
