@@ -52,7 +52,8 @@ impl Format {
         eos: &str,
     ) -> Result<Format, FormatFault>
         ensures accepted { IfOk result (ReadsFormat (texts_of node.now unk.entry bos.now eos.now)) }
-        ensures refused { IfErr result (IsFormatRefusal (texts_of node.now unk.entry bos.now eos.now)) }
+        ensures refused { IfErr result (IsFormatRefusal
+            (texts_of node.now unk.entry bos.now eos.now)) }
     {
         let node_parts = parse_part(alloc, node, FormatPart::Node)?;
         let unk_parts = parse_part(alloc, unk.unwrap_or(node), FormatPart::Unk)?;

@@ -31,8 +31,8 @@ pub fn print(
     requires short { length text.now ≤ SENTENCE_MAX }
     requires path { IsPathOver (overlay_of dictionaries.now) text.now path.now.words.items }
     requires total { path.now.total ≡ cost_over (overlay_of dictionaries.now) path.now.words.items }
-    ensures appended { OnOk result (GrowsBy (ShowsPath (overlay_of dictionaries.now) format.now text.now
-        path.now.words.items) out.old.items out.new.items) }
+    ensures appended { OnOk result (GrowsBy (ShowsPath (overlay_of dictionaries.now) format.now
+        text.now path.now.words.items) out.old.items out.new.items) }
     ensures kept { OnErr result (out.new.items ≡ out.old.items) }
 {
     let count = out.len();
@@ -54,8 +54,8 @@ fn append_path<'a>(
     requires words { AreFollowable (overlay_of dictionaries.now) text.now 0 (pos 0)
         path.now.words.items }
     requires total { path.now.total ≡ cost_over (overlay_of dictionaries.now) path.now.words.items }
-    ensures appended { OnOk result (GrowsBy (ShowsPath (overlay_of dictionaries.now) format.now text.now
-        path.now.words.items) out.old.items out.new.items) }
+    ensures appended { OnOk result (GrowsBy (ShowsPath (overlay_of dictionaries.now) format.now
+        text.now path.now.words.items) out.old.items out.new.items) }
     ensures kept { take (vec_len out.old) out.new.items ≡ out.old.items }
 {
     append_parts(&Line { text, cost: 0 }, format.bos_parts(), out)?;
@@ -76,8 +76,8 @@ fn append_words<'a>(
     out: &mut Vec<u8>,
 ) -> Result<(), AllocError>
     requires { AreFollowable (overlay_of dictionaries.now) text.now 0 (pos 0) words.now }
-    ensures appended { OnOk result (GrowsBy (ShowsWords (overlay_of dictionaries.now) format.now text.now 0
-        (pos 0) words.now) out.old.items out.new.items) }
+    ensures appended { OnOk result (GrowsBy (ShowsWords (overlay_of dictionaries.now) format.now
+        text.now 0 (pos 0) words.now) out.old.items out.new.items) }
     ensures kept { take (vec_len out.old) out.new.items ≡ out.old.items }
 {
     let mut right_before: u16 = 0;
@@ -107,7 +107,8 @@ fn cost_with(
     requires pair { IsTrue (is_pair (overlay_of dictionaries.now).system.sizes right_before
         word.now.left) }
     requires low { IsLow cost_before }
-    ensures { result ≡ cost_with_word (overlay_of dictionaries.now) right_before cost_before word.now }
+    ensures { result ≡ cost_with_word (overlay_of dictionaries.now) right_before cost_before
+        word.now }
 {
     let connection = dictionaries.cost(right_before, word.left);
     cost_before + i64::from(connection) + i64::from(word.cost)

@@ -33,8 +33,8 @@ pub fn append_parts<S: ShowsItems>(
     out: &mut Vec<u8>,
 ) -> Result<(), AllocError>
     requires { S.can_show subject.now }
-    ensures appended { OnOk result (GrowsBy (ShowsPieces (S.shows subject.now) (pieces_of parts.now))
-        out.old.items out.new.items) }
+    ensures appended { OnOk result (GrowsBy (ShowsPieces (S.shows subject.now)
+        (pieces_of parts.now)) out.old.items out.new.items) }
     ensures kept { take (vec_len out.old) out.new.items ≡ out.old.items }
 {
     for part in parts {
@@ -46,8 +46,8 @@ pub fn append_parts<S: ShowsItems>(
 /// Appends what a part shows.
 fn append_part<S: ShowsItems>(subject: &S, part: &Part, out: &mut Vec<u8>) -> Result<(), AllocError>
     requires { S.can_show subject.now }
-    ensures appended { OnOk result (GrowsBy (ShowsPieces (S.shows subject.now) (pieces_in part.now))
-        out.old.items out.new.items) }
+    ensures appended { OnOk result (GrowsBy (ShowsPieces (S.shows subject.now)
+        (pieces_in part.now)) out.old.items out.new.items) }
     ensures kept { take (vec_len out.old) out.new.items ≡ out.old.items }
 {
     match part {

@@ -38,9 +38,11 @@ impl<'a> Dictionaries<'a> {
     /// The system dictionary and the users' laid over it, with a grouping of 24 characters. Takes no memory.
     #[tactic(auto, unfolding(crate::specs::Overlays::overlay_of))]
     pub fn new(system: &'a Dict, users: &'a [Dict]) -> Result<Dictionaries<'a>, OverlayFault>
-        ensures overlay { IfOk result (λ d. overlay_of d ≡ overlay_by_default system.now users.now) }
+        ensures overlay { IfOk result (λ d. overlay_of d
+            ≡ overlay_by_default system.now users.now) }
         ensures accepted { OnOk result (fault_of_images system.now users.now ≡ None) }
-        ensures refused { IfErr result (λ fault. fault_of_images system.now users.now ≡ Some fault) }
+        ensures refused { IfErr result (λ fault. fault_of_images system.now users.now
+            ≡ Some fault) }
     {
         if system.is_user() {
             return Err(OverlayFault::NotSystem);

@@ -42,7 +42,8 @@ pub fn run_up_to(system: &Dict, entry: CharInfo, text: &str, limit: usize) -> Ru
 /// `limit` characters are looked at.
 pub fn alike_up_to(system: &Dict, first: CharInfo, text: &str, limit: usize) -> usize
     requires { (image_tables system.now).kind ≡ System }
-    ensures { result ≡ alike_with first (image_tables system.now).info (take limit (chars text.now)) }
+    ensures { result ≡ alike_with first (image_tables system.now).info
+        (take limit (chars text.now)) }
 {
     text.chars()
         .take(limit)
