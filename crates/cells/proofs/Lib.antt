@@ -1,3 +1,2 @@
-pub mod ByIndex
 pub mod CellLemmas
 pub mod TokenSteps
