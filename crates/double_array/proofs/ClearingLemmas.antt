@@ -10,7 +10,7 @@ use Rattle.double_array.specs.Pool.{Pool}
 use Rattle.double_array.specs.Family.{HasCode, FitsAt}
 use Rattle.double_array.specs.Built.{values, AreBases, IsBuilt, IsCleared}
 use Rattle.double_array.specs.Moves.{IsFamilyOf}
-use Rattle.double_array.proofs.FamilyLemmas.{with_code, set_here}
+use Rattle.double_array.proofs.FamilyLemmas.{relocation, with_code, set_here}
 use Rattle.double_array.proofs.Moving.{based_within, no_self_child}
 
 -- ---- a state with a base has a child
@@ -48,13 +48,6 @@ has_code pool s from t q family built at some used is =
     let same : i.code ≡ h.0 = let a = i.place in let b = step_place pool.cells s i.code h.1 from i.led at in omega (arith, b, place) in
     (h.0, is.complete h.0 (let n = i.near in omega (arith, n, same)) (ap (check pool.cells) (sym place) ∙ step_named pool.cells s h.0 h.1 h.2))
 
--- the parent of a used cell has a base, and the cell stands at a code from there
-pub parent_family : (pool : Pool) (s t : ℕ) → IsBuilt pool → check pool.cells t ≡ pos s → (b : ℕ) × (base pool.cells s ≡ pos b) × (2 ≤ b) × (b ≤ pool.top)
-parent_family pool s t built named =
-    let i = child_of values pool.cells s t built.rules named in
-    let r = built.bases s i.from i.based i.positive in
-    (i.from, i.based, r.0, r.1)
-
 in_use : (pool : Pool) (s from : ℕ) → IsBuilt pool → base pool.cells s ≡ pos from → 2 ≤ from → (s ≡ 0) ⊎ ((q : ℕ) × (check pool.cells s ≡ pos q))
 in_use pool zero from built at some = inl refl
 in_use pool (suc n) from built at some =
@@ -62,25 +55,6 @@ in_use pool (suc n) from built at some =
       | inl free ↦ absurd (free_no_base pool.cells (suc n) from free at (omega (arith, some)))
       | inr u ↦ inr (u.state, u.named)
     ]
-
--- ---- nothing has to move
-
-pub cleared_at_once : (pool : Pool) (s from code : ℕ) → IsBuilt pool → base pool.cells s ≡ pos from → 2 ≤ from → code ≤ 256 → ((q : ℕ) → check pool.cells (from + code) ≡ pos q → ⊥) → IsCleared pool pool s code s (from + code)
-cleared_at_once pool s from code built at some near unused =
-    let low = (built.bases s from at (omega (arith, some))).1 in
-    record {
-      built = built;
-      map = λ key. refl;
-      led = λ front h. h;
-      based = (from, at, some, refl);
-      free = elim (built.rules.others (from + code) (omega (arith, some)) (let r = built.room in omega (arith, r, low, near))) [
-        | inl free ↦ free
-        | inr u ↦ absurd (unused u.state u.named)
-      ];
-      low = omega (arith, low, near);
-      top = omega arith;
-      long = refl;
-    }
 
 -- ---- the state's own children move
 
@@ -97,7 +71,7 @@ module _ (old new : Pool) (s from code to : ℕ) (family : List Bool) (built : I
   wanted_free = fits code (set_here family code true (let l = is.long in omega (arith, l, near)))
 
   stays : Renames values old.cells new.cells s to built.rules built.on_keys move s s
-  stays = inr (no_self_child values old.cells s from to family built.rules built.on_keys at (omega (arith, some)) is (fits_less old.cells family code to fits), refl)
+  stays = inr (no_self_child (relocation built at some is (fits_less old.cells family code to fits)), refl)
 
   wanted_apart : IsApart old.cells s to (to + code)
   wanted_apart = record {
@@ -163,10 +137,3 @@ goes_along old new s other other_from to built move at named =
     let i = child_of values old.cells other s built.rules named in
     let place = step_place old.cells other i.code s other_from i.led at in
     inl (i.code, i.led, omega (arith, place))
-
-pub child_above : (pool : Pool) (s other other_from : ℕ) → IsBuilt pool → base pool.cells other ≡ pos other_from → check pool.cells s ≡ pos other → (other_from ≤ s) × (s ≤ other_from + 256)
-child_above pool s other other_from built at named =
-    let i = child_of values pool.cells other s built.rules named in
-    let place = step_place pool.cells other i.code s other_from i.led at in
-    let near = i.near in
-    (omega (arith, place), omega (arith, place, near))

@@ -8,7 +8,7 @@ use Rattle.mj_model.specs.CellMap.{Cell, step, walk, codes_of, value_of, prefixe
 use Rattle.mj_model.proofs.CellWalks.{walk_none}
 use Rattle.double_array.specs.declared.steps.Place.{Place}
 use Rattle.double_array.specs.Steps.{IsStepTo}
-use Rattle.double_array.specs.Hits.{hit_at, value_here, hits_with, hits_from, hits_at}
+use Rattle.double_array.specs.Hits.{hit_at, hit_of, value_here, hits_with, hits_from, hits_at}
 use Rattle.double_array.proofs.KeyWalks.{length-codes_of, code_of_byte, walk_take_more, no_value_by_stop, value_by_end}
 
 pub no_hits : (cells : List Cell) (s n : ℕ) (text : List ℕ) → length text ≤ n → hits_from cells s n (drop n text) ≡ []
@@ -56,9 +56,6 @@ take_codes key n within = take-append-le n (map suc key) (0 ∷ []) (let e = len
 begins_same : (text : List ℕ) (n m : ℕ) → n ≤ m → m ≤ length text → take n (codes_of (take m text)) ≡ take n (codes_of text)
 begins_same text n m le within =
     take_codes (take m text) n (let e = length-take-le m text within in omega (arith, e, le)) ∙ ap (map suc) (take-take n m text le) ∙ sym (take_codes text n (omega (arith, le, within)))
-
-abbrev hit_of : List Cell → List ℕ → ℕ → Option (ℕ × ℕ)
-hit_of cells text n = option_map (λ (v : ℕ). (n, v)) (value_of cells (take n text))
 
 none_past : (cells : List Cell) (text : List ℕ) (n s m : ℕ) → n < m → m ≤ length text → walk cells 0 (take n (codes_of text)) ≡ Some s → step cells s (get_or text n 0 + 1) ≡ None → value_of cells (take m text) ≡ None
 none_past cells text n s m less within led none =

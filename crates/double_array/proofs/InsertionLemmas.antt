@@ -99,9 +99,6 @@ grown_built old new n long left built grown top n_is few less =
       most = omega (arith, more, n_is);
     }
 
-pub room_as_is : (pool : Pool) (long left : ℕ) → IsBuilt pool → pool.top + 514 + left ≤ length pool.cells → HasRoom pool pool long left
-room_as_is pool long left built room = record { built = built; same = λ i. refl; room = room; most = omega arith }
-
 -- ---- a key of the map
 
 module _ (old : Pool) (key : List ℕ) (at : Reached) (code end : ℕ) (built : IsBuilt old) (some : 0 < length key) (reached : IsReached old.cells key at) (code_is : code ≡ get_or (codes_of key) at.used 0) (there : Some end ≡ step old.cells at.state code) where
@@ -172,9 +169,6 @@ module _ (old : Pool) (key : List ℕ) (at : Reached) (code : ℕ) (built : IsBu
     pub none_still : step roomy.cells at.state code ≡ None
     none_still = step_or_none roomy.cells at.state code (λ t h. none-some t (sym none ∙ step_from old.cells at.state code t
         (ap (λ (x : Cell). x.0 +ℤ pos code) (sym (room.same at.state)) ∙ (step_parts roomy.cells at.state code t h).0) (ap (λ (x : Cell). x.1) (sym (room.same t)) ∙ step_named roomy.cells at.state code t h)))
-
-    pub based_still : base roomy.cells at.state ≡ pos at.from
-    based_still = ap (λ (x : Cell). x.0) (room.same at.state) ∙ reached.based
 
     module _ (cleared : Pool) (state wanted : ℕ) (clear : IsCleared roomy cleared at.state code state wanted) where
       pub ready : IsReady cleared key at.used state wanted

@@ -1,8 +1,9 @@
 -- Walks over the codes of a key, code by code.
 use Rattle.std.proofs.Common.{◌≡◌, ℕ, suc, ◌+◌, ◌<◌, List, [], ◌∷◌, ◌++◌, length, get_or, map, take, drop, Option, Some, None, sym, ap, ◌∙◌, refl, arith}
 use Rattle.std.specs.Option.{option_and_then}
-use Rattle.std.proofs.lemmas.List.{take_more, drop_more, take-append-drop, length-append, length-map, drop_all, get_or_append_left, get_or-map, get_or_at}
+use Rattle.std.proofs.lemmas.List.{take_more, drop_more, take-append-drop, length-append, length-map, drop_all, get_or_append_left, get_or-map, get_or_at, append_cancel_right}
 use Rattle.mj_model.specs.CellMap.{Cell, base, step, walk, codes_of, value_in, value_of}
+use Rattle.mj_model.proofs.Basics.{same_map_suc}
 use Rattle.mj_model.proofs.CellWalks.{walk_append, walk_more}
 
 pub length-codes_of : (key : List ℕ) → length (codes_of key) ≡ length key + 1
@@ -18,6 +19,11 @@ code_of_byte key i less =
 pub code_of_end : (key : List ℕ) → get_or (codes_of key) (length key) 0 ≡ 0
 unfolding codes_of
 code_of_end key = get_or_at (map suc key) 0 [] 0 (length key) (length-map key suc)
+
+-- the codes tell the key
+pub same_key : (xs ys : List ℕ) → codes_of xs ≡ codes_of ys → xs ≡ ys
+unfolding codes_of
+same_key xs ys e = same_map_suc xs ys (append_cancel_right (map suc xs) (map suc ys) (0 ∷ []) e)
 
 -- ---- one code more
 

@@ -1,7 +1,7 @@
 -- A free cell becomes the child of a state: all steps are kept, and one more leads to it.
-use Rattle.std.proofs.Common.{◌≡◌, ◌≢◌, ℕ, suc, ◌+◌, ◌<◌, ◌≤◌, ℤ, pos, negsuc, ◌+ℤ◌, List, [], ◌∷◌, ◌++◌, length, set, map, Some, inl, inr, sym, ap, ◌∙◌, refl, arith, subst}
+use Rattle.std.proofs.Common.{◌≡◌, ◌≢◌, ℕ, ◌+◌, ◌<◌, ◌≤◌, ℤ, pos, negsuc, ◌+ℤ◌, List, [], ◌∷◌, ◌++◌, length, set, Some, inl, inr, sym, ap, ◌∙◌, refl, arith, subst}
 use Rattle.std.proofs.lemmas.Bool.{cases_eq}
-use Rattle.std.proofs.lemmas.List.{length-set, append_assoc, append_cancel_right}
+use Rattle.std.proofs.lemmas.List.{length-set, append_assoc}
 use Rattle.std.proofs.lemmas.Option.{same_Some}
 use Rattle.mj_model.specs.CellMap.{Cell, free_cell, cell_at, base, check, step, walk, codes_of, value_of, HasSameMap, IsMapWith}
 use Rattle.mj_model.specs.CellRules.{IsBaseAfter, MeetsRules, IsOnKey, AreOnKeys}
@@ -10,27 +10,8 @@ use Rattle.mj_model.proofs.CellMoveLaw.{free_no_check, free_no_base}
 use Rattle.mj_model.proofs.Basics.{same_pos}
 use Rattle.double_array.specs.Tail.{IsOnWay, AreOnKeysOrWay}
 use Rattle.double_array.proofs.SeenLemmas.{at_same, at_other}
+use Rattle.double_array.proofs.KeyWalks.{same_key}
 use Rattle.double_array.proofs.Moving.{based_within}
-
-same_suc : (xs ys : List ℕ) → map suc xs ≡ map suc ys → xs ≡ ys
-same_suc [] [] e = refl
-same_suc [] (y ∷ ys) e = absurd (cc)
-same_suc (x ∷ xs) [] e = absurd (cc)
-same_suc (x ∷ xs) (y ∷ ys) e =
-    let heads : x ≡ y = let f : suc x ≡ suc y = head_is e in omega (arith, f) in
-    let tails : xs ≡ ys = same_suc xs ys (tail_is e) in
-    cc
-  where
-    head_is : suc x ∷ map suc xs ≡ suc y ∷ map suc ys → suc x ≡ suc y
-    head_is h = cc
-
-    tail_is : suc x ∷ map suc xs ≡ suc y ∷ map suc ys → map suc xs ≡ map suc ys
-    tail_is h = cc
-
--- the codes tell the key
-pub same_key : (xs ys : List ℕ) → codes_of xs ≡ codes_of ys → xs ≡ ys
-unfolding codes_of
-same_key xs ys e = same_suc xs ys (append_cancel_right (map suc xs) (map suc ys) (0 ∷ []) e)
 
 module _ (values : ℕ) (old : List Cell) (s c t from : ℕ) (z : ℤ) (rules : MeetsRules values old) (based : base old s ≡ pos from) (some : 1 ≤ from) (near : c ≤ 256) (place : t ≡ from + c)
     (free : cell_at old t ≡ free_cell) (within : t < length old) (content : IsBaseAfter values c z) (new : List Cell) (written : new ≡ set old t (z, pos s)) where

@@ -3,58 +3,16 @@ use Rattle.std.proofs.Common.{◌≡◌, ◌≢◌, ℕ, zero, suc, ◌+◌, ◌
 use Rattle.std.proofs.lemmas.Bool.{cases_eq, cases_lt}
 use Rattle.std.proofs.lemmas.List.{length-set, get_or_past}
 use Rattle.mj_model.specs.CellMap.{Cell, free_cell, cell_at, base, check, step, walk}
-use Rattle.mj_model.specs.CellRules.{MeetsRules, AreOnKeys, IsUsed, IsBaseAfter}
+use Rattle.mj_model.specs.CellRules.{IsUsed, IsBaseAfter}
 use Rattle.mj_model.specs.CellMoves.{IsMove}
 use Rattle.mj_model.proofs.CellWalks.{step_named, step_place, step_at, child_of, step_child, no_way_back, walk_one, walk_none}
 use Rattle.mj_model.proofs.CellMoveLaw.{walked, free_no_check, free_no_base, cases_pos}
 use Rattle.mj_model.proofs.Basics.{same_pos}
-use Rattle.double_array.specs.Family.{HasCode, FitsAt}
-use Rattle.double_array.specs.Moves.{IsFamilyOf, IsRenamed, IsChildMoved, IsMovedUpTo, AreChildrenRenamed, HasChildrenFromBase}
+use Rattle.double_array.specs.Family.{HasCode}
+use Rattle.double_array.specs.Moves.{IsRelocation, IsRenamed, IsChildMoved, IsMovedUpTo, AreChildrenRenamed, HasChildrenFromBase}
 use Rattle.double_array.specs.Pool.{IsInUse}
 use Rattle.double_array.specs.Pool.IsInUse.{is_root, is_named}
 use Rattle.double_array.proofs.SeenLemmas.{at_same, at_other}
-
--- ---- the checks of a child's children
-
-pub renamed_none : (cells : List Cell) (start t u : ℕ) → IsRenamed cells cells start 0 t u
-renamed_none cells start t u = record {
-  renamed = λ i up less named. absurd (omega (arith, up, less));
-  outside = λ i out. refl;
-  others = λ i other. refl;
-  long = refl;
-}
-
--- one cell further, whose check is t
-pub renamed_one : (old cells new : List Cell) (start n t u : ℕ) → IsRenamed old cells start n t u → check cells (start + n) ≡ pos t → new ≡ set cells (start + n) (base cells (start + n), pos u) → start + n < length old → (t ≡ u → ⊥)
-    → IsRenamed old new start (n + 1) t u
-renamed_one old cells new start n t u r named written within apart =
-    let same : cell_at cells (start + n) ≡ cell_at old (start + n) = r.outside (start + n) (λ up less. omega (arith, less)) in
-    let less : start + n < length cells = let l = r.long in omega (arith, l, within) in
-    let at : cell_at new (start + n) ≡ (base cells (start + n), pos u) = ap (λ (xs : List Cell). cell_at xs (start + n)) written ∙ at_same cells (start + n) (base cells (start + n), pos u) less in
-    let rest : (i : ℕ) → i ≢ start + n → cell_at new i ≡ cell_at cells i = λ i other. ap (λ (xs : List Cell). cell_at xs i) written ∙ at_other cells (start + n) i (base cells (start + n), pos u) other in
-    record {
-      renamed = λ i up below at_t. elim (cases_eq i (start + n)) [
-        | inl e ↦ ap (cell_at new) e ∙ at ∙ ap (λ (x : Cell). (x.0, pos u)) same ∙ ap (λ (k : ℕ). (base old k, pos u)) (sym e)
-        | inr other ↦ rest i other ∙ r.renamed i up (omega (arith, below, other)) at_t
-      ];
-      outside = λ i out. rest i (λ e. out (omega (arith, e)) (omega (arith, e))) ∙ r.outside i (λ up less. out up (omega (arith, less)));
-      others = λ i other. rest i (λ e. other (ap (check old) e ∙ sym (ap (λ (x : Cell). x.1) same) ∙ named)) ∙ r.others i other;
-      long = ap length written ∙ length-set cells (start + n) (base cells (start + n), pos u) ∙ r.long;
-    }
-
--- one cell further, of another check
-pub renamed_past : (old cells : List Cell) (start n t u : ℕ) → IsRenamed old cells start n t u → (check cells (start + n) ≡ pos t → ⊥) → IsRenamed old cells start (n + 1) t u
-renamed_past old cells start n t u r other =
-    let same : cell_at cells (start + n) ≡ cell_at old (start + n) = r.outside (start + n) (λ up less. omega (arith, less)) in
-    record {
-      renamed = λ i up below at_t. elim (cases_eq i (start + n)) [
-        | inl e ↦ absurd (other (ap (λ (x : Cell). x.1) same ∙ ap (check old) (sym e) ∙ at_t))
-        | inr further ↦ r.renamed i up (omega (arith, below, further)) at_t
-      ];
-      outside = λ i out. r.outside i (λ up less. out up (omega (arith, less)));
-      others = r.others;
-      long = r.long;
-    }
 
 -- ---- one child: its new cell is filled, its children's checks are renamed, and its old cell is given back
 
@@ -143,43 +101,33 @@ touched old from to family i (suc n) = elim (touched old from to family i n) [
   ]
 ]
 
-module _ (values : ℕ) (old : List Cell) (s from to : ℕ) (family : List Bool) (rules : MeetsRules values old) (keys : AreOnKeys old)
-    (based : base old s ≡ pos from) (some : 1 ≤ from) (is : IsFamilyOf old s from family) (fits : FitsAt old family to) where
+module _ {values : ℕ} {old : List Cell} {s from to : ℕ} {family : List Bool} (known : IsRelocation values old s from to family) where
   way : (xs : List ℕ) × (walk old 0 xs ≡ Some s)
-  way = walked values old s rules keys from based some (based_within old s from based some)
+  way = walked values old s known.rules known.keys from known.based known.some (based_within old s from known.based known.some)
 
   member_step : (c : ℕ) → HasCode family c → step old s c ≡ Some (from + c)
-  member_step c h = step_at old s c (from + c) from based refl (is.sound c h)
+  member_step c h = step_at old s c (from + c) from known.based refl (known.is.sound c h)
 
   pub no_self : (c : ℕ) → HasCode family c → s ≡ from + c → ⊥
   no_self c h e =
       let back : step old s c ≡ Some s = member_step c h ∙ ap Some (sym e) in
-      no_way_back values old way.0 s c [] rules way.1 (walk_one old s c [] s back ∙ walk_none old s)
+      no_way_back values old way.0 s c [] known.rules way.1 (walk_one old s c [] s back ∙ walk_none old s)
 
   pub no_self_child : check old s ≡ pos s → ⊥
   no_self_child named =
-      let i = child_of values old s s rules named in
-      no_way_back values old way.0 s i.code [] rules way.1 (walk_one old s i.code [] s i.led ∙ walk_none old s)
+      let i = child_of values old s s known.rules named in
+      no_way_back values old way.0 s i.code [] known.rules way.1 (walk_one old s i.code [] s i.led ∙ walk_none old s)
 
   no_circle : (c : ℕ) → HasCode family c → check old s ≡ pos (from + c) → ⊥
   no_circle c h above =
-      let i = child_of values old (from + c) s rules above in
-      no_way_back values old way.0 s c (i.code ∷ []) rules way.1 (walk_one old s c (i.code ∷ []) (from + c) (member_step c h) ∙ walk_one old (from + c) i.code [] s i.led ∙ walk_none old s)
+      let i = child_of values old (from + c) s known.rules above in
+      no_way_back values old way.0 s c (i.code ∷ []) known.rules way.1 (walk_one old s c (i.code ∷ []) (from + c) (member_step c h) ∙ walk_one old (from + c) i.code [] s i.led ∙ walk_none old s)
 
   old_is_used : (c d : ℕ) → HasCode family c → HasCode family d → from + c ≢ to + d
-  old_is_used c d h k e = free_no_check old (to + d) s (fits d k) (ap (check old) (sym e) ∙ is.sound c h)
+  old_is_used c d h k e = free_no_check old (to + d) s (known.fits d k) (ap (check old) (sym e) ∙ known.is.sound c h)
 
   state_is_used : (d : ℕ) → HasCode family d → s ≢ to + d
-  state_is_used d k e = free_no_base old (to + d) from (fits d k) (ap (base old) (sym e) ∙ based) some
-
-  pub moved_none : IsMovedUpTo old old s from to family 0
-  moved_none = record {
-    child = λ c less h. absurd (omega (arith, less));
-    freed = λ c less h. absurd (omega (arith, less));
-    renamed = λ c i less h named. absurd (omega (arith, less));
-    others = λ i apart. refl;
-    long = refl;
-  }
+  state_is_used d k e = free_no_base old (to + d) from (known.fits d k) (ap (base old) (sym e) ∙ known.based) known.some
 
   module _ (cells : List Cell) (n : ℕ) (moved : IsMovedUpTo old cells s from to family n) where
     -- a cell that no child before concerns
@@ -187,21 +135,18 @@ module _ (values : ℕ) (old : List Cell) (s from to : ℕ) (family : List Bool)
     child_as_it_was h = moved.others (from + n) (λ c less k. (
       old_is_used n c h k,
       (λ e. omega (arith, e, less)),
-      (λ named. no_self c k (same_pos s (from + c) (sym (is.sound n h) ∙ named))),
+      (λ named. no_self c k (same_pos s (from + c) (sym (known.is.sound n h) ∙ named))),
     ))
 
     pub room_as_it_was : HasCode family n → cell_at cells (to + n) ≡ free_cell
     room_as_it_was h = moved.others (to + n) (λ c less k. (
       (λ e. omega (arith, e, less)),
       (λ e. old_is_used c n k h (sym e)),
-      (λ named. free_no_check old (to + n) (from + c) (fits n h) named),
-    )) ∙ fits n h
+      (λ named. free_no_check old (to + n) (from + c) (known.fits n h) named),
+    )) ∙ known.fits n h
 
     state_as_it_was : cell_at cells s ≡ cell_at old s
     state_as_it_was = moved.others s (λ c less k. (state_is_used c k, no_self c k, no_circle c k))
-
-    pub state_base_kept : base cells s ≡ pos from
-    state_base_kept = ap (λ (x : Cell). x.0) state_as_it_was ∙ based
 
     pub state_check_kept : check cells s ≡ check old s
     state_check_kept = ap (λ (x : Cell). x.1) state_as_it_was
@@ -220,12 +165,12 @@ module _ (values : ℕ) (old : List Cell) (s from to : ℕ) (family : List Bool)
     ]
 
     pub child_named : HasCode family n → check cells (from + n) ≡ pos s
-    child_named h = ap (λ (x : Cell). x.1) (child_as_it_was h) ∙ is.sound n h
+    child_named h = ap (λ (x : Cell). x.1) (child_as_it_was h) ∙ known.is.sound n h
 
     pub children_from_base : HasCode family n → HasChildrenFromBase cells (from + n)
     children_from_base h i named =
         let r = named_before h i named in
-        let k = child_of values old (from + n) i rules r.0 in
+        let k = child_of values old (from + n) i known.rules r.0 in
         let place = k.place in
         let near = k.near in
         (k.from, ap (λ (x : Cell). x.0) (child_as_it_was h) ∙ k.based, omega (arith, place), omega (arith, place, near))
@@ -233,7 +178,7 @@ module _ (values : ℕ) (old : List Cell) (s from to : ℕ) (family : List Bool)
     pub base_is_positive : HasCode family n → (b : ℕ) → base cells (from + n) ≡ pos b → (base old (from + n) ≡ pos b) × (0 < b)
     base_is_positive h b at =
         let at_old : base old (from + n) ≡ pos b = sym (ap (λ (x : Cell). x.0) (child_as_it_was h)) ∙ at in
-        let k = child_of values old s (from + n) rules (is.sound n h) in
+        let k = child_of values old s (from + n) known.rules (known.is.sound n h) in
         (at_old, positive k.code b (subst (IsBaseAfter values k.code) at_old k.holds))
       where
         positive : (code b : ℕ) → IsBaseAfter values code (pos b) → 0 < b
@@ -243,14 +188,14 @@ module _ (values : ℕ) (old : List Cell) (s from to : ℕ) (family : List Bool)
     pub state_in_use : IsInUse cells s
     state_in_use = by_cases (cases_eq s 0) where
       used_by : (cell_at old s ≡ free_cell) ⊎ IsUsed values old s → IsInUse cells s
-      used_by (inl free) = absurd (free_no_base old s from free based some)
+      used_by (inl free) = absurd (free_no_base old s from free known.based known.some)
       used_by (inr u) = is_named {s = u.state} (state_check_kept ∙ u.named)
 
       by_cases : (s ≡ 0) ⊎ (s ≡ 0 → ⊥) → IsInUse cells s
       by_cases (inl e) = subst (IsInUse cells) (sym e) is_root
-      by_cases (inr other) = used_by (rules.others s (omega (arith, other)) (based_within old s from based some))
+      by_cases (inr other) = used_by (known.rules.others s (omega (arith, other)) (based_within old s from known.based known.some))
 
-    -- each base but 0 stood in some cell before
+    -- each base but 0 stood in known.some cell before
     pub base_was : (i b : ℕ) → base cells i ≡ pos b → 0 < b → (j : ℕ) × (base old j ≡ pos b)
     base_was i b at above = elim (touched old from to family i n) [
       | inl t ↦ elim t.3 [
@@ -266,9 +211,9 @@ module _ (values : ℕ) (old : List Cell) (s from to : ℕ) (family : List Bool)
     -- the root stays
     pub root_kept : cell_at cells 0 ≡ cell_at old 0
     root_kept = moved.others 0 (λ c less h. (
-      (λ e. let r = rules.root_check in let k : check old 0 ≡ negsuc 0 = ap (check old) e ∙ ap (λ (x : Cell). x.1) (fits c h) in let m : negsuc 1 ≡ negsuc 0 = sym r ∙ k in absurd (cc)),
-      (λ e. omega (arith, e, some)),
-      (λ named. let r = rules.root_check in let m : negsuc 1 ≡ pos (from + c) = sym r ∙ named in absurd (cc)),
+      (λ e. let r = known.rules.root_check in let k : check old 0 ≡ negsuc 0 = ap (check old) e ∙ ap (λ (x : Cell). x.1) (known.fits c h) in let m : negsuc 1 ≡ negsuc 0 = sym r ∙ k in absurd (cc)),
+      (λ e. omega (arith, e, known.some)),
+      (λ named. let r = known.rules.root_check in let m : negsuc 1 ≡ pos (from + c) = sym r ∙ named in absurd (cc)),
     ))
 
     pub moved_past : (HasCode family n → ⊥) → IsMovedUpTo old cells s from to family (n + 1)
@@ -285,8 +230,8 @@ module _ (values : ℕ) (old : List Cell) (s from to : ℕ) (family : List Bool)
     module _ (next : List Cell) (h : HasCode family n) (one : IsChildMoved cells next s (from + n) (to + n)) where
       untouched : (i : ℕ) → check old i ≡ pos (from + n) → IsUntouched old from to family i n
       untouched i named c less k = (
-        (λ e. free_no_check old (to + c) (from + n) (fits c k) (ap (check old) (sym e) ∙ named)),
-        (λ e. no_self n h (same_pos s (from + n) (sym (is.sound c k) ∙ ap (check old) (sym e) ∙ named))),
+        (λ e. free_no_check old (to + c) (from + n) (known.fits c k) (ap (check old) (sym e) ∙ named)),
+        (λ e. no_self n h (same_pos s (from + n) (sym (known.is.sound c k) ∙ ap (check old) (sym e) ∙ named))),
         (λ other. let e = same_pos (from + c) (from + n) (sym other ∙ named) in omega (arith, e, less)),
       )
 
@@ -318,8 +263,8 @@ module _ (values : ℕ) (old : List Cell) (s from to : ℕ) (family : List Bool)
               let below : c < n = omega (arith, less, other) in
               let at = moved.renamed c i below k named in
               one.others i
-              (λ e. no_self c k (same_pos s (from + c) (sym (is.sound n h) ∙ ap (check old) (sym e) ∙ named)))
-              (λ e. free_no_check old (to + n) (from + c) (fits n h) (ap (check old) (sym e) ∙ named))
+              (λ e. no_self c k (same_pos s (from + c) (sym (known.is.sound n h) ∙ ap (check old) (sym e) ∙ named)))
+              (λ e. free_no_check old (to + n) (from + c) (known.fits n h) (ap (check old) (sym e) ∙ named))
               (λ at_n. old_is_used n c h k (same_pos (from + n) (to + c) (sym at_n ∙ ap (λ (x : Cell). x.1) at)))
               ∙ at
         ];
@@ -335,17 +280,17 @@ module _ (values : ℕ) (old : List Cell) (s from to : ℕ) (family : List Bool)
       (code : ℕ) (has : HasCode family code) where
     family_of : (c t : ℕ) → step old s c ≡ Some t → HasCode family c × (c < 257) × (t ≡ from + c)
     family_of c t h =
-        let near = (step_child values old s c t rules h).0 in
-        let place = step_place old s c t from h based in
-        (is.complete c near (ap (check old) (sym place) ∙ step_named old s c t h), omega (arith, near), place)
+        let near = (step_child values old s c t known.rules h).0 in
+        let place = step_place old s c t from h known.based in
+        (known.is.complete c near (ap (check old) (sym place) ∙ step_named old s c t h), omega (arith, near), place)
 
     away : (i : ℕ) → i ≢ s → cell_at new i ≡ cell_at cells i
     away i other = ap (λ (xs : List Cell). cell_at xs i) set_base ∙ at_other cells s i (pos to, check cells s) other
 
     within_s : s < length cells
-    within_s = let w = based_within old s from based some in let l = moved.long in omega (arith, w, l)
+    within_s = let w = based_within old s from known.based known.some in let l = moved.long in omega (arith, w, l)
 
-    -- each base is at least 2 and at most the top
+    -- each base known.is at least 2 and at most the top
     pub bases_kept : (top : ℕ) → ((t b : ℕ) → base old t ≡ pos b → 0 < b → (2 ≤ b) × (b ≤ top)) → 2 ≤ to → to ≤ top → (t b : ℕ) → base new t ≡ pos b → 0 < b → (2 ≤ b) × (b ≤ top)
     bases_kept top bases least below t b at above = elim (cases_eq t s) [
       | inl e ↦
@@ -367,7 +312,7 @@ module _ (values : ℕ) (old : List Cell) (s from to : ℕ) (family : List Bool)
       some_child = (code, from + code, member_step code has);
       positive = positive;
       within = λ c t h. let f = (family_of c t h).1 in omega (arith, f, room);
-      room = λ c t h. fits c (family_of c t h).0;
+      room = λ c t h. known.fits c (family_of c t h).0;
       child = λ c t h.
           let f = family_of c t h in
           away (to + c) (λ e. state_is_used c f.0 (sym e)) ∙ moved.child c f.1 f.0 ∙ sym (ap (λ (k : ℕ). (base old k, pos s)) f.2) ∙ ap (λ (z : ℤ). (base old t, z)) (sym (step_named old s c t h));

@@ -9,13 +9,14 @@ use Rattle.std.proofs.lemmas.Bool.{cases_eq, cases_lt}
 use Rattle.std.proofs.lemmas.List.{length-set, length-append, length-replicate, get_or_append_left, get_or-append_right, get_or-replicate, get_or_past}
 use Rattle.std.proofs.lemmas.Option.{slice_get-get_or, get_or_from_slice_get, slice_get_within}
 use Rattle.mj_model.specs.CellMap.{Cell, free_cell, cell_at, base, check}
+use Rattle.mj_model.proofs.Basics.{same_pos}
 use Rattle.double_array.specs.Seen.{hidden, hide, seen}
 use Rattle.double_array.specs.Ring.{HasLinks, IsOnRing, IsRing, AreLinked}
 use Rattle.double_array.specs.Ring.IsOnRing.{first, further}
 use Rattle.double_array.specs.Pool.{IsPool, IsInUse, IsGrown, IsEmpty, IsNew}
 use Rattle.double_array.specs.Pool.IsInUse.{is_root, is_named}
 use Rattle.double_array.proofs.SeenLemmas.{at_same, at_other, seen_set, seen_at, seen_root, seen_free, length-seen, used_seen}
-use Rattle.double_array.proofs.RingLemmas.{same_pos, same_neg, on_ring_linked}
+use Rattle.double_array.proofs.RingLemmas.{same_neg, on_ring_linked}
 use Rattle.double_array.proofs.RingWrites.{IsTaken, IsJoined, no_links, seen_same}
 
 -- ---- the ring where the cells with links are the same

@@ -3,21 +3,15 @@ use Rattle.std.proofs.Common.{◌≡◌, ◌≢◌, ℕ, zero, suc, ◌<◌, pos
 use Rattle.std.proofs.lemmas.Bool.{cases_eq, cases_lt}
 use Rattle.std.proofs.lemmas.List.{get_or_past}
 use Rattle.mj_model.specs.CellMap.{Cell, free_cell, base, check}
+use Rattle.mj_model.proofs.Basics.{same_pos}
 use Rattle.double_array.specs.Ring.{HasLinks, IsOnRing, IsRing}
 use Rattle.double_array.specs.Ring.IsOnRing.{first, further}
-
-pub same_pos : (m n : ℕ) → pos m ≡ pos n → m ≡ n
-same_pos m n h = cc
 
 pub same_neg : (m n : ℕ) → neg_ℤ (pos m) ≡ neg_ℤ (pos n) → m ≡ n
 same_neg zero zero h = refl
 same_neg zero (suc n) h = absurd (let e : pos 0 ≡ negsuc n = h in cc)
 same_neg (suc m) zero h = absurd (let e : negsuc m ≡ pos 0 = h in cc)
 same_neg (suc m) (suc n) h = let e : negsuc m ≡ negsuc n = h in cc
-
-neg_is_no_pos : (m n : ℕ) → 0 < m → neg_ℤ (pos m) ≡ pos n → ⊥
-neg_is_no_pos zero n above h = omega (arith, above)
-neg_is_no_pos (suc m) n above h = let e : negsuc m ≡ pos n = h in cc
 
 pub linked_within : (cells : List Cell) (i : ℕ) → HasLinks cells i → i < length cells
 linked_within cells i l = elim (cases_lt i (length cells)) [

@@ -3,10 +3,11 @@ use Rattle.std.proofs.Common.{◌≡◌, ◌≢◌, ℕ, zero, suc, ◌+◌, ◌
 use Rattle.std.proofs.lemmas.Bool.{cases_eq}
 use Rattle.std.proofs.lemmas.List.{length-set, set-get_or}
 use Rattle.mj_model.specs.CellMap.{Cell, free_cell, cell_at, base, check}
+use Rattle.mj_model.proofs.Basics.{same_pos}
 use Rattle.double_array.specs.Seen.{hide, seen}
 use Rattle.double_array.specs.Ring.{HasLinks, IsRing, AreLinked}
 use Rattle.double_array.proofs.SeenLemmas.{at_same, at_other, seen_set, seen_at, seen_root, seen_free, length-seen}
-use Rattle.double_array.proofs.RingLemmas.{same_pos, same_neg, linked_within, next_of, before_of, next_is_other, ring_without, links_without, ring_with, links_with, link_with}
+use Rattle.double_array.proofs.RingLemmas.{same_neg, linked_within, next_of, before_of, next_is_other, ring_without, links_without, ring_with, links_with, link_with}
 
 -- the links of a cell by the numbers that were read
 pub links_by : (cells : List Cell) (i n p : ℕ) → HasLinks cells i → base cells i ≡ pos n → check cells i ≡ neg_ℤ (pos p) → HasLinks cells i
@@ -171,6 +172,3 @@ linked_one_more old cells new i above within k j =
       seen_is = same ∙ k.seen_is;
       long = sym (length-seen new) ∙ ap length same ∙ length-seen cells ∙ k.long;
     }
-
-pub no_links_yet : (old cells : List Cell) (i : ℕ) → IsLinkedUpTo old cells i → HasLinks cells i → ⊥
-no_links_yet old cells i k = free_has_no_links cells i (k.free i (omega arith))

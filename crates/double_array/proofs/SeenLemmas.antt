@@ -42,14 +42,6 @@ hidden_below b (suc p) above = refl
 pub seen_free : (cells : List Cell) (i p : ℕ) → 0 < i → 0 < p → check cells i ≡ neg_ℤ (pos p) → cell_at (seen cells) i ≡ free_cell
 seen_free cells i p above some at = seen_at cells i above ∙ ap (hidden (base cells i)) at ∙ hidden_below (base cells i) p some
 
-hidden_free : (b k : ℤ) → hidden b k ≡ free_cell → (p : ℕ) × (k ≡ negsuc p)
-hidden_free b (pos k) h = absurd (let e : pos k ≡ negsuc 0 = ap (λ (x : Cell). x.1) h in cc)
-hidden_free b (negsuc p) h = (p, refl)
-
--- a cell that is seen as free has a negative check
-pub free_seen : (cells : List Cell) (i : ℕ) → 0 < i → cell_at (seen cells) i ≡ free_cell → (p : ℕ) × (check cells i ≡ negsuc p)
-free_seen cells i above h = hidden_free (base cells i) (check cells i) (sym (seen_at cells i above) ∙ h)
-
 hidden_used : (b k : ℤ) (s : ℕ) → (hidden b k).1 ≡ pos s → (b, k) ≡ hidden b k
 hidden_used b (pos k) s h = refl
 hidden_used b (negsuc p) s h = absurd (cc)
@@ -61,9 +53,6 @@ used_seen cells i s named above =
     hidden_used (base cells i) (check cells i) s (sym (ap (λ (x : Cell). x.1) e) ∙ named) ∙ sym e
 
 -- ---- what is seen after a change
-
-hidden_pos : (b k : ℤ) (s : ℕ) → k ≡ pos s → hidden b k ≡ (b, k)
-hidden_pos b k s e = ap (hidden b) e ∙ ap (λ (z : ℤ). (b, z)) (sym e)
 
 -- all cells but one are seen as before, and that one as a new one
 pub seen_set : (old new : List Cell) (i : ℕ) (x : Cell) → length new ≡ length old → i < length old → cell_at (seen new) i ≡ x → ((j : ℕ) → j ≢ i → cell_at (seen new) j ≡ cell_at (seen old) j) → seen new ≡ set (seen old) i x

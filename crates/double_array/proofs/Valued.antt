@@ -6,7 +6,7 @@ use Rattle.mj_model.specs.CellMap.{Cell, free_cell, cell_at, base, check, step, 
 use Rattle.mj_model.specs.CellRules.{IsBaseAfter, MeetsRules, AreOnKeys}
 use Rattle.mj_model.proofs.CellWalks.{step_parts, step_from, step_named, child_of, walk_one, walk_none, walk_first, walk_is_one, leads_back, value_parts, value_from, same_value}
 use Rattle.double_array.proofs.SeenLemmas.{at_same, at_other}
-use Rattle.double_array.proofs.Leaf.{same_key}
+use Rattle.double_array.proofs.KeyWalks.{same_key}
 
 -- ---- cells that are the same by number
 

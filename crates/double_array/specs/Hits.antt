@@ -1,6 +1,6 @@
 -- The keys that begin a text, as a walk over the text meets them.
-use Rattle.std.specs.Prelude.{ℕ, suc, List, [], ◌∷◌, ◌++◌, drop, Option, None, Some, option_and_then}
-use Rattle.mj_model.specs.CellMap.{Cell, base, step, value_in}
+use Rattle.std.specs.Prelude.{ℕ, suc, List, [], ◌∷◌, ◌++◌, take, drop, Option, None, Some, option_and_then, option_map}
+use Rattle.mj_model.specs.CellMap.{Cell, base, step, value_in, value_of}
 use Rattle.double_array.specs.declared.steps.Place.{Place}
 use Rattle.double_array.specs.declared.walk.Walk.{Walk}
 
@@ -8,6 +8,10 @@ use Rattle.double_array.specs.declared.walk.Walk.{Walk}
 abbrev pub hit_at : ℕ → Option ℕ → List (ℕ × ℕ)
 hit_at n None = []
 hit_at n (Some v) = (n, v) ∷ []
+
+-- the value of the key that is the first n bytes of a text, as a hit of this length
+abbrev pub hit_of : List Cell → List ℕ → ℕ → Option (ℕ × ℕ)
+hit_of cells text n = option_map (λ v. (n, v)) (value_of cells (take n text))
 
 -- the value of a state's key
 abbrev pub value_here : List Cell → ℕ → Option ℕ

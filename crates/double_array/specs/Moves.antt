@@ -1,13 +1,23 @@
 -- A relocation on its way: some children of a state have moved.
 use Rattle.std.specs.Prelude.{◌≡◌, ◌≢◌, ℕ, ◌+◌, ◌<◌, ◌≤◌, ℤ, pos, negsuc, Bool, List, length}
 use Rattle.mj_model.specs.CellMap.{Cell, free_cell, cell_at, base, check}
-use Rattle.double_array.specs.Family.{HasCode}
+use Rattle.mj_model.specs.CellRules.{MeetsRules, AreOnKeys}
+use Rattle.double_array.specs.Family.{HasCode, FitsAt}
 
 -- the family is that of the children of a state, whose base is from
 pub record IsFamilyOf (cells : List Cell) (s from : ℕ) (family : List Bool) : Type 0 where
   pub long : length family ≡ 257
   pub sound : (code : ℕ) → HasCode family code → check cells (from + code) ≡ pos s
   pub complete : (code : ℕ) → code ≤ 256 → check cells (from + code) ≡ pos s → HasCode family code
+
+-- the family of s, whose base is from, may move to the base to
+pub record IsRelocation (values : ℕ) (cells : List Cell) (s from to : ℕ) (family : List Bool) : Type 0 where
+  pub rules : MeetsRules values cells
+  pub keys : AreOnKeys cells
+  pub based : base cells s ≡ pos from
+  pub some : 1 ≤ from
+  pub is : IsFamilyOf cells s from family
+  pub fits : FitsAt cells family to
 
 -- in the cells from start up to start + n, the check t is renamed to u
 pub record IsRenamed (old new : List Cell) (start n t u : ℕ) : Type 0 where

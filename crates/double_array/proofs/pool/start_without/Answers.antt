@@ -1,5 +1,6 @@
 use Rattle.std.proofs.Common.{arith, ◌≡◌, pos, ap, sym, ◌∙◌}
-use Rattle.double_array.proofs.RingLemmas.{next_is_other, same_pos}
+use Rattle.mj_model.proofs.Basics.{same_pos}
+use Rattle.double_array.proofs.RingLemmas.{next_is_other}
 use Rattle.double_array.proofs.pool.start_without.Goals as goal
 
 pub returns-then-start-i-clause-links : goal.returns-then-start-i-clause-links
