@@ -1,5 +1,5 @@
 -- The ids, costs and first categories of a well-formed image.
-use Rattle.std.proofs.Common.{length, ◌≡◌, ℕ, zero, suc, ◌+◌, ◌-◌, ◌*◌, ◌^◌, ◌<◌, ◌≤◌, ℤ, pos, negsuc, Bool, true, false, cond, leb, ltb, List, [], ◌∷◌, ◌++◌, map, reverse, Option, Some, None, sym, ap, ◌∙◌, refl, arith, subst}
+use Rattle.std.proofs.Common.{length, ◌≡◌, ℕ, zero, suc, ◌+◌, ◌-◌, ◌*◌, ◌^◌, ◌<◌, ◌≤◌, ℤ, pos, negsuc, Bool, true, false, cond, leb, ltb, List, [], ◌∷◌, map, reverse, Option, Some, None, sym, ap, ◌∙◌, refl, arith, subst}
 use Rattle.std.specs.Prelude.{IsTrue}
 use Rattle.std.specs.Int.{w16, cast_signed}
 use Rattle.std.specs.Int.RustNames.{FitsSigned}
@@ -17,6 +17,7 @@ use Rattle.mj_model.specs.ImageBytes.{kind_of, number_at, signed_2_at, header_of
 use Rattle.mj_model.specs.ImageMeaning.{image_unknown, tokens_in, entry_under, image_tables, lexicon_sections, entries_of_group}
 use Rattle.mj_model.specs.ImageSections.{AreRanges, IsIndex, StoredRange, range_at, stored_info, no_info, token_from, stored_token, stored_cost, index_at, key_of, stored_cells}
 use Rattle.mj_model.specs.Tables.{System, Token, Lexeme, HasApartTokens}
+use Rattle.mj_model.proofs.Basics.{all_append}
 use Rattle.dict_image.specs.Fitting.{AreBytes, AreFitting, IsFitting}
 use Rattle.dict_image.specs.Held.{IsImage}
 use Rattle.dict_image.specs.Ranges.{range_count}
@@ -79,17 +80,13 @@ named : (sizes : MatrixSizes) (surface : List ℕ) (ts : List Token) → AllByRe
 named sizes surface [] fit = tt
 named sizes surface (t ∷ ts) fit = (fit.0, named sizes surface ts fit.1)
 
-all_joined : {X : Type 0} (P : X → Type 0) (xs ys : List X) → AllByRecursion P xs → AllByRecursion P ys → AllByRecursion P (xs ++ ys)
-all_joined P [] ys a b = b
-all_joined P (x ∷ xs) ys a b = (a.0, all_joined P xs ys a.1 b)
-
 groups_fit : (bytes : List ℕ) (first n : ℕ) → IsImage bytes → AreBytes (section bytes 7) → first + n ≤ (header_of bytes).groups
     → AllByRecursion (λ (e : Lexeme). IsFitting (header_of bytes).sizes e.token) (flat_map (entries_of_group (lexicon_sections bytes)) (range_with_len first n))
 groups_fit bytes first zero w are within = tt
 groups_fit bytes first (suc n) w are within =
     let h = header_of bytes in
     let these = list_fits bytes (section bytes 6) h.groups 0 h.tokens first w are (groups_are bytes w) (omega arith) (omega (arith, within)) in
-    all_joined (λ (e : Lexeme). IsFitting h.sizes e.token) (entries_of_group (lexicon_sections bytes) first) (flat_map (entries_of_group (lexicon_sections bytes)) (range_with_len (first + 1) n))
+    all_append (λ (e : Lexeme). IsFitting h.sizes e.token) (entries_of_group (lexicon_sections bytes) first) (flat_map (entries_of_group (lexicon_sections bytes)) (range_with_len (first + 1) n))
     (named h.sizes (key_of (stored_cells (section bytes 5)) first) (tokens_in (section bytes 7) (section bytes 8) (section bytes 6) first) these) (groups_fit bytes (first + 1) n w are (omega (arith, within)))
 
 unknown_by : (bytes : List ℕ) (i : ℕ) (b : Bool) → IsImage bytes → AreBytes (section bytes 7) → ltb i (header_of bytes).categories ≡ b

@@ -2,11 +2,11 @@
 --
 -- Two groups never have one key, since a key has one value in the cells. So of the groups of a lexicon at most one has the key, and it is
 -- the one that the cells give.
-use Rattle.std.proofs.Common.{◌≡◌, ℕ, zero, suc, ◌+◌, ◌<◌, ◌≤◌, negsuc, Bool, true, false, List, [], ◌∷◌, ◌++◌, map, length, append-nil, Some, None, inl, inr, sym, ap, ◌∙◌, refl, arith, subst}
+use Rattle.std.proofs.Common.{◌≡◌, ℕ, zero, suc, ◌+◌, ◌<◌, ◌≤◌, Bool, true, false, List, [], ◌∷◌, ◌++◌, map, append-nil, Some, None, inl, inr, sym, ap, ◌∙◌, refl, arith, subst}
 use Rattle.std.specs.List.{filter, flat_map, range_with_len}
 use Rattle.std.specs.Str.{bytes_eq}
 use Rattle.std.proofs.lemmas.Bool.{cases_eq, false_from_ne_true}
-use Rattle.std.proofs.lemmas.List.{append_cancel_right, map-append}
+use Rattle.std.proofs.lemmas.List.{map-append}
 use Rattle.std.proofs.lemmas.List.Elements.{filter-append}
 use Rattle.std.proofs.lemmas.Option.{same_Some, none-some}
 use Rattle.std.proofs.lemmas.Slice.Eq.{bytes_eq-Decides}
@@ -16,8 +16,10 @@ use Rattle.mj_model.specs.ImageFaults.{HasKey}
 use Rattle.mj_model.specs.ImageMeaning.{tokens_in, entry_under, LexiconSections, entries_of_group, lexicon_in, entries_under}
 use Rattle.mj_model.specs.ImageSections.{StandsOnce, key_of, stored_cells}
 use Rattle.mj_model.specs.Tables.{Token, Lexeme}
+use Rattle.mj_model.proofs.Basics.{same_negsuc}
 use Rattle.mj_model.proofs.CellWalks.{value_parts, step_child, walk_is_one}
 use Rattle.mj_model.proofs.ImageKeys.{key_state, key_is}
+use Rattle.double_array.proofs.KeyWalks.{same_key}
 
 -- ---- keys and groups
 
@@ -27,9 +29,6 @@ pub record AreKeys (groups : ℕ) (cells : List Cell) : Type 0 where
   pub once : (group : ℕ) → group < groups → StandsOnce cells group
   pub keys : (group : ℕ) → group < groups → HasKey cells group
 
-same_negsuc : (m n : ℕ) → negsuc m ≡ negsuc n → m ≡ n
-same_negsuc m n h = cc
-
 -- a key's value is the number of a group
 pub value_below : (groups : ℕ) (cells : List Cell) (key : List ℕ) (v : ℕ) → MeetsRules groups cells → value_of cells key ≡ Some v → v < groups
 value_below groups cells key v rules h =
@@ -38,28 +37,13 @@ value_below groups cells key v rules h =
     let held = (step_child groups cells s.0 0 at.0 rules s.2).1 in
     subst (λ (n : ℕ). n < groups) (same_negsuc held.0 v (sym held.2 ∙ at.1.holds)) held.1
 
-same_map_suc : (xs ys : List ℕ) → map suc xs ≡ map suc ys → xs ≡ ys
-same_map_suc [] [] h = refl
-same_map_suc [] (y ∷ ys) h = absurd (let e : 0 ≡ suc (length (map suc ys)) = ap length h in omega (arith, e))
-same_map_suc (x ∷ xs) [] h = absurd (let e : suc (length (map suc xs)) ≡ 0 = ap length h in omega (arith, e))
-same_map_suc (x ∷ xs) (y ∷ ys) h =
-    let rest : map suc xs ≡ map suc ys = cc in
-    let same : xs ≡ ys = same_map_suc xs ys rest in
-    let head : suc x ≡ suc y = cc in
-    let first : x ≡ y = omega (arith, head) in
-    cc
-
-same_codes : (k l : List ℕ) → codes_of k ≡ codes_of l → k ≡ l
-unfolding codes_of
-same_codes k l h = same_map_suc k l (append_cancel_right (map suc k) (map suc l) (0 ∷ []) h)
-
 -- a group has one key
 pub one_key : (groups : ℕ) (cells : List Cell) (k l : List ℕ) (v : ℕ) → MeetsRules groups cells → StandsOnce cells v → value_of cells k ≡ Some v → value_of cells l ≡ Some v → k ≡ l
 one_key groups cells k l v rules once a b =
     let p = value_parts cells k v a in
     let q = value_parts cells l v b in
     let same : q.0 ≡ p.0 = once.only q.0 q.1.holds ∙ sym (once.only p.0 p.1.holds) in
-    same_codes k l (walk_is_one groups cells (codes_of k) (codes_of l) p.0 rules p.1.led (subst (λ (t : ℕ). walk cells 0 (codes_of l) ≡ Some t) same q.1.led))
+    same_key k l (walk_is_one groups cells (codes_of k) (codes_of l) p.0 rules p.1.led (subst (λ (t : ℕ). walk cells 0 (codes_of l) ≡ Some t) same q.1.led))
 
 -- the value of a group's key is the group
 pub key_value : (groups : ℕ) (cells : List Cell) (group : ℕ) → AreKeys groups cells → group < groups → value_of cells (key_of cells group) ≡ Some group

@@ -8,3 +8,10 @@ pub mod ProgressLemmas
 pub mod FittingLemmas
 pub mod NumberLemmas
 pub mod NumberedTokens
+pub mod CheckedCategories
+pub mod CellLemmas
+pub mod ValueLemmas
+pub mod GroupCount
+pub mod KeyLemmas
+pub mod FrameLemmas
+pub mod StageLemmas

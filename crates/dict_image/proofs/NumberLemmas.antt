@@ -8,6 +8,7 @@ use Rattle.mj_model.specs.ImageMeaning.{LexiconSections, entries_of_group, entry
 use Rattle.mj_model.specs.ImageSections.{IsIndex, index_at, key_of, stored_cells, token_from}
 use Rattle.mj_model.specs.Lists.{AreApart, StandsIn}
 use Rattle.mj_model.specs.Tables.{HasApartTokens, HasText, Lexeme, Token}
+use Rattle.mj_model.proofs.Basics.{all_append}
 use Rattle.mj_model.proofs.ImageKeys.{key_is}
 use Rattle.dict_image.specs.Held.{IsImage}
 use Rattle.dict_image.proofs.FormedLemmas.{groups_are, keys_are}
@@ -109,10 +110,6 @@ named_texts : (surface : List ℕ) (ts : List Token) → IsUtf8 surface → AllB
 named_texts surface [] utf8 = tt
 named_texts surface (t ∷ ts) utf8 = (utf8, named_texts surface ts utf8)
 
-both : {X : Type 0} (P : X → Type 0) (xs ys : List X) → AllByRecursion P xs → AllByRecursion P ys → AllByRecursion P (xs ++ ys)
-both P [] ys a b = b
-both P (x ∷ xs) ys a b = (a.0, both P xs ys a.1 b)
-
 text_of_key : (groups : ℕ) (s : LexiconSections) (group : ℕ) → AreKeys groups (stored_cells s.keys) → group < groups → IsUtf8 (key_of (stored_cells s.keys) group)
 text_of_key groups s group are less =
     let k = are.keys group less in
@@ -121,7 +118,7 @@ text_of_key groups s group are less =
 texts_in : (groups : ℕ) (s : LexiconSections) (a n : ℕ) → AreKeys groups (stored_cells s.keys) → a + n ≤ groups → AllByRecursion HasText (flat_map (entries_of_group s) (range_with_len a n))
 texts_in groups s a zero are within = tt
 texts_in groups s a (suc n) are within =
-    both HasText (entries_of_group s a) (flat_map (entries_of_group s) (range_with_len (a + 1) n))
+    all_append HasText (entries_of_group s a) (flat_map (entries_of_group s) (range_with_len (a + 1) n))
     (named_texts (key_of (stored_cells s.keys) a) (tokens_in s.tokens s.features s.groups a) (text_of_key groups s a are (omega (arith, within)))) (texts_in groups s (a + 1) n are (omega (arith, within)))
 
 -- the surfaces of the lexicon are text

@@ -8,16 +8,11 @@ use Rattle.mj_model.specs.CellRules.{MeetsRules}
 use Rattle.mj_model.specs.ImageMeaning.{tokens_in, LexiconSections, lexicon_in, entries_under}
 use Rattle.mj_model.specs.ImageSections.{stored_cells, index_at}
 use Rattle.mj_model.specs.Lists.{up_to}
-use Rattle.mj_model.specs.Tables.{Token, Lexeme}
-use Rattle.dict_image.specs.Prefixes.{has_entries, prefixes_in, prefix_in}
+use Rattle.mj_model.specs.Tables.{Token}
+use Rattle.double_array.specs.Hits.{hit_of}
+use Rattle.dict_image.specs.Prefixes.{has_entries, prefix_at, prefixes_in, prefix_in}
 use Rattle.dict_image.proofs.LexiconLemmas.{AreKeys, value_below, entries_of_value, entries_of_none}
 use Rattle.dict_image.proofs.TokenLemmas.{some_tokens}
-
-abbrev hit_of : List Cell → List ℕ → ℕ → Option (ℕ × ℕ)
-hit_of cells text n = option_map (λ (v : ℕ). (n, v)) (value_of cells (take n text))
-
-abbrev prefix_at : List ℕ → List Lexeme → ℕ → ℕ × List Token
-prefix_at text lexicon n = (n, entries_under (take n text) lexicon)
 
 -- of one length, given the value of the key of that length
 at_length : (groups : ℕ) (s : LexiconSections) (text : List ℕ) (n : ℕ) (ns : List ℕ) (found : Option ℕ) → AreKeys groups (stored_cells s.keys) → ((i : ℕ) → i < groups → index_at s.groups i < index_at s.groups (suc i))

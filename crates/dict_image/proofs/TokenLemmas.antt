@@ -1,28 +1,14 @@
 -- Tokens in the order of their numbers.
-use Rattle.std.proofs.Common.{◌≡◌, ℕ, zero, suc, ◌+◌, ◌-◌, ◌*◌, ◌<◌, ◌≤◌, List, [], ◌∷◌, map, length, ap, ◌∙◌, arith}
-use Rattle.std.specs.List.{range_with_len}
+use Rattle.std.proofs.Common.{◌≡◌, ℕ, zero, suc, ◌+◌, ◌-◌, ◌*◌, ◌<◌, ◌≤◌, List, length, ap, ◌∙◌, arith}
 use Rattle.std.proofs.lemmas.List.FromFn.{length-map-range_with_len}
 use Rattle.mj_model.specs.ImageMeaning.{tokens_in}
 use Rattle.mj_model.specs.ImageSections.{IsIndex, index_at, token_from}
-use Rattle.dict_image.specs.Tokens.{tokens_from}
 
 -- a list of an index that rises there is not empty
 pub some_tokens : (tokens features index : List ℕ) (i : ℕ) → index_at index i < index_at index (suc i) → 0 < length (tokens_in tokens features index i)
 some_tokens tokens features index i rising =
     let e = length-map-range_with_len (token_from tokens features) (index_at index i) (index_at index (suc i) - index_at index i) in
     omega (arith, e, rising)
-
-counted_first : (n k m : ℕ) → k ≡ suc m → range_with_len n k ≡ n ∷ range_with_len (n + 1) m
-counted_first n k m e = ap (range_with_len n) e
-
--- the first of the tokens that are left
-pub first_token : (tokens features : List ℕ) (next end : ℕ) → next < end → tokens_from tokens features next end ≡ token_from tokens features next ∷ tokens_from tokens features (next + 1) end
-first_token tokens features next end less =
-    ap (map (token_from tokens features)) (counted_first next (end - next) (end - (next + 1)) (omega (arith, less)))
-
--- no tokens are left
-pub no_token : (tokens features : List ℕ) (end : ℕ) → tokens_from tokens features end end ≡ []
-no_token tokens features end = let e : end - end ≡ 0 = omega arith in ap (λ (n : ℕ). map (token_from tokens features) (range_with_len end n)) e
 
 -- ---- indexes
 

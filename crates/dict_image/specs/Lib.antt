@@ -7,3 +7,9 @@ pub mod Categories
 pub mod Prefixes
 pub mod Fitting
 pub mod Numbered
+pub mod CheckedRanges
+pub mod CheckedCategories
+pub mod Cells
+pub mod Values
+pub mod Keys
+pub mod Stages

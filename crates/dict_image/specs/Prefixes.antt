@@ -8,9 +8,13 @@ use Rattle.mj_model.specs.Tables.{Token, Lexeme}
 abbrev pub has_entries : ℕ × List Token → Bool
 has_entries prefix = nat_lt 0 (length prefix.1)
 
+-- the first n bytes of a text, with their entries
+abbrev pub prefix_at : List ℕ → List Lexeme → ℕ → ℕ × List Token
+prefix_at text lexicon n = (n, entries_under (take n text) lexicon)
+
 -- the surfaces that begin a text, the shortest first: their lengths in bytes, and their entries
 abbrev pub prefixes_in : List ℕ → List Lexeme → List (ℕ × List Token)
-prefixes_in text lexicon = filter has_entries (map (λ n. (n, entries_under (take n text) lexicon)) (up_to (length text)))
+prefixes_in text lexicon = filter has_entries (map (prefix_at text lexicon) (up_to (length text)))
 
 -- a hit in the cells: its length in bytes, and the tokens of the group that is its value
 abbrev pub prefix_in : LexiconSections → ℕ × ℕ → ℕ × List Token

@@ -2,6 +2,7 @@
 #![tactic(auto)]
 
 mod categories;
+mod check;
 mod costs;
 mod dict;
 mod entries;

@@ -3,8 +3,8 @@ ghost use Rattle.std.specs.Prelude.{◌≡◌, ◌⊎◌, IfErr, IfOk};
 ghost use Rattle.mj_model.specs.ImageFaults.{IsImageFault, IsWellFormed};
 ghost use Rattle.mj_model.specs.declared.image_fault.ImageFault.TheVariants.{Memory};
 
+use crate::check::check_image;
 use crate::dict::Dict;
-use image_check::check_image;
 use mj_model::ImageFault;
 use std::alloc::Global;
 
@@ -14,8 +14,6 @@ pub fn load(alloc: Global, bytes: Vec<u8>) -> Result<Dict, ImageFault>
     ensures accepted { IfOk result (λ _. IsWellFormed bytes.items) }
     ensures refused { IfErr result (λ fault. (fault ≡ Memory) ⊎ IsImageFault bytes.items fault) }
 {
-    match check_image(alloc, &bytes) {
-        Ok(()) => Ok(Dict::over(bytes)),
-        Err(fault) => Err(fault),
-    }
+    check_image(alloc, &bytes)?;
+    Ok(Dict::over(bytes))
 }

@@ -12,7 +12,7 @@ use Rattle.mj_model.specs.Lists.{up_to, StandsIn}
 use Rattle.paths.specs.KnownWords.{word_of, known_word, entries_of_length, known_in, known_from}
 use Rattle.mj_model.specs.Tables.{Lexeme, Tables, Token, lexicons_of}
 use Rattle.mj_model.proofs.Members.{each_holds, in_filter, in_map, in_up_to}
-use Rattle.dict_image.specs.Prefixes.{has_entries, prefixes_in}
+use Rattle.dict_image.specs.Prefixes.{has_entries, prefix_at, prefixes_in}
 use Rattle.word_lookup.specs.declared.entry_words.EntryList.TheVariants.{Lexicon}
 use Rattle.word_lookup.specs.EntryWords.{entry_word}
 
@@ -46,9 +46,6 @@ skipped : (dict place start n : ℕ) (ts : List Token) (prefixes : List (ℕ × 
 skipped dict place start n [] prefixes = refl
 skipped dict place start n (t ∷ ts) prefixes =
     sym (ap (λ (b : Bool). flat_map (prefix_words dict place start) (cond b ((n, t ∷ ts) ∷ prefixes) prefixes)) (lt-ltb 0 (length (t ∷ ts)) (omega arith)))
-
-abbrev prefix_at : List ℕ → List Lexeme → ℕ → ℕ × List Token
-prefix_at text lexicon n = (n, entries_under (take n text) lexicon)
 
 found_at : (dict place start : ℕ) (text : List ℕ) (lexicon : List Lexeme) (ns : List ℕ) → ((n : ℕ) → StandsIn ns n → n ≤ length text)
     → flat_map (λ n. map (known_word place start dict) (entries_of_length text lexicon n)) ns ≡ flat_map (prefix_words dict place start) (filter has_entries (map (prefix_at text lexicon) ns))

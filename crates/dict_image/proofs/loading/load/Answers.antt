@@ -1,13 +1,17 @@
 use Rattle.std.proofs.Common.{◌≡◌, ◌⊎◌, List, ℕ, subst}
+use Rattle.std.proofs.lemmas.Result.{err_from_is_err_and}
 use Rattle.mj_model.specs.ImageFaults.{IsImageFault, IsWellFormed}
 use Rattle.mj_model.specs.declared.image_fault.ImageFault.TheVariants.{Memory}
 use Rattle.dict_image.proofs.loading.load.Goals as goal
 
 pub over-requires : goal.over-requires
-over-requires c = subst IsWellFormed c.deref.ensures.value c.in-Ok.ensures.accepted
+over-requires c = subst IsWellFormed c.deref.ensures.value c.in_ok-check_image.ensures.accepted
 
-pub returns-in-Ok-clause-accepted : goal.returns-in-Ok-clause-accepted
-returns-in-Ok-clause-accepted c = subst IsWellFormed c.deref.ensures.value c.in-Ok.ensures.accepted
+pub returns-clause-accepted : goal.returns-clause-accepted
+returns-clause-accepted c = subst IsWellFormed c.deref.ensures.value c.in_ok-check_image.ensures.accepted
 
-pub returns-in-Err-clause-refused : goal.returns-in-Err-clause-refused
-returns-in-Err-clause-refused c = subst (λ (bytes : List ℕ). (c.in-Err.fault ≡ Memory) ⊎ IsImageFault bytes c.in-Err.fault) c.deref.ensures.value c.in-Err.ensures.refused
+pub returns-in_err-check_image-clause-refused : goal.returns-in_err-check_image-clause-refused
+returns-in_err-check_image-clause-refused c =
+    let p = err_from_is_err_and c.from_residual.result c.from_residual.ensures.1 in
+    let fault = c.in_err-check_image.field-0.0 in
+    rw (p.1, p.2) (subst (λ (bytes : List ℕ). (fault ≡ Memory) ⊎ IsImageFault bytes fault) c.deref.ensures.value c.in_err-check_image.ensures.refused)

@@ -1,0 +1,7 @@
+use Rattle.std.proofs.Common.{below_more}
+use Rattle.mj_model.specs.ImageFaults.{HasKey}
+use Rattle.mj_model.specs.ImageSections.{stored_cells}
+use Rattle.dict_image.proofs.check.keys.without_key.Goals as goal
+
+pub loop-group-preserved : goal.loop-group-preserved
+loop-group-preserved c = below_more (HasKey (stored_cells c.args.cells.now.bytes.now)) c.loop-group.group c.loop-group.invariant (c.has_key.ensures.0 c.if-not-has_key.false)

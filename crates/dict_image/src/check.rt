@@ -1,0 +1,68 @@
+//! Whether bytes are a well-formed image: each test in its order, and the first fault.
+ghost use Rattle.std.specs.Prelude.{◌≡◌, ◌⊎◌, ◌≤◌, length, OnOk, IfErr, MatchResult};
+ghost use Rattle.mj_model.specs.ImageBytes.{header_of, section_end};
+ghost use Rattle.mj_model.specs.ImageFaults.{IsWellFormed, IsImageFault, PassAll, IsFirstTold};
+ghost use Rattle.mj_model.specs.declared.image_fault.ImageFault.TheVariants.{Memory};
+ghost use Rattle.image_bytes.specs.Headers.{AreEnds};
+ghost use Rattle.dict_image.specs.Stages.{stated, section_tests};
+
+mod categories;
+mod cell;
+mod frame;
+mod header;
+mod index;
+mod keys;
+mod lexicon;
+mod ranges;
+mod system;
+mod tokens;
+mod values;
+
+use crate::check::frame::{check_ends, check_front};
+use crate::check::header::check_header;
+use crate::check::lexicon::{check_keys, check_tokens};
+use crate::check::system::check_system;
+use image_bytes::{Header, section};
+use mj_model::ImageFault;
+use std::alloc::Global;
+
+/// Whether bytes are a well-formed image, or the first fault of its tests in their order.
+///
+/// It takes memory for a number of 4 bytes a group and for the bytes of one key.
+pub(crate) fn check_image(alloc: Global, bytes: &[u8]) -> Result<(), ImageFault>
+    ensures accepted { OnOk result (IsWellFormed bytes.now) }
+    ensures refused { IfErr result (λ fault. (fault ≡ Memory) ⊎ IsImageFault bytes.now fault) }
+{
+    let header = check_front(bytes)?;
+    let ends = check_ends(bytes, &header)?;
+    check_sections(alloc, bytes, &header, &ends)
+}
+
+/// The tests of the header's numbers and of each section.
+fn check_sections(
+    alloc: Global,
+    bytes: &[u8],
+    header: &Header,
+    ends: &[usize; 9],
+) -> Result<(), ImageFault>
+    requires ends { AreEnds ends.now (header_of bytes.now) }
+    requires within { section_end (header_of bytes.now) 8 ≤ length bytes.now }
+    ensures { MatchResult result (λ _. PassAll (section_tests (stated header.now) bytes.now)) (λ fault. (fault ≡ Memory) ⊎ IsFirstTold (section_tests (stated header.now) bytes.now) fault) }
+{
+    check_header(header)?;
+    check_system(
+        header,
+        section(bytes, ends, 1),
+        section(bytes, ends, 2),
+        section(bytes, ends, 3),
+        section(bytes, ends, 4),
+    )?;
+    check_keys(alloc, header.groups, section(bytes, ends, 5))?;
+    check_tokens(
+        header,
+        section(bytes, ends, 6),
+        section(bytes, ends, 7),
+        section(bytes, ends, 8),
+    )?;
+    Ok(())
+}

@@ -1,0 +1,41 @@
+//! The categories of an image.
+ghost use Rattle.std.specs.Prelude.{◌≡◌, ◌↔◌, length, IsTrue, MatchOption};
+ghost use Rattle.mj_model.specs.ImageSections.{AreCategories};
+ghost use Rattle.dict_image.specs.CheckedCategories.{BeginsWithCategory, after_category};
+
+use simdutf8::is_utf8;
+
+/// Whether the bytes are so many categories and nothing else.
+pub(crate) fn are_categories(count: u32, bytes: &[u8]) -> bool
+    ensures { IsTrue result ↔ AreCategories count bytes.now }
+{
+    let mut rest = bytes;
+    for _left in 0..count {
+        match past_category(rest) {
+            Some(behind) => rest = behind,
+            None => return false,
+        }
+    }
+    rest.is_empty()
+}
+
+/// The bytes behind a category, if the bytes begin with one.
+fn past_category(bytes: &[u8]) -> Option<&[u8]>
+    ensures { MatchOption result (BeginsWithCategory bytes.now → ⊥) (λ rest. BeginsWithCategory bytes.now × (rest.now ≡ after_category bytes.now)) }
+{
+    let &[invoke, group, length, name_length, ..] = bytes else {
+        return None;
+    };
+    let end = 4 + usize::from(name_length);
+    if invoke <= 1
+        && group <= 1
+        && length <= 15
+        && name_length >= 1
+        && end <= bytes.len()
+        && is_utf8(&bytes[4..end])
+    {
+        Some(&bytes[end..])
+    } else {
+        None
+    }
+}

@@ -1,0 +1,79 @@
+//! What stands around the sections: the magic, the layout, the length and the digest.
+ghost use Rattle.std.specs.Prelude.{◌≡◌, ◌≤◌, ◌↔◌, drop, take, length, IsTrue, MatchResult};
+ghost use Rattle.sha2.specs.Sha256.{sha256};
+ghost use Rattle.mj_model.specs.ImageBytes.{header_of, image_magic, section_end};
+ghost use Rattle.mj_model.specs.ImageFaults.{PassAll, IsFirstTold};
+ghost use Rattle.image_bytes.specs.Headers.{IsHeaderOf, AreEnds};
+ghost use Rattle.dict_image.specs.Stages.{front_tests, end_tests};
+
+use image_bytes::{Header, read_header, section_ends};
+use mj_model::ImageFault;
+use sha2::{Digest, Sha256};
+
+/// The first 8 bytes of every image.
+const MAGIC: [u8; 8] = *b"MJDICT\r\n";
+
+/// The layout that is read.
+const LAYOUT: u32 = 3;
+
+/// How long a header is, in bytes.
+const HEADER_LENGTH: usize = 104;
+
+/// How long the digest at the end is, in bytes.
+const DIGEST_LENGTH: usize = 32;
+
+/// The tests of the magic and the layout.
+pub(crate) fn check_front(bytes: &[u8]) -> Result<Header, ImageFault>
+    ensures { MatchResult result (λ header. PassAll (front_tests (header_of bytes.now) bytes.now) × IsHeaderOf header (header_of bytes.now)) (IsFirstTold (front_tests (header_of bytes.now) bytes.now)) }
+{
+    if bytes.len() < HEADER_LENGTH {
+        return Err(ImageFault::Truncated);
+    }
+    if !has_magic(bytes) {
+        return Err(ImageFault::BadMagic);
+    }
+    let header = read_header(bytes);
+    if header.layout != LAYOUT {
+        return Err(ImageFault::BadLayout(header.layout));
+    }
+    Ok(header)
+}
+
+/// Whether the first bytes are those of an image.
+fn has_magic(bytes: &[u8]) -> bool
+    ensures { IsTrue result ↔ (take 8 bytes.now ≡ image_magic) }
+{
+    bytes.starts_with(&MAGIC)
+}
+
+/// The tests of the length and the digest, and where the sections end.
+pub(crate) fn check_ends(bytes: &[u8], header: &Header) -> Result<[usize; 9], ImageFault>
+    requires layout { header.now.layout ≡ 3 }
+    requires header { IsHeaderOf header.now (header_of bytes.now) }
+    ensures { MatchResult result (λ ends. PassAll (end_tests (header_of bytes.now) bytes.now) × AreEnds ends (header_of bytes.now) × (section_end (header_of bytes.now) 8 ≤ length bytes.now)) (IsFirstTold (end_tests (header_of bytes.now) bytes.now)) }
+{
+    let length = bytes.len();
+    let Some(ends) = section_ends(header) else {
+        return Err(ImageFault::Truncated);
+    };
+    let end = ends[8];
+    if length < end || length - end < DIGEST_LENGTH {
+        return Err(ImageFault::Truncated);
+    }
+    if length - end > DIGEST_LENGTH {
+        return Err(ImageFault::BadSection(9));
+    }
+    if !is_digest_from(bytes, end) {
+        return Err(ImageFault::Digest);
+    }
+    Ok(ends)
+}
+
+/// Whether the bytes from a place on are the digest of those before it. (FIPS 180-4)
+fn is_digest_from(bytes: &[u8], end: usize) -> bool
+    requires { end ≤ length bytes.now }
+    ensures { IsTrue result ↔ (drop end bytes.now ≡ sha256 (take end bytes.now)) }
+{
+    let digest = Sha256::digest(&bytes[..end]);
+    &bytes[end..] == &digest[..]
+}

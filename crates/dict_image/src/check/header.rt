@@ -1,0 +1,67 @@
+//! The numbers of a header, within their bounds.
+ghost use Rattle.std.specs.Prelude.{◌≡◌, ◌↔◌, false, IsTrue, MatchResult};
+ghost use Rattle.mj_model.specs.ImageBytes.{kind_of};
+ghost use Rattle.mj_model.specs.ImageFaults.{AreCounts, IsHeader, PassAll, IsFirstTold};
+ghost use Rattle.mj_model.specs.Tables.{System, User};
+ghost use Rattle.dict_image.specs.Stages.{stated, header_tests};
+
+use image_bytes::Header;
+use mj_model::{CATEGORIES_MAX, ENTRIES_MAX, ImageFault, MATRIX_CELLS_MAX};
+
+/// The most ids of a side of the connection table.
+const SIZE_MAX: u32 = 65_535;
+
+/// The test of the header's numbers.
+pub(crate) fn check_header(header: &Header) -> Result<(), ImageFault>
+    ensures { MatchResult result (λ _. PassAll (header_tests (stated header.now))) (IsFirstTold (header_tests (stated header.now))) }
+{
+    if is_header(header) {
+        Ok(())
+    } else {
+        Err(ImageFault::BadSection(0))
+    }
+}
+
+/// Whether the numbers of a header are within their bounds.
+fn is_header(header: &Header) -> bool
+    ensures { IsTrue result ↔ IsHeader (stated header.now) }
+{
+    let Header {
+        kind,
+        right,
+        left,
+        groups,
+        tokens,
+        unknown,
+        ..
+    } = *header;
+    kind <= 1
+        && right >= 1
+        && right <= SIZE_MAX
+        && left >= 1
+        && left <= SIZE_MAX
+        && u64::from(right) * u64::from(left) <= MATRIX_CELLS_MAX
+        && are_counts(header)
+        && groups <= tokens
+        && tokens as usize <= ENTRIES_MAX
+        && unknown as usize <= ENTRIES_MAX
+}
+
+/// Whether a dictionary of this kind may have so many categories and unknown tokens.
+fn are_counts(header: &Header) -> bool
+    ensures { IsTrue result ↔ AreCounts (kind_of (stated header.now)) header.now.categories header.now.unknown }
+{
+    if is_user(header) {
+        header.categories == 0 && header.unknown == 0
+    } else {
+        header.categories >= 1 && header.categories as usize <= CATEGORIES_MAX
+    }
+}
+
+/// Whether the dictionary is a user's.
+pub(crate) fn is_user(header: &Header) -> bool
+    ensures user { IsTrue result → kind_of (stated header.now) ≡ User }
+    ensures system { result ≡ false → kind_of (stated header.now) ≡ System }
+{
+    header.kind == 1
+}

@@ -1,0 +1,56 @@
+//! Sections 5 to 8: cells and keys, groups, tokens and features.
+ghost use Rattle.std.specs.Prelude.{◌≡◌, ◌⊎◌, MatchResult};
+ghost use Rattle.mj_model.specs.ImageFaults.{IsHeader, PassAll, IsFirstTold};
+ghost use Rattle.mj_model.specs.declared.image_fault.ImageFault.TheVariants.{Memory};
+ghost use Rattle.dict_image.specs.Stages.{stated, key_tests, token_tests};
+
+use crate::check::index::is_index;
+use crate::check::keys::first_without_key;
+use crate::check::tokens::{first_misfit, first_without_feature};
+use crate::check::values::value_places;
+use image_bytes::{Header, ImageCells};
+use mj_model::ImageFault;
+use std::alloc::Global;
+
+/// The tests of the cells, and of each group's key.
+pub(crate) fn check_keys(alloc: Global, groups: u32, cells: &[u8]) -> Result<(), ImageFault>
+    ensures { MatchResult result (λ _. PassAll (key_tests groups cells.now)) (λ fault. (fault ≡ Memory) ⊎ IsFirstTold (key_tests groups cells.now) fault) }
+{
+    let Ok(found) = value_places(alloc, groups, cells) else {
+        return Err(ImageFault::Memory);
+    };
+    let Some(places) = found else {
+        return Err(ImageFault::BadSection(5));
+    };
+    match first_without_key(alloc, groups, &ImageCells { bytes: cells }, &places) {
+        Ok(None) => Ok(()),
+        Ok(Some(group)) => Err(ImageFault::BadKey(group)),
+        Err(_) => Err(ImageFault::Memory),
+    }
+}
+
+/// The tests of the groups' tokens, and of each token and its feature.
+pub(crate) fn check_tokens(
+    header: &Header,
+    groups: &[u8],
+    tokens: &[u8],
+    features: &[u8],
+) -> Result<(), ImageFault>
+    requires { IsHeader (stated header.now) }
+    ensures { MatchResult result (λ _. PassAll (token_tests (stated header.now) groups.now tokens.now features.now)) (IsFirstTold (token_tests (stated header.now) groups.now tokens.now features.now)) }
+{
+    let count = header.tokens + header.unknown;
+    if !is_index(header.groups, 0, header.tokens as usize, groups) {
+        return Err(ImageFault::BadSection(6));
+    }
+    if tokens.len() != 16 * count as usize {
+        return Err(ImageFault::BadSection(7));
+    }
+    if let Some(token) = first_misfit(header.right, header.left, count, tokens) {
+        return Err(ImageFault::BadToken(token));
+    }
+    match first_without_feature(count, tokens, features) {
+        Some(token) => Err(ImageFault::BadText(token)),
+        None => Ok(()),
+    }
+}

@@ -1,0 +1,62 @@
+//! The categories of code points, in ranges.
+ghost use Rattle.std.specs.Prelude.{ℕ, suc, ◌+◌, ◌*◌, ◌/◌, ◌%◌, ◌<◌, ◌≤◌, ◌↔◌, length, IsTrue};
+ghost use Rattle.mj_model.specs.ImageSections.{AreRanges, IsInfoOf, info_of_entry, range_at};
+ghost use Rattle.dict_image.specs.CheckedRanges.{IsRangeOf};
+
+use image_bytes::u32_at;
+
+/// The highest code point of Unicode.
+const CODE_POINT_MAX: u32 = 0x10_FFFF;
+
+/// Whether ranges of 8 bytes, the first from code point 0 and each further one behind the one before it, name categories below a
+/// number of at most 18.
+pub(crate) fn are_ranges(categories: u32, ranges: &[u8]) -> bool
+    requires { categories ≤ 18 }
+    ensures { IsTrue result ↔ AreRanges categories ranges.now }
+{
+    ranges.len() % 8 == 0
+        && !ranges.is_empty()
+        && u32_at(ranges, 0) == 0
+        && is_rising(ranges)
+        && are_within(categories, ranges)
+}
+
+/// Whether each range begins behind the one before it.
+fn is_rising(ranges: &[u8]) -> bool
+    ensures { IsTrue result ↔ ((i : ℕ) → suc i < length ranges.now / 8 → (range_at ranges.now i).first < (range_at ranges.now (suc i)).first) }
+{
+    for i in 1..ranges.len() / 8 {
+        if u32_at(ranges, 8 * (i - 1)) >= u32_at(ranges, 8 * i) {
+            return false;
+        }
+    }
+    true
+}
+
+/// Whether each range begins at a code point, and names categories below a number.
+fn are_within(categories: u32, ranges: &[u8]) -> bool
+    requires { categories ≤ 18 }
+    ensures { IsTrue result ↔ ((i : ℕ) → i < length ranges.now / 8 → IsRangeOf categories (range_at ranges.now i)) }
+{
+    for i in 0..ranges.len() / 8 {
+        if u32_at(ranges, 8 * i) > CODE_POINT_MAX
+            || !is_info(categories, u32_at(ranges, 8 * i + 4))
+        {
+            return false;
+        }
+    }
+    true
+}
+
+/// Whether the first category of an entry is in its set, and the set has only categories below a number of at most 18.
+fn is_info(categories: u32, entry: u32) -> bool
+    requires { categories ≤ 18 }
+    ensures { IsTrue result ↔ IsInfoOf categories (info_of_entry entry) }
+{
+    let bits = entry % (1 << 18);
+    let head = entry >> 18;
+    if head >= categories {
+        return false;
+    }
+    bits < 1 << categories && (bits >> head) & 1 == 1
+}

@@ -1,0 +1,86 @@
+//! Sections 1 to 4, which a user dictionary leaves empty.
+ghost use Rattle.std.specs.Prelude.{◌↔◌, IsTrue, MatchResult};
+ghost use Rattle.mj_model.specs.ImageBytes.{all_tokens, kind_of};
+ghost use Rattle.mj_model.specs.ImageFaults.{IsHeader, SystemAlone, PassAll, IsFirstTold};
+ghost use Rattle.mj_model.specs.ImageSections.{AreCosts, AreCategories, AreRanges, IsIndex};
+ghost use Rattle.dict_image.specs.Stages.{stated, system_tests};
+
+use crate::check::categories::are_categories;
+use crate::check::header::is_user;
+use crate::check::index::is_index;
+use crate::check::ranges::are_ranges;
+use image_bytes::Header;
+use mj_model::ImageFault;
+
+/// The tests of connection costs, categories, the categories of code points, and the index of unknown tokens.
+pub(crate) fn check_system(
+    header: &Header,
+    costs: &[u8],
+    categories: &[u8],
+    ranges: &[u8],
+    index: &[u8],
+) -> Result<(), ImageFault>
+    requires { IsHeader (stated header.now) }
+    ensures { MatchResult result (λ _. PassAll (system_tests (stated header.now) costs.now categories.now ranges.now index.now)) (IsFirstTold (system_tests (stated header.now) costs.now categories.now ranges.now index.now)) }
+{
+    if !has_costs(header, costs) {
+        return Err(ImageFault::BadSection(1));
+    }
+    if !has_categories(header, categories) {
+        return Err(ImageFault::BadSection(2));
+    }
+    if !has_ranges(header, ranges) {
+        return Err(ImageFault::BadSection(3));
+    }
+    if !has_index(header, index) {
+        return Err(ImageFault::BadSection(4));
+    }
+    Ok(())
+}
+
+/// Whether section 1 has a cost of 2 bytes for each pair of ids.
+fn has_costs(header: &Header, costs: &[u8]) -> bool
+    requires { IsHeader (stated header.now) }
+    ensures { IsTrue result ↔ SystemAlone (kind_of (stated header.now)) (AreCosts (stated header.now).sizes) costs.now }
+{
+    if is_user(header) {
+        costs.is_empty()
+    } else {
+        costs.len() == 2 * (header.right as usize * header.left as usize)
+    }
+}
+
+/// Whether section 2 has the categories.
+fn has_categories(header: &Header, categories: &[u8]) -> bool
+    ensures { IsTrue result ↔ SystemAlone (kind_of (stated header.now)) (AreCategories header.now.categories) categories.now }
+{
+    if is_user(header) {
+        categories.is_empty()
+    } else {
+        are_categories(header.categories, categories)
+    }
+}
+
+/// Whether section 3 has ranges of code points.
+fn has_ranges(header: &Header, ranges: &[u8]) -> bool
+    requires { IsHeader (stated header.now) }
+    ensures { IsTrue result ↔ SystemAlone (kind_of (stated header.now)) (AreRanges header.now.categories) ranges.now }
+{
+    if is_user(header) {
+        ranges.is_empty()
+    } else {
+        are_ranges(header.categories, ranges)
+    }
+}
+
+/// Whether section 4 shares out the unknown tokens to the categories.
+fn has_index(header: &Header, index: &[u8]) -> bool
+    ensures { IsTrue result ↔ SystemAlone (kind_of (stated header.now)) (IsIndex header.now.categories header.now.tokens (all_tokens (stated header.now))) index.now }
+{
+    if is_user(header) {
+        index.is_empty()
+    } else {
+        let end = header.tokens as usize + header.unknown as usize;
+        is_index(header.categories, header.tokens, end, index)
+    }
+}

@@ -1,0 +1,74 @@
+//! Images and what they are made of.
+use sha2::{Digest, Sha256};
+use std::alloc::{AllocError, Global};
+
+/// Bytes that replace those from a place on.
+pub(crate) type Change<'a> = (usize, &'a [u8]);
+
+/// A header and sections. The numbers are the layout, the kind, the sizes R and F, and how many categories, groups, tokens and unknown
+/// tokens there are.
+pub(crate) fn image(
+    alloc: Global,
+    numbers: [u32; 8],
+    sections: [&[u8]; 8],
+) -> Result<Vec<u8>, AllocError> {
+    let mut bytes = Vec::new(alloc);
+    bytes.extend_from_slice(b"MJDICT\r\n")?;
+    for number in numbers {
+        bytes.extend_from_slice(&number.to_le_bytes())?;
+    }
+    for section in sections {
+        bytes.extend_from_slice(&(section.len() as u64).to_le_bytes())?;
+    }
+    for section in sections {
+        bytes.extend_from_slice(section)?;
+    }
+    Ok(bytes)
+}
+
+/// The bytes with some changes.
+pub(crate) fn changed(
+    alloc: Global,
+    bytes: &[u8],
+    changes: &[Change<'_>],
+) -> Result<Vec<u8>, AllocError> {
+    let mut new = Vec::new(alloc);
+    for (place, old) in bytes.iter().enumerate() {
+        let mut byte = *old;
+        for (at, with) in changes {
+            if place >= *at {
+                byte = with.get(place - *at).copied().unwrap_or(byte);
+            }
+        }
+        new.push(byte)?;
+    }
+    Ok(new)
+}
+
+/// The bytes with their digest behind them.
+pub(crate) fn sealed(alloc: Global, bytes: &[u8]) -> Result<Vec<u8>, AllocError> {
+    let mut new = Vec::new(alloc);
+    new.extend_from_slice(bytes)?;
+    new.extend_from_slice(&Sha256::digest(bytes))?;
+    Ok(new)
+}
+
+/// The user image of the one surface `a`, without its digest: 929 bytes. Cell 0 is (1, -2), cell 1 is (-1, 99), cell 99 is (1, 0), and
+/// the other ones of 100 are free.
+pub(crate) fn one_surface(alloc: Global) -> Result<Vec<u8>, AllocError> {
+    let mut cells = Vec::new(alloc);
+    for number in 0..100_u8 {
+        let (base, check): (i32, i32) = match number {
+            0 => (1, -2),
+            1 => (-1, 99),
+            99 => (1, 0),
+            _ => (0, -1),
+        };
+        cells.extend_from_slice(&base.to_le_bytes())?;
+        cells.extend_from_slice(&check.to_le_bytes())?;
+    }
+    let groups = b"\0\0\0\0\x01\0\0\0";
+    let tokens = b"\x01\0\x01\0\x01\0\0\0\0\0\0\0\x01\0\0\0";
+    let sections = [b"".as_slice(), b"", b"", b"", &cells, groups, tokens, b"X"];
+    image(alloc, [3, 1, 2, 2, 0, 1, 1, 0], sections)
+}

@@ -1,7 +1,0 @@
-use Rattle.std.proofs.Common.{below_more}
-use Rattle.mj_model.specs.ImageFaults.{HasKey}
-use Rattle.mj_model.specs.ImageSections.{stored_cells}
-use Rattle.image_check.proofs.keys.without_key.Goals as goal
-
-pub loop-group-preserved : goal.loop-group-preserved
-loop-group-preserved c = below_more (HasKey (stored_cells c.args.cells.now.bytes.now)) c.loop-group.group c.loop-group.invariant (c.has_key.ensures.0 c.if-not-has_key.false)

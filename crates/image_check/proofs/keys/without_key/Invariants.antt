@@ -1,7 +1,0 @@
-use Rattle.std.proofs.Common.{ℕ, ◌<◌}
-use Rattle.mj_model.specs.ImageFaults.{HasKey}
-use Rattle.mj_model.specs.ImageSections.{stored_cells}
-use Rattle.image_check.proofs.keys.without_key.Given as goal
-
-abbrev pub invariant-loop-group : goal.invariant-loop-group
-invariant-loop-group l = (g : ℕ) → g < l.group → HasKey (stored_cells l.cells.bytes.now) g

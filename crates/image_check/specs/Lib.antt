@@ -1,6 +1,0 @@
-pub mod Ranges
-pub mod Categories
-pub mod Cells
-pub mod Values
-pub mod Keys
-pub mod Stages
