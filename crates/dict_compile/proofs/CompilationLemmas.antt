@@ -19,10 +19,10 @@ use Rattle.dictionary_sources.specs.Parts.{AreParts}
 use Rattle.dictionary_sources.specs.declared.parts.SourceParts.{SourceParts}
 use Rattle.dictionary_sources.proofs.ConnectionLemmas.{costs_are, sizes_are}
 use Rattle.mj_model.specs.FirstFault.{IsRefusal}
-use Rattle.image_lexicon.specs.declared.fault.LexiconFault.{LexiconFault}
-use Rattle.image_lexicon.specs.declared.fault.LexiconFault.TheVariants as lexicon
+use Rattle.image_writer.specs.declared.fault.LexiconFault.{LexiconFault}
+use Rattle.image_writer.specs.declared.fault.LexiconFault.TheVariants as lexicon
 use Rattle.dict_compile.specs.Faults.{fault_told}
-use Rattle.image_lexicon.specs.Entries.{all_rows, lexemes_of, tokens_of}
+use Rattle.image_writer.specs.Entries.{all_rows, lexemes_of, tokens_of}
 use Rattle.image_writer.specs.SystemImages.{tables_with}
 use Rattle.dict_compile.specs.Images.{HaveTooLarge, IsImageOf, MayLackCells}
 use Rattle.dict_compile.specs.declared.compiled.Compiled.{Compiled}

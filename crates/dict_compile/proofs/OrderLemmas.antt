@@ -14,7 +14,7 @@ use Rattle.std.proofs.lemmas.List.Sorted.{ranks_by, sorted_far}
 use Rattle.mj_model.specs.Dictionary.{IsInOrder, IsLexiconOf, lexeme_of, surface_of}
 use Rattle.mj_model.specs.Lexicon.{Row}
 use Rattle.mj_model.specs.Tables.{Lexeme}
-use Rattle.image_lexicon.specs.Entries.{lexemes_of}
+use Rattle.image_writer.specs.Entries.{lexemes_of}
 
 -- ---- lists of one order
 

@@ -10,7 +10,7 @@ use Rattle.mj_model.specs.declared.entry.Record.{Record}
 use Rattle.mj_model.specs.Lexicon.{Row, row_of, rows_of}
 use Rattle.std.proofs.lemmas.List.{length-map}
 use Rattle.dictionary_sources.specs.AcceptedRows.{HasIdsWithin, IsLexiconRow, AreLexiconRows}
-use Rattle.image_lexicon.specs.Entries.{HasKeySurface, all_rows}
+use Rattle.image_writer.specs.Entries.{HasKeySurface, all_rows}
 use Rattle.image_writer.specs.Ids.{IsWithin, AreWithin}
 
 at_each : {X : Type 0} (P : X → Type 0) (xs : List X) → AllByRecursion P xs → All P xs

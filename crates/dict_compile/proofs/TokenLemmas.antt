@@ -8,7 +8,7 @@ use Rattle.mj_model.specs.Dictionary.{lexeme_of}
 use Rattle.mj_model.specs.Lexicon.{Row}
 use Rattle.mj_model.specs.Tables.{Lexeme, Token}
 use Rattle.mj_model.specs.UnkDef.{token_of, tokens_from, unknown_tokens}
-use Rattle.image_lexicon.specs.Entries.{all_rows, lexemes_of, tokens_of}
+use Rattle.image_writer.specs.Entries.{all_rows, lexemes_of, tokens_of}
 use Rattle.image_writer.proofs.RowLemmas.{joined}
 
 -- ---- numbered rows

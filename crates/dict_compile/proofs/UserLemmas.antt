@@ -12,9 +12,9 @@ use Rattle.mj_model.specs.ImageMeaning.{image_lexicon, image_tables}
 use Rattle.mj_model.specs.Lexicon.{Row, row_of, rows_of}
 use Rattle.mj_model.specs.Tables.{Tables, Lexeme, Token, User}
 use Rattle.dictionary_sources.specs.declared.lexicons.LexiconRecords.{LexiconRecords}
-use Rattle.image_lexicon.specs.declared.fault.LexiconFault.{LexiconFault}
-use Rattle.image_lexicon.specs.declared.fault.LexiconFault.TheVariants as lexicon
-use Rattle.image_lexicon.specs.Entries.{lexemes_of, tokens_of}
+use Rattle.image_writer.specs.declared.fault.LexiconFault.{LexiconFault}
+use Rattle.image_writer.specs.declared.fault.LexiconFault.TheVariants as lexicon
+use Rattle.image_writer.specs.Entries.{lexemes_of, tokens_of}
 use Rattle.dict_compile.specs.Answers.{IsToldFor}
 use Rattle.dict_compile.specs.Faults.{fault_told}
 use Rattle.dict_compile.specs.Images.{MayLackCells}

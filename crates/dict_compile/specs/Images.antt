@@ -9,8 +9,8 @@ use Rattle.matrix_def.specs.Connections.{sizes_of}
 use Rattle.char_def.specs.Categories.{table_info}
 use Rattle.dictionary_sources.specs.AcceptedRows.{AreLexiconRows, AreUnknownRows}
 use Rattle.dictionary_sources.specs.declared.parts.SourceParts.{SourceParts}
-use Rattle.image_lexicon.specs.Entries.{all_rows, lexemes_of}
-use Rattle.image_lexicon.specs.Sections.{IsTooLarge}
+use Rattle.image_writer.specs.Entries.{all_rows, lexemes_of}
+use Rattle.image_writer.specs.Sections.{IsTooLarge}
 use Rattle.image_writer.specs.SystemImages.{IsSystemImage}
 use Rattle.dict_compile.specs.declared.compiled.Compiled.{Compiled}
 

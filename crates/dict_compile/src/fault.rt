@@ -3,7 +3,7 @@
 ghost use Rattle.std.specs.Prelude.{◌≡◌};
 ghost use Rattle.dict_compile.specs.Faults.{fault_told};
 
-use image_lexicon::LexiconFault;
+use image_writer::LexiconFault;
 use mj_model::{NamedFault, SourceFault, SourceKind};
 use thiserror::Error;
 

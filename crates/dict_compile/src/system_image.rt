@@ -2,14 +2,13 @@
 
 ghost use Rattle.std.specs.Prelude.{◌≡◌, IfOk, IfErr};
 ghost use Rattle.mj_model.specs.Lexicon.{rows_of};
-ghost use Rattle.image_lexicon.specs.declared.fault.LexiconFault.TheVariants.{ArrayFull, FeaturesTooLarge};
+ghost use Rattle.image_writer.specs.declared.fault.LexiconFault.TheVariants.{ArrayFull, FeaturesTooLarge};
 ghost use Rattle.dict_compile.specs.Images.{AreStorable, HaveTooLarge, IsImageOf, MayLackCells};
 
 use crate::compiled::Compiled;
 use crate::sorting::in_order;
 use dictionary_sources::SourceParts;
-use image_lexicon::LexiconFault;
-use image_writer::write_system;
+use image_writer::{LexiconFault, write_system};
 use std::alloc::Global;
 
 /// The image of a system dictionary, whose entries are sorted once.

@@ -4,7 +4,7 @@ ghost use Rattle.std.specs.Prelude.{◌≡◌, IfOk, IfErr};
 ghost use Rattle.mj_model.specs.Lexicon.{rows_of};
 ghost use Rattle.dictionary_sources.specs.AcceptedRows.{AreLexiconRows};
 ghost use Rattle.dictionary_sources.specs.IdSizes.{sizes_in};
-ghost use Rattle.image_lexicon.specs.declared.fault.LexiconFault.TheVariants.{ArrayFull, FeaturesTooLarge};
+ghost use Rattle.image_writer.specs.declared.fault.LexiconFault.TheVariants.{ArrayFull, FeaturesTooLarge};
 ghost use Rattle.image_writer.specs.Ids.{AreHeaderSizes};
 ghost use Rattle.dict_compile.specs.Images.{MayLackCells};
 ghost use Rattle.dict_compile.specs.UserImages.{HasTooLarge, IsUserImageOf};
@@ -12,8 +12,7 @@ ghost use Rattle.dict_compile.specs.UserImages.{HasTooLarge, IsUserImageOf};
 use crate::compiled::Compiled;
 use crate::sorting::in_order;
 use dictionary_sources::{IdSizes, LexiconRecords};
-use image_lexicon::LexiconFault;
-use image_writer::write_user;
+use image_writer::{LexiconFault, write_user};
 use std::alloc::Global;
 
 /// The image of a user dictionary, whose entries are sorted once.

@@ -5,7 +5,7 @@ use Rattle.mj_model.specs.declared.image_fault.ImageFault.TheVariants.{BadSectio
 use Rattle.mj_model.specs.ImageBytes.{Header, header_length, header_of, image_magic, kind_of, all_tokens, section, section_end, total_length}
 use Rattle.mj_model.specs.ImageFaults.{Test, unless, unless_each, HasKey, IsHeader, IsWellFormed, PassAll, SystemAlone}
 use Rattle.mj_model.specs.ImageSections.{AreCategories, AreCosts, AreRanges, FitsSizes, HasFeature, HoldGroups, IsIndex, stored_cells, stored_token}
-use Rattle.image_frame.specs.Frames.{IsFramed, Numbers}
+use Rattle.image_writer.specs.Frames.{IsFramed, Numbers}
 
 -- section k of some
 abbrev pub at : List (List ℕ) → ℕ → List ℕ

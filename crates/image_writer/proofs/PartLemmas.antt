@@ -8,10 +8,10 @@ use Rattle.mj_model.specs.ImageFaults.{AreCounts, IsHeader, IsWellFormed, PassAl
 use Rattle.mj_model.specs.ImageSections.{AreCategories, AreCosts, AreRanges, FitsSizes, HasFeature, IsIndex, stored_token}
 use Rattle.mj_model.specs.Lexicon.{Row}
 use Rattle.mj_model.specs.Tables.{Kind, Token}
-use Rattle.image_frame.specs.Frames.{IsFramed, Numbers}
-use Rattle.image_lexicon.specs.declared.lexicon.LexiconBytes.{LexiconBytes}
-use Rattle.image_lexicon.specs.Entries.{all_rows}
-use Rattle.image_lexicon.specs.Sections.{AreSections}
+use Rattle.image_writer.specs.Frames.{IsFramed, Numbers}
+use Rattle.image_writer.specs.declared.lexicon.LexiconBytes.{LexiconBytes}
+use Rattle.image_writer.specs.Entries.{all_rows}
+use Rattle.image_writer.specs.Sections.{AreSections}
 use Rattle.image_writer.specs.Ids.{AreHeaderSizes, AreWithin, IsWithin}
 use Rattle.image_writer.proofs.FormedLemmas.{eight_of, at, formed_of, header_with, part_tests}
 use Rattle.image_writer.proofs.RowLemmas.{count_all, each_row, some_row}

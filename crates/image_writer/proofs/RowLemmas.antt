@@ -8,7 +8,7 @@ use Rattle.std.proofs.lemmas.List.Sums.{sum_by-cons}
 use Rattle.mj_model.specs.Lexicon.{Row}
 use Rattle.mj_model.specs.Tables.{Token}
 use Rattle.mj_model.specs.UnkDef.{token_of, tokens_from}
-use Rattle.image_lexicon.specs.Entries.{all_rows}
+use Rattle.image_writer.specs.Entries.{all_rows}
 
 abbrev pub joined : List (List Row) → List Row
 joined unknown = flat_map (λ (rows : List Row). rows) unknown

@@ -11,9 +11,9 @@ use Rattle.mj_model.specs.ImageSections.{index_at, stored_cost, token_from}
 use Rattle.mj_model.specs.Lexicon.{Row}
 use Rattle.mj_model.specs.UnkDef.{unknown_tokens}
 use Rattle.matrix_def.specs.Costs.{CostTable, matrix_cost}
-use Rattle.image_tables.specs.StoredTables.{AreCostsOf, AreUnknownOf, sizes_of}
-use Rattle.image_lexicon.specs.Entries.{all_rows}
-use Rattle.image_lexicon.specs.Sections.{HoldTokens}
+use Rattle.image_writer.specs.StoredTables.{AreCostsOf, AreUnknownOf, sizes_of}
+use Rattle.image_writer.specs.Entries.{all_rows}
+use Rattle.image_writer.specs.Sections.{HoldTokens}
 use Rattle.image_writer.proofs.RowLemmas.{get_behind, get_joined, joined, tokens_at, tokens_of_rows}
 
 -- connection costs as functions

@@ -7,10 +7,10 @@ use Rattle.mj_model.specs.ImageBytes.{kind_of}
 use Rattle.mj_model.specs.ImageMeaning.{lexicon_in}
 use Rattle.mj_model.specs.Lexicon.{Row}
 use Rattle.mj_model.specs.Tables.{User}
-use Rattle.image_frame.specs.Frames.{IsFramed, Numbers}
-use Rattle.image_lexicon.specs.declared.lexicon.LexiconBytes.{LexiconBytes}
-use Rattle.image_lexicon.specs.Entries.{lexemes_of, tokens_of}
-use Rattle.image_lexicon.specs.Sections.{AreSections}
+use Rattle.image_writer.specs.Frames.{IsFramed, Numbers}
+use Rattle.image_writer.specs.declared.lexicon.LexiconBytes.{LexiconBytes}
+use Rattle.image_writer.specs.Entries.{lexemes_of, tokens_of}
+use Rattle.image_writer.specs.Sections.{AreSections}
 use Rattle.image_writer.specs.Ids.{AreHeaderSizes, AreWithin}
 use Rattle.image_writer.specs.UserImages.{IsUserImage}
 use Rattle.image_writer.proofs.FormedLemmas.{at, from_parts}

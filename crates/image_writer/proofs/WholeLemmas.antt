@@ -12,11 +12,11 @@ use Rattle.mj_model.specs.SourceTables.{SayTheSame}
 use Rattle.mj_model.specs.Tables.{Tables}
 use Rattle.matrix_def.specs.Costs.{CostTable, IsMatrix}
 use Rattle.char_def.specs.Categories.{CharCategories}
-use Rattle.image_frame.specs.Frames.{IsFramed, Numbers}
-use Rattle.image_tables.specs.StoredTables.{AreCategoriesOf, AreCostsOf, AreRangesOf, AreUnknownOf, sizes_of}
-use Rattle.image_lexicon.specs.declared.lexicon.LexiconBytes.{LexiconBytes}
-use Rattle.image_lexicon.specs.Entries.{all_rows}
-use Rattle.image_lexicon.specs.Sections.{AreSections}
+use Rattle.image_writer.specs.Frames.{IsFramed, Numbers}
+use Rattle.image_writer.specs.StoredTables.{AreCategoriesOf, AreCostsOf, AreRangesOf, AreUnknownOf, sizes_of}
+use Rattle.image_writer.specs.declared.lexicon.LexiconBytes.{LexiconBytes}
+use Rattle.image_writer.specs.Entries.{all_rows}
+use Rattle.image_writer.specs.Sections.{AreSections}
 use Rattle.image_writer.specs.Ids.{AreWithin}
 use Rattle.image_writer.specs.SystemImages.{IsSystemImage, tables_with}
 use Rattle.image_writer.proofs.FormedLemmas.{at, eight_of, from_parts, header_with}

@@ -12,8 +12,8 @@ use Rattle.mj_model.specs.Tables.{Tables, System}
 use Rattle.mj_model.specs.UnkDef.{unknown_tokens}
 use Rattle.matrix_def.specs.Costs.{CostTable, matrix_cost}
 use Rattle.char_def.specs.Categories.{CharCategories, table_info}
-use Rattle.image_tables.specs.StoredTables.{sizes_of}
-use Rattle.image_lexicon.specs.Entries.{all_rows, lexemes_of, tokens_of}
+use Rattle.image_writer.specs.StoredTables.{sizes_of}
+use Rattle.image_writer.specs.Entries.{all_rows, lexemes_of, tokens_of}
 
 -- the tables of a system dictionary, part by part
 abbrev pub tables_with : CostTable → CharCategories → List (List Row) → List Row → Tables

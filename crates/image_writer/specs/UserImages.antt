@@ -7,7 +7,7 @@ use Rattle.mj_model.specs.ImageFaults.{IsWellFormed}
 use Rattle.mj_model.specs.ImageMeaning.{image_lexicon, image_tables}
 use Rattle.mj_model.specs.Lexicon.{Row}
 use Rattle.mj_model.specs.Tables.{User}
-use Rattle.image_lexicon.specs.Entries.{lexemes_of, tokens_of}
+use Rattle.image_writer.specs.Entries.{lexemes_of, tokens_of}
 
 -- a well-formed image of layout 3 of a user dictionary with these sizes and these entries
 pub record IsUserImage (sizes : MatrixSizes) (rows : List Row) (image : List ℕ) : Type 0 where

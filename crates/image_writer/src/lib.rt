@@ -1,9 +1,24 @@
-//! Whole images, from what the sources of a dictionary say.
+//! The images of system and user dictionaries: the header, the sections of what the sources say, and the digest.
 #![tactic(auto)]
 
+mod categories;
+mod cell_bytes;
+mod costs;
+mod fault;
+mod features;
+mod frame;
+mod group_bytes;
+mod groups;
+mod header;
+mod keys;
+mod lexicon;
+mod ranges;
 mod system;
+mod tokens;
+mod unknown_index;
 mod user;
 
+pub use fault::LexiconFault;
 pub use system::write_system;
 pub use user::write_user;
 

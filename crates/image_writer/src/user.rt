@@ -6,14 +6,16 @@ ghost use Rattle.mj_model.specs.Compilation.{cells_max, most_cells};
 ghost use Rattle.mj_model.specs.Dictionary.{surface_of};
 ghost use Rattle.mj_model.specs.Lexicon.{rows_of};
 ghost use Rattle.mj_model.specs.declared.limits.TheConstants.{ENTRIES_MAX as EntriesMax};
-ghost use Rattle.image_lexicon.specs.Entries.{HasKeySurface, lexemes_of};
-ghost use Rattle.image_lexicon.specs.Sections.{IsTooLarge};
-ghost use Rattle.image_lexicon.specs.declared.fault.LexiconFault.TheVariants.{ArrayFull, FeaturesTooLarge};
+ghost use Rattle.image_writer.specs.Entries.{HasKeySurface, lexemes_of};
+ghost use Rattle.image_writer.specs.Sections.{IsTooLarge};
+ghost use Rattle.image_writer.specs.declared.fault.LexiconFault.TheVariants.{ArrayFull, FeaturesTooLarge};
 ghost use Rattle.image_writer.specs.Ids.{AreHeaderSizes, AreWithin};
 ghost use Rattle.image_writer.specs.UserImages.{IsUserImage};
 
-use image_frame::{Numbers, write_image};
-use image_lexicon::{LexiconFault, write_user_lexicon};
+use crate::fault::LexiconFault;
+use crate::frame::write_image;
+use crate::header::Numbers;
+use crate::lexicon::write_user_lexicon;
 use mj_model::Record;
 use std::alloc::Global;
 

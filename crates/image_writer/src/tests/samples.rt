@@ -5,8 +5,8 @@ ghost use Rattle.std.specs.Ordering.{nat_cmp, is_lt};
 ghost use Rattle.mj_model.specs.Dictionary.{surface_of};
 ghost use Rattle.mj_model.specs.Lexicon.{row_of, rows_of};
 ghost use Rattle.mj_model.specs.declared.limits.TheConstants.{ENTRIES_MAX as EntriesMax};
-ghost use Rattle.image_lexicon.specs.Entries.{HasKeySurface, no_row, surface_at};
-ghost use Rattle.image_lexicon.specs.Samples.{FitsAt};
+ghost use Rattle.image_writer.specs.Entries.{HasKeySurface, no_row, surface_at};
+ghost use Rattle.image_writer.specs.Samples.{FitsAt};
 ghost use Rattle.image_writer.specs.Ids.{AreWithin, IsWithin};
 
 use mj_model::{ENTRIES_MAX, Entry, Record, SURFACE_MAX};
@@ -16,6 +16,13 @@ use std::test::Fail;
 
 /// A line of a lexicon: surface, left id, right id, cost and feature.
 pub type Line<'a> = (&'a str, u16, u16, i16, &'a str);
+
+/// The lines of the sample's lexicon.
+pub const SAMPLE: [Line<'static>; 3] = [
+    ("すもも", 1, 1, 100, "名詞,すもも"),
+    ("も", 1, 1, 20, "助詞,も"),
+    ("もも", 1, 1, 30, "名詞,もも"),
+];
 
 /// The lines as records. Their ids lie within the sizes.
 pub fn records(

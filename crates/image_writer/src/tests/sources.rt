@@ -8,22 +8,20 @@ use crate::tests::samples::{Line, are_within, records};
 use crate::write_system;
 use char_def::{UnkTable, read_chars, read_unk};
 use matrix_def::read_matrix;
-use mj_model::Record;
+use mj_model::{Record, Sources};
 use std::alloc::Global;
 use std::test::Fail;
 
-/// The image of `matrix.def`, `char.def`, `unk.def` and these lines.
+/// The image of the sources, with these lines as the lexicon.
 pub fn write_sources(
     alloc: Global,
-    matrix: &[u8],
-    chars: &[u8],
-    unknown: &[u8],
+    sources: Sources<'_>,
     lines: &[Line<'_>],
 ) -> Result<Vec<u8>, Fail> {
-    let matrix = read_matrix(alloc, matrix)?;
+    let matrix = read_matrix(alloc, sources.matrix)?;
     let (right_size, left_size) = matrix.sizes();
-    let chars = read_chars(alloc, chars)?;
-    let unknown = read_unk(alloc, unknown, &chars)?;
+    let chars = read_chars(alloc, sources.chars)?;
+    let unknown = read_unk(alloc, sources.unk, &chars)?;
     let lexicon = records(alloc, right_size, left_size, lines)?;
     let count = chars.count();
     if count == 0 || !are_unknown(&unknown, count, right_size, left_size) {

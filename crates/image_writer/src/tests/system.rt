@@ -1,16 +1,12 @@
-//! The image of the sample's sources, byte for byte but for the cells of its keys.
+//! The image of the sample's sources, byte for byte but for the cells of its keys: six categories, numbered from 0, with an unknown
+//! entry each.
+use crate::lexicon::write_lexicon;
+use crate::tests::samples::{SAMPLE, records};
 use crate::tests::sources::write_sources;
+use char_def::{read_chars, read_unk};
+use mj_model::sample;
 use sha2::{Digest, Sha256};
 use std::test::Fail;
-
-/// The sample's sources: six categories, numbered from 0, with an unknown entry each.
-const MATRIX: &[u8] = b"2 2\n0 0 0\n0 1 10\n1 0 5\n1 1 7\n";
-
-const CHARS: &str =
-    "DEFAULT 0 1 0\nSPACE 0 1 0\nALPHA 1 1 0\nKATAKANA 1 1 2\nKANJI 0 0 2\nHIRAGANA 0 1 2\n0x0020 SPACE\n0x0041..0x005A ALPHA\n0x0061..0x007A ALPHA\n0x3041..0x309F HIRAGANA\n0x30A1..0x30FF KATAKANA\n0x4E00..0x9FFF KANJI\n";
-
-const UNKNOWN: &str =
-    "DEFAULT,1,1,1000,未知\nSPACE,1,1,1000,未知\nALPHA,1,1,1000,未知\nKATAKANA,1,1,1000,未知\nKANJI,1,1,1000,未知\nHIRAGANA,1,1,1000,未知\n";
 
 /// The header of the sample's image up to the lengths of its sections: layout 3, kind 0, 2 right and 2 left ids, 6 categories, 3
 /// groups, 3 tokens and 6 unknown entries.
@@ -48,19 +44,41 @@ const TOKENS: &[u8; 64] = b"\0\0\0\0\x01\0\0\0\x02\0\0\0\x03\0\0\0\
 const UNKNOWN_TOKEN: &[u8; 16] = b"\x01\0\x01\0\xe8\x03\0\0\x27\0\0\0\x06\0\0\0";
 
 #[test]
-fn the_sample(rt: HostRuntime) -> Result<(), Fail> {
+fn sections_of_the_lexicon(rt: HostRuntime) -> Result<(), Fail> {
     let alloc = rt.alloc();
-    let image = write_sources(
-        alloc,
-        MATRIX,
-        CHARS.as_bytes(),
-        UNKNOWN.as_bytes(),
-        &[
-            ("すもも", 1, 1, 100, "名詞,すもも"),
-            ("も", 1, 1, 20, "助詞,も"),
-            ("もも", 1, 1, 30, "名詞,もも"),
-        ],
-    )?;
+    let lexicon = records(alloc, 2, 2, &SAMPLE)?;
+    let chars = read_chars(alloc, sample().chars)?;
+    let unknown = read_unk(alloc, sample().unk, &chars)?;
+    let sections = write_lexicon(alloc, &lexicon, &unknown, chars.count())?;
+
+    assert_eq!(rt; sections.group_count, 3);
+    let groups = b"\0\0\0\0\x01\0\0\0\x02\0\0\0\x03\0\0\0";
+    assert!(rt; sections.groups.as_slice() == groups.as_slice());
+    let features = "名詞,すもも助詞,も名詞,もも未知";
+    assert!(rt; sections.features.as_slice() == features.as_bytes());
+    let tokens = [
+        // (what, left id, right id, cost, spare, place and length of the feature)
+        ("すもも", b"\x01\0\x01\0\x64\0\0\0\0\0\0\0\x10\0\0\0"),
+        ("も", b"\x01\0\x01\0\x14\0\0\0\x10\0\0\0\x0a\0\0\0"),
+        ("もも", b"\x01\0\x01\0\x1e\0\0\0\x1a\0\0\0\x0d\0\0\0"),
+        ("DEFAULT", b"\x01\0\x01\0\xe8\x03\0\0\x27\0\0\0\x06\0\0\0"),
+        ("SPACE", b"\x01\0\x01\0\xe8\x03\0\0\x27\0\0\0\x06\0\0\0"),
+        ("ALPHA", b"\x01\0\x01\0\xe8\x03\0\0\x27\0\0\0\x06\0\0\0"),
+        ("KATAKANA", b"\x01\0\x01\0\xe8\x03\0\0\x27\0\0\0\x06\0\0\0"),
+        ("KANJI", b"\x01\0\x01\0\xe8\x03\0\0\x27\0\0\0\x06\0\0\0"),
+        ("HIRAGANA", b"\x01\0\x01\0\xe8\x03\0\0\x27\0\0\0\x06\0\0\0"),
+    ];
+    assert_eq!(rt; sections.tokens.len(), 16 * tokens.len());
+    for ((what, expected), token) in tokens.iter().zip(sections.tokens.chunks(16)) {
+        assert!(rt; token == expected.as_slice(), "{what}");
+    }
+    Ok(())
+}
+
+#[test]
+fn the_whole_image(rt: HostRuntime) -> Result<(), Fail> {
+    let alloc = rt.alloc();
+    let image = write_sources(alloc, sample(), &SAMPLE)?;
     let mut end = Vec::new(alloc);
     end.extend_from_slice(TOKENS)?;
     for _ in 0..6 {

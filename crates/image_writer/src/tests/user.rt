@@ -1,4 +1,5 @@
 //! Images of small user dictionaries, byte for byte but for the cells of their keys.
+use crate::lexicon::write_user_lexicon;
 use crate::tests::samples::{Line, records};
 use crate::write_user;
 use sha2::{Digest, Sha256};
@@ -13,73 +14,88 @@ const DIGEST: usize = 32;
 /// The first bytes of a user image: layout 3, kind 1.
 const BEGIN: &[u8; 16] = b"MJDICT\r\n\x03\0\0\0\x01\0\0\0";
 
-/// The right and the left size, and how many categories, groups, tokens and unknown entries there are.
-type Numbers = [u8; 24];
+/// A user dictionary, and what its image says.
+#[derive(Clone, Copy)]
+struct Row<'a> {
+    what: &'a str,
+    right: u32,
+    left: u32,
+    lines: &'a [Line<'a>],
+    /// The sizes, and how many categories, groups, tokens and unknown entries there are.
+    numbers: &'a [u8; 24],
+    /// The lengths of sections 6 to 8.
+    lengths: &'a [u8; 24],
+    groups: &'a [u8],
+    tokens: &'a [u8],
+    features: &'a [u8],
+}
 
-/// The lengths of sections 6 to 8.
-type Lengths = [u8; 24];
+#[rattlefmt::skip]
+const ROWS: [Row<'static>; 3] = [
+    Row { what: "no lines", right: 1, left: 2, lines: &[],
+        numbers: b"\x01\0\0\0\x02\0\0\0\0\0\0\0\0\0\0\0\0\0\0\0\0\0\0\0",
+        lengths: b"\x04\0\0\0\0\0\0\0\0\0\0\0\0\0\0\0\0\0\0\0\0\0\0\0",
+        groups: b"\0\0\0\0", tokens: b"", features: b"" },
+    Row { what: "one line", right: 2, left: 2, lines: &[("もも", 1, 1, 1, "X")],
+        numbers: b"\x02\0\0\0\x02\0\0\0\0\0\0\0\x01\0\0\0\x01\0\0\0\0\0\0\0",
+        lengths: b"\x08\0\0\0\0\0\0\0\x10\0\0\0\0\0\0\0\x01\0\0\0\0\0\0\0",
+        groups: b"\0\0\0\0\x01\0\0\0", tokens: b"\x01\0\x01\0\x01\0\0\0\0\0\0\0\x01\0\0\0", features: b"X" },
+    Row { what: "two lines of a surface, and two of a feature", right: 5, left: 259,
+        lines: &[("a", 1, 2, -5, "X"), ("a", 3, 4, 6, "YZ"), ("b", 258, 0, -32768, "X")],
+        numbers: b"\x05\0\0\0\x03\x01\0\0\0\0\0\0\x02\0\0\0\x03\0\0\0\0\0\0\0",
+        lengths: b"\x0c\0\0\0\0\0\0\0\x30\0\0\0\0\0\0\0\x03\0\0\0\0\0\0\0",
+        groups: b"\0\0\0\0\x02\0\0\0\x03\0\0\0",
+        tokens: b"\x01\0\x02\0\xfb\xff\0\0\0\0\0\0\x01\0\0\0\x03\0\x04\0\x06\0\0\0\x01\0\0\0\x02\0\0\0\x02\x01\0\0\0\x80\0\0\0\0\0\0\x01\0\0\0",
+        features: b"XYZ" },
+];
+
+#[test]
+fn sections_of_lexicons(rt: HostRuntime) -> Result<(), Fail> {
+    for row in ROWS {
+        #[rattlefmt::skip]
+        let Row { what, right, left, lines, numbers, groups, tokens, features, .. } = row;
+        let lexicon = records(rt.alloc(), right, left, lines)?;
+        let sections = write_user_lexicon(rt.alloc(), &lexicon)?;
+        let count = sections.group_count.to_le_bytes();
+        assert!(rt; numbers.get(12..16) == Some(count.as_slice()), "{what}");
+        assert!(rt; sections.groups.as_slice() == groups, "{what}");
+        assert!(rt; sections.tokens.as_slice() == tokens, "{what}");
+        assert!(rt; sections.features.as_slice() == features, "{what}");
+
+        // The root's base is not known; its check is -2.
+        let root_check: &[u8] = b"\xfe\xff\xff\xff";
+        assert_eq!(rt; sections.keys.len() % 8, 0, "{what}");
+        assert!(rt; sections.keys.get(4..8) == Some(root_check), "{what}");
+    }
+    Ok(())
+}
 
 #[test]
 fn user_images(rt: HostRuntime) -> Result<(), Fail> {
-    let alloc = rt.alloc();
-    let rows: [(&str, u32, u32, &[Line<'_>], &Numbers, &Lengths, &[u8]); 3] = [
-        // (what, right and left size, lines, numbers, lengths, sections 6 to 8)
-        (
-            "no lines",
-            1,
-            2,
-            &[],
-            b"\x01\0\0\0\x02\0\0\0\0\0\0\0\0\0\0\0\0\0\0\0\0\0\0\0",
-            b"\x04\0\0\0\0\0\0\0\0\0\0\0\0\0\0\0\0\0\0\0\0\0\0\0",
-            b"\0\0\0\0",
-        ),
-        (
-            "one line",
-            2,
-            2,
-            &[("もも", 1, 1, 1, "X")],
-            b"\x02\0\0\0\x02\0\0\0\0\0\0\0\x01\0\0\0\x01\0\0\0\0\0\0\0",
-            b"\x08\0\0\0\0\0\0\0\x10\0\0\0\0\0\0\0\x01\0\0\0\0\0\0\0",
-            b"\0\0\0\0\x01\0\0\0\x01\0\x01\0\x01\0\0\0\0\0\0\0\x01\0\0\0X",
-        ),
-        (
-            "two lines of a surface, and two of a feature",
-            5,
-            259,
-            &[
-                ("a", 1, 2, -5, "X"),
-                ("a", 3, 4, 6, "YZ"),
-                ("b", 258, 0, -32768, "X"),
-            ],
-            b"\x05\0\0\0\x03\x01\0\0\0\0\0\0\x02\0\0\0\x03\0\0\0\0\0\0\0",
-            b"\x0c\0\0\0\0\0\0\0\x30\0\0\0\0\0\0\0\x03\0\0\0\0\0\0\0",
-            b"\0\0\0\0\x02\0\0\0\x03\0\0\0\
-            \x01\0\x02\0\xfb\xff\0\0\0\0\0\0\x01\0\0\0\
-            \x03\0\x04\0\x06\0\0\0\x01\0\0\0\x02\0\0\0\
-            \x02\x01\0\0\0\x80\0\0\0\0\0\0\x01\0\0\0XYZ",
-        ),
-    ];
-    for (what, right, left, lines, numbers, lengths, sections) in rows {
-        let lexicon = records(alloc, right, left, lines)?;
-        let image = write_user(alloc, right, left, &lexicon)?;
-        assert!(rt; image.starts_with(BEGIN), "{what}");
-        assert!(rt; image.get(16..40) == Some(numbers.as_slice()), "{what}");
-
-        // Sections 1 to 4 are empty; how many cells the keys have is not known.
-        assert!(rt; image.get(40..72) == Some([0; 32].as_slice()), "{what}");
-        assert!(rt; image.get(80..104) == Some(lengths.as_slice()), "{what}");
-        let cells = image
-            .len()
-            .saturating_sub(HEADER + DIGEST)
-            .saturating_sub(sections.len());
-        assert!(rt;
-            image.get(72..80) == Some((cells as u64).to_le_bytes().as_slice()),
-            "{what}"
-        );
+    for row in ROWS {
+        #[rattlefmt::skip]
+        let Row { what, right, left, lines, numbers, lengths, groups, tokens, features } = row;
+        let lexicon = records(rt.alloc(), right, left, lines)?;
+        let image = write_user(rt.alloc(), right, left, &lexicon)?;
+        let mut end = Vec::new(rt.alloc());
+        for section in [groups, tokens, features] {
+            end.extend_from_slice(section)?;
+        }
+        let around = HEADER + DIGEST + end.len();
+        let cells = image.len().saturating_sub(around) as u64;
         assert_eq!(rt; cells % 8, 0, "{what}");
 
+        // Sections 1 to 4 are empty; how many cells the keys have is not known.
+        let mut header = Vec::new(rt.alloc());
+        header.extend_from_slice(BEGIN)?;
+        header.extend_from_slice(numbers)?;
+        header.extend_from_slice(&[0; 32])?;
+        header.extend_from_slice(&cells.to_le_bytes())?;
+        header.extend_from_slice(lengths)?;
+        assert!(rt; image.starts_with(&header), "{what}");
+
         let body = &image[..image.len().saturating_sub(DIGEST)];
-        assert!(rt; body.ends_with(sections), "{what}");
+        assert!(rt; body.ends_with(&end), "{what}");
         assert!(rt; image.ends_with(&Sha256::digest(body)), "{what}");
     }
     Ok(())

@@ -3,7 +3,7 @@ use Rattle.std.specs.Prelude.{All}
 use Rattle.mj_model.specs.declared.limits.TheConstants.{ENTRIES_MAX}
 use Rattle.mj_model.specs.Lexicon.{rows_of}
 use Rattle.matrix_def.specs.Connections.{sizes_of}
-use Rattle.image_lexicon.specs.Entries.{HasKeySurface, all_rows}
+use Rattle.image_writer.specs.Entries.{HasKeySurface, all_rows}
 use Rattle.image_writer.specs.Ids.{AreWithin}
 use Rattle.dict_compile.proofs.RowLemmas.{all_have_ids, few_records, have_surfaces, rows_in_order}
 use Rattle.dict_compile.proofs.system_image.system_image.Goals as goal

@@ -3,7 +3,7 @@ use Rattle.std.specs.Prelude.{All}
 use Rattle.mj_model.specs.declared.limits.TheConstants.{ENTRIES_MAX}
 use Rattle.mj_model.specs.Lexicon.{rows_of}
 use Rattle.dictionary_sources.specs.IdSizes.{sizes_in}
-use Rattle.image_lexicon.specs.Entries.{HasKeySurface}
+use Rattle.image_writer.specs.Entries.{HasKeySurface}
 use Rattle.image_writer.specs.Ids.{AreWithin}
 use Rattle.dict_compile.proofs.RowLemmas.{few_records, have_ids, have_surfaces, rows_in_order}
 use Rattle.dict_compile.proofs.user_image.user_image.Goals as goal

@@ -2,7 +2,7 @@ use Rattle.std.proofs.Common.{◌≡◌, ℕ, List, [], ◌∷◌, length, sym, 
 use Rattle.std.proofs.lemmas.List.{length-map}
 use Rattle.mj_model.specs.declared.matrix_sizes.MatrixSizes.{MatrixSizes}
 use Rattle.mj_model.specs.Lexicon.{row_of, rows_of}
-use Rattle.image_frame.specs.Frames.{IsFramed, Numbers}
+use Rattle.image_writer.specs.Frames.{IsFramed, Numbers}
 use Rattle.image_writer.proofs.UserLemmas.{user_image}
 use Rattle.image_writer.proofs.user.write_user.Goals as goal
 

@@ -1,7 +1,7 @@
 use Rattle.std.proofs.Common.{arith}
 use Rattle.std.proofs.lemmas.List.{length-map}
 use Rattle.mj_model.specs.Lexicon.{row_of, rows_of}
-use Rattle.image_lexicon.specs.Entries.{no_row}
+use Rattle.image_writer.specs.Entries.{no_row}
 use Rattle.image_writer.specs.Ids.{IsWithin}
 use Rattle.image_writer.proofs.SampleLemmas.{each_has}
 use Rattle.image_writer.proofs.tests.samples.are_within.Goals as goal

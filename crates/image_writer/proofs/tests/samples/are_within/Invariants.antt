@@ -1,7 +1,7 @@
 use Rattle.std.proofs.Common.{ℕ, ◌<◌}
 use Rattle.std.specs.Prelude.{slice_index_or}
 use Rattle.mj_model.specs.Lexicon.{rows_of}
-use Rattle.image_lexicon.specs.Entries.{no_row}
+use Rattle.image_writer.specs.Entries.{no_row}
 use Rattle.image_writer.specs.Ids.{IsWithin}
 use Rattle.image_writer.proofs.tests.samples.are_within.Given as goal
 

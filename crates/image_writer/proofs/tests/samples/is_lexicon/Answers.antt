@@ -1,5 +1,5 @@
 use Rattle.std.proofs.Common.{arith}
-use Rattle.image_lexicon.proofs.SampleLemmas.{all_have, all_in_order}
+use Rattle.image_writer.proofs.SampleLemmas.{all_have, all_in_order}
 use Rattle.image_writer.proofs.tests.samples.is_lexicon.Goals as goal
 
 pub returns-clause-surfaces : goal.returns-clause-surfaces

@@ -1,6 +1,6 @@
 use Rattle.std.proofs.Common.{ℕ, ◌<◌}
 use Rattle.mj_model.specs.Lexicon.{rows_of}
-use Rattle.image_lexicon.specs.Samples.{FitsAt}
+use Rattle.image_writer.specs.Samples.{FitsAt}
 use Rattle.image_writer.proofs.tests.samples.is_lexicon.Given as goal
 
 -- the records so far fit

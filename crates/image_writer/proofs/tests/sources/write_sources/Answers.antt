@@ -1,10 +1,11 @@
 use Rattle.std.proofs.Common.{◌≡◌, List, refl, sym, subst, arith}
 use Rattle.mj_model.specs.declared.matrix_sizes.MatrixSizes.{MatrixSizes}
 use Rattle.mj_model.specs.Lexicon.{Row, rows_of}
-use Rattle.image_lexicon.specs.Entries.{all_rows}
-use Rattle.image_tables.specs.StoredTables.{sizes_of}
+use Rattle.char_def.proofs.AcceptedChars.{table_infos_fit, table_storable}
+use Rattle.image_writer.specs.Entries.{all_rows}
+use Rattle.image_writer.specs.StoredTables.{sizes_of}
 use Rattle.image_writer.specs.Ids.{AreWithin}
-use Rattle.image_writer.proofs.SampleLemmas.{all_storable, all_within, few_in_all, infos_stored, some_each}
+use Rattle.image_writer.proofs.SampleLemmas.{all_within, few_in_all, some_each}
 use Rattle.image_writer.proofs.tests.sources.write_sources.Goals as goal
 
 pub write_system-requires-clause-few_unknown : goal.write_system-requires-clause-few_unknown
@@ -31,9 +32,9 @@ write_system-requires-clause-ids c =
 pub write_system-requires-clause-storable : goal.write_system-requires-clause-storable
 write_system-requires-clause-storable c =
     let read = c.in_ok-chars.ensures.accepted in
-    all_storable c.args.chars.now read.0 c.in_ok-chars.chars read.1 read.2
+    table_storable c.args.sources.chars.now read.0 c.in_ok-chars.chars read.1 read.2
 
 pub write_system-requires-clause-infos : goal.write_system-requires-clause-infos
 write_system-requires-clause-infos c =
     let read = c.in_ok-chars.ensures.accepted in
-    infos_stored c.args.chars.now read.0 c.in_ok-chars.chars read.1 read.2
+    λ code low. table_infos_fit c.args.sources.chars.now read.0 c.in_ok-chars.chars read.1 read.2 code

@@ -1,7 +1,0 @@
-use Rattle.mj_model.specs.Lexicon.{rows_of}
-use Rattle.image_lexicon.specs.Groups.{AreGrouped}
-use Rattle.image_lexicon.proofs.groups.group_entries.Given as goal
-
--- the entries so far stand in their groups
-abbrev pub invariant-loop-i : goal.invariant-loop-i
-invariant-loop-i l = AreGrouped (rows_of l.lexicon) l.i l.groups

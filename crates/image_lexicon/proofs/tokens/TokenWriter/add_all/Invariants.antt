@@ -1,8 +1,0 @@
-use Rattle.std.proofs.Common.{◌++◌, List, take}
-use Rattle.mj_model.specs.Lexicon.{Row, rows_of}
-use Rattle.image_lexicon.specs.Sections.{AreWritten}
-use Rattle.image_lexicon.proofs.tokens.TokenWriter.add_all.Given as goal
-
--- the tokens of the records so far are written
-abbrev pub invariant-loop-record : goal.invariant-loop-record
-invariant-loop-record l = (rows : List Row) → AreWritten rows l.fn.self → AreWritten (rows ++ rows_of (take l.record-index l.records)) l.self

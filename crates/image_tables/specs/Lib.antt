@@ -1,4 +1,0 @@
-pub mod StoredTables
-pub mod Ranges
-pub mod FirstNumbers
-pub mod Covering

@@ -1,0 +1,198 @@
+-- What is read from an image that was put together.
+use Rattle.std.proofs.Common.{◌≡◌, ℕ, zero, suc, ◌+◌, ◌-◌, ◌*◌, ◌^◌, ◌<◌, ◌≤◌, List, [], ◌∷◌, ◌++◌, length, take, drop, refl, sym, ap, ◌∙◌, subst, arith, append_assoc, mul-le-mul_left}
+use Rattle.std.specs.Prelude.{flat_map, map, slice_index, slice_index_or, slice_range, sum, sum_by}
+use Rattle.std.specs.List.{AllByRecursion, range_with_len}
+use Rattle.std.proofs.lemmas.List.{drop-append-le, drop_at, length-append, length-map, take_all, take_at}
+use Rattle.std.proofs.lemmas.List.Concat.{length-flat_map}
+use Rattle.std.proofs.lemmas.List.Sums.{sum_by-cons}
+use Rattle.std.proofs.Math.Seq.{drop-append-add}
+use Rattle.byteorder.specs.Endian.{little_bytes, little_number}
+use Rattle.byteorder.specs.Numbers.{length-bytes_low_first}
+use Rattle.std.specs.Borrow.{Bor}
+use Rattle.sha2.specs.Sha256.{sha256}
+use Rattle.mj_model.specs.ImageBytes.{behind_sections, header_length, header_of, image_magic, number_at, section, section_end, section_start}
+use Rattle.image_writer.specs.Frames.{AreShort, AreSmall, IsFramed, Numbers, header_bytes, length_bytes, number_bytes, number_list}
+use Rattle.image_bytes.proofs.ItemLemmas.{item_at, items_length}
+use Rattle.image_bytes.proofs.NumberLemmas.{number_back}
+
+-- number k of some of n bytes each, where others stand before and behind them
+pub number_in_list : (n : ℕ) (front : List ℕ) (numbers : List ℕ) (rest : List ℕ) (k at : ℕ) → at ≡ length front + n * k → k < length numbers → slice_index numbers k < 256 ^ n
+    → number_at n (front ++ (flat_map (little_bytes n) numbers ++ rest)) at ≡ slice_index numbers k
+number_in_list n front numbers rest k at place less fits =
+    let long : (x : ℕ) → length (little_bytes n x) ≡ n = λ x. length-bytes_low_first 0 n x in
+    let whole = items_length (little_bytes n) n long numbers in
+    let behind = item_at (little_bytes n) n long numbers k 0 less in
+    let low : n * k ≤ length (flat_map (little_bytes n) numbers) = subst (λ m. n * k ≤ m) (sym whole) (mul-le-mul_left n (omega (arith, less))) in
+    ap (λ m. number_at n (front ++ (flat_map (little_bytes n) numbers ++ rest)) m) place
+    ∙ ap (little_number n)
+    (drop-append-add front (flat_map (little_bytes n) numbers ++ rest) (n * k)
+    ∙ drop-append-le (n * k) (flat_map (little_bytes n) numbers) rest low
+    ∙ ap (λ (bytes : List ℕ). bytes ++ rest) behind
+    ∙ append_assoc (little_bytes n (slice_index numbers k)) (flat_map (little_bytes n) (drop (suc k) numbers)) rest)
+    ∙ number_back n (slice_index numbers k) (flat_map (little_bytes n) (drop (suc k) numbers) ++ rest) fits
+
+-- where section k begins and ends, behind a front
+abbrev pub start_of : List ℕ → List (List ℕ) → ℕ → ℕ
+start_of front sections k = length front + sum (take k (map length sections))
+
+abbrev pub joined : List (List ℕ) → List ℕ
+joined sections = flat_map (λ (section : List ℕ). section) sections
+
+pub section_in : (front : List ℕ) (sections : List (List ℕ)) (rest : List ℕ) (k : ℕ) → k < length sections
+    → slice_range (front ++ (joined sections ++ rest)) (start_of front sections k) (start_of front sections (suc k)) ≡ slice_index_or sections k []
+section_in front [] rest k less = absurd (omega (arith, less))
+section_in front (s ∷ sections) rest zero less =
+    let one : sum (take 1 (map length (s ∷ sections))) ≡ length s + 0 = sum_by-cons (λ n. n) (length s) [] in
+    let start : start_of front (s ∷ sections) 0 ≡ length front = omega (arith) in
+    let count : start_of front (s ∷ sections) 1 - start_of front (s ∷ sections) 0 ≡ length s = omega (arith, one) in
+    ap (λ n. take n (drop (start_of front (s ∷ sections) 0) (front ++ (joined (s ∷ sections) ++ rest)))) count
+    ∙ ap (take (length s)) (ap (λ n. drop n (front ++ (joined (s ∷ sections) ++ rest))) start ∙ drop_at front (joined (s ∷ sections) ++ rest) (length front) refl)
+    ∙ ap (take (length s)) (append_assoc s (joined sections) rest)
+    ∙ take_at s (joined sections ++ rest) (length s) refl
+section_in front (s ∷ sections) rest (suc k) less =
+    let grouped : front ++ (joined (s ∷ sections) ++ rest) ≡ (front ++ s) ++ (joined sections ++ rest) =
+    ap (λ (bytes : List ℕ). front ++ bytes) (append_assoc s (joined sections) rest) ∙ sym (append_assoc front s (joined sections ++ rest)) in
+    let l = length-append front s in
+    let at : (j : ℕ) → start_of front (s ∷ sections) (suc j) ≡ start_of (front ++ s) sections j =
+    λ j. let e : sum (take (suc j) (map length (s ∷ sections))) ≡ length s + sum (take j (map length sections)) = sum_by-cons (λ n. n) (length s) (take j (map length sections)) in
+    omega (arith, e, l) in
+    rw (grouped, at k, at (suc k)) (section_in (front ++ s) sections rest k (omega (arith, less)))
+
+pub sum_of_lengths : (sections : List (List ℕ)) → sum (map length sections) ≡ sum_by length sections
+sum_of_lengths [] = refl
+sum_of_lengths (s ∷ sections) =
+    sum_by-cons (λ n. n) (length s) (map length sections) ∙ ap (λ n. length s + n) (sum_of_lengths sections) ∙ sym (sum_by-cons length s sections)
+
+-- a list by its numbers
+pub list_of : (f : ℕ → ℕ) (xs : List ℕ) (a : ℕ) → ((k : ℕ) → k < length xs → f (a + k) ≡ slice_index xs k) → map f (range_with_len a (length xs)) ≡ xs
+list_of f [] a same = refl
+list_of f (x ∷ xs) a same =
+    let first : f a ≡ x = (let e : a ≡ a + 0 = omega (arith) in ap f e ∙ same 0 (omega (arith))) in
+    let rest : map f (range_with_len (a + 1) (length xs)) ≡ xs = list_of f xs (a + 1)
+    (λ k less. let e : a + 1 + k ≡ a + suc k = omega (arith) in ap f e ∙ same (suc k) (omega (arith, less))) in
+    λ i. first i ∷ rest i
+
+pub joined_given : (given : List (Bor (List ℕ))) → joined (map (λ section. section.now) given) ≡ flat_map (λ section. section.now) given
+joined_given [] = refl
+joined_given (section ∷ given) = ap (λ (bytes : List ℕ). section.now ++ bytes) (joined_given given)
+
+pub lengths_given : (given : List (Bor (List ℕ))) → map length (map (λ section. section.now) given) ≡ map (λ section. length section.now) given
+lengths_given [] = refl
+lengths_given (section ∷ given) = ap (λ (lengths : List ℕ). length section.now ∷ lengths) (lengths_given given)
+
+-- what holds of all numbers holds of each
+pub each_of : (P : ℕ → Type 0) (xs : List ℕ) (k : ℕ) → AllByRecursion P xs → k < length xs → P (slice_index xs k)
+each_of P [] k all less = absurd (omega (arith, less))
+each_of P (x ∷ xs) zero all less = all.0
+each_of P (x ∷ xs) (suc k) all less = each_of P xs k all.1 (omega (arith, less))
+
+-- ---- a whole image
+
+module _ (n : Numbers) (sections : List (List ℕ)) (eight : length sections ≡ 8) (small : AreSmall (number_list n)) (short : AreShort (map length sections)) where
+  abbrev pub lengths : List ℕ
+  lengths = map length sections
+
+  abbrev pub header : List ℕ
+  header = header_bytes n lengths
+
+  abbrev pub front : List ℕ
+  front = image_magic ++ number_bytes n
+
+  front_length : length front ≡ 40
+  front_length =
+      let m = items_length (little_bytes 4) 4 (λ x. length-bytes_low_first 0 4 x) (number_list n) in
+      length-append image_magic (number_bytes n) ∙ ap (λ k. 8 + k) m
+
+  pub header_long : length header ≡ 104
+  header_long =
+      let c : length lengths ≡ 8 = length-map sections length ∙ eight in
+      let m : length (length_bytes lengths) ≡ 64 = items_length (little_bytes 8) 8 (λ x. length-bytes_low_first 0 8 x) lengths ∙ ap (λ k. 8 * k) c in
+      ap length (sym (append_assoc image_magic (number_bytes n) (length_bytes lengths)))
+      ∙ length-append front (length_bytes lengths)
+      ∙ ap (λ k. length front + k) m ∙ ap (λ k. k + 64) front_length
+
+  module _ (digest image : List ℕ) (is : image ≡ (header ++ joined sections) ++ digest) where
+    around : image ≡ header ++ (joined sections ++ digest)
+    around = is ∙ append_assoc header (joined sections) digest
+
+    numbers_around : image ≡ image_magic ++ (number_bytes n ++ (length_bytes lengths ++ (joined sections ++ digest)))
+    numbers_around = around ∙ append_assoc image_magic (number_bytes n ++ length_bytes lengths) (joined sections ++ digest)
+        ∙ ap (λ (bytes : List ℕ). image_magic ++ bytes) (append_assoc (number_bytes n) (length_bytes lengths) (joined sections ++ digest))
+
+    lengths_around : image ≡ front ++ (length_bytes lengths ++ (joined sections ++ digest))
+    lengths_around = numbers_around ∙ sym (append_assoc image_magic (number_bytes n) (length_bytes lengths ++ (joined sections ++ digest)))
+
+    pub number_is : (k : ℕ) → k < 8 → number_at 4 image (8 + 4 * k) ≡ slice_index (number_list n) k
+    number_is k less =
+        ap (λ (bytes : List ℕ). number_at 4 bytes (8 + 4 * k)) numbers_around
+        ∙ number_in_list 4 image_magic (number_list n) (length_bytes lengths ++ (joined sections ++ digest)) k (8 + 4 * k) refl less (each_of (λ m. m < 2 ^ 32) (number_list n) k small less)
+
+    pub lengths_are : (header_of image).lengths ≡ lengths
+    lengths_are =
+        let c : length lengths ≡ 8 = length-map sections length ∙ eight in
+        let f = front_length in
+        ap (λ m. map (λ k. number_at 8 image (40 + 8 * k)) (range_with_len 0 m)) (sym c)
+        ∙ list_of (λ k. number_at 8 image (40 + 8 * k)) lengths 0
+        (λ k less. ap (λ (bytes : List ℕ). number_at 8 bytes (40 + 8 * (0 + k))) lengths_around
+        ∙ number_in_list 8 front lengths (joined sections ++ digest) k (40 + 8 * (0 + k)) (omega (arith, f)) less (each_of (λ m. m < 2 ^ 64) lengths k short less))
+
+    pub sections_are : (k : ℕ) → k < 8 → section image (suc k) ≡ slice_index_or sections k []
+    sections_are k less =
+        let h = header_long in
+        let before : suc k - 1 ≡ k = omega (arith) in
+        let start : section_start (header_of image) (suc k) ≡ start_of header sections k =
+        ap (λ j. header_length + sum (take j (header_of image).lengths)) before
+        ∙ ap (λ (ls : List ℕ). header_length + sum (take k ls)) lengths_are ∙ ap (λ m. m + sum (take k lengths)) (sym h) in
+        let end : section_end (header_of image) (suc k) ≡ start_of header sections (suc k) =
+        ap (λ (ls : List ℕ). header_length + sum (take (suc k) ls)) lengths_are ∙ ap (λ m. m + sum (take (suc k) lengths)) (sym h) in
+        ap (slice_range image (section_start (header_of image) (suc k))) end
+        ∙ ap (λ a. slice_range image a (start_of header sections (suc k))) start
+        ∙ ap (λ (bytes : List ℕ). slice_range bytes (start_of header sections k) (start_of header sections (suc k))) around
+        ∙ section_in header sections digest k (omega (arith, less, eight))
+
+    -- the header and the sections end where the last section does
+    pub end_is : section_end (header_of image) 8 ≡ length (header ++ joined sections)
+    end_is =
+        let h = header_long in
+        let c : length lengths ≡ 8 = length-map sections length ∙ eight in
+        let l = length-append header (joined sections) in
+        let j : length (joined sections) ≡ sum (take 8 lengths) = length-flat_map (λ (s : List ℕ). s) sections ∙ sym (sum_of_lengths sections) ∙ ap sum (sym (take_all 8 lengths (omega (arith, c)))) in
+        ap (λ (ls : List ℕ). header_length + sum (take 8 ls)) lengths_are ∙ sym (l ∙ ap (λ m. m + length (joined sections)) h ∙ ap (λ m. 104 + m) j)
+
+    pub framed : digest ≡ sha256 (header ++ joined sections) → length digest ≡ 32 → IsFramed n sections image
+    framed digest_is digest_long =
+        let body = header ++ joined sections in
+        let layout : (header_of image).layout ≡ 3 = number_is 0 (omega (arith)) in
+        let e = end_is in
+        record {
+          magic = ap (take 8) numbers_around;
+          layout = layout;
+          kind = number_is 1 (omega (arith));
+          sizes = λ i. record { right = number_is 2 (omega (arith)) i; left = number_is 3 (omega (arith)) i };
+          categories = number_is 4 (omega (arith));
+          groups = number_is 5 (omega (arith));
+          tokens = number_is 6 (omega (arith));
+          unknown = number_is 7 (omega (arith));
+          sections_are = sections_are;
+          whole =
+              let l = ap length is ∙ length-append body digest in
+              let behind : behind_sections (header_of image).layout ≡ 32 = ap behind_sections layout in
+              omega (arith, l, behind, e, digest_long);
+          digest = λ three.
+              ap (λ m. drop m image) e ∙ ap (drop (length body)) is ∙ drop_at body digest (length body) refl
+              ∙ digest_is ∙ ap sha256 (sym (ap (λ m. take m image) e ∙ ap (take (length body)) is ∙ take_at body digest (length body) refl));
+        }
+
+-- an image whose parts were written one behind another
+pub frame_of : (n : Numbers) (given : List (Bor (List ℕ))) (start head all digest image : List ℕ) → length given ≡ 8 → AreSmall (number_list n)
+    → AreShort (map (λ section. length section.now) given) → start ≡ [] → head ≡ start ++ header_bytes n (map (λ section. length section.now) given)
+    → all ≡ head ++ flat_map (λ section. section.now) given → digest ≡ sha256 all → length digest ≡ 32 → image ≡ all ++ digest
+    → IsFramed n (map (λ section. section.now) given) image
+frame_of n given start head all digest image eight small short none header_is all_is digest_is digest_long is =
+    let sections = map (λ (section : Bor (List ℕ)). section.now) given in
+    let ls : map length sections ≡ map (λ (section : Bor (List ℕ)). length section.now) given = lengths_given given in
+    let whole : all ≡ header_bytes n (map length sections) ++ joined sections =
+    all_is ∙ rw (header_is, none) (ap (λ (lengths : List ℕ). header_bytes n lengths ++ flat_map (λ (section : Bor (List ℕ)). section.now) given) (sym ls))
+    ∙ ap (λ (bytes : List ℕ). header_bytes n (map length sections) ++ bytes) (sym (joined_given given)) in
+    framed n sections (length-map given (λ (section : Bor (List ℕ)). section.now) ∙ eight) small (subst AreShort (sym ls) short) digest image
+    (is ∙ ap (λ (bytes : List ℕ). bytes ++ digest) whole) (digest_is ∙ ap sha256 whole) digest_long

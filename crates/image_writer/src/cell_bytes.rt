@@ -1,0 +1,35 @@
+//! The cells of the keys as bytes.
+ghost use Rattle.std.specs.Prelude.{◌≡◌, ◌≤◌, ◌*◌, ◌^◌, length, IfOk, OnOk};
+ghost use Rattle.mj_model.specs.CellRules.{AreCells, AreOnKeys};
+ghost use Rattle.mj_model.specs.ImageSections.{stored_cells};
+ghost use Rattle.image_writer.specs.TokenBytes.{cell_bytes_of};
+
+use byteorder::{ByteOrder, LittleEndian};
+use double_array::{CellRead, DoubleArray};
+use std::alloc::{AllocError, Global};
+
+/// The cells, 8 bytes each.
+pub(crate) fn write_cells(alloc: Global, array: &DoubleArray) -> Result<Vec<u8>, AllocError>
+    ensures cells { IfOk result (λ bytes. stored_cells bytes.items ≡ array.now) }
+    ensures fill { IfOk result (λ bytes. length bytes.items ≡ 8 * length array.now) }
+    ensures most { OnOk result (length array.now ≤ 2 ^ 30) }
+    ensures rules { OnOk result (AreCells array.now) }
+    ensures keys { OnOk result (AreOnKeys array.now) }
+{
+    let mut bytes = Vec::new(alloc);
+    for i in 0..array.len() {
+        let (base, check) = array.cell(i);
+        bytes.extend_from_slice(&cell_bytes(base, check))?;
+    }
+    Ok(bytes)
+}
+
+/// A cell's base and check.
+fn cell_bytes(base: i32, check: i32) -> [u8; 8]
+    ensures { result ≡ cell_bytes_of (base, check) }
+{
+    let mut bytes = [0; 8];
+    LittleEndian::write_i32(&mut bytes, base);
+    LittleEndian::write_i32(&mut bytes[4..], check);
+    bytes
+}

@@ -1,0 +1,70 @@
+//! The features of a lexicon, each once.
+ghost use Rattle.std.specs.Prelude.{◌≡◌, ◌≢◌, ◌<◌, ◌≤◌, ◌^◌, ◌+◌, None, bytes_eq, ℕ, ◌++◌, ◌∷◌, [], List, length, sum_by, IfOk, IfErr, OnOk};
+ghost use Rattle.std.specs.HashMap.{get_by};
+ghost use Rattle.std.proofs.Props.{props};
+ghost use Rattle.mj_model.specs.Compilation.{each_once, feature_bytes_end};
+ghost use Rattle.image_writer.specs.Places.{ArePlacesWithin};
+ghost use Rattle.image_writer.specs.declared.fault.LexiconFault.TheVariants.{ArrayFull, FeaturesTooLarge};
+
+use crate::fault::LexiconFault;
+use indexmap::IndexMap;
+use std::alloc::Global;
+
+/// An image has fewer bytes of features than this, so that a place fits 4 bytes.
+const FEATURE_BYTES_END: usize = 1 << 32;
+
+/// Features, each once, in the order of their first uses.
+#[derive(Drop)]
+pub(crate) struct FeatureStore<'a> {
+    /// The features, one behind another.
+    pub bytes: Vec<u8>,
+    /// Where each feature begins.
+    pub places: IndexMap<&'a str, u32>,
+    ghost few: { length bytes.items < 2 ^ 32 },
+    ghost within: { ArePlacesWithin bytes.items places } by { Prim.hlevel props },
+}
+
+impl<'a> FeatureStore<'a> {
+    ghost use Rattle.image_writer.specs.Sections.{HoldsTexts, HoldsOneMore, IsAdded};
+
+    /// No features.
+    pub(crate) fn new(alloc: Global) -> FeatureStore<'a>
+        ensures { HoldsTexts [] result }
+    {
+        FeatureStore {
+            bytes: Vec::new(alloc),
+            places: IndexMap::new(alloc),
+        }
+    }
+
+    /// Where the feature begins; a new one is added at the end.
+    pub(crate) fn place_of(&mut self, feature: &'a str) -> Result<u32, LexiconFault>
+        ensures short { OnOk result (length feature.now < 2 ^ 32) }
+        ensures place { (texts : List (List ℕ)) → HoldsTexts texts self.old → IfOk result (λ place. HoldsOneMore texts feature.now self.old self.new place) }
+        ensures large { (texts : List (List ℕ)) → HoldsTexts texts self.old → IfErr result (λ fault. fault ≡ FeaturesTooLarge → feature_bytes_end ≤ sum_by length (each_once (texts ++ feature.now ∷ []))) }
+        ensures never_full { IfErr result (λ fault. fault ≢ ArrayFull) }
+    {
+        match self.places.get(feature).copied() {
+            Some(place) => Ok(place),
+            None => self.add(feature),
+        }
+    }
+
+    /// Adds a feature at the end.
+    fn add(&mut self, feature: &'a str) -> Result<u32, LexiconFault>
+        requires { get_by (λ key. bytes_eq feature.now key.now) self.old.places ≡ None }
+        ensures short { OnOk result (length feature.now < 2 ^ 32) }
+        ensures added { OnOk result (IsAdded feature.now self.old self.new) }
+        ensures place { IfOk result (λ place. place ≡ length self.old.bytes.items) }
+        ensures large { IfErr result (λ fault. fault ≡ FeaturesTooLarge → 2 ^ 32 ≤ length self.old.bytes.items + length feature.now) }
+        ensures never_full { IfErr result (λ fault. fault ≢ ArrayFull) }
+    {
+        if feature.len() >= FEATURE_BYTES_END - self.bytes.len() {
+            return Err(LexiconFault::FeaturesTooLarge);
+        }
+        let place = self.bytes.len() as u32;
+        self.bytes.extend_from_slice(feature.as_bytes())?;
+        self.places.insert(feature, place)?;
+        Ok(place)
+    }
+}

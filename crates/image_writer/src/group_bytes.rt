@@ -1,0 +1,33 @@
+//! Which entries each group has, as bytes.
+ghost use Rattle.std.specs.Prelude.{◌≡◌, ◌<◌, ◌*◌, ◌+◌, ℕ, length, slice_index_or, IfOk};
+ghost use Rattle.byteorder.specs.Endian.{little_bytes};
+ghost use Rattle.mj_model.specs.ImageSections.{index_at};
+
+use byteorder::{ByteOrder, LittleEndian};
+use std::alloc::{AllocError, Global};
+
+/// Where each group begins, and behind it the number of entries, 4 bytes each.
+pub(crate) fn write_starts(
+    alloc: Global,
+    starts: &[u32],
+    entries: u32,
+) -> Result<Vec<u8>, AllocError>
+    ensures fill { IfOk result (λ bytes. length bytes.items ≡ 4 * (length starts.now + 1)) }
+    ensures numbers { IfOk result (λ bytes. (g : ℕ) → g < length starts.now + 1 → index_at bytes.items g ≡ slice_index_or starts.now g entries) }
+{
+    let mut bytes = Vec::new(alloc);
+    for start in starts {
+        bytes.extend_from_slice(&number_bytes(*start))?;
+    }
+    bytes.extend_from_slice(&number_bytes(entries))?;
+    Ok(bytes)
+}
+
+/// The 4 bytes of a number.
+fn number_bytes(number: u32) -> [u8; 4]
+    ensures { result ≡ little_bytes 4 number }
+{
+    let mut bytes = [0; 4];
+    LittleEndian::write_u32(&mut bytes, number);
+    bytes
+}

@@ -1,0 +1,74 @@
+//! The header of an image.
+ghost use Rattle.std.specs.Prelude.{◌≡◌, ◌++◌, length, map, OnOk};
+ghost use Rattle.image_writer.specs.Frames.{AreShort, AreSmall, header_bytes, length_bytes, number_bytes, number_list, numbers_of};
+
+use byteorder::{ByteOrder, LittleEndian};
+use std::alloc::AllocError;
+
+/// The first 8 bytes of every image.
+const MAGIC: [u8; 8] = *b"MJDICT\r\n";
+
+/// The layout that is written.
+const LAYOUT: u32 = 3;
+
+/// What a header says besides the layout and the lengths of the sections.
+#[derive(Clone, Copy, Debug, Drop)]
+pub(crate) struct Numbers {
+    /// 0 for a system dictionary, 1 for a user's.
+    pub kind: u32,
+    pub right: u32,
+    pub left: u32,
+    pub categories: u32,
+    /// Distinct surfaces.
+    pub groups: u32,
+    /// Entries of the lexicon.
+    pub tokens: u32,
+    /// Unknown entries.
+    pub unknown: u32,
+}
+
+/// Appends the header of an image with these sections.
+pub(crate) fn append_header(
+    numbers: Numbers,
+    sections: &[&[u8]; 8],
+    image: &mut Vec<u8>,
+) -> Result<(), AllocError>
+    ensures bytes { OnOk result (image.new.items ≡ image.old.items ++ header_bytes (numbers_of numbers) (map (λ section. length section.now) sections.now)) }
+    ensures small { AreSmall (number_list (numbers_of numbers)) }
+    ensures short { OnOk result (AreShort (map (λ section. length section.now) sections.now)) }
+{
+    image.extend_from_slice(&MAGIC)?;
+    append_numbers(numbers, image)?;
+    append_lengths(sections, image)
+}
+
+fn append_numbers(numbers: Numbers, image: &mut Vec<u8>) -> Result<(), AllocError>
+    ensures bytes { OnOk result (image.new.items ≡ image.old.items ++ number_bytes (numbers_of numbers)) }
+    ensures small { AreSmall (number_list (numbers_of numbers)) }
+{
+    let mut bytes = [0; 32];
+    LittleEndian::write_u32_into(
+        &[
+            LAYOUT,
+            numbers.kind,
+            numbers.right,
+            numbers.left,
+            numbers.categories,
+            numbers.groups,
+            numbers.tokens,
+            numbers.unknown,
+        ],
+        &mut bytes,
+    );
+    image.extend_from_slice(&bytes)
+}
+
+fn append_lengths(sections: &[&[u8]; 8], image: &mut Vec<u8>) -> Result<(), AllocError>
+    ensures bytes { OnOk result (image.new.items ≡ image.old.items ++ length_bytes (map (λ section. length section.now) sections.now)) }
+    ensures short { OnOk result (AreShort (map (λ section. length section.now) sections.now)) }
+{
+    for section in sections {
+        image.extend_from_slice(&(section.len() as u64).to_le_bytes())?;
+    }
+    Ok(())
+}
