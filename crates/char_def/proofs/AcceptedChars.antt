@@ -14,10 +14,9 @@ use Rattle.mj_model.specs.declared.source_fault.SourceKind.TheVariants.{NoDefaul
 use Rattle.mj_model.specs.declared.category.Category.{Category}
 use Rattle.mj_model.specs.declared.category.CharInfo.{CharInfo}
 use Rattle.mj_model.specs.Bytes.{is_blank}
-use Rattle.mj_model.specs.CharDef.{NamedCategory, CharSource, Mapping, Range, CharLine, Nothing, Defines, Maps, Bad, begins_with_hex, words_before_comment, char_line, line_from, mapping_line, mapping_or, range_of, category_or, category_from, category_of, category_length, flag, named, is_name, defined_by, mapped_by, is_defined, category_number, category_bits, mapping_fault, default_name, space_name, unless_defined, source_from, whole_fault, char_source, first_bad_line, info_of_names, covers, char_info}
+use Rattle.mj_model.specs.CharDef.{IsInfoOf, IsStorable, NamedCategory, CharSource, Mapping, Range, CharLine, Nothing, Defines, Maps, Bad, begins_with_hex, words_before_comment, char_line, line_from, mapping_line, mapping_or, range_of, category_or, category_from, category_of, category_length, flag, named, is_name, defined_by, mapped_by, is_defined, category_number, category_bits, mapping_fault, default_name, space_name, unless_defined, source_from, whole_fault, char_source, first_bad_line, info_of_names, covers, char_info}
 use Rattle.mj_model.specs.Connection.{words_of}
 use Rattle.mj_model.specs.FirstFault.{first_fault}
-use Rattle.mj_model.specs.ImageSections.{IsStorable, IsInfoOf}
 use Rattle.mj_model.specs.Lines.{numbered_lines}
 use Rattle.mj_model.specs.Numbers.{number}
 use Rattle.char_def.specs.Categories.{CharCategories, IsTableOf, table_info}

@@ -8,10 +8,11 @@ use Rattle.mj_model.specs.declared.source_fault.SourceFault.{SourceFault}
 use Rattle.mj_model.specs.declared.source_fault.SourceKind.TheVariants.{ArrayFull, FeaturesTooLarge}
 use Rattle.mj_model.specs.declared.sources.Sources.{Sources}
 use Rattle.mj_model.specs.CharDef.{NamedCategory}
-use Rattle.mj_model.specs.Compilation.{IsCompilation, IsCompilationCause, SkipLines, fault_of_image, feature_bytes, feature_bytes_end, lexicon_tokens, system_tokens}
+use Rattle.dict_compile.specs.Compilation.{IsCompilation, IsCompilationCause, fault_of_image}
+use Rattle.mj_model.specs.Lexicon.{SkipLines, Row, row_of, rows_of}
+use Rattle.image_bytes.specs.ImageBounds.{feature_bytes, feature_bytes_end, lexicon_tokens, system_tokens}
 use Rattle.mj_model.specs.Dictionary.{IsInOrder, lexeme_of}
-use Rattle.mj_model.specs.ImageMeaning.{image_lexicon, image_tables}
-use Rattle.mj_model.specs.Lexicon.{Row, row_of, rows_of}
+use Rattle.image_bytes.specs.ImageMeaning.{image_lexicon, image_tables}
 use Rattle.mj_model.specs.SourceTables.{HaveTables, IsSourcesFault, SayTheSame, lexicon_bytes, system_tables}
 use Rattle.mj_model.specs.Tables.{Tables, Lexeme, Token}
 use Rattle.mj_model.specs.UnkDef.{unknown_tokens}

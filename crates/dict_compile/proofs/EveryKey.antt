@@ -12,10 +12,10 @@ use Rattle.std.proofs.lemmas.Cmp.{nat_list_cmp_total}
 use Rattle.std.proofs.lemmas.List.Elements.{filter_agree}
 use Rattle.std.proofs.lemmas.Map.Text.{is_eq-slice_cmp}
 use Rattle.mj_model.specs.declared.sources.Sources.{Sources}
-use Rattle.mj_model.specs.Compilation.{HaveUserTables}
+use Rattle.dict_compile.specs.Compilation.{HaveUserTables}
 use Rattle.mj_model.specs.declared.matrix_sizes.MatrixSizes.{MatrixSizes}
 use Rattle.mj_model.specs.Dictionary.{AreLexicons, IsInOrder, IsLexiconOf, lexeme_of}
-use Rattle.mj_model.specs.ImageMeaning.{entries_under}
+use Rattle.image_bytes.specs.ImageMeaning.{entries_under}
 use Rattle.mj_model.specs.Lexicon.{Row}
 use Rattle.mj_model.specs.SourceTables.{HaveTables, lexicon_bytes}
 use Rattle.mj_model.specs.Tables.{Lexeme, Tables}

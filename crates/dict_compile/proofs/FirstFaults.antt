@@ -4,11 +4,12 @@ use Rattle.std.specs.Prelude.{Ok}
 use Rattle.mj_model.specs.declared.source_fault.SourceFault.{SourceFault}
 use Rattle.mj_model.specs.declared.sources.Sources.{Sources}
 use Rattle.mj_model.specs.CharDef.{CharSource}
-use Rattle.mj_model.specs.Compilation.{IsCompilation, IsCompilationCause, IsCompilationFault, feature_bytes, feature_bytes_end, system_tokens}
+use Rattle.dict_compile.specs.Compilation.{IsCompilation, IsCompilationCause, IsCompilationFault}
+use Rattle.image_bytes.specs.ImageBounds.{feature_bytes, feature_bytes_end, system_tokens}
 use Rattle.mj_model.specs.Connection.{Connection}
 use Rattle.mj_model.specs.Dictionary.{IsLexiconOf}
 use Rattle.mj_model.specs.FirstFault.{IsRefusal}
-use Rattle.mj_model.specs.ImageMeaning.{image_tables}
+use Rattle.image_bytes.specs.ImageMeaning.{image_tables}
 use Rattle.mj_model.specs.Lexicon.{Row}
 use Rattle.mj_model.specs.SourceTables.{HaveTables, SayTheSame, lexicon_bytes, system_tables}
 use Rattle.mj_model.specs.Tables.{Tables, Lexeme}

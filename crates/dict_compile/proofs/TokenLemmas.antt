@@ -3,7 +3,7 @@ use Rattle.std.proofs.Common.{◌≡◌, ℕ, suc, ◌+◌, List, [], ◌∷◌,
 use Rattle.std.specs.Prelude.{flat_map, slice_index_or}
 use Rattle.std.specs.List.{enumerate_from, range_with_len}
 use Rattle.std.proofs.lemmas.Simd.{map-map}
-use Rattle.mj_model.specs.Compilation.{lexicon_tokens}
+use Rattle.image_bytes.specs.ImageBounds.{lexicon_tokens}
 use Rattle.mj_model.specs.Dictionary.{lexeme_of}
 use Rattle.mj_model.specs.Lexicon.{Row}
 use Rattle.mj_model.specs.Tables.{Lexeme, Token}

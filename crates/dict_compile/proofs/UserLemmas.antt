@@ -4,12 +4,13 @@ use Rattle.std.specs.Prelude.{false, Result, Ok, Err}
 use Rattle.std.proofs.lemmas.List.{length-map}
 use Rattle.std.proofs.lemmas.List.Sorted.{length_permutation}
 use Rattle.mj_model.specs.declared.source_fault.SourceFault.{SourceFault}
-use Rattle.mj_model.specs.Compilation.{HaveUserTables, IsUserCompilation, IsUserCause, IsUserFault, SkipLines, feature_bytes, feature_bytes_end, lexicon_tokens}
+use Rattle.dict_compile.specs.Compilation.{HaveUserTables, IsUserCompilation, IsUserCause, IsUserFault}
+use Rattle.mj_model.specs.Lexicon.{SkipLines, Row, row_of, rows_of}
+use Rattle.image_bytes.specs.ImageBounds.{feature_bytes, feature_bytes_end, lexicon_tokens}
 use Rattle.mj_model.specs.declared.matrix_sizes.MatrixSizes.{MatrixSizes}
 use Rattle.mj_model.specs.Dictionary.{AreLexicons, IsInOrder, IsLexiconOf}
 use Rattle.mj_model.specs.FirstFault.{IsRefusal}
-use Rattle.mj_model.specs.ImageMeaning.{image_lexicon, image_tables}
-use Rattle.mj_model.specs.Lexicon.{Row, row_of, rows_of}
+use Rattle.image_bytes.specs.ImageMeaning.{image_lexicon, image_tables}
 use Rattle.mj_model.specs.Tables.{Tables, Lexeme, Token, User}
 use Rattle.dictionary_sources.specs.declared.lexicons.LexiconRecords.{LexiconRecords}
 use Rattle.image_writer.specs.declared.fault.LexiconFault.{LexiconFault}

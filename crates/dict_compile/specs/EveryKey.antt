@@ -5,7 +5,7 @@ use Rattle.mj_model.specs.declared.sources.Sources.{Sources}
 use Rattle.mj_model.specs.declared.matrix_sizes.MatrixSizes.{MatrixSizes}
 use Rattle.mj_model.specs.Connection.{Connection}
 use Rattle.mj_model.specs.Dictionary.{AreLexicons}
-use Rattle.mj_model.specs.ImageMeaning.{entries_under}
+use Rattle.image_bytes.specs.ImageMeaning.{entries_under}
 use Rattle.mj_model.specs.Lexicon.{Row}
 use Rattle.mj_model.specs.SourceTables.{IsConnection, lexicon_bytes}
 use Rattle.mj_model.specs.Tables.{Token, Lexeme, Tables}

@@ -5,7 +5,7 @@ use Rattle.mj_model.specs.declared.source_fault.SourceKind.{SourceKind}
 use Rattle.mj_model.specs.declared.source_fault.SourceKind.TheVariants as kind
 use Rattle.image_writer.specs.declared.fault.LexiconFault.{LexiconFault}
 use Rattle.image_writer.specs.declared.fault.LexiconFault.TheVariants as lexicon
-use Rattle.mj_model.specs.Compilation.{fault_of_image}
+use Rattle.dict_compile.specs.Compilation.{fault_of_image}
 use Rattle.mj_model.specs.FaultWords.{Words, source_words}
 use Rattle.dict_compile.specs.declared.fault.CompileUserFault.{CompileUserFault}
 use Rattle.dict_compile.specs.declared.fault.CompileUserFault.TheVariants.{NotSystem, Source}

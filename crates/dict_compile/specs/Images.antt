@@ -1,9 +1,8 @@
 -- What an image asks of the sources' parts, and what it is of them.
 use Rattle.std.specs.Prelude.{◌≡◌, ℕ, ◌<◌, ◌≤◌, List, length, All}
-use Rattle.mj_model.specs.CharDef.{code_point_max}
-use Rattle.mj_model.specs.Compilation.{cells_max, most_cells}
+use Rattle.mj_model.specs.CharDef.{code_point_max, IsInfoOf, IsStorable}
+use Rattle.image_bytes.specs.ImageBounds.{cells_max, most_cells}
 use Rattle.mj_model.specs.Dictionary.{IsInOrder}
-use Rattle.mj_model.specs.ImageSections.{IsInfoOf, IsStorable}
 use Rattle.mj_model.specs.Lexicon.{Row, rows_of}
 use Rattle.matrix_def.specs.Connections.{sizes_of}
 use Rattle.char_def.specs.Categories.{table_info}

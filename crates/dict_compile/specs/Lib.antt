@@ -1,3 +1,5 @@
+pub mod Compilation
+pub mod SourceOverlays
 pub mod Faults
 pub mod Answers
 pub mod Images

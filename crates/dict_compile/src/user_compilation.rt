@@ -2,9 +2,9 @@
 
 ghost use Rattle.std.specs.Prelude.{◌≡◌, ◌↔◌, map, Err, IfOk, IfErr};
 ghost use Rattle.mj_model.specs.declared.source_fault.SourceFault.{SourceFault as FaultOf};
-ghost use Rattle.mj_model.specs.Compilation.{IsUserCompilation, IsUserCause, IsUserFault};
+ghost use Rattle.dict_compile.specs.Compilation.{IsUserCompilation, IsUserCause, IsUserFault};
 ghost use Rattle.mj_model.specs.FirstFault.{IsRefusal};
-ghost use Rattle.mj_model.specs.ImageMeaning.{image_tables};
+ghost use Rattle.image_bytes.specs.ImageMeaning.{image_tables};
 ghost use Rattle.mj_model.specs.Tables.{Tables as TablesOf, User};
 ghost use Rattle.dictionary_sources.specs.IdSizes.{sizes_in};
 ghost use Rattle.image_writer.specs.Ids.{AreHeaderSizes};

@@ -2,10 +2,10 @@
 use Rattle.std.proofs.Common.{◌≡◌, ℕ, zero, suc, ◌+◌, ◌<◌, ◌≤◌, List, ◌++◌, map, length, drop, get_or, Some, ap, ◌∙◌, refl, arith, subst}
 use Rattle.std.specs.List.{flat_map, slice_get}
 use Rattle.std.proofs.lemmas.List.{length-append, length-map, drop_at, get_or-drop}
-use Rattle.mj_model.specs.CharDef.{NamedCategory}
-use Rattle.mj_model.specs.ImageBytes.{number_at, header_of, section}
-use Rattle.mj_model.specs.ImageMeaning.{image_categories}
-use Rattle.mj_model.specs.ImageSections.{AreCategories, IsStorable, category_bytes, first_category, categories_in}
+use Rattle.mj_model.specs.CharDef.{NamedCategory, IsStorable}
+use Rattle.image_bytes.specs.ImageBytes.{number_at, header_of, section}
+use Rattle.image_bytes.specs.ImageMeaning.{image_categories}
+use Rattle.image_bytes.specs.ImageSections.{AreCategories, category_bytes, first_category, categories_in}
 use Rattle.dict_image.specs.Categories.{HasFirst, HasFront, behind_first, bytes_from}
 use Rattle.dict_image.specs.Held.{IsImage}
 use Rattle.dict_image.proofs.FormedLemmas.{categories_are, system_of_categories}

@@ -1,7 +1,7 @@
 -- Which cells the rules allow.
 use Rattle.std.proofs.Common.{◌≡◌, ℕ, ◌+◌, ◌<◌, ◌≤◌, pos, List, length, Option, Some, None, MatchOption, sym, ap, ◌∙◌, subst}
-use Rattle.mj_model.specs.CellMap.{Cell as CellOf, base, check}
-use Rattle.mj_model.specs.CellRules.{IsUsed}
+use Rattle.double_array.specs.CellMap.{Cell as CellOf, base, check}
+use Rattle.double_array.specs.CellRules.{IsUsed}
 use Rattle.mj_model.proofs.Basics.{same_pos}
 use Rattle.dict_image.specs.Cells.{IsDistance, IsChildAt}
 

@@ -3,9 +3,9 @@ use Rattle.std.proofs.Common.{◌≡◌, ℕ, zero, suc, ◌+◌, ◌-◌, ◌*�
 use Rattle.std.specs.Prelude.{IsUtf8, flat_map, ◌==◌}
 use Rattle.std.proofs.lemmas.List.{length-drop, take_all, length-take-le, take-append-drop, drop-drop, drop_at}
 use Rattle.std.proofs.lemmas.List.Elements.{All-nil, All-cons, All-head, All-tail}
-use Rattle.mj_model.specs.CharDef.{NamedCategory}
-use Rattle.mj_model.specs.ImageBytes.{number_at}
-use Rattle.mj_model.specs.ImageSections.{IsStorable, AreCategories, category_bytes, categories_in, first_category, flag_byte}
+use Rattle.mj_model.specs.CharDef.{NamedCategory, IsStorable}
+use Rattle.image_bytes.specs.ImageBytes.{number_at}
+use Rattle.image_bytes.specs.ImageSections.{AreCategories, category_bytes, categories_in, first_category, flag_byte}
 use Rattle.dict_image.specs.CheckedCategories.{BeginsWithCategory, after_category}
 
 -- ---- one category

@@ -13,9 +13,9 @@ use Rattle.std.proofs.lemmas.List.FromFn.{map-range_with_len_more}
 use Rattle.mj_model.specs.Bounds.{IsWithin}
 use Rattle.mj_model.specs.declared.matrix_sizes.MatrixSizes.{MatrixSizes}
 use Rattle.mj_model.specs.Connection.{is_pair}
-use Rattle.mj_model.specs.ImageBytes.{kind_of, number_at, signed_2_at, header_of, all_tokens, section}
-use Rattle.mj_model.specs.ImageMeaning.{image_unknown, tokens_in, entry_under, image_tables, lexicon_sections, entries_of_group}
-use Rattle.mj_model.specs.ImageSections.{AreRanges, IsIndex, StoredRange, range_at, stored_info, no_info, token_from, stored_token, stored_cost, index_at, key_of, stored_cells}
+use Rattle.image_bytes.specs.ImageBytes.{kind_of, number_at, signed_2_at, header_of, all_tokens, section}
+use Rattle.image_bytes.specs.ImageMeaning.{image_unknown, tokens_in, entry_under, image_tables, lexicon_sections, entries_of_group}
+use Rattle.image_bytes.specs.ImageSections.{AreRanges, IsIndex, StoredRange, range_at, stored_info, no_info, token_from, stored_token, stored_cost, index_at, key_of, stored_cells}
 use Rattle.mj_model.specs.Tables.{System, Token, Lexeme, HasApartTokens}
 use Rattle.mj_model.proofs.Basics.{all_append}
 use Rattle.dict_image.specs.Fitting.{AreBytes, AreFitting, IsFitting}

@@ -1,9 +1,9 @@
 -- What a well-formed image gives, test by test.
 use Rattle.std.proofs.Common.{◌≡◌, ℕ, ◌*◌, ◌<◌, ◌≤◌, List, length, refl, arith, subst}
-use Rattle.mj_model.specs.CellRules.{AreCells}
-use Rattle.mj_model.specs.ImageBytes.{header_of, header_length, kind_of, all_tokens, section, section_end, total_length}
-use Rattle.mj_model.specs.ImageFaults.{IsWellFormed, IsHeader, AreCounts, SystemAlone}
-use Rattle.mj_model.specs.ImageSections.{AreCosts, AreCategories, AreRanges, IsIndex, stored_cells, stored_token, FitsSizes}
+use Rattle.double_array.specs.CellRules.{AreCells}
+use Rattle.image_bytes.specs.ImageBytes.{header_of, header_length, kind_of, all_tokens, section, section_end, total_length}
+use Rattle.image_bytes.specs.ImageFaults.{IsWellFormed, IsHeader, AreCounts, SystemAlone}
+use Rattle.image_bytes.specs.ImageSections.{AreCosts, AreCategories, AreRanges, IsIndex, stored_cells, stored_token, FitsSizes}
 use Rattle.mj_model.specs.Tables.{Kind, System, User}
 use Rattle.dict_image.specs.Held.{IsImage, HoldTokens}
 use Rattle.dict_image.proofs.LexiconLemmas.{AreKeys}

@@ -6,10 +6,10 @@ use Rattle.std.proofs.lemmas.List.FromFn.{length-map-range_with_len, get_or-map-
 use Rattle.std.proofs.lemmas.List.Folds.{Any-from_list_any}
 use Rattle.std.proofs.lemmas.Map.Keys.{IsDistinct-from_apart}
 use Rattle.std.proofs.lemmas.Map.Steps.{length-le_from_distinct_below}
-use Rattle.mj_model.specs.CellMap.{Cell, base}
-use Rattle.mj_model.specs.ImageSections.{value_cell}
+use Rattle.double_array.specs.CellMap.{Cell, base}
+use Rattle.image_bytes.specs.ImageSections.{value_cell}
 use Rattle.mj_model.proofs.Basics.{same_negsuc}
-use Rattle.mj_model.proofs.ImageKeys.{value_cell_is}
+use Rattle.image_bytes.proofs.ImageKeys.{value_cell_is}
 use Rattle.dict_image.specs.Values.{IsRoot, HoldEach}
 use Rattle.dict_image.proofs.ValueLemmas.{value_within}
 

@@ -2,12 +2,12 @@
 use Rattle.std.proofs.Common.{◌≡◌, ◌≢◌, ℕ, zero, suc, ◌+◌, ◌-◌, ◌<◌, ◌≤◌, ℤ, pos, negsuc, List, [], ◌∷◌, ◌++◌, length, map, drop, set, Some, IsUtf8, sym, ap, ◌∙◌, refl, arith, subst}
 use Rattle.std.proofs.lemmas.List.{drop-set}
 use Rattle.mj_model.specs.declared.limits.TheConstants.{SURFACE_MAX}
-use Rattle.mj_model.specs.CellMap.{Cell, base, check, step, walk, codes_of}
-use Rattle.mj_model.specs.CellRules.{IsBaseAfter, MeetsRules}
-use Rattle.mj_model.specs.ImageSections.{StandsOnce, IsKeyOf, bytes_to}
+use Rattle.double_array.specs.CellMap.{Cell, base, check, step, walk, codes_of}
+use Rattle.double_array.specs.CellRules.{IsBaseAfter, MeetsRules}
+use Rattle.image_bytes.specs.ImageSections.{StandsOnce, IsKeyOf, bytes_to}
 use Rattle.mj_model.proofs.Basics.{same_pos}
-use Rattle.mj_model.proofs.CellWalks.{child_of, step_named, walk_first, walk_one, walk_more, value_parts, value_from}
-use Rattle.mj_model.proofs.ImageKeys.{walk_same, key_state, bytes_back, bytes_of_key}
+use Rattle.double_array.proofs.CellWalks.{child_of, step_named, walk_first, walk_one, walk_more, value_parts, value_from}
+use Rattle.image_bytes.proofs.ImageKeys.{walk_same, key_state, bytes_back, bytes_of_key}
 use Rattle.dict_image.specs.Keys.{IsState}
 
 -- ---- a step back

@@ -10,15 +10,15 @@ use Rattle.std.proofs.lemmas.List.{map-append}
 use Rattle.std.proofs.lemmas.List.Elements.{filter-append}
 use Rattle.std.proofs.lemmas.Option.{same_Some, none-some}
 use Rattle.std.proofs.lemmas.Slice.Eq.{bytes_eq-Decides}
-use Rattle.mj_model.specs.CellMap.{Cell, walk, codes_of, value_of}
-use Rattle.mj_model.specs.CellRules.{MeetsRules}
-use Rattle.mj_model.specs.ImageFaults.{HasKey}
-use Rattle.mj_model.specs.ImageMeaning.{tokens_in, entry_under, LexiconSections, entries_of_group, lexicon_in, entries_under}
-use Rattle.mj_model.specs.ImageSections.{StandsOnce, key_of, stored_cells}
+use Rattle.double_array.specs.CellMap.{Cell, walk, codes_of, value_of}
+use Rattle.double_array.specs.CellRules.{MeetsRules}
+use Rattle.image_bytes.specs.ImageFaults.{HasKey}
+use Rattle.image_bytes.specs.ImageMeaning.{tokens_in, entry_under, LexiconSections, entries_of_group, lexicon_in, entries_under}
+use Rattle.image_bytes.specs.ImageSections.{StandsOnce, key_of, stored_cells}
 use Rattle.mj_model.specs.Tables.{Token, Lexeme}
 use Rattle.mj_model.proofs.Basics.{same_negsuc}
-use Rattle.mj_model.proofs.CellWalks.{value_parts, step_child, walk_is_one}
-use Rattle.mj_model.proofs.ImageKeys.{key_state, key_is}
+use Rattle.double_array.proofs.CellWalks.{value_parts, step_child, walk_is_one}
+use Rattle.image_bytes.proofs.ImageKeys.{key_state, key_is}
 use Rattle.double_array.proofs.KeyWalks.{same_key}
 
 -- ---- keys and groups

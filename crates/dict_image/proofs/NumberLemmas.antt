@@ -3,13 +3,13 @@ use Rattle.std.proofs.Common.{◌≡◌, ℕ, zero, suc, ◌+◌, ◌-◌, ◌<�
 use Rattle.std.specs.Prelude.{IsUtf8}
 use Rattle.std.specs.List.{AllByRecursion, flat_map, range_with_len}
 use Rattle.std.proofs.lemmas.List.{map-append}
-use Rattle.mj_model.specs.ImageBytes.{header_of, section}
-use Rattle.mj_model.specs.ImageMeaning.{LexiconSections, entries_of_group, entry_under, image_tables, lexicon_sections, tokens_in}
-use Rattle.mj_model.specs.ImageSections.{IsIndex, index_at, key_of, stored_cells, token_from}
+use Rattle.image_bytes.specs.ImageBytes.{header_of, section}
+use Rattle.image_bytes.specs.ImageMeaning.{LexiconSections, entries_of_group, entry_under, image_tables, lexicon_sections, tokens_in}
+use Rattle.image_bytes.specs.ImageSections.{IsIndex, index_at, key_of, stored_cells, token_from}
 use Rattle.mj_model.specs.Lists.{AreApart, StandsIn}
 use Rattle.mj_model.specs.Tables.{HasApartTokens, HasText, Lexeme, Token}
 use Rattle.mj_model.proofs.Basics.{all_append}
-use Rattle.mj_model.proofs.ImageKeys.{key_is}
+use Rattle.image_bytes.proofs.ImageKeys.{key_is}
 use Rattle.dict_image.specs.Held.{IsImage}
 use Rattle.dict_image.proofs.FormedLemmas.{groups_are, keys_are}
 use Rattle.dict_image.proofs.LexiconLemmas.{AreKeys}

@@ -6,10 +6,10 @@ use Rattle.std.specs.List.{flat_map, range_with_len}
 use Rattle.std.proofs.lemmas.Bool.{eqb-true, eqb-false, lt-ltb}
 use Rattle.std.proofs.lemmas.List.{map-append}
 use Rattle.std.proofs.lemmas.List.Concat.{flat_map-append}
-use Rattle.mj_model.specs.ImageBytes.{header_of, section, all_tokens, kind_of}
-use Rattle.mj_model.specs.ImageFaults.{AreCounts}
-use Rattle.mj_model.specs.ImageMeaning.{LexiconSections, entries_of_group, image_tables, image_token, image_unknown, lexicon_sections, tokens_in}
-use Rattle.mj_model.specs.ImageSections.{IsIndex, index_at, key_of, stored_cells, token_from}
+use Rattle.image_bytes.specs.ImageBytes.{header_of, section, all_tokens, kind_of}
+use Rattle.image_bytes.specs.ImageFaults.{AreCounts}
+use Rattle.image_bytes.specs.ImageMeaning.{LexiconSections, entries_of_group, image_tables, image_token, image_unknown, lexicon_sections, tokens_in}
+use Rattle.image_bytes.specs.ImageSections.{IsIndex, index_at, key_of, stored_cells, token_from}
 use Rattle.mj_model.specs.Lists.{up_to}
 use Rattle.mj_model.specs.Tables.{Lexeme, Token, Kind, System, User}
 use Rattle.dict_image.specs.Held.{IsImage}

@@ -3,10 +3,10 @@ use Rattle.std.proofs.Common.{◌≡◌, ℕ, suc, ◌<◌, Bool, true, cond, Li
 use Rattle.std.specs.List.{AllByRecursion, filter, filter_map, cons_option}
 use Rattle.std.specs.Option.{option_map}
 use Rattle.std.proofs.lemmas.Bool.{lt-ltb}
-use Rattle.mj_model.specs.CellMap.{Cell, value_of, prefixes_of}
-use Rattle.mj_model.specs.CellRules.{MeetsRules}
-use Rattle.mj_model.specs.ImageMeaning.{tokens_in, LexiconSections, lexicon_in, entries_under}
-use Rattle.mj_model.specs.ImageSections.{stored_cells, index_at}
+use Rattle.double_array.specs.CellMap.{Cell, value_of, prefixes_of}
+use Rattle.double_array.specs.CellRules.{MeetsRules}
+use Rattle.image_bytes.specs.ImageMeaning.{tokens_in, LexiconSections, lexicon_in, entries_under}
+use Rattle.image_bytes.specs.ImageSections.{stored_cells, index_at}
 use Rattle.mj_model.specs.Lists.{up_to}
 use Rattle.mj_model.specs.Tables.{Token}
 use Rattle.double_array.specs.Hits.{hit_of}

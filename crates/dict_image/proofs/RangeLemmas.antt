@@ -7,7 +7,7 @@ use Rattle.std.proofs.lemmas.List.{reverse-append}
 use Rattle.std.proofs.lemmas.Nat.{le-div}
 use Rattle.std.proofs.lemmas.List.FromFn.{map-range_with_len_more}
 use Rattle.mj_model.specs.declared.category.CharInfo.{CharInfo}
-use Rattle.mj_model.specs.ImageSections.{AreRanges, StoredRange, range_at, stored_info, no_info}
+use Rattle.image_bytes.specs.ImageSections.{AreRanges, StoredRange, range_at, stored_info, no_info}
 use Rattle.dict_image.specs.Ranges.{AreInOrder, IsLastUpTo, IsOfRange, range_count}
 
 -- a later range begins no earlier

@@ -1,8 +1,8 @@
 -- The tests of an image, stage behind stage.
 use Rattle.std.proofs.Common.{◌≡◌, ℕ, List, [], ◌∷◌, ◌++◌, inl, inr, sym, ap, ◌∙◌, subst}
 use Rattle.mj_model.specs.declared.image_fault.ImageFault.{ImageFault}
-use Rattle.mj_model.specs.ImageBytes.{Header as Stated, header_of, image_magic}
-use Rattle.mj_model.specs.ImageFaults.{Test, PassAll, IsFirstTold, IsWellFormed, IsImageFault}
+use Rattle.image_bytes.specs.ImageBytes.{Header as Stated, header_of, image_magic}
+use Rattle.image_bytes.specs.ImageFaults.{Test, PassAll, IsFirstTold, IsWellFormed, IsImageFault}
 use Rattle.image_bytes.specs.declared.header.Header.{Header}
 use Rattle.image_bytes.specs.Headers.{IsHeaderOf}
 use Rattle.dict_image.specs.Stages.{stated, front_tests, end_tests, system_tests, token_tests, section_tests}

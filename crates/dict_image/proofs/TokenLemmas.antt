@@ -1,8 +1,8 @@
 -- Tokens in the order of their numbers.
 use Rattle.std.proofs.Common.{◌≡◌, ℕ, zero, suc, ◌+◌, ◌-◌, ◌*◌, ◌<◌, ◌≤◌, List, length, ap, ◌∙◌, arith}
 use Rattle.std.proofs.lemmas.List.FromFn.{length-map-range_with_len}
-use Rattle.mj_model.specs.ImageMeaning.{tokens_in}
-use Rattle.mj_model.specs.ImageSections.{IsIndex, index_at, token_from}
+use Rattle.image_bytes.specs.ImageMeaning.{tokens_in}
+use Rattle.image_bytes.specs.ImageSections.{IsIndex, index_at, token_from}
 
 -- a list of an index that rises there is not empty
 pub some_tokens : (tokens features index : List ℕ) (i : ℕ) → index_at index i < index_at index (suc i) → 0 < length (tokens_in tokens features index i)

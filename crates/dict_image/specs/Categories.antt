@@ -1,8 +1,8 @@
 -- The names of categories, and where categories stand in their section.
 use Rattle.std.specs.Prelude.{ℕ, zero, suc, ◌+◌, ◌≤◌, List, length, drop, map}
 use Rattle.mj_model.specs.CharDef.{NamedCategory}
-use Rattle.mj_model.specs.ImageBytes.{number_at}
-use Rattle.mj_model.specs.ImageMeaning.{image_categories}
+use Rattle.image_bytes.specs.ImageBytes.{number_at}
+use Rattle.image_bytes.specs.ImageMeaning.{image_categories}
 
 -- the bytes behind the first category
 abbrev pub behind_first : List ℕ → List ℕ

@@ -1,7 +1,8 @@
 -- The category at the front of some bytes.
 use Rattle.std.specs.Prelude.{◌≡◌, ℕ, ◌+◌, List, ◌++◌, drop}
-use Rattle.mj_model.specs.ImageBytes.{number_at}
-use Rattle.mj_model.specs.ImageSections.{IsStorable, category_bytes, first_category}
+use Rattle.image_bytes.specs.ImageBytes.{number_at}
+use Rattle.mj_model.specs.CharDef.{IsStorable}
+use Rattle.image_bytes.specs.ImageSections.{category_bytes, first_category}
 
 -- what stands behind the first category
 abbrev pub after_category : List ℕ → List ℕ

@@ -2,9 +2,9 @@
 use Rattle.std.specs.Prelude.{ℕ, ◌*◌, ◌<◌, ◌≤◌, List, length}
 use Rattle.image_bytes.specs.declared.header.Header.{Header}
 use Rattle.image_bytes.specs.Headers.{IsHeaderOf, AreEnds}
-use Rattle.mj_model.specs.ImageBytes.{header_of}
-use Rattle.mj_model.specs.ImageFaults.{IsWellFormed}
-use Rattle.mj_model.specs.ImageSections.{HasFeature, stored_token}
+use Rattle.image_bytes.specs.ImageBytes.{header_of}
+use Rattle.image_bytes.specs.ImageFaults.{IsWellFormed}
+use Rattle.image_bytes.specs.ImageSections.{HasFeature, stored_token}
 
 -- a well-formed image, as a word that is not taken apart
 unfoldable pub IsImage : List ℕ → Type 0

@@ -1,6 +1,6 @@
 -- States, and steps gone back.
 use Rattle.std.specs.Prelude.{◌≡◌, ℕ, suc, ◌<◌, ◌≤◌, pos, List, length, Some}
-use Rattle.mj_model.specs.CellMap.{Cell, base, step}
+use Rattle.double_array.specs.CellMap.{Cell, base, step}
 use Rattle.dict_image.specs.declared.check.keys.StepBack.{StepBack}
 
 -- a cell from which steps lead

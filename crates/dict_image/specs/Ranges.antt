@@ -1,7 +1,7 @@
 -- Ranges of code points in their order.
 use Rattle.std.specs.Prelude.{◌≡◌, ℕ, suc, ◌/◌, ◌<◌, ◌≤◌, List, length}
 use Rattle.mj_model.specs.declared.category.CharInfo.{CharInfo}
-use Rattle.mj_model.specs.ImageSections.{range_at}
+use Rattle.image_bytes.specs.ImageSections.{range_at}
 
 -- how many ranges there are
 abbrev pub range_count : List ℕ → ℕ

@@ -1,9 +1,9 @@
 -- The tests of an image by stages, in their order.
 use Rattle.std.specs.Prelude.{◌≡◌, ℕ, ◌*◌, ◌≤◌, List, [], ◌∷◌, ◌++◌, length}
 use Rattle.mj_model.specs.declared.image_fault.ImageFault.TheVariants.{Truncated, BadMagic, BadLayout, BadSection, BadKey, BadToken, BadText, Digest}
-use Rattle.mj_model.specs.ImageBytes.{Header as Stated, header_length, image_magic, kind_of, all_tokens, section, total_length}
-use Rattle.mj_model.specs.ImageFaults.{Test, unless, unless_each, IsReadLayout, HasDigest, IsHeader, SystemAlone, HasKey}
-use Rattle.mj_model.specs.ImageSections.{AreCosts, AreCategories, AreRanges, IsIndex, HoldGroups, stored_cells, stored_token, FitsSizes, HasFeature}
+use Rattle.image_bytes.specs.ImageBytes.{Header as Stated, header_length, image_magic, kind_of, all_tokens, section, total_length}
+use Rattle.image_bytes.specs.ImageFaults.{Test, unless, unless_each, IsReadLayout, HasDigest, IsHeader, SystemAlone, HasKey}
+use Rattle.image_bytes.specs.ImageSections.{AreCosts, AreCategories, AreRanges, IsIndex, HoldGroups, stored_cells, stored_token, FitsSizes, HasFeature}
 use Rattle.image_bytes.specs.declared.header.Header.{Header}
 
 -- what a header that was read states

@@ -1,7 +1,7 @@
 -- Tokens that stand one behind another.
 use Rattle.std.specs.Prelude.{ℕ, ◌-◌, List, map}
 use Rattle.std.specs.List.{range_with_len}
-use Rattle.mj_model.specs.ImageSections.{token_from}
+use Rattle.image_bytes.specs.ImageSections.{token_from}
 use Rattle.mj_model.specs.Tables.{Token}
 
 -- the tokens from one number up to, not including, another

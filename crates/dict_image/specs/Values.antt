@@ -1,8 +1,8 @@
 -- Where the values of groups stand in cells.
 use Rattle.std.specs.Prelude.{◌≡◌, ◌⊎◌, ℕ, ◌<◌, pos, negsuc, List, length, slice_index}
-use Rattle.mj_model.specs.CellMap.{Cell, base, check}
-use Rattle.mj_model.specs.CellRules.{MeetsRules}
-use Rattle.mj_model.specs.ImageSections.{StandsOnce}
+use Rattle.double_array.specs.CellMap.{Cell, base, check}
+use Rattle.double_array.specs.CellRules.{MeetsRules}
+use Rattle.image_bytes.specs.ImageSections.{StandsOnce}
 use Rattle.dict_image.specs.Cells.{IsAllowed}
 
 -- cell 0 has check -2 and a base of at least 0

@@ -1,6 +1,6 @@
 //! The section of categories.
 ghost use Rattle.std.specs.Prelude.{◌≡◌, ◌+◌, length, IsUtf8};
-ghost use Rattle.mj_model.specs.ImageSections.{first_category};
+ghost use Rattle.image_bytes.specs.ImageSections.{first_category};
 ghost use Rattle.dict_image.specs.Categories.{HasFirst, HasFront, behind_first, bytes_from};
 
 use crate::entry_ref::text;

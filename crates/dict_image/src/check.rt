@@ -1,7 +1,7 @@
 //! Whether bytes are a well-formed image: each test in its order, and the first fault.
 ghost use Rattle.std.specs.Prelude.{◌≡◌, ◌⊎◌, ◌≤◌, length, OnOk, IfErr, MatchResult};
-ghost use Rattle.mj_model.specs.ImageBytes.{header_of, section_end};
-ghost use Rattle.mj_model.specs.ImageFaults.{IsWellFormed, IsImageFault, PassAll, IsFirstTold};
+ghost use Rattle.image_bytes.specs.ImageBytes.{header_of, section_end};
+ghost use Rattle.image_bytes.specs.ImageFaults.{IsWellFormed, IsImageFault, PassAll, IsFirstTold};
 ghost use Rattle.mj_model.specs.declared.image_fault.ImageFault.TheVariants.{Memory};
 ghost use Rattle.image_bytes.specs.Headers.{AreEnds};
 ghost use Rattle.dict_image.specs.Stages.{stated, section_tests};

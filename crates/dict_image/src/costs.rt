@@ -1,6 +1,6 @@
 //! The section of connection costs.
 ghost use Rattle.std.specs.Prelude.{◌≡◌, ◌<◌};
-ghost use Rattle.mj_model.specs.ImageSections.{AreCosts, stored_cost};
+ghost use Rattle.image_bytes.specs.ImageSections.{AreCosts, stored_cost};
 ghost use Rattle.dict_image.specs.Costs.{sizes};
 
 use image_bytes::i16_at;

@@ -1,10 +1,10 @@
 //! A dictionary: the bytes of a well-formed image.
 ghost use Rattle.std.specs.Prelude.{◌≡◌, ℕ, ◌<◌, ◌≤◌, List};
-ghost use Rattle.mj_model.specs.CellMap.{prefixes_of, value_of};
-ghost use Rattle.mj_model.specs.ImageBytes.{all_tokens, header_of, section as section_of};
-ghost use Rattle.mj_model.specs.ImageFaults.{IsWellFormed};
-ghost use Rattle.mj_model.specs.ImageMeaning.{image_tables, image_token, tokens_in};
-ghost use Rattle.mj_model.specs.ImageSections.{stored_cells};
+ghost use Rattle.double_array.specs.CellMap.{prefixes_of, value_of};
+ghost use Rattle.image_bytes.specs.ImageBytes.{all_tokens, header_of, section as section_of};
+ghost use Rattle.image_bytes.specs.ImageFaults.{IsWellFormed};
+ghost use Rattle.image_bytes.specs.ImageMeaning.{image_tables, image_token, tokens_in};
+ghost use Rattle.image_bytes.specs.ImageSections.{stored_cells};
 ghost use Rattle.mj_model.specs.Overlays.{is_user};
 ghost use Rattle.image_bytes.specs.Headers.{IsHeaderOf};
 ghost use Rattle.dict_image.specs.Held.{IsImage};

@@ -1,8 +1,8 @@
 //! The iterator over entries whose tokens stand one behind another.
 ghost use Rattle.std.specs.Prelude.{◌≡◌, ◌+◌, ◌*◌, ◌≤◌, [], suc, length};
 ghost use Rattle.std.specs.Iterator.{YieldsFirstBy, item_count};
-ghost use Rattle.mj_model.specs.ImageMeaning.{tokens_in};
-ghost use Rattle.mj_model.specs.ImageSections.{index_at};
+ghost use Rattle.image_bytes.specs.ImageMeaning.{tokens_in};
+ghost use Rattle.image_bytes.specs.ImageSections.{index_at};
 ghost use Rattle.dict_image.specs.Seen.{token_seen};
 ghost use Rattle.dict_image.specs.Held.{HoldTokens};
 ghost use Rattle.dict_image.specs.Tokens.{tokens_from};

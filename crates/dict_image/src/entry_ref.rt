@@ -1,6 +1,6 @@
 //! Tokens of an image as entries.
 ghost use Rattle.std.specs.Prelude.{◌≡◌, ◌+◌, ◌*◌, ◌≤◌, length, IsUtf8};
-ghost use Rattle.mj_model.specs.ImageSections.{HasFeature, stored_token, token_from};
+ghost use Rattle.image_bytes.specs.ImageSections.{HasFeature, stored_token, token_from};
 ghost use Rattle.dict_image.specs.Seen.{token_seen};
 
 use image_bytes::{i16_at, u16_at, u32_at};

@@ -2,8 +2,8 @@
 ghost use Rattle.std.specs.Prelude.{◌≡◌, ◌+◌, ◌*◌, ◌<◌, ◌≤◌, length, map};
 ghost use Rattle.std.specs.List.{AllByRecursion};
 ghost use Rattle.std.specs.Iterator.{YieldsFirstBy, item_count};
-ghost use Rattle.mj_model.specs.ImageBytes.{header_of};
-ghost use Rattle.mj_model.specs.ImageMeaning.{image_tables, lexicon_sections};
+ghost use Rattle.image_bytes.specs.ImageBytes.{header_of};
+ghost use Rattle.image_bytes.specs.ImageMeaning.{image_tables, lexicon_sections};
 ghost use Rattle.dict_image.specs.Prefixes.{prefix_in, prefixes_in};
 
 use crate::dict::Dict;
@@ -23,9 +23,9 @@ pub struct Prefixes<'a> {
 impl<'a> Model for Prefixes<'a> {
     ghost use Rattle.std.specs.Prelude.{◌<◌, map};
     ghost use Rattle.std.specs.List.{AllByRecursion};
-    ghost use Rattle.mj_model.specs.ImageBytes.{header_of};
+    ghost use Rattle.image_bytes.specs.ImageBytes.{header_of};
     ghost use Rattle.dict_image.specs.Prefixes.{PrefixesSeen, prefix_in};
-    ghost use Rattle.mj_model.specs.ImageMeaning.{lexicon_sections};
+    ghost use Rattle.image_bytes.specs.ImageMeaning.{lexicon_sections};
 
     ghost Value = { PrefixesSeen };
 

@@ -1,5 +1,5 @@
 //! Laws of the tables of every dictionary.
-ghost use Rattle.mj_model.specs.ImageMeaning.{image_tables};
+ghost use Rattle.image_bytes.specs.ImageMeaning.{image_tables};
 ghost use Rattle.dict_image.specs.Fitting.{AreBytes, AreFitting};
 
 use crate::dict::Dict;

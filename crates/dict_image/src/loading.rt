@@ -1,6 +1,6 @@
 //! From the bytes of an image to its dictionary.
 ghost use Rattle.std.specs.Prelude.{◌≡◌, ◌⊎◌, IfErr, IfOk};
-ghost use Rattle.mj_model.specs.ImageFaults.{IsImageFault, IsWellFormed};
+ghost use Rattle.image_bytes.specs.ImageFaults.{IsImageFault, IsWellFormed};
 ghost use Rattle.mj_model.specs.declared.image_fault.ImageFault.TheVariants.{Memory};
 
 use crate::check::check_image;

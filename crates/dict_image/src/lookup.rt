@@ -1,6 +1,6 @@
 //! Lookup in the lexicon.
 ghost use Rattle.std.specs.Prelude.{◌≡◌};
-ghost use Rattle.mj_model.specs.ImageMeaning.{entries_under, image_tables};
+ghost use Rattle.image_bytes.specs.ImageMeaning.{entries_under, image_tables};
 ghost use Rattle.dict_image.specs.Prefixes.{prefixes_in};
 
 use crate::dict::Dict;

@@ -1,6 +1,6 @@
 //! Entries by their numbers.
 ghost use Rattle.std.specs.Prelude.{◌≡◌, ◌==◌, find, map, option_map};
-ghost use Rattle.mj_model.specs.ImageMeaning.{image_tables};
+ghost use Rattle.image_bytes.specs.ImageMeaning.{image_tables};
 ghost use Rattle.dict_image.specs.Numbered.{unknown_tokens};
 ghost use Rattle.dict_image.specs.Seen.{token_seen};
 

@@ -1,6 +1,6 @@
 //! The section of the categories of code points.
 ghost use Rattle.std.specs.Prelude.{◌≡◌, ◌+◌, ◌*◌, ◌/◌, ◌<◌};
-ghost use Rattle.mj_model.specs.ImageSections.{stored_info};
+ghost use Rattle.image_bytes.specs.ImageSections.{stored_info};
 ghost use Rattle.dict_image.specs.Ranges.{AreInOrder, IsLastUpTo, IsOfRange};
 
 use image_bytes::u32_at;

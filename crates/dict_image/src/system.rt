@@ -1,7 +1,7 @@
 //! What a system dictionary says besides its lexicon.
 ghost use Rattle.std.specs.Prelude.{◌≡◌, ◌<◌, Some, length, slice_get, IsTrue};
 ghost use Rattle.mj_model.specs.Connection.{is_pair};
-ghost use Rattle.mj_model.specs.ImageMeaning.{image_tables};
+ghost use Rattle.image_bytes.specs.ImageMeaning.{image_tables};
 ghost use Rattle.mj_model.specs.Tables.{System};
 ghost use Rattle.dict_image.specs.Categories.{category_names};
 

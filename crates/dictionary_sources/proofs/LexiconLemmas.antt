@@ -9,8 +9,7 @@ use Rattle.mj_model.specs.declared.source_fault.SourceKind.TheVariants.{IdOutsid
 use Rattle.mj_model.specs.declared.matrix_sizes.MatrixSizes.{MatrixSizes}
 use Rattle.mj_model.specs.Dictionary.{first_outside, next_file, AreLexicons}
 use Rattle.mj_model.specs.FirstFault.{IsRefusal}
-use Rattle.mj_model.specs.Lexicon.{Row, Reading, row_of, rows_of, IsLexicon}
-use Rattle.mj_model.specs.Compilation.{SkipLines, SkipsLines}
+use Rattle.mj_model.specs.Lexicon.{Row, Reading, row_of, rows_of, IsLexicon, SkipLines, SkipsLines}
 use Rattle.dictionary_sources.proofs.SkipLemmas.{bytes_before, skips_more, skips_of}
 use Rattle.dictionary_sources.specs.AddedLexicon.{AddsLexicon, IsLexiconFault}
 

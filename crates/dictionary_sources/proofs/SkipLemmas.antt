@@ -5,8 +5,7 @@ use Rattle.std.specs.Prelude.{Option, Some, None, Result, Ok, Err, count_by}
 use Rattle.std.specs.List.{AllZip}
 use Rattle.std.proofs.lemmas.List.Sums.{sum_by_push}
 use Rattle.mj_model.specs.declared.source_fault.SourceFault.{SourceFault}
-use Rattle.mj_model.specs.Compilation.{SkipLines, SkipsLines}
-use Rattle.mj_model.specs.Lexicon.{IsLexicon, Outcome, Reading, first_refused, is_skipped, reading_unless}
+use Rattle.mj_model.specs.Lexicon.{SkipLines, SkipsLines, IsLexicon, Outcome, Reading, first_refused, is_skipped, reading_unless}
 
 abbrev skipped_or : Result Reading SourceFault → ℕ
 skipped_or (Ok lines) = lines.skipped

@@ -2,9 +2,8 @@
 use Rattle.std.specs.Prelude.{Ok}
 use Rattle.mj_model.specs.declared.sources.Sources.{Sources}
 use Rattle.mj_model.specs.CharDef.{CharSource}
-use Rattle.mj_model.specs.Compilation.{SkipLines}
+use Rattle.mj_model.specs.Lexicon.{SkipLines, rows_of}
 use Rattle.mj_model.specs.Connection.{Connection}
-use Rattle.mj_model.specs.Lexicon.{rows_of}
 use Rattle.mj_model.specs.SourceTables.{AreChars, AreRows, AreUnknown, IsConnection, lexicon_bytes}
 use Rattle.matrix_def.specs.Costs.{IsTableOf as IsCostTableOf}
 use Rattle.char_def.specs.Categories.{IsTableOf}

@@ -4,8 +4,8 @@ use Rattle.std.specs.Option.{option_map}
 use Rattle.std.specs.List.{filter_map}
 use Rattle.std.proofs.lemmas.List.{drop_more, drop_all, take-take, take-map, take-append-le, length-take-le, length-map, get_or-take}
 use Rattle.mj_model.specs.Lists.{up_to}
-use Rattle.mj_model.specs.CellMap.{Cell, step, walk, codes_of, value_of, prefixes_of}
-use Rattle.mj_model.proofs.CellWalks.{walk_none}
+use Rattle.double_array.specs.CellMap.{Cell, step, walk, codes_of, value_of, prefixes_of}
+use Rattle.double_array.proofs.CellWalks.{walk_none}
 use Rattle.double_array.specs.declared.steps.Place.{Place}
 use Rattle.double_array.specs.Steps.{IsStepTo}
 use Rattle.double_array.specs.Hits.{hit_at, hit_of, value_here, hits_with, hits_from, hits_at}

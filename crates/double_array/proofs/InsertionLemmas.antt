@@ -3,9 +3,9 @@ use Rattle.std.proofs.Common.{◌≡◌, ◌≢◌, ℕ, suc, ◌+◌, ◌-◌, 
 use Rattle.std.proofs.lemmas.Bool.{cases_eq, cases_lt}
 use Rattle.std.proofs.lemmas.List.{length-set}
 use Rattle.std.proofs.lemmas.Option.{none-some}
-use Rattle.mj_model.specs.CellMap.{Cell, cell_at, base, check, step, walk, codes_of, value_of, HasSameMap, IsMapWith}
-use Rattle.mj_model.specs.CellRules.{IsBaseAfter}
-use Rattle.mj_model.proofs.CellWalks.{step_parts, step_from, step_named, step_place, step_child, named_within, walk_none, walk_more, value_from}
+use Rattle.double_array.specs.CellMap.{Cell, cell_at, base, check, step, walk, codes_of, value_of, HasSameMap, IsMapWith}
+use Rattle.double_array.specs.CellRules.{IsBaseAfter}
+use Rattle.double_array.proofs.CellWalks.{step_parts, step_from, step_named, step_place, step_child, named_within, walk_none, walk_more, value_from}
 use Rattle.mj_model.proofs.Basics.{same_pos}
 use Rattle.double_array.specs.declared.insertion.Reached.{Reached}
 use Rattle.double_array.specs.Pool.{Pool, IsGrown, IsInUse}

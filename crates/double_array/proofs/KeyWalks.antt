@@ -2,9 +2,9 @@
 use Rattle.std.proofs.Common.{◌≡◌, ℕ, suc, ◌+◌, ◌<◌, List, [], ◌∷◌, ◌++◌, length, get_or, map, take, drop, Option, Some, None, sym, ap, ◌∙◌, refl, arith}
 use Rattle.std.specs.Option.{option_and_then}
 use Rattle.std.proofs.lemmas.List.{take_more, drop_more, take-append-drop, length-append, length-map, drop_all, get_or_append_left, get_or-map, get_or_at, append_cancel_right}
-use Rattle.mj_model.specs.CellMap.{Cell, base, step, walk, codes_of, value_in, value_of}
+use Rattle.double_array.specs.CellMap.{Cell, base, step, walk, codes_of, value_in, value_of}
 use Rattle.mj_model.proofs.Basics.{same_map_suc}
-use Rattle.mj_model.proofs.CellWalks.{walk_append, walk_more}
+use Rattle.double_array.proofs.CellWalks.{walk_append, walk_more}
 
 pub length-codes_of : (key : List ℕ) → length (codes_of key) ≡ length key + 1
 unfolding codes_of

@@ -1,3 +1,5 @@
+pub mod CellWalks
+pub mod CellMoveLaw
 pub mod StepLemmas
 pub mod KeyWalks
 pub mod HitLemmas

@@ -9,9 +9,9 @@ use Rattle.std.proofs.lemmas.Int.{ints, to_z-of_z}
 use Rattle.std.proofs.lemmas.Bool.{cases_lt, le-leb}
 use Rattle.std.proofs.lemmas.Option.{none-some, slice_get-get_or, get_or_from_slice_get}
 use Rattle.std.proofs.lemmas.List.{get_or_past}
-use Rattle.mj_model.specs.CellMap.{Cell, free_cell, cell_at, base, check, step, value_in}
-use Rattle.mj_model.specs.CellRules.{IsBaseAfter, AreCells}
-use Rattle.mj_model.proofs.CellWalks.{step_named, step_place, step_at, step_child}
+use Rattle.double_array.specs.CellMap.{Cell, free_cell, cell_at, base, check, step, value_in}
+use Rattle.double_array.specs.CellRules.{IsBaseAfter, AreCells}
+use Rattle.double_array.proofs.CellWalks.{step_named, step_place, step_at, step_child}
 
 -- what is not there is as a free cell
 pub cell_missing : (cells : List Cell) (i : ℕ) → None ≡ slice_get cells i → cell_at cells i ≡ free_cell

@@ -2,8 +2,8 @@
 use Rattle.std.proofs.Common.{◌≡◌, ◌≢◌, ℕ, suc, ◌+◌, ◌<◌, ◌≤◌, max, ℤ, pos, negsuc, List, [], length, set, take, drop, get_or, Some, inl, inr, sym, ap, ◌∙◌, refl, arith, subst}
 use Rattle.std.proofs.lemmas.Bool.{cases_eq}
 use Rattle.std.proofs.lemmas.List.{length-set, set-set}
-use Rattle.mj_model.specs.CellMap.{Cell, free_cell, cell_at, base, check, walk, codes_of, HasSameMap, IsMapWith}
-use Rattle.mj_model.specs.CellRules.{IsBaseAfter}
+use Rattle.double_array.specs.CellMap.{Cell, free_cell, cell_at, base, check, walk, codes_of, HasSameMap, IsMapWith}
+use Rattle.double_array.specs.CellRules.{IsBaseAfter}
 use Rattle.mj_model.proofs.Basics.{same_pos}
 use Rattle.double_array.specs.Pool.{Pool}
 use Rattle.double_array.specs.Built.{values, AreBases, IsBuilt}

@@ -1,6 +1,6 @@
 -- The keys that begin a text, as a walk over the text meets them.
 use Rattle.std.specs.Prelude.{ℕ, suc, List, [], ◌∷◌, ◌++◌, take, drop, Option, None, Some, option_and_then, option_map}
-use Rattle.mj_model.specs.CellMap.{Cell, base, step, value_in, value_of}
+use Rattle.double_array.specs.CellMap.{Cell, base, step, value_in, value_of}
 use Rattle.double_array.specs.declared.steps.Place.{Place}
 use Rattle.double_array.specs.declared.walk.Walk.{Walk}
 

@@ -1,3 +1,6 @@
+pub mod CellMap
+pub mod CellRules
+pub mod CellMoves
 pub mod Steps
 pub mod HitsSeen
 pub mod Hits

@@ -1,6 +1,6 @@
 -- States with their bases, and steps between them.
 use Rattle.std.specs.Prelude.{◌≡◌, ℕ, ℤ, pos, List, Option, None, Some, MatchOption}
-use Rattle.mj_model.specs.CellMap.{Cell, base, check, step}
+use Rattle.double_array.specs.CellMap.{Cell, base, check, step}
 use Rattle.double_array.specs.declared.steps.Place.{Place}
 
 -- the base is that of the state

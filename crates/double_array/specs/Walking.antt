@@ -1,7 +1,7 @@
 -- A walk on its way over a text.
 use Rattle.std.specs.Prelude.{ℕ, ◌+◌, ◌*◌, ◌≤◌, List, length, IfSome}
-use Rattle.mj_model.specs.CellMap.{Cell}
-use Rattle.mj_model.specs.CellRules.{AreCells}
+use Rattle.double_array.specs.CellMap.{Cell}
+use Rattle.double_array.specs.CellRules.{AreCells}
 use Rattle.double_array.specs.declared.walk.Walk.{Walk}
 use Rattle.double_array.specs.Steps.{IsAt}
 

@@ -1,6 +1,6 @@
 //! Where the cells of a double array are read from.
 ghost use Rattle.std.specs.Prelude.{◌≡◌, ◌<◌, List, length, slice_get, Some};
-ghost use Rattle.mj_model.specs.CellMap.{Cell};
+ghost use Rattle.double_array.specs.CellMap.{Cell};
 
 /// Cells that can be read: the builder's own, or those of an image. No call takes memory.
 pub trait CellRead {

@@ -1,7 +1,7 @@
 //! The double array under insertion.
 ghost use Rattle.std.specs.Prelude.{◌≡◌, ℕ, ◌+◌, ◌-◌, ◌<◌, ◌≤◌, ◌^◌, List, None, length, IsSome, IfOk, IfErr, OnOk, OnErr};
-ghost use Rattle.mj_model.specs.CellMap.{value_of, IsMapWith};
-ghost use Rattle.mj_model.specs.CellRules.{AreCells, AreOnKeys};
+ghost use Rattle.double_array.specs.CellMap.{value_of, IsMapWith};
+ghost use Rattle.double_array.specs.CellRules.{AreCells, AreOnKeys};
 ghost use Rattle.mj_model.specs.declared.limits.TheConstants.{SURFACE_MAX as SurfaceMax};
 ghost use Rattle.double_array.specs.declared.fault.DaFault.TheVariants.{Full};
 
@@ -24,7 +24,7 @@ pub struct DoubleArray {
 
 impl Model for DoubleArray {
     ghost use Rattle.std.specs.Prelude.{List};
-    ghost use Rattle.mj_model.specs.CellMap.{Cell};
+    ghost use Rattle.double_array.specs.CellMap.{Cell};
     ghost use Rattle.double_array.specs.Built.{IsBuilt};
 
     ghost Value = { List Cell };

@@ -1,8 +1,8 @@
 //! The iterator over the keys that begin a text.
 ghost use Rattle.std.specs.Prelude.{◌≡◌, ◌+◌, ◌*◌, ◌≤◌, length};
 ghost use Rattle.std.specs.Iterator.{YieldsFirstBy, item_count};
-ghost use Rattle.mj_model.specs.CellMap.{prefixes_of};
-ghost use Rattle.mj_model.specs.CellRules.{AreCells};
+ghost use Rattle.double_array.specs.CellMap.{prefixes_of};
+ghost use Rattle.double_array.specs.CellRules.{AreCells};
 
 use crate::cell_read::CellRead;
 use crate::walk::{Hit, Walk, begin, next_hit};

@@ -1,6 +1,7 @@
 //! A map from byte strings to numbers as the cells of a double array, under insertion. (Aoe 1989)
 #![tactic(auto)]
 
+pub mod cell_laws;
 mod cell_read;
 mod clearing;
 mod double_array;

@@ -1,7 +1,7 @@
 //! Lookup in any cells: a key's value, and the keys that begin a text.
 ghost use Rattle.std.specs.Prelude.{◌≡◌};
-ghost use Rattle.mj_model.specs.CellMap.{value_of, prefixes_of};
-ghost use Rattle.mj_model.specs.CellRules.{AreCells};
+ghost use Rattle.double_array.specs.CellMap.{value_of, prefixes_of};
+ghost use Rattle.double_array.specs.CellRules.{AreCells};
 
 use crate::cell_read::CellRead;
 use crate::hits::Prefixes;

@@ -1,7 +1,7 @@
 //! Relocation: the children of a state move to another base. (Aoe 1989)
 ghost use Rattle.std.specs.Prelude.{◌≡◌, ◌≢◌, ℕ, ◌+◌, ◌<◌, ◌≤◌, ◌^◌, max, pos, length};
-ghost use Rattle.mj_model.specs.CellMap.{free_cell, cell_at, base as base_of, check as check_of};
-ghost use Rattle.mj_model.specs.CellMoves.{IsMove};
+ghost use Rattle.double_array.specs.CellMap.{free_cell, cell_at, base as base_of, check as check_of};
+ghost use Rattle.double_array.specs.CellMoves.{IsMove};
 ghost use Rattle.double_array.specs.Family.{HasCode, FitsAt};
 ghost use Rattle.double_array.specs.Built.{IsBuilt, AreBases};
 ghost use Rattle.double_array.specs.Moves.{IsFamilyOf, IsChildMoved, AreChildrenRenamed, HasChildrenFromBase};

@@ -1,7 +1,7 @@
 //! Steps from state to state. One function reads the cells, and counts.
 ghost use Rattle.std.specs.Prelude.{◌≡◌, ◌+◌, ◌≤◌, None, Some, slice_get, option_and_then};
-ghost use Rattle.mj_model.specs.CellMap.{base as base_of, step as step_of, value_in};
-ghost use Rattle.mj_model.specs.CellRules.{AreCells};
+ghost use Rattle.double_array.specs.CellMap.{base as base_of, step as step_of, value_in};
+ghost use Rattle.double_array.specs.CellRules.{AreCells};
 ghost use Rattle.double_array.specs.Steps.{IsAt, IsChildBase, IsStepTo};
 
 use crate::cell_read::CellRead;

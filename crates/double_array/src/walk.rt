@@ -4,8 +4,8 @@ ghost use Rattle.std.specs.Iterator.{YieldsFirstBy};
 ghost use Rattle.double_array.specs.Steps.{IsAt};
 ghost use Rattle.double_array.specs.Hits.{hit_at, value_here, hits_left};
 ghost use Rattle.double_array.specs.Walking.{IsWalking};
-ghost use Rattle.mj_model.specs.CellMap.{prefixes_of};
-ghost use Rattle.mj_model.specs.CellRules.{AreCells};
+ghost use Rattle.double_array.specs.CellMap.{prefixes_of};
+ghost use Rattle.double_array.specs.CellRules.{AreCells};
 
 use crate::cell_read::CellRead;
 use crate::steps::{Place, root, step, value_at};

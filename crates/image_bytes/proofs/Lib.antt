@@ -1,3 +1,5 @@
+pub mod ImageKeys
+pub mod ImageFaultLaws
 pub mod CellLemmas
 pub mod EndLemmas
 pub mod ItemLemmas

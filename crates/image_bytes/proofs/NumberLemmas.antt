@@ -5,7 +5,7 @@ use Rattle.std.proofs.lemmas.List.{drop-append-le, drop_at, length-drop, take-ap
 use Rattle.std.proofs.Math.Seq.{drop-append-add}
 use Rattle.byteorder.specs.Endian.{little_bytes, little_number}
 use Rattle.byteorder.specs.Numbers.{little_from-append, little_number-reads_back}
-use Rattle.mj_model.specs.ImageBytes.{number_at}
+use Rattle.image_bytes.specs.ImageBytes.{number_at}
 
 -- a number stays, whatever is written behind it
 pub number_kept : (n at : ℕ) (bytes more : List ℕ) → at + n ≤ length bytes → number_at n (bytes ++ more) at ≡ number_at n bytes at

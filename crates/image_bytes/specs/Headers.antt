@@ -1,6 +1,6 @@
 -- What a header that was read says.
 use Rattle.std.specs.Prelude.{◌≡◌, ℕ, ◌≤◌, List, length, slice_index}
-use Rattle.mj_model.specs.ImageBytes.{Header as Stated, section_end}
+use Rattle.image_bytes.specs.ImageBytes.{Header as Stated, section_end}
 use Rattle.image_bytes.specs.declared.header.Header.{Header}
 
 -- its numbers are those of the stated header

@@ -1,1 +1,6 @@
+pub mod ImageBytes
+pub mod ImageSections
+pub mod ImageFaults
+pub mod ImageMeaning
+pub mod ImageBounds
 pub mod Headers

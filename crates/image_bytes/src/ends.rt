@@ -1,6 +1,6 @@
 //! Where the sections of an image lie.
 ghost use Rattle.std.specs.Prelude.{◌≡◌, ◌≤◌, ◌^◌, length, slice_range, MatchOption};
-ghost use Rattle.mj_model.specs.ImageBytes.{Header as Stated, header_of, section as section_of, section_end};
+ghost use Rattle.image_bytes.specs.ImageBytes.{Header as Stated, header_of, section as section_of, section_end};
 ghost use Rattle.image_bytes.specs.Headers.{IsHeaderOf, AreEnds};
 
 use crate::header::Header;

@@ -1,6 +1,6 @@
 //! The header of an image.
 ghost use Rattle.std.specs.Prelude.{◌≡◌, ◌≤◌, length};
-ghost use Rattle.mj_model.specs.ImageBytes.{header_of, header_length};
+ghost use Rattle.image_bytes.specs.ImageBytes.{header_of, header_length};
 ghost use Rattle.image_bytes.specs.Headers.{IsHeaderOf};
 
 use crate::numbers::{u32_at, u64_at};

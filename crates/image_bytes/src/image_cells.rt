@@ -1,6 +1,6 @@
 //! The cells of an image's keys.
 ghost use Rattle.std.specs.Prelude.{◌≡◌, ◌≤◌, ◌+◌, ◌*◌, length};
-ghost use Rattle.mj_model.specs.ImageSections.{stored_cell, stored_cells};
+ghost use Rattle.image_bytes.specs.ImageSections.{stored_cell, stored_cells};
 
 use crate::numbers::i32_at;
 use double_array::CellRead;

@@ -4,6 +4,7 @@
 mod ends;
 mod header;
 mod image_cells;
+pub mod laws;
 mod numbers;
 
 pub use ends::{section, section_ends};

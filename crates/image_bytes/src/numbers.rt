@@ -1,6 +1,6 @@
 //! Numbers in an image, which are little-endian.
 ghost use Rattle.std.specs.Prelude.{◌≡◌, ◌+◌, ◌≤◌, length};
-ghost use Rattle.mj_model.specs.ImageBytes.{number_at, signed_2_at, signed_4_at};
+ghost use Rattle.image_bytes.specs.ImageBytes.{number_at, signed_2_at, signed_4_at};
 
 use byteorder::{ByteOrder, LittleEndian};
 

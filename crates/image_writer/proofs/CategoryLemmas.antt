@@ -2,9 +2,9 @@
 use Rattle.std.proofs.Common.{◌≡◌, ℕ, ◌+◌, ◌-◌, ◌*◌, Bool, true, false, List, [], ◌∷◌, ◌++◌, length, drop, refl, sym, ap, ◌∙◌, subst, arith}
 use Rattle.std.specs.Prelude.{All, flat_map, slice_range, ◌==◌}
 use Rattle.std.proofs.lemmas.List.{take_at, drop_at}
-use Rattle.mj_model.specs.CharDef.{NamedCategory}
-use Rattle.mj_model.specs.ImageBytes.{number_at}
-use Rattle.mj_model.specs.ImageSections.{IsStorable, category_bytes, categories_in, first_category, flag_byte}
+use Rattle.mj_model.specs.CharDef.{NamedCategory, IsStorable}
+use Rattle.image_bytes.specs.ImageBytes.{number_at}
+use Rattle.image_bytes.specs.ImageSections.{category_bytes, categories_in, first_category, flag_byte}
 use Rattle.char_def.specs.Categories.{CharCategories}
 use Rattle.image_writer.specs.StoredTables.{AreCategoriesOf}
 

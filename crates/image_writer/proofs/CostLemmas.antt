@@ -8,8 +8,8 @@ use Rattle.std.proofs.Math.Facts.{Fits-of_z}
 use Rattle.std.proofs.lemmas.List.{take_at}
 use Rattle.byteorder.specs.Endian.{little_bytes}
 use Rattle.byteorder.specs.Numbers.{length-bytes_low_first}
-use Rattle.mj_model.specs.ImageBytes.{number_at}
-use Rattle.mj_model.specs.ImageSections.{stored_cost}
+use Rattle.image_bytes.specs.ImageBytes.{number_at}
+use Rattle.image_bytes.specs.ImageSections.{stored_cost}
 use Rattle.matrix_def.specs.Costs.{CostTable, IsCost, IsMatrix, cell_at}
 use Rattle.matrix_def.proofs.RowLemmas.{within_table}
 use Rattle.image_bytes.proofs.NumberLemmas.{number_back}

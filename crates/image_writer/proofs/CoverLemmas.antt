@@ -4,8 +4,8 @@ use Rattle.std.proofs.lemmas.Bool.{cases_lt, le-leb, lt-leb}
 use Rattle.mj_model.specs.declared.category.CharInfo.{CharInfo}
 use Rattle.std.proofs.Math.Pow.{pow_mono}
 use Rattle.mj_model.specs.declared.limits.TheConstants.{CATEGORIES_MAX}
-use Rattle.mj_model.specs.CharDef.{code_point_max}
-use Rattle.mj_model.specs.ImageSections.{IsInfoOf, StoredRange, range_at, stored_info}
+use Rattle.mj_model.specs.CharDef.{code_point_max, IsInfoOf}
+use Rattle.image_bytes.specs.ImageSections.{StoredRange, range_at, stored_info}
 use Rattle.char_def.specs.Categories.{CharCategories, table_info}
 use Rattle.image_writer.specs.Ranges.{range_bytes}
 use Rattle.image_writer.specs.Covering.{Covers}

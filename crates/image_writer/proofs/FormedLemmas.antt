@@ -2,9 +2,9 @@
 use Rattle.std.proofs.Common.{◌≡◌, ℕ, suc, ◌*◌, ◌≤◌, List, [], ◌∷◌, length, sym, subst, arith}
 use Rattle.std.specs.Prelude.{slice_index_or}
 use Rattle.mj_model.specs.declared.image_fault.ImageFault.TheVariants.{BadSection, BadKey, BadToken, BadText}
-use Rattle.mj_model.specs.ImageBytes.{Header, header_length, header_of, image_magic, kind_of, all_tokens, section, section_end, total_length}
-use Rattle.mj_model.specs.ImageFaults.{Test, unless, unless_each, HasKey, IsHeader, IsWellFormed, PassAll, SystemAlone}
-use Rattle.mj_model.specs.ImageSections.{AreCategories, AreCosts, AreRanges, FitsSizes, HasFeature, HoldGroups, IsIndex, stored_cells, stored_token}
+use Rattle.image_bytes.specs.ImageBytes.{Header, header_length, header_of, image_magic, kind_of, all_tokens, section, section_end, total_length}
+use Rattle.image_bytes.specs.ImageFaults.{Test, unless, unless_each, HasKey, IsHeader, IsWellFormed, PassAll, SystemAlone}
+use Rattle.image_bytes.specs.ImageSections.{AreCategories, AreCosts, AreRanges, FitsSizes, HasFeature, HoldGroups, IsIndex, stored_cells, stored_token}
 use Rattle.image_writer.specs.Frames.{IsFramed, Numbers}
 
 -- section k of some

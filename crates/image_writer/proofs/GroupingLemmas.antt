@@ -11,8 +11,8 @@ use Rattle.std.proofs.lemmas.Bool.{cases_lt}
 use Rattle.std.proofs.lemmas.List.{get_or-map, length-map, length-take, get_or-take, take_more, take-append-drop}
 use Rattle.std.proofs.lemmas.List.Folds.{list_any_none}
 use Rattle.std.proofs.lemmas.Slice.Eq.{bytes_eq-Decides}
-use Rattle.mj_model.specs.CellMap.{Cell, value_of, IsMapWith}
-use Rattle.mj_model.specs.Compilation.{each_once, most_cells, cells_max}
+use Rattle.double_array.specs.CellMap.{Cell, value_of, IsMapWith}
+use Rattle.image_bytes.specs.ImageBounds.{each_once, most_cells, cells_max}
 use Rattle.mj_model.specs.Dictionary.{surface_of, lexeme_of}
 use Rattle.mj_model.specs.declared.entry.Record.{Record}
 use Rattle.mj_model.specs.Lexicon.{Row, row_of, rows_of}

@@ -6,8 +6,8 @@ use Rattle.std.proofs.lemmas.List.{take_at, take_all}
 use Rattle.std.proofs.lemmas.List.Sums.{sum_by-cons, sum_by-take-le}
 use Rattle.byteorder.specs.Endian.{little_bytes}
 use Rattle.byteorder.specs.Numbers.{length-bytes_low_first}
-use Rattle.mj_model.specs.ImageBytes.{number_at}
-use Rattle.mj_model.specs.ImageSections.{index_at}
+use Rattle.image_bytes.specs.ImageBytes.{number_at}
+use Rattle.image_bytes.specs.ImageSections.{index_at}
 use Rattle.mj_model.specs.Lexicon.{Row}
 use Rattle.image_bytes.proofs.NumberLemmas.{number_back}
 use Rattle.image_writer.specs.FirstNumbers.{AreFirstNumbers}

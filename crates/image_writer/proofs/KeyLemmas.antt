@@ -6,19 +6,19 @@ use Rattle.std.proofs.lemmas.List.{get_or_past, length-map}
 use Rattle.std.proofs.lemmas.Option.{same_Some}
 use Rattle.std.proofs.lemmas.Str.{IsUtf8-string_bytes}
 use Rattle.mj_model.specs.declared.entry.Record.{Record}
-use Rattle.mj_model.specs.CellMap.{Cell, free_cell, base, check, walk, codes_of, value_of}
-use Rattle.mj_model.specs.CellRules.{AreCells, AreOnKeys, IsBaseAfter, MeetsRules}
-use Rattle.mj_model.specs.ImageFaults.{HasKey}
-use Rattle.mj_model.specs.ImageSections.{IsKeyOf, StandsOnce, index_at, key_of, stored_cells}
+use Rattle.double_array.specs.CellMap.{Cell, free_cell, base, check, walk, codes_of, value_of}
+use Rattle.double_array.specs.CellRules.{AreCells, AreOnKeys, IsBaseAfter, MeetsRules}
+use Rattle.image_bytes.specs.ImageFaults.{HasKey}
+use Rattle.image_bytes.specs.ImageSections.{IsKeyOf, StandsOnce, index_at, key_of, stored_cells}
 use Rattle.mj_model.specs.Lexicon.{Row, row_of, rows_of}
-use Rattle.mj_model.proofs.CellWalks.{child_of, step_named, walk_append, walk_first, value_parts}
+use Rattle.double_array.proofs.CellWalks.{child_of, step_named, walk_append, walk_first, value_parts}
 use Rattle.image_writer.specs.declared.groups.Groups.{Groups}
 use Rattle.image_writer.specs.declared.keys.KeyBytes.{KeyBytes}
 use Rattle.image_writer.specs.Entries.{HasKeySurface, no_row, surface_at}
 use Rattle.image_writer.specs.Groups.{AreGroups, AreGrouped, MapsGroups}
 use Rattle.image_writer.specs.Sections.{AreKeyBytes}
 use Rattle.image_writer.proofs.GroupLemmas.{starts_below}
-use Rattle.mj_model.proofs.ImageKeys.{key_is}
+use Rattle.image_bytes.proofs.ImageKeys.{key_is}
 
 -- ---- value cells
 

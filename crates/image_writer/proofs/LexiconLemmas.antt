@@ -5,10 +5,10 @@ use Rattle.std.specs.List.{range_with_len, enumerate_from}
 use Rattle.std.proofs.lemmas.List.{flat_map_more, get_or_append_left, length-append, map-append, take_all, take_more, take-append-drop}
 use Rattle.std.proofs.lemmas.List.Concat.{flat_map-append}
 use Rattle.std.proofs.lemmas.Option.{slice_get-get_or}
-use Rattle.mj_model.specs.Compilation.{feature_bytes, feature_bytes_end}
+use Rattle.image_bytes.specs.ImageBounds.{feature_bytes, feature_bytes_end}
 use Rattle.mj_model.specs.Dictionary.{lexeme_of}
-use Rattle.mj_model.specs.ImageMeaning.{LexiconSections, entries_of_group, entry_under, lexicon_in}
-use Rattle.mj_model.specs.ImageSections.{IsIndex, index_at, key_of, stored_cells, token_from}
+use Rattle.image_bytes.specs.ImageMeaning.{LexiconSections, entries_of_group, entry_under, lexicon_in}
+use Rattle.image_bytes.specs.ImageSections.{IsIndex, index_at, key_of, stored_cells, token_from}
 use Rattle.mj_model.specs.Lexicon.{Row}
 use Rattle.mj_model.specs.Tables.{Lexeme}
 use Rattle.image_writer.specs.declared.tokens.TokenWriter.{TokenWriter}

@@ -3,9 +3,9 @@ use Rattle.std.proofs.Common.{◌≡◌, ℕ, ◌+◌, ◌*◌, ◌<◌, ◌≤�
 use Rattle.std.specs.Prelude.{sum_by}
 use Rattle.mj_model.specs.declared.limits.TheConstants.{ENTRIES_MAX}
 use Rattle.mj_model.specs.declared.matrix_sizes.MatrixSizes.{MatrixSizes}
-use Rattle.mj_model.specs.ImageBytes.{header_of, kind_of}
-use Rattle.mj_model.specs.ImageFaults.{AreCounts, IsHeader, IsWellFormed, PassAll, SystemAlone}
-use Rattle.mj_model.specs.ImageSections.{AreCategories, AreCosts, AreRanges, FitsSizes, HasFeature, IsIndex, stored_token}
+use Rattle.image_bytes.specs.ImageBytes.{header_of, kind_of}
+use Rattle.image_bytes.specs.ImageFaults.{AreCounts, IsHeader, IsWellFormed, PassAll, SystemAlone}
+use Rattle.image_bytes.specs.ImageSections.{AreCategories, AreCosts, AreRanges, FitsSizes, HasFeature, IsIndex, stored_token}
 use Rattle.mj_model.specs.Lexicon.{Row}
 use Rattle.mj_model.specs.Tables.{Kind, Token}
 use Rattle.image_writer.specs.Frames.{IsFramed, Numbers}

@@ -7,8 +7,8 @@ use Rattle.std.proofs.lemmas.List.{drop_at, length-append, map-append, reverse-a
 use Rattle.byteorder.specs.Endian.{little_bytes, little_number}
 use Rattle.byteorder.specs.Numbers.{length-bytes_low_first}
 use Rattle.mj_model.specs.declared.category.CharInfo.{CharInfo}
-use Rattle.mj_model.specs.ImageBytes.{number_at}
-use Rattle.mj_model.specs.ImageSections.{StoredRange, info_of_entry, no_info, range_at, stored_info, stored_ranges}
+use Rattle.image_bytes.specs.ImageBytes.{number_at}
+use Rattle.image_bytes.specs.ImageSections.{StoredRange, info_of_entry, no_info, range_at, stored_info, stored_ranges}
 use Rattle.image_bytes.proofs.NumberLemmas.{number_back, number_behind, number_kept}
 use Rattle.image_writer.specs.Ranges.{entry_of, range_bytes}
 

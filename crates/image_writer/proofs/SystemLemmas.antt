@@ -6,8 +6,8 @@ use Rattle.std.proofs.lemmas.Bool.{and_parts, ltb-true, ltb-false}
 use Rattle.std.proofs.lemmas.List.Sums.{sum_by-cons}
 use Rattle.std.proofs.lemmas.Option.{slice_get_within}
 use Rattle.mj_model.specs.Connection.{is_pair}
-use Rattle.mj_model.specs.ImageMeaning.{tokens_in}
-use Rattle.mj_model.specs.ImageSections.{index_at, stored_cost, token_from}
+use Rattle.image_bytes.specs.ImageMeaning.{tokens_in}
+use Rattle.image_bytes.specs.ImageSections.{index_at, stored_cost, token_from}
 use Rattle.mj_model.specs.Lexicon.{Row}
 use Rattle.mj_model.specs.UnkDef.{unknown_tokens}
 use Rattle.matrix_def.specs.Costs.{CostTable, matrix_cost}

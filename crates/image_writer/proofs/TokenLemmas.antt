@@ -8,8 +8,8 @@ use Rattle.std.proofs.lemmas.List.{length_push, length-append, get_or_append_lef
 use Rattle.std.proofs.lemmas.Option.{get_or_from_slice_get, slice_get-get_or, slice_get_past, none-some}
 use mir.Val.{SFits}
 use Rattle.byteorder.specs.Endian.{little_bytes}
-use Rattle.mj_model.specs.ImageBytes.{number_at, signed_2_at}
-use Rattle.mj_model.specs.ImageSections.{StoredToken, stored_token, HasFeature, stored_feature, feature_end}
+use Rattle.image_bytes.specs.ImageBytes.{number_at, signed_2_at}
+use Rattle.image_bytes.specs.ImageSections.{StoredToken, stored_token, HasFeature, stored_feature, feature_end}
 use Rattle.mj_model.specs.Lexicon.{Row}
 use Rattle.mj_model.specs.Tables.{Token}
 use Rattle.image_writer.specs.Sections.{IsTokenOf, HoldTokens, StandsAt}

@@ -1,10 +1,10 @@
 -- A whole image of a user dictionary.
 use Rattle.std.proofs.Common.{◌≡◌, ℕ, ◌<◌, ◌≤◌, List, [], length, append-nil, refl, sym, subst, arith}
 use Rattle.mj_model.specs.declared.limits.TheConstants.{ENTRIES_MAX}
-use Rattle.mj_model.specs.Compilation.{feature_bytes, feature_bytes_end}
+use Rattle.image_bytes.specs.ImageBounds.{feature_bytes, feature_bytes_end}
 use Rattle.mj_model.specs.declared.matrix_sizes.MatrixSizes.{MatrixSizes}
-use Rattle.mj_model.specs.ImageBytes.{kind_of}
-use Rattle.mj_model.specs.ImageMeaning.{lexicon_in}
+use Rattle.image_bytes.specs.ImageBytes.{kind_of}
+use Rattle.image_bytes.specs.ImageMeaning.{lexicon_in}
 use Rattle.mj_model.specs.Lexicon.{Row}
 use Rattle.mj_model.specs.Tables.{User}
 use Rattle.image_writer.specs.Frames.{IsFramed, Numbers}

@@ -4,9 +4,9 @@ use Rattle.std.specs.Prelude.{pos, if◌then◌else◌, map, nat_lt, sum_by}
 use Rattle.mj_model.specs.declared.limits.TheConstants.{CATEGORIES_MAX, ENTRIES_MAX}
 use Rattle.mj_model.specs.CharDef.{NamedCategory}
 use Rattle.mj_model.specs.Connection.{is_pair}
-use Rattle.mj_model.specs.ImageBytes.{Header, header_of, kind_of}
-use Rattle.mj_model.specs.ImageMeaning.{lexicon_in, tokens_in}
-use Rattle.mj_model.specs.ImageSections.{IsIndex, categories_in, stored_cost, stored_info}
+use Rattle.image_bytes.specs.ImageBytes.{Header, header_of, kind_of}
+use Rattle.image_bytes.specs.ImageMeaning.{lexicon_in, tokens_in}
+use Rattle.image_bytes.specs.ImageSections.{IsIndex, categories_in, stored_cost, stored_info}
 use Rattle.mj_model.specs.Lexicon.{Row}
 use Rattle.mj_model.specs.SourceTables.{SayTheSame}
 use Rattle.mj_model.specs.Tables.{Tables}

@@ -3,7 +3,7 @@ use Rattle.std.proofs.Common.{◌≡◌, ℕ, ◌+◌, ◌^◌, ◌<◌, ◌≤�
 use Rattle.std.specs.Prelude.{IsUtf8, sum_by}
 use Rattle.std.proofs.lemmas.List.{map-append, map_more, take_all, take-append-drop}
 use Rattle.mj_model.specs.declared.entry.Record.{Record}
-use Rattle.mj_model.specs.Compilation.{each_once}
+use Rattle.image_bytes.specs.ImageBounds.{each_once}
 use Rattle.mj_model.specs.Lexicon.{Row, row_of, rows_of}
 use Rattle.image_writer.specs.declared.tokens.TokenWriter.{TokenWriter}
 use Rattle.image_writer.specs.Sections.{AreWritten, HoldTokens, HoldsOneMore, HoldsTexts, IsTooLarge, StandsAt, features_of}

@@ -1,7 +1,7 @@
 -- Ranges that cover the first code points.
 use Rattle.std.specs.Prelude.{◌≡◌, ℕ, suc, ◌/◌, ◌<◌, ◌≤◌, List, length}
 use Rattle.mj_model.specs.declared.category.CharInfo.{CharInfo}
-use Rattle.mj_model.specs.ImageSections.{AreRanges, range_at, stored_info}
+use Rattle.image_bytes.specs.ImageSections.{AreRanges, range_at, stored_info}
 use Rattle.char_def.specs.Categories.{CharCategories, table_info}
 
 -- the code points below a number have the categories of a table, and from the last of them on all have those of the last range

@@ -3,8 +3,8 @@ use Rattle.std.specs.Prelude.{◌≡◌, ℕ, suc, ◌^◌, ◌<◌, List, [], �
 use Rattle.std.specs.List.{AllByRecursion}
 use Rattle.byteorder.specs.Endian.{little_bytes}
 use Rattle.mj_model.specs.declared.matrix_sizes.MatrixSizes.{MatrixSizes}
-use Rattle.mj_model.specs.ImageBytes.{header_of, image_magic, section, total_length}
-use Rattle.mj_model.specs.ImageFaults.{HasDigest}
+use Rattle.image_bytes.specs.ImageBytes.{header_of, image_magic, section, total_length}
+use Rattle.image_bytes.specs.ImageFaults.{HasDigest}
 use Rattle.image_writer.specs.declared.header.Numbers.{Numbers as Given}
 
 -- what a header says besides the layout and the lengths

@@ -1,9 +1,9 @@
 -- The groups of a lexicon in the order of its surfaces: a group is the entries of one surface, side by side.
 use Rattle.std.specs.Prelude.{◌≡◌, ◌≢◌, ℕ, suc, ◌+◌, ◌-◌, ◌<◌, ◌≤◌, ◌⊎◌, List, length, map, take, sum_by, slice_index_or, Some}
-use Rattle.mj_model.specs.CellMap.{Cell, value_of}
-use Rattle.mj_model.specs.Compilation.{each_once}
+use Rattle.double_array.specs.CellMap.{Cell, value_of}
+use Rattle.image_bytes.specs.ImageBounds.{each_once}
 use Rattle.mj_model.specs.Dictionary.{surface_of}
-use Rattle.mj_model.specs.ImageSections.{index_at, key_of, stored_cells}
+use Rattle.image_bytes.specs.ImageSections.{index_at, key_of, stored_cells}
 use Rattle.mj_model.specs.Lexicon.{Row}
 use Rattle.image_writer.specs.declared.groups.Groups.{Groups}
 use Rattle.image_writer.specs.Entries.{surface_at}

@@ -2,10 +2,10 @@
 use Rattle.std.specs.Prelude.{◌≡◌, ℕ, ◌+◌, ◌*◌, ◌<◌, ◌≤◌, List, [], ◌∷◌, ◌++◌, length, map, bytes_eq, cond, slice_get, slice_range, Some, is_some}
 use Rattle.std.specs.List.{concat, list_any}
 use Rattle.std.specs.HashMap.{get_by}
-use Rattle.mj_model.specs.Compilation.{each_once, feature_bytes, feature_bytes_end}
-use Rattle.mj_model.specs.ImageFaults.{HasKey}
-use Rattle.mj_model.specs.ImageMeaning.{LexiconSections, lexicon_in}
-use Rattle.mj_model.specs.ImageSections.{HoldGroups, HasFeature, IsIndex, stored_cells, stored_token, token_from}
+use Rattle.image_bytes.specs.ImageBounds.{each_once, feature_bytes, feature_bytes_end}
+use Rattle.image_bytes.specs.ImageFaults.{HasKey}
+use Rattle.image_bytes.specs.ImageMeaning.{LexiconSections, lexicon_in}
+use Rattle.image_bytes.specs.ImageSections.{HoldGroups, HasFeature, IsIndex, stored_cells, stored_token, token_from}
 use Rattle.mj_model.specs.Lexicon.{Row}
 use Rattle.mj_model.specs.UnkDef.{token_of}
 use Rattle.image_writer.specs.declared.features.FeatureStore.{FeatureStore}

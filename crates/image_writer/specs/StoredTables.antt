@@ -3,7 +3,7 @@ use Rattle.std.specs.Prelude.{◌≡◌, ℕ, ◌+◌, ◌≤◌, List, length, 
 use Rattle.std.specs.List.{sum_by}
 use Rattle.mj_model.specs.CharDef.{code_point_max}
 use Rattle.mj_model.specs.declared.matrix_sizes.MatrixSizes.{MatrixSizes}
-use Rattle.mj_model.specs.ImageSections.{AreCategories, AreCosts, AreRanges, IsIndex, categories_in, index_at, stored_cost, stored_info}
+use Rattle.image_bytes.specs.ImageSections.{AreCategories, AreCosts, AreRanges, IsIndex, categories_in, index_at, stored_cost, stored_info}
 use Rattle.mj_model.specs.Lexicon.{Row}
 use Rattle.matrix_def.specs.Costs.{CostTable, IsPair, matrix_cost}
 use Rattle.char_def.specs.Categories.{CharCategories, table_info}

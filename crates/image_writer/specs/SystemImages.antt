@@ -1,11 +1,11 @@
 -- The image of a system dictionary.
 use Rattle.std.specs.Prelude.{◌≡◌, ℕ, ◌<◌, pos, List, length, map, if◌then◌else◌}
 use Rattle.mj_model.specs.CharDef.{NamedCategory}
-use Rattle.mj_model.specs.Compilation.{feature_bytes, feature_bytes_end}
+use Rattle.image_bytes.specs.ImageBounds.{feature_bytes, feature_bytes_end}
 use Rattle.mj_model.specs.Connection.{is_pair}
-use Rattle.mj_model.specs.ImageBytes.{header_of}
-use Rattle.mj_model.specs.ImageFaults.{IsWellFormed}
-use Rattle.mj_model.specs.ImageMeaning.{image_categories, image_tables}
+use Rattle.image_bytes.specs.ImageBytes.{header_of}
+use Rattle.image_bytes.specs.ImageFaults.{IsWellFormed}
+use Rattle.image_bytes.specs.ImageMeaning.{image_categories, image_tables}
 use Rattle.mj_model.specs.Lexicon.{Row}
 use Rattle.mj_model.specs.SourceTables.{SayTheSame}
 use Rattle.mj_model.specs.Tables.{Tables, System}

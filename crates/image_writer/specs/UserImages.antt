@@ -1,10 +1,10 @@
 -- The image of a user dictionary.
 use Rattle.std.specs.Prelude.{◌≡◌, ℕ, ◌<◌, List}
-use Rattle.mj_model.specs.Compilation.{feature_bytes, feature_bytes_end}
+use Rattle.image_bytes.specs.ImageBounds.{feature_bytes, feature_bytes_end}
 use Rattle.mj_model.specs.declared.matrix_sizes.MatrixSizes.{MatrixSizes}
-use Rattle.mj_model.specs.ImageBytes.{header_of}
-use Rattle.mj_model.specs.ImageFaults.{IsWellFormed}
-use Rattle.mj_model.specs.ImageMeaning.{image_lexicon, image_tables}
+use Rattle.image_bytes.specs.ImageBytes.{header_of}
+use Rattle.image_bytes.specs.ImageFaults.{IsWellFormed}
+use Rattle.image_bytes.specs.ImageMeaning.{image_lexicon, image_tables}
 use Rattle.mj_model.specs.Lexicon.{Row}
 use Rattle.mj_model.specs.Tables.{User}
 use Rattle.image_writer.specs.Entries.{lexemes_of, tokens_of}

@@ -1,7 +1,7 @@
 -- Numbers and cells that are written one behind another.
 use Rattle.std.specs.Prelude.{◌≡◌, ℕ, ◌*◌, ◌<◌, List, length}
-use Rattle.mj_model.specs.CellMap.{Cell, cell_at}
-use Rattle.mj_model.specs.ImageSections.{index_at, stored_cell}
+use Rattle.double_array.specs.CellMap.{Cell, cell_at}
+use Rattle.image_bytes.specs.ImageSections.{index_at, stored_cell}
 
 -- the bytes are the first numbers of a sequence, 4 bytes each
 pub record HoldsNumbers (sequence : ℕ → ℕ) (count : ℕ) (bytes : List ℕ) : Type 0 where

@@ -1,6 +1,7 @@
 //! Section 2: categories.
 ghost use Rattle.std.specs.Prelude.{◌≡◌, ◌<◌, ◌++◌, All, length, IfOk, OnOk};
-ghost use Rattle.mj_model.specs.ImageSections.{IsStorable, category_bytes};
+ghost use Rattle.mj_model.specs.CharDef.{IsStorable};
+ghost use Rattle.image_bytes.specs.ImageSections.{category_bytes};
 ghost use Rattle.char_def.specs.Categories.{category_at};
 ghost use Rattle.image_writer.specs.StoredTables.{AreCategoriesOf};
 

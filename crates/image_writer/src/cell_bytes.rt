@@ -1,7 +1,7 @@
 //! The cells of the keys as bytes.
 ghost use Rattle.std.specs.Prelude.{◌≡◌, ◌≤◌, ◌*◌, ◌^◌, length, IfOk, OnOk};
-ghost use Rattle.mj_model.specs.CellRules.{AreCells, AreOnKeys};
-ghost use Rattle.mj_model.specs.ImageSections.{stored_cells};
+ghost use Rattle.double_array.specs.CellRules.{AreCells, AreOnKeys};
+ghost use Rattle.image_bytes.specs.ImageSections.{stored_cells};
 ghost use Rattle.image_writer.specs.TokenBytes.{cell_bytes_of};
 
 use byteorder::{ByteOrder, LittleEndian};

@@ -2,7 +2,7 @@
 ghost use Rattle.std.specs.Prelude.{◌≡◌, ◌≢◌, ◌<◌, ◌≤◌, ◌^◌, ◌+◌, None, bytes_eq, ℕ, ◌++◌, ◌∷◌, [], List, length, sum_by, IfOk, IfErr, OnOk};
 ghost use Rattle.std.specs.HashMap.{get_by};
 ghost use Rattle.std.proofs.Props.{props};
-ghost use Rattle.mj_model.specs.Compilation.{each_once, feature_bytes_end};
+ghost use Rattle.image_bytes.specs.ImageBounds.{each_once, feature_bytes_end};
 ghost use Rattle.image_writer.specs.Places.{ArePlacesWithin};
 ghost use Rattle.image_writer.specs.declared.fault.LexiconFault.TheVariants.{ArrayFull, FeaturesTooLarge};
 

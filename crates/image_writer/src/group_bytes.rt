@@ -1,7 +1,7 @@
 //! Which entries each group has, as bytes.
 ghost use Rattle.std.specs.Prelude.{◌≡◌, ◌<◌, ◌*◌, ◌+◌, ℕ, length, slice_index_or, IfOk};
 ghost use Rattle.byteorder.specs.Endian.{little_bytes};
-ghost use Rattle.mj_model.specs.ImageSections.{index_at};
+ghost use Rattle.image_bytes.specs.ImageSections.{index_at};
 
 use byteorder::{ByteOrder, LittleEndian};
 use std::alloc::{AllocError, Global};

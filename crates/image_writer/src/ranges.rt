@@ -1,8 +1,7 @@
 //! Section 3: the categories of code points.
 ghost use Rattle.std.specs.Prelude.{◌≡◌, ◌<◌, ◌≤◌, ◌^◌, ◌+◌, ℕ, length, IfOk, OnOk, ◌++◌};
 ghost use Rattle.mj_model.specs.declared.limits.TheConstants.{CATEGORIES_MAX as CategoriesMax};
-ghost use Rattle.mj_model.specs.CharDef.{code_point_max};
-ghost use Rattle.mj_model.specs.ImageSections.{IsInfoOf};
+ghost use Rattle.mj_model.specs.CharDef.{code_point_max, IsInfoOf};
 ghost use Rattle.char_def.specs.Categories.{table_info};
 ghost use Rattle.image_writer.specs.StoredTables.{AreRangesOf};
 ghost use Rattle.image_writer.specs.Covering.{Covers};

@@ -3,10 +3,9 @@ ghost use Rattle.std.specs.Prelude.{◌≡◌, ◌<◌, ◌≤◌, ℕ, length, 
 ghost use Rattle.std.specs.Cmp.Lexicographic.{slice_cmp};
 ghost use Rattle.std.specs.List.{AllByRecursion};
 ghost use Rattle.std.specs.Ordering.{nat_cmp};
-ghost use Rattle.mj_model.specs.CharDef.{code_point_max};
-ghost use Rattle.mj_model.specs.Compilation.{cells_max, most_cells};
+ghost use Rattle.mj_model.specs.CharDef.{code_point_max, IsInfoOf, IsStorable};
+ghost use Rattle.image_bytes.specs.ImageBounds.{cells_max, most_cells};
 ghost use Rattle.mj_model.specs.Dictionary.{surface_of};
-ghost use Rattle.mj_model.specs.ImageSections.{IsInfoOf, IsStorable};
 ghost use Rattle.mj_model.specs.Lexicon.{rows_of};
 ghost use Rattle.mj_model.specs.declared.limits.TheConstants.{ENTRIES_MAX as EntriesMax};
 ghost use Rattle.char_def.specs.Categories.{table_info};

@@ -2,7 +2,7 @@
 ghost use Rattle.std.specs.Prelude.{◌≡◌, ◌<◌, ◌≤◌, length, All, IsSortedByKey, IfOk, IfErr};
 ghost use Rattle.std.specs.Cmp.Lexicographic.{slice_cmp};
 ghost use Rattle.std.specs.Ordering.{nat_cmp};
-ghost use Rattle.mj_model.specs.Compilation.{cells_max, most_cells};
+ghost use Rattle.image_bytes.specs.ImageBounds.{cells_max, most_cells};
 ghost use Rattle.mj_model.specs.Dictionary.{surface_of};
 ghost use Rattle.mj_model.specs.Lexicon.{rows_of};
 ghost use Rattle.mj_model.specs.declared.limits.TheConstants.{ENTRIES_MAX as EntriesMax};

@@ -2,8 +2,4 @@ pub mod FieldLemmas
 pub mod Members
 pub mod ReadingLemmas
 pub mod AcceptedRows
-pub mod ImageFaultLaws
-pub mod CellWalks
-pub mod CellMoveLaw
-pub mod ImageKeys
 pub mod Basics

@@ -1,7 +1,8 @@
 -- Character categories, as `char.def` defines them and gives them to code points (MeCab): category lines `NAME INVOKE GROUP LENGTH`, and
 -- mapping lines `0xHEX CAT ..` or `0xLOW..0xHIGH CAT ..`. What MeCab leaves open is this project's own choice.
-use Rattle.std.specs.Prelude.{ℕ, ◌+◌, ◌*◌, ◌^◌, Bool, not, ◌==◌, ◌&&◌, nat_lt, nat_le, if◌then◌else◌, List, [], ◌∷◌, ◌++◌, length, drop, map, fold, flat_map, find, reverse, take_while, Option, Some, None, option_and_then, option_map, Result, Ok, Err, bit_or, bytes_eq, codes}
+use Rattle.std.specs.Prelude.{ℕ, ◌+◌, ◌*◌, ◌^◌, Bool, not, ◌==◌, ◌&&◌, nat_lt, nat_le, if◌then◌else◌, List, [], ◌∷◌, ◌++◌, length, drop, map, fold, flat_map, find, reverse, take_while, Option, Some, None, option_and_then, option_map, Result, Ok, Err, bit_or, bytes_eq, codes, ◌<◌, ◌≤◌, IsUtf8}
 use Rattle.std.specs.Char.{is_ascii_hexdigit, digit_value}
+use Rattle.std.specs.Int.{IsBitSet}
 use Rattle.std.specs.List.{list_any, list_all, starts_with, before_first, after_first, position_or_len}
 use Rattle.std.specs.Option.{option_or, option_map_or}
 use Rattle.std.specs.Str.{is_utf8}
@@ -252,3 +253,18 @@ char_info source code =
 -- the categories without their names
 abbrev pub categories_of : CharSource → List Category
 categories_of source = map (λ (c : NamedCategory). c.category) source.categories
+
+-- ---- what an image may hold
+
+-- a category that an image may hold
+pub record IsStorable (c : NamedCategory) : Type 0 where
+  pub length_within : c.category.length ≤ 15
+  pub name_some : 1 ≤ length c.name
+  pub name_short : length c.name ≤ 255
+  pub name_is_text : IsUtf8 c.name
+
+-- of this many categories, the first one is in the set, and the set has no others
+pub record IsInfoOf (categories : ℕ) (info : CharInfo) : Type 0 where
+  pub first_below : info.head < categories
+  pub first_in_set : IsBitSet info.bits info.head
+  pub set_below : info.bits < 2 ^ categories

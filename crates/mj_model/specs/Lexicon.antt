@@ -1,6 +1,7 @@
 -- What the lines of a lexicon say: `surface,left id,right id,word cost,feature` (MeCab, dic-detail).
 -- The feature is all that stands behind the fourth comma, byte for byte.
-use Rattle.std.specs.Prelude.{◌≡◌, ℕ, ◌+◌, ◌≤◌, ℤ, IsTrue, IsFalse, ◌==◌, nat_le, nat_lt, if◌then◌else◌, List, [], ◌∷◌, length, count_by, filter_map, map, Option, Some, None, option_and_then, option_map, Result, Ok, Err, IsUtf8, string_bytes, Bool, true, false}
+use Rattle.std.specs.Prelude.{◌≡◌, ℕ, ◌+◌, ◌≤◌, ℤ, IsTrue, IsFalse, ◌==◌, nat_le, nat_lt, if◌then◌else◌, List, [], ◌∷◌, length, count_by, filter_map, map, Option, Some, None, option_and_then, option_map, Result, Ok, Err, IsUtf8, string_bytes, Bool, true, false, sum}
+use Rattle.std.specs.List.{AllZip}
 use Rattle.mj_model.specs.declared.limits.TheConstants.{SURFACE_MAX, ENTRIES_MAX}
 use Rattle.mj_model.specs.declared.source_fault.SourceFault.{SourceFault}
 use Rattle.mj_model.specs.declared.source_fault.SourceKind.{SourceKind}
@@ -118,3 +119,14 @@ IsLexicon file held bytes reading = ReadsAs lexicon_outcome file held bytes read
 abbrev pub HasOneReading : Type 0
 HasOneReading = (file held : ℕ) (bytes : List ℕ) → (reading : Result Reading SourceFault) × IsLexicon file held bytes reading
     × ((other : Result Reading SourceFault) → IsLexicon file held bytes other → other ≡ reading)
+
+-- ---- the counts of lines
+
+-- how many lines a lexicon skips
+abbrev pub SkipsLines : List ℕ → ℕ → Type 0
+SkipsLines bytes skipped =
+    (outcomes : List Outcome) × AreOutcomes lexicon_outcome (numbered_lines bytes) outcomes × (skipped ≡ count_by is_skipped outcomes)
+
+-- how many lines the lexicons skip together
+abbrev pub SkipLines : List (List ℕ) → ℕ → Type 0
+SkipLines lexicons skipped = (counts : List ℕ) × AllZip SkipsLines lexicons counts × (skipped ≡ sum counts)

@@ -17,17 +17,8 @@ pub mod Output
 pub mod Counts
 pub mod Counted
 pub mod TextLines
-pub mod CellMap
-pub mod CellRules
-pub mod CellMoves
 pub mod ImageFaultWords
-pub mod ImageBytes
-pub mod ImageSections
-pub mod ImageFaults
-pub mod ImageMeaning
 pub mod Overlays
-pub mod Compilation
-pub mod SourceOverlays
 pub mod Sample
 pub mod Lists
 pub mod Bounds

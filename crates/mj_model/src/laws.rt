@@ -1,7 +1,6 @@
 //! Laws of the definitions: facts that hold of every source and every image.
 
 ghost use Rattle.mj_model.specs.Fields.{HasOneFirstField};
-ghost use Rattle.mj_model.specs.ImageFaults.{ImagesHaveOneFault};
 ghost use Rattle.mj_model.specs.Lexicon.{HasOneReading};
 
 /// Each line has exactly one first field, and one rest after it.
@@ -12,9 +11,4 @@ pub fn field_split_is_unique()
 /// Each lexicon has exactly one reading.
 pub fn one_reading()
     ensures { HasOneReading }
-{}
-
-/// Well-formed image bytes have no fault, and all others at most one first fault.
-pub fn one_image_fault()
-    ensures { ImagesHaveOneFault }
 {}

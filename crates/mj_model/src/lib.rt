@@ -2,7 +2,6 @@
 #![tactic(auto)]
 
 mod category;
-pub mod cell_laws;
 mod counted;
 mod entry;
 mod format_fault;

@@ -6,12 +6,12 @@ use Rattle.mj_model.specs.declared.run_fault.RunFault.TheVariants as run
 use Rattle.mj_model.specs.declared.source_fault.SourceFault.{SourceFault}
 use Rattle.mj_model.specs.declared.source_fault.SourceKind.TheVariants.{Memory}
 use Rattle.mj_model.specs.declared.sources.Sources.{Sources}
-use Rattle.mj_model.specs.Compilation.{HaveUserTables, IsCompilationCause, IsUserFault}
+use Rattle.dict_compile.specs.Compilation.{HaveUserTables, IsCompilationCause, IsUserFault}
 use Rattle.mj_model.specs.declared.matrix_sizes.MatrixSizes.{MatrixSizes}
 use Rattle.mj_model.specs.Dictionary.{AreLexicons}
 use Rattle.mj_model.specs.FirstFault.{IsRefusal}
-use Rattle.mj_model.specs.ImageMeaning.{image_tables}
-use Rattle.mj_model.specs.SourceOverlays.{CompileTo, IsOfUser, IsUsersCause, IsUsersFault}
+use Rattle.image_bytes.specs.ImageMeaning.{image_tables}
+use Rattle.dict_compile.specs.SourceOverlays.{CompileTo, IsOfUser, IsUsersCause, IsUsersFault}
 use Rattle.mj_model.specs.SourceTables.{SayTheSame}
 use Rattle.mj_model.specs.Tables.{Tables}
 use Rattle.dict_compile.specs.Answers.{IsToldFor as IsCompileToldFor}

@@ -7,8 +7,8 @@ use Rattle.mj_model.specs.declared.image_fault.ImageFault.TheVariants as image
 use Rattle.mj_model.specs.declared.source_fault.SourceFault.{SourceFault}
 use Rattle.mj_model.specs.declared.source_fault.SourceKind.TheVariants.{Memory}
 use Rattle.mj_model.specs.FirstFault.{IsRefusal}
-use Rattle.mj_model.specs.ImageFaults.{IsImageFault, IsWellFormed}
-use Rattle.mj_model.proofs.ImageFaultLaws.{no_fault}
+use Rattle.image_bytes.specs.ImageFaults.{IsImageFault, IsWellFormed}
+use Rattle.image_bytes.proofs.ImageFaultLaws.{no_fault}
 
 -- a well-formed image is refused for want of memory alone
 pub only_memory : (bytes : List ℕ) (fault : ImageFault) → IsWellFormed bytes → (fault ≡ image.Memory) ⊎ IsImageFault bytes fault → fault ≡ image.Memory

@@ -6,11 +6,11 @@ use Rattle.std.proofs.lemmas.Bool.{eq-eqb}
 use Rattle.mj_model.specs.declared.overlay_fault.OverlayFault.{OverlayFault}
 use Rattle.mj_model.specs.declared.overlay_fault.OverlayFault.TheVariants.{NotSystem, NotUser, OtherSizes}
 use Rattle.mj_model.specs.declared.sources.Sources.{Sources}
-use Rattle.mj_model.specs.Compilation.{HaveUserTables}
+use Rattle.dict_compile.specs.Compilation.{HaveUserTables}
 use Rattle.mj_model.specs.declared.matrix_sizes.MatrixSizes.{MatrixSizes}
-use Rattle.mj_model.specs.ImageMeaning.{image_tables}
+use Rattle.image_bytes.specs.ImageMeaning.{image_tables}
 use Rattle.mj_model.specs.Overlays.{are_same_sizes, first_user_fault, is_user, overlay_fault}
-use Rattle.mj_model.specs.SourceOverlays.{HaveOverlay}
+use Rattle.dict_compile.specs.SourceOverlays.{HaveOverlay}
 use Rattle.mj_model.specs.Tables.{Kind, Tables, Overlay, System, User}
 use Rattle.segmenter.specs.SourceDicts.{IsDictOf, IsUserDictOf}
 

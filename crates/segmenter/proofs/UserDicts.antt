@@ -9,10 +9,10 @@ use Rattle.mj_model.specs.declared.run_fault.RunFault.{RunFault}
 use Rattle.mj_model.specs.declared.run_fault.RunFault.TheVariants as run
 use Rattle.mj_model.specs.declared.source_fault.SourceFault.{SourceFault}
 use Rattle.mj_model.specs.declared.source_fault.SourceKind.TheVariants.{ArrayFull, Memory}
-use Rattle.mj_model.specs.Compilation.{IsUserCause, IsUserFault}
+use Rattle.dict_compile.specs.Compilation.{IsUserCause, IsUserFault}
 use Rattle.mj_model.specs.FirstFault.{IsRefusal}
-use Rattle.mj_model.specs.ImageMeaning.{image_tables}
-use Rattle.mj_model.specs.SourceOverlays.{IsOfUser, UserCompileTo}
+use Rattle.image_bytes.specs.ImageMeaning.{image_tables}
+use Rattle.dict_compile.specs.SourceOverlays.{IsOfUser, UserCompileTo}
 use Rattle.mj_model.specs.Tables.{Tables}
 use Rattle.dict_compile.proofs.UserLemmas.{not_both_for, user_told_for}
 use Rattle.segmenter.specs.EarlyFaults.{EndsEarly}

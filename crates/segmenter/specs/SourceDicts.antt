@@ -5,8 +5,8 @@ use Rattle.mj_model.specs.declared.run_fault.RunFault.{RunFault}
 use Rattle.mj_model.specs.declared.run_fault.RunFault.TheVariants as run
 use Rattle.mj_model.specs.declared.source_fault.SourceKind.TheVariants.{ArrayFull}
 use Rattle.mj_model.specs.declared.sources.Sources.{Sources}
-use Rattle.mj_model.specs.Compilation.{IsCompilation, IsUserCause, IsUserCompilation}
-use Rattle.mj_model.specs.SourceOverlays.{IsOfUser}
+use Rattle.dict_compile.specs.Compilation.{IsCompilation, IsUserCause, IsUserCompilation}
+use Rattle.dict_compile.specs.SourceOverlays.{IsOfUser}
 use Rattle.mj_model.specs.Tables.{Tables}
 
 -- the dictionary of sources

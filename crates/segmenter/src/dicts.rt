@@ -6,11 +6,11 @@ ghost use Rattle.mj_model.specs.declared.image_fault.ImageFault.TheVariants.{Mem
 ghost use Rattle.mj_model.specs.declared.run_fault.RunFault.TheVariants.{UserSource};
 ghost use Rattle.mj_model.specs.declared.source_fault.SourceFault.{SourceFault as FaultOf};
 ghost use Rattle.mj_model.specs.declared.source_fault.SourceKind.TheVariants.{Memory};
-ghost use Rattle.mj_model.specs.Compilation.{IsCompilationCause, IsCompilationFault, IsUserCause, IsUserFault};
+ghost use Rattle.dict_compile.specs.Compilation.{IsCompilationCause, IsCompilationFault, IsUserCause, IsUserFault};
 ghost use Rattle.mj_model.specs.FirstFault.{IsRefusal};
-ghost use Rattle.mj_model.specs.ImageFaults.{IsWellFormed};
-ghost use Rattle.mj_model.specs.ImageMeaning.{image_tables};
-ghost use Rattle.mj_model.specs.SourceOverlays.{IsOfUser};
+ghost use Rattle.image_bytes.specs.ImageFaults.{IsWellFormed};
+ghost use Rattle.image_bytes.specs.ImageMeaning.{image_tables};
+ghost use Rattle.dict_compile.specs.SourceOverlays.{IsOfUser};
 ghost use Rattle.mj_model.specs.Tables.{System};
 ghost use Rattle.dict_compile.specs.Answers.{IsRefusedFor as IsCompileRefusedFor};
 ghost use Rattle.segmenter.specs.SourceDicts.{IsDictOf, IsUserDictOf, IsUsersRefusal, IsRefusedFor, lexicons_of, users_of};

@@ -5,9 +5,9 @@ ghost use Rattle.mj_model.specs.declared.limits.TheConstants.{GROUPING_MAX, READ
 ghost use Rattle.mj_model.specs.declared.run_fault.RunFault.TheVariants.{Source, UserSource, Memory as MemoryAt};
 ghost use Rattle.mj_model.specs.declared.source_fault.SourceFault.{SourceFault as FaultOf};
 ghost use Rattle.mj_model.specs.declared.source_fault.SourceKind.TheVariants.{Memory};
-ghost use Rattle.mj_model.specs.Compilation.{IsCompilationCause, IsCompilationFault};
+ghost use Rattle.dict_compile.specs.Compilation.{IsCompilationCause, IsCompilationFault};
 ghost use Rattle.paths.specs.PathLaws.{CoversTexts};
-ghost use Rattle.mj_model.specs.SourceOverlays.{HaveOverlay, IsUsersCause, IsUsersFault};
+ghost use Rattle.dict_compile.specs.SourceOverlays.{HaveOverlay, IsUsersCause, IsUsersFault};
 ghost use Rattle.mj_model.specs.Tables.{Overlay};
 ghost use Rattle.segmenter.specs.PrintedLines.{Judges, Prints};
 ghost use Rattle.segmenter.specs.Runs.{Ran, IsEarly};

@@ -6,7 +6,7 @@ use Rattle.std.proofs.lemmas.Bool.{and_parts, eqb-true}
 use Rattle.mj_model.specs.declared.limits.TheConstants.{SENTENCE_MAX}
 use Rattle.mj_model.specs.declared.matrix_sizes.MatrixSizes.{MatrixSizes}
 use Rattle.mj_model.specs.Connection.{is_pair}
-use Rattle.mj_model.specs.ImageMeaning.{image_tables}
+use Rattle.image_bytes.specs.ImageMeaning.{image_tables}
 use Rattle.mj_model.specs.Tables.{HasText, HasApartTokens, Kind, System, User, Tables, Lexeme, lexicons_of}
 use Rattle.paths.specs.Laws.{HasWords, CoversAll}
 use Rattle.mj_model.specs.Overlays.{is_user, are_same_sizes}

@@ -4,7 +4,7 @@ use Rattle.std.specs.Prelude.{◌==◌, Option, Some, None, option_map, find, is
 use Rattle.std.specs.Borrow.{Bor}
 use Rattle.std.specs.Option.{option_map_or}
 use Rattle.std.proofs.lemmas.Bool.{ltb-true, ltb-false}
-use Rattle.mj_model.specs.ImageMeaning.{image_tables}
+use Rattle.image_bytes.specs.ImageMeaning.{image_tables}
 use Rattle.mj_model.specs.Printed.{feature_in}
 use Rattle.mj_model.specs.Tables.{Tables, Token, Lexeme, lexicons_of}
 use Rattle.dict_image.specs.declared.entry_ref.EntryRef.{EntryRef}

@@ -7,7 +7,7 @@ use Rattle.std.proofs.lemmas.List.{length-take-le, drop_more}
 use Rattle.std.proofs.lemmas.Slice.Eq.{bytes_eq-Decides}
 use Rattle.mj_model.specs.declared.word.Word.{Word}
 use Rattle.mj_model.specs.declared.word.Origin.TheVariants.{Known}
-use Rattle.mj_model.specs.ImageMeaning.{entries_under}
+use Rattle.image_bytes.specs.ImageMeaning.{entries_under}
 use Rattle.mj_model.specs.Lists.{up_to, StandsIn}
 use Rattle.paths.specs.KnownWords.{word_of, known_word, entries_of_length, known_in, known_from}
 use Rattle.mj_model.specs.Tables.{Lexeme, Tables, Token, lexicons_of}

@@ -3,7 +3,7 @@ use Rattle.std.specs.Prelude.{ℕ, List, [], map, Option, Some, None}
 use Rattle.std.specs.Borrow.{Bor}
 use Rattle.mj_model.specs.declared.limits.TheConstants.{GROUPING_DEFAULT}
 use Rattle.mj_model.specs.declared.overlay_fault.OverlayFault.{OverlayFault}
-use Rattle.mj_model.specs.ImageMeaning.{image_tables}
+use Rattle.image_bytes.specs.ImageMeaning.{image_tables}
 use Rattle.mj_model.specs.Overlays.{overlay_fault}
 use Rattle.mj_model.specs.Tables.{Lexeme, Overlay}
 use Rattle.word_lookup.specs.declared.dictionaries.Dictionaries.{Dictionaries}

@@ -2,7 +2,7 @@
 use Rattle.std.specs.Prelude.{ℕ, List, map, flat_map}
 use Rattle.mj_model.specs.declared.word.Word.{Word}
 use Rattle.paths.specs.Run.{bytes_of}
-use Rattle.mj_model.specs.ImageMeaning.{image_tables}
+use Rattle.image_bytes.specs.ImageMeaning.{image_tables}
 use Rattle.mj_model.specs.Tables.{Token}
 use Rattle.word_lookup.specs.declared.unknown_entries.UnknownEntries.{UnknownEntries}
 use Rattle.paths.specs.Words.{unknown_word}

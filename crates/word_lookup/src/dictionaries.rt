@@ -4,7 +4,7 @@ ghost use Rattle.std.specs.Prelude.{◌≡◌, ℕ, ◌+◌, ◌<◌, ◌≤◌,
 ghost use Rattle.std.specs.Str.{IsUtf8};
 ghost use Rattle.paths.specs.Blanks.{skip};
 ghost use Rattle.mj_model.specs.Connection.{is_pair};
-ghost use Rattle.mj_model.specs.ImageMeaning.{image_tables};
+ghost use Rattle.image_bytes.specs.ImageMeaning.{image_tables};
 ghost use Rattle.paths.specs.KnownWords.{known_from};
 ghost use Rattle.mj_model.specs.Printed.{feature_of};
 ghost use Rattle.mj_model.specs.Tables.{lexicons};

@@ -1,7 +1,7 @@
 //! Known words.
 
 ghost use Rattle.std.specs.Prelude.{◌≡◌, ◌+◌, ◌<◌, ◌^◌, ◌++◌, length, take, vec_len, OnOk};
-ghost use Rattle.mj_model.specs.ImageMeaning.{image_tables};
+ghost use Rattle.image_bytes.specs.ImageMeaning.{image_tables};
 ghost use Rattle.paths.specs.KnownWords.{known_in};
 
 use crate::entry_words::{EntryList, append_entries};

@@ -2,7 +2,7 @@
 
 ghost use Rattle.std.specs.Prelude.{◌≡◌, List, ◌∷◌, map, Some, OnOk, IfErr};
 ghost use Rattle.std.specs.List.{AllByRecursion};
-ghost use Rattle.mj_model.specs.ImageMeaning.{image_tables};
+ghost use Rattle.image_bytes.specs.ImageMeaning.{image_tables};
 ghost use Rattle.mj_model.specs.Overlays.{first_user_fault};
 ghost use Rattle.mj_model.specs.Tables.{Tables};
 ghost use Rattle.word_lookup.specs.Fitting.{IsUserOf, sizes_of};

@@ -3,7 +3,7 @@
 ghost use Rattle.std.specs.Prelude.{◌≡◌, ◌+◌, ◌<◌, ◌≤◌, ◌||◌, ◌^◌, ◌∷◌, length, chars, IfSome, max, true};
 ghost use Rattle.std.specs.Char.{len_utf8};
 ghost use Rattle.paths.specs.UnknownSpans.{spans_by, one_if_none};
-ghost use Rattle.mj_model.specs.ImageMeaning.{image_tables};
+ghost use Rattle.image_bytes.specs.ImageMeaning.{image_tables};
 ghost use Rattle.mj_model.specs.Tables.{System};
 ghost use Rattle.word_lookup.specs.Spans.{spans_in, grouped_with, longest_of, HasBytes};
 

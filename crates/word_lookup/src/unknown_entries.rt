@@ -1,7 +1,7 @@
 //! The unknown entries of a category.
 
 ghost use Rattle.std.specs.Prelude.{◌≡◌, ◌+◌, ◌<◌, ◌≤◌, ◌-◌, ◌^◌, ◌++◌, length, map, take, vec_len, chars, IfSome, OnOk};
-ghost use Rattle.mj_model.specs.ImageMeaning.{image_tables};
+ghost use Rattle.image_bytes.specs.ImageMeaning.{image_tables};
 ghost use Rattle.mj_model.specs.Lists.{up_to};
 ghost use Rattle.paths.specs.Words.{unknown_word};
 ghost use Rattle.word_lookup.specs.Spans.{spans_in, HasBytes};

@@ -1,6 +1,6 @@
 //! The categories of an image.
 ghost use Rattle.std.specs.Prelude.{◌≡◌, ◌↔◌, length, IsTrue, MatchOption};
-ghost use Rattle.mj_model.specs.ImageSections.{AreCategories};
+ghost use Rattle.image_bytes.specs.ImageSections.{AreCategories};
 ghost use Rattle.dict_image.specs.CheckedCategories.{BeginsWithCategory, after_category};
 
 use simdutf8::is_utf8;

@@ -1,8 +1,8 @@
 //! A cell of the keys, and what the rules allow it to be.
 ghost use Rattle.std.specs.Prelude.{◌≡◌, ℕ, ◌+◌, ◌<◌, pos, length, MatchOption};
-ghost use Rattle.mj_model.specs.CellMap.{cell_at, check as check_of};
-ghost use Rattle.mj_model.specs.CellRules.{IsBaseAfter, IsUsed};
-ghost use Rattle.mj_model.specs.ImageSections.{stored_cells};
+ghost use Rattle.double_array.specs.CellMap.{cell_at, check as check_of};
+ghost use Rattle.double_array.specs.CellRules.{IsBaseAfter, IsUsed};
+ghost use Rattle.image_bytes.specs.ImageSections.{stored_cells};
 ghost use Rattle.dict_image.specs.Cells.{number, cell_of, IsDistance, IsChildAt, IsAllowed, IsRole, IsBaseRole};
 
 use double_array::CellRead;

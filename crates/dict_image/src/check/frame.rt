@@ -1,8 +1,8 @@
 //! What stands around the sections: the magic, the layout, the length and the digest.
 ghost use Rattle.std.specs.Prelude.{◌≡◌, ◌≤◌, ◌↔◌, drop, take, length, IsTrue, MatchResult};
 ghost use Rattle.sha2.specs.Sha256.{sha256};
-ghost use Rattle.mj_model.specs.ImageBytes.{header_of, image_magic, section_end};
-ghost use Rattle.mj_model.specs.ImageFaults.{PassAll, IsFirstTold};
+ghost use Rattle.image_bytes.specs.ImageBytes.{header_of, image_magic, section_end};
+ghost use Rattle.image_bytes.specs.ImageFaults.{PassAll, IsFirstTold};
 ghost use Rattle.image_bytes.specs.Headers.{IsHeaderOf, AreEnds};
 ghost use Rattle.dict_image.specs.Stages.{front_tests, end_tests};
 

@@ -1,7 +1,7 @@
 //! The numbers of a header, within their bounds.
 ghost use Rattle.std.specs.Prelude.{◌≡◌, ◌↔◌, false, IsTrue, MatchResult};
-ghost use Rattle.mj_model.specs.ImageBytes.{kind_of};
-ghost use Rattle.mj_model.specs.ImageFaults.{AreCounts, IsHeader, PassAll, IsFirstTold};
+ghost use Rattle.image_bytes.specs.ImageBytes.{kind_of};
+ghost use Rattle.image_bytes.specs.ImageFaults.{AreCounts, IsHeader, PassAll, IsFirstTold};
 ghost use Rattle.mj_model.specs.Tables.{System, User};
 ghost use Rattle.dict_image.specs.Stages.{stated, header_tests};
 

@@ -1,6 +1,6 @@
 //! An index: which tokens each of its lists has.
 ghost use Rattle.std.specs.Prelude.{◌≡◌, ℕ, suc, ◌+◌, ◌*◌, ◌<◌, ◌↔◌, length, IsTrue};
-ghost use Rattle.mj_model.specs.ImageSections.{IsIndex, index_at};
+ghost use Rattle.image_bytes.specs.ImageSections.{IsIndex, index_at};
 
 use image_bytes::u32_at;
 

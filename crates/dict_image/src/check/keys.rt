@@ -1,9 +1,9 @@
 //! The keys of an image's groups, each found from the cell of the group's value.
 ghost use Rattle.std.specs.Prelude.{◌≡◌, ◌≢◌, ℕ, suc, ◌<◌, ◌≤◌, ◌↔◌, pos, negsuc, Some, List, length, map, drop, IsTrue, IfOk, MatchOption};
-ghost use Rattle.mj_model.specs.CellMap.{base as base_of, check as check_of, walk};
-ghost use Rattle.mj_model.specs.CellRules.{AreCells};
-ghost use Rattle.mj_model.specs.ImageFaults.{HasKey, IsLeastWithout};
-ghost use Rattle.mj_model.specs.ImageSections.{StandsOnce, stored_cells};
+ghost use Rattle.double_array.specs.CellMap.{base as base_of, check as check_of, walk};
+ghost use Rattle.double_array.specs.CellRules.{AreCells};
+ghost use Rattle.image_bytes.specs.ImageFaults.{HasKey, IsLeastWithout};
+ghost use Rattle.image_bytes.specs.ImageSections.{StandsOnce, stored_cells};
 ghost use Rattle.dict_image.specs.Keys.{IsState, IsStepBack};
 ghost use Rattle.dict_image.specs.Values.{HoldEach, ArePlaces};
 

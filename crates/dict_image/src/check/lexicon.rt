@@ -1,6 +1,6 @@
 //! Sections 5 to 8: cells and keys, groups, tokens and features.
 ghost use Rattle.std.specs.Prelude.{◌≡◌, ◌⊎◌, MatchResult};
-ghost use Rattle.mj_model.specs.ImageFaults.{IsHeader, PassAll, IsFirstTold};
+ghost use Rattle.image_bytes.specs.ImageFaults.{IsHeader, PassAll, IsFirstTold};
 ghost use Rattle.mj_model.specs.declared.image_fault.ImageFault.TheVariants.{Memory};
 ghost use Rattle.dict_image.specs.Stages.{stated, key_tests, token_tests};
 

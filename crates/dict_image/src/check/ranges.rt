@@ -1,6 +1,7 @@
 //! The categories of code points, in ranges.
 ghost use Rattle.std.specs.Prelude.{ℕ, suc, ◌+◌, ◌*◌, ◌/◌, ◌%◌, ◌<◌, ◌≤◌, ◌↔◌, length, IsTrue};
-ghost use Rattle.mj_model.specs.ImageSections.{AreRanges, IsInfoOf, info_of_entry, range_at};
+ghost use Rattle.image_bytes.specs.ImageSections.{AreRanges, info_of_entry, range_at};
+ghost use Rattle.mj_model.specs.CharDef.{IsInfoOf};
 ghost use Rattle.dict_image.specs.CheckedRanges.{IsRangeOf};
 
 use image_bytes::u32_at;

@@ -1,8 +1,8 @@
 //! Sections 1 to 4, which a user dictionary leaves empty.
 ghost use Rattle.std.specs.Prelude.{◌↔◌, IsTrue, MatchResult};
-ghost use Rattle.mj_model.specs.ImageBytes.{all_tokens, kind_of};
-ghost use Rattle.mj_model.specs.ImageFaults.{IsHeader, SystemAlone, PassAll, IsFirstTold};
-ghost use Rattle.mj_model.specs.ImageSections.{AreCosts, AreCategories, AreRanges, IsIndex};
+ghost use Rattle.image_bytes.specs.ImageBytes.{all_tokens, kind_of};
+ghost use Rattle.image_bytes.specs.ImageFaults.{IsHeader, SystemAlone, PassAll, IsFirstTold};
+ghost use Rattle.image_bytes.specs.ImageSections.{AreCosts, AreCategories, AreRanges, IsIndex};
 ghost use Rattle.dict_image.specs.Stages.{stated, system_tests};
 
 use crate::check::categories::are_categories;

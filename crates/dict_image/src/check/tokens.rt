@@ -1,7 +1,7 @@
 //! Tokens and their features.
 ghost use Rattle.std.specs.Prelude.{◌≡◌, ◌+◌, ◌*◌, ◌≤◌, ◌<◌, ◌↔◌, ℕ, length, IsTrue, MatchOption};
-ghost use Rattle.mj_model.specs.ImageFaults.{IsLeastWithout};
-ghost use Rattle.mj_model.specs.ImageSections.{FitsSizes, HasFeature, stored_token};
+ghost use Rattle.image_bytes.specs.ImageFaults.{IsLeastWithout};
+ghost use Rattle.image_bytes.specs.ImageSections.{FitsSizes, HasFeature, stored_token};
 
 use image_bytes::{u16_at, u32_at};
 use simdutf8::is_utf8;

@@ -1,6 +1,6 @@
 //! The cells of an image's keys: they meet the rules and hold each group once.
 ghost use Rattle.std.specs.Prelude.{◌≡◌, ◌+◌, ◌*◌, ◌/◌, ◌^◌, ◌<◌, ◌≤◌, ◌↔◌, false, length, IsTrue, IfOk, MatchOption};
-ghost use Rattle.mj_model.specs.ImageSections.{HoldGroups, stored_cells};
+ghost use Rattle.image_bytes.specs.ImageSections.{HoldGroups, stored_cells};
 ghost use Rattle.dict_image.specs.Values.{IsRoot, HoldEach, ArePlaces, IsScanned};
 
 use crate::check::cell::{Role, Signed, read_cell, role_of};

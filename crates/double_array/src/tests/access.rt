@@ -1,5 +1,5 @@
 //! Insertion and lookup, as the rows ask for them.
-ghost use Rattle.mj_model.specs.CellRules.{AreCells};
+ghost use Rattle.double_array.specs.CellRules.{AreCells};
 
 use crate::{CellRead, DaFault, DoubleArray, Hit, Inserted, get, prefixes};
 use std::process::Abort;

@@ -1,5 +1,5 @@
 use Rattle.std.proofs.lemmas.Result.{err_from_is_err_and}
-use Rattle.mj_model.specs.ImageMeaning.{image_tables}
+use Rattle.image_bytes.specs.ImageMeaning.{image_tables}
 use Rattle.dict_compile.specs.Faults.{fault_told}
 use Rattle.dict_compile.proofs.CompilationLemmas.{is_compilation, refusal, source_refused}
 use Rattle.dict_compile.proofs.EveryKey.{keys_of_sources}

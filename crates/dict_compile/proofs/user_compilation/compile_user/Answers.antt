@@ -1,9 +1,9 @@
 use Rattle.std.proofs.Common.{refl, sym, subst, map}
-use Rattle.mj_model.specs.Compilation.{IsUserCause}
+use Rattle.dict_compile.specs.Compilation.{IsUserCause}
 use Rattle.mj_model.specs.FirstFault.{IsRefusal}
 use Rattle.dict_compile.proofs.EveryKey.{keys_of_lexicons}
 use Rattle.dict_compile.proofs.UserLemmas.{is_system_of, same_told}
-use Rattle.mj_model.specs.ImageMeaning.{image_tables}
+use Rattle.image_bytes.specs.ImageMeaning.{image_tables}
 use Rattle.dict_compile.proofs.KindLemmas.{a_user, not_both}
 use Rattle.dict_compile.proofs.user_compilation.compile_user.Goals as goal
 

@@ -1,6 +1,6 @@
 use Rattle.std.proofs.Common.{inl, inr, ◌≡◌}
 use Rattle.std.proofs.lemmas.Result.{err_from_is_err_and, MatchResult-weaker}
-use Rattle.mj_model.specs.ImageBytes.{header_of}
+use Rattle.image_bytes.specs.ImageBytes.{header_of}
 use Rattle.dict_image.specs.Stages.{stated}
 use Rattle.dict_image.proofs.StageLemmas.{states_same, end_told, section_told, all_pass}
 use Rattle.dict_image.proofs.check.check_image.Goals as goal

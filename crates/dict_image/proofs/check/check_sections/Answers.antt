@@ -1,8 +1,8 @@
 use Rattle.std.proofs.Common.{inl, inr, ap, subst, ◌≡◌, ◌⊎◌, List, ◌++◌}
 use Rattle.std.proofs.lemmas.Result.{err_from_is_err_and}
 use Rattle.mj_model.specs.declared.image_fault.ImageFault.TheVariants.{Memory}
-use Rattle.mj_model.specs.ImageBytes.{section}
-use Rattle.mj_model.specs.ImageFaults.{Test, PassAll, IsFirstTold}
+use Rattle.image_bytes.specs.ImageBytes.{section}
+use Rattle.image_bytes.specs.ImageFaults.{Test, PassAll, IsFirstTold}
 use Rattle.dict_image.specs.Stages.{stated, header_tests, system_tests, key_tests, token_tests}
 use Rattle.dict_image.proofs.StageLemmas.{pass_both, told_first, told_later, same_system, same_tokens}
 use Rattle.dict_image.proofs.check.check_sections.Goals as goal

@@ -1,6 +1,6 @@
 use Rattle.std.proofs.Common.{◌≡◌, ◌⊎◌, List, ℕ, subst}
 use Rattle.std.proofs.lemmas.Result.{err_from_is_err_and}
-use Rattle.mj_model.specs.ImageFaults.{IsImageFault, IsWellFormed}
+use Rattle.image_bytes.specs.ImageFaults.{IsImageFault, IsWellFormed}
 use Rattle.mj_model.specs.declared.image_fault.ImageFault.TheVariants.{Memory}
 use Rattle.dict_image.proofs.loading.load.Goals as goal
 

@@ -1,5 +1,5 @@
 use Rattle.std.proofs.Common.{sym, ap, ◌∙◌}
-use Rattle.mj_model.specs.ImageSections.{info_of_entry}
+use Rattle.image_bytes.specs.ImageSections.{info_of_entry}
 use Rattle.dict_image.proofs.RangeLemmas.{info_of_last}
 use Rattle.dict_image.proofs.ranges.info_at.Goals as goal
 

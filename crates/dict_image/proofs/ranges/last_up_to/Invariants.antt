@@ -1,5 +1,5 @@
 use Rattle.std.proofs.Common.{◌-◌, ◌<◌, ◌≤◌}
-use Rattle.mj_model.specs.ImageSections.{range_at}
+use Rattle.image_bytes.specs.ImageSections.{range_at}
 use Rattle.dict_image.specs.Ranges.{range_count}
 use Rattle.dict_image.proofs.ranges.last_up_to.Given as goal
 

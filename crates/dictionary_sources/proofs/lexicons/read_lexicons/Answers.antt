@@ -1,9 +1,8 @@
 use Rattle.std.proofs.Common.{ap, subst, sym, take, ◌+◌, List, arith}
 use Rattle.std.specs.Prelude.{map}
 use Rattle.mj_model.specs.Dictionary.{AreLexicons}
-use Rattle.mj_model.specs.Compilation.{SkipLines}
+use Rattle.mj_model.specs.Lexicon.{SkipLines, Row, rows_of}
 use Rattle.mj_model.specs.declared.matrix_sizes.MatrixSizes.{MatrixSizes}
-use Rattle.mj_model.specs.Lexicon.{Row, rows_of}
 use Rattle.std.proofs.lemmas.Result.{err_from_is_err_and}
 use Rattle.dictionary_sources.proofs.LexiconLemmas.{lexicons_more, lexicons_fault, lexicons_end, added_skips, skips_end}
 use Rattle.dictionary_sources.proofs.SkipLemmas.{skips_none}

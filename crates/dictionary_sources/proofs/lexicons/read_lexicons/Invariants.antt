@@ -1,9 +1,8 @@
 use Rattle.std.proofs.Common.{◌*◌, ◌^◌, ◌≤◌, List, [], drop, take, map}
 use Rattle.std.specs.Prelude.{Result}
 use Rattle.mj_model.specs.declared.source_fault.SourceFault.{SourceFault}
-use Rattle.mj_model.specs.Compilation.{SkipLines}
+use Rattle.mj_model.specs.Lexicon.{SkipLines, Row, rows_of}
 use Rattle.mj_model.specs.Dictionary.{AreLexicons}
-use Rattle.mj_model.specs.Lexicon.{Row, rows_of}
 use Rattle.dictionary_sources.proofs.lexicons.read_lexicons.Given as goal
 
 -- as the lexicons that are left read behind the records so far, so all read; and the lexicons so far skip this many lines, less than 2^64 each

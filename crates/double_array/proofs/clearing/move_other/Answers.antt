@@ -1,7 +1,7 @@
 use Rattle.std.proofs.Common.{◌≡◌, ◌+◌, ◌≤◌, pos, true, false, ap, sym, subst, ◌∙◌, inr}
-use Rattle.mj_model.specs.CellMap.{check}
-use Rattle.mj_model.specs.CellMoves.{IsMove}
-use Rattle.mj_model.proofs.CellMoveLaw.{Renames}
+use Rattle.double_array.specs.CellMap.{check}
+use Rattle.double_array.specs.CellMoves.{IsMove}
+use Rattle.double_array.proofs.CellMoveLaw.{Renames}
 use Rattle.double_array.specs.Built.{values}
 use Rattle.double_array.specs.Pool.{Pool}
 use Rattle.double_array.proofs.ClearingLemmas.{cleared_by_other, goes_along}

@@ -1,5 +1,5 @@
 use Rattle.std.proofs.Common.{◌+◌, ◌≤◌, sym, subst}
-use Rattle.mj_model.specs.CellMoves.{IsMove}
+use Rattle.double_array.specs.CellMoves.{IsMove}
 use Rattle.double_array.specs.Pool.{Pool}
 use Rattle.double_array.specs.Family.{FitsAt}
 use Rattle.double_array.proofs.ClearingLemmas.{has_code, fits_less, cleared_by_own}

@@ -1,6 +1,6 @@
 use Rattle.std.proofs.Common.{◌≡◌, None, Result, Ok, Err, sym}
 use Rattle.std.specs.Prelude.{OnErr}
-use Rattle.mj_model.specs.CellMap.{value_of}
+use Rattle.double_array.specs.CellMap.{value_of}
 use Rattle.double_array.proofs.TailLemmas.{map_then}
 use Rattle.double_array.proofs.InsertionLemmas.{end_in_use, end_within, end_holds, end_replaced, end_value, end_built, absent, none_still, ready, map_before}
 use Rattle.double_array.proofs.insertion.insert_key.Goals as goal

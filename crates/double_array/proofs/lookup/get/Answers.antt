@@ -1,8 +1,8 @@
 use Rattle.std.proofs.Common.{arith, ◌≡◌, ◌+◌, ◌<◌, ◌∙◌, ℕ, sym, ap, length, get_or, take, Some}
 use Rattle.std.proofs.lemmas.Bool.{eqb-true, eqb-false}
 use Rattle.std.proofs.lemmas.List.{nil_from_length}
-use Rattle.mj_model.specs.CellMap.{walk, codes_of, value_of}
-use Rattle.mj_model.proofs.CellWalks.{walk_none}
+use Rattle.double_array.specs.CellMap.{walk, codes_of, value_of}
+use Rattle.double_array.proofs.CellWalks.{walk_none}
 use Rattle.double_array.proofs.KeyWalks.{length-codes_of, code_of_byte, walk_take_more, no_value_by_stop, value_by_end, value_of_nothing}
 use Rattle.double_array.proofs.lookup.get.Goals as goal
 

@@ -1,5 +1,5 @@
 use Rattle.std.proofs.Common.{◌≡◌, take, Some}
-use Rattle.mj_model.specs.CellMap.{walk, codes_of}
+use Rattle.double_array.specs.CellMap.{walk, codes_of}
 use Rattle.double_array.specs.Steps.{IsAt}
 use Rattle.double_array.proofs.lookup.get.Given as goal
 

@@ -1,7 +1,7 @@
 use Rattle.std.proofs.Common.{rules, arith, ap, sym, ◌∙◌, w32, Some, ℕ}
 use mir.Val.{SFits}
 use Rattle.std.specs.Option.{option_and_then}
-use Rattle.mj_model.specs.CellMap.{base, value_in}
+use Rattle.double_array.specs.CellMap.{base, value_in}
 use Rattle.double_array.proofs.StepLemmas.{no_step, end_step, told_value, told_value_fits}
 use Rattle.double_array.proofs.steps.value_at.Goals as goal
 

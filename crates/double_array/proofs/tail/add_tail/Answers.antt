@@ -1,5 +1,5 @@
 use Rattle.std.proofs.Common.{arith, ◌≡◌, ◌<◌, ◌≤◌, ℕ, length, get_or, subst, ◌∙◌}
-use Rattle.mj_model.specs.CellMap.{codes_of}
+use Rattle.double_array.specs.CellMap.{codes_of}
 use Rattle.double_array.specs.Tail.{IsReady}
 use Rattle.double_array.proofs.KeyWalks.{code_of_byte}
 use Rattle.double_array.proofs.TailLemmas.{ready_more, map_on, long_on, value_added, built_again, map_then}

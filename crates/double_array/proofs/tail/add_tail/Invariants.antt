@@ -1,5 +1,5 @@
 use Rattle.std.proofs.Common.{◌≡◌, length}
-use Rattle.mj_model.specs.CellMap.{HasSameMap}
+use Rattle.double_array.specs.CellMap.{HasSameMap}
 use Rattle.double_array.specs.Tail.{IsReady}
 use Rattle.double_array.proofs.tail.add_tail.Given as goal
 

@@ -1,5 +1,5 @@
 use Rattle.std.proofs.Common.{arith, ◌≡◌, ℕ, length, get_or, ap, sym, ◌∙◌}
-use Rattle.mj_model.specs.CellMap.{codes_of}
+use Rattle.double_array.specs.CellMap.{codes_of}
 use Rattle.double_array.proofs.KeyWalks.{code_of_byte, code_of_end}
 use Rattle.double_array.proofs.tail.code_at.Goals as goal
 

@@ -1,5 +1,5 @@
 use Rattle.std.proofs.Common.{◌∙◌, ◌-◌, arith, refl}
-use Rattle.mj_model.specs.ImageBytes.{header_of}
+use Rattle.image_bytes.specs.ImageBytes.{header_of}
 use Rattle.image_bytes.proofs.EndLemmas.{end_after}
 use Rattle.image_bytes.proofs.ends.section.Goals as goal
 

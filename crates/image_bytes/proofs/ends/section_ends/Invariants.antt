@@ -1,6 +1,6 @@
 use Rattle.std.proofs.Common.{◌≡◌, ◌≤◌, length, slice_index, ℕ}
-use Rattle.mj_model.specs.ImageBytes.{Header as Stated}
-use Rattle.mj_model.specs.ImageBytes.{section_end}
+use Rattle.image_bytes.specs.ImageBytes.{Header as Stated}
+use Rattle.image_bytes.specs.ImageBytes.{section_end}
 use Rattle.image_bytes.specs.Headers.{IsHeaderOf}
 use Rattle.image_bytes.proofs.ends.section_ends.Given as goal
 

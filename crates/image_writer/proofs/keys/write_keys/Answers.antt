@@ -1,5 +1,5 @@
 use Rattle.std.proofs.Common.{◌≡◌, ◌<◌, ◌+◌, ◌*◌, ℕ, List, length, get_or, ap, ◌∙◌, rules, arith}
-use Rattle.mj_model.specs.ImageSections.{index_at}
+use Rattle.image_bytes.specs.ImageSections.{index_at}
 use Rattle.image_writer.proofs.KeyLemmas.{key_bytes}
 use Rattle.image_writer.proofs.keys.write_keys.Goals as goal
 

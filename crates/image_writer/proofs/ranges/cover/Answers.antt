@@ -1,5 +1,5 @@
 use Rattle.std.proofs.Common.{◌≡◌, sym, subst, suc, ◌+◌, length, arith}
-use Rattle.mj_model.specs.ImageSections.{IsInfoOf}
+use Rattle.mj_model.specs.CharDef.{IsInfoOf}
 use Rattle.image_writer.specs.Covering.{Covers}
 use Rattle.image_writer.proofs.CoverLemmas.{cover_more, entry_fits}
 use Rattle.image_writer.proofs.ranges.cover.Goals as goal

@@ -1,5 +1,5 @@
 use Rattle.std.proofs.Common.{ap, ◌∙◌, sym, subst, ◌++◌, List, ℕ, length, arith}
-use Rattle.mj_model.specs.ImageSections.{IsInfoOf}
+use Rattle.mj_model.specs.CharDef.{IsInfoOf}
 use Rattle.image_writer.specs.Covering.{Covers}
 use Rattle.image_writer.specs.Ranges.{range_bytes}
 use Rattle.image_writer.proofs.CoverLemmas.{cover_first, entry_fits}

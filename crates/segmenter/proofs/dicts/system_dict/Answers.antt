@@ -1,4 +1,4 @@
-use Rattle.mj_model.specs.Compilation.{IsCompilationCause}
+use Rattle.dict_compile.specs.Compilation.{IsCompilationCause}
 use Rattle.dict_compile.proofs.FirstFaults.{not_compiled}
 use Rattle.segmenter.specs.SourceDicts.{IsDictOf}
 use Rattle.segmenter.proofs.LoadedLemmas.{loaded_dict, loaded_refused}

@@ -1,5 +1,5 @@
-use Rattle.mj_model.specs.Compilation.{IsUserCause}
-use Rattle.mj_model.specs.ImageMeaning.{image_tables}
+use Rattle.dict_compile.specs.Compilation.{IsUserCause}
+use Rattle.image_bytes.specs.ImageMeaning.{image_tables}
 use Rattle.segmenter.specs.SourceDicts.{IsUserDictOf, lexicons_of}
 use Rattle.segmenter.proofs.LoadedLemmas.{loaded_dict, loaded_refused}
 use Rattle.segmenter.proofs.dicts.user_dict.Goals as goal

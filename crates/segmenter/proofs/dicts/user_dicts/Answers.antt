@@ -1,6 +1,6 @@
 use Rattle.std.proofs.Common.{◌≡◌, ◌++◌, ◌∷◌, [], ◌+◌, subst, sym, take}
 use Rattle.std.specs.List.{AllZip}
-use Rattle.mj_model.specs.ImageMeaning.{image_tables}
+use Rattle.image_bytes.specs.ImageMeaning.{image_tables}
 use Rattle.segmenter.specs.SourceDicts.{IsUserDictOf, users_of}
 use Rattle.segmenter.proofs.LoadedLemmas.{when_ok}
 use Rattle.segmenter.proofs.UserDicts.{none_at_fault, user_first, user_more, user_refused, users_end}

@@ -1,6 +1,6 @@
 use Rattle.std.proofs.Common.{◌∙◌, subst, refl, inl, inr, map, ◌≡◌}
 use Rattle.std.specs.Prelude.{Some}
-use Rattle.mj_model.specs.ImageMeaning.{image_tables}
+use Rattle.image_bytes.specs.ImageMeaning.{image_tables}
 use Rattle.mj_model.specs.Overlays.{overlay_fault}
 use Rattle.dict_compile.proofs.FirstFaults.{not_compiled}
 use Rattle.word_lookup.specs.Overlays.{overlay_of}

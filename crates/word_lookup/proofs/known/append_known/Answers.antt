@@ -1,7 +1,7 @@
 use Rattle.std.proofs.Common.{rules, ◌≡◌, ◌++◌, List, flat_map, map, length, sym, ap, ◌∙◌, subst}
 use Rattle.std.specs.List.{AllByRecursion}
 use Rattle.mj_model.specs.declared.word.Word.{Word}
-use Rattle.mj_model.specs.ImageMeaning.{image_tables}
+use Rattle.image_bytes.specs.ImageMeaning.{image_tables}
 use Rattle.dict_image.specs.Prefixes.{PrefixesSeen, prefixes_in}
 use Rattle.word_lookup.specs.declared.entry_words.EntryList.TheVariants.{Lexicon}
 use Rattle.word_lookup.specs.EntryWords.{entry_word}

@@ -1,6 +1,6 @@
 use Rattle.std.proofs.Common.{flat_map, length}
 use Rattle.std.specs.List.{AllByRecursion}
-use Rattle.mj_model.specs.ImageMeaning.{image_tables}
+use Rattle.image_bytes.specs.ImageMeaning.{image_tables}
 use Rattle.dict_image.specs.Prefixes.{prefixes_in}
 use Rattle.word_lookup.proofs.AppendLemmas.{AreAppended}
 use Rattle.word_lookup.proofs.KnownFound.{prefix_words, IsWithin}

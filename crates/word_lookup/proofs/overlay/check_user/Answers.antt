@@ -1,5 +1,5 @@
 use Rattle.std.proofs.Common.{sym, ◌∙◌}
-use Rattle.mj_model.specs.ImageMeaning.{image_tables}
+use Rattle.image_bytes.specs.ImageMeaning.{image_tables}
 use Rattle.word_lookup.specs.Fitting.{sizes_of}
 use Rattle.word_lookup.proofs.UserLemmas.{left_differs, other_sizes, right_differs, same}
 use Rattle.word_lookup.proofs.overlay.check_user.Goals as goal

@@ -1,5 +1,5 @@
 use Rattle.std.proofs.lemmas.Result.{err_from_is_err_and}
-use Rattle.mj_model.specs.ImageMeaning.{image_tables}
+use Rattle.image_bytes.specs.ImageMeaning.{image_tables}
 use Rattle.word_lookup.specs.Fitting.{sizes_of}
 use Rattle.word_lookup.proofs.UserLemmas.{all_passed, one_user_more, user_told}
 use Rattle.std.proofs.Common.{rules, arith}

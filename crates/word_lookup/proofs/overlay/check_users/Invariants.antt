@@ -1,4 +1,4 @@
-use Rattle.mj_model.specs.ImageMeaning.{image_tables}
+use Rattle.image_bytes.specs.ImageMeaning.{image_tables}
 use Rattle.word_lookup.specs.Fitting.{sizes_of}
 use Rattle.word_lookup.proofs.UserLemmas.{HavePassed}
 use Rattle.word_lookup.proofs.overlay.check_users.Given as goal

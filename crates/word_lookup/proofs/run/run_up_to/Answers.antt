@@ -6,7 +6,7 @@ use Rattle.std.proofs.lemmas.List.{length_push, length-take}
 use Rattle.mj_model.specs.declared.category.CharInfo.{CharInfo}
 use Rattle.mj_model.specs.Categories.{shares}
 use Rattle.paths.specs.Run.{run, bytes_of}
-use Rattle.mj_model.specs.ImageMeaning.{image_tables}
+use Rattle.image_bytes.specs.ImageMeaning.{image_tables}
 use Rattle.word_lookup.proofs.RunLemmas.{turn, stop, end, one_more_byte, bytes_fit, counted, counted_bytes}
 use Rattle.word_lookup.proofs.run.run_up_to.Goals as goal
 

@@ -1,7 +1,7 @@
 use Rattle.std.proofs.Common.{◌≡◌, ◌+◌, length, drop, take}
 use Rattle.std.specs.Prelude.{chars}
 use Rattle.paths.specs.Run.{run, bytes_of}
-use Rattle.mj_model.specs.ImageMeaning.{image_tables}
+use Rattle.image_bytes.specs.ImageMeaning.{image_tables}
 use Rattle.word_lookup.proofs.run.run_up_to.Given as goal
 
 -- the characters so far belong to the run, which goes on from the last of them

@@ -1,6 +1,6 @@
 use Rattle.std.proofs.Common.{arith, rules, ◌≡◌, ℕ, sym, ◌∙◌}
 use Rattle.std.specs.Prelude.{chars}
-use Rattle.mj_model.specs.ImageMeaning.{image_tables}
+use Rattle.image_bytes.specs.ImageMeaning.{image_tables}
 use Rattle.mj_model.specs.Categories.{shares}
 use Rattle.paths.proofs.CharBytes.{chars_within}
 use Rattle.word_lookup.proofs.SpanLemmas.{no_spans_from, has_bytes, spans_found_from, category_is, longest_within}

@@ -1,5 +1,5 @@
 use Rattle.std.proofs.Common.{rules, arith, subst, sym, eqb-true, eq-eqb, ap, length, ◌∙◌, ◌-◌, ◌+◌, ◌<◌, ℕ, ◌≡◌, suc}
-use Rattle.mj_model.specs.ImageSections.{AreCategories}
+use Rattle.image_bytes.specs.ImageSections.{AreCategories}
 use Rattle.dict_image.proofs.CheckedCategories.{none_left, empty_list, first_there, without_first}
 use Rattle.dict_image.proofs.check.categories.are_categories.Goals as goal
 

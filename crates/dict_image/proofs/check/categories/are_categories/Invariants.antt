@@ -1,5 +1,5 @@
 use Rattle.std.proofs.Common.{◌-◌, ◌↔◌}
-use Rattle.mj_model.specs.ImageSections.{AreCategories}
+use Rattle.image_bytes.specs.ImageSections.{AreCategories}
 use Rattle.dict_image.proofs.check.categories.are_categories.Given as goal
 
 abbrev pub invariant-loop-left : goal.invariant-loop-left

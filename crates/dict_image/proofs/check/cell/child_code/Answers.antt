@@ -1,6 +1,6 @@
 use Rattle.std.proofs.Common.{ap, ◌∙◌, subst, ℕ, ◌<◌}
-use Rattle.mj_model.specs.CellMap.{Cell as CellOf}
-use Rattle.mj_model.specs.ImageSections.{stored_cells}
+use Rattle.double_array.specs.CellMap.{Cell as CellOf}
+use Rattle.image_bytes.specs.ImageSections.{stored_cells}
 use Rattle.dict_image.specs.Cells.{number}
 use Rattle.dict_image.proofs.CellLemmas.{child_by}
 use Rattle.dict_image.proofs.check.cell.child_code.Goals as goal

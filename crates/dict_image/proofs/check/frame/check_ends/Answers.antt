@@ -1,5 +1,5 @@
 use Rattle.std.proofs.Common.{◌+◌, ◌<◌, inl, inr, refl, sym, ◌∙◌, arith, length, slice_index}
-use Rattle.mj_model.specs.ImageBytes.{header_of, section_end}
+use Rattle.image_bytes.specs.ImageBytes.{header_of, section_end}
 use Rattle.dict_image.proofs.FrameLemmas.{too_far, too_short, enough, too_long, no_more, digest_at, end_within}
 use Rattle.dict_image.proofs.ValueLemmas.{not_both}
 use Rattle.dict_image.proofs.check.frame.check_ends.Goals as goal

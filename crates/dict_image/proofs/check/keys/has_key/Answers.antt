@@ -2,7 +2,7 @@ use Rattle.std.proofs.Common.{◌≡◌, ◌-◌, ◌<◌, ◌≤◌, IsUtf8, ar
 use borrow.Author.Tests.{ltb-true}
 use Rattle.std.proofs.lemmas.List.{take_all, length-drop}
 use Rattle.mj_model.specs.declared.limits.TheConstants.{SURFACE_MAX}
-use Rattle.mj_model.specs.ImageSections.{stored_cells}
+use Rattle.image_bytes.specs.ImageSections.{stored_cells}
 use Rattle.dict_image.proofs.KeyLemmas.{key_walk, key_found, key_is_this}
 use Rattle.dict_image.proofs.check.keys.has_key.Goals as goal
 

@@ -1,8 +1,8 @@
 use Rattle.std.proofs.Common.{◌-◌, ℕ, suc, List, arith, ap, ◌∙◌, length, map, drop}
 use Rattle.std.proofs.lemmas.List.{drop_all, length-drop, length-set}
-use Rattle.mj_model.specs.CellMap.{walk}
-use Rattle.mj_model.specs.ImageSections.{stored_cells}
-use Rattle.mj_model.proofs.CellWalks.{walk_none}
+use Rattle.double_array.specs.CellMap.{walk}
+use Rattle.image_bytes.specs.ImageSections.{stored_cells}
+use Rattle.double_array.proofs.CellWalks.{walk_none}
 use Rattle.dict_image.proofs.KeyLemmas.{walk_from_earlier, too_long}
 use Rattle.dict_image.proofs.check.keys.key_to.Goals as goal
 

@@ -1,6 +1,6 @@
 use Rattle.std.proofs.Common.{◌≡◌, ◌≤◌, suc, Some, length, map, drop}
-use Rattle.mj_model.specs.CellMap.{walk}
-use Rattle.mj_model.specs.ImageSections.{stored_cells}
+use Rattle.double_array.specs.CellMap.{walk}
+use Rattle.image_bytes.specs.ImageSections.{stored_cells}
 use Rattle.dict_image.specs.Keys.{IsState}
 use Rattle.dict_image.proofs.check.keys.key_to.Given as goal
 

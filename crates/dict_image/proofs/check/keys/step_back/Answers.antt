@@ -1,4 +1,4 @@
-use Rattle.mj_model.specs.ImageSections.{stored_cells}
+use Rattle.image_bytes.specs.ImageSections.{stored_cells}
 use Rattle.dict_image.proofs.KeyLemmas.{is_state, byte_back}
 use Rattle.dict_image.proofs.check.keys.step_back.Goals as goal
 

@@ -1,6 +1,6 @@
 use Rattle.std.proofs.Common.{below_more}
-use Rattle.mj_model.specs.ImageFaults.{HasKey}
-use Rattle.mj_model.specs.ImageSections.{stored_cells}
+use Rattle.image_bytes.specs.ImageFaults.{HasKey}
+use Rattle.image_bytes.specs.ImageSections.{stored_cells}
 use Rattle.dict_image.proofs.check.keys.without_key.Goals as goal
 
 pub loop-group-preserved : goal.loop-group-preserved

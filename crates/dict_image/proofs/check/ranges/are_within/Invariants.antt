@@ -1,5 +1,5 @@
 use Rattle.std.proofs.Common.{ℕ, ◌<◌}
-use Rattle.mj_model.specs.ImageSections.{range_at}
+use Rattle.image_bytes.specs.ImageSections.{range_at}
 use Rattle.dict_image.specs.CheckedRanges.{IsRangeOf}
 use Rattle.dict_image.proofs.check.ranges.are_within.Given as goal
 

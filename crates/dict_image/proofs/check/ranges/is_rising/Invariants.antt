@@ -1,5 +1,5 @@
 use Rattle.std.proofs.Common.{ℕ, suc, ◌<◌}
-use Rattle.mj_model.specs.ImageSections.{range_at}
+use Rattle.image_bytes.specs.ImageSections.{range_at}
 use Rattle.dict_image.proofs.check.ranges.is_rising.Given as goal
 
 abbrev pub invariant-loop-i : goal.invariant-loop-i

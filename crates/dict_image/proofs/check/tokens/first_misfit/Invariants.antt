@@ -1,5 +1,5 @@
 use Rattle.std.proofs.Common.{ℕ, ◌<◌}
-use Rattle.mj_model.specs.ImageSections.{FitsSizes, stored_token}
+use Rattle.image_bytes.specs.ImageSections.{FitsSizes, stored_token}
 use Rattle.dict_image.proofs.check.tokens.first_misfit.Given as goal
 
 abbrev pub invariant-loop-token : goal.invariant-loop-token

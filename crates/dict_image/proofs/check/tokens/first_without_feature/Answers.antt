@@ -1,5 +1,5 @@
 use Rattle.std.proofs.Common.{ℕ, below_more}
-use Rattle.mj_model.specs.ImageSections.{HasFeature, stored_token}
+use Rattle.image_bytes.specs.ImageSections.{HasFeature, stored_token}
 use Rattle.dict_image.proofs.check.tokens.first_without_feature.Goals as goal
 
 pub loop-token-preserved : goal.loop-token-preserved

@@ -1,5 +1,5 @@
 use Rattle.std.proofs.Common.{ℕ, ◌<◌}
-use Rattle.mj_model.specs.ImageSections.{HasFeature, stored_token}
+use Rattle.image_bytes.specs.ImageSections.{HasFeature, stored_token}
 use Rattle.dict_image.proofs.check.tokens.first_without_feature.Given as goal
 
 abbrev pub invariant-loop-token : goal.invariant-loop-token

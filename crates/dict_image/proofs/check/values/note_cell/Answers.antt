@@ -1,6 +1,6 @@
 use Rattle.std.proofs.Common.{subst, slice_index, eq-eqb}
-use Rattle.mj_model.specs.CellMap.{base}
-use Rattle.mj_model.specs.ImageSections.{stored_cells}
+use Rattle.double_array.specs.CellMap.{base}
+use Rattle.image_bytes.specs.ImageSections.{stored_cells}
 use Rattle.dict_image.specs.Cells.{IsBaseRole}
 use Rattle.dict_image.proofs.ValueLemmas.{stands_twice}
 use Rattle.dict_image.proofs.check.values.note_cell.Goals as goal

@@ -1,5 +1,5 @@
 use Rattle.std.proofs.Common.{ℕ, ◌≡◌, ◌<◌, List, arith, sym, ap, ◌∙◌, subst, length, get_or, eqb, eqb-true, eq-eqb}
-use Rattle.mj_model.specs.ImageSections.{stored_cells}
+use Rattle.image_bytes.specs.ImageSections.{stored_cells}
 use Rattle.dict_image.specs.Values.{IsScanned}
 use Rattle.dict_image.proofs.ValueLemmas.{not_both, root_within, not_found, all_found}
 use Rattle.dict_image.proofs.check.values.scan.Goals as goal

@@ -1,4 +1,4 @@
-use Rattle.mj_model.specs.ImageSections.{stored_cells}
+use Rattle.image_bytes.specs.ImageSections.{stored_cells}
 use Rattle.dict_image.specs.Values.{IsScanned}
 use Rattle.dict_image.proofs.check.values.scan.Given as goal
 

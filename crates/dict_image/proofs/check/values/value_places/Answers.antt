@@ -1,6 +1,6 @@
 use Rattle.std.proofs.Common.{◌/◌, arith, length}
 use Rattle.std.proofs.lemmas.List.FromFn.{length-map-range_with_len}
-use Rattle.mj_model.specs.ImageSections.{stored_cell, stored_cells}
+use Rattle.image_bytes.specs.ImageSections.{stored_cell, stored_cells}
 use Rattle.dict_image.specs.Values.{IsRoot, HoldEach}
 use Rattle.dict_image.proofs.ValueLemmas.{not_both}
 use Rattle.dict_image.proofs.GroupCount.{few_groups}

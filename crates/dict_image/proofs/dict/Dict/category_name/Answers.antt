@@ -3,8 +3,8 @@ use Rattle.std.specs.Prelude.{IsUtf8}
 use Rattle.std.specs.Option.{option_map}
 use Rattle.std.proofs.lemmas.Option.{slice_get-map}
 use Rattle.mj_model.specs.CharDef.{NamedCategory}
-use Rattle.mj_model.specs.ImageMeaning.{image_categories}
-use Rattle.mj_model.specs.ImageSections.{first_category}
+use Rattle.image_bytes.specs.ImageMeaning.{image_categories}
+use Rattle.image_bytes.specs.ImageSections.{first_category}
 use Rattle.dict_image.specs.Categories.{HasFirst, HasFront, bytes_from}
 use Rattle.dict_image.proofs.CategoryLemmas.{below_count, category_of_image, fronts_of_image, whole_of_image}
 use Rattle.dict_image.proofs.dict.Dict.category_name.Goals as goal

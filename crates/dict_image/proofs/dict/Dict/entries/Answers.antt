@@ -1,8 +1,8 @@
 use Rattle.std.proofs.Common.{◌≡◌, ℕ, List, Some, None, sym, ap, ◌∙◌}
-use Rattle.mj_model.specs.CellMap.{value_of}
-use Rattle.mj_model.specs.ImageBytes.{header_of, section}
-use Rattle.mj_model.specs.ImageMeaning.{lexicon_sections, entries_under, image_tables}
-use Rattle.mj_model.specs.ImageSections.{stored_cells}
+use Rattle.double_array.specs.CellMap.{value_of}
+use Rattle.image_bytes.specs.ImageBytes.{header_of, section}
+use Rattle.image_bytes.specs.ImageMeaning.{lexicon_sections, entries_under, image_tables}
+use Rattle.image_bytes.specs.ImageSections.{stored_cells}
 use Rattle.dict_image.proofs.FormedLemmas.{keys_are}
 use Rattle.dict_image.proofs.LexiconLemmas.{value_below, entries_of_value, entries_of_none}
 use Rattle.dict_image.proofs.dict.Dict.entries.Goals as goal

@@ -1,5 +1,5 @@
 use Rattle.std.proofs.Common.{ℕ, List, subst}
-use Rattle.mj_model.specs.ImageBytes.{header_of}
+use Rattle.image_bytes.specs.ImageBytes.{header_of}
 use Rattle.image_bytes.specs.Headers.{IsHeaderOf}
 use Rattle.dict_image.specs.Held.{IsImage}
 use Rattle.dict_image.proofs.dict.Dict.header.Goals as goal

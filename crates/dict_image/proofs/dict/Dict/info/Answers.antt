@@ -1,5 +1,5 @@
 use Rattle.std.proofs.Common.{ℕ, List, subst, arith}
-use Rattle.mj_model.specs.ImageBytes.{header_of, section}
+use Rattle.image_bytes.specs.ImageBytes.{header_of, section}
 use Rattle.dict_image.specs.Ranges.{IsOfRange}
 use Rattle.dict_image.proofs.CategoryLemmas.{count_of_image}
 use Rattle.dict_image.proofs.FormedLemmas.{ranges_are, few_categories}

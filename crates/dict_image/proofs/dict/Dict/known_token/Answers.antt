@@ -1,5 +1,5 @@
 use Rattle.std.proofs.Common.{arith}
-use Rattle.mj_model.specs.ImageBytes.{header_of}
+use Rattle.image_bytes.specs.ImageBytes.{header_of}
 use Rattle.dict_image.proofs.NumberedTokens.{lexicon_numbered, numbered_found, numbered_none}
 use Rattle.dict_image.proofs.dict.Dict.known_token.Goals as goal
 

@@ -1,5 +1,5 @@
 use Rattle.std.proofs.Common.{ℕ, ◌≤◌, ◌^◌, List, subst, arith}
-use Rattle.mj_model.specs.ImageBytes.{header_of, section_end}
+use Rattle.image_bytes.specs.ImageBytes.{header_of, section_end}
 use Rattle.image_bytes.specs.Headers.{IsHeaderOf, AreEnds}
 use Rattle.dict_image.proofs.FormedLemmas.{from_formed, header_within, sections_within}
 use Rattle.dict_image.proofs.dict.Dict.over.Goals as goal

@@ -1,5 +1,5 @@
 use Rattle.std.proofs.Common.{ℕ, List, ap, ◌∙◌, subst}
-use Rattle.mj_model.specs.ImageBytes.{section}
+use Rattle.image_bytes.specs.ImageBytes.{section}
 use Rattle.dict_image.specs.Held.{IsImage}
 use Rattle.dict_image.proofs.FormedLemmas.{sections_within}
 use Rattle.dict_image.proofs.dict.Dict.section.Goals as goal

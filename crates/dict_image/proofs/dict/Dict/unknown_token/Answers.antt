@@ -1,5 +1,5 @@
 use Rattle.std.proofs.Common.{arith}
-use Rattle.mj_model.specs.ImageBytes.{header_of}
+use Rattle.image_bytes.specs.ImageBytes.{header_of}
 use Rattle.dict_image.proofs.NumberedTokens.{unknown_numbered, numbered_found, numbered_none}
 use Rattle.dict_image.proofs.dict.Dict.unknown_token.Goals as goal
 use Rattle.dict_image.proofs.dict.Dict.unknown_token.Goals.{else-known-i-via-then-known-i+else-i-known, else-known-i-via-else-known-i}

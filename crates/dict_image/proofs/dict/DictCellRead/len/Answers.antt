@@ -1,5 +1,5 @@
 use Rattle.std.proofs.Common.{ℕ, List, length, ap, sym, ◌∙◌, ◌/◌}
-use Rattle.mj_model.specs.ImageBytes.{section}
+use Rattle.image_bytes.specs.ImageBytes.{section}
 use Rattle.image_bytes.proofs.CellLemmas.{cell_count}
 use Rattle.dict_image.proofs.dict.DictCellRead.len.Goals as goal
 

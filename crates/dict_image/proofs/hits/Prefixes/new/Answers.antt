@@ -1,8 +1,8 @@
 use Rattle.std.proofs.Common.{◌<◌, ℕ, map, sym, ap, ◌∙◌, subst}
 use Rattle.std.specs.List.{AllByRecursion}
-use Rattle.mj_model.specs.ImageBytes.{header_of, section}
-use Rattle.mj_model.specs.ImageMeaning.{lexicon_sections}
-use Rattle.mj_model.specs.ImageSections.{stored_cells}
+use Rattle.image_bytes.specs.ImageBytes.{header_of, section}
+use Rattle.image_bytes.specs.ImageMeaning.{lexicon_sections}
+use Rattle.image_bytes.specs.ImageSections.{stored_cells}
 use Rattle.dict_image.specs.Prefixes.{prefix_in}
 use Rattle.dict_image.proofs.FormedLemmas.{keys_are, groups_are}
 use Rattle.dict_image.proofs.PrefixLemmas.{hits_below, prefixes_are}

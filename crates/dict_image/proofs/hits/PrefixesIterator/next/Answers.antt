@@ -1,6 +1,6 @@
 use Rattle.std.proofs.Common.{map, subst}
 use Rattle.std.specs.Iterator.{YieldsFirstBy}
-use Rattle.mj_model.specs.ImageMeaning.{lexicon_sections}
+use Rattle.image_bytes.specs.ImageMeaning.{lexicon_sections}
 use Rattle.dict_image.specs.Prefixes.{PrefixesSeen, prefix_in}
 use Rattle.dict_image.proofs.ProgressLemmas.{progress_of}
 use Rattle.dict_image.proofs.hits.PrefixesIterator.next.Goals as goal

@@ -1,7 +1,7 @@
 use Rattle.std.proofs.Common.{◌≡◌, ◌≤◌, ◌^◌, [], ◌∷◌, ◌++◌, length, sym, ◌∙◌, arith}
 use Rattle.std.specs.Prelude.{sum_by}
 use Rattle.std.proofs.lemmas.Result.{IfErr-weaker}
-use Rattle.mj_model.specs.Compilation.{each_once}
+use Rattle.image_bytes.specs.ImageBounds.{each_once}
 use Rattle.image_writer.specs.Sections.{HoldsOneMore}
 use Rattle.image_writer.specs.declared.fault.LexiconFault.TheVariants.{FeaturesTooLarge}
 use Rattle.image_writer.proofs.Results.{ok_known}

@@ -7,7 +7,7 @@ use mir.Val.{SFits}
 use Rattle.std.proofs.lemmas.Str.{IsUtf8-string_bytes}
 use Rattle.mj_model.specs.Lexicon.{row_of}
 use Rattle.std.specs.Prelude.{sum_by}
-use Rattle.mj_model.specs.Compilation.{each_once}
+use Rattle.image_bytes.specs.ImageBounds.{each_once}
 use Rattle.image_writer.specs.Sections.{HoldsOneMore, features_of}
 use Rattle.image_writer.specs.TokenBytes.{FitsBytes, stored_bytes, stored_with}
 use Rattle.image_writer.proofs.WriterLemmas.{token_written, record_too_large}

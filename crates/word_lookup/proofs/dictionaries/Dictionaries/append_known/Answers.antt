@@ -1,6 +1,6 @@
 use Rattle.std.proofs.Common.{rules, arith, ◌+◌, map, ap, refl}
 use Rattle.std.proofs.lemmas.List.{drop_all}
-use Rattle.mj_model.specs.ImageMeaning.{image_tables}
+use Rattle.image_bytes.specs.ImageMeaning.{image_tables}
 use Rattle.paths.specs.KnownWords.{known_from}
 use Rattle.mj_model.specs.Tables.{lexicons_of}
 use Rattle.word_lookup.proofs.AppendLemmas.{begun_with, more_appended, all_appended, before_kept}

@@ -1,5 +1,5 @@
 use Rattle.std.proofs.Common.{◌+◌, drop, map}
-use Rattle.mj_model.specs.ImageMeaning.{image_tables}
+use Rattle.image_bytes.specs.ImageMeaning.{image_tables}
 use Rattle.paths.specs.KnownWords.{known_from}
 use Rattle.mj_model.specs.Tables.{lexicons, lexicons_of}
 use Rattle.word_lookup.specs.Overlays.{overlay_of}

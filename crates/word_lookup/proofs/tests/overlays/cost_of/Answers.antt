@@ -3,7 +3,7 @@ use Rattle.std.specs.Prelude.{IsTrue, nat_lt}
 use Rattle.std.proofs.lemmas.Bool.{and_from, lt-ltb}
 use Rattle.mj_model.specs.declared.matrix_sizes.MatrixSizes.{MatrixSizes}
 use Rattle.mj_model.specs.Connection.{is_pair}
-use Rattle.mj_model.specs.ImageMeaning.{image_tables}
+use Rattle.image_bytes.specs.ImageMeaning.{image_tables}
 use Rattle.mj_model.specs.Tables.{Overlay}
 use Rattle.word_lookup.proofs.tests.overlays.cost_of.Goals as goal
 

@@ -6,7 +6,7 @@ use Rattle.std.proofs.lemmas.List.{length_push, length-take}
 use Rattle.mj_model.specs.Lists.{up_to}
 use Rattle.paths.specs.Run.{bytes_of}
 use Rattle.paths.proofs.CharBytes.{chars_within}
-use Rattle.mj_model.specs.ImageMeaning.{image_tables}
+use Rattle.image_bytes.specs.ImageMeaning.{image_tables}
 use Rattle.word_lookup.specs.UnknownEntries.{words_of_spans}
 use Rattle.word_lookup.proofs.AppendLemmas.{front_kept}
 use Rattle.word_lookup.proofs.UnknownWords.{one_span_more, one_character_more}

@@ -2,7 +2,7 @@ use Rattle.std.proofs.Common.{◌≡◌, ◌++◌, ◌+◌, length}
 use Rattle.std.specs.Prelude.{chars}
 use Rattle.mj_model.specs.Lists.{up_to}
 use Rattle.paths.specs.Run.{bytes_of}
-use Rattle.mj_model.specs.ImageMeaning.{image_tables}
+use Rattle.image_bytes.specs.ImageMeaning.{image_tables}
 use Rattle.word_lookup.specs.UnknownEntries.{words_of_spans}
 use Rattle.word_lookup.proofs.unknown_entries.UnknownEntries.append_lengths.Given as goal
 

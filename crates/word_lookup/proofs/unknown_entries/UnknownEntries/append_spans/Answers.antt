@@ -1,6 +1,6 @@
 use Rattle.std.proofs.Common.{[], rules, arith, sym, ap, ◌∙◌, subst}
 use Rattle.std.specs.Prelude.{chars, IfSome, Option}
-use Rattle.mj_model.specs.ImageMeaning.{image_tables}
+use Rattle.image_bytes.specs.ImageMeaning.{image_tables}
 use Rattle.std.proofs.lemmas.List.{append-nil}
 use Rattle.paths.proofs.CharBytes.{chars_within}
 use Rattle.word_lookup.specs.declared.run.Run.{Run}

@@ -3,8 +3,8 @@ use Rattle.std.specs.Prelude.{ℕ, suc, ◌-◌, nat_lt, ℤ, pos, List, [], map
 use Rattle.std.specs.List.{range_with_len}
 use Rattle.mj_model.specs.CharDef.{NamedCategory}
 use Rattle.mj_model.specs.Connection.{is_pair}
-use Rattle.mj_model.specs.ImageBytes.{header_of, kind_of, section}
-use Rattle.mj_model.specs.ImageSections.{categories_in, index_at, key_of, stored_cells, stored_cost, stored_info, token_from}
+use Rattle.image_bytes.specs.ImageBytes.{header_of, kind_of, section}
+use Rattle.image_bytes.specs.ImageSections.{categories_in, index_at, key_of, stored_cells, stored_cost, stored_info, token_from}
 use Rattle.mj_model.specs.Tables.{Tables, Token, Lexeme}
 
 -- ---- of sections by themselves

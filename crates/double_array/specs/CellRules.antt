@@ -1,6 +1,6 @@
 -- The rules of a double array's cells.
 use Rattle.std.specs.Prelude.{◌≡◌, ℕ, zero, suc, ◌+◌, ◌<◌, ◌≤◌, ℤ, pos, negsuc, ◌⊎◌, List, ◌++◌, Some, length}
-use Rattle.mj_model.specs.CellMap.{Cell, free_cell, cell_at, base, check, walk, codes_of, value_of}
+use Rattle.double_array.specs.CellMap.{Cell, free_cell, cell_at, base, check, walk, codes_of, value_of}
 
 -- what a used cell's base is by its code: -(v + 1) for a value v at the key's end, else at least 1
 abbrev pub IsBaseAfter : ℕ → ℕ → ℤ → Type 0

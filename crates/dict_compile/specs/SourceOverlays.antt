@@ -4,7 +4,8 @@ use Rattle.std.specs.Prelude.{◌≡◌, ℕ, ◌<◌, List, Some, slice_get}
 use Rattle.std.specs.List.{AllZip}
 use Rattle.mj_model.specs.declared.source_fault.SourceFault.{SourceFault}
 use Rattle.mj_model.specs.declared.sources.Sources.{Sources}
-use Rattle.mj_model.specs.Compilation.{HaveUserTables, IsUserFault, IsUserCause, feature_bytes, feature_bytes_end, lexicon_tokens, system_tokens}
+use Rattle.dict_compile.specs.Compilation.{HaveUserTables, IsUserFault, IsUserCause}
+use Rattle.image_bytes.specs.ImageBounds.{feature_bytes, feature_bytes_end, lexicon_tokens, system_tokens}
 use Rattle.mj_model.specs.SourceTables.{HaveTables}
 use Rattle.mj_model.specs.Tables.{Tables, Overlay}
 

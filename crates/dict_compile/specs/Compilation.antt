@@ -1,6 +1,5 @@
 -- What a compilation answers: an image that means the tables of its sources, with the counts of their lines, or the sources' first fault.
-use Rattle.std.specs.Prelude.{◌≡◌, ℕ, ◌+◌, ◌<◌, ◌≤◌, ◌^◌, ◌⊎◌, not, List, [], ◌∷◌, ◌++◌, length, map, filter, flat_map, sum, sum_by, count_by, bytes_eq, Ok, Err}
-use Rattle.std.specs.List.{range_with_len, AllZip}
+use Rattle.std.specs.Prelude.{◌≡◌, ℕ, ◌<◌, ◌≤◌, ◌⊎◌, List, [], length, Ok, Err}
 use Rattle.mj_model.specs.declared.source_fault.TheConstants.{FIRST_LEXICON_FILE, NO_FILE}
 use Rattle.mj_model.specs.declared.source_fault.SourceFault.{SourceFault}
 use Rattle.mj_model.specs.declared.source_fault.SourceKind.{SourceKind}
@@ -9,54 +8,13 @@ use Rattle.mj_model.specs.declared.sources.Sources.{Sources}
 use Rattle.mj_model.specs.CharDef.{CharSource}
 use Rattle.mj_model.specs.declared.matrix_sizes.MatrixSizes.{MatrixSizes}
 use Rattle.mj_model.specs.Dictionary.{AreLexicons, IsLexiconOf}
-use Rattle.mj_model.specs.ImageBytes.{header_of}
-use Rattle.mj_model.specs.ImageFaults.{IsWellFormed}
-use Rattle.mj_model.specs.ImageMeaning.{image_tables, image_lexicon, image_categories}
-use Rattle.mj_model.specs.Lexicon.{Row, Outcome, AreOutcomes, lexicon_outcome, is_skipped}
-use Rattle.mj_model.specs.Lines.{numbered_lines}
+use Rattle.image_bytes.specs.ImageBounds.{cells_max, feature_bytes, feature_bytes_end, lexicon_tokens, most_cells, system_tokens}
+use Rattle.image_bytes.specs.ImageBytes.{header_of}
+use Rattle.image_bytes.specs.ImageFaults.{IsWellFormed}
+use Rattle.image_bytes.specs.ImageMeaning.{image_tables, image_lexicon, image_categories}
+use Rattle.mj_model.specs.Lexicon.{Row, SkipLines}
 use Rattle.mj_model.specs.SourceTables.{HaveTables, AreChars, IsSourcesFault, lexicon_bytes}
 use Rattle.mj_model.specs.Tables.{Tables, Token, Lexeme, System, User}
-
--- ---- the bounds of an image
-
--- the texts of a list, each once
-abbrev pub each_once : List (List ℕ) → List (List ℕ)
-each_once [] = []
-each_once (text ∷ texts) = text ∷ filter (λ other. not (bytes_eq other text)) (each_once texts)
-
-abbrev pub lexicon_tokens : List Lexeme → List Token
-lexicon_tokens lexicon = map (λ (e : Lexeme). e.token) lexicon
-
--- all tokens of a system dictionary: those of its lexicon, and the unknown ones of each category
-abbrev pub system_tokens : Tables → List Token
-system_tokens t = lexicon_tokens t.lexicon ++ flat_map t.unknown (range_with_len 0 (length t.categories))
-
--- how many bytes the features of these tokens have, each feature once
-abbrev pub feature_bytes : List Token → ℕ
-feature_bytes tokens = sum_by length (each_once (map (λ (t : Token). t.feature) tokens))
-
--- an image has fewer bytes of features than this
-abbrev pub feature_bytes_end : ℕ
-feature_bytes_end = 2 ^ 32
-
--- the most cells that the surfaces of a lexicon may take: 600, and for each surface its length and 600 more
-abbrev pub most_cells : List Lexeme → ℕ
-most_cells lexicon = 600 + sum_by (λ surface. length surface + 600) (each_once (map (λ (e : Lexeme). e.surface) lexicon))
-
--- the most cells that an image has
-abbrev pub cells_max : ℕ
-cells_max = 2 ^ 30
-
--- ---- the counts of lines
-
--- how many lines a lexicon skips
-abbrev pub SkipsLines : List ℕ → ℕ → Type 0
-SkipsLines bytes skipped =
-    (outcomes : List Outcome) × AreOutcomes lexicon_outcome (numbered_lines bytes) outcomes × (skipped ≡ count_by is_skipped outcomes)
-
--- how many lines the lexicons skip together
-abbrev pub SkipLines : List (List ℕ) → ℕ → Type 0
-SkipLines lexicons skipped = (counts : List ℕ) × AllZip SkipsLines lexicons counts × (skipped ≡ sum counts)
 
 -- ---- what is common to system and user dictionaries
 

@@ -3,8 +3,8 @@ use Rattle.std.proofs.Common.{◌≡◌, ℕ, ◌<◌, ◌⊎◌, List, [], ◌�
 use Rattle.std.proofs.lemmas.Bool.{cases_order}
 use Rattle.mj_model.specs.declared.image_fault.ImageFault.{ImageFault}
 use Rattle.mj_model.specs.declared.image_fault.ImageFault.TheVariants.{BadKey, BadToken, BadText}
-use Rattle.mj_model.specs.ImageBytes.{header_of}
-use Rattle.mj_model.specs.ImageFaults.{Test, unless, unless_each, IsLeastWithout, PassAll, IsFirstTold, IsWellFormed, IsImageFault, image_tests}
+use Rattle.image_bytes.specs.ImageBytes.{header_of}
+use Rattle.image_bytes.specs.ImageFaults.{Test, unless, unless_each, IsLeastWithout, PassAll, IsFirstTold, IsWellFormed, IsImageFault, image_tests}
 
 -- a test tells nothing of what passes it, and of nothing two faults
 pub record IsSound (test : Test) : Type 0 where

@@ -4,9 +4,9 @@ use Rattle.sha2.specs.Sha256.{sha256}
 use Rattle.mj_model.specs.declared.image_fault.ImageFault.{ImageFault}
 use Rattle.mj_model.specs.declared.image_fault.ImageFault.TheVariants.{Truncated, BadMagic, BadLayout, BadSection, BadKey, BadToken, BadText, Digest}
 use Rattle.mj_model.specs.declared.limits.TheConstants.{MATRIX_CELLS_MAX, ENTRIES_MAX, CATEGORIES_MAX}
-use Rattle.mj_model.specs.CellMap.{Cell}
-use Rattle.mj_model.specs.ImageBytes.{Header, header_of, header_length, image_magic, kind_of, all_tokens, section, section_end, total_length}
-use Rattle.mj_model.specs.ImageSections.{AreCosts, AreCategories, AreRanges, IsIndex, HoldGroups, IsKeyOf, stored_cells, stored_token, FitsSizes, HasFeature}
+use Rattle.double_array.specs.CellMap.{Cell}
+use Rattle.image_bytes.specs.ImageBytes.{Header, header_of, header_length, image_magic, kind_of, all_tokens, section, section_end, total_length}
+use Rattle.image_bytes.specs.ImageSections.{AreCosts, AreCategories, AreRanges, IsIndex, HoldGroups, IsKeyOf, stored_cells, stored_token, FitsSizes, HasFeature}
 use Rattle.mj_model.specs.Tables.{Kind, System, User}
 
 -- ---- tests in order

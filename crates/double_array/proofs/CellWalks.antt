@@ -4,9 +4,9 @@ use Rattle.std.specs.Option.{option_and_then}
 use Rattle.std.proofs.lemmas.Bool.{cases_lt, eqb-true, eq-eqb}
 use Rattle.std.proofs.lemmas.Option.{same_Some, none-some, option_and_then_some, cond_some}
 use Rattle.std.proofs.lemmas.List.{get_or_past, reverse-reverse, length-append}
-use Rattle.mj_model.specs.CellMap.{Cell, free_cell, base, check, if_named, step_to, step, walk, codes_of, value_in, value_of}
-use Rattle.mj_model.specs.CellRules.{IsBaseAfter, IsUsed, MeetsRules, LeadsToRoot}
-use Rattle.mj_model.specs.CellRules.LeadsToRoot.{at_root, by_check}
+use Rattle.double_array.specs.CellMap.{Cell, free_cell, base, check, if_named, step_to, step, walk, codes_of, value_in, value_of}
+use Rattle.double_array.specs.CellRules.{IsBaseAfter, IsUsed, MeetsRules, LeadsToRoot}
+use Rattle.double_array.specs.CellRules.LeadsToRoot.{at_root, by_check}
 use Rattle.mj_model.proofs.Basics.{same_pos}
 
 -- ---- steps

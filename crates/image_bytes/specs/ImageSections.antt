@@ -1,15 +1,14 @@
 -- What the sections of an image say, each from its own bytes.
 use Rattle.std.specs.Prelude.{◌≡◌, ℕ, zero, suc, ◌+◌, ◌-◌, ◌*◌, ◌/◌, ◌%◌, ◌^◌, ◌<◌, ◌≤◌, ◌==◌, ℤ, pos, negsuc, Bool, false, if◌then◌else◌, nat_le, List, [], ◌∷◌, ◌++◌, length, map, flat_map, drop, find, reverse, All, slice_range, IsUtf8, Option, Some, None}
-use Rattle.std.specs.Int.{IsBitSet}
 use Rattle.std.specs.List.{range_with_len, position_or_len}
 use Rattle.std.specs.Option.{option_map_or}
 use Rattle.mj_model.specs.declared.category.CharInfo.{CharInfo}
 use Rattle.mj_model.specs.declared.limits.TheConstants.{SURFACE_MAX}
-use Rattle.mj_model.specs.CellMap.{Cell, base, check, value_of}
-use Rattle.mj_model.specs.CellRules.{MeetsRules}
-use Rattle.mj_model.specs.CharDef.{NamedCategory, code_point_max}
+use Rattle.double_array.specs.CellMap.{Cell, base, check, value_of}
+use Rattle.double_array.specs.CellRules.{MeetsRules}
+use Rattle.mj_model.specs.CharDef.{IsInfoOf, IsStorable, NamedCategory, code_point_max}
 use Rattle.mj_model.specs.declared.matrix_sizes.MatrixSizes.{MatrixSizes}
-use Rattle.mj_model.specs.ImageBytes.{number_at, signed_2_at, signed_4_at}
+use Rattle.image_bytes.specs.ImageBytes.{number_at, signed_2_at, signed_4_at}
 use Rattle.mj_model.specs.Tables.{Token}
 
 -- ---- section 1: connection costs
@@ -31,13 +30,6 @@ flag_byte set = if set then 1 else 0
 abbrev pub category_bytes : NamedCategory → List ℕ
 category_bytes c =
     flag_byte c.category.invoke ∷ flag_byte c.category.group ∷ c.category.length ∷ length c.name ∷ c.name
-
--- a category that an image may hold
-pub record IsStorable (c : NamedCategory) : Type 0 where
-  pub length_within : c.category.length ≤ 15
-  pub name_some : 1 ≤ length c.name
-  pub name_short : length c.name ≤ 255
-  pub name_is_text : IsUtf8 c.name
 
 -- the category at the front of the bytes
 abbrev pub first_category : List ℕ → NamedCategory
@@ -80,12 +72,6 @@ no_info = record { bits = 0; head = 0 }
 abbrev pub stored_info : List ℕ → ℕ → CharInfo
 stored_info ranges code =
     option_map_or (λ (range : StoredRange). range.info) (find (λ range. nat_le range.first code) (reverse (stored_ranges ranges))) no_info
-
--- of this many categories, the first one is in the set, and the set has no others
-pub record IsInfoOf (categories : ℕ) (info : CharInfo) : Type 0 where
-  pub first_below : info.head < categories
-  pub first_in_set : IsBitSet info.bits info.head
-  pub set_below : info.bits < 2 ^ categories
 
 -- ranges of 8 bytes: the first begins at code point 0, each further one behind the one before it
 pub record AreRanges (categories : ℕ) (ranges : List ℕ) : Type 0 where

@@ -1,5 +1,0 @@
-use Rattle.mj_model.proofs.CellMoveLaw.{moves_keep_the_map}
-use Rattle.mj_model.proofs.cell_laws.move_keeps_the_map.Goals as goal
-
-pub returns : goal.returns
-returns c = moves_keep_the_map
