@@ -123,8 +123,8 @@ module _ (system : Tables) (lexicons : List (List ℕ)) where
 
 -- ---- the sizes of a system dictionary
 
-pub is_system_of : (system : Tables) (right left : ℕ) → false ≡ is_user system.kind → right ≡ system.sizes.right → left ≡ system.sizes.left → IsSystemOf (record { right = right; left = left }) system
-is_system_of system right left kind r l = record { kind = a_system system.kind (sym kind); sizes_are = λ i. record { right = sym r i; left = sym l i } }
+pub is_system_of : (system : Tables) (sizes : MatrixSizes) → false ≡ is_user system.kind → sizes ≡ system.sizes → IsSystemOf (record { right = sizes.right; left = sizes.left }) system
+is_system_of system sizes kind same = record { kind = a_system system.kind (sym kind); sizes_are = λ i. record { right = (sym same i).right; left = (sym same i).left } }
 
 abbrev told_or : SourceFault → Result Compiled CompileUserFault → SourceFault
 told_or other (Ok compiled) = other

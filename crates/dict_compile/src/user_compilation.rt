@@ -39,7 +39,8 @@ pub fn compile_user(
     if system.is_user() {
         return Err(CompileUserFault::NotSystem);
     }
-    let (right, left) = system.matrix_sizes();
+    let sizes = system.matrix_sizes();
+    let (right, left) = (sizes.right, sizes.left);
     match compile_lexicons(alloc, IdSizes { right, left }, lexicons) {
         Ok(compiled) => Ok(compiled),
         Err(fault) => Err(CompileUserFault::Source(fault)),

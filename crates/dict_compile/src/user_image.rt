@@ -13,6 +13,7 @@ use crate::compiled::Compiled;
 use crate::sorting::in_order;
 use dictionary_sources::{IdSizes, LexiconRecords};
 use image_writer::{LexiconFault, write_user};
+use mj_model::MatrixSizes;
 use std::alloc::Global;
 
 /// The image of a user dictionary, whose entries are sorted once.
@@ -31,7 +32,14 @@ pub(crate) fn user_image(
 {
     let entries = read.records.len() as u64;
     let lexicon = in_order(read.records)?;
-    let image = write_user(alloc, sizes.right, sizes.left, &lexicon)?;
+    let image = write_user(
+        alloc,
+        MatrixSizes {
+            right: sizes.right,
+            left: sizes.left,
+        },
+        &lexicon,
+    )?;
     Ok(Compiled {
         image,
         entries,

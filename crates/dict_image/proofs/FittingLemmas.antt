@@ -17,7 +17,7 @@ use Rattle.image_bytes.specs.ImageBytes.{kind_of, number_at, signed_2_at, header
 use Rattle.image_bytes.specs.ImageMeaning.{image_unknown, tokens_in, entry_under, image_tables, lexicon_sections, entries_of_group}
 use Rattle.image_bytes.specs.ImageSections.{AreRanges, IsIndex, StoredRange, range_at, stored_info, no_info, token_from, stored_token, stored_cost, index_at, key_of, stored_cells}
 use Rattle.mj_model.specs.Tables.{System, Token, Lexeme, HasApartTokens}
-use Rattle.mj_model.proofs.Basics.{all_append}
+use Rattle.mj_model.proofs.Basics.{all_append, both_parts}
 use Rattle.dict_image.specs.Fitting.{AreBytes, AreFitting, IsFitting}
 use Rattle.dict_image.specs.Held.{IsImage}
 use Rattle.dict_image.specs.Ranges.{range_count}
@@ -58,6 +58,11 @@ cost_by false z within = none_within
 
 pair_from : (sizes : MatrixSizes) (right left : ℕ) → right < sizes.right → left < sizes.left → IsTrue (is_pair sizes right left)
 pair_from sizes right left r l = rw (lt-ltb right sizes.right r, lt-ltb left sizes.left l) refl
+
+pub pair_within : (sizes : MatrixSizes) (right left : ℕ) → IsTrue (is_pair sizes right left) → (right < sizes.right) × (left < sizes.left)
+pair_within sizes right left h =
+    let p = both_parts (ltb right sizes.right) (ltb left sizes.left) h in
+    (ltb-true right sizes.right p.0, ltb-true left sizes.left p.1)
 
 token_fit : (bytes : List ℕ) (i : ℕ) → IsImage bytes → AreBytes (section bytes 7) → i < all_tokens (header_of bytes) → IsFitting (header_of bytes).sizes (token_from (section bytes 7) (section bytes 8) i)
 token_fit bytes i w are less =

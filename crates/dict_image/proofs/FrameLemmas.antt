@@ -1,7 +1,8 @@
 -- The length and the digest of an image of layout 3.
 use Rattle.std.proofs.Common.{◌≡◌, ℕ, ◌+◌, ◌^◌, ◌<◌, ◌≤◌, List, take, drop, ap, arith, subst}
 use Rattle.sha2.specs.Sha256.{sha256}
-use Rattle.image_bytes.specs.ImageBytes.{Header, behind_sections, section_end, total_length}
+use Rattle.image_bytes.specs.declared.header.Header.{Header}
+use Rattle.image_bytes.specs.ImageBytes.{behind_sections, section_end, total_length}
 
 total_is : (h : Header) → h.layout ≡ 3 → total_length h ≡ section_end h 8 + 32
 total_is h three = ap (λ (layout : ℕ). section_end h 8 + behind_sections layout) three

@@ -1,11 +1,10 @@
 -- The tests of an image, stage behind stage.
-use Rattle.std.proofs.Common.{◌≡◌, ℕ, List, [], ◌∷◌, ◌++◌, inl, inr, sym, ap, ◌∙◌, subst}
+use Rattle.std.proofs.Common.{◌≡◌, ℕ, List, [], ◌∷◌, ◌++◌, inl, inr, ap, ◌∙◌, subst}
 use Rattle.mj_model.specs.declared.image_fault.ImageFault.{ImageFault}
-use Rattle.image_bytes.specs.ImageBytes.{Header as Stated, header_of, image_magic}
-use Rattle.image_bytes.specs.ImageFaults.{Test, PassAll, IsFirstTold, IsWellFormed, IsImageFault}
 use Rattle.image_bytes.specs.declared.header.Header.{Header}
-use Rattle.image_bytes.specs.Headers.{IsHeaderOf}
-use Rattle.dict_image.specs.Stages.{stated, front_tests, end_tests, system_tests, token_tests, section_tests}
+use Rattle.image_bytes.specs.ImageBytes.{header_of}
+use Rattle.image_bytes.specs.ImageFaults.{Test, PassAll, IsFirstTold, IsWellFormed, IsImageFault}
+use Rattle.dict_image.specs.Stages.{front_tests, end_tests, system_tests, token_tests, section_tests}
 
 pub pass_both : (xs ys : List Test) → PassAll xs → PassAll ys → PassAll (xs ++ ys)
 pass_both [] ys p q = q
@@ -20,55 +19,28 @@ pub told_later : (xs ys : List Test) (fault : ImageFault) → PassAll xs → IsF
 told_later [] ys fault p t = t
 told_later (x ∷ xs) ys fault p t = inr (p.0, told_later xs ys fault p.1 t)
 
-abbrev made : List ℕ → ℕ → ℕ → ℕ → ℕ → ℕ → ℕ → ℕ → ℕ → List ℕ → Stated
-made magic layout kind right left categories groups tokens unknown lengths = record {
-  magic = magic;
-  layout = layout;
-  kind = kind;
-  sizes = record { right = right; left = left };
-  categories = categories;
-  groups = groups;
-  tokens = tokens;
-  unknown = unknown;
-  lengths = lengths;
-}
-
--- a header that was read behind the magic states what the bytes state
-pub states_same : (header : Header) (h : Stated) → IsHeaderOf header h → h.magic ≡ image_magic → stated header ≡ h
-states_same header h is magic =
-    ap (λ (x : List ℕ). made x header.layout header.kind header.right header.left header.categories header.groups header.tokens header.unknown header.lengths) (sym magic)
-    ∙ ap (λ (x : ℕ). made h.magic x header.kind header.right header.left header.categories header.groups header.tokens header.unknown header.lengths) is.layout
-    ∙ ap (λ (x : ℕ). made h.magic h.layout x header.right header.left header.categories header.groups header.tokens header.unknown header.lengths) is.kind
-    ∙ ap (λ (x : ℕ). made h.magic h.layout h.kind x header.left header.categories header.groups header.tokens header.unknown header.lengths) is.right
-    ∙ ap (λ (x : ℕ). made h.magic h.layout h.kind h.sizes.right x header.categories header.groups header.tokens header.unknown header.lengths) is.left
-    ∙ ap (λ (x : ℕ). made h.magic h.layout h.kind h.sizes.right h.sizes.left x header.groups header.tokens header.unknown header.lengths) is.categories
-    ∙ ap (λ (x : ℕ). made h.magic h.layout h.kind h.sizes.right h.sizes.left h.categories x header.tokens header.unknown header.lengths) is.groups
-    ∙ ap (λ (x : ℕ). made h.magic h.layout h.kind h.sizes.right h.sizes.left h.categories h.groups x header.unknown header.lengths) is.tokens
-    ∙ ap (λ (x : ℕ). made h.magic h.layout h.kind h.sizes.right h.sizes.left h.categories h.groups h.tokens x header.lengths) is.unknown
-    ∙ ap (λ (x : List ℕ). made h.magic h.layout h.kind h.sizes.right h.sizes.left h.categories h.groups h.tokens h.unknown x) is.lengths
-
 pub end_told : (bytes : List ℕ) (fault : ImageFault) → PassAll (front_tests (header_of bytes) bytes) → IsFirstTold (end_tests (header_of bytes) bytes) fault → IsImageFault bytes fault
 end_told bytes fault front told =
     told_later (front_tests (header_of bytes) bytes) (end_tests (header_of bytes) bytes ++ section_tests (header_of bytes) bytes) fault front
     (told_first (end_tests (header_of bytes) bytes) (section_tests (header_of bytes) bytes) fault told)
 
-pub section_told : (bytes : List ℕ) (h : Stated) (fault : ImageFault) → h ≡ header_of bytes → PassAll (front_tests (header_of bytes) bytes) → PassAll (end_tests (header_of bytes) bytes) → IsFirstTold (section_tests h bytes) fault → IsImageFault bytes fault
+pub section_told : (bytes : List ℕ) (h : Header) (fault : ImageFault) → h ≡ header_of bytes → PassAll (front_tests (header_of bytes) bytes) → PassAll (end_tests (header_of bytes) bytes) → IsFirstTold (section_tests h bytes) fault → IsImageFault bytes fault
 section_told bytes h fault e front end told =
     told_later (front_tests (header_of bytes) bytes) (end_tests (header_of bytes) bytes ++ section_tests (header_of bytes) bytes) fault front
-    (told_later (end_tests (header_of bytes) bytes) (section_tests (header_of bytes) bytes) fault end (subst (λ (g : Stated). IsFirstTold (section_tests g bytes) fault) e told))
+    (told_later (end_tests (header_of bytes) bytes) (section_tests (header_of bytes) bytes) fault end (subst (λ (g : Header). IsFirstTold (section_tests g bytes) fault) e told))
 
-pub all_pass : (bytes : List ℕ) (h : Stated) → h ≡ header_of bytes → PassAll (front_tests (header_of bytes) bytes) → PassAll (end_tests (header_of bytes) bytes) → PassAll (section_tests h bytes) → IsWellFormed bytes
+pub all_pass : (bytes : List ℕ) (h : Header) → h ≡ header_of bytes → PassAll (front_tests (header_of bytes) bytes) → PassAll (end_tests (header_of bytes) bytes) → PassAll (section_tests h bytes) → IsWellFormed bytes
 all_pass bytes h e front end rest =
     pass_both (front_tests (header_of bytes) bytes) (end_tests (header_of bytes) bytes ++ section_tests (header_of bytes) bytes) front
-    (pass_both (end_tests (header_of bytes) bytes) (section_tests (header_of bytes) bytes) end (subst (λ (g : Stated). PassAll (section_tests g bytes)) e rest))
+    (pass_both (end_tests (header_of bytes) bytes) (section_tests (header_of bytes) bytes) end (subst (λ (g : Header). PassAll (section_tests g bytes)) e rest))
 
 -- ---- stages on equal sections
 
-pub same_system : (h : Stated) (s1 s2 s3 s4 t1 t2 t3 t4 : List ℕ) → s1 ≡ t1 → s2 ≡ t2 → s3 ≡ t3 → s4 ≡ t4 → system_tests h s1 s2 s3 s4 ≡ system_tests h t1 t2 t3 t4
+pub same_system : (h : Header) (s1 s2 s3 s4 t1 t2 t3 t4 : List ℕ) → s1 ≡ t1 → s2 ≡ t2 → s3 ≡ t3 → s4 ≡ t4 → system_tests h s1 s2 s3 s4 ≡ system_tests h t1 t2 t3 t4
 same_system h s1 s2 s3 s4 t1 t2 t3 t4 e1 e2 e3 e4 =
     ap (λ (xs : List ℕ). system_tests h xs s2 s3 s4) e1 ∙ ap (λ (xs : List ℕ). system_tests h t1 xs s3 s4) e2
     ∙ ap (λ (xs : List ℕ). system_tests h t1 t2 xs s4) e3 ∙ ap (λ (xs : List ℕ). system_tests h t1 t2 t3 xs) e4
 
-pub same_tokens : (h : Stated) (s1 s2 s3 t1 t2 t3 : List ℕ) → s1 ≡ t1 → s2 ≡ t2 → s3 ≡ t3 → token_tests h s1 s2 s3 ≡ token_tests h t1 t2 t3
+pub same_tokens : (h : Header) (s1 s2 s3 t1 t2 t3 : List ℕ) → s1 ≡ t1 → s2 ≡ t2 → s3 ≡ t3 → token_tests h s1 s2 s3 ≡ token_tests h t1 t2 t3
 same_tokens h s1 s2 s3 t1 t2 t3 e1 e2 e3 =
     ap (λ (xs : List ℕ). token_tests h xs s2 s3) e1 ∙ ap (λ (xs : List ℕ). token_tests h t1 xs s3) e2 ∙ ap (λ (xs : List ℕ). token_tests h t1 t2 xs) e3

@@ -1,7 +1,7 @@
 -- What a dictionary and its iterators hold.
-use Rattle.std.specs.Prelude.{ℕ, ◌*◌, ◌<◌, ◌≤◌, List, length}
+use Rattle.std.specs.Prelude.{◌≡◌, ℕ, ◌*◌, ◌<◌, ◌≤◌, List, length}
 use Rattle.image_bytes.specs.declared.header.Header.{Header}
-use Rattle.image_bytes.specs.Headers.{IsHeaderOf, AreEnds}
+use Rattle.image_bytes.specs.Headers.{AreEnds}
 use Rattle.image_bytes.specs.ImageBytes.{header_of}
 use Rattle.image_bytes.specs.ImageFaults.{IsWellFormed}
 use Rattle.image_bytes.specs.ImageSections.{HasFeature, stored_token}
@@ -13,7 +13,7 @@ IsImage bytes = IsWellFormed bytes
 -- a well-formed image, the numbers of its header, and where its sections end
 pub record IsDict (bytes : List ℕ) (header : Header) (ends : List ℕ) : Type 0 where
   pub formed : IsImage bytes
-  pub header_is : IsHeaderOf header (header_of bytes)
+  pub header_is : header ≡ header_of bytes
   pub ends_are : AreEnds ends (header_of bytes)
 
 -- so many tokens stand in one section, and their features in another

@@ -1,41 +1,27 @@
 -- The tests of an image by stages, in their order.
-use Rattle.std.specs.Prelude.{◌≡◌, ℕ, ◌*◌, ◌≤◌, List, [], ◌∷◌, ◌++◌, length}
+use Rattle.std.specs.Prelude.{◌≡◌, ℕ, ◌*◌, ◌≤◌, List, [], ◌∷◌, ◌++◌, length, take}
 use Rattle.mj_model.specs.declared.image_fault.ImageFault.TheVariants.{Truncated, BadMagic, BadLayout, BadSection, BadKey, BadToken, BadText, Digest}
-use Rattle.image_bytes.specs.ImageBytes.{Header as Stated, header_length, image_magic, kind_of, all_tokens, section, total_length}
+use Rattle.image_bytes.specs.ImageBytes.{header_length, image_magic, kind_of, all_tokens, section, total_length}
 use Rattle.image_bytes.specs.ImageFaults.{Test, unless, unless_each, IsReadLayout, HasDigest, IsHeader, SystemAlone, HasKey}
 use Rattle.image_bytes.specs.ImageSections.{AreCosts, AreCategories, AreRanges, IsIndex, HoldGroups, stored_cells, stored_token, FitsSizes, HasFeature}
 use Rattle.image_bytes.specs.declared.header.Header.{Header}
 
--- what a header that was read states
-abbrev pub stated : Header → Stated
-stated h = record {
-  magic = image_magic;
-  layout = h.layout;
-  kind = h.kind;
-  sizes = record { right = h.right; left = h.left };
-  categories = h.categories;
-  groups = h.groups;
-  tokens = h.tokens;
-  unknown = h.unknown;
-  lengths = h.lengths;
-}
-
 -- the magic and the layout
-abbrev pub front_tests : Stated → List ℕ → List Test
+abbrev pub front_tests : Header → List ℕ → List Test
 front_tests h bytes =
-    unless (header_length ≤ length bytes) Truncated ∷ unless (h.magic ≡ image_magic) BadMagic ∷ unless (IsReadLayout h.layout) (BadLayout h.layout) ∷ []
+    unless (header_length ≤ length bytes) Truncated ∷ unless (take 8 bytes ≡ image_magic) BadMagic ∷ unless (IsReadLayout h.layout) (BadLayout h.layout) ∷ []
 
 -- the length and the digest
-abbrev pub end_tests : Stated → List ℕ → List Test
+abbrev pub end_tests : Header → List ℕ → List Test
 end_tests h bytes =
     unless (total_length h ≤ length bytes) Truncated ∷ unless (length bytes ≤ total_length h) (BadSection 9) ∷ unless (HasDigest bytes) Digest ∷ []
 
 -- the numbers of the header
-abbrev pub header_tests : Stated → List Test
+abbrev pub header_tests : Header → List Test
 header_tests h = unless (IsHeader h) (BadSection 0) ∷ []
 
 -- sections 1 to 4
-abbrev pub system_tests : Stated → List ℕ → List ℕ → List ℕ → List ℕ → List Test
+abbrev pub system_tests : Header → List ℕ → List ℕ → List ℕ → List ℕ → List Test
 system_tests h costs categories ranges index =
     unless (SystemAlone (kind_of h) (AreCosts h.sizes) costs) (BadSection 1)
     ∷ unless (SystemAlone (kind_of h) (AreCategories h.categories) categories) (BadSection 2)
@@ -47,7 +33,7 @@ abbrev pub key_tests : ℕ → List ℕ → List Test
 key_tests groups cells = unless (HoldGroups groups cells) (BadSection 5) ∷ unless_each groups (HasKey (stored_cells cells)) BadKey ∷ []
 
 -- sections 6 to 8
-abbrev pub token_tests : Stated → List ℕ → List ℕ → List ℕ → List Test
+abbrev pub token_tests : Header → List ℕ → List ℕ → List ℕ → List Test
 token_tests h groups tokens features =
     unless (IsIndex h.groups 0 h.tokens groups) (BadSection 6)
     ∷ unless (length tokens ≡ 16 * all_tokens h) (BadSection 7)
@@ -55,7 +41,7 @@ token_tests h groups tokens features =
     ∷ unless_each (all_tokens h) (λ i. HasFeature features (stored_token tokens i)) BadText ∷ []
 
 -- the numbers of the header, and the sections
-abbrev pub section_tests : Stated → List ℕ → List Test
+abbrev pub section_tests : Header → List ℕ → List Test
 section_tests h bytes =
     header_tests h
     ++ (system_tests h (section bytes 1) (section bytes 2) (section bytes 3) (section bytes 4)

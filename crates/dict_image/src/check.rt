@@ -4,7 +4,7 @@ ghost use Rattle.image_bytes.specs.ImageBytes.{header_of, section_end};
 ghost use Rattle.image_bytes.specs.ImageFaults.{IsWellFormed, IsImageFault, PassAll, IsFirstTold};
 ghost use Rattle.mj_model.specs.declared.image_fault.ImageFault.TheVariants.{Memory};
 ghost use Rattle.image_bytes.specs.Headers.{AreEnds};
-ghost use Rattle.dict_image.specs.Stages.{stated, section_tests};
+ghost use Rattle.dict_image.specs.Stages.{section_tests};
 
 mod categories;
 mod cell;
@@ -47,7 +47,7 @@ fn check_sections(
 ) -> Result<(), ImageFault>
     requires ends { AreEnds ends.now (header_of bytes.now) }
     requires within { section_end (header_of bytes.now) 8 ≤ length bytes.now }
-    ensures { MatchResult result (λ _. PassAll (section_tests (stated header.now) bytes.now)) (λ fault. (fault ≡ Memory) ⊎ IsFirstTold (section_tests (stated header.now) bytes.now) fault) }
+    ensures { MatchResult result (λ _. PassAll (section_tests header.now bytes.now)) (λ fault. (fault ≡ Memory) ⊎ IsFirstTold (section_tests header.now bytes.now) fault) }
 {
     check_header(header)?;
     check_system(

@@ -6,7 +6,6 @@ ghost use Rattle.image_bytes.specs.ImageFaults.{IsWellFormed};
 ghost use Rattle.image_bytes.specs.ImageMeaning.{image_tables, image_token, tokens_in};
 ghost use Rattle.image_bytes.specs.ImageSections.{stored_cells};
 ghost use Rattle.mj_model.specs.Overlays.{is_user};
-ghost use Rattle.image_bytes.specs.Headers.{IsHeaderOf};
 ghost use Rattle.dict_image.specs.Held.{IsImage};
 ghost use Rattle.dict_image.specs.Seen.{token_seen};
 
@@ -14,6 +13,7 @@ use crate::entries::Entries;
 use crate::entry_ref::{EntryRef, token_at};
 use double_array::{CellRead, Prefixes as Hits, get, prefixes};
 use image_bytes::{Header, ImageCells, read_header, section, section_ends};
+use mj_model::MatrixSizes;
 use std::marker::Model;
 
 /// A dictionary, as the bytes of its image, which are read where they lie.
@@ -61,13 +61,11 @@ impl Dict {
         self.header().kind == 1
     }
 
-    /// How many right ids of the word before there are, and how many left ids of the word behind it.
-    pub fn matrix_sizes(&self) -> (u32, u32)
-        ensures right { result.0 ≡ (image_tables self.now).sizes.right }
-        ensures left { result.1 ≡ (image_tables self.now).sizes.left }
+    /// How many right ids and left ids its connection table has.
+    pub fn matrix_sizes(&self) -> MatrixSizes
+        ensures { result ≡ (image_tables self.now).sizes }
     {
-        let header = self.header();
-        (header.right, header.left)
+        self.header().sizes
     }
 
     /// The entry of a number.
@@ -80,7 +78,7 @@ impl Dict {
 
     /// The numbers of the header.
     pub(crate) fn header(&self) -> &Header
-        ensures numbers { IsHeaderOf result.now (header_of self.now) }
+        ensures numbers { result.now ≡ header_of self.now }
         ensures formed { IsImage self.now }
     {
         &self.header

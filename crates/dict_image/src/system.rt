@@ -20,8 +20,7 @@ impl Dict {
         requires pair { IsTrue (is_pair (image_tables self.now).sizes prev_right next_left) }
         ensures { result ≡ (image_tables self.now).connection prev_right next_left }
     {
-        let (right, left) = self.matrix_sizes();
-        cost_at(self.section(1), right, left, prev_right, next_left)
+        cost_at(self.section(1), self.header().sizes, prev_right, next_left)
     }
 
     /// The categories of a character, in the time of a binary search.

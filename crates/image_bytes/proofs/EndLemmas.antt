@@ -2,7 +2,8 @@
 use Rattle.std.proofs.Common.{◌≡◌, ℕ, zero, suc, ◌+◌, ◌≤◌, List, [], ◌∷◌, take, slice_index, refl, ap, ◌∙◌, ◌-◌, subst, arith}
 use Rattle.std.specs.Prelude.{sum}
 use Rattle.std.proofs.lemmas.List.Sums.{sum_by-cons}
-use Rattle.image_bytes.specs.ImageBytes.{Header, section_end}
+use Rattle.image_bytes.specs.declared.header.Header.{Header}
+use Rattle.image_bytes.specs.ImageBytes.{section_end}
 
 pub sum_take : (xs : List ℕ) (k : ℕ) → sum (take (suc k) xs) ≡ sum (take k xs) + slice_index xs k
 sum_take [] zero = refl

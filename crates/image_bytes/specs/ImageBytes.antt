@@ -4,7 +4,8 @@ use Rattle.std.specs.Prelude.{ℕ, ◌+◌, ◌*◌, ◌-◌, ◌==◌, if◌the
 use Rattle.std.specs.Int.{w16, w32, cast_signed}
 use Rattle.std.specs.List.{range_with_len}
 use Rattle.byteorder.specs.Endian.{little_number}
-use Rattle.mj_model.specs.declared.matrix_sizes.MatrixSizes.{MatrixSizes}
+use Rattle.image_bytes.specs.declared.header.Header.{Header}
+use Rattle.image_bytes.specs.declared.header.TheConstants.{DIGEST_LENGTH, HEADER_LENGTH}
 use Rattle.mj_model.specs.Tables.{Kind, System, User}
 
 -- the number in the n bytes from a place on; a byte past the end counts as 0
@@ -23,27 +24,15 @@ abbrev pub image_magic : List ℕ
 image_magic = 0x4d ∷ 0x4a ∷ 0x44 ∷ 0x49 ∷ 0x43 ∷ 0x54 ∷ 0x0d ∷ 0x0a ∷ []
 
 abbrev pub header_length : ℕ
-header_length = 104
+header_length = HEADER_LENGTH
 
 abbrev pub digest_length : ℕ
-digest_length = 32
+digest_length = DIGEST_LENGTH
 
 -- the header: the layout; 0 for a system dictionary, 1 for a user's; the sizes of the connection table; how many categories, groups (distinct
 -- surfaces), tokens of the lexicon and unknown tokens there are; the lengths of sections 1 to 8 in bytes
-pub record Header : Type 0 where
-  pub magic : List ℕ
-  pub layout : ℕ
-  pub kind : ℕ
-  pub sizes : MatrixSizes
-  pub categories : ℕ
-  pub groups : ℕ
-  pub tokens : ℕ
-  pub unknown : ℕ
-  pub lengths : List ℕ
-
 abbrev pub header_of : List ℕ → Header
 header_of bytes = record {
-  magic = take 8 bytes;
   layout = number_at 4 bytes 8;
   kind = number_at 4 bytes 12;
   sizes = record { right = number_at 4 bytes 16; left = number_at 4 bytes 20 };

@@ -5,7 +5,9 @@ use Rattle.mj_model.specs.declared.image_fault.ImageFault.{ImageFault}
 use Rattle.mj_model.specs.declared.image_fault.ImageFault.TheVariants.{Truncated, BadMagic, BadLayout, BadSection, BadKey, BadToken, BadText, Digest}
 use Rattle.mj_model.specs.declared.limits.TheConstants.{MATRIX_CELLS_MAX, ENTRIES_MAX, CATEGORIES_MAX}
 use Rattle.double_array.specs.CellMap.{Cell}
-use Rattle.image_bytes.specs.ImageBytes.{Header, header_of, header_length, image_magic, kind_of, all_tokens, section, section_end, total_length}
+use Rattle.image_bytes.specs.declared.header.Header.{Header}
+use Rattle.image_bytes.specs.declared.header.TheConstants.{LAYOUT}
+use Rattle.image_bytes.specs.ImageBytes.{header_of, header_length, image_magic, kind_of, all_tokens, section, section_end, total_length}
 use Rattle.image_bytes.specs.ImageSections.{AreCosts, AreCategories, AreRanges, IsIndex, HoldGroups, IsKeyOf, stored_cells, stored_token, FitsSizes, HasFeature}
 use Rattle.mj_model.specs.Tables.{Kind, System, User}
 
@@ -47,7 +49,7 @@ IsFirstTold (test ∷ tests) fault = test.Tells fault ⊎ (test.Passes × IsFirs
 
 -- a layout that is read
 abbrev pub IsReadLayout : ℕ → Type 0
-IsReadLayout layout = layout ≡ 3
+IsReadLayout layout = layout ≡ LAYOUT
 
 -- in layout 3 the SHA-256 of all bytes before it stands behind the sections (FIPS 180-4)
 abbrev pub HasDigest : List ℕ → Type 0
@@ -86,7 +88,7 @@ HasKey cells group = (key : List ℕ) × IsKeyOf cells group key
 abbrev pub image_tests : Header → List ℕ → List Test
 image_tests h bytes =
     unless (header_length ≤ length bytes) Truncated
-    ∷ unless (h.magic ≡ image_magic) BadMagic
+    ∷ unless (take 8 bytes ≡ image_magic) BadMagic
     ∷ unless (IsReadLayout h.layout) (BadLayout h.layout)
     ∷ unless (total_length h ≤ length bytes) Truncated
     ∷ unless (length bytes ≤ total_length h) (BadSection 9)

@@ -1,15 +1,15 @@
 //! Where the sections of an image lie.
 ghost use Rattle.std.specs.Prelude.{◌≡◌, ◌≤◌, ◌^◌, length, slice_range, MatchOption};
-ghost use Rattle.image_bytes.specs.ImageBytes.{Header as Stated, header_of, section as section_of, section_end};
-ghost use Rattle.image_bytes.specs.Headers.{IsHeaderOf, AreEnds};
+ghost use Rattle.image_bytes.specs.ImageBytes.{header_of, section as section_of, section_end};
+ghost use Rattle.image_bytes.specs.Headers.{AreEnds};
 
-use crate::header::Header;
+use crate::header::{HEADER_LENGTH, Header};
 
 /// Where the header and sections 1 to 8 end, in bytes; None where that is more than a `usize` holds.
 pub fn section_ends(header: &Header) -> Option<[usize; 9]>
-    ensures { (stated : Stated) → IsHeaderOf header.now stated → MatchOption result (2 ^ 64 ≤ section_end stated 8) (λ ends. AreEnds ends stated) }
+    ensures { MatchOption result (2 ^ 64 ≤ section_end header.now 8) (λ ends. AreEnds ends header.now) }
 {
-    let mut ends = [104; 9];
+    let mut ends = [HEADER_LENGTH; 9];
     for k in 0..8 {
         ends[k + 1] = usize::checked_add(ends[k], header.lengths[k] as usize)?;
     }

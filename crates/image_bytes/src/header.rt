@@ -1,18 +1,30 @@
 //! The header of an image.
 ghost use Rattle.std.specs.Prelude.{◌≡◌, ◌≤◌, length};
 ghost use Rattle.image_bytes.specs.ImageBytes.{header_of, header_length};
-ghost use Rattle.image_bytes.specs.Headers.{IsHeaderOf};
 
 use crate::numbers::{u32_at, u64_at};
+use mj_model::MatrixSizes;
 
-/// The numbers of a header. Lengths are in bytes, the one of section k at k - 1.
+/// The first 8 bytes of every image.
+pub const MAGIC: [u8; 8] = *b"MJDICT\r\n";
+
+/// The layout that is written and read.
+pub const LAYOUT: u32 = 3;
+
+/// How long a header is, in bytes.
+pub const HEADER_LENGTH: usize = 104;
+
+/// How long the digest behind the sections is, in bytes. (FIPS 180-4)
+pub const DIGEST_LENGTH: usize = 32;
+
+/// What the header of an image says behind the magic. Lengths are in bytes, the one of section k at k - 1. (The layout is this project's
+/// own)
 #[derive(Clone, Copy, Debug, Drop)]
 pub struct Header {
     pub layout: u32,
     /// 0 for a system dictionary, 1 for a user's.
     pub kind: u32,
-    pub right: u32,
-    pub left: u32,
+    pub sizes: MatrixSizes,
     pub categories: u32,
     /// Distinct surfaces.
     pub groups: u32,
@@ -26,13 +38,15 @@ pub struct Header {
 /// The numbers of the first 104 bytes, behind the magic.
 pub fn read_header(bytes: &[u8]) -> Header
     requires { header_length ≤ length bytes.now }
-    ensures { IsHeaderOf result (header_of bytes.now) }
+    ensures { result ≡ header_of bytes.now }
 {
     Header {
         layout: u32_at(bytes, 8),
         kind: u32_at(bytes, 12),
-        right: u32_at(bytes, 16),
-        left: u32_at(bytes, 20),
+        sizes: MatrixSizes {
+            right: u32_at(bytes, 16),
+            left: u32_at(bytes, 20),
+        },
         categories: u32_at(bytes, 24),
         groups: u32_at(bytes, 28),
         tokens: u32_at(bytes, 32),

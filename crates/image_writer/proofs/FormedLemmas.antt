@@ -2,10 +2,12 @@
 use Rattle.std.proofs.Common.{◌≡◌, ℕ, suc, ◌*◌, ◌≤◌, List, [], ◌∷◌, length, sym, subst, arith}
 use Rattle.std.specs.Prelude.{slice_index_or}
 use Rattle.mj_model.specs.declared.image_fault.ImageFault.TheVariants.{BadSection, BadKey, BadToken, BadText}
-use Rattle.image_bytes.specs.ImageBytes.{Header, header_length, header_of, image_magic, kind_of, all_tokens, section, section_end, total_length}
+use Rattle.image_bytes.specs.declared.header.Header.{Header}
+use Rattle.image_bytes.specs.ImageBytes.{header_length, header_of, kind_of, all_tokens, section, section_end, total_length}
 use Rattle.image_bytes.specs.ImageFaults.{Test, unless, unless_each, HasKey, IsHeader, IsWellFormed, PassAll, SystemAlone}
 use Rattle.image_bytes.specs.ImageSections.{AreCategories, AreCosts, AreRanges, FitsSizes, HasFeature, HoldGroups, IsIndex, stored_cells, stored_token}
-use Rattle.image_writer.specs.Frames.{IsFramed, Numbers}
+use Rattle.image_writer.specs.declared.header.Numbers.{Numbers}
+use Rattle.image_writer.specs.Frames.{IsFramed}
 
 -- section k of some
 abbrev pub at : List (List ℕ) → ℕ → List ℕ
@@ -30,7 +32,6 @@ part_tests h s =
 -- the header of an image with these numbers
 abbrev pub header_with : Numbers → List ℕ → Header
 header_with n lengths = record {
-  magic = image_magic;
   layout = 3;
   kind = n.kind;
   sizes = n.sizes;
@@ -47,7 +48,6 @@ eight_of s = s 0 ∷ s 1 ∷ s 2 ∷ s 3 ∷ s 4 ∷ s 5 ∷ s 6 ∷ s 7 ∷ []
 module _ (n : Numbers) (s : List (List ℕ)) (image : List ℕ) (framed : IsFramed n s image) where
   pub header_is : header_of image ≡ header_with n (header_of image).lengths
   header_is = λ i. record {
-    magic = framed.magic i;
     layout = framed.layout i;
     kind = framed.kind i;
     sizes = framed.sizes i;

@@ -7,7 +7,8 @@ use Rattle.image_bytes.specs.ImageBytes.{kind_of}
 use Rattle.image_bytes.specs.ImageMeaning.{lexicon_in}
 use Rattle.mj_model.specs.Lexicon.{Row}
 use Rattle.mj_model.specs.Tables.{User}
-use Rattle.image_writer.specs.Frames.{IsFramed, Numbers}
+use Rattle.image_writer.specs.declared.header.Numbers.{Numbers}
+use Rattle.image_writer.specs.Frames.{IsFramed}
 use Rattle.image_writer.specs.declared.lexicon.LexiconBytes.{LexiconBytes}
 use Rattle.image_writer.specs.Entries.{lexemes_of, tokens_of}
 use Rattle.image_writer.specs.Sections.{AreSections}

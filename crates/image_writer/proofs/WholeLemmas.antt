@@ -4,7 +4,8 @@ use Rattle.std.specs.Prelude.{pos, if◌then◌else◌, map, nat_lt, sum_by}
 use Rattle.mj_model.specs.declared.limits.TheConstants.{CATEGORIES_MAX, ENTRIES_MAX}
 use Rattle.mj_model.specs.CharDef.{NamedCategory}
 use Rattle.mj_model.specs.Connection.{is_pair}
-use Rattle.image_bytes.specs.ImageBytes.{Header, header_of, kind_of}
+use Rattle.image_bytes.specs.declared.header.Header.{Header}
+use Rattle.image_bytes.specs.ImageBytes.{header_of, kind_of}
 use Rattle.image_bytes.specs.ImageMeaning.{lexicon_in, tokens_in}
 use Rattle.image_bytes.specs.ImageSections.{IsIndex, categories_in, stored_cost, stored_info}
 use Rattle.mj_model.specs.Lexicon.{Row}
@@ -12,7 +13,8 @@ use Rattle.mj_model.specs.SourceTables.{SayTheSame}
 use Rattle.mj_model.specs.Tables.{Tables}
 use Rattle.matrix_def.specs.Costs.{CostTable, IsMatrix}
 use Rattle.char_def.specs.Categories.{CharCategories}
-use Rattle.image_writer.specs.Frames.{IsFramed, Numbers}
+use Rattle.image_writer.specs.declared.header.Numbers.{Numbers}
+use Rattle.image_writer.specs.Frames.{IsFramed}
 use Rattle.image_writer.specs.StoredTables.{AreCategoriesOf, AreCostsOf, AreRangesOf, AreUnknownOf, sizes_of}
 use Rattle.image_writer.specs.declared.lexicon.LexiconBytes.{LexiconBytes}
 use Rattle.image_writer.specs.Entries.{all_rows}

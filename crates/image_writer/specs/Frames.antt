@@ -1,30 +1,10 @@
 -- Images around their sections.
-use Rattle.std.specs.Prelude.{◌≡◌, ℕ, suc, ◌^◌, ◌<◌, List, [], ◌∷◌, ◌++◌, length, flat_map, slice_index_or}
+use Rattle.std.specs.Prelude.{◌≡◌, ℕ, suc, ◌^◌, ◌<◌, List, [], ◌∷◌, ◌++◌, length, flat_map, take, slice_index_or}
 use Rattle.std.specs.List.{AllByRecursion}
 use Rattle.byteorder.specs.Endian.{little_bytes}
-use Rattle.mj_model.specs.declared.matrix_sizes.MatrixSizes.{MatrixSizes}
 use Rattle.image_bytes.specs.ImageBytes.{header_of, image_magic, section, total_length}
 use Rattle.image_bytes.specs.ImageFaults.{HasDigest}
-use Rattle.image_writer.specs.declared.header.Numbers.{Numbers as Given}
-
--- what a header says besides the layout and the lengths
-pub record Numbers : Type 0 where
-  pub kind : ℕ
-  pub sizes : MatrixSizes
-  pub categories : ℕ
-  pub groups : ℕ
-  pub tokens : ℕ
-  pub unknown : ℕ
-
-abbrev pub numbers_of : Given → Numbers
-numbers_of n = record {
-  kind = n.kind;
-  sizes = record { right = n.right; left = n.left };
-  categories = n.categories;
-  groups = n.groups;
-  tokens = n.tokens;
-  unknown = n.unknown;
-}
+use Rattle.image_writer.specs.declared.header.Numbers.{Numbers}
 
 -- the numbers of 4 bytes, in their order; the layout is 3
 abbrev pub number_list : Numbers → List ℕ
@@ -50,7 +30,7 @@ AreShort lengths = AllByRecursion (λ n. n < 2 ^ 64) lengths
 
 -- an image of layout 3 with these numbers and these sections
 pub record IsFramed (n : Numbers) (sections : List (List ℕ)) (image : List ℕ) : Type 0 where
-  pub magic : (header_of image).magic ≡ image_magic
+  pub magic : take 8 image ≡ image_magic
   pub layout : (header_of image).layout ≡ 3
   pub kind : (header_of image).kind ≡ n.kind
   pub sizes : (header_of image).sizes ≡ n.sizes

@@ -1,6 +1,6 @@
 //! A whole image.
 ghost use Rattle.std.specs.Prelude.{◌≡◌, ◌++◌, map, flat_map, IfOk, OnOk};
-ghost use Rattle.image_writer.specs.Frames.{IsFramed, numbers_of};
+ghost use Rattle.image_writer.specs.Frames.{IsFramed};
 
 use crate::header::{Numbers, append_header};
 use sha2::{Digest, Sha256};
@@ -12,7 +12,7 @@ pub(crate) fn write_image(
     numbers: Numbers,
     sections: &[&[u8]; 8],
 ) -> Result<Vec<u8>, AllocError>
-    ensures { IfOk result (λ image. IsFramed (numbers_of numbers) (map (λ section. section.now) sections.now) image.items) }
+    ensures { IfOk result (λ image. IsFramed numbers (map (λ section. section.now) sections.now) image.items) }
 {
     let mut image = Vec::new(alloc);
     append_header(numbers, sections, &mut image)?;

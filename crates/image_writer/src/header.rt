@@ -1,23 +1,18 @@
 //! The header of an image.
 ghost use Rattle.std.specs.Prelude.{◌≡◌, ◌++◌, length, map, OnOk};
-ghost use Rattle.image_writer.specs.Frames.{AreShort, AreSmall, header_bytes, length_bytes, number_bytes, number_list, numbers_of};
+ghost use Rattle.image_writer.specs.Frames.{AreShort, AreSmall, header_bytes, length_bytes, number_bytes, number_list};
 
 use byteorder::{ByteOrder, LittleEndian};
+use image_bytes::{LAYOUT, MAGIC};
+use mj_model::MatrixSizes;
 use std::alloc::AllocError;
-
-/// The first 8 bytes of every image.
-const MAGIC: [u8; 8] = *b"MJDICT\r\n";
-
-/// The layout that is written.
-const LAYOUT: u32 = 3;
 
 /// What a header says besides the layout and the lengths of the sections.
 #[derive(Clone, Copy, Debug, Drop)]
 pub(crate) struct Numbers {
     /// 0 for a system dictionary, 1 for a user's.
     pub kind: u32,
-    pub right: u32,
-    pub left: u32,
+    pub sizes: MatrixSizes,
     pub categories: u32,
     /// Distinct surfaces.
     pub groups: u32,
@@ -33,8 +28,8 @@ pub(crate) fn append_header(
     sections: &[&[u8]; 8],
     image: &mut Vec<u8>,
 ) -> Result<(), AllocError>
-    ensures bytes { OnOk result (image.new.items ≡ image.old.items ++ header_bytes (numbers_of numbers) (map (λ section. length section.now) sections.now)) }
-    ensures small { AreSmall (number_list (numbers_of numbers)) }
+    ensures bytes { OnOk result (image.new.items ≡ image.old.items ++ header_bytes numbers (map (λ section. length section.now) sections.now)) }
+    ensures small { AreSmall (number_list numbers) }
     ensures short { OnOk result (AreShort (map (λ section. length section.now) sections.now)) }
 {
     image.extend_from_slice(&MAGIC)?;
@@ -43,16 +38,16 @@ pub(crate) fn append_header(
 }
 
 fn append_numbers(numbers: Numbers, image: &mut Vec<u8>) -> Result<(), AllocError>
-    ensures bytes { OnOk result (image.new.items ≡ image.old.items ++ number_bytes (numbers_of numbers)) }
-    ensures small { AreSmall (number_list (numbers_of numbers)) }
+    ensures bytes { OnOk result (image.new.items ≡ image.old.items ++ number_bytes numbers) }
+    ensures small { AreSmall (number_list numbers) }
 {
     let mut bytes = [0; 32];
     LittleEndian::write_u32_into(
         &[
             LAYOUT,
             numbers.kind,
-            numbers.right,
-            numbers.left,
+            numbers.sizes.right,
+            numbers.sizes.left,
             numbers.categories,
             numbers.groups,
             numbers.tokens,

@@ -26,7 +26,7 @@ use crate::ranges::write_ranges;
 use crate::unknown_index::write_unknown_index;
 use char_def::{CharTable, UnkTable};
 use matrix_def::Matrix;
-use mj_model::Record;
+use mj_model::{MatrixSizes, Record};
 use std::alloc::Global;
 
 /// The image of a system dictionary, whose entries stand in the byte order of their surfaces.
@@ -62,8 +62,7 @@ pub fn write_system(
     let (right, left) = matrix.sizes();
     let numbers = Numbers {
         kind: 0,
-        right,
-        left,
+        sizes: MatrixSizes { right, left },
         categories: count as u32,
         groups: sections.group_count,
         tokens: lexicon.len() as u32,

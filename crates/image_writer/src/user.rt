@@ -16,22 +16,21 @@ use crate::fault::LexiconFault;
 use crate::frame::write_image;
 use crate::header::Numbers;
 use crate::lexicon::write_user_lexicon;
-use mj_model::Record;
+use mj_model::{MatrixSizes, Record};
 use std::alloc::Global;
 
 /// The image of a user dictionary for connection costs of these sizes, whose entries stand in the byte order of their surfaces.
 pub fn write_user(
     alloc: Global,
-    right: u32,
-    left: u32,
+    sizes: MatrixSizes,
     lexicon: &[Record],
 ) -> Result<Vec<u8>, LexiconFault>
     requires few { length lexicon.now ≤ EntriesMax }
     requires surfaces { All HasKeySurface (rows_of lexicon.now) }
     requires sorted { IsSortedByKey surface_of (slice_cmp nat_cmp) (rows_of lexicon.now) }
-    requires ids { AreWithin (record { right = right; left = left }) (rows_of lexicon.now) }
-    requires sizes { AreHeaderSizes (record { right = right; left = left }) }
-    ensures image { IfOk result (λ image. IsUserImage (record { right = right; left = left }) (rows_of lexicon.now) image.items) }
+    requires ids { AreWithin sizes (rows_of lexicon.now) }
+    requires sizes { AreHeaderSizes sizes }
+    ensures image { IfOk result (λ image. IsUserImage sizes (rows_of lexicon.now) image.items) }
 
     // A refusal has its reason.
     ensures large { IfErr result (λ fault. fault ≡ FeaturesTooLarge → IsTooLarge (rows_of lexicon.now)) }
@@ -40,8 +39,7 @@ pub fn write_user(
     let sections = write_user_lexicon(alloc, lexicon)?;
     let numbers = Numbers {
         kind: 1,
-        right,
-        left,
+        sizes,
         categories: 0,
         groups: sections.group_count,
         tokens: lexicon.len() as u32,

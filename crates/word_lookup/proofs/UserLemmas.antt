@@ -10,18 +10,18 @@ use Rattle.mj_model.specs.declared.matrix_sizes.MatrixSizes.{MatrixSizes}
 use Rattle.mj_model.specs.Overlays.{is_user, are_same_sizes, first_user_fault, overlay_fault}
 use Rattle.mj_model.specs.Tables.{Tables}
 use Rattle.dict_image.specs.Fitting.{AreFitting}
-use Rattle.word_lookup.specs.Fitting.{AreLaidOver, IsOverlay, IsUserOf, sizes_of}
+use Rattle.word_lookup.specs.Fitting.{AreLaidOver, IsOverlay, IsUserOf}
 
 -- ---- sizes
 
-pub right_differs : (t : MatrixSizes) (s : ℕ × ℕ) (right : ℕ) → right ≡ t.right → (right ≡ s.0 → ⊥) → are_same_sizes t (sizes_of s) ≡ false
-right_differs t s right is other = ap (λ (b : Bool). b && (t.left == s.1)) (ne_eqb t.right s.0 (λ e. other (is ∙ e)))
+pub right_differs : (t : MatrixSizes) (s : MatrixSizes) (right : ℕ) → right ≡ t.right → (right ≡ s.right → ⊥) → are_same_sizes t s ≡ false
+right_differs t s right is other = ap (λ (b : Bool). b && (t.left == s.left)) (ne_eqb t.right s.right (λ e. other (is ∙ e)))
 
-pub left_differs : (t : MatrixSizes) (s : ℕ × ℕ) (left : ℕ) → left ≡ t.left → (left ≡ s.1 → ⊥) → are_same_sizes t (sizes_of s) ≡ false
-left_differs t s left is other = and_right (t.right == s.0) (t.left == s.1) (ne_eqb t.left s.1 (λ e. other (is ∙ e)))
+pub left_differs : (t : MatrixSizes) (s : MatrixSizes) (left : ℕ) → left ≡ t.left → (left ≡ s.left → ⊥) → are_same_sizes t s ≡ false
+left_differs t s left is other = and_right (t.right == s.right) (t.left == s.left) (ne_eqb t.left s.left (λ e. other (is ∙ e)))
 
-pub same : (t : MatrixSizes) (s : ℕ × ℕ) (right left : ℕ) → right ≡ t.right → left ≡ t.left → right ≡ s.0 → left ≡ s.1 → are_same_sizes t (sizes_of s) ≡ true
-same t s right left r l a b = and_from (t.right == s.0) (t.left == s.1) (eq-eqb t.right s.0 (sym r ∙ a)) (eq-eqb t.left s.1 (sym l ∙ b))
+pub same : (t : MatrixSizes) (s : MatrixSizes) (right left : ℕ) → right ≡ t.right → left ≡ t.left → right ≡ s.right → left ≡ s.left → are_same_sizes t s ≡ true
+same t s right left r l a b = and_from (t.right == s.right) (t.left == s.left) (eq-eqb t.right s.right (sym r ∙ a)) (eq-eqb t.left s.left (sym l ∙ b))
 
 -- ---- faults
 
@@ -77,22 +77,19 @@ no_user_fault sizes i (user ∷ users) all = passed sizes i user users all.0 ∙
 
 -- ---- the overlay
 
-sizes_are : (t : Tables) (s : ℕ × ℕ) → s.0 ≡ t.sizes.right → s.1 ≡ t.sizes.left → sizes_of s ≡ t.sizes
-sizes_are t s right left = λ i. record { right = right i; left = left i }
-
-pub overlay_found : (system : Tables) (users : List Tables) (s : ℕ × ℕ) (found : Option OverlayFault) → is_user system.kind ≡ false → s.0 ≡ system.sizes.right → s.1 ≡ system.sizes.left
-    → first_user_fault (sizes_of s) 0 users ≡ found → overlay_fault system users ≡ found
-overlay_found system users s found is right left told =
+pub overlay_found : (system : Tables) (users : List Tables) (s : MatrixSizes) (found : Option OverlayFault) → is_user system.kind ≡ false → s ≡ system.sizes
+    → first_user_fault s 0 users ≡ found → overlay_fault system users ≡ found
+overlay_found system users s found is same told =
     ap (λ (b : Bool). cond b (Some NotSystem) (first_user_fault system.sizes 0 users)) is
-    ∙ ap (λ (sizes : MatrixSizes). first_user_fault sizes 0 users) (sym (sizes_are system s right left)) ∙ told
+    ∙ ap (λ (sizes : MatrixSizes). first_user_fault sizes 0 users) (sym same) ∙ told
 
-pub overlay_is : (system : Tables) (users : List Tables) (s : ℕ × ℕ) → is_user system.kind ≡ false → AreFitting system → s.0 ≡ system.sizes.right → s.1 ≡ system.sizes.left → AllByRecursion (IsUserOf (sizes_of s)) users
+pub overlay_is : (system : Tables) (users : List Tables) (s : MatrixSizes) → is_user system.kind ≡ false → AreFitting system → s ≡ system.sizes → AllByRecursion (IsUserOf s) users
     → IsOverlay system users
 unfolding IsOverlay
-overlay_is system users s is fits right left all = record {
+overlay_is system users s is fits same all = record {
   is_system = is;
   fits = fits;
-  users_fit = subst (λ (sizes : MatrixSizes). AllByRecursion (IsUserOf sizes) users) (sizes_are system s right left) all;
+  users_fit = subst (λ (sizes : MatrixSizes). AllByRecursion (IsUserOf sizes) users) same all;
 }
 
 pub laid_over : (system : Tables) (users : List Tables) → IsOverlay system users → AreLaidOver system users

@@ -1,13 +1,10 @@
 -- Dictionaries that make an overlay, and what a search asks of them.
-use Rattle.std.specs.Prelude.{◌≡◌, ℕ, true, false, List}
+use Rattle.std.specs.Prelude.{◌≡◌, true, false, List}
 use Rattle.std.specs.List.{AllByRecursion}
 use Rattle.mj_model.specs.declared.matrix_sizes.MatrixSizes.{MatrixSizes}
 use Rattle.mj_model.specs.Overlays.{is_user, are_same_sizes}
 use Rattle.mj_model.specs.Tables.{Tables}
 use Rattle.dict_image.specs.Fitting.{AreFitting}
-
-abbrev pub sizes_of : ℕ × ℕ → MatrixSizes
-sizes_of sizes = record { right = sizes.0; left = sizes.1 }
 
 -- a user dictionary, made for these sizes
 pub record IsUserOf (sizes : MatrixSizes) (t : Tables) : Type 0 where

@@ -5,15 +5,15 @@ ghost use Rattle.std.specs.List.{AllByRecursion};
 ghost use Rattle.image_bytes.specs.ImageMeaning.{image_tables};
 ghost use Rattle.mj_model.specs.Overlays.{first_user_fault};
 ghost use Rattle.mj_model.specs.Tables.{Tables};
-ghost use Rattle.word_lookup.specs.Fitting.{IsUserOf, sizes_of};
+ghost use Rattle.word_lookup.specs.Fitting.{IsUserOf};
 
 use dict_image::Dict;
-use mj_model::OverlayFault;
+use mj_model::{MatrixSizes, OverlayFault};
 
 /// Whether user dictionaries were made for a system with these sizes of its connection table.
-pub fn check_users(users: &[Dict], sizes: (u32, u32)) -> Result<(), OverlayFault>
-    ensures accepted { OnOk result (AllByRecursion (IsUserOf (sizes_of sizes)) (map image_tables users.now)) }
-    ensures refused { IfErr result (λ fault. first_user_fault (sizes_of sizes) 0 (map image_tables users.now) ≡ Some fault) }
+pub fn check_users(users: &[Dict], sizes: MatrixSizes) -> Result<(), OverlayFault>
+    ensures accepted { OnOk result (AllByRecursion (IsUserOf sizes) (map image_tables users.now)) }
+    ensures refused { IfErr result (λ fault. first_user_fault sizes 0 (map image_tables users.now) ≡ Some fault) }
 {
     for (i, user) in users.iter().enumerate() {
         check_user(user, i, sizes)?;
@@ -22,15 +22,15 @@ pub fn check_users(users: &[Dict], sizes: (u32, u32)) -> Result<(), OverlayFault
 }
 
 /// Whether dictionary `i` of the users was made for a system with these sizes.
-fn check_user(user: &Dict, i: usize, sizes: (u32, u32)) -> Result<(), OverlayFault>
-    ensures accepted { OnOk result (IsUserOf (sizes_of sizes) (image_tables user.now)) }
-    ensures refused { IfErr result (λ fault. (others : List Tables) → first_user_fault (sizes_of sizes) i (image_tables user.now ∷ others) ≡ Some fault) }
+fn check_user(user: &Dict, i: usize, sizes: MatrixSizes) -> Result<(), OverlayFault>
+    ensures accepted { OnOk result (IsUserOf sizes (image_tables user.now)) }
+    ensures refused { IfErr result (λ fault. (others : List Tables) → first_user_fault sizes i (image_tables user.now ∷ others) ≡ Some fault) }
 {
     if !user.is_user() {
         return Err(OverlayFault::NotUser(i));
     }
-    let (right, left) = user.matrix_sizes();
-    if right != sizes.0 || left != sizes.1 {
+    let MatrixSizes { right, left } = user.matrix_sizes();
+    if right != sizes.right || left != sizes.left {
         return Err(OverlayFault::OtherSizes(i));
     }
     user.tables_fit();

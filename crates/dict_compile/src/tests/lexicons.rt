@@ -2,7 +2,7 @@
 use crate::compile;
 use crate::tests::samples::{Expected, LEXICON, NONE, are_entries, sample, sources};
 use dict_image::{Dict, load};
-use mj_model::Sources;
+use mj_model::{MatrixSizes, Sources};
 use std::alloc::Global;
 use std::test::Fail;
 
@@ -12,7 +12,7 @@ fn sumomo(rt: HostRuntime) -> Result<(), Fail> {
     assert_eq!(rt; (compiled.entries, compiled.skipped), (3, 0));
     let dict = load(rt.alloc(), compiled.image)?;
     assert!(rt; !dict.is_user());
-    assert_eq!(rt; dict.matrix_sizes(), (2, 2));
+    assert_eq!(rt; dict.matrix_sizes(), MatrixSizes { right: 2, left: 2 });
     let rows: [(&str, &[Expected]); 8] = [
         // (key, entries)
         ("すもも", &[(0, 1, 1, 100, "名詞,すもも")]),
@@ -210,7 +210,7 @@ fn connection_costs(rt: HostRuntime) -> Result<(), Fail> {
             b"\0\0\x04\0\0\0\0\0",
         ),
     ];
-    for (what, matrix, sizes, costs) in rows {
+    for (what, matrix, (right, left), costs) in rows {
         let lexicons = ["も,1,1,20,X\n".as_bytes()];
         let sources = Sources {
             matrix: matrix.as_bytes(),
@@ -225,7 +225,7 @@ fn connection_costs(rt: HostRuntime) -> Result<(), Fail> {
             "{what}"
         );
         let dict = load(rt.alloc(), compiled.image)?;
-        assert_eq!(rt; dict.matrix_sizes(), sizes, "{what}");
+        assert_eq!(rt; dict.matrix_sizes(), MatrixSizes { right, left }, "{what}");
         assert!(rt; are_entries(&dict, "も", &[(0, 1, 1, 20, "X")]), "{what}");
     }
     Ok(())

@@ -2,7 +2,7 @@
 use crate::tests::samples::{Expected, LEXICON, NONE, are_entries, sample, sources};
 use crate::{CompileUserFault, compile, compile_user};
 use dict_image::{Dict, load};
-use mj_model::{NamedFault, SourceFault, SourceKind, Sources};
+use mj_model::{MatrixSizes, NamedFault, SourceFault, SourceKind, Sources};
 use std::alloc::Global;
 use std::test::Fail;
 
@@ -131,7 +131,10 @@ fn refused_lexicons(rt: HostRuntime) -> Result<(), Fail> {
         );
     }
     let compiled = compile_user(rt.alloc(), &system, &[accepted.as_bytes()])?;
-    assert_eq!(rt; load(rt.alloc(), compiled.image)?.matrix_sizes(), (2, 3));
+    assert_eq!(rt;
+        load(rt.alloc(), compiled.image)?.matrix_sizes(),
+        MatrixSizes { right: 2, left: 3 }
+    );
     Ok(())
 }
 

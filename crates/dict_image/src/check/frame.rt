@@ -3,28 +3,16 @@ ghost use Rattle.std.specs.Prelude.{◌≡◌, ◌≤◌, ◌↔◌, drop, take,
 ghost use Rattle.sha2.specs.Sha256.{sha256};
 ghost use Rattle.image_bytes.specs.ImageBytes.{header_of, image_magic, section_end};
 ghost use Rattle.image_bytes.specs.ImageFaults.{PassAll, IsFirstTold};
-ghost use Rattle.image_bytes.specs.Headers.{IsHeaderOf, AreEnds};
+ghost use Rattle.image_bytes.specs.Headers.{AreEnds};
 ghost use Rattle.dict_image.specs.Stages.{front_tests, end_tests};
 
-use image_bytes::{Header, read_header, section_ends};
+use image_bytes::{DIGEST_LENGTH, HEADER_LENGTH, Header, LAYOUT, MAGIC, read_header, section_ends};
 use mj_model::ImageFault;
 use sha2::{Digest, Sha256};
 
-/// The first 8 bytes of every image.
-const MAGIC: [u8; 8] = *b"MJDICT\r\n";
-
-/// The layout that is read.
-const LAYOUT: u32 = 3;
-
-/// How long a header is, in bytes.
-const HEADER_LENGTH: usize = 104;
-
-/// How long the digest at the end is, in bytes.
-const DIGEST_LENGTH: usize = 32;
-
 /// The tests of the magic and the layout.
 pub(crate) fn check_front(bytes: &[u8]) -> Result<Header, ImageFault>
-    ensures { MatchResult result (λ header. PassAll (front_tests (header_of bytes.now) bytes.now) × IsHeaderOf header (header_of bytes.now)) (IsFirstTold (front_tests (header_of bytes.now) bytes.now)) }
+    ensures { MatchResult result (λ header. PassAll (front_tests (header_of bytes.now) bytes.now) × (header ≡ header_of bytes.now)) (IsFirstTold (front_tests (header_of bytes.now) bytes.now)) }
 {
     if bytes.len() < HEADER_LENGTH {
         return Err(ImageFault::Truncated);
@@ -49,7 +37,7 @@ fn has_magic(bytes: &[u8]) -> bool
 /// The tests of the length and the digest, and where the sections end.
 pub(crate) fn check_ends(bytes: &[u8], header: &Header) -> Result<[usize; 9], ImageFault>
     requires layout { header.now.layout ≡ 3 }
-    requires header { IsHeaderOf header.now (header_of bytes.now) }
+    requires header { header.now ≡ header_of bytes.now }
     ensures { MatchResult result (λ ends. PassAll (end_tests (header_of bytes.now) bytes.now) × AreEnds ends (header_of bytes.now) × (section_end (header_of bytes.now) 8 ≤ length bytes.now)) (IsFirstTold (end_tests (header_of bytes.now) bytes.now)) }
 {
     let length = bytes.len();

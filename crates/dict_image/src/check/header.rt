@@ -3,7 +3,7 @@ ghost use Rattle.std.specs.Prelude.{◌≡◌, ◌↔◌, false, IsTrue, MatchRe
 ghost use Rattle.image_bytes.specs.ImageBytes.{kind_of};
 ghost use Rattle.image_bytes.specs.ImageFaults.{AreCounts, IsHeader, PassAll, IsFirstTold};
 ghost use Rattle.mj_model.specs.Tables.{System, User};
-ghost use Rattle.dict_image.specs.Stages.{stated, header_tests};
+ghost use Rattle.dict_image.specs.Stages.{header_tests};
 
 use image_bytes::Header;
 use mj_model::{CATEGORIES_MAX, ENTRIES_MAX, ImageFault, MATRIX_CELLS_MAX};
@@ -13,7 +13,7 @@ const SIZE_MAX: u32 = 65_535;
 
 /// The test of the header's numbers.
 pub(crate) fn check_header(header: &Header) -> Result<(), ImageFault>
-    ensures { MatchResult result (λ _. PassAll (header_tests (stated header.now))) (IsFirstTold (header_tests (stated header.now))) }
+    ensures { MatchResult result (λ _. PassAll (header_tests header.now)) (IsFirstTold (header_tests header.now)) }
 {
     if is_header(header) {
         Ok(())
@@ -24,23 +24,22 @@ pub(crate) fn check_header(header: &Header) -> Result<(), ImageFault>
 
 /// Whether the numbers of a header are within their bounds.
 fn is_header(header: &Header) -> bool
-    ensures { IsTrue result ↔ IsHeader (stated header.now) }
+    ensures { IsTrue result ↔ IsHeader header.now }
 {
     let Header {
         kind,
-        right,
-        left,
+        sizes,
         groups,
         tokens,
         unknown,
         ..
     } = *header;
     kind <= 1
-        && right >= 1
-        && right <= SIZE_MAX
-        && left >= 1
-        && left <= SIZE_MAX
-        && u64::from(right) * u64::from(left) <= MATRIX_CELLS_MAX
+        && sizes.right >= 1
+        && sizes.right <= SIZE_MAX
+        && sizes.left >= 1
+        && sizes.left <= SIZE_MAX
+        && u64::from(sizes.right) * u64::from(sizes.left) <= MATRIX_CELLS_MAX
         && are_counts(header)
         && groups <= tokens
         && tokens as usize <= ENTRIES_MAX
@@ -49,7 +48,7 @@ fn is_header(header: &Header) -> bool
 
 /// Whether a dictionary of this kind may have so many categories and unknown tokens.
 fn are_counts(header: &Header) -> bool
-    ensures { IsTrue result ↔ AreCounts (kind_of (stated header.now)) header.now.categories header.now.unknown }
+    ensures { IsTrue result ↔ AreCounts (kind_of header.now) header.now.categories header.now.unknown }
 {
     if is_user(header) {
         header.categories == 0 && header.unknown == 0
@@ -60,8 +59,8 @@ fn are_counts(header: &Header) -> bool
 
 /// Whether the dictionary is a user's.
 pub(crate) fn is_user(header: &Header) -> bool
-    ensures user { IsTrue result → kind_of (stated header.now) ≡ User }
-    ensures system { result ≡ false → kind_of (stated header.now) ≡ System }
+    ensures user { IsTrue result → kind_of header.now ≡ User }
+    ensures system { result ≡ false → kind_of header.now ≡ System }
 {
     header.kind == 1
 }

@@ -2,7 +2,7 @@
 ghost use Rattle.std.specs.Prelude.{◌≡◌, ◌⊎◌, MatchResult};
 ghost use Rattle.image_bytes.specs.ImageFaults.{IsHeader, PassAll, IsFirstTold};
 ghost use Rattle.mj_model.specs.declared.image_fault.ImageFault.TheVariants.{Memory};
-ghost use Rattle.dict_image.specs.Stages.{stated, key_tests, token_tests};
+ghost use Rattle.dict_image.specs.Stages.{key_tests, token_tests};
 
 use crate::check::index::is_index;
 use crate::check::keys::first_without_key;
@@ -16,16 +16,12 @@ use std::alloc::Global;
 pub(crate) fn check_keys(alloc: Global, groups: u32, cells: &[u8]) -> Result<(), ImageFault>
     ensures { MatchResult result (λ _. PassAll (key_tests groups cells.now)) (λ fault. (fault ≡ Memory) ⊎ IsFirstTold (key_tests groups cells.now) fault) }
 {
-    let Ok(found) = value_places(alloc, groups, cells) else {
-        return Err(ImageFault::Memory);
-    };
-    let Some(places) = found else {
+    let Some(places) = value_places(alloc, groups, cells)? else {
         return Err(ImageFault::BadSection(5));
     };
-    match first_without_key(alloc, groups, &ImageCells { bytes: cells }, &places) {
-        Ok(None) => Ok(()),
-        Ok(Some(group)) => Err(ImageFault::BadKey(group)),
-        Err(_) => Err(ImageFault::Memory),
+    match first_without_key(alloc, groups, &ImageCells { bytes: cells }, &places)? {
+        None => Ok(()),
+        Some(group) => Err(ImageFault::BadKey(group)),
     }
 }
 
@@ -36,8 +32,8 @@ pub(crate) fn check_tokens(
     tokens: &[u8],
     features: &[u8],
 ) -> Result<(), ImageFault>
-    requires { IsHeader (stated header.now) }
-    ensures { MatchResult result (λ _. PassAll (token_tests (stated header.now) groups.now tokens.now features.now)) (IsFirstTold (token_tests (stated header.now) groups.now tokens.now features.now)) }
+    requires { IsHeader header.now }
+    ensures { MatchResult result (λ _. PassAll (token_tests header.now groups.now tokens.now features.now)) (IsFirstTold (token_tests header.now groups.now tokens.now features.now)) }
 {
     let count = header.tokens + header.unknown;
     if !is_index(header.groups, 0, header.tokens as usize, groups) {
@@ -46,7 +42,7 @@ pub(crate) fn check_tokens(
     if tokens.len() != 16 * count as usize {
         return Err(ImageFault::BadSection(7));
     }
-    if let Some(token) = first_misfit(header.right, header.left, count, tokens) {
+    if let Some(token) = first_misfit(header.sizes, count, tokens) {
         return Err(ImageFault::BadToken(token));
     }
     match first_without_feature(count, tokens, features) {

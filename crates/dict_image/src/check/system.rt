@@ -3,7 +3,7 @@ ghost use Rattle.std.specs.Prelude.{◌↔◌, IsTrue, MatchResult};
 ghost use Rattle.image_bytes.specs.ImageBytes.{all_tokens, kind_of};
 ghost use Rattle.image_bytes.specs.ImageFaults.{IsHeader, SystemAlone, PassAll, IsFirstTold};
 ghost use Rattle.image_bytes.specs.ImageSections.{AreCosts, AreCategories, AreRanges, IsIndex};
-ghost use Rattle.dict_image.specs.Stages.{stated, system_tests};
+ghost use Rattle.dict_image.specs.Stages.{system_tests};
 
 use crate::check::categories::are_categories;
 use crate::check::header::is_user;
@@ -20,8 +20,8 @@ pub(crate) fn check_system(
     ranges: &[u8],
     index: &[u8],
 ) -> Result<(), ImageFault>
-    requires { IsHeader (stated header.now) }
-    ensures { MatchResult result (λ _. PassAll (system_tests (stated header.now) costs.now categories.now ranges.now index.now)) (IsFirstTold (system_tests (stated header.now) costs.now categories.now ranges.now index.now)) }
+    requires { IsHeader header.now }
+    ensures { MatchResult result (λ _. PassAll (system_tests header.now costs.now categories.now ranges.now index.now)) (IsFirstTold (system_tests header.now costs.now categories.now ranges.now index.now)) }
 {
     if !has_costs(header, costs) {
         return Err(ImageFault::BadSection(1));
@@ -40,19 +40,19 @@ pub(crate) fn check_system(
 
 /// Whether section 1 has a cost of 2 bytes for each pair of ids.
 fn has_costs(header: &Header, costs: &[u8]) -> bool
-    requires { IsHeader (stated header.now) }
-    ensures { IsTrue result ↔ SystemAlone (kind_of (stated header.now)) (AreCosts (stated header.now).sizes) costs.now }
+    requires { IsHeader header.now }
+    ensures { IsTrue result ↔ SystemAlone (kind_of header.now) (AreCosts header.now.sizes) costs.now }
 {
     if is_user(header) {
         costs.is_empty()
     } else {
-        costs.len() == 2 * (header.right as usize * header.left as usize)
+        costs.len() == 2 * (header.sizes.right as usize * header.sizes.left as usize)
     }
 }
 
 /// Whether section 2 has the categories.
 fn has_categories(header: &Header, categories: &[u8]) -> bool
-    ensures { IsTrue result ↔ SystemAlone (kind_of (stated header.now)) (AreCategories header.now.categories) categories.now }
+    ensures { IsTrue result ↔ SystemAlone (kind_of header.now) (AreCategories header.now.categories) categories.now }
 {
     if is_user(header) {
         categories.is_empty()
@@ -63,8 +63,8 @@ fn has_categories(header: &Header, categories: &[u8]) -> bool
 
 /// Whether section 3 has ranges of code points.
 fn has_ranges(header: &Header, ranges: &[u8]) -> bool
-    requires { IsHeader (stated header.now) }
-    ensures { IsTrue result ↔ SystemAlone (kind_of (stated header.now)) (AreRanges header.now.categories) ranges.now }
+    requires { IsHeader header.now }
+    ensures { IsTrue result ↔ SystemAlone (kind_of header.now) (AreRanges header.now.categories) ranges.now }
 {
     if is_user(header) {
         ranges.is_empty()
@@ -75,7 +75,7 @@ fn has_ranges(header: &Header, ranges: &[u8]) -> bool
 
 /// Whether section 4 shares out the unknown tokens to the categories.
 fn has_index(header: &Header, index: &[u8]) -> bool
-    ensures { IsTrue result ↔ SystemAlone (kind_of (stated header.now)) (IsIndex header.now.categories header.now.tokens (all_tokens (stated header.now))) index.now }
+    ensures { IsTrue result ↔ SystemAlone (kind_of header.now) (IsIndex header.now.categories header.now.tokens (all_tokens header.now)) index.now }
 {
     if is_user(header) {
         index.is_empty()

@@ -4,15 +4,16 @@ ghost use Rattle.image_bytes.specs.ImageFaults.{IsLeastWithout};
 ghost use Rattle.image_bytes.specs.ImageSections.{FitsSizes, HasFeature, stored_token};
 
 use image_bytes::{u16_at, u32_at};
+use mj_model::MatrixSizes;
 use simdutf8::is_utf8;
 
 /// The first of so many tokens whose ids lie outside the sizes or whose spare bytes are not 0.
-pub(crate) fn first_misfit(right: u32, left: u32, count: u32, tokens: &[u8]) -> Option<u32>
+pub(crate) fn first_misfit(sizes: MatrixSizes, count: u32, tokens: &[u8]) -> Option<u32>
     requires { length tokens.now ≡ 16 * count }
-    ensures { let Fits : ℕ → Type 0 = λ i. FitsSizes (record { right = right; left = left }) (stored_token tokens.now i) in MatchOption result ((i : ℕ) → i < count → Fits i) (IsLeastWithout count Fits) }
+    ensures { let Fits : ℕ → Type 0 = λ i. FitsSizes sizes (stored_token tokens.now i) in MatchOption result ((i : ℕ) → i < count → Fits i) (IsLeastWithout count Fits) }
 {
     for token in 0..count {
-        if !fits_sizes(right, left, tokens, token as usize) {
+        if !fits_sizes(sizes, tokens, token as usize) {
             return Some(token);
         }
     }
@@ -20,13 +21,13 @@ pub(crate) fn first_misfit(right: u32, left: u32, count: u32, tokens: &[u8]) -> 
 }
 
 /// Whether the ids of a token lie within the sizes, and its spare bytes are 0.
-fn fits_sizes(right: u32, left: u32, tokens: &[u8], token: usize) -> bool
+fn fits_sizes(sizes: MatrixSizes, tokens: &[u8], token: usize) -> bool
     requires { 16 * token + 16 ≤ length tokens.now }
-    ensures { IsTrue result ↔ FitsSizes (record { right = right; left = left }) (stored_token tokens.now token) }
+    ensures { IsTrue result ↔ FitsSizes sizes (stored_token tokens.now token) }
 {
     let at = 16 * token;
-    u32::from(u16_at(tokens, at)) < left
-        && u32::from(u16_at(tokens, at + 2)) < right
+    u32::from(u16_at(tokens, at)) < sizes.left
+        && u32::from(u16_at(tokens, at + 2)) < sizes.right
         && u16_at(tokens, at + 6) == 0
 }
 

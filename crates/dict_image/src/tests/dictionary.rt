@@ -1,7 +1,7 @@
 //! The user image of layout 3 with the one surface `a`.
 use crate::load;
 use crate::tests::images::{one_surface, sealed};
-use mj_model::ImageFault;
+use mj_model::{ImageFault, MatrixSizes};
 use std::alloc::{AllocError, Global};
 use std::test::Fail;
 
@@ -14,7 +14,7 @@ fn whole_image(alloc: Global) -> Result<Vec<u8>, AllocError> {
 fn entries_of_keys(rt: HostRuntime) -> Result<(), Fail> {
     let dict = load(rt.alloc(), whole_image(rt.alloc())?)?;
     assert!(rt; dict.is_user());
-    assert_eq!(rt; dict.matrix_sizes(), (2, 2));
+    assert_eq!(rt; dict.matrix_sizes(), MatrixSizes { right: 2, left: 2 });
     let rows = [
         // (key, its first entry: number, left id, right id, cost and feature)
         ("a", Some((0, 1, 1, 1, "X"))),

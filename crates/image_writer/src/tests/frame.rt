@@ -1,14 +1,14 @@
 //! A user image of the one surface `a`.
 use crate::frame::write_image;
 use crate::header::Numbers;
+use mj_model::MatrixSizes;
 use sha2::{Digest, Sha256};
 use std::test::Fail;
 
 /// The numbers of a user dictionary for a connection table of 2 right ids and 2 left ids.
 const NUMBERS: Numbers = Numbers {
     kind: 1,
-    right: 2,
-    left: 2,
+    sizes: MatrixSizes { right: 2, left: 2 },
     categories: 0,
     groups: 1,
     tokens: 1,

@@ -9,7 +9,7 @@ ghost use Rattle.image_writer.specs.Entries.{HasKeySurface, no_row, surface_at};
 ghost use Rattle.image_writer.specs.Samples.{FitsAt};
 ghost use Rattle.image_writer.specs.Ids.{AreWithin, IsWithin};
 
-use mj_model::{ENTRIES_MAX, Entry, Record, SURFACE_MAX};
+use mj_model::{ENTRIES_MAX, Entry, MatrixSizes, Record, SURFACE_MAX};
 use std::alloc::{AllocError, Global};
 use std::string::String;
 use std::test::Fail;
@@ -25,22 +25,17 @@ pub const SAMPLE: [Line<'static>; 3] = [
 ];
 
 /// The lines as records. Their ids lie within the sizes.
-pub fn records(
-    alloc: Global,
-    right_size: u32,
-    left_size: u32,
-    lines: &[Line<'_>],
-) -> Result<Vec<Record>, Fail>
+pub fn records(alloc: Global, sizes: MatrixSizes, lines: &[Line<'_>]) -> Result<Vec<Record>, Fail>
     ensures few { IfOk result (λ records. length records.items ≤ EntriesMax) }
     ensures surfaces { IfOk result (λ records. All HasKeySurface (rows_of records.items)) }
     ensures sorted { IfOk result (λ records. IsSortedByKey surface_of (slice_cmp nat_cmp) (rows_of records.items)) }
-    ensures ids { IfOk result (λ records. AreWithin (record { right = right_size; left = left_size }) (rows_of records.items)) }
+    ensures ids { IfOk result (λ records. AreWithin sizes (rows_of records.items)) }
 {
     let mut records = Vec::new(alloc);
     for line in lines {
         records.push(record(alloc, *line)?)?;
     }
-    if is_lexicon(&records) && are_within(&records, right_size, left_size) {
+    if is_lexicon(&records) && are_within(&records, sizes) {
         Ok(records)
     } else {
         Err("the lines are a lexicon's")?
@@ -76,11 +71,11 @@ fn is_lexicon(records: &[Record]) -> bool
 }
 
 /// Whether the ids of all records lie within the sizes.
-pub fn are_within(records: &[Record], right_size: u32, left_size: u32) -> bool
-    ensures { IsTrue result → AreWithin (record { right = right_size; left = left_size }) (rows_of records.now) }
+pub fn are_within(records: &[Record], sizes: MatrixSizes) -> bool
+    ensures { IsTrue result → AreWithin sizes (rows_of records.now) }
 {
     for i in 0..records.len() {
-        if !is_within(records, i, right_size, left_size) {
+        if !is_within(records, i, sizes) {
             return false;
         }
     }
@@ -96,18 +91,18 @@ fn fits(records: &[Record], i: usize) -> bool
 }
 
 /// Whether the ids of record `i` lie within the sizes.
-fn is_within(records: &[Record], i: usize, right_size: u32, left_size: u32) -> bool
+fn is_within(records: &[Record], i: usize, sizes: MatrixSizes) -> bool
     requires { i < length records.now }
-    ensures { IsTrue result → IsWithin (record { right = right_size; left = left_size }) (slice_index_or (rows_of records.now) i no_row) }
+    ensures { IsTrue result → IsWithin sizes (slice_index_or (rows_of records.now) i no_row) }
 {
-    has_ids_within(&records[i].entry, right_size, left_size)
+    has_ids_within(&records[i].entry, sizes)
 }
 
-fn has_ids_within(entry: &Entry, right_size: u32, left_size: u32) -> bool
-    ensures right { IsTrue result → entry.now.right < right_size }
-    ensures left { IsTrue result → entry.now.left < left_size }
+fn has_ids_within(entry: &Entry, sizes: MatrixSizes) -> bool
+    ensures right { IsTrue result → entry.now.right < sizes.right }
+    ensures left { IsTrue result → entry.now.left < sizes.left }
 {
-    u32::from(entry.right) < right_size && u32::from(entry.left) < left_size
+    u32::from(entry.right) < sizes.right && u32::from(entry.left) < sizes.left
 }
 
 /// Whether the surface has 1 to `SURFACE_MAX` bytes.

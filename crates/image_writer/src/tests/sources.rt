@@ -8,7 +8,7 @@ use crate::tests::samples::{Line, are_within, records};
 use crate::write_system;
 use char_def::{UnkTable, read_chars, read_unk};
 use matrix_def::read_matrix;
-use mj_model::{Record, Sources};
+use mj_model::{MatrixSizes, Record, Sources};
 use std::alloc::Global;
 use std::test::Fail;
 
@@ -19,24 +19,25 @@ pub fn write_sources(
     lines: &[Line<'_>],
 ) -> Result<Vec<u8>, Fail> {
     let matrix = read_matrix(alloc, sources.matrix)?;
-    let (right_size, left_size) = matrix.sizes();
+    let (right, left) = matrix.sizes();
+    let sizes = MatrixSizes { right, left };
     let chars = read_chars(alloc, sources.chars)?;
     let unknown = read_unk(alloc, sources.unk, &chars)?;
-    let lexicon = records(alloc, right_size, left_size, lines)?;
+    let lexicon = records(alloc, sizes, lines)?;
     let count = chars.count();
-    if count == 0 || !are_unknown(&unknown, count, right_size, left_size) {
+    if count == 0 || !are_unknown(&unknown, count, sizes) {
         return Err("each category has 1 to 8 unknown entries")?;
     }
     Ok(write_system(alloc, &matrix, &chars, &unknown, &lexicon)?)
 }
 
 /// Whether each category has 1 to 8 entries, whose ids lie within the sizes.
-fn are_unknown(unknown: &UnkTable, categories: usize, right_size: u32, left_size: u32) -> bool
+fn are_unknown(unknown: &UnkTable, categories: usize, sizes: MatrixSizes) -> bool
     requires { categories ≡ length unknown.now }
-    ensures { IsTrue result → AllByRecursion (AreAFew (record { right = right_size; left = left_size })) unknown.now }
+    ensures { IsTrue result → AllByRecursion (AreAFew sizes) unknown.now }
 {
     for category in 0..categories {
-        if !are_a_few(unknown.lines(category), right_size, left_size) {
+        if !are_a_few(unknown.lines(category), sizes) {
             return false;
         }
     }
@@ -44,8 +45,8 @@ fn are_unknown(unknown: &UnkTable, categories: usize, right_size: u32, left_size
 }
 
 /// Whether there are 1 to 8 entries, whose ids lie within the sizes.
-fn are_a_few(entries: &[Record], right_size: u32, left_size: u32) -> bool
-    ensures { IsTrue result → AreAFew (record { right = right_size; left = left_size }) (rows_of entries.now) }
+fn are_a_few(entries: &[Record], sizes: MatrixSizes) -> bool
+    ensures { IsTrue result → AreAFew sizes (rows_of entries.now) }
 {
-    (1..=8).contains(&entries.len()) && are_within(entries, right_size, left_size)
+    (1..=8).contains(&entries.len()) && are_within(entries, sizes)
 }

@@ -4,7 +4,7 @@ use crate::lexicon::write_lexicon;
 use crate::tests::samples::{SAMPLE, records};
 use crate::tests::sources::write_sources;
 use char_def::{read_chars, read_unk};
-use mj_model::sample;
+use mj_model::{MatrixSizes, sample};
 use sha2::{Digest, Sha256};
 use std::test::Fail;
 
@@ -46,7 +46,7 @@ const UNKNOWN_TOKEN: &[u8; 16] = b"\x01\0\x01\0\xe8\x03\0\0\x27\0\0\0\x06\0\0\0"
 #[test]
 fn sections_of_the_lexicon(rt: HostRuntime) -> Result<(), Fail> {
     let alloc = rt.alloc();
-    let lexicon = records(alloc, 2, 2, &SAMPLE)?;
+    let lexicon = records(alloc, MatrixSizes { right: 2, left: 2 }, &SAMPLE)?;
     let chars = read_chars(alloc, sample().chars)?;
     let unknown = read_unk(alloc, sample().unk, &chars)?;
     let sections = write_lexicon(alloc, &lexicon, &unknown, chars.count())?;

@@ -2,6 +2,7 @@
 use crate::lexicon::write_user_lexicon;
 use crate::tests::samples::{Line, records};
 use crate::write_user;
+use mj_model::MatrixSizes;
 use sha2::{Digest, Sha256};
 use std::test::Fail;
 
@@ -18,8 +19,7 @@ const BEGIN: &[u8; 16] = b"MJDICT\r\n\x03\0\0\0\x01\0\0\0";
 #[derive(Clone, Copy)]
 struct Row<'a> {
     what: &'a str,
-    right: u32,
-    left: u32,
+    sizes: MatrixSizes,
     lines: &'a [Line<'a>],
     /// The sizes, and how many categories, groups, tokens and unknown entries there are.
     numbers: &'a [u8; 24],
@@ -32,15 +32,15 @@ struct Row<'a> {
 
 #[rattlefmt::skip]
 const ROWS: [Row<'static>; 3] = [
-    Row { what: "no lines", right: 1, left: 2, lines: &[],
+    Row { what: "no lines", sizes: MatrixSizes { right: 1, left: 2 }, lines: &[],
         numbers: b"\x01\0\0\0\x02\0\0\0\0\0\0\0\0\0\0\0\0\0\0\0\0\0\0\0",
         lengths: b"\x04\0\0\0\0\0\0\0\0\0\0\0\0\0\0\0\0\0\0\0\0\0\0\0",
         groups: b"\0\0\0\0", tokens: b"", features: b"" },
-    Row { what: "one line", right: 2, left: 2, lines: &[("もも", 1, 1, 1, "X")],
+    Row { what: "one line", sizes: MatrixSizes { right: 2, left: 2 }, lines: &[("もも", 1, 1, 1, "X")],
         numbers: b"\x02\0\0\0\x02\0\0\0\0\0\0\0\x01\0\0\0\x01\0\0\0\0\0\0\0",
         lengths: b"\x08\0\0\0\0\0\0\0\x10\0\0\0\0\0\0\0\x01\0\0\0\0\0\0\0",
         groups: b"\0\0\0\0\x01\0\0\0", tokens: b"\x01\0\x01\0\x01\0\0\0\0\0\0\0\x01\0\0\0", features: b"X" },
-    Row { what: "two lines of a surface, and two of a feature", right: 5, left: 259,
+    Row { what: "two lines of a surface, and two of a feature", sizes: MatrixSizes { right: 5, left: 259 },
         lines: &[("a", 1, 2, -5, "X"), ("a", 3, 4, 6, "YZ"), ("b", 258, 0, -32768, "X")],
         numbers: b"\x05\0\0\0\x03\x01\0\0\0\0\0\0\x02\0\0\0\x03\0\0\0\0\0\0\0",
         lengths: b"\x0c\0\0\0\0\0\0\0\x30\0\0\0\0\0\0\0\x03\0\0\0\0\0\0\0",
@@ -53,8 +53,8 @@ const ROWS: [Row<'static>; 3] = [
 fn sections_of_lexicons(rt: HostRuntime) -> Result<(), Fail> {
     for row in ROWS {
         #[rattlefmt::skip]
-        let Row { what, right, left, lines, numbers, groups, tokens, features, .. } = row;
-        let lexicon = records(rt.alloc(), right, left, lines)?;
+        let Row { what, sizes, lines, numbers, groups, tokens, features, .. } = row;
+        let lexicon = records(rt.alloc(), sizes, lines)?;
         let sections = write_user_lexicon(rt.alloc(), &lexicon)?;
         let count = sections.group_count.to_le_bytes();
         assert!(rt; numbers.get(12..16) == Some(count.as_slice()), "{what}");
@@ -74,9 +74,9 @@ fn sections_of_lexicons(rt: HostRuntime) -> Result<(), Fail> {
 fn user_images(rt: HostRuntime) -> Result<(), Fail> {
     for row in ROWS {
         #[rattlefmt::skip]
-        let Row { what, right, left, lines, numbers, lengths, groups, tokens, features } = row;
-        let lexicon = records(rt.alloc(), right, left, lines)?;
-        let image = write_user(rt.alloc(), right, left, &lexicon)?;
+        let Row { what, sizes, lines, numbers, lengths, groups, tokens, features } = row;
+        let lexicon = records(rt.alloc(), sizes, lines)?;
+        let image = write_user(rt.alloc(), sizes, &lexicon)?;
         let mut end = Vec::new(rt.alloc());
         for section in [groups, tokens, features] {
             end.extend_from_slice(section)?;

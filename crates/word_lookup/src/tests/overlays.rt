@@ -171,8 +171,7 @@ fn features_of_numbers(rt: HostRuntime) -> Result<(), Fail> {
 /// The connection cost of a right id and a left id within a system's sizes.
 fn cost_of(system: &Dict, right: u16, left: u16) -> Result<Option<i16>, OverlayFault> {
     let dictionaries = Dictionaries::new(system, &[])?;
-    let (right_size, left_size) = system.matrix_sizes();
-    if u32::from(right) < right_size && u32::from(left) < left_size {
+    if system.matrix_sizes().contains(right, left) {
         Ok(Some(dictionaries.cost(right, left)))
     } else {
         Ok(None)

@@ -1,8 +1,6 @@
-use Rattle.std.proofs.Common.{inl, inr, ◌≡◌}
+use Rattle.std.proofs.Common.{inl, inr}
 use Rattle.std.proofs.lemmas.Result.{err_from_is_err_and, MatchResult-weaker}
-use Rattle.image_bytes.specs.ImageBytes.{header_of}
-use Rattle.dict_image.specs.Stages.{stated}
-use Rattle.dict_image.proofs.StageLemmas.{states_same, end_told, section_told, all_pass}
+use Rattle.dict_image.proofs.StageLemmas.{end_told, section_told, all_pass}
 use Rattle.dict_image.proofs.check.check_image.Goals as goal
 
 pub returns-in_err-ends-clause-refused : goal.returns-in_err-ends-clause-refused
@@ -14,15 +12,13 @@ pub returns-clause-accepted : goal.returns-clause-accepted
 returns-clause-accepted c =
     let bytes = c.args.bytes.now in
     let front = c.in_ok-header.ensures in
-    let same : stated c.in_ok-header.header ≡ header_of bytes = states_same c.in_ok-header.header (header_of bytes) front.1 front.0.1.0 in
-    MatchResult-weaker c.check_sections.result c.check_sections.ensures (λ x pass. all_pass bytes (stated c.in_ok-header.header) same front.0 c.in_ok-ends.ensures.0 pass) (λ y told. tt)
+    MatchResult-weaker c.check_sections.result c.check_sections.ensures (λ x pass. all_pass bytes c.in_ok-header.header front.1 front.0 c.in_ok-ends.ensures.0 pass) (λ y told. tt)
 
 pub returns-clause-refused : goal.returns-clause-refused
 returns-clause-refused c =
     let bytes = c.args.bytes.now in
     let front = c.in_ok-header.ensures in
-    let same : stated c.in_ok-header.header ≡ header_of bytes = states_same c.in_ok-header.header (header_of bytes) front.1 front.0.1.0 in
     MatchResult-weaker c.check_sections.result c.check_sections.ensures (λ x pass. tt) (λ y told. elim told [
       | inl memory ↦ inl memory
-      | inr first ↦ inr (section_told bytes (stated c.in_ok-header.header) y same front.0 c.in_ok-ends.ensures.0 first)
+      | inr first ↦ inr (section_told bytes c.in_ok-header.header y front.1 front.0 c.in_ok-ends.ensures.0 first)
     ])

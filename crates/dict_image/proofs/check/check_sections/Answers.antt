@@ -3,20 +3,20 @@ use Rattle.std.proofs.lemmas.Result.{err_from_is_err_and}
 use Rattle.mj_model.specs.declared.image_fault.ImageFault.TheVariants.{Memory}
 use Rattle.image_bytes.specs.ImageBytes.{section}
 use Rattle.image_bytes.specs.ImageFaults.{Test, PassAll, IsFirstTold}
-use Rattle.dict_image.specs.Stages.{stated, header_tests, system_tests, key_tests, token_tests}
+use Rattle.dict_image.specs.Stages.{header_tests, system_tests, key_tests, token_tests}
 use Rattle.dict_image.proofs.StageLemmas.{pass_both, told_first, told_later, same_system, same_tokens}
 use Rattle.dict_image.proofs.check.check_sections.Goals as goal
 
 pub returns-in_err-check_header : goal.returns-in_err-check_header
 returns-in_err-check_header c =
-    let h = stated c.args.header.now in
+    let h = c.args.header.now in
     let bytes = c.args.bytes.now in
     let p = err_from_is_err_and c.from_residual.result c.from_residual.ensures.1 in
     rw (p.1, p.2) (inr (told_first (header_tests h) (system_tests h (section bytes 1) (section bytes 2) (section bytes 3) (section bytes 4) ++ (key_tests h.groups (section bytes 5) ++ token_tests h (section bytes 6) (section bytes 7) (section bytes 8))) c.in_err-check_header.field-0.0 c.in_err-check_header.ensures))
 
 pub returns-in_err-check_system : goal.returns-in_err-check_system
 returns-in_err-check_system c =
-    let h = stated c.args.header.now in
+    let h = c.args.header.now in
     let bytes = c.args.bytes.now in
     let p = err_from_is_err_and c.from_residual-in_err-check_system.result c.from_residual-in_err-check_system.ensures.1 in
     let fault = c.in_err-check_system.field-0.0 in
@@ -25,7 +25,7 @@ returns-in_err-check_system c =
 
 pub returns-in_err-check_keys : goal.returns-in_err-check_keys
 returns-in_err-check_keys c =
-    let h = stated c.args.header.now in
+    let h = c.args.header.now in
     let bytes = c.args.bytes.now in
     let p = err_from_is_err_and c.from_residual-in_err-check_keys.result c.from_residual-in_err-check_keys.ensures.1 in
     let fault = c.in_err-check_keys.field-0.0 in
@@ -38,7 +38,7 @@ returns-in_err-check_keys c =
 
 pub returns-in_err-check_tokens : goal.returns-in_err-check_tokens
 returns-in_err-check_tokens c =
-    let h = stated c.args.header.now in
+    let h = c.args.header.now in
     let bytes = c.args.bytes.now in
     let p = err_from_is_err_and c.from_residual-in_err-check_tokens.result c.from_residual-in_err-check_tokens.ensures.1 in
     let fault = c.in_err-check_tokens.field-0.0 in
@@ -49,7 +49,7 @@ returns-in_err-check_tokens c =
 
 pub returns : goal.returns
 returns c =
-    let h = stated c.args.header.now in
+    let h = c.args.header.now in
     let bytes = c.args.bytes.now in
     let system = subst PassAll (same_system h c.section.result.now c.section-2.result.now c.section-3.result.now c.section-4.result.now (section bytes 1) (section bytes 2) (section bytes 3) (section bytes 4) c.section.ensures c.section-2.ensures c.section-3.ensures c.section-4.ensures) c.in_ok-check_system.ensures in
     let keys = subst PassAll (ap (key_tests h.groups) c.section-5.ensures) c.in_ok-check_keys.ensures in

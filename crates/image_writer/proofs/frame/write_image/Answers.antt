@@ -1,10 +1,9 @@
 use Rattle.std.proofs.Common.{rules}
-use Rattle.image_writer.specs.Frames.{numbers_of}
 use Rattle.image_writer.proofs.FrameLemmas.{frame_of}
 use Rattle.image_writer.proofs.frame.write_image.Goals as goal
 
 pub returns : goal.returns
 returns c =
-    frame_of (numbers_of c.args.numbers) c.args.sections.now c.new-image.result.items c.append_header.new.image.items c.append_sections.new.image.items
+    frame_of c.args.numbers c.args.sections.now c.new-image.result.items c.append_header.new.image.items c.append_sections.new.image.items
     c.digest-digest.result c.extend_from_slice.new.self.items (search rules) c.append_header.ensures.small c.in_ok-append_header.ensures.short c.new-image.ensures.items
     c.in_ok-append_header.ensures.bytes c.in_ok-append_sections.ensures c.digest-digest.ensures (search rules) c.in_ok-extend_from_slice.ensures.items

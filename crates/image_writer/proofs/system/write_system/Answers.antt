@@ -2,7 +2,8 @@ use Rattle.std.proofs.Common.{◌≡◌, ◌/◌, ◌-◌, ℕ, List, [], ◌∷
 use Rattle.std.specs.Prelude.{sum_by}
 use Rattle.std.proofs.lemmas.List.{length-map}
 use Rattle.mj_model.specs.Lexicon.{row_of, rows_of}
-use Rattle.image_writer.specs.Frames.{IsFramed, Numbers}
+use Rattle.image_writer.specs.declared.header.Numbers.{Numbers}
+use Rattle.image_writer.specs.Frames.{IsFramed}
 use Rattle.image_writer.specs.StoredTables.{AreUnknownOf}
 use Rattle.image_writer.proofs.RowLemmas.{count_all}
 use Rattle.image_writer.proofs.WholeLemmas.{system_image}

@@ -1,14 +1,14 @@
 use Rattle.std.proofs.Common.{◌≡◌, ℕ, List, [], ◌∷◌, length, sym, subst, arith}
 use Rattle.std.proofs.lemmas.List.{length-map}
-use Rattle.mj_model.specs.declared.matrix_sizes.MatrixSizes.{MatrixSizes}
 use Rattle.mj_model.specs.Lexicon.{row_of, rows_of}
-use Rattle.image_writer.specs.Frames.{IsFramed, Numbers}
+use Rattle.image_writer.specs.declared.header.Numbers.{Numbers}
+use Rattle.image_writer.specs.Frames.{IsFramed}
 use Rattle.image_writer.proofs.UserLemmas.{user_image}
 use Rattle.image_writer.proofs.user.write_user.Goals as goal
 
 pub returns-clause-image : goal.returns-clause-image
 returns-clause-image c =
-    let sizes : MatrixSizes = record { right = c.args.right; left = c.args.left } in
+    let sizes = c.args.sizes in
     let rows = rows_of c.args.lexicon.now in
     let sections = c.in_ok-sections.sections in
     let long : length c.args.lexicon.now ≡ length rows = sym (length-map c.args.lexicon.now row_of) in

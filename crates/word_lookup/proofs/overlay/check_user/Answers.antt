@@ -1,6 +1,6 @@
-use Rattle.std.proofs.Common.{sym, ◌∙◌}
+use Rattle.std.proofs.Common.{ap, sym, ◌∙◌}
+use Rattle.mj_model.specs.declared.matrix_sizes.MatrixSizes.{MatrixSizes}
 use Rattle.image_bytes.specs.ImageMeaning.{image_tables}
-use Rattle.word_lookup.specs.Fitting.{sizes_of}
 use Rattle.word_lookup.proofs.UserLemmas.{left_differs, other_sizes, right_differs, same}
 use Rattle.word_lookup.proofs.overlay.check_user.Goals as goal
 use Rattle.word_lookup.proofs.overlay.check_user.Goals.{then-right-sizes-via-then-right-sizes, then-right-sizes-via-else-right-sizes+then-left-sizes}
@@ -9,9 +9,9 @@ pub returns-then-right-sizes-clause-refused : goal.returns-then-right-sizes-clau
 returns-then-right-sizes-clause-refused c = λ others.
     let t = image_tables c.args.user.now in
     let user = sym c.is_user.ensures.kind ∙ c.if-not-is_user.false in
-    other_sizes (sizes_of c.args.sizes) c.args.i t others user (elim c.then-right-sizes.branch [
-      | then-right-sizes-via-then-right-sizes w ↦ right_differs t.sizes c.args.sizes _ c.matrix_sizes-right.ensures.right w.if-right-sizes.true
-      | then-right-sizes-via-else-right-sizes+then-left-sizes w ↦ left_differs t.sizes c.args.sizes _ c.matrix_sizes-right.ensures.left w.if-left-sizes.true
+    other_sizes c.args.sizes c.args.i t others user (elim c.then-right-sizes.branch [
+      | then-right-sizes-via-then-right-sizes w ↦ right_differs t.sizes c.args.sizes _ (ap (λ (s : MatrixSizes). s.right) c.matrix_sizes-right.ensures) w.if-right-sizes.true
+      | then-right-sizes-via-else-right-sizes+then-left-sizes w ↦ left_differs t.sizes c.args.sizes _ (ap (λ (s : MatrixSizes). s.left) c.matrix_sizes-right.ensures) w.if-left-sizes.true
     ])
 
 pub returns-clause-accepted : goal.returns-clause-accepted
@@ -19,6 +19,6 @@ returns-clause-accepted c =
     let t = image_tables c.args.user.now in
     record {
       is_users = sym c.is_user.ensures.kind ∙ c.if-not-is_user.false;
-      same_sizes = same t.sizes c.args.sizes _ _ c.matrix_sizes-right.ensures.right c.matrix_sizes-right.ensures.left c.if-right-sizes.false c.if-left-sizes.false;
+      same_sizes = same t.sizes c.args.sizes _ _ (ap (λ (s : MatrixSizes). s.right) c.matrix_sizes-right.ensures) (ap (λ (s : MatrixSizes). s.left) c.matrix_sizes-right.ensures) c.if-right-sizes.false c.if-left-sizes.false;
       fits = c.tables_fit.ensures;
     }

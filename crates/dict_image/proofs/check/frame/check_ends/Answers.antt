@@ -1,4 +1,6 @@
-use Rattle.std.proofs.Common.{◌+◌, ◌<◌, inl, inr, refl, sym, ◌∙◌, arith, length, slice_index}
+use Rattle.std.proofs.Common.{ap, subst, ◌^◌, ◌≤◌, ◌+◌, ◌<◌, inl, inr, refl, sym, ◌∙◌, arith, length, slice_index}
+use Rattle.image_bytes.specs.declared.header.Header.{Header}
+use Rattle.image_bytes.specs.Headers.{AreEnds}
 use Rattle.image_bytes.specs.ImageBytes.{header_of, section_end}
 use Rattle.dict_image.proofs.FrameLemmas.{too_far, too_short, enough, too_long, no_more, digest_at, end_within}
 use Rattle.dict_image.proofs.ValueLemmas.{not_both}
@@ -8,15 +10,15 @@ use Rattle.dict_image.proofs.check.frame.check_ends.Goals.{then-length-end-via-t
 pub returns-in_default : goal.returns-in_default
 returns-in_default c =
     let h = header_of c.args.bytes.now in
-    let far = c.in_default.ensures h c.requires.header in
-    let three = sym c.requires.header.layout ∙ c.requires.layout in
+    let far = subst (λ (x : Header). 2 ^ 64 ≤ section_end x 8) c.requires.header c.in_default.ensures in
+    let three = sym (ap (λ (x : Header). x.layout) c.requires.header) ∙ c.requires.layout in
     inl (too_far h (length c.args.bytes.now) three far (omega arith), refl)
 
 pub returns-then-length-end : goal.returns-then-length-end
 returns-then-length-end c =
     let h = header_of c.args.bytes.now in
-    let at = (c.in-Some.ensures h c.requires.header).each 8 (omega arith) in
-    let three = sym c.requires.header.layout ∙ c.requires.layout in
+    let at = (subst (AreEnds c.in-Some.ends) c.requires.header c.in-Some.ensures).each 8 (omega arith) in
+    let three = sym (ap (λ (x : Header). x.layout) c.requires.header) ∙ c.requires.layout in
     let end = slice_index c.in-Some.ends 8 in
     let few : length c.args.bytes.now < end + 32 = elim c.then-length-end.branch [
       | then-length-end-via-then-length-end w ↦ let l = w.if-length-end.true in omega (arith, l)
@@ -27,8 +29,8 @@ returns-then-length-end c =
 pub returns-then-length-end-gt-DIGEST_LENGTH : goal.returns-then-length-end-gt-DIGEST_LENGTH
 returns-then-length-end-gt-DIGEST_LENGTH c =
     let h = header_of c.args.bytes.now in
-    let at = (c.in-Some.ensures h c.requires.header).each 8 (omega arith) in
-    let three = sym c.requires.header.layout ∙ c.requires.layout in
+    let at = (subst (AreEnds c.in-Some.ends) c.requires.header c.in-Some.ensures).each 8 (omega arith) in
+    let three = sym (ap (λ (x : Header). x.layout) c.requires.header) ∙ c.requires.layout in
     let n = length c.args.bytes.now in
     let end = slice_index c.in-Some.ends 8 in
     let a = c.if-length-end.false in
@@ -39,8 +41,8 @@ returns-then-length-end-gt-DIGEST_LENGTH c =
 pub returns-then-not-is_digest_from : goal.returns-then-not-is_digest_from
 returns-then-not-is_digest_from c =
     let h = header_of c.args.bytes.now in
-    let at = (c.in-Some.ensures h c.requires.header).each 8 (omega arith) in
-    let three = sym c.requires.header.layout ∙ c.requires.layout in
+    let at = (subst (AreEnds c.in-Some.ends) c.requires.header c.in-Some.ensures).each 8 (omega arith) in
+    let three = sym (ap (λ (x : Header). x.layout) c.requires.header) ∙ c.requires.layout in
     let n = length c.args.bytes.now in
     let end = slice_index c.in-Some.ends 8 in
     let a = c.if-length-end.false in
@@ -60,9 +62,9 @@ returns-then-not-is_digest_from c =
 pub returns : goal.returns
 returns c =
     let h = header_of c.args.bytes.now in
-    let ends = c.in-Some.ensures h c.requires.header in
+    let ends = subst (AreEnds c.in-Some.ends) c.requires.header c.in-Some.ensures in
     let at = ends.each 8 (omega arith) in
-    let three = sym c.requires.header.layout ∙ c.requires.layout in
+    let three = sym (ap (λ (x : Header). x.layout) c.requires.header) ∙ c.requires.layout in
     let n = length c.args.bytes.now in
     let end = slice_index c.in-Some.ends 8 in
     let a = c.if-length-end.false in

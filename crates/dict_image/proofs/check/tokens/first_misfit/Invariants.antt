@@ -3,4 +3,4 @@ use Rattle.image_bytes.specs.ImageSections.{FitsSizes, stored_token}
 use Rattle.dict_image.proofs.check.tokens.first_misfit.Given as goal
 
 abbrev pub invariant-loop-token : goal.invariant-loop-token
-invariant-loop-token l = (k : ℕ) → k < l.token → FitsSizes (record { right = l.right; left = l.left }) (stored_token l.tokens k)
+invariant-loop-token l = (k : ℕ) → k < l.token → FitsSizes l.sizes (stored_token l.tokens k)

@@ -1,6 +1,7 @@
-use Rattle.std.proofs.Common.{sym, ◌∙◌}
+use Rattle.std.proofs.Common.{sym, ◌∙◌, ap}
+use Rattle.image_bytes.specs.declared.header.Header.{Header}
 use Rattle.dict_image.proofs.CategoryLemmas.{count_of_image}
 use Rattle.dict_image.proofs.dict.Dict.category_count.Goals as goal
 
 pub returns : goal.returns
-returns c = c.header.ensures.numbers.categories ∙ sym (count_of_image c.args.self.now)
+returns c = (ap (λ (h : Header). h.categories) c.header.ensures.numbers) ∙ sym (count_of_image c.args.self.now)

@@ -10,4 +10,4 @@ pub returns : goal.returns
 returns c = λ yes.
     let past = c.loop-i-test.false in
     let long = length-map c.args.records.now row_of in
-    each_has (IsWithin (record { right = c.args.right_size; left = c.args.left_size })) (rows_of c.args.records.now) no_row (λ i less. c.loop-i.invariant i (omega (arith, less, past, long)))
+    each_has (IsWithin c.args.sizes) (rows_of c.args.records.now) no_row (λ i less. c.loop-i.invariant i (omega (arith, less, past, long)))

@@ -7,4 +7,4 @@ use Rattle.image_writer.proofs.tests.samples.are_within.Given as goal
 
 -- the ids of the records so far lie within the sizes
 abbrev pub invariant-loop-i : goal.invariant-loop-i
-invariant-loop-i l = (k : ℕ) → k < l.i → IsWithin (record { right = l.right_size; left = l.left_size }) (slice_index_or (rows_of l.records) k no_row)
+invariant-loop-i l = (k : ℕ) → k < l.i → IsWithin l.sizes (slice_index_or (rows_of l.records) k no_row)

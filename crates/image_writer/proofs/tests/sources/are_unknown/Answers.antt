@@ -7,4 +7,4 @@ pub returns : goal.returns
 returns c = λ yes.
     let past = c.loop-category-test.false in
     let count = c.requires in
-    each_has (AreAFew (record { right = c.args.right_size; left = c.args.left_size })) c.args.unknown.now [] (λ i less. c.loop-category.invariant i (omega (arith, less, past, count)))
+    each_has (AreAFew c.args.sizes) c.args.unknown.now [] (λ i less. c.loop-category.invariant i (omega (arith, less, past, count)))

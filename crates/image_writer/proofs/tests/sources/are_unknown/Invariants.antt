@@ -5,4 +5,4 @@ use Rattle.image_writer.proofs.tests.sources.are_unknown.Given as goal
 
 -- the categories so far have a few entries
 abbrev pub invariant-loop-category : goal.invariant-loop-category
-invariant-loop-category l = (k : ℕ) → k < l.category → AreAFew (record { right = l.right_size; left = l.left_size }) (slice_index_or l.unknown k [])
+invariant-loop-category l = (k : ℕ) → k < l.category → AreAFew l.sizes (slice_index_or l.unknown k [])

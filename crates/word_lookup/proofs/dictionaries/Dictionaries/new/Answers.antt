@@ -2,7 +2,6 @@ use Rattle.std.proofs.Common.{sym, ◌∙◌, map}
 use Rattle.std.specs.Prelude.{None}
 use Rattle.std.proofs.lemmas.Result.{err_from_is_err_and}
 use Rattle.image_bytes.specs.ImageMeaning.{image_tables}
-use Rattle.word_lookup.specs.Fitting.{sizes_of}
 use Rattle.word_lookup.proofs.UserLemmas.{no_user_fault, overlay_found, overlay_is}
 use Rattle.word_lookup.specs.Overlays.{overlay_of}
 use Rattle.word_lookup.proofs.dictionaries.Dictionaries.new.Goals as goal
@@ -12,18 +11,18 @@ unfolding overlay_of
 returns-in_err-check_users-clause-refused c =
     let p = err_from_is_err_and c.from_residual.result c.from_residual.ensures.1 in
     rw (p.1, p.2) (overlay_found (image_tables c.args.system.now) (map image_tables c.args.users.now) c.matrix_sizes.result _ (sym c.is_user.ensures.kind ∙ c.if-is_user.false)
-    c.matrix_sizes.ensures.right c.matrix_sizes.ensures.left c.in_err-check_users.ensures.refused)
+    c.matrix_sizes.ensures c.in_err-check_users.ensures.refused)
 
 pub invariant_of-result : goal.invariant_of-result
 unfolding overlay_of
 invariant_of-result c = record {
   fitting = overlay_is (image_tables c.args.system.now) (map image_tables c.args.users.now) c.matrix_sizes.result (sym c.is_user.ensures.kind ∙ c.if-is_user.false) c.tables_fit.ensures
-      c.matrix_sizes.ensures.right c.matrix_sizes.ensures.left c.in_ok-check_users.ensures.accepted;
+      c.matrix_sizes.ensures c.in_ok-check_users.ensures.accepted;
 }
 
 pub returns-clause-accepted : goal.returns-clause-accepted
 unfolding overlay_of
 returns-clause-accepted c =
     let users = map image_tables c.args.users.now in
-    overlay_found (image_tables c.args.system.now) users c.matrix_sizes.result None (sym c.is_user.ensures.kind ∙ c.if-is_user.false) c.matrix_sizes.ensures.right c.matrix_sizes.ensures.left
-    (no_user_fault (sizes_of c.matrix_sizes.result) 0 users c.in_ok-check_users.ensures.accepted)
+    overlay_found (image_tables c.args.system.now) users c.matrix_sizes.result None (sym c.is_user.ensures.kind ∙ c.if-is_user.false) c.matrix_sizes.ensures
+    (no_user_fault c.matrix_sizes.result 0 users c.in_ok-check_users.ensures.accepted)
