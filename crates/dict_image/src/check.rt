@@ -22,7 +22,7 @@ use crate::check::frame::{check_ends, check_front};
 use crate::check::header::check_header;
 use crate::check::lexicon::{check_keys, check_tokens};
 use crate::check::system::check_system;
-use image_bytes::{Header, section};
+use image_bytes::{Header, Section, section_bytes};
 use mj_model::ImageFault;
 use std::alloc::Global;
 
@@ -52,17 +52,21 @@ fn check_sections(
     check_header(header)?;
     check_system(
         header,
-        section(bytes, ends, 1),
-        section(bytes, ends, 2),
-        section(bytes, ends, 3),
-        section(bytes, ends, 4),
+        section_bytes(bytes, ends, Section::Costs),
+        section_bytes(bytes, ends, Section::Categories),
+        section_bytes(bytes, ends, Section::Ranges),
+        section_bytes(bytes, ends, Section::UnknownIndex),
     )?;
-    check_keys(alloc, header.groups, section(bytes, ends, 5))?;
+    check_keys(
+        alloc,
+        header.groups,
+        section_bytes(bytes, ends, Section::Cells),
+    )?;
     check_tokens(
         header,
-        section(bytes, ends, 6),
-        section(bytes, ends, 7),
-        section(bytes, ends, 8),
+        section_bytes(bytes, ends, Section::Groups),
+        section_bytes(bytes, ends, Section::Tokens),
+        section_bytes(bytes, ends, Section::Features),
     )?;
     Ok(())
 }

@@ -6,13 +6,15 @@ ghost use Rattle.image_bytes.specs.ImageFaults.{IsWellFormed};
 ghost use Rattle.image_bytes.specs.ImageMeaning.{image_tables, image_token, tokens_in};
 ghost use Rattle.image_bytes.specs.ImageSections.{stored_cells};
 ghost use Rattle.mj_model.specs.Overlays.{is_user};
+ghost use Rattle.image_bytes.specs.Sections.{number_of};
 ghost use Rattle.dict_image.specs.Held.{IsImage};
 ghost use Rattle.dict_image.specs.Seen.{token_seen};
 
 use crate::entries::Entries;
 use crate::entry_ref::{EntryRef, token_at};
 use double_array::{CellRead, Prefixes as Hits, get, prefixes};
-use image_bytes::{Header, ImageCells, read_header, section, section_ends};
+use image_bytes::Section::{Cells, Features, Groups, Tokens};
+use image_bytes::{Header, ImageCells, Section, read_header, section_bytes, section_ends};
 use mj_model::MatrixSizes;
 use std::marker::Model;
 
@@ -73,7 +75,7 @@ impl Dict {
         requires { i < all_tokens (header_of self.now) }
         ensures { token_seen result ≡ image_token self.now i }
     {
-        token_at(self.section(7), self.section(8), i)
+        token_at(self.section(Tokens), self.section(Features), i)
     }
 
     /// The numbers of the header.
@@ -84,14 +86,12 @@ impl Dict {
         &self.header
     }
 
-    /// The bytes of section `k`, from 1 to 8.
-    pub(crate) fn section(&self, k: usize) -> &[u8]
-        requires from_one { 1 ≤ k }
-        requires to_eight { k ≤ 8 }
-        ensures section { result.now ≡ section_of self.now k }
+    /// The bytes of a section.
+    pub(crate) fn section(&self, section: Section) -> &[u8]
+        ensures section { result.now ≡ section_of self.now (number_of section) }
         ensures formed { IsImage self.now }
     {
-        section(&self.bytes, &self.ends, k)
+        section_bytes(&self.bytes, &self.ends, section)
     }
 
     /// The group of a key.
@@ -119,9 +119,9 @@ impl Dict {
         ensures { result ≡ tokens_in (section_of self.now 7) (section_of self.now 8) (section_of self.now 6) i }
     {
         Entries::listed(
-            self.section(6),
-            self.section(7),
-            self.section(8),
+            self.section(Groups),
+            self.section(Tokens),
+            self.section(Features),
             i as usize,
         )
     }
@@ -132,12 +132,12 @@ impl CellRead for Dict {
     ghost cells = { λ bytes. stored_cells (section_of bytes 5) };
 
     fn len(&self) -> usize {
-        self.section(5).len() / 8
+        self.section(Cells).len() / 8
     }
 
     fn cell(&self, i: usize) -> (i32, i32) {
         ImageCells {
-            bytes: self.section(5),
+            bytes: self.section(Cells),
         }
         .cell(i)
     }

@@ -3,14 +3,15 @@ ghost use Rattle.image_bytes.specs.ImageMeaning.{image_tables};
 ghost use Rattle.dict_image.specs.Fitting.{AreBytes, AreFitting};
 
 use crate::dict::Dict;
+use image_bytes::Section;
 
 impl Dict {
     /// The tables are as a search asks for them.
     pub fn tables_fit(&self)
         ensures { AreFitting (image_tables self.now) }
     {
-        are_bytes(self.section(1));
-        are_bytes(self.section(7));
+        are_bytes(self.section(Section::Costs));
+        are_bytes(self.section(Section::Tokens));
     }
 }
 

@@ -10,6 +10,7 @@ use crate::costs::cost_at;
 use crate::dict::Dict;
 use crate::entries::Entries;
 use crate::ranges::info_at;
+use image_bytes::Section::{Categories, Costs, Features, Ranges, Tokens, UnknownIndex};
 use mj_model::{Category, CharInfo};
 
 impl Dict {
@@ -20,7 +21,12 @@ impl Dict {
         requires pair { IsTrue (is_pair (image_tables self.now).sizes prev_right next_left) }
         ensures { result ≡ (image_tables self.now).connection prev_right next_left }
     {
-        cost_at(self.section(1), self.header().sizes, prev_right, next_left)
+        cost_at(
+            self.section(Costs),
+            self.header().sizes,
+            prev_right,
+            next_left,
+        )
     }
 
     /// The categories of a character, in the time of a binary search.
@@ -29,7 +35,7 @@ impl Dict {
         ensures info { result ≡ (image_tables self.now).info c }
         ensures first { result.head < length (image_tables self.now).categories }
     {
-        info_at(self.section(3), c as u32)
+        info_at(self.section(Ranges), c as u32)
     }
 
     /// How many categories there are.
@@ -44,7 +50,7 @@ impl Dict {
         requires { i < length (image_tables self.now).categories }
         ensures { slice_get (image_tables self.now).categories i ≡ Some result }
     {
-        category_of(from_category(self.section(2), i))
+        category_of(from_category(self.section(Categories), i))
     }
 
     /// The name of category `i`.
@@ -52,7 +58,7 @@ impl Dict {
         requires { i < length (image_tables self.now).categories }
         ensures { slice_get (category_names self.now) i ≡ Some result.now }
     {
-        name_of(from_category(self.section(2), i))
+        name_of(from_category(self.section(Categories), i))
     }
 
     /// The unknown entries of category `i`. There is at least one.
@@ -61,6 +67,11 @@ impl Dict {
         ensures unknown { result ≡ (image_tables self.now).unknown i }
         ensures some { 0 < length result }
     {
-        Entries::listed(self.section(4), self.section(7), self.section(8), i)
+        Entries::listed(
+            self.section(UnknownIndex),
+            self.section(Tokens),
+            self.section(Features),
+            i,
+        )
     }
 }

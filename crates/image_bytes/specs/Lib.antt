@@ -4,3 +4,4 @@ pub mod ImageFaults
 pub mod ImageMeaning
 pub mod ImageBounds
 pub mod Headers
+pub mod Sections

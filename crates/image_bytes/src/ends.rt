@@ -2,8 +2,10 @@
 ghost use Rattle.std.specs.Prelude.{◌≡◌, ◌≤◌, ◌^◌, length, slice_range, MatchOption};
 ghost use Rattle.image_bytes.specs.ImageBytes.{header_of, section as section_of, section_end};
 ghost use Rattle.image_bytes.specs.Headers.{AreEnds};
+ghost use Rattle.image_bytes.specs.Sections.{number_of};
 
 use crate::header::{HEADER_LENGTH, Header};
+use crate::section::Section;
 
 /// Where the header and sections 1 to 8 end, in bytes; None where that is more than a `usize` holds.
 pub fn section_ends(header: &Header) -> Option<[usize; 9]>
@@ -16,14 +18,13 @@ pub fn section_ends(header: &Header) -> Option<[usize; 9]>
     Some(ends)
 }
 
-/// Section k of an image, from 1 to 8.
-pub fn section<'a>(bytes: &'a [u8], ends: &[usize; 9], k: usize) -> &'a [u8]
-    requires from_one { 1 ≤ k }
-    requires to_eight { k ≤ 8 }
+/// The bytes of a section.
+pub fn section_bytes<'a>(bytes: &'a [u8], ends: &[usize; 9], section: Section) -> &'a [u8]
     requires ends { AreEnds ends.now (header_of bytes.now) }
     requires within { section_end (header_of bytes.now) 8 ≤ length bytes.now }
-    ensures { result.now ≡ section_of bytes.now k }
+    ensures { result.now ≡ section_of bytes.now (number_of section) }
 {
+    let k = section.number();
     part(bytes, ends[k - 1], ends[k])
 }
 

@@ -6,8 +6,10 @@ mod header;
 mod image_cells;
 pub mod laws;
 mod numbers;
+mod section;
 
-pub use ends::{section, section_ends};
+pub use ends::{section_bytes, section_ends};
 pub use header::{DIGEST_LENGTH, HEADER_LENGTH, Header, LAYOUT, MAGIC, read_header};
 pub use image_cells::ImageCells;
 pub use numbers::{i16_at, i32_at, u16_at, u32_at, u64_at};
+pub use section::Section;

@@ -20,7 +20,7 @@ returns-in_err-check_system c =
     let bytes = c.args.bytes.now in
     let p = err_from_is_err_and c.from_residual-in_err-check_system.result c.from_residual-in_err-check_system.ensures.1 in
     let fault = c.in_err-check_system.field-0.0 in
-    let told = subst (λ (tests : List Test). IsFirstTold tests fault) (same_system h c.section.result.now c.section-2.result.now c.section-3.result.now c.section-4.result.now (section bytes 1) (section bytes 2) (section bytes 3) (section bytes 4) c.section.ensures c.section-2.ensures c.section-3.ensures c.section-4.ensures) c.in_err-check_system.ensures in
+    let told = subst (λ (tests : List Test). IsFirstTold tests fault) (same_system h c.section_bytes.result.now c.section_bytes-2.result.now c.section_bytes-3.result.now c.section_bytes-4.result.now (section bytes 1) (section bytes 2) (section bytes 3) (section bytes 4) c.section_bytes.ensures c.section_bytes-2.ensures c.section_bytes-3.ensures c.section_bytes-4.ensures) c.in_err-check_system.ensures in
     rw (p.1, p.2) (inr (told_later (header_tests h) (system_tests h (section bytes 1) (section bytes 2) (section bytes 3) (section bytes 4) ++ (key_tests h.groups (section bytes 5) ++ token_tests h (section bytes 6) (section bytes 7) (section bytes 8))) fault c.in_ok-check_header.ensures (told_first (system_tests h (section bytes 1) (section bytes 2) (section bytes 3) (section bytes 4)) (key_tests h.groups (section bytes 5) ++ token_tests h (section bytes 6) (section bytes 7) (section bytes 8)) fault told)))
 
 pub returns-in_err-check_keys : goal.returns-in_err-check_keys
@@ -29,8 +29,8 @@ returns-in_err-check_keys c =
     let bytes = c.args.bytes.now in
     let p = err_from_is_err_and c.from_residual-in_err-check_keys.result c.from_residual-in_err-check_keys.ensures.1 in
     let fault = c.in_err-check_keys.field-0.0 in
-    let system = subst PassAll (same_system h c.section.result.now c.section-2.result.now c.section-3.result.now c.section-4.result.now (section bytes 1) (section bytes 2) (section bytes 3) (section bytes 4) c.section.ensures c.section-2.ensures c.section-3.ensures c.section-4.ensures) c.in_ok-check_system.ensures in
-    let told = subst (λ (tests : List Test). (fault ≡ Memory) ⊎ IsFirstTold tests fault) (ap (key_tests h.groups) c.section-5.ensures) c.in_err-check_keys.ensures in
+    let system = subst PassAll (same_system h c.section_bytes.result.now c.section_bytes-2.result.now c.section_bytes-3.result.now c.section_bytes-4.result.now (section bytes 1) (section bytes 2) (section bytes 3) (section bytes 4) c.section_bytes.ensures c.section_bytes-2.ensures c.section_bytes-3.ensures c.section_bytes-4.ensures) c.in_ok-check_system.ensures in
+    let told = subst (λ (tests : List Test). (fault ≡ Memory) ⊎ IsFirstTold tests fault) (ap (key_tests h.groups) c.section_bytes-5.ensures) c.in_err-check_keys.ensures in
     rw (p.1, p.2) (elim told [
       | inl memory ↦ inl memory
       | inr first ↦ inr (told_later (header_tests h) (system_tests h (section bytes 1) (section bytes 2) (section bytes 3) (section bytes 4) ++ (key_tests h.groups (section bytes 5) ++ token_tests h (section bytes 6) (section bytes 7) (section bytes 8))) fault c.in_ok-check_header.ensures (told_later (system_tests h (section bytes 1) (section bytes 2) (section bytes 3) (section bytes 4)) (key_tests h.groups (section bytes 5) ++ token_tests h (section bytes 6) (section bytes 7) (section bytes 8)) fault system (told_first (key_tests h.groups (section bytes 5)) (token_tests h (section bytes 6) (section bytes 7) (section bytes 8)) fault first)))
@@ -42,18 +42,18 @@ returns-in_err-check_tokens c =
     let bytes = c.args.bytes.now in
     let p = err_from_is_err_and c.from_residual-in_err-check_tokens.result c.from_residual-in_err-check_tokens.ensures.1 in
     let fault = c.in_err-check_tokens.field-0.0 in
-    let system = subst PassAll (same_system h c.section.result.now c.section-2.result.now c.section-3.result.now c.section-4.result.now (section bytes 1) (section bytes 2) (section bytes 3) (section bytes 4) c.section.ensures c.section-2.ensures c.section-3.ensures c.section-4.ensures) c.in_ok-check_system.ensures in
-    let keys = subst PassAll (ap (key_tests h.groups) c.section-5.ensures) c.in_ok-check_keys.ensures in
-    let told = subst (λ (tests : List Test). IsFirstTold tests fault) (same_tokens h c.section-6.result.now c.section-7.result.now c.section-8.result.now (section bytes 6) (section bytes 7) (section bytes 8) c.section-6.ensures c.section-7.ensures c.section-8.ensures) c.in_err-check_tokens.ensures in
+    let system = subst PassAll (same_system h c.section_bytes.result.now c.section_bytes-2.result.now c.section_bytes-3.result.now c.section_bytes-4.result.now (section bytes 1) (section bytes 2) (section bytes 3) (section bytes 4) c.section_bytes.ensures c.section_bytes-2.ensures c.section_bytes-3.ensures c.section_bytes-4.ensures) c.in_ok-check_system.ensures in
+    let keys = subst PassAll (ap (key_tests h.groups) c.section_bytes-5.ensures) c.in_ok-check_keys.ensures in
+    let told = subst (λ (tests : List Test). IsFirstTold tests fault) (same_tokens h c.section_bytes-6.result.now c.section_bytes-7.result.now c.section_bytes-8.result.now (section bytes 6) (section bytes 7) (section bytes 8) c.section_bytes-6.ensures c.section_bytes-7.ensures c.section_bytes-8.ensures) c.in_err-check_tokens.ensures in
     rw (p.1, p.2) (inr (told_later (header_tests h) (system_tests h (section bytes 1) (section bytes 2) (section bytes 3) (section bytes 4) ++ (key_tests h.groups (section bytes 5) ++ token_tests h (section bytes 6) (section bytes 7) (section bytes 8))) fault c.in_ok-check_header.ensures (told_later (system_tests h (section bytes 1) (section bytes 2) (section bytes 3) (section bytes 4)) (key_tests h.groups (section bytes 5) ++ token_tests h (section bytes 6) (section bytes 7) (section bytes 8)) fault system (told_later (key_tests h.groups (section bytes 5)) (token_tests h (section bytes 6) (section bytes 7) (section bytes 8)) fault keys told))))
 
 pub returns : goal.returns
 returns c =
     let h = c.args.header.now in
     let bytes = c.args.bytes.now in
-    let system = subst PassAll (same_system h c.section.result.now c.section-2.result.now c.section-3.result.now c.section-4.result.now (section bytes 1) (section bytes 2) (section bytes 3) (section bytes 4) c.section.ensures c.section-2.ensures c.section-3.ensures c.section-4.ensures) c.in_ok-check_system.ensures in
-    let keys = subst PassAll (ap (key_tests h.groups) c.section-5.ensures) c.in_ok-check_keys.ensures in
-    let tokens = subst PassAll (same_tokens h c.section-6.result.now c.section-7.result.now c.section-8.result.now (section bytes 6) (section bytes 7) (section bytes 8) c.section-6.ensures c.section-7.ensures c.section-8.ensures) c.in_ok-check_tokens.ensures in
+    let system = subst PassAll (same_system h c.section_bytes.result.now c.section_bytes-2.result.now c.section_bytes-3.result.now c.section_bytes-4.result.now (section bytes 1) (section bytes 2) (section bytes 3) (section bytes 4) c.section_bytes.ensures c.section_bytes-2.ensures c.section_bytes-3.ensures c.section_bytes-4.ensures) c.in_ok-check_system.ensures in
+    let keys = subst PassAll (ap (key_tests h.groups) c.section_bytes-5.ensures) c.in_ok-check_keys.ensures in
+    let tokens = subst PassAll (same_tokens h c.section_bytes-6.result.now c.section_bytes-7.result.now c.section_bytes-8.result.now (section bytes 6) (section bytes 7) (section bytes 8) c.section_bytes-6.ensures c.section_bytes-7.ensures c.section_bytes-8.ensures) c.in_ok-check_tokens.ensures in
     pass_both (header_tests h) (system_tests h (section bytes 1) (section bytes 2) (section bytes 3) (section bytes 4) ++ (key_tests h.groups (section bytes 5) ++ token_tests h (section bytes 6) (section bytes 7) (section bytes 8))) c.in_ok-check_header.ensures
     (pass_both (system_tests h (section bytes 1) (section bytes 2) (section bytes 3) (section bytes 4)) (key_tests h.groups (section bytes 5) ++ token_tests h (section bytes 6) (section bytes 7) (section bytes 8)) system
     (pass_both (key_tests h.groups (section bytes 5)) (token_tests h (section bytes 6) (section bytes 7) (section bytes 8)) keys tokens))
