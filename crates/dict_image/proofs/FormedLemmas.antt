@@ -1,7 +1,7 @@
 -- What a well-formed image gives, test by test.
 use Rattle.std.proofs.Common.{◌≡◌, ℕ, ◌*◌, ◌<◌, ◌≤◌, List, length, refl, arith, subst}
 use Rattle.double_array.specs.CellRules.{AreCells}
-use Rattle.image_bytes.specs.ImageBytes.{header_of, header_length, kind_of, all_tokens, section, section_end, total_length}
+use Rattle.image_bytes.specs.ImageBytes.{header_of, kind_of, all_tokens, section, section_end, total_length}
 use Rattle.image_bytes.specs.ImageFaults.{IsWellFormed, IsHeader, AreCounts, SystemAlone}
 use Rattle.image_bytes.specs.ImageSections.{AreCosts, AreCategories, AreRanges, IsIndex, stored_cells, stored_token, FitsSizes}
 use Rattle.mj_model.specs.Tables.{Kind, System, User}
@@ -15,10 +15,6 @@ is_formed bytes w = w
 pub from_formed : (bytes : List ℕ) → IsWellFormed bytes → IsImage bytes
 unfolding IsImage
 from_formed bytes w = w
-
-pub header_within : (bytes : List ℕ) → IsImage bytes → header_length ≤ length bytes
-unfolding IsImage
-header_within bytes w = w.0
 
 pub sections_within : (bytes : List ℕ) → IsImage bytes → section_end (header_of bytes) 8 ≤ length bytes
 unfolding IsImage

@@ -1,9 +1,10 @@
 //! Whether bytes are a well-formed image: each test in its order, and the first fault.
-ghost use Rattle.std.specs.Prelude.{◌≡◌, ◌⊎◌, ◌≤◌, length, OnOk, IfErr, MatchResult};
+ghost use Rattle.std.specs.Prelude.{◌≡◌, ◌⊎◌, ◌≤◌, length, IfOk, IfErr, MatchResult};
 ghost use Rattle.image_bytes.specs.ImageBytes.{header_of, section_end};
-ghost use Rattle.image_bytes.specs.ImageFaults.{IsWellFormed, IsImageFault, PassAll, IsFirstTold};
+ghost use Rattle.image_bytes.specs.ImageFaults.{IsImageFault, PassAll, IsFirstTold};
 ghost use Rattle.mj_model.specs.declared.image_fault.ImageFault.TheVariants.{Memory};
 ghost use Rattle.image_bytes.specs.Headers.{AreEnds};
+ghost use Rattle.dict_image.specs.Held.{IsDict};
 ghost use Rattle.dict_image.specs.Stages.{section_tests};
 
 mod categories;
@@ -26,16 +27,24 @@ use image_bytes::{Header, Section, section_bytes};
 use mj_model::ImageFault;
 use std::alloc::Global;
 
-/// Whether bytes are a well-formed image, or the first fault of its tests in their order.
+/// Where the parts of a well-formed image lie: its header, and where the header and sections 1 to 8 end.
+#[derive(Clone, Copy, Drop)]
+pub(crate) struct Outline {
+    pub header: Header,
+    pub ends: [usize; 9],
+}
+
+/// The outline of a well-formed image, or the first fault of its tests in their order.
 ///
 /// It takes memory for a number of 4 bytes a group and for the bytes of one key.
-pub(crate) fn check_image(alloc: Global, bytes: &[u8]) -> Result<(), ImageFault>
-    ensures accepted { OnOk result (IsWellFormed bytes.now) }
+pub(crate) fn check_image(alloc: Global, bytes: &[u8]) -> Result<Outline, ImageFault>
+    ensures accepted { IfOk result (λ outline. IsDict bytes.now outline.header outline.ends) }
     ensures refused { IfErr result (λ fault. (fault ≡ Memory) ⊎ IsImageFault bytes.now fault) }
 {
     let header = check_front(bytes)?;
     let ends = check_ends(bytes, &header)?;
-    check_sections(alloc, bytes, &header, &ends)
+    check_sections(alloc, bytes, &header, &ends)?;
+    Ok(Outline { header, ends })
 }
 
 /// The tests of the header's numbers and of each section.

@@ -1,5 +1,5 @@
 //! A dictionary: the bytes of a well-formed image.
-ghost use Rattle.std.specs.Prelude.{◌≡◌, ℕ, ◌<◌, ◌≤◌, List};
+ghost use Rattle.std.specs.Prelude.{◌≡◌, ℕ, ◌<◌, List};
 ghost use Rattle.double_array.specs.CellMap.{prefixes_of, value_of};
 ghost use Rattle.image_bytes.specs.ImageBytes.{all_tokens, header_of, section as section_of};
 ghost use Rattle.image_bytes.specs.ImageFaults.{IsWellFormed};
@@ -7,14 +7,15 @@ ghost use Rattle.image_bytes.specs.ImageMeaning.{image_tables, image_token, toke
 ghost use Rattle.image_bytes.specs.ImageSections.{stored_cells};
 ghost use Rattle.mj_model.specs.Overlays.{is_user};
 ghost use Rattle.image_bytes.specs.Sections.{number_of};
-ghost use Rattle.dict_image.specs.Held.{IsImage};
+ghost use Rattle.dict_image.specs.Held.{IsDict, IsImage};
 ghost use Rattle.dict_image.specs.Seen.{token_seen};
 
+use crate::check::Outline;
 use crate::entries::Entries;
 use crate::entry_ref::{EntryRef, token_at};
 use double_array::{CellRead, Prefixes as Hits, get, prefixes};
 use image_bytes::Section::{Cells, Features, Groups, Tokens};
-use image_bytes::{Header, ImageCells, Section, read_header, section_bytes, section_ends};
+use image_bytes::{Header, ImageCells, Section, section_bytes};
 use mj_model::MatrixSizes;
 use std::marker::Model;
 
@@ -39,15 +40,12 @@ impl Model for Dict {
 }
 
 impl Dict {
-    /// The dictionary of a well-formed image. It takes no memory.
-    pub(crate) fn over(bytes: Vec<u8>) -> Dict
-        requires { IsWellFormed bytes.items }
+    /// The dictionary of a well-formed image with its outline. It takes no memory.
+    pub(crate) fn over(bytes: Vec<u8>, outline: Outline) -> Dict
+        requires { IsDict bytes.items outline.header outline.ends }
         ensures { result ≡ bytes.items }
     {
-        let header = read_header(&bytes);
-        let Some(ends) = section_ends(&header) else {
-            unreachable!()
-        };
+        let Outline { header, ends } = outline;
         Dict {
             bytes,
             header,

@@ -14,6 +14,6 @@ pub fn load(alloc: Global, bytes: Vec<u8>) -> Result<Dict, ImageFault>
     ensures accepted { IfOk result (λ _. IsWellFormed bytes.items) }
     ensures refused { IfErr result (λ fault. (fault ≡ Memory) ⊎ IsImageFault bytes.items fault) }
 {
-    check_image(alloc, &bytes)?;
-    Ok(Dict::over(bytes))
+    let outline = check_image(alloc, &bytes)?;
+    Ok(Dict::over(bytes, outline))
 }

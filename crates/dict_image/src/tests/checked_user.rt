@@ -19,32 +19,32 @@ fn changes_before_the_digest(rt: HostRuntime) -> Result<(), Fail> {
     assert_eq!(rt; body.len(), 929);
     #[rattlefmt::skip]
     let rows: [(&str, &[Change<'_>], _); 21] = [
-        // (what, bytes from a place on, the answer)
-        ("no change",                    &[],                              Ok(())),
-        ("magic",                        &[(0, b"m")],                     Err(BadMagic)),
-        ("layout 1",                     &[(8, b"\x01")],                  Err(BadLayout(1))),
-        ("layout 4",                     &[(8, b"\x04")],                  Err(BadLayout(4))),
-        ("section 1 has 2^64 - 1 bytes", &[(40, &[0xff; 8])],              Err(Truncated)),
-        ("kind 2",                       &[(12, b"\x02")],                 Err(BadSection(0))),
-        ("no right ids",                 &[(16, b"\0")],                   Err(BadSection(0))),
-        ("a category",                   &[(24, b"\x01")],                 Err(BadSection(0))),
-        ("more groups than tokens",      &[(28, b"\x02")],                 Err(BadSection(0))),
-        ("cell 1 is (-1, 98)",           &[(116, b"\x62")],                Err(BadSection(5))),
-        ("cell 1 is (-2, 99)",           &[(112, b"\xfe")],                Err(BadSection(5))),
-        ("cell 1 is (0, -1)",            &[(112, b"\0\0\0\0\xff\xff\xff\xff")], Err(BadSection(5))),
-        ("cell 99 is (1, 99)",           &[(900, b"\x63")],                Err(BadKey(0))),
-        ("cell 0 is (1, 0)",             &[(108, b"\0\0\0\0")],            Err(BadSection(5))),
-        ("value 0 in cell 2 too", &[(120, b"\xff\xff\xff\xff\x62\0\0\0"), (888, b"\x02\0\0\0\0\0\0\0")], Err(BadSection(5))),
-        ("cell 1 behind the root",       &[(116, b"\0\0\0\0")],            Err(BadKey(0))),
-        ("group 0 from token 1",         &[(904, b"\x01")],                Err(BadSection(6))),
-        ("left id 2",                    &[(912, b"\x02")],                Err(BadToken(0))),
-        ("right id 2",                   &[(914, b"\x02")],                Err(BadToken(0))),
-        ("spare bytes",                  &[(918, b"\x01")],                Err(BadToken(0))),
-        ("feature length 2",             &[(924, b"\x02")],                Err(BadText(0))),
+        // (what, bytes from a place on, the fault)
+        ("no change",                    &[],                              None),
+        ("magic",                        &[(0, b"m")],                     Some(BadMagic)),
+        ("layout 1",                     &[(8, b"\x01")],                  Some(BadLayout(1))),
+        ("layout 4",                     &[(8, b"\x04")],                  Some(BadLayout(4))),
+        ("section 1 has 2^64 - 1 bytes", &[(40, &[0xff; 8])],              Some(Truncated)),
+        ("kind 2",                       &[(12, b"\x02")],                 Some(BadSection(0))),
+        ("no right ids",                 &[(16, b"\0")],                   Some(BadSection(0))),
+        ("a category",                   &[(24, b"\x01")],                 Some(BadSection(0))),
+        ("more groups than tokens",      &[(28, b"\x02")],                 Some(BadSection(0))),
+        ("cell 1 is (-1, 98)",           &[(116, b"\x62")],                Some(BadSection(5))),
+        ("cell 1 is (-2, 99)",           &[(112, b"\xfe")],                Some(BadSection(5))),
+        ("cell 1 is (0, -1)",            &[(112, b"\0\0\0\0\xff\xff\xff\xff")], Some(BadSection(5))),
+        ("cell 99 is (1, 99)",           &[(900, b"\x63")],                Some(BadKey(0))),
+        ("cell 0 is (1, 0)",             &[(108, b"\0\0\0\0")],            Some(BadSection(5))),
+        ("value 0 in cell 2 too", &[(120, b"\xff\xff\xff\xff\x62\0\0\0"), (888, b"\x02\0\0\0\0\0\0\0")], Some(BadSection(5))),
+        ("cell 1 behind the root",       &[(116, b"\0\0\0\0")],            Some(BadKey(0))),
+        ("group 0 from token 1",         &[(904, b"\x01")],                Some(BadSection(6))),
+        ("left id 2",                    &[(912, b"\x02")],                Some(BadToken(0))),
+        ("right id 2",                   &[(914, b"\x02")],                Some(BadToken(0))),
+        ("spare bytes",                  &[(918, b"\x01")],                Some(BadToken(0))),
+        ("feature length 2",             &[(924, b"\x02")],                Some(BadText(0))),
     ];
     for (what, changes, expected) in rows {
         let bytes = sealed(rt.alloc(), &changed(rt.alloc(), &body, changes)?)?;
-        assert_eq!(rt; check_image(rt.alloc(), &bytes), expected, "{what}");
+        assert_eq!(rt; check_image(rt.alloc(), &bytes).err(), expected, "{what}");
     }
     Ok(())
 }
@@ -64,7 +64,11 @@ fn changes_behind_the_digest(rt: HostRuntime) -> Result<(), Fail> {
     ];
     for (what, change) in rows {
         let damaged = changed(rt.alloc(), &bytes, &[change])?;
-        assert_eq!(rt; check_image(rt.alloc(), &damaged), Err(Digest), "{what}");
+        assert_eq!(rt;
+            check_image(rt.alloc(), &damaged).err(),
+            Some(Digest),
+            "{what}"
+        );
     }
     Ok(())
 }
@@ -75,10 +79,14 @@ fn other_lengths(rt: HostRuntime) -> Result<(), Fail> {
     let mut bytes = sealed(alloc, &one_surface(alloc)?)?;
     for length in [0_usize, 103, 104, 928, 929, 960] {
         let front = bytes.get(..length).unwrap_or(b"");
-        assert_eq!(rt; check_image(alloc, front), Err(Truncated), "{length}");
+        assert_eq!(rt;
+            check_image(alloc, front).err(),
+            Some(Truncated),
+            "{length}"
+        );
     }
     bytes.push(0)?;
-    assert_eq!(rt; check_image(alloc, &bytes), Err(BadSection(9)));
-    assert_eq!(rt; check_image(alloc, &FIRST_LAYOUT), Err(BadLayout(1)));
+    assert_eq!(rt; check_image(alloc, &bytes).err(), Some(BadSection(9)));
+    assert_eq!(rt; check_image(alloc, &FIRST_LAYOUT).err(), Some(BadLayout(1)));
     Ok(())
 }

@@ -1,17 +1,19 @@
 use Rattle.std.proofs.Common.{◌≡◌, ◌⊎◌, List, ℕ, subst}
 use Rattle.std.proofs.lemmas.Result.{err_from_is_err_and}
-use Rattle.image_bytes.specs.ImageFaults.{IsImageFault, IsWellFormed}
 use Rattle.mj_model.specs.declared.image_fault.ImageFault.TheVariants.{Memory}
+use Rattle.image_bytes.specs.ImageFaults.{IsImageFault, IsWellFormed}
+use Rattle.dict_image.specs.Held.{IsDict}
+use Rattle.dict_image.proofs.FormedLemmas.{is_formed}
 use Rattle.dict_image.proofs.loading.load.Goals as goal
 
 pub over-requires : goal.over-requires
-over-requires c = subst IsWellFormed c.deref.ensures.value c.in_ok-check_image.ensures.accepted
+over-requires c = subst (λ (bytes : List ℕ). IsDict bytes c.in_ok-outline.outline.header c.in_ok-outline.outline.ends) c.deref.ensures.value c.in_ok-outline.ensures.accepted
 
 pub returns-clause-accepted : goal.returns-clause-accepted
-returns-clause-accepted c = subst IsWellFormed c.deref.ensures.value c.in_ok-check_image.ensures.accepted
+returns-clause-accepted c = subst IsWellFormed c.deref.ensures.value (is_formed c.deref.result.now c.in_ok-outline.ensures.accepted.formed)
 
-pub returns-in_err-check_image-clause-refused : goal.returns-in_err-check_image-clause-refused
-returns-in_err-check_image-clause-refused c =
+pub returns-in_err-outline-clause-refused : goal.returns-in_err-outline-clause-refused
+returns-in_err-outline-clause-refused c =
     let p = err_from_is_err_and c.from_residual.result c.from_residual.ensures.1 in
-    let fault = c.in_err-check_image.field-0.0 in
-    rw (p.1, p.2) (subst (λ (bytes : List ℕ). (fault ≡ Memory) ⊎ IsImageFault bytes fault) c.deref.ensures.value c.in_err-check_image.ensures.refused)
+    let fault = c.in_err-outline.field-0.0 in
+    rw (p.1, p.2) (subst (λ (bytes : List ℕ). (fault ≡ Memory) ⊎ IsImageFault bytes fault) c.deref.ensures.value c.in_err-outline.ensures.refused)
