@@ -7,6 +7,7 @@ ghost use Rattle.image_bytes.specs.ImageMeaning.{image_tables, image_token, toke
 ghost use Rattle.image_bytes.specs.ImageSections.{stored_cells};
 ghost use Rattle.mj_model.specs.Overlays.{is_user};
 ghost use Rattle.image_bytes.specs.Sections.{number_of};
+ghost use Rattle.dict_image.specs.Fitting.{AreFitting};
 ghost use Rattle.dict_image.specs.Held.{IsDict, IsImage};
 ghost use Rattle.dict_image.specs.Seen.{token_seen};
 
@@ -30,6 +31,7 @@ pub struct Dict {
 
 impl Model for Dict {
     ghost use Rattle.std.specs.Prelude.{ℕ, List};
+    ghost use Rattle.dict_image.specs.Fitting.{AreFitting};
     ghost use Rattle.dict_image.specs.Held.{IsDict};
 
     ghost Value = { List ℕ };
@@ -61,10 +63,13 @@ impl Dict {
         self.header().kind == 1
     }
 
-    /// How many right ids and left ids its connection table has.
+    /// How many right ids and left ids its connection table has. Of each dictionary it is true besides that its tables are as a
+    /// search asks for them.
     pub fn matrix_sizes(&self) -> MatrixSizes
-        ensures { result ≡ (image_tables self.now).sizes }
+        ensures sizes { result ≡ (image_tables self.now).sizes }
+        ensures fitting { AreFitting (image_tables self.now) }
     {
+        self.tables_fit();
         self.header().sizes
     }
 

@@ -1,4 +1,4 @@
-//! Laws of the tables of every dictionary.
+//! What is true of the tables of every dictionary.
 ghost use Rattle.image_bytes.specs.ImageMeaning.{image_tables};
 ghost use Rattle.dict_image.specs.Fitting.{AreBytes, AreFitting};
 
@@ -7,7 +7,7 @@ use image_bytes::Section;
 
 impl Dict {
     /// The tables are as a search asks for them.
-    pub fn tables_fit(&self)
+    pub(crate) fn tables_fit(&self)
         ensures { AreFitting (image_tables self.now) }
     {
         are_bytes(self.section(Section::Costs));

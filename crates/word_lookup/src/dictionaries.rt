@@ -48,7 +48,6 @@ impl<'a> Dictionaries<'a> {
             return Err(OverlayFault::NotSystem);
         }
         check_users(users, system.matrix_sizes())?;
-        system.tables_fit();
         Ok(Dictionaries {
             system,
             users,

@@ -33,6 +33,5 @@ fn check_user(user: &Dict, i: usize, sizes: MatrixSizes) -> Result<(), OverlayFa
     if right != sizes.right || left != sizes.left {
         return Err(OverlayFault::OtherSizes(i));
     }
-    user.tables_fit();
     Ok(())
 }

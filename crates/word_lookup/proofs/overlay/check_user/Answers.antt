@@ -10,8 +10,8 @@ returns-then-right-sizes-clause-refused c = λ others.
     let t = image_tables c.args.user.now in
     let user = sym c.is_user.ensures.kind ∙ c.if-not-is_user.false in
     other_sizes c.args.sizes c.args.i t others user (elim c.then-right-sizes.branch [
-      | then-right-sizes-via-then-right-sizes w ↦ right_differs t.sizes c.args.sizes _ (ap (λ (s : MatrixSizes). s.right) c.matrix_sizes-right.ensures) w.if-right-sizes.true
-      | then-right-sizes-via-else-right-sizes+then-left-sizes w ↦ left_differs t.sizes c.args.sizes _ (ap (λ (s : MatrixSizes). s.left) c.matrix_sizes-right.ensures) w.if-left-sizes.true
+      | then-right-sizes-via-then-right-sizes w ↦ right_differs t.sizes c.args.sizes _ (ap (λ (s : MatrixSizes). s.right) c.matrix_sizes-right.ensures.sizes) w.if-right-sizes.true
+      | then-right-sizes-via-else-right-sizes+then-left-sizes w ↦ left_differs t.sizes c.args.sizes _ (ap (λ (s : MatrixSizes). s.left) c.matrix_sizes-right.ensures.sizes) w.if-left-sizes.true
     ])
 
 pub returns-clause-accepted : goal.returns-clause-accepted
@@ -19,6 +19,6 @@ returns-clause-accepted c =
     let t = image_tables c.args.user.now in
     record {
       is_users = sym c.is_user.ensures.kind ∙ c.if-not-is_user.false;
-      same_sizes = same t.sizes c.args.sizes _ _ (ap (λ (s : MatrixSizes). s.right) c.matrix_sizes-right.ensures) (ap (λ (s : MatrixSizes). s.left) c.matrix_sizes-right.ensures) c.if-right-sizes.false c.if-left-sizes.false;
-      fits = c.tables_fit.ensures;
+      same_sizes = same t.sizes c.args.sizes _ _ (ap (λ (s : MatrixSizes). s.right) c.matrix_sizes-right.ensures.sizes) (ap (λ (s : MatrixSizes). s.left) c.matrix_sizes-right.ensures.sizes) c.if-right-sizes.false c.if-left-sizes.false;
+      fits = c.matrix_sizes-right.ensures.fitting;
     }

@@ -11,18 +11,18 @@ unfolding overlay_of
 returns-in_err-check_users-clause-refused c =
     let p = err_from_is_err_and c.from_residual.result c.from_residual.ensures.1 in
     rw (p.1, p.2) (overlay_found (image_tables c.args.system.now) (map image_tables c.args.users.now) c.matrix_sizes.result _ (sym c.is_user.ensures.kind ∙ c.if-is_user.false)
-    c.matrix_sizes.ensures c.in_err-check_users.ensures.refused)
+    c.matrix_sizes.ensures.sizes c.in_err-check_users.ensures.refused)
 
 pub invariant_of-result : goal.invariant_of-result
 unfolding overlay_of
 invariant_of-result c = record {
-  fitting = overlay_is (image_tables c.args.system.now) (map image_tables c.args.users.now) c.matrix_sizes.result (sym c.is_user.ensures.kind ∙ c.if-is_user.false) c.tables_fit.ensures
-      c.matrix_sizes.ensures c.in_ok-check_users.ensures.accepted;
+  fitting = overlay_is (image_tables c.args.system.now) (map image_tables c.args.users.now) c.matrix_sizes.result (sym c.is_user.ensures.kind ∙ c.if-is_user.false) c.matrix_sizes.ensures.fitting
+      c.matrix_sizes.ensures.sizes c.in_ok-check_users.ensures.accepted;
 }
 
 pub returns-clause-accepted : goal.returns-clause-accepted
 unfolding overlay_of
 returns-clause-accepted c =
     let users = map image_tables c.args.users.now in
-    overlay_found (image_tables c.args.system.now) users c.matrix_sizes.result None (sym c.is_user.ensures.kind ∙ c.if-is_user.false) c.matrix_sizes.ensures
+    overlay_found (image_tables c.args.system.now) users c.matrix_sizes.result None (sym c.is_user.ensures.kind ∙ c.if-is_user.false) c.matrix_sizes.ensures.sizes
     (no_user_fault c.matrix_sizes.result 0 users c.in_ok-check_users.ensures.accepted)

@@ -8,4 +8,4 @@ use Rattle.word_lookup.proofs.tests.overlays.cost_of.Goals as goal
 pub cost-requires : goal.cost-requires
 cost-requires c =
     let same = ap (λ (o : Overlay). o.system.sizes) c.in_ok-dictionaries.ensures.overlay in
-    subst (λ (s : MatrixSizes). IsTrue (is_pair s c.args.right c.args.left)) (c.matrix_sizes.ensures ∙ sym same) (sym c.contains.ensures ∙ c.if-contains.true)
+    subst (λ (s : MatrixSizes). IsTrue (is_pair s c.args.right c.args.left)) (c.matrix_sizes.ensures.sizes ∙ sym same) (sym c.contains.ensures ∙ c.if-contains.true)
