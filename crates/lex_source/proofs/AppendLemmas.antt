@@ -1,8 +1,8 @@
 -- The records that a lexicon appends, line by line.
-use Rattle.std.proofs.Common.{◌≡◌, ℕ, ◌+◌, ◌<◌, Bool, true, false, cond, Fits, w64, List, [], ◌∷◌, ◌++◌, length, take, refl, sym, ◌∙◌, ap, subst, arith, ◌⊎◌, inl, inr, length-append, append_assoc}
+use Rattle.std.proofs.Common.{◌≡◌, ℕ, ◌+◌, ◌<◌, Bool, true, false, cond, Fits, w64, List, [], ◌∷◌, ◌++◌, length, refl, sym, ◌∙◌, ap, subst, arith, ◌⊎◌, inl, inr, length-append, append_assoc}
 use Rattle.std.specs.Prelude.{Ok, Err}
 use mir.Val.{bool_byte}
-use Rattle.std.proofs.lemmas.List.{append-nil, map-append, length-map, take_at}
+use Rattle.std.proofs.lemmas.List.{append-nil, map-append, length-map}
 use Rattle.mj_model.specs.declared.entry.Record.{Record}
 use Rattle.mj_model.specs.declared.source_fault.SourceKind.{SourceKind}
 use Rattle.mj_model.specs.declared.source_fault.SourceKind.TheVariants.{Memory}
@@ -46,9 +46,6 @@ pub finished : (old now : List Record) (bytes : List ℕ) (lines : List (ℕ × 
     → (rows : List Row) × IsLexicon file (length old) bytes (Ok (record { rows = rows; skipped = skipped })) × (rows_of now ≡ rows_of old ++ rows)
 finished old now bytes lines file skipped r is =
     (rows_of r.more, all_read lexicon_outcome file (length old) bytes lines (rows_of r.more) skipped is r.read, ap rows_of r.appended ∙ map-append row_of old r.more)
-
-pub begins : (old now : List Record) (all left : List (ℕ × List ℕ)) (skipped : ℕ) → HasRead old now all left skipped → take (length old) now ≡ old
-begins old now all left skipped r = ap (λ (xs : List Record). take (length old) xs) r.appended ∙ take_at old r.more (length old) refl
 
 -- what a truth value counts
 pub counted_is : (b : Bool) → bool_byte b ≡ cond b 1 0

@@ -1,5 +1,5 @@
 -- The first line of a source and those behind it.
-use Rattle.std.proofs.Common.{◌≡◌, ℕ, ◌+◌, ◌<◌, Bool, false, List, [], ◌∷◌, length, drop, refl, sym, ◌∙◌, ap, arith, inl, inr, length-drop}
+use Rattle.std.proofs.Common.{◌≡◌, ℕ, ◌<◌, Bool, false, List, [], ◌∷◌, length, refl, sym, ◌∙◌, ap, arith, inl, inr}
 use Rattle.std.specs.Prelude.{map}
 use Rattle.std.specs.List.{list_any, position_or_len, after_first, slice_split, onto_first}
 use Rattle.std.proofs.lemmas.Bool.{cases_Bool, or_parts}
@@ -33,12 +33,6 @@ before_more (c ∷ cs) next more = refl
 before_pieces : (piece : List ℕ) (parts : List (List ℕ)) → IsPieces parts → without_last_empty (piece ∷ parts) ≡ piece ∷ without_last_empty parts
 before_pieces piece parts p =
     ap (λ (ps : List (List ℕ)). without_last_empty (piece ∷ ps)) p.is ∙ before_more piece p.first p.more ∙ sym (ap (λ (ps : List (List ℕ)). piece ∷ without_last_empty ps) p.is)
-
-pub cut_shorter : (test : ℕ → Bool) (bytes before behind : List ℕ) → IsCut test bytes before behind → length behind < length bytes
-cut_shorter test bytes before behind cut =
-    let in' : position_or_len test bytes < length bytes = any_within test bytes cut.found in
-    let e : length behind ≡ length (drop (position_or_len test bytes + 1) bytes) = ap (λ (xs : List ℕ). length xs) cut.behind_is in
-    omega (arith, length-drop {A = ℕ})
 
 pub cut_lines : (bytes before behind line : List ℕ) → IsCut is_line_feed bytes before behind → line ≡ without_return before → source_lines bytes ≡ line ∷ source_lines behind
 cut_lines bytes before behind line cut is =

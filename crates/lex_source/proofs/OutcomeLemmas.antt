@@ -13,7 +13,7 @@ use Rattle.mj_model.specs.Lexicon.{Row, Parts, Outcome, Skipped, Refused, Accept
 use Rattle.lex_source.specs.declared.parts.LineParts.{LineParts}
 use Rattle.lex_source.specs.Spelled.{IsSpelled, HasFewFields, HasEntry}
 use Rattle.lex_source.specs.Steps.{accept_any, row_outcome}
-use Rattle.lex_source.proofs.QuoteLemmas.{doubled_quote, doubled_other}
+use Rattle.mj_model.proofs.FieldLemmas.{doubled_quote, doubled_other}
 use Rattle.lex_source.proofs.NumberLemmas.{number_spelled}
 
 pub id_spelled : (raw : List ℕ) (quoted : Bool) (field : List ℕ) → IsSpelled raw quoted field → context_id raw ≡ context_id field

@@ -1,14 +1,16 @@
 -- Fields between quotes: what doubles a quote, where the closing quote stands, and how a doubled text is read back.
-use Rattle.std.proofs.Common.{◌≡◌, ℕ, ◌+◌, ◌-◌, ◌<◌, ◌≤◌, Bool, false, cond, List, [], ◌∷◌, ◌++◌, length, take, drop, get_or, refl, sym, ◌∙◌, ap, subst, arith, inl, inr, length-take, length-drop, append_assoc}
+use Rattle.std.proofs.Common.{◌≡◌, ℕ, ◌+◌, ◌-◌, ◌<◌, ◌≤◌, false, cond, List, [], ◌∷◌, ◌++◌, length, take, drop, get_or, refl, sym, ◌∙◌, ap, subst, arith, inl, inr, length-take, length-drop, append_assoc}
 use Rattle.std.specs.Prelude.{slice_index, min}
 use Rattle.std.specs.List.{list_any}
-use Rattle.std.proofs.lemmas.Bool.{or_parts, ne_eqb, eq-eqb, eqb-false, eqb-true, cases_eq, cases_lt}
-use Rattle.std.proofs.lemmas.List.{take-append-le, get_or_default, get_or-take, get_or-drop, take_more, take-append-drop, take-take, drop-take, drop_more, drop_all, take_all}
+use Rattle.std.proofs.lemmas.Bool.{or_parts, ne_eqb, eq-eqb, eqb-false, eqb-true, cases_eq}
+use Rattle.std.proofs.lemmas.List.{take-append-le, get_or_default, get_or-take, get_or-drop, take_more, take-append-drop, take-take, drop-take}
 use Rattle.std.proofs.lemmas.List.Folds.{list_any_none}
 use Rattle.std.proofs.lemmas.Grind.{flat_map-append}
 use Rattle.memchr.specs.Find.{Nowhere, NoneBefore, Passes}
 use Rattle.mj_model.specs.Bytes.{quote, is_quote}
-use Rattle.mj_model.specs.Fields.{doubled, BeginsWithQuote}
+use Rattle.mj_model.specs.Fields.{doubled}
+use Rattle.mj_model.proofs.Basics.{same_head, same_tail}
+use Rattle.mj_model.proofs.FieldLemmas.{doubled_quote, doubled_other}
 use Rattle.lex_source.specs.Cuts.{IsCut}
 use Rattle.lex_source.specs.Spelled.{IsDoubled, IsNextQuote}
 use Rattle.lex_source.proofs.CutLemmas.{cut_parts}
@@ -19,12 +21,6 @@ of_byte c = cond (is_quote c) (quote ∷ quote ∷ []) (c ∷ [])
 doubled-append : (xs ys : List ℕ) → doubled (xs ++ ys) ≡ doubled xs ++ doubled ys
 unfolding of_byte
 doubled-append xs ys = flat_map-append of_byte xs ys
-
-pub doubled_quote : (c : ℕ) (cs : List ℕ) → c ≡ quote → doubled (c ∷ cs) ≡ quote ∷ quote ∷ doubled cs
-doubled_quote c cs e = ap (λ (b : Bool). cond b (quote ∷ quote ∷ []) (c ∷ []) ++ doubled cs) (eq-eqb c quote e)
-
-pub doubled_other : (c : ℕ) (cs : List ℕ) → (c ≡ quote → ⊥) → doubled (c ∷ cs) ≡ c ∷ doubled cs
-doubled_other c cs e = ap (λ (b : Bool). cond b (quote ∷ quote ∷ []) (c ∷ []) ++ doubled cs) (ne_eqb c quote e)
 
 -- without a quote nothing is doubled
 pub doubled_plain : (xs : List ℕ) → list_any is_quote xs ≡ false → doubled xs ≡ xs
@@ -100,47 +96,22 @@ doubled_more text at next inside in' one two more =
           ∙ ap (λ (xs : List ℕ). xs ++ quote ∷ quote ∷ doubled piece) inside.1 ∙ sym (doubled-append inside.0 (quote ∷ piece)),
     )
 
--- where what follows a place begins with a quote, that quote stands there
-pub begins_at : (text : List ℕ) (i : ℕ) → BeginsWithQuote (drop i text) → (i < length text) × (slice_index text i ≡ quote)
-begins_at text i h = elim (cases_lt i (length text)) [
-  | inl in' ↦ (in', subst BeginsWithQuote (drop_more text i 0 in') h)
-  | inr out ↦ absurd (subst BeginsWithQuote (drop_all i text out) h)
-]
-
-pub begins_first : (text : List ℕ) → BeginsWithQuote text → (0 < length text) × (slice_index text 0 ≡ quote)
-begins_first [] h = absurd h
-begins_first (c ∷ cs) h = (omega arith, h)
-
--- a text around a quote
-pub around : (text : List ℕ) (at : ℕ) → at < length text → slice_index text at ≡ quote → text ≡ take at text ++ quote ∷ drop (at + 1) text
-around text at in' here = sym (take-append-drop at text) ∙ ap (λ (xs : List ℕ). take at text ++ xs) (drop_more text at 0 in') ∙ ap (λ (b : ℕ). take at text ++ b ∷ drop (at + 1) text) here
-
-pub doubled_all : (text : List ℕ) → IsDoubled (take (length text) text) → IsDoubled text
-doubled_all text inside = (inside.0, sym (take_all (length text) text (omega arith)) ∙ inside.1)
-
--- a doubled text read back up to its first pair
-head_of : (c d : ℕ) (cs ds : List ℕ) → c ∷ cs ≡ d ∷ ds → c ≡ d
-head_of c d cs ds h = cc
-
-tail_of : (c d : ℕ) (cs ds : List ℕ) → c ∷ cs ≡ d ∷ ds → cs ≡ ds
-tail_of c d cs ds h = cc
-
 read_back : (before behind field : List ℕ) → doubled field ≡ before ++ quote ∷ behind → list_any is_quote before ≡ false
     → (left : List ℕ) × (behind ≡ quote ∷ doubled left) × (field ≡ before ++ quote ∷ left)
 read_back [] behind [] e none = absurd (cc)
 read_back [] behind (c ∷ cs) e none = elim (cases_eq c quote) [
-  | inl q ↦ (cs, sym (tail_of quote quote (quote ∷ doubled cs) behind (sym (doubled_quote c cs q) ∙ e)), ap (λ (d : ℕ). d ∷ cs) q)
-  | inr n ↦ absurd (n (head_of c quote (doubled cs) behind (sym (doubled_other c cs n) ∙ e)))
+  | inl q ↦ (cs, sym (same_tail quote quote (quote ∷ doubled cs) behind (sym (doubled_quote c cs q) ∙ e)), ap (λ (d : ℕ). d ∷ cs) q)
+  | inr n ↦ absurd (n (same_head c quote (doubled cs) behind (sym (doubled_other c cs n) ∙ e)))
 ]
 read_back (b ∷ bs) behind [] e none = absurd (cc)
 read_back (b ∷ bs) behind (c ∷ cs) e none =
     let p = or_parts (is_quote b) (list_any is_quote bs) none in
     elim (cases_eq c quote) [
-      | inl q ↦ absurd (eqb-false b quote p.0 (sym (head_of quote b (quote ∷ doubled cs) (bs ++ quote ∷ behind) (sym (doubled_quote c cs q) ∙ e))))
+      | inl q ↦ absurd (eqb-false b quote p.0 (sym (same_head quote b (quote ∷ doubled cs) (bs ++ quote ∷ behind) (sym (doubled_quote c cs q) ∙ e))))
       | inr n ↦
           let e' : c ∷ doubled cs ≡ b ∷ (bs ++ quote ∷ behind) = sym (doubled_other c cs n) ∙ e in
-          let r = read_back bs behind cs (tail_of c b (doubled cs) (bs ++ quote ∷ behind) e') p.1 in
-          (r.0, r.1, ap (λ (d : ℕ). d ∷ cs) (head_of c b (doubled cs) (bs ++ quote ∷ behind) e') ∙ ap (λ (xs : List ℕ). b ∷ xs) r.2)
+          let r = read_back bs behind cs (same_tail c b (doubled cs) (bs ++ quote ∷ behind) e') p.1 in
+          (r.0, r.1, ap (λ (d : ℕ). d ∷ cs) (same_head c b (doubled cs) (bs ++ quote ∷ behind) e') ∙ ap (λ (xs : List ℕ). b ∷ xs) r.2)
     ]
 
 pub pair : (field text before behind : List ℕ) → text ≡ doubled field → IsCut is_quote text before behind

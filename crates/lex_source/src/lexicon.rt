@@ -1,5 +1,5 @@
 //! Lexicons.
-ghost use Rattle.std.specs.Prelude.{◌≡◌, ◌++◌, ◌⊎◌, List, length, take, IfOk, IfErr, OnErr, MatchResult, Ok, Err};
+ghost use Rattle.std.specs.Prelude.{◌≡◌, ◌++◌, ◌⊎◌, List, length, take, IfOk, IfErr, OnErr, Ok, Err};
 ghost use Rattle.mj_model.specs.declared.entry.Record.{Record as RecordOf};
 ghost use Rattle.mj_model.specs.declared.source_fault.SourceKind.TheVariants.{Memory};
 ghost use Rattle.mj_model.specs.FirstFault.{IsRefusal};

@@ -1,7 +1,7 @@
 //! What comes of a line of a lexicon.
 ghost use Rattle.std.specs.Prelude.{◌≡◌, ℕ, ◌⊎◌, MatchResult, Some, None, option_map};
 ghost use Rattle.mj_model.specs.declared.source_fault.SourceKind.TheVariants.{Memory, BadNumber};
-ghost use Rattle.mj_model.specs.Lexicon.{Parts, Outcome, Refused, Accepted, IsOutcome, lexicon_outcome, row_from, row_of, accept_short};
+ghost use Rattle.mj_model.specs.Lexicon.{Parts, Refused, Accepted, IsOutcome, lexicon_outcome, row_from, row_of, accept_short};
 ghost use Rattle.lex_source.specs.Spelled.{StandsFor};
 ghost use Rattle.lex_source.specs.Steps.{outcome_of, row_with};
 

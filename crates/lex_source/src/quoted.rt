@@ -1,5 +1,5 @@
 //! Fields between quotes, in which a quote is written twice.
-ghost use Rattle.std.specs.Prelude.{◌≡◌, ◌≤◌, ◌+◌, ℕ, List, ◌∷◌, ◌++◌, length, take, OnOk, MatchOption, option_copied};
+ghost use Rattle.std.specs.Prelude.{◌≡◌, ◌≤◌, ◌+◌, ℕ, List, ◌∷◌, ◌++◌, length, take, OnOk, MatchOption};
 ghost use Rattle.mj_model.specs.Bytes.{quote};
 ghost use Rattle.mj_model.specs.Fields.{doubled, BeginsWithQuote};
 ghost use Rattle.lex_source.specs.Spelled.{IsDoubled, IsNextQuote, IsQuotedEnd};

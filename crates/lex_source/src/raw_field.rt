@@ -1,5 +1,5 @@
 //! The first field of a text, where it stands.
-ghost use Rattle.std.specs.Prelude.{◌≡◌, ℕ, List, ◌∷◌, ◌++◌, take, IfOk, OnOk, IsTrue, IsFalse, ◌==◌, length, string_bytes, option_copied, option_map};
+ghost use Rattle.std.specs.Prelude.{◌≡◌, ℕ, List, ◌∷◌, ◌++◌, take, IfOk, OnOk, ◌==◌, length, string_bytes, option_copied};
 ghost use Rattle.mj_model.specs.Bytes.{quote};
 ghost use Rattle.mj_model.specs.Fields.{BeginsWithQuote, IsFieldOf, IsFirstField, rest_of as rest_behind};
 ghost use Rattle.lex_source.specs.Spelled.{IsSpelled, StandsFirst};

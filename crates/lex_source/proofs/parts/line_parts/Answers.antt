@@ -1,5 +1,4 @@
 use Rattle.std.proofs.Common.{[], ◌∷◌, refl, arith}
-use Rattle.std.specs.Prelude.{}
 use Rattle.lex_source.proofs.FieldsLemmas.{with_rest, without_rest}
 use Rattle.lex_source.proofs.parts.line_parts.Goals as goal
 
