@@ -1,8 +1,8 @@
 -- An image may hold what an accepted `char.def` says: its categories, and the categories of each code point.
-use Rattle.std.proofs.Common.{◌≡◌, ℕ, ◌^◌, ◌<◌, ◌≤◌, max, ℤ, pos, negsuc, nat_abs, int_le, Bool, true, false, cond, ◌&&◌, List, [], ◌∷◌, length, flat_map, fold, find, reverse, bit_or, nat_le, nat_lt, sym, refl, ◌∙◌, arith, subst}
-use Rattle.std.specs.Prelude.{Option, Some, None, Ok, IfSome, All, option_and_then, option_map}
+use Rattle.std.proofs.Common.{◌≡◌, ℕ, ◌^◌, ◌<◌, ◌≤◌, max, ℤ, pos, negsuc, nat_abs, int_le, Bool, true, false, cond, ◌&&◌, List, [], ◌∷◌, length, flat_map, fold, find, reverse, bit_or, nat_le, nat_lt, sym, refl, ◌∙◌, arith, subst, zero, suc, ◌+◌, not, get_or, ap}
+use Rattle.std.specs.Prelude.{Option, Some, None, Ok, IfSome, All, option_and_then, option_map, Result, Err}
 use Rattle.std.specs.Int.{bit_at}
-use Rattle.std.specs.List.{AllByRecursion, list_all, slice_split}
+use Rattle.std.specs.List.{AllByRecursion, list_all, slice_split, position_or_len}
 use Rattle.std.specs.Option.{option_or, option_map_or}
 use Rattle.std.specs.Str.{is_utf8}
 use Rattle.std.proofs.lemmas.Bool.{and_parts, leb-true, ltb-true}
@@ -14,13 +14,57 @@ use Rattle.mj_model.specs.declared.source_fault.SourceKind.TheVariants.{NoDefaul
 use Rattle.mj_model.specs.declared.category.Category.{Category}
 use Rattle.mj_model.specs.declared.category.CharInfo.{CharInfo}
 use Rattle.mj_model.specs.Bytes.{is_blank}
-use Rattle.mj_model.specs.CharDef.{IsInfoOf, IsStorable, NamedCategory, CharSource, Mapping, Range, CharLine, Nothing, Defines, Maps, Bad, begins_with_hex, words_before_comment, char_line, line_from, mapping_line, mapping_or, range_of, category_or, category_from, category_of, category_length, flag, named, is_name, defined_by, mapped_by, is_defined, category_number, category_bits, mapping_fault, default_name, space_name, unless_defined, source_from, whole_fault, char_source, first_bad_line, info_of_names, covers, char_info}
+use Rattle.mj_model.specs.CharDef.{IsInfoOf, IsStorable, NamedCategory, CharSource, Mapping, Range, CharLine, Nothing, Defines, Maps, Bad, begins_with_hex, words_before_comment, char_line, line_from, mapping_line, mapping_or, range_of, category_or, category_from, category_of, category_length, flag, named, is_name, defined_by, mapped_by, is_defined, category_number, category_bits, mapping_fault, default_name, space_name, unless_defined, source_from, whole_fault, char_source, first_bad_line, info_of_names, covers, char_info, is_named, source_unless}
 use Rattle.mj_model.specs.Connection.{words_of}
-use Rattle.mj_model.specs.FirstFault.{first_fault}
+use Rattle.mj_model.specs.FirstFault.{first_fault, fault_or}
 use Rattle.mj_model.specs.Lines.{numbered_lines}
 use Rattle.mj_model.specs.Numbers.{number}
-use Rattle.char_def.specs.Categories.{CharCategories, IsTableOf, table_info}
-use Rattle.char_def.proofs.FirstCategories.{number_within, defined_by_none, no_fault, all_append, all_reversed, no_or, accepted_by}
+use Rattle.char_def.specs.Categories.{CharCategories, IsTableOf, table_info, HasFirstCategories}
+use Rattle.std.proofs.lemmas.List.{reverse-append}
+use Rattle.std.proofs.lemmas.List.Folds.{Any-from_list_any}
+use Rattle.mj_model.specs.declared.source_fault.SourceFault.{SourceFault}
+use Rattle.mj_model.specs.declared.source_fault.SourceKind.{SourceKind}
+use Rattle.mj_model.proofs.Basics.{all_append}
+
+-- ---- defined categories have numbers
+
+below_by : (p : NamedCategory → Bool) (c : NamedCategory) (cs : List NamedCategory) (k : ℕ) (x : NamedCategory) (b : Bool) → p c ≡ b → (get_or (c ∷ cs) k x ≡ x) → p x ≡ true
+    → ((j : ℕ) → k ≡ suc j → position_or_len p cs < length cs) → cond (not b) (1 + position_or_len p cs) 0 < suc (length cs)
+below_by p c cs k x true e at passes rest = omega arith
+below_by p c cs zero x false e at passes rest = absurd (let h = ap p at in cc)
+below_by p c cs (suc k) x false e at passes rest = let h = rest k refl in omega (arith, h)
+
+below_position : (p : NamedCategory → Bool) (cs : List NamedCategory) (k : ℕ) (x : NamedCategory) → k < length cs → get_or cs k x ≡ x → p x ≡ true → position_or_len p cs < length cs
+below_position p [] k x less at passes = absurd (omega arith)
+below_position p (c ∷ cs) zero x less at passes = below_by p c cs zero x (p c) refl at passes (λ j e. absurd (omega (arith, e)))
+below_position p (c ∷ cs) (suc k) x less at passes = below_by p c cs (suc k) x (p c) refl at passes (λ j e. below_position p cs k x (omega arith) at passes)
+
+pub number_within : (cs : List NamedCategory) (name : List ℕ) → is_defined cs name ≡ true → category_number cs name < length cs
+number_within cs name h =
+    let a = Any-from_list_any (is_named name) cs h in
+    below_position (is_named name) cs a.0 a.1 a.2 a.3 a.4
+
+-- ---- nothing is at fault
+
+defined_by_none : (cs : List NamedCategory) (name : List ℕ) (kind : SourceKind) (b : Bool) → is_defined cs name ≡ b → cond b None (Some (let f : SourceFault = record { file = 1; line = 0; kind = kind } in f)) ≡ None → is_defined cs name ≡ true
+defined_by_none cs name kind true e h = e
+defined_by_none cs name kind false e h = absurd (cc)
+
+no_fault : (line : ℕ) (kind : Option SourceKind) (others : Option SourceFault) → fault_or 1 line kind others ≡ None → (kind ≡ None) × (others ≡ None)
+no_fault line None others h = (refl, h)
+no_fault line (Some kind) others h = absurd (cc)
+
+no_or : (a b : Option SourceFault) → option_or a b ≡ None → (a ≡ None) × (b ≡ None)
+no_or None b h = (refl, h)
+no_or (Some fault) b h = absurd (cc)
+
+abbrev source_or : CharSource → Result CharSource SourceFault → CharSource
+source_or s (Ok source) = source
+source_or s (Err fault) = s
+
+accepted_by : (fault : Option SourceFault) (read source : CharSource) → source_unless fault read ≡ Ok source → (fault ≡ None) × (read ≡ source)
+accepted_by None read source h = (refl, ap (source_or read) h)
+accepted_by (Some fault) read source h = absurd (cc)
 
 -- ---- what a category line defines
 
@@ -147,6 +191,10 @@ info_fits cs first others defined =
 
 -- ---- the mappings of accepted lines
 
+all_reversed : (P : Mapping → Type 0) (xs : List Mapping) → AllByRecursion P xs → AllByRecursion P (reverse xs)
+all_reversed P [] h = tt
+all_reversed P (x ∷ xs) h = subst (AllByRecursion P) (sym (reverse-append (x ∷ []) xs)) (all_append P (reverse xs) (x ∷ []) (all_reversed P xs h.1) (h.0, tt))
+
 abbrev HasDefined : List NamedCategory → Mapping → Type 0
 HasDefined cs m = AreDefined cs (m.first ∷ m.others)
 
@@ -208,3 +256,6 @@ pub table_infos_fit : (bytes : List ℕ) (source : CharSource) (table : CharCate
 table_infos_fit bytes source table h is code =
     subst (λ (i : CharInfo). IsInfoOf (length table.categories) i) (sym (is.infos code))
     (subst (λ (cs : List NamedCategory). IsInfoOf (length cs) (char_info source code)) (sym is.categories) (infos_fit bytes source h code))
+
+pub first_categories : (bytes : List ℕ) (source : CharSource) (table : CharCategories) → char_source bytes ≡ Ok source → IsTableOf source table → HasFirstCategories table
+first_categories bytes source table h is = λ code. (table_infos_fit bytes source table h is code).first_below

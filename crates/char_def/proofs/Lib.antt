@@ -2,10 +2,8 @@ pub mod OverlayLemmas
 pub mod CoverageLemmas
 pub mod WordLemmas
 pub mod NameLemmas
-pub mod FileLemmas
 pub mod TableLemmas
 pub mod UnkLemmas
-pub mod FirstCategories
 pub mod OutsideLemmas
 pub mod UnkFaults
 pub mod AcceptedChars

@@ -6,7 +6,7 @@ use Rattle.std.specs.Option.{option_or}
 use Rattle.std.proofs.lemmas.Bool.{lt-ltb, le-ltb, cases_lt, cond-true, cond-false}
 use Rattle.mj_model.specs.declared.category.CharInfo.{CharInfo}
 use Rattle.char_def.specs.declared.overlay.Step.{Step}
-use Rattle.char_def.specs.Steps.{info_from, info_by, AreRising, AreOverlaid}
+use Rattle.char_def.specs.Steps.{info_from, info_by, AreRising}
 
 -- before the first step, what holds before it
 pub before_steps : (before : Option CharInfo) (from code : ℕ) (steps : List Step) → AreRising from steps → code < from → info_from before steps code ≡ before
@@ -52,19 +52,6 @@ pub record AreLaid (below above steps : List Step) (low : Option CharInfo) (lows
   pub end : EndBefore from steps
   pub rising : AreRising 0 steps
 
-pub laid_none : (below above : List Step) → AreRising 0 below → AreRising 0 above → AreLaid below above [] None below None above
-laid_none below above b a = record {
-  from = 0;
-  done = λ code h. absurd (omega arith);
-  lower = λ code h. refl;
-  upper = λ code h. refl;
-  here = λ code h. refl;
-  lows_rise = b;
-  ups_rise = a;
-  end = tt;
-  rising = tt;
-}
-
 -- what the two lists say, from what is ahead of them
 both : (below above steps : List Step) (low : Option CharInfo) (lows : List Step) (up : Option CharInfo) (ups : List Step) (l : AreLaid below above steps low lows up ups)
     → (code : ℕ) → l.from ≤ code → option_or (info_by above code) (info_by below code) ≡ option_or (info_from up ups code) (info_from low lows code)
@@ -109,15 +96,3 @@ laid_more below above steps new low lows up ups first low' lows' up' ups' l next
       end = subst (λ (xs : List Step). EndBefore (first + 1) xs) (sym is) (end-append (first + 1) steps s (end_later first (first + 1) steps (omega arith) ends) (omega arith));
       rising = subst (λ (xs : List Step). AreRising 0 xs) (sym is) (rising-append 0 steps s l.rising ends (omega arith));
     }
-
-pub laid_all : (below above steps : List Step) (low : Option CharInfo) (lows : List Step) (up : Option CharInfo) (ups : List Step) → AreLaid below above steps low lows up ups → lows ≡ [] → ups ≡ []
-    → AreOverlaid below above steps
-laid_all below above steps low lows up ups l no_low no_up = record {
-  rising = l.rising;
-  says = λ code. elim (cases_lt code l.from) [
-    | inl old ↦ l.done code old
-    | inr fresh ↦
-        l.here code fresh ∙ sym (both below above steps low lows up ups l code fresh
-        ∙ ap (λ (xs : List Step). option_or (info_from up xs code) (info_from low lows code)) no_up ∙ ap (λ (xs : List Step). option_or up (info_from low xs code)) no_low)
-  ];
-}

@@ -18,7 +18,7 @@ use Rattle.mj_model.proofs.AcceptedRows.{IsRowOf, OnRow, OnAccepted, row_is, Lin
 use Rattle.mj_model.proofs.Members.{in_map, map_in, in_filter, filter_in, in_flat_map, flat_map_in, each_holds, none_stands, holds_in}
 use Rattle.mj_model.proofs.ReadingLemmas.{readings_are_one}
 use Rattle.char_def.specs.Outside.{is_outside, lines_outside, all_lines_outside, IsLeast}
-use Rattle.char_def.proofs.FirstCategories.{number_within}
+use Rattle.char_def.proofs.AcceptedChars.{number_within}
 
 -- ---- accepted rows
 

@@ -92,7 +92,7 @@ full_refused categories number line held row is defined full = record {
 -- ---- where a row is added
 
 -- the rows of categories that are numbered from a number on, where this numbers a row
-rows_from : (Row → ℕ) → ℕ → List NamedCategory → List Row → List (List Row)
+unfoldable pub rows_from : (Row → ℕ) → ℕ → List NamedCategory → List Row → List (List Row)
 rows_from number n categories rows = map (λ (category : ℕ × NamedCategory). filter (λ row. number row == category.0) rows) (enumerate_from n categories)
 
 filter-append_one : (test : Row → Bool) (rows : List Row) (row : Row) → filter test (rows ++ row ∷ []) ≡ filter test rows ++ cond (test row) (row ∷ []) []

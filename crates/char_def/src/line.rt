@@ -1,5 +1,5 @@
 //! Lines of `char.def`.
-ghost use Rattle.std.specs.Prelude.{◌≡◌, ◌∷◌, ◌<◌, ◌&&◌, ℕ, List, Some, None, true, false, nat_lt, length, MatchOption, MatchResult, option_map, drop};
+ghost use Rattle.std.specs.Prelude.{◌≡◌, ◌∷◌, ◌<◌, ◌&&◌, ℕ, List, Some, None, true, false, nat_lt, length, MatchOption, MatchResult, option_map};
 ghost use Rattle.std.specs.List.{list_all};
 ghost use Rattle.mj_model.specs.CharDef.{Bad, is_name, flag as flag_of, category_of, category_from, mapping_line as mapping_of, char_line, words_before_comment};
 ghost use Rattle.mj_model.specs.Numbers.{natural_in};

@@ -1,5 +1,5 @@
 //! Ranges of code points, as words.
-ghost use Rattle.std.specs.Prelude.{◌≡◌, ◌≤◌, ◌+◌, MatchOption, None, Some, List, ℕ, option_and_then};
+ghost use Rattle.std.specs.Prelude.{◌≡◌, MatchOption, None, Some};
 ghost use Rattle.mj_model.specs.CharDef.{range_of, range_from, high_end as high_end_of};
 ghost use Rattle.char_def.specs.Hex.{up_to_max};
 

@@ -2,7 +2,7 @@ use Rattle.std.proofs.lemmas.Result.{err_from_is_err_and}
 use Rattle.mj_model.specs.Lines.{numbered_lines}
 use Rattle.char_def.specs.Categories.{CharCategories}
 use Rattle.char_def.specs.Definitions.{definitions_are}
-use Rattle.char_def.proofs.FirstCategories.{first_categories}
+use Rattle.char_def.proofs.AcceptedChars.{first_categories}
 use Rattle.char_def.proofs.TableLemmas.{mapping_refused, table_read}
 use Rattle.char_def.proofs.char_table.read_chars.Goals as goal
 
