@@ -12,12 +12,9 @@ use Rattle.mj_model.specs.declared.matrix_sizes.MatrixSizes.{MatrixSizes}
 use Rattle.mj_model.specs.Connection.{Cell, Connection, is_pair, cell_from, cell_fault, row_fault, words_of, sizes_from, matrix_fault, connection_unless, connection_under, connection_from, connection_of, connection_cost}
 use Rattle.mj_model.specs.FirstFault.{first_fault, fault_or}
 use Rattle.mj_model.specs.Lines.{numbered_lines, is_blank_line}
+use Rattle.mj_model.proofs.Basics.{both_parts}
 use Rattle.matrix_def.specs.Costs.{CostTable, IsPair, IsTableOf, matrix_cost}
 use Rattle.matrix_def.specs.Connections.{sizes_of, cost_of}
-
-and_both : (a b : Bool) → (a && b) ≡ true → (a ≡ true) × (b ≡ true)
-and_both true b h = (refl, h)
-and_both false b h = absurd (cc)
 
 -- ---- the cells of a connection lie within its sizes
 
@@ -85,7 +82,7 @@ none_by : (sizes : MatrixSizes) (right left : ℕ) (cell : Cell) (b : Bool) (oth
     → is_pair sizes right left ≡ false → others ≡ None → cond b (Some cell) others ≡ None
 none_by sizes right left cell false others e within out rest = rest
 none_by sizes right left cell true others e within out rest =
-    let both = and_both (cell.right == right) (cell.left == left) e in
+    let both = both_parts (cell.right == right) (cell.left == left) e in
     let r = eqb-true cell.right right both.0 in
     let l = eqb-true cell.left left both.1 in
     let inside : is_pair sizes right left ≡ true = ap (λ n. is_pair sizes n left) (sym r) ∙ ap (λ n. is_pair sizes cell.right n) (sym l) ∙ within in
@@ -100,7 +97,7 @@ none_found sizes right left (cell ∷ cells) h out =
 
 pair_of : (m : CostTable) (right left : ℕ) → is_pair (sizes_of m) right left ≡ true → IsPair m right left
 pair_of m right left e =
-    let both = and_both (nat_lt right m.right_size) (nat_lt left m.left_size) e in
+    let both = both_parts (nat_lt right m.right_size) (nat_lt left m.left_size) e in
     record { right_below = ltb-true right m.right_size both.0; left_below = ltb-true left m.left_size both.1 }
 
 cost_by : (b : Bool) (c : Connection) (m : CostTable) (right left : ℕ) → IsTableOf c m → AreWithin c → is_pair (sizes_of m) right left ≡ b

@@ -1,5 +1,5 @@
 -- The rows of accepted lexicons: their ids lie within the sizes, their surfaces have 1 to `SURFACE_MAX` bytes, and there are few enough.
-use Rattle.std.proofs.Common.{◌≡◌, ℕ, ◌≤◌, Bool, true, false, cond, ◌&&◌, List, [], ◌∷◌, ◌++◌, length, refl, sym, ap, ◌∙◌, subst, arith, length-append, inl, inr}
+use Rattle.std.proofs.Common.{◌≡◌, ℕ, ◌≤◌, Bool, true, false, cond, List, [], ◌∷◌, ◌++◌, length, refl, sym, ap, ◌∙◌, subst, arith, length-append, inl, inr}
 use Rattle.std.specs.Prelude.{Option, Some, None, Result, Ok, Err, ℤ, nat_le, nat_lt, nat_eq, option_and_then, option_map}
 use Rattle.std.specs.List.{AllByRecursion}
 use Rattle.std.proofs.lemmas.Bool.{eqb-false, leb-true, ltb-true}
@@ -12,6 +12,7 @@ use Rattle.mj_model.specs.Dictionary.{AreLexicons, first_outside, next_file}
 use Rattle.mj_model.specs.Lexicon.{Row, Parts, Skipped, Refused, Accepted, lexicon_outcome, accept_short, row_from, Reading, IsLexicon}
 use Rattle.mj_model.specs.Numbers.{context_id, cost}
 use Rattle.mj_model.proofs.AcceptedRows.{OnRow, OnAccepted, row_is, rows_read, IsRowOf}
+use Rattle.mj_model.proofs.Basics.{all_append, both_parts}
 use Rattle.dictionary_sources.specs.AcceptedRows.{HasIdsWithin, IsLexiconRow, AreLexiconRows}
 
 -- ---- accepted lines
@@ -61,13 +62,9 @@ judged_fits line parts = skipped_by line parts (nat_eq (length parts.surface) 0)
 
 -- ---- ids within the sizes
 
-pair_parts : (a b : Bool) → (a && b) ≡ true → (a ≡ true) × (b ≡ true)
-pair_parts true b h = (refl, h)
-pair_parts false b h = absurd (cc)
-
 pub ids_within : (sizes : MatrixSizes) (row : Row) → is_pair sizes row.right row.left ≡ true → HasIdsWithin sizes row
 ids_within sizes row h =
-    let p = pair_parts (nat_lt row.right sizes.right) (nat_lt row.left sizes.left) h in
+    let p = both_parts (nat_lt row.right sizes.right) (nat_lt row.left sizes.left) h in
     record { right_below = ltb-true row.right sizes.right p.0; left_below = ltb-true row.left sizes.left p.1 }
 
 -- ---- rows of all lexicons
@@ -75,10 +72,6 @@ ids_within sizes row h =
 abbrev rows_or_none : Result (List Row) SourceFault → List Row
 rows_or_none (Ok rows) = rows
 rows_or_none (Err fault) = []
-
-all_append : (P : Row → Type 0) (xs ys : List Row) → AllByRecursion P xs → AllByRecursion P ys → AllByRecursion P (xs ++ ys)
-all_append P [] ys h k = k
-all_append P (x ∷ xs) ys h k = (h.0, all_append P xs ys h.1 k)
 
 pub within_by : (b : Bool) (fault : SourceFault) (others : Option SourceFault) → cond b others (Some fault) ≡ None → (b ≡ true) × (others ≡ None)
 within_by true fault others h = (refl, h)

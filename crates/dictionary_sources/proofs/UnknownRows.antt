@@ -1,7 +1,7 @@
 -- The unknown rows of an accepted `unk.def`: each category has one, their ids lie within the sizes, and there are few enough.
-use Rattle.std.proofs.Common.{◌≡◌, ℕ, ◌+◌, ◌<◌, ◌≤◌, Bool, true, false, cond, List, [], ◌∷◌, length, map, filter, refl, sym, ap, subst, arith, None}
+use Rattle.std.proofs.Common.{◌≡◌, ℕ, ◌+◌, ◌<◌, ◌≤◌, Bool, true, false, cond, List, [], ◌∷◌, length, filter, refl, sym, ap, subst, arith, None}
 use Rattle.std.specs.Prelude.{Result, Ok, Err, ◌==◌, not, nat_lt, nat_eq}
-use Rattle.std.specs.List.{AllByRecursion, enumerate_from, sum_by, position_or_len}
+use Rattle.std.specs.List.{AllByRecursion, sum_by, position_or_len}
 use Rattle.std.proofs.lemmas.Bool.{ltb-false, ne_eqb, eqb-false, eqb-true}
 use Rattle.std.proofs.lemmas.List.Sums.{sum_by-cons}
 use Rattle.mj_model.specs.declared.source_fault.SourceFault.{SourceFault}
@@ -12,13 +12,10 @@ use Rattle.mj_model.specs.Connection.{is_pair}
 use Rattle.mj_model.specs.Dictionary.{first_outside}
 use Rattle.mj_model.specs.Lexicon.{Row}
 use Rattle.mj_model.specs.UnkDef.{rows_by_category, first_without_rows, IsUnkWithin}
+use Rattle.char_def.proofs.UnkLemmas.{rows_from}
 use Rattle.char_def.proofs.UnkFaults.{unk_rows, read_within}
 use Rattle.dictionary_sources.specs.AcceptedRows.{HasIdsWithin, AreUnknownRows}
 use Rattle.dictionary_sources.proofs.FittingLemmas.{ids_within, within_by}
-
--- the rows of categories that are numbered from a number on, where this numbers a row
-rows_from : (Row → ℕ) → ℕ → List NamedCategory → List Row → List (List Row)
-rows_from number n categories rows = map (λ (category : ℕ × NamedCategory). filter (λ row. number row == category.0) rows) (enumerate_from n categories)
 
 -- ---- each category has rows, and there are as many lists as categories
 

@@ -1,10 +1,9 @@
 //! The lexicons of a source directory.
 
-ghost use Rattle.std.specs.Prelude.{◌≡◌, ℕ, ◌+◌, ◌++◌, ◌<◌, ◌≤◌, ◌^◌, List, [], length, map, take, drop, Some, None, Ok, Err, IfOk, IfErr, OnOk, OnErr, option_map};
-ghost use Rattle.mj_model.specs.Lexicon.{SkipLines, Row, rows_of};
-ghost use Rattle.mj_model.specs.Connection.{is_pair};
+ghost use Rattle.std.specs.Prelude.{◌≡◌, ℕ, ◌+◌, ◌<◌, ◌≤◌, ◌^◌, [], length, map, Some, None, Ok, Err, IfOk, IfErr, option_map};
 ghost use Rattle.mj_model.specs.Dictionary.{AreLexicons, first_outside, next_file};
 ghost use Rattle.mj_model.specs.FirstFault.{IsRefusal};
+ghost use Rattle.mj_model.specs.Lexicon.{SkipLines, rows_of};
 ghost use Rattle.mj_model.specs.declared.source_fault.SourceKind.TheVariants.{IdOutside};
 ghost use Rattle.dictionary_sources.specs.AddedLexicon.{AddsLexicon, IsLexiconFault};
 ghost use Rattle.dictionary_sources.specs.IdSizes.{sizes_in};

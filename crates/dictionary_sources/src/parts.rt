@@ -1,6 +1,6 @@
 //! All sources together.
 
-ghost use Rattle.std.specs.Prelude.{◌≡◌, Ok, Err, IfOk, IfErr};
+ghost use Rattle.std.specs.Prelude.{Ok, IfOk, IfErr};
 ghost use Rattle.mj_model.specs.FirstFault.{IsRefusal};
 ghost use Rattle.mj_model.specs.SourceTables.{IsSourcesFault};
 ghost use Rattle.dictionary_sources.specs.Parts.{AreParts};

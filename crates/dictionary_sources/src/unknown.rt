@@ -1,6 +1,6 @@
 //! The unknown entries of a dictionary's sources.
 
-ghost use Rattle.std.specs.Prelude.{◌≡◌, Ok, Err, IfOk, IfErr};
+ghost use Rattle.std.specs.Prelude.{Ok, Err, IfOk, IfErr};
 ghost use Rattle.mj_model.specs.FirstFault.{IsRefusal};
 ghost use Rattle.mj_model.specs.UnkDef.{IsUnkWithin};
 ghost use Rattle.dictionary_sources.specs.IdSizes.{sizes_in};

@@ -1,5 +1,5 @@
 //! The reader of `matrix.def`.
-ghost use Rattle.std.specs.Prelude.{◌≡◌, [], ℕ, List, Ok, Err, Some, None, MatchResult, IfOk, IfErr};
+ghost use Rattle.std.specs.Prelude.{◌≡◌, [], Ok, Err, Some, None, IfOk, IfErr};
 ghost use Rattle.mj_model.specs.FirstFault.{IsRefusal, first_fault};
 ghost use Rattle.mj_model.specs.Connection.{Connection, connection_of, row_fault};
 ghost use Rattle.matrix_def.specs.Costs.{IsTableOf, IsMatrix};
