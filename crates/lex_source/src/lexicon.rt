@@ -46,13 +46,7 @@ fn append_lines(
     for (number, line) in lines(bytes) {
         match append_line(alloc, number, line, out) {
             Ok(counts) => skipped += u64::from(counts),
-            Err(kind) => {
-                return Err(SourceFault {
-                    file,
-                    line: number,
-                    kind,
-                });
-            }
+            Err(kind) => return Err(kind.at(file, number)),
         }
     }
     Ok(skipped)
@@ -76,10 +70,8 @@ fn append_line(
             if out.len() >= ENTRIES_MAX {
                 return Err(SourceKind::TooManyEntries);
             }
-            match out.push(accepted) {
-                Ok(()) => Ok(false),
-                Err(_) => Err(SourceKind::Memory),
-            }
+            out.push(accepted)?;
+            Ok(false)
         }
     }
 }

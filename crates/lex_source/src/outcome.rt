@@ -69,12 +69,8 @@ pub(crate) fn record_of(alloc: Global, number: u64, parts: LineParts) -> Result<
     let Some(numbers) = ids_and_cost(parts) else {
         return Err(SourceKind::BadNumber);
     };
-    let Ok(surface) = parts.surface.to_string(alloc) else {
-        return Err(SourceKind::Memory);
-    };
-    let Ok(feature) = String::from_str(alloc, parts.feature) else {
-        return Err(SourceKind::Memory);
-    };
+    let surface = parts.surface.to_string(alloc)?;
+    let feature = String::from_str(alloc, parts.feature)?;
     let IdsAndCost { left, right, cost } = numbers;
     Ok(Record {
         line: number,

@@ -2,7 +2,8 @@
 use crate::{
     FilledLines, Words, append_field, context_id, cost, field, lines, number, read_lexicon,
 };
-use mj_model::{Record, SourceFault, SourceKind};
+use mj_model::Record;
+use mj_model::SourceKind::{BadNumber, NotUtf8, SurfaceTooLong, TooFewFields};
 use std::test::Fail;
 
 #[test]
@@ -71,10 +72,9 @@ fn quoted_fields(rt: HostRuntime) -> Result<(), Fail> {
         ("名詞,\"も,も\"", 1, Some("も,も")),
     ];
     for (line, n, expected) in rows {
-        match field(rt.alloc(), line, n)? {
-            Some(found) => assert_eq!(rt; Some(found.as_str()), expected, "{line} {n}"),
-            None => assert_eq!(rt; None, expected, "{line} {n}"),
-        }
+        let found = field(rt.alloc(), line, n)?;
+        let text = found.as_ref().map(|text| text.as_str());
+        assert_eq!(rt; text, expected, "{line} {n}");
     }
     Ok(())
 }
@@ -98,44 +98,29 @@ fn appended_fields(rt: HostRuntime) -> Result<(), Fail> {
 }
 
 #[test]
-fn quoted_lexicon_lines(rt: HostRuntime) -> Result<(), Fail> {
-    let rows = [
-        // (lexicon line, surface, feature)
-        ("\"a,b\",1,1,10,X", "a,b", "X"),
-        ("\"a\"\"b\",1,1,10,Y", "a\"b", "Y"),
-        ("a,\"1\",\"1\",\"10\"x,\"Y\",", "a", "\"Y\","),
-        ("a,1,1,10,", "a", ""),
-    ];
-    for (line, surface, feature) in rows {
-        let mut out = Vec::new(rt.alloc());
-        assert_eq!(rt;
-            read_lexicon(rt.alloc(), line.as_bytes(), 3, &mut out),
-            Ok(0),
-            "{line}"
-        );
-        assert_eq!(rt; out.len(), 1, "{line}");
-        assert_eq!(rt; out[0].surface.as_str(), surface, "{line}");
-        assert_eq!(rt; out[0].entry.feature.as_str(), feature, "{line}");
-        assert_eq!(rt; out[0].entry.cost, 10, "{line}");
-    }
-    Ok(())
-}
-
-#[test]
 fn lexicon_lines(rt: HostRuntime) -> Result<(), Fail> {
-    let mut out = Vec::new(rt.alloc());
-    let bytes = "\n,1,1,5,X\nも,1,1,20,Y\r\n";
-    assert_eq!(rt;
-        read_lexicon(rt.alloc(), bytes.as_bytes(), 3, &mut out),
-        Ok(1)
-    );
-    assert_eq!(rt; out.len(), 1);
-    assert_eq!(rt; out[0].line, 3);
-    assert_eq!(rt; out[0].surface.as_str(), "も");
-    assert_eq!(rt; out[0].entry.left, 1);
-    assert_eq!(rt; out[0].entry.right, 1);
-    assert_eq!(rt; out[0].entry.cost, 20);
-    assert_eq!(rt; out[0].entry.feature.as_str(), "Y");
+    #[rattlefmt::skip]
+    let rows = [
+        // (what, lexicon, skipped lines, then of its one record: line, surface, cost, feature)
+        ("lexicon_lines",        "\n,1,1,5,X\nも,1,1,20,Y\r\n",    1, 3, "も",   20, "Y"),
+        ("a comma",              "\"a,b\",1,1,10,X",              0, 1, "a,b",  10, "X"),
+        ("a quote",              "\"a\"\"b\",1,1,10,Y",           0, 1, "a\"b", 10, "Y"),
+        ("quotes in all fields", "a,\"1\",\"1\",\"10\"x,\"Y\",", 0, 1, "a",    10, "\"Y\","),
+        ("an empty feature",     "a,1,1,10,",                     0, 1, "a",    10, ""),
+    ];
+    for (what, lexicon, skipped, line, surface, cost, feature) in rows {
+        let mut out = Vec::new(rt.alloc());
+        let read = read_lexicon(rt.alloc(), lexicon.as_bytes(), 3, &mut out);
+        assert_eq!(rt; read, Ok(skipped), "{what}");
+        assert_eq!(rt; out.len(), 1, "{what}");
+        let record = &out[0];
+        let entry = &record.entry;
+        let text = (record.line, record.surface.as_str());
+        assert_eq!(rt; text, (line, surface), "{what}");
+        let numbers = (entry.left, entry.right, entry.cost);
+        assert_eq!(rt; numbers, (1, 1, cost), "{what}");
+        assert_eq!(rt; entry.feature.as_str(), feature, "{what}");
+    }
     Ok(())
 }
 
@@ -143,24 +128,20 @@ fn lexicon_lines(rt: HostRuntime) -> Result<(), Fail> {
 fn bad_lexicon_lines(rt: HostRuntime) -> Result<(), Fail> {
     let rows = [
         // (lexicon, line of the fault, its kind)
-        (b"\"ab,1,1,10,X".as_slice(), 1, SourceKind::TooFewFields),
-        (b"a,1,1,5,X\n\xff,1,1,5,X", 2, SourceKind::NotUtf8),
-        (b"a,1,1,5", 1, SourceKind::TooFewFields),
-        (b"a,1,1,5,X\n\nb,1,1,-32769,X\nc", 3, SourceKind::BadNumber),
-        (b"a,65536,1,5,X", 1, SourceKind::BadNumber),
-        (b"a,1,-1,5,X", 1, SourceKind::BadNumber),
-        (b"a,1,1,,X", 1, SourceKind::BadNumber),
-        (b"a,1,\"1\"\"\",5,X", 1, SourceKind::BadNumber),
+        (b"\"ab,1,1,10,X".as_slice(), 1, TooFewFields),
+        (b"a,1,1,5,X\n\xff,1,1,5,X", 2, NotUtf8),
+        (b"a,1,1,5", 1, TooFewFields),
+        (b"a,1,1,5,X\n\nb,1,1,-32769,X\nc", 3, BadNumber),
+        (b"a,65536,1,5,X", 1, BadNumber),
+        (b"a,1,-1,5,X", 1, BadNumber),
+        (b"a,1,1,,X", 1, BadNumber),
+        (b"a,1,\"1\"\"\",5,X", 1, BadNumber),
     ];
     for (bytes, line, kind) in rows {
         let mut out: Vec<Record> = Vec::new(rt.alloc());
         read_lexicon(rt.alloc(), b"z,1,1,5,Z", 3, &mut out)?;
-        let fault = SourceFault {
-            file: 4,
-            line,
-            kind,
-        };
-        assert_eq!(rt; read_lexicon(rt.alloc(), bytes, 4, &mut out), Err(fault));
+        let read = read_lexicon(rt.alloc(), bytes, 4, &mut out);
+        assert_eq!(rt; read, Err(kind.at(4, line)), "{kind}");
         assert_eq!(rt; out.len(), 1, "{kind}");
         assert_eq!(rt; out[0].surface.as_str(), "z", "{kind}");
     }
@@ -169,21 +150,13 @@ fn bad_lexicon_lines(rt: HostRuntime) -> Result<(), Fail> {
 
 #[test]
 fn longest_surface(rt: HostRuntime) -> Result<(), Fail> {
-    let rows = [(65_535, true), (65_536, false)];
-    for (length, accepted) in rows {
+    let rows = [(65_535, Ok(0)), (65_536, Err(SurfaceTooLong.at(3, 1)))];
+    for (length, expected) in rows {
         let mut bytes = Vec::from_elem(rt.alloc(), b'a', length)?;
         bytes.extend_from_slice(b",1,1,5,X")?;
         let mut out: Vec<Record> = Vec::new(rt.alloc());
-        let fault = SourceFault {
-            file: 3,
-            line: 1,
-            kind: SourceKind::SurfaceTooLong,
-        };
-        let expected = if accepted { Ok(0) } else { Err(fault) };
-        assert_eq!(rt;
-            read_lexicon(rt.alloc(), bytes.as_slice(), 3, &mut out),
-            expected
-        );
+        let read = read_lexicon(rt.alloc(), bytes.as_slice(), 3, &mut out);
+        assert_eq!(rt; read, expected, "{length}");
     }
     Ok(())
 }
@@ -214,20 +187,18 @@ fn number_ranges(rt: HostRuntime) {
     for (text, expected) in rows {
         assert_eq!(rt; number(text.as_bytes()), expected, "{text}");
     }
+    #[rattlefmt::skip]
     let costs = [
-        ("-32768", Some(-32_768)),
-        ("-32769", None),
-        ("32767", Some(32_767)),
-        ("32768", None),
+        ("-32768", Some(-32_768)), ("-32769", None),
+        ("32767",  Some(32_767)),  ("32768",  None),
     ];
     for (text, expected) in costs {
         assert_eq!(rt; cost(text.as_bytes()), expected, "{text}");
     }
+    #[rattlefmt::skip]
     let ids = [
-        ("65535", Some(65_535)),
-        ("65536", None),
-        ("-0", Some(0)),
-        ("-1", None),
+        ("65535", Some(65_535)), ("65536", None),
+        ("-0",    Some(0)),      ("-1",    None),
     ];
     for (text, expected) in ids {
         assert_eq!(rt; context_id(text.as_bytes()), expected, "{text}");
