@@ -1,6 +1,6 @@
 -- The rows of `matrix.def`, one after another: each sets its cell, and of a repeated pair the last one counts.
 use Rattle.std.proofs.Common.{◌≡◌, ℕ, ◌+◌, ◌*◌, ◌<◌, Bool, false, cond, ltb, ◌&&◌, List, [], ◌∷◌, ◌++◌, length, get_or, set, reverse, refl, sym, ◌∙◌, ap, subst, arith, Option, Some, None, inl, inr, append_assoc, get_or-set_same, get_or-set_other, mul_comm}
-use Rattle.std.specs.Prelude.{ℤ, pos, find, ◌==◌}
+use Rattle.std.specs.Prelude.{ℤ, pos, find, ◌==◌, IsTrue}
 use Rattle.std.specs.List.{cons_option}
 use Rattle.std.specs.Option.{option_map_or}
 use Rattle.std.proofs.lemmas.Bool.{cases_Bool, cases_eq, cond-true, cond-false, eq-eqb, ne_eqb, and_from, and_parts, ltb-true, and_left, and_right}
@@ -12,8 +12,8 @@ use Rattle.mj_model.specs.declared.source_fault.SourceKind.{SourceKind}
 use Rattle.mj_model.specs.declared.source_fault.SourceKind.TheVariants.{PairOutside}
 use Rattle.mj_model.specs.FirstFault.{fault_or, first_fault}
 use Rattle.mj_model.specs.declared.matrix_sizes.MatrixSizes.{MatrixSizes}
-use Rattle.mj_model.specs.Connection.{Cell, cell_from, words_of, cell_fault, row_fault, connection_cost}
-use Rattle.matrix_def.specs.Costs.{CostTable, IsPair, IsMatrix, IsTableOf, cell_at, matrix_cost}
+use Rattle.mj_model.specs.Connection.{Cell, cell_from, words_of, cell_fault, row_fault, connection_cost, is_pair}
+use Rattle.matrix_def.specs.Costs.{CostTable, IsMatrix, IsTableOf, cell_at, matrix_cost}
 use Rattle.matrix_def.specs.Rows.{cells_of, IsRow, HoldsUpTo}
 
 -- ---- faults
@@ -33,6 +33,11 @@ row_good sizes line cell r = ap (cell_fault sizes) r.listed ∙ ap (λ (b : Bool
 
 -- ---- costs
 
+ids_below : (sizes : MatrixSizes) (right left : ℕ) → IsTrue (is_pair sizes right left) → (right < sizes.right) × (left < sizes.left)
+ids_below sizes right left pair =
+    let p = and_parts (ltb right sizes.right) (ltb left sizes.left) pair in
+    (ltb-true right sizes.right p.0, ltb-true left sizes.left p.1)
+
 cost_more : (sizes : MatrixSizes) (cells : List Cell) (x : Cell) (right left : ℕ) →
     connection_cost (record { sizes = sizes; cells = cells ++ x ∷ [] }) right left
     ≡ cond (x.right == right && x.left == left) x.cost (connection_cost (record { sizes = sizes; cells = cells }) right left)
@@ -45,28 +50,25 @@ cost_more sizes cells x right left =
       | inr other ↦ ap price (cond-false (test x) (Some x) (find test (reverse cells)) other) ∙ sym (cond-false (test x) x.cost (price (find test (reverse cells))) other)
     ]
 
-pub within_table : (m : CostTable) (right left : ℕ) → IsMatrix m → IsPair m right left → cell_at m right left < length m.costs
-within_table m right left formed p =
-    let cells : length m.costs ≡ m.right_size * m.left_size = formed.cells in
-    let low : right * m.left_size + left < m.left_size * m.right_size = mul-add-lt right m.left_size left m.right_size p.right_below p.left_below in
-    let turned : m.left_size * m.right_size ≡ m.right_size * m.left_size = mul_comm m.left_size m.right_size in
+pub within_table : (m : CostTable) (right left : ℕ) → IsMatrix m → IsTrue (is_pair m.sizes right left) → cell_at m right left < length m.costs
+within_table m right left formed pair =
+    let cells : length m.costs ≡ m.sizes.right * m.sizes.left = formed.cells in
+    let p = ids_below m.sizes right left pair in
+    let low : right * m.sizes.left + left < m.sizes.left * m.sizes.right = mul-add-lt right m.sizes.left left m.sizes.right p.0 p.1 in
+    let turned : m.sizes.left * m.sizes.right ≡ m.sizes.right * m.sizes.left = mul_comm m.sizes.left m.sizes.right in
     omega arith
 
 -- the cell that is set
-cost_here : (m : CostTable) (right left : ℕ) (z : ℤ) → IsMatrix m → IsPair m right left → get_or (set m.costs (cell_at m right left) z) (cell_at m right left) (pos 0) ≡ z
+cost_here : (m : CostTable) (right left : ℕ) (z : ℤ) → IsMatrix m → IsTrue (is_pair m.sizes right left) → get_or (set m.costs (cell_at m right left) z) (cell_at m right left) (pos 0) ≡ z
 cost_here m right left z formed p = get_or-set_same m.costs (cell_at m right left) z (pos 0) (within_table m right left formed p)
 
-apart : (m : CostTable) (a b right left : ℕ) → IsPair m a b → IsPair m right left → ((a ≡ right) × (b ≡ left) → ⊥) → cell_at m right left ≡ cell_at m a b → ⊥
+apart : (m : CostTable) (a b right left : ℕ) → IsTrue (is_pair m.sizes a b) → IsTrue (is_pair m.sizes right left) → ((a ≡ right) × (b ≡ left) → ⊥) → cell_at m right left ≡ cell_at m a b → ⊥
 apart m a b right left p q differ same =
-    let parts = same_from_place right left a b m.left_size q.left_below p.left_below same in
+    let parts = same_from_place right left a b m.sizes.left (ids_below m.sizes right left q).1 (ids_below m.sizes a b p).1 same in
     differ (sym parts.0, sym parts.1)
 
--- the sizes stay
-as_pair : (m : CostTable) (costs : List ℤ) (right left : ℕ) → IsPair (record m { costs = costs }) right left → IsPair m right left
-as_pair m costs right left p = record { right_below = p.right_below; left_below = p.left_below }
-
-costs_more : (sizes : MatrixSizes) (cells : List Cell) (m : CostTable) (x : Cell) → IsMatrix m → IsPair m x.right x.left → IsTableOf (record { sizes = sizes; cells = cells }) m
-    → (right left : ℕ) → IsPair m right left
+costs_more : (sizes : MatrixSizes) (cells : List Cell) (m : CostTable) (x : Cell) → IsMatrix m → IsTrue (is_pair m.sizes x.right x.left) → IsTableOf (record { sizes = sizes; cells = cells }) m
+    → (right left : ℕ) → IsTrue (is_pair m.sizes right left)
     → get_or (set m.costs (cell_at m x.right x.left) x.cost) (cell_at m right left) (pos 0) ≡ connection_cost (record { sizes = sizes; cells = cells ++ x ∷ [] }) right left
 costs_more sizes cells m x formed p holds right left q =
     let before : ℤ = connection_cost (record { sizes = sizes; cells = cells }) right left in
@@ -80,7 +82,7 @@ costs_more sizes cells m x formed p holds right left q =
     elim (cases_eq x.right right) [
       | inl same_right ↦ elim (cases_eq x.left left) [
         | inl same_left ↦
-            let same : cell_at m right left ≡ cell_at m x.right x.left = ap (λ (a : ℕ). a * m.left_size + left) (sym same_right) ∙ ap (λ (b : ℕ). x.right * m.left_size + b) (sym same_left) in
+            let same : cell_at m right left ≡ cell_at m x.right x.left = ap (λ (a : ℕ). a * m.sizes.left + left) (sym same_right) ∙ ap (λ (b : ℕ). x.right * m.sizes.left + b) (sym same_left) in
             ap (λ (k : ℕ). get_or (set m.costs (cell_at m x.right x.left) x.cost) k (pos 0)) same ∙ cost_here m x.right x.left x.cost formed p
             ∙ sym (now ∙ cond-true (x.right == right && x.left == left) x.cost before (and_from (x.right == right) (x.left == left) (eq-eqb x.right right same_right) (eq-eqb x.left left same_left)))
         | inr other ↦ kept (λ e. other e.1) (and_right (x.right == right) (x.left == left) (ne_eqb x.left left other))
@@ -95,14 +97,9 @@ cells-append rows line cell listed =
     filter_map-append (λ row. cell_from (words_of row.1)) rows (line ∷ []) ∙ ap (λ (found : Option Cell). cells_of rows ++ cons_option found []) listed
 
 -- a row's ids lie within the table
-pub row_pair : (sizes : MatrixSizes) (all left : List (ℕ × List ℕ)) (m : CostTable) (line : List ℕ) (cell : Cell) → HoldsUpTo sizes all left m → IsRow sizes line cell → IsPair m cell.right cell.left
+pub row_pair : (sizes : MatrixSizes) (all left : List (ℕ × List ℕ)) (m : CostTable) (line : List ℕ) (cell : Cell) → HoldsUpTo sizes all left m → IsRow sizes line cell → IsTrue (is_pair m.sizes cell.right cell.left)
 row_pair sizes all left m line cell h r =
-    let p = and_parts (ltb cell.right sizes.right) (ltb cell.left sizes.left) r.within in
-    let right_size : m.right_size ≡ sizes.right = h.holds.right_size in
-    let left_size : m.left_size ≡ sizes.left = h.holds.left_size in
-    let right_low : cell.right < sizes.right = ltb-true cell.right sizes.right p.0 in
-    let left_low : cell.left < sizes.left = ltb-true cell.left sizes.left p.1 in
-    record { right_below = omega arith; left_below = omega arith }
+    subst (λ (s : MatrixSizes). IsTrue (is_pair s cell.right cell.left)) (sym h.holds.sizes) r.within
 
 pub row_held : (sizes : MatrixSizes) (all left lines : List (ℕ × List ℕ)) (m new : CostTable) (number : ℕ) (line : List ℕ) (cell : Cell) → HoldsUpTo sizes all lines m → lines ≡ (number, line) ∷ left → IsRow sizes line cell
     → new ≡ record m { costs = set m.costs (cell_at m cell.right cell.left) cell.cost } → IsMatrix new → HoldsUpTo sizes all left new
@@ -110,10 +107,9 @@ row_held sizes all left lines m new number line cell h is r set_is formed =
     let here : ℕ × List ℕ = (number, line) in
     let p = row_pair sizes all lines m line cell h r in
     let held : IsTableOf (record { sizes = sizes; cells = cells_of (h.rows ++ here ∷ []) }) (record m { costs = set m.costs (cell_at m cell.right cell.left) cell.cost }) = record {
-      right_size = h.holds.right_size;
-      left_size = h.holds.left_size;
+      sizes = h.holds.sizes;
       costs = λ right left' q.
-          costs_more sizes (cells_of h.rows) m cell h.formed p h.holds right left' (as_pair m (set m.costs (cell_at m cell.right cell.left) cell.cost) right left' q)
+          costs_more sizes (cells_of h.rows) m cell h.formed p h.holds right left' q
           ∙ ap (λ (cs : List Cell). connection_cost (record { sizes = sizes; cells = cs }) right left') (sym (cells-append h.rows here cell r.listed));
     } in
     record {

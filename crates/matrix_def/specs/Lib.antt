@@ -1,3 +1,2 @@
 pub mod Costs
 pub mod Rows
-pub mod Connections

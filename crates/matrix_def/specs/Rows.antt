@@ -1,14 +1,11 @@
 -- The rows of `matrix.def`.
 use Rattle.std.specs.Prelude.{◌≡◌, ℕ, IsTrue, List, ◌++◌, filter_map, Some, None}
 use Rattle.mj_model.specs.declared.matrix_sizes.MatrixSizes.{MatrixSizes}
+use Rattle.mj_model.specs.declared.source_fault.TheConstants.{MATRIX_FILE}
 use Rattle.mj_model.specs.Connection.{Cell, cell_from, words_of, row_fault, is_pair}
 use Rattle.mj_model.specs.FirstFault.{first_fault}
-use Rattle.matrix_def.specs.declared.rows.MatrixSizes.{MatrixSizes as HeaderSizes}
 use Rattle.matrix_def.specs.declared.rows.MatrixCell.{MatrixCell}
 use Rattle.matrix_def.specs.Costs.{CostTable, IsMatrix, IsTableOf}
-
-abbrev pub sizes_of : HeaderSizes → MatrixSizes
-sizes_of sizes = record { right = sizes.right; left = sizes.left }
 
 abbrev pub cell_of : MatrixCell → Cell
 cell_of cell = record { right = cell.right; left = cell.left; cost = cell.cost }
@@ -26,6 +23,6 @@ pub record IsRow (sizes : MatrixSizes) (line : List ℕ) (cell : Cell) : Type 0 
 pub record HoldsUpTo (sizes : MatrixSizes) (all left : List (ℕ × List ℕ)) (m : CostTable) : Type 0 where
   pub rows : List (ℕ × List ℕ)
   pub parts : all ≡ rows ++ left
-  pub none : first_fault 0 (row_fault sizes) rows ≡ None
+  pub none : first_fault MATRIX_FILE (row_fault sizes) rows ≡ None
   pub formed : IsMatrix m
   pub holds : IsTableOf (record { sizes = sizes; cells = cells_of rows }) m

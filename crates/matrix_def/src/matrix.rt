@@ -1,71 +1,60 @@
 //! The connection costs.
-ghost use Rattle.std.specs.Prelude.{◌≡◌, ◌↔◌, ◌<◌, ◌≤◌, ◌+◌, ◌*◌, pos, replicate, slice_set, IsTrue, IfOk};
-ghost use Rattle.mj_model.specs.declared.limits.TheConstants.{MATRIX_CELLS_MAX as CellsMax};
-ghost use Rattle.matrix_def.specs.Costs.{CostTable, IsPair, IsMatrix, cell_at, matrix_cost};
+ghost use Rattle.std.specs.Prelude.{◌≡◌, ◌<◌, ◌+◌, ◌*◌, pos, replicate, slice_set, length, IsTrue, IfOk};
+ghost use Rattle.mj_model.specs.Connection.{is_pair};
+ghost use Rattle.matrix_def.specs.Costs.{AreMatrixSizes, CostTable, IsMatrix, cell_at, matrix_cost};
 
+use mj_model::MatrixSizes;
 use std::alloc::{AllocError, Global};
 use std::marker::Model;
 
 /// What it costs to set one word behind another, by the context ids that meet.
 #[derive(Drop)]
 pub struct Matrix {
-    right_size: u32,
-    left_size: u32,
+    sizes: MatrixSizes,
     costs: Vec<i16>,
 }
 
 impl Model for Matrix {
     ghost Value = { CostTable };
 
-    ghost view = { λ m. record { right_size = m.right_size; left_size = m.left_size; costs = m.costs.items } };
+    ghost view = { λ m. record { sizes = m.sizes; costs = m.costs.items } };
 
-    ghost invariant = { λ m. IsMatrix (record { right_size = m.right_size; left_size = m.left_size; costs = m.costs.items }) };
+    ghost invariant = { λ m. IsMatrix (record { sizes = m.sizes; costs = m.costs.items }) };
 }
 
 impl Matrix {
     /// A table in which each pair costs 0.
-    pub(crate) fn empty(
-        alloc: Global,
-        right_size: u16,
-        left_size: u16,
-    ) -> Result<Matrix, AllocError>
-        requires right_some { 0 < right_size }
-        requires left_some { 0 < left_size }
-        requires few { right_size * left_size ≤ CellsMax }
-        ensures value { IfOk result (λ m. m ≡ record { right_size = right_size; left_size = left_size; costs = replicate (right_size * left_size) (pos 0) }) }
+    pub(crate) fn empty(alloc: Global, sizes: MatrixSizes) -> Result<Matrix, AllocError>
+        requires { AreMatrixSizes sizes }
+        ensures value { IfOk result (λ m. m ≡ record { sizes = sizes; costs = replicate (sizes.right * sizes.left) (pos 0) }) }
         ensures formed { IfOk result (λ m. IsMatrix m) }
     {
-        let costs = Vec::from_elem(alloc, 0, usize::from(right_size) * usize::from(left_size))?;
-        Ok(Matrix {
-            right_size: u32::from(right_size),
-            left_size: u32::from(left_size),
-            costs,
-        })
+        let costs = Vec::from_elem(alloc, 0, sizes.right as usize * sizes.left as usize)?;
+        Ok(Matrix { sizes, costs })
     }
 
     /// How many right ids and how many left ids there are.
-    pub fn sizes(&self) -> (u32, u32)
-        ensures right_size { result.0 ≡ self.now.right_size }
-        ensures left_size { result.1 ≡ self.now.left_size }
+    pub fn sizes(&self) -> MatrixSizes
+        ensures sizes { result ≡ self.now.sizes }
         ensures formed { IsMatrix self.now }
     {
-        (self.right_size, self.left_size)
+        self.sizes
     }
 
     /// Whether both ids lie within the sizes.
     pub fn is_valid(&self, left: u16, right: u16) -> bool
-        ensures { IsTrue result ↔ IsPair self.now right left }
+        ensures { result ≡ is_pair self.now.sizes right left }
     {
-        u32::from(right) < self.right_size && u32::from(left) < self.left_size
+        self.sizes.contains(right, left)
     }
 
     /// The connection cost of the right id of the word before and the left id of the word behind it.
     /// (MeCab, `matrix.def`)
     pub fn cost(&self, prev_right: u16, next_left: u16) -> i16
-        requires { IsPair self.now prev_right next_left }
+        requires { IsTrue (is_pair self.now.sizes prev_right next_left) }
         ensures { result ≡ matrix_cost self.now prev_right next_left }
     {
-        self.costs[cell(self.left_size, prev_right, next_left)]
+        self.costs[cell(self.sizes, prev_right, next_left)]
     }
 
     /// The costs of one right id after another, each in the order of the left ids.
@@ -77,18 +66,18 @@ impl Matrix {
     }
 
     pub(crate) fn set(&mut self, right: u16, left: u16, cost: i16)
-        requires { IsPair self.old right left }
+        requires { IsTrue (is_pair self.old.sizes right left) }
         ensures value { self.new ≡ record self.old { costs = slice_set self.old.costs (cell_at self.old right left) cost } }
         ensures formed { IsMatrix self.new }
     {
-        let at = cell(self.left_size, right, left);
+        let at = cell(self.sizes, right, left);
         self.costs[at] = cost;
     }
 }
 
 /// Where the cost of a pair stands.
-fn cell(left_size: u32, right: u16, left: u16) -> usize
-    ensures { result ≡ right * left_size + left }
+fn cell(sizes: MatrixSizes, right: u16, left: u16) -> usize
+    ensures { result ≡ right * sizes.left + left }
 {
-    usize::from(right) * left_size as usize + usize::from(left)
+    usize::from(right) * sizes.left as usize + usize::from(left)
 }

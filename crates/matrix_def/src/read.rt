@@ -1,66 +1,50 @@
 //! The reader of `matrix.def`.
 ghost use Rattle.std.specs.Prelude.{◌≡◌, [], Ok, Err, Some, None, IfOk, IfErr};
+ghost use Rattle.mj_model.specs.declared.source_fault.TheConstants.{MATRIX_FILE as MatrixFile};
 ghost use Rattle.mj_model.specs.FirstFault.{IsRefusal, first_fault};
 ghost use Rattle.mj_model.specs.Connection.{Connection, connection_of, row_fault};
-ghost use Rattle.matrix_def.specs.Costs.{IsTableOf, IsMatrix};
-ghost use Rattle.matrix_def.specs.Rows.{sizes_of, cells_of};
+ghost use Rattle.matrix_def.specs.Costs.{IsMatrix, IsTableOf};
+ghost use Rattle.matrix_def.specs.Rows.{cells_of};
 
 use crate::matrix::Matrix;
-use crate::rows::{MatrixSizes, read_row, read_sizes};
+use crate::rows::{read_row, read_sizes};
 use lex_source::FilledLines;
-use mj_model::{MATRIX_CELLS_MAX, SourceFault, SourceKind};
+use mj_model::{MATRIX_CELLS_MAX, MATRIX_FILE, MatrixSizes, SourceFault, SourceKind};
 use std::alloc::Global;
 
 /// The connection costs that `matrix.def` lists; a pair that it doesn't list costs 0, and of a repeated pair the last row
 /// counts. (MeCab, `matrix.def`; what it leaves open is this project's own choice)
 pub fn read_matrix(alloc: Global, bytes: &[u8]) -> Result<Matrix, SourceFault>
     ensures accepted { IfOk result (λ m. (c : Connection) × (connection_of bytes.now ≡ Ok c) × IsTableOf c m) }
-    ensures formed { IfOk result (λ m. IsMatrix m) }
     ensures refused { IfErr result (λ fault. IsRefusal fault (connection_of bytes.now ≡ Err fault)) }
 {
     let mut rows = FilledLines::new(bytes);
     let Some((line, header)) = rows.next() else {
-        return Err(fault(0, SourceKind::BadHeader));
+        return Err(SourceKind::BadHeader.at(MATRIX_FILE, 0));
     };
     let Some(sizes) = read_sizes(header) else {
-        return Err(fault(line, SourceKind::BadHeader));
+        return Err(SourceKind::BadHeader.at(MATRIX_FILE, line));
     };
     if u64::from(sizes.right) * u64::from(sizes.left) > MATRIX_CELLS_MAX {
-        return Err(fault(line, SourceKind::TooLarge));
+        return Err(SourceKind::TooLarge.at(MATRIX_FILE, line));
     }
-    let Ok(mut matrix) = Matrix::empty(alloc, sizes.right, sizes.left) else {
-        return Err(fault(line, SourceKind::Memory));
-    };
-    match fill(&mut matrix, sizes, rows) {
-        Ok(()) => Ok(matrix),
-        Err(fault) => Err(fault),
-    }
+    let mut matrix = Matrix::empty(alloc, sizes)?;
+    fill(&mut matrix, sizes, rows)?;
+    Ok(matrix)
 }
 
 /// Sets the costs that the rows list, up to the first bad one.
 fn fill(matrix: &mut Matrix, sizes: MatrixSizes, rows: FilledLines) -> Result<(), SourceFault>
     requires formed { IsMatrix matrix.old }
-    requires empty { IsTableOf (record { sizes = sizes_of sizes; cells = [] }) matrix.old }
-    ensures filled { IfOk result (λ _. (first_fault 0 (row_fault (sizes_of sizes)) rows.entry ≡ None) × IsTableOf (record { sizes = sizes_of sizes; cells = cells_of rows.entry }) matrix.new) }
-    ensures formed { IfOk result (λ _. IsMatrix matrix.new) }
-    ensures refused { IfErr result (λ fault. first_fault 0 (row_fault (sizes_of sizes)) rows.entry ≡ Some fault) }
+    requires empty { IsTableOf (record { sizes = sizes; cells = [] }) matrix.old }
+    ensures filled { IfOk result (λ _. (first_fault MatrixFile (row_fault sizes) rows.entry ≡ None) × IsTableOf (record { sizes = sizes; cells = cells_of rows.entry }) matrix.new) }
+    ensures refused { IfErr result (λ fault. first_fault MatrixFile (row_fault sizes) rows.entry ≡ Some fault) }
 {
     for (line, row) in rows {
         match read_row(sizes, row) {
             Ok(cell) => matrix.set(cell.right, cell.left, cell.cost),
-            Err(kind) => return Err(fault(line, kind)),
+            Err(kind) => return Err(kind.at(MATRIX_FILE, line)),
         }
     }
     Ok(())
-}
-
-/// A fault of `matrix.def`, which is file 0.
-fn fault(line: u64, kind: SourceKind) -> SourceFault
-    ensures { result ≡ record { file = 0; line = line; kind = kind } }
-{
-    SourceFault {
-        file: 0,
-        line,
-        kind,
-    }
 }

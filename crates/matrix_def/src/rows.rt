@@ -1,17 +1,10 @@
 //! The lines of `matrix.def`.
-ghost use Rattle.std.specs.Prelude.{◌≡◌, ◌<◌, [], ◌∷◌, length, Some, option_map, IfSome, MatchOption, MatchResult};
+ghost use Rattle.std.specs.Prelude.{◌≡◌, ◌<◌, ◌≤◌, [], ◌∷◌, length, Some, option_map, IfSome, MatchOption, MatchResult};
 ghost use Rattle.mj_model.specs.Connection.{words_of, sizes_from, cell_from, row_fault, size as size_of};
-ghost use Rattle.matrix_def.specs.Rows.{sizes_of, cell_of, IsRow};
+ghost use Rattle.matrix_def.specs.Rows.{cell_of, IsRow};
 
 use lex_source::{Words, context_id, cost};
-use mj_model::SourceKind;
-
-/// How many right ids and how many left ids there are.
-#[derive(Clone, Copy)]
-pub(crate) struct MatrixSizes {
-    pub(crate) right: u16,
-    pub(crate) left: u16,
-}
+use mj_model::{MatrixSizes, SourceKind};
 
 /// What a row says.
 #[derive(Clone, Copy)]
@@ -23,24 +16,25 @@ pub(crate) struct MatrixCell {
 
 /// The sizes that a header says.
 pub(crate) fn read_sizes(line: &[u8]) -> Option<MatrixSizes>
-    ensures value { option_map sizes_of result ≡ sizes_from (words_of line.now) }
+    ensures value { result ≡ sizes_from (words_of line.now) }
     ensures some { IfSome result (λ sizes. (0 < sizes.right) × (0 < sizes.left)) }
+    ensures most { IfSome result (λ sizes. (sizes.right ≤ 65535) × (sizes.left ≤ 65535)) }
 {
     let (right, left) = two_words(line)?;
     Some(MatrixSizes {
-        right: size(right)?,
-        left: size(left)?,
+        right: u32::from(size(right)?),
+        left: u32::from(size(left)?),
     })
 }
 
 /// The cell that a row says, within the sizes.
 pub(crate) fn read_row(sizes: MatrixSizes, line: &[u8]) -> Result<MatrixCell, SourceKind>
-    ensures { MatchResult result (λ cell. IsRow (sizes_of sizes) line.now (cell_of cell)) (λ kind. row_fault (sizes_of sizes) line.now ≡ Some kind) }
+    ensures { MatchResult result (λ cell. IsRow sizes line.now (cell_of cell)) (λ kind. row_fault sizes line.now ≡ Some kind) }
 {
     let Some(cell) = read_cell(line) else {
         return Err(SourceKind::BadRow);
     };
-    if cell.right < sizes.right && cell.left < sizes.left {
+    if sizes.contains(cell.right, cell.left) {
         Ok(cell)
     } else {
         Err(SourceKind::PairOutside)

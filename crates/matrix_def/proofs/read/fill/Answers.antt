@@ -4,7 +4,7 @@ use Rattle.std.proofs.lemmas.Int.{to_z-of_z}
 use mir.Syntax.{w16}
 use mir.Val.{SFits}
 use Rattle.matrix_def.specs.Costs.{CostTable, cell_at}
-use Rattle.matrix_def.specs.Rows.{sizes_of, cell_of}
+use Rattle.matrix_def.specs.Rows.{cell_of}
 use Rattle.matrix_def.proofs.RowLemmas.{row_held, row_bad}
 use Rattle.matrix_def.proofs.read.fill.Goals as goal
 
@@ -14,7 +14,7 @@ loop-line-preserved c =
     let m : CostTable = c.loop-line.matrix in (
       tt,
       tt,
-      row_held (sizes_of c.args.sizes) c.args.rows _ _ m c.set.new.self c.in-Some.line c.in-Some.row.now (cell_of c.in-Ok.cell) c.loop-line.invariant.2 c.in-Some.ensures.steps
+      row_held c.args.sizes c.args.rows _ _ m c.set.new.self c.in-Some.line c.in-Some.row.now (cell_of c.in-Ok.cell) c.loop-line.invariant.2 c.in-Some.ensures.steps
           c.in-Ok.ensures
           (c.set.ensures.value ∙ ap (λ (z : ℤ). record m { costs = set m.costs (cell_at m c.in-Ok.cell.right c.in-Ok.cell.left) z }) (to_z-of_z w16 c.in-Ok.cell.cost fits))
           c.set.ensures.formed,
@@ -22,4 +22,4 @@ loop-line-preserved c =
 
 pub returns-in-Err-clause-refused : goal.returns-in-Err-clause-refused
 returns-in-Err-clause-refused c =
-    row_bad (sizes_of c.args.sizes) c.args.rows _ _ c.loop-line.matrix c.in-Some.line c.in-Some.row.now c.in-Err.kind c.fault.result c.loop-line.invariant.2 c.in-Some.ensures.steps c.in-Err.ensures c.fault.ensures
+    row_bad c.args.sizes c.args.rows _ _ c.loop-line.matrix c.in-Some.line c.in-Some.row.now c.in-Err.kind c.at.result c.loop-line.invariant.2 c.in-Some.ensures.steps c.in-Err.ensures c.at.ensures
