@@ -10,7 +10,7 @@ use crate::coverage::coverage;
 use crate::definitions::{Definition, number_of, read_definitions};
 use crate::mappings::read_mappings;
 use crate::overlay::{Step, find_step};
-use mj_model::{Category, CharInfo, SourceFault, SourceKind};
+use mj_model::{CHAR_FILE, Category, CharInfo, SourceFault, SourceKind};
 use std::alloc::Global;
 use std::marker::Model;
 
@@ -94,14 +94,12 @@ pub fn read_chars(alloc: Global, bytes: &[u8]) -> Result<CharTable, SourceFault>
     let default = single(&definitions, "DEFAULT", SourceKind::NoDefault)?;
     let _ = single(&definitions, "SPACE", SourceKind::NoSpace)?;
     let mapped = read_mappings(alloc, bytes, &definitions)?;
-    match coverage(alloc, &mapped) {
-        Ok(steps) => Ok(CharTable {
-            definitions,
-            default,
-            steps,
-        }),
-        Err(_) => Err(fault(SourceKind::Memory)),
-    }
+    let steps = coverage(alloc, &mapped)?;
+    Ok(CharTable {
+        definitions,
+        default,
+        steps,
+    })
 }
 
 /// The category of a name alone, which `char.def` has to define.
@@ -114,17 +112,6 @@ fn single(definitions: &[Definition], name: &str, kind: SourceKind) -> Result<Ch
             bits: 1 << number,
             head: number as u8,
         }),
-        None => Err(fault(kind)),
-    }
-}
-
-/// A fault of `char.def` as a whole, which is file 1.
-fn fault(kind: SourceKind) -> SourceFault
-    ensures { result ≡ record { file = 1; line = 0; kind = kind } }
-{
-    SourceFault {
-        file: 1,
-        line: 0,
-        kind,
+        None => Err(kind.at(CHAR_FILE, 0)),
     }
 }

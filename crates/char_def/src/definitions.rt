@@ -9,7 +9,7 @@ ghost use Rattle.char_def.specs.Definitions.{definitions_are, HasNumber};
 
 use crate::line::{CharLine, read_line};
 use lex_source::lines;
-use mj_model::{CATEGORIES_MAX, Category, SourceFault, SourceKind};
+use mj_model::{CATEGORIES_MAX, CHAR_FILE, Category, SourceFault, SourceKind};
 use std::alloc::Global;
 use std::string::String;
 
@@ -30,11 +30,7 @@ pub(crate) fn read_definitions(alloc: Global, bytes: &[u8]) -> Result<Vec<Defini
     let mut definitions = Vec::new(alloc);
     for (number, line) in lines(bytes) {
         if let Err(kind) = add_line(alloc, line, &mut definitions) {
-            return Err(SourceFault {
-                file: 1,
-                line: number,
-                kind,
-            });
+            return Err(kind.at(CHAR_FILE, number));
         }
     }
     Ok(definitions)
@@ -57,17 +53,11 @@ fn add_line(alloc: Global, line: &[u8], definitions: &mut Vec<Definition>) -> Re
     if definitions.len() >= CATEGORIES_MAX {
         return Err(SourceKind::TooManyCategories);
     }
-    let Ok(name) = String::from_str(alloc, category.name) else {
-        return Err(SourceKind::Memory);
-    };
-    let definition = Definition {
-        name,
+    definitions.push(Definition {
+        name: String::from_str(alloc, category.name)?,
         category: category.category,
-    };
-    match definitions.push(definition) {
-        Ok(()) => Ok(()),
-        Err(_) => Err(SourceKind::Memory),
-    }
+    })?;
+    Ok(())
 }
 
 /// The number of the category of this name.

@@ -2,6 +2,7 @@
 ghost use Rattle.std.specs.Prelude.{◌≡◌, ◌≤◌, ◌++◌, ◌∷◌, ◌⊎◌, ℕ, List, map, length, true, false, None, Some, IfOk, IfErr, OnOk, MatchOption};
 ghost use Rattle.std.specs.List.{list_all};
 ghost use Rattle.mj_model.specs.declared.limits.TheConstants.{CATEGORIES_MAX as CategoriesMax};
+ghost use Rattle.mj_model.specs.declared.source_fault.TheConstants.{CHAR_FILE as CharFile};
 ghost use Rattle.mj_model.specs.declared.source_fault.SourceKind.TheVariants.{Memory};
 ghost use Rattle.mj_model.specs.CharDef.{char_line, mapped_by, mapping_fault, source_from, is_defined, info_of_names};
 ghost use Rattle.mj_model.specs.FirstFault.{IsRefusal, first_fault};
@@ -14,7 +15,7 @@ use crate::line::{CharLine, read_line};
 use crate::line_words::LineWords;
 use crate::mapped::MappedRange;
 use lex_source::lines;
-use mj_model::{CharInfo, SourceFault, SourceKind};
+use mj_model::{CHAR_FILE, CharInfo, SourceFault, SourceKind};
 use std::alloc::Global;
 
 /// The mappings in the order of their lines, up to the first that names a category that is not defined.
@@ -24,18 +25,14 @@ pub(crate) fn read_mappings(
     definitions: &[Definition],
 ) -> Result<Vec<MappedRange>, SourceFault>
     requires { length definitions.now ≤ CategoriesMax }
-    ensures accepted { IfOk result (λ read. first_fault 1 (λ line. mapping_fault (definitions_are definitions.now) (char_line line)) (numbered_lines bytes.now) ≡ None) }
+    ensures accepted { IfOk result (λ read. first_fault CharFile (λ line. mapping_fault (definitions_are definitions.now) (char_line line)) (numbered_lines bytes.now) ≡ None) }
     ensures mappings { IfOk result (λ read. map said_by read.items ≡ map (said (definitions_are definitions.now)) (source_from (numbered_lines bytes.now)).mappings) }
-    ensures refused { IfErr result (λ fault. IsRefusal fault (first_fault 1 (λ line. mapping_fault (definitions_are definitions.now) (char_line line)) (numbered_lines bytes.now) ≡ Some fault)) }
+    ensures refused { IfErr result (λ fault. IsRefusal fault (first_fault CharFile (λ line. mapping_fault (definitions_are definitions.now) (char_line line)) (numbered_lines bytes.now) ≡ Some fault)) }
 {
     let mut mapped = Vec::new(alloc);
     for (number, line) in lines(bytes) {
         if let Err(kind) = add_line(line, definitions, &mut mapped) {
-            return Err(SourceFault {
-                file: 1,
-                line: number,
-                kind,
-            });
+            return Err(kind.at(CHAR_FILE, number));
         }
     }
     Ok(mapped)
@@ -58,14 +55,11 @@ fn add_line(
     let Some(info) = info_of(definitions, mapping.names) else {
         return Err(SourceKind::UndefinedCategory);
     };
-    let range = MappedRange {
+    mapped.push(MappedRange {
         range: mapping.range,
         info,
-    };
-    match mapped.push(range) {
-        Ok(()) => Ok(()),
-        Err(_) => Err(SourceKind::Memory),
-    }
+    })?;
+    Ok(())
 }
 
 /// The categories of these names, or None where one is not defined.

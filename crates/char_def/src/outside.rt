@@ -3,31 +3,30 @@ ghost use Rattle.std.specs.Prelude.{◌≡◌, ℕ, ◌++◌, ◌∷◌, [], Lis
 ghost use Rattle.mj_model.specs.Lexicon.{row_of, rows_of};
 ghost use Rattle.char_def.specs.Outside.{is_outside as is_row_outside, lines_outside, IsLeast, IsLeastOf};
 
-use mj_model::Record;
+use mj_model::{MatrixSizes, Record};
 
 /// The least of `first` and the lines of those records that lie outside the sizes.
 pub(crate) fn least_line_outside(
     records: &[Record],
-    right_size: u32,
-    left_size: u32,
+    sizes: MatrixSizes,
     first: Option<u64>,
 ) -> Option<u64>
-    ensures { (before : List ℕ) → IsLeastOf before first → IsLeastOf (before ++ lines_outside (record { right = right_size; left = left_size }) (rows_of records.now)) result }
+    ensures { (before : List ℕ) → IsLeastOf before first → IsLeastOf (before ++ lines_outside sizes (rows_of records.now)) result }
 {
     let mut least = first;
     for record in records {
-        if is_outside(record, right_size, left_size) {
+        if is_outside(record, sizes) {
             least = Some(earlier(least, record.line));
         }
     }
     least
 }
 
-/// Whether one of the ids is not below its size.
-fn is_outside(row: &Record, right_size: u32, left_size: u32) -> bool
-    ensures { result ≡ is_row_outside (record { right = right_size; left = left_size }) (row_of row.now) }
+/// Whether the ids don't lie within the sizes.
+fn is_outside(row: &Record, sizes: MatrixSizes) -> bool
+    ensures { result ≡ is_row_outside sizes (row_of row.now) }
 {
-    u32::from(row.entry.right) >= right_size || u32::from(row.entry.left) >= left_size
+    !sizes.contains(row.entry.right, row.entry.left)
 }
 
 /// The lesser of a line and the one before it, if there is one.

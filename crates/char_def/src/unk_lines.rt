@@ -1,6 +1,7 @@
 //! The lines of `unk.def`, by category.
 ghost use Rattle.std.specs.Prelude.{◌≡◌, ◌≤◌, ◌<◌, ◌⊎◌, [], ◌∷◌, ◌++◌, slice_set, slice_index_or, replicate, length, Ok, Err, IfOk, IfErr, OnOk};
 ghost use Rattle.mj_model.specs.declared.limits.TheConstants.{CATEGORIES_MAX as CategoriesMax};
+ghost use Rattle.mj_model.specs.declared.source_fault.TheConstants.{UNK_FILE as UnkFile};
 ghost use Rattle.mj_model.specs.declared.source_fault.SourceKind.TheVariants.{Memory};
 ghost use Rattle.mj_model.specs.FirstFault.{IsRefusal};
 ghost use Rattle.mj_model.specs.Lexicon.{Reading, ReadsAs, row_of};
@@ -10,7 +11,7 @@ ghost use Rattle.char_def.specs.UnkRows.{lists_are, HasAdded};
 
 use crate::char_table::CharTable;
 use lex_source::{lines, read_record};
-use mj_model::{ENTRIES_MAX, Record, SourceFault, SourceKind};
+use mj_model::{ENTRIES_MAX, Record, SourceFault, SourceKind, UNK_FILE};
 use std::alloc::{AllocError, Global};
 
 /// The lines of each category, up to the first bad line.
@@ -19,19 +20,17 @@ pub(crate) fn read_lines(
     bytes: &[u8],
     table: &CharTable,
 ) -> Result<Vec<Vec<Record>>, SourceFault>
-    ensures accepted { IfOk result (λ lists. (reading : Reading) × ReadsAs (unk_outcome table.now.categories) 2 0 bytes.now (Ok reading) × (lists_are lists.items ≡ rows_by_category table.now.categories reading.rows)) }
+    ensures accepted { IfOk result (λ lists. (reading : Reading) × ReadsAs (unk_outcome table.now.categories) UnkFile 0 bytes.now (Ok reading) × (lists_are lists.items ≡ rows_by_category table.now.categories reading.rows)) }
     ensures count { IfOk result (λ lists. length lists.items ≡ length table.now.categories) }
     ensures few { IfOk result (λ lists. length lists.items ≤ CategoriesMax) }
-    ensures refused { IfErr result (λ fault. IsRefusal fault (ReadsAs (unk_outcome table.now.categories) 2 0 bytes.now (Err fault))) }
+    ensures refused { IfErr result (λ fault. IsRefusal fault (ReadsAs (unk_outcome table.now.categories) UnkFile 0 bytes.now (Err fault))) }
 {
-    let Ok(mut lists) = empty_lists(alloc, table.count()) else {
-        return Err(fault(0, SourceKind::Memory));
-    };
+    let mut lists = empty_lists(alloc, table.count())?;
     let mut held = 0;
     for (number, line) in lines(bytes) {
         match add_line(alloc, number, line, table, held, &mut lists) {
             Ok(now) => held = now,
-            Err(kind) => return Err(fault(number, kind)),
+            Err(kind) => return Err(kind.at(UNK_FILE, number)),
         }
     }
     Ok(lists)
@@ -60,9 +59,7 @@ fn add_line(
     if held >= ENTRIES_MAX {
         return Err(SourceKind::TooManyEntries);
     }
-    let Ok(()) = add(lists, category, record) else {
-        return Err(SourceKind::Memory);
-    };
+    add(lists, category, record)?;
     Ok(held + 1)
 }
 
@@ -97,15 +94,4 @@ pub(crate) fn first_empty(lists: &[Vec<Record>]) -> usize
         }
     }
     lists.len()
-}
-
-/// A fault of `unk.def`, which is file 2.
-pub(crate) fn fault(line: u64, kind: SourceKind) -> SourceFault
-    ensures { result ≡ record { file = 2; line = line; kind = kind } }
-{
-    SourceFault {
-        file: 2,
-        line,
-        kind,
-    }
 }

@@ -7,8 +7,8 @@ ghost use Rattle.char_def.specs.Outside.{all_lines_outside, IsLeast};
 
 use crate::char_table::CharTable;
 use crate::outside::least_line_outside;
-use crate::unk_lines::{fault, first_empty, read_lines};
-use mj_model::{Record, SourceFault, SourceKind};
+use crate::unk_lines::{first_empty, read_lines};
+use mj_model::{MatrixSizes, Record, SourceFault, SourceKind, UNK_FILE};
 use std::alloc::Global;
 use std::marker::Model;
 
@@ -37,13 +37,13 @@ impl UnkTable {
         &self.lists[i]
     }
 
-    /// The first line of `unk.def` whose right id is not below `right_size`, or whose left id is not below `left_size`.
-    pub fn first_line_outside(&self, right_size: u32, left_size: u32) -> Option<u64>
-        ensures { MatchOption result (all_lines_outside (record { right = right_size; left = left_size }) self.now ≡ []) (IsLeast (all_lines_outside (record { right = right_size; left = left_size }) self.now)) }
+    /// The first line of `unk.def` whose ids don't lie within the sizes.
+    pub fn first_line_outside(&self, sizes: MatrixSizes) -> Option<u64>
+        ensures { MatchOption result (all_lines_outside sizes self.now ≡ []) (IsLeast (all_lines_outside sizes self.now)) }
     {
         let mut first = None;
         for list in &self.lists {
-            first = least_line_outside(list, right_size, left_size, first);
+            first = least_line_outside(list, sizes, first);
         }
         first
     }
@@ -59,7 +59,7 @@ pub fn read_unk(alloc: Global, bytes: &[u8], table: &CharTable) -> Result<UnkTab
     let lists = read_lines(alloc, bytes, table)?;
     let missing = first_empty(&lists);
     if missing < lists.len() {
-        return Err(fault(0, SourceKind::MissingCategory(missing as u8)));
+        return Err(SourceKind::MissingCategory(missing as u8).at(UNK_FILE, 0));
     }
     Ok(UnkTable { lists })
 }

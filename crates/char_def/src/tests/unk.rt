@@ -1,88 +1,48 @@
 //! Rows of `unk.def`.
 
-use super::samples::sample;
-use crate::read_unk;
-use mj_model::{SourceFault, SourceKind};
-use std::string::String;
+use super::samples::{chars_with, with_lines};
+use crate::{UnkTable, read_unk};
+use mj_model::SourceKind::{BadNumber, MissingCategory, NoSuchCategory, TooFewFields};
+use mj_model::{MatrixSizes, SourceFault, sample};
 use std::test::Fail;
 
-const UNKNOWN: &str =
-    "DEFAULT,1,1,1000,X\nSPACE,1,1,1000,X\nALPHA,1,1,1000,X\nKATAKANA,1,1,1000,X\nKANJI,1,1,1000,X\nHIRAGANA,1,1,1000,X\n";
+/// What an `unk.def` says of the sample's categories.
+fn read(rt: &HostRuntime, bytes: &[u8]) -> Result<Result<UnkTable, SourceFault>, Fail> {
+    Ok(read_unk(rt.alloc(), bytes, &chars_with(rt, "")?))
+}
 
 #[test]
 fn unk_def_lines(rt: HostRuntime) -> Result<(), Fail> {
-    let Ok(table) = sample(&rt, "")? else {
-        panic!(rt; "the sample is accepted");
-    };
+    #[rattlefmt::skip]
     let rows = [
-        // (what, a further line, the fault)
-        ("a second line of a category", "KANJI,0,0,-5,Y,Z\n", None),
-        ("a blank line", " \t\n", None),
-        ("quotes", "\"KANJI\",1,1,1,Y\n", None),
-        (
-            "too few fields",
-            "KANJI,1,1,1\n",
-            Some(SourceKind::TooFewFields),
-        ),
-        (
-            "a bad number",
-            "OTHER,1,1,40000,Y\n",
-            Some(SourceKind::BadNumber),
-        ),
-        (
-            "no such category",
-            "OTHER,1,1,1,Y\n",
-            Some(SourceKind::NoSuchCategory),
-        ),
-        (
-            "an empty name",
-            ",1,1,1,Y\n",
-            Some(SourceKind::NoSuchCategory),
-        ),
-        (
-            "an empty name and a bad number",
-            ",x,1,1,Y\n",
-            Some(SourceKind::BadNumber),
-        ),
-        (
-            "the first bad line",
-            "OTHER,1,1,1,Y\nKANJI\n",
-            Some(SourceKind::NoSuchCategory),
-        ),
+        // (what, lines behind the sample's 6, the fault of the first of them)
+        ("a second line of a category",    "KANJI,0,0,-5,Y,Z\n",      None),
+        ("a blank line",                   " \t\n",                   None),
+        ("quotes",                         "\"KANJI\",1,1,1,Y\n",     None),
+        ("too few fields",                 "KANJI,1,1,1\n",           Some(TooFewFields)),
+        ("a bad number",                   "OTHER,1,1,40000,Y\n",     Some(BadNumber)),
+        ("no such category",               "OTHER,1,1,1,Y\n",         Some(NoSuchCategory)),
+        ("an empty name",                  ",1,1,1,Y\n",              Some(NoSuchCategory)),
+        ("an empty name and a bad number", ",x,1,1,Y\n",              Some(BadNumber)),
+        ("the first bad line",             "OTHER,1,1,1,Y\nKANJI\n",  Some(NoSuchCategory)),
     ];
     for (what, further, kind) in rows {
-        let mut bytes = String::from_str(rt.alloc(), UNKNOWN)?;
-        bytes.push_str(further)?;
-        match read_unk(rt.alloc(), bytes.as_bytes(), &table) {
-            Ok(_) => assert!(rt; kind == None, "{what}"),
-            Err(fault) => {
-                assert!(rt; kind == Some(fault.kind), "{what}");
-                assert_eq!(rt; fault.line, 7, "{what}");
-                assert_eq!(rt; fault.file, 2, "{what}");
-            }
-        }
+        let bytes = with_lines(&rt, sample().unk, further)?;
+        let fault = read(&rt, &bytes)?.err();
+        assert_eq!(rt; fault, kind.map(|kind| kind.at(2, 7)), "{what}");
     }
     Ok(())
 }
 
 #[test]
 fn unknown_entries(rt: HostRuntime) -> Result<(), Fail> {
-    let Ok(table) = sample(&rt, "")? else {
-        panic!(rt; "the sample is accepted");
-    };
     let lines =
-        "KANJI,1,2,3,A\nSPACE,1,1,1,X\nALPHA,1,1,1,X\nKANJI,4,5,-6,B,C\nDEFAULT,1,1,1,X\nHIRAGANA,1,1,1,X\n";
-    let missing = SourceFault {
-        file: 2,
-        line: 0,
-        kind: SourceKind::MissingCategory(3),
-    };
-    assert!(rt; read_unk(rt.alloc(), lines.as_bytes(), &table).err() == Some(missing));
-    let mut bytes = String::from_str(rt.alloc(), lines)?;
-    bytes.push_str("KATAKANA,1,1,1,X\n")?;
-    let Ok(unknown) = read_unk(rt.alloc(), bytes.as_bytes(), &table) else {
-        panic!(rt; "each category has a line");
-    };
+        b"KANJI,1,2,3,A\nSPACE,1,1,1,X\nALPHA,1,1,1,X\nKANJI,4,5,-6,B,C\nDEFAULT,1,1,1,X\nHIRAGANA,1,1,1,X\n";
+    let missing = read(&rt, lines)?.err();
+    assert_eq!(rt; missing, Some(MissingCategory(3).at(2, 0)));
+    let bytes = with_lines(&rt, lines, "KATAKANA,1,1,1,X\n")?;
+    let table = chars_with(&rt, "")?;
+    let unknown = read_unk(rt.alloc(), &bytes, &table)?;
     let rows = [
         // (line, left id, right id, cost, feature)
         (1, 1, 2, 3, "A"),
@@ -95,26 +55,27 @@ fn unknown_entries(rt: HostRuntime) -> Result<(), Fail> {
     let kanji = unknown.lines(4);
     assert_eq!(rt; kanji.len(), rows.len());
     for (record, (line, left, right, cost, feature)) in kanji.iter().zip(rows) {
-        assert_eq!(rt; record.line, line, "{feature}");
-        assert_eq!(rt; record.surface.as_str(), "KANJI", "{feature}");
-        assert_eq!(rt; record.entry.left, left, "{feature}");
-        assert_eq!(rt; record.entry.right, right, "{feature}");
-        assert_eq!(rt; record.entry.cost, cost, "{feature}");
-        assert_eq!(rt; record.entry.feature.as_str(), feature, "{feature}");
+        let entry = &record.entry;
+        assert_eq!(rt;
+            (record.line, record.surface.as_str()),
+            (line, "KANJI"),
+            "{feature}"
+        );
+        assert_eq!(rt;
+            (entry.left, entry.right, entry.cost),
+            (left, right, cost),
+            "{feature}"
+        );
+        assert_eq!(rt; entry.feature.as_str(), feature);
     }
     Ok(())
 }
 
 #[test]
 fn first_line_outside(rt: HostRuntime) -> Result<(), Fail> {
-    let Ok(table) = sample(&rt, "")? else {
-        panic!(rt; "the sample is accepted");
-    };
     let lines =
-        "KANJI,1,1,1,X\nSPACE,2,1,1,X\nALPHA,1,3,1,X\nKANJI,0,0,1,X\nDEFAULT,1,4,1,X\nHIRAGANA,1,1,1,X\nKATAKANA,1,1,1,X\n";
-    let Ok(unknown) = read_unk(rt.alloc(), lines.as_bytes(), &table) else {
-        panic!(rt; "each category has a line");
-    };
+        b"KANJI,1,1,1,X\nSPACE,2,1,1,X\nALPHA,1,3,1,X\nKANJI,0,0,1,X\nDEFAULT,1,4,1,X\nHIRAGANA,1,1,1,X\nKATAKANA,1,1,1,X\n";
+    let unknown = read(&rt, lines)??;
     let rows = [
         // (what, right ids, left ids, line)
         ("all inside", 5, 3, None),
@@ -124,12 +85,9 @@ fn first_line_outside(rt: HostRuntime) -> Result<(), Fail> {
         ("the first line", 1, 1, Some(1)),
         ("no ids", 0, 0, Some(1)),
     ];
-    for (what, right_size, left_size, line) in rows {
-        assert_eq!(rt;
-            unknown.first_line_outside(right_size, left_size),
-            line,
-            "{what}"
-        );
+    for (what, right, left, line) in rows {
+        let sizes = MatrixSizes { right, left };
+        assert_eq!(rt; unknown.first_line_outside(sizes), line, "{what}");
     }
     Ok(())
 }

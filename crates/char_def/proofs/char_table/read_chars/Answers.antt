@@ -15,21 +15,21 @@ returns-in_err-mapped-clause-refused c =
 
 pub invariant_of-result : goal.invariant_of-result
 invariant_of-result c =
-    let table : CharCategories = record { categories = definitions_are c.in_ok-definitions.definitions.items; steps = c.in-Ok.steps.items } in
-    let read = table_read (numbered_lines c.args.bytes.now) (definitions_are c.in_ok-definitions.definitions.items) c.in_ok-mapped.mapped.items c.in-Ok.steps.items
+    let table : CharCategories = record { categories = definitions_are c.in_ok-definitions.definitions.items; steps = c.in_ok-steps.steps.items } in
+    let read = table_read (numbered_lines c.args.bytes.now) (definitions_are c.in_ok-definitions.definitions.items) c.in_ok-mapped.mapped.items c.in_ok-steps.steps.items
     c.in_ok-definitions.ensures.accepted c.in_ok-definitions.ensures.categories
     (rw c.deref.ensures.value at c.in_ok-default.ensures.0) (rw c.deref-2.ensures.value at c.in_ok-single.ensures.0) (rw c.deref-3.ensures.value at c.in_ok-mapped.ensures.accepted)
-    (rw c.deref-3.ensures.value at c.in_ok-mapped.ensures.mappings) (rw c.deref-4.ensures.value at c.in-Ok.ensures) in
+    (rw c.deref-3.ensures.value at c.in_ok-mapped.ensures.mappings) (rw c.deref-4.ensures.value at c.in_ok-steps.ensures) in
     record {
       few = c.in_ok-definitions.ensures.few;
       default_is = rw c.deref.ensures.value at c.in_ok-default.ensures.1;
-      rising = c.in-Ok.ensures.rising;
+      rising = c.in_ok-steps.ensures.rising;
       heads = first_categories c.args.bytes.now read.0 table read.1 read.2;
     }
 
-pub returns-in-Ok-clause-accepted : goal.returns-in-Ok-clause-accepted
-returns-in-Ok-clause-accepted c =
-    table_read (numbered_lines c.args.bytes.now) (definitions_are c.in_ok-definitions.definitions.items) c.in_ok-mapped.mapped.items c.in-Ok.steps.items
+pub returns-clause-accepted : goal.returns-clause-accepted
+returns-clause-accepted c =
+    table_read (numbered_lines c.args.bytes.now) (definitions_are c.in_ok-definitions.definitions.items) c.in_ok-mapped.mapped.items c.in_ok-steps.steps.items
     c.in_ok-definitions.ensures.accepted c.in_ok-definitions.ensures.categories
     (rw c.deref.ensures.value at c.in_ok-default.ensures.0) (rw c.deref-2.ensures.value at c.in_ok-single.ensures.0) (rw c.deref-3.ensures.value at c.in_ok-mapped.ensures.accepted)
-    (rw c.deref-3.ensures.value at c.in_ok-mapped.ensures.mappings) (rw c.deref-4.ensures.value at c.in-Ok.ensures)
+    (rw c.deref-3.ensures.value at c.in_ok-mapped.ensures.mappings) (rw c.deref-4.ensures.value at c.in_ok-steps.ensures)

@@ -8,7 +8,7 @@ use Rattle.char_def.proofs.outside.least_line_outside.Goals.{then-is_outside, el
 
 pub loop-record-preserved : goal.loop-record-preserved
 loop-record-preserved c = λ before h.
-    let sizes : MatrixSizes = record { right = c.args.right_size; left = c.args.left_size } in
+    let sizes : MatrixSizes = c.args.sizes in
     let so_far : List ℕ = before ++ lines_outside sizes (rows_of (take c.loop-record.record-index c.args.records.now)) in
     elim c.if-is_outside.branch [
       | then-is_outside w ↦
@@ -21,4 +21,4 @@ loop-record-preserved c = λ before h.
 
 pub returns : goal.returns
 returns c = λ before h.
-    all_looked_at (record { right = c.args.right_size; left = c.args.left_size }) before c.args.records.now c.loop-record.record-index c.loop-record.least c.loop-record-test.false (c.loop-record.invariant before h)
+    all_looked_at c.args.sizes before c.args.records.now c.loop-record.record-index c.loop-record.least c.loop-record-test.false (c.loop-record.invariant before h)

@@ -7,4 +7,4 @@ use Rattle.char_def.proofs.outside.least_line_outside.Given as goal
 abbrev pub invariant-loop-record : goal.invariant-loop-record
 invariant-loop-record l =
     (before : List ℕ) → IsLeastOf before l.fn.first
-    → IsLeastOf (before ++ lines_outside (record { right = l.right_size; left = l.left_size }) (rows_of (take l.record-index l.records))) l.least
+    → IsLeastOf (before ++ lines_outside l.sizes (rows_of (take l.record-index l.records))) l.least

@@ -30,4 +30,4 @@ pub returns-clause-added : goal.returns-clause-added
 returns-clause-added c =
     let named : HasNumber c.args.table.now.categories (row_of c.in-Some.record).surface c.in-Some-number_of.category = rw c.as_bytes.ensures.value at c.in-Some-number_of.ensures in
     row_held c.args.table.now.categories c.args.number c.args.line.now c.args.held c.in-Some-number_of.category (row_of c.in-Some.record) c.args.lists.now.items _ (rw c.in-Some.is at c.in_ok-record.ensures) named
-    c.if-held-ge-ENTRIES_MAX.false c.in-Ok.ensures.added
+    c.if-held-ge-ENTRIES_MAX.false c.in_ok-add.ensures.added

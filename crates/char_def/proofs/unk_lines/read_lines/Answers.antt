@@ -6,21 +6,21 @@ pub loop-number-init : goal.loop-number-init
 loop-number-init c = record {
   can = tt;
   finite = tt;
-  count = as_many c.args.table.now.categories c.count.result c.in-Ok.lists.items c.in-Ok.ensures c.count.ensures.count;
-  read = unk_begun c.args.table.now.categories c.args.bytes.now _ c.count.result c.in-Ok.lists.items (c.into_iter-number-iterator.ensures.into_iter_gives ∙ c.lines-number-items.ensures) c.in-Ok.ensures c.count.ensures.count;
+  count = as_many c.args.table.now.categories c.count.result c.in_ok-lists.lists.items c.in_ok-lists.ensures c.count.ensures.count;
+  read = unk_begun c.args.table.now.categories c.args.bytes.now _ c.count.result c.in_ok-lists.lists.items (c.into_iter-number-iterator.ensures.into_iter_gives ∙ c.lines-number-items.ensures) c.in_ok-lists.ensures c.count.ensures.count;
 }
 
 pub loop-number-preserved : goal.loop-number-preserved
 loop-number-preserved c = record {
   can = tt;
   finite = tt;
-  count = c.in-Ok-add_line.ensures.count ∙ c.loop-number.invariant.count;
-  read = unk_more c.args.table.now.categories _ _ _ c.in-Some.number c.in-Some.line.now c.loop-number.held c.in-Ok-add_line.now _ _ c.loop-number.invariant.read c.in-Some.ensures.steps c.in-Ok-add_line.ensures.added;
+  count = c.in-Ok.ensures.count ∙ c.loop-number.invariant.count;
+  read = unk_more c.args.table.now.categories _ _ _ c.in-Some.number c.in-Some.line.now c.loop-number.held c.in-Ok.now _ _ c.loop-number.invariant.read c.in-Some.ensures.steps c.in-Ok.ensures.added;
 }
 
 pub returns-in-Err-clause-refused : goal.returns-in-Err-clause-refused
 returns-in-Err-clause-refused c =
-    rw c.fault-in-Err.ensures
+    rw c.at.ensures
     (unk_refused c.args.table.now.categories c.args.bytes.now _ _ c.in-Some.number c.in-Some.line.now c.loop-number.held c.in-Err.kind _ c.loop-number.invariant.read c.in-Some.ensures.steps c.in-Err.ensures.refused)
 
 pub returns-clause-accepted : goal.returns-clause-accepted

@@ -15,7 +15,7 @@ returns-in_err-lists-clause-refused c =
 
 pub returns-then-missing-len-clause-refused : goal.returns-then-missing-len-clause-refused
 returns-then-missing-len-clause-refused c =
-    rw c.fault.ensures
+    rw c.at.ensures
     (inr (missing_refused c.args.table.now.categories c.args.bytes.now c.in_ok-lists.lists.items c.first_empty-missing.result c.in_ok-lists.ensures.accepted
     (rw c.deref.ensures.value at c.first_empty-missing.ensures.first) (omega (arith, c.in_ok-lists.lists.ok, c.len.ensures, c.if-missing-len.true))))
 

@@ -5,4 +5,4 @@ use Rattle.char_def.proofs.unk_table.UnkTable.first_line_outside.Given as goal
 
 -- the least of the lines so far
 abbrev pub invariant-loop-list : goal.invariant-loop-list
-invariant-loop-list l = IsLeastOf (all_lines_outside (record { right = l.right_size; left = l.left_size }) (lists_are (take l.list-index l.list-items))) l.first
+invariant-loop-list l = IsLeastOf (all_lines_outside l.sizes (lists_are (take l.list-index l.list-items))) l.first
