@@ -13,7 +13,7 @@ use Rattle.image_bytes.specs.ImageSections.{stored_cost}
 use Rattle.matrix_def.specs.Costs.{CostTable, IsCost, IsMatrix, cell_at}
 use Rattle.matrix_def.proofs.RowLemmas.{within_table}
 use Rattle.image_bytes.proofs.NumberLemmas.{number_back}
-use Rattle.image_writer.specs.StoredTables.{AreCostsOf, sizes_of}
+use Rattle.image_writer.specs.StoredTables.{AreCostsOf}
 use Rattle.image_bytes.proofs.ItemLemmas.{items_length, item_at}
 
 abbrev pub cost_bytes : ℤ → List ℕ
@@ -31,7 +31,7 @@ costs_are m bytes formed is = record {
   costs = λ right left pair.
       let k = cell_at m right left in
       let z = slice_index_or m.costs k (pos 0) in
-      ap (λ (bs : List ℕ). stored_cost (sizes_of m) bs right left) is
+      ap (λ (bs : List ℕ). stored_cost m.sizes bs right left) is
       ∙ ap (λ (bs : List ℕ). cast_signed w16 (number_at 2 bs 0)) (item_at cost_bytes 2 two_bytes m.costs k (pos 0) (within_table m right left formed pair))
       ∙ ap (cast_signed w16) (number_back 2 (cast_unsigned w16 z) (flat_map cost_bytes (drop (k + 1) m.costs)) (Fits-of_z (word_fits z (formed.fits k))).fits)
       ∙ to_z-of_z w16 z (word_fits z (formed.fits k));

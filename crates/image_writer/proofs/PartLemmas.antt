@@ -13,7 +13,8 @@ use Rattle.image_writer.specs.Frames.{IsFramed}
 use Rattle.image_writer.specs.declared.lexicon.LexiconBytes.{LexiconBytes}
 use Rattle.image_writer.specs.Entries.{all_rows}
 use Rattle.image_writer.specs.Sections.{AreSections}
-use Rattle.image_writer.specs.Ids.{AreHeaderSizes, AreWithin, IsWithin}
+use Rattle.matrix_def.specs.Costs.{AreMatrixSizes}
+use Rattle.image_writer.specs.Ids.{AreWithin, IsWithin}
 use Rattle.image_writer.proofs.FormedLemmas.{eight_of, at, formed_of, header_with, part_tests}
 use Rattle.image_writer.proofs.RowLemmas.{count_all, each_row, some_row}
 
@@ -49,7 +50,7 @@ module _ (number : ℕ) (sizes : MatrixSizes) (count : ℕ) (rows : List Row) (u
   -- the numbers are within their bounds, and the sections are those of the entries
   pub record AreParts : Type 0 where
     pub is_kind : number ≤ 1
-    pub sizes_fit : AreHeaderSizes sizes
+    pub sizes_fit : AreMatrixSizes sizes
     pub counts : AreCounts kind count (sum_by length unknown)
     pub few : length rows ≤ ENTRIES_MAX
     pub few_unknown : sum_by length unknown ≤ ENTRIES_MAX
@@ -64,11 +65,11 @@ module _ (number : ℕ) (sizes : MatrixSizes) (count : ℕ) (rows : List Row) (u
     is_header : (lengths : List ℕ) → IsHeader (header_with numbers lengths)
     is_header lengths = record {
       is_kind = parts.is_kind;
-      some_right = parts.sizes_fit.some_right;
-      few_right = parts.sizes_fit.few_right;
-      some_left = parts.sizes_fit.some_left;
-      few_left = parts.sizes_fit.few_left;
-      few_costs = parts.sizes_fit.few_costs;
+      some_right = parts.sizes_fit.right_some;
+      few_right = parts.sizes_fit.right_most;
+      some_left = parts.sizes_fit.left_some;
+      few_left = parts.sizes_fit.left_most;
+      few_costs = parts.sizes_fit.few;
       counts = parts.counts;
       groups_have_tokens = parts.lexicon.few_groups;
       few_tokens = parts.few;

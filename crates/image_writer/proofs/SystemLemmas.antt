@@ -11,17 +11,15 @@ use Rattle.image_bytes.specs.ImageSections.{index_at, stored_cost, token_from}
 use Rattle.mj_model.specs.Lexicon.{Row}
 use Rattle.mj_model.specs.UnkDef.{unknown_tokens}
 use Rattle.matrix_def.specs.Costs.{CostTable, matrix_cost}
-use Rattle.image_writer.specs.StoredTables.{AreCostsOf, AreUnknownOf, sizes_of}
+use Rattle.image_writer.specs.StoredTables.{AreCostsOf, AreUnknownOf}
 use Rattle.image_writer.specs.Entries.{all_rows}
 use Rattle.image_writer.specs.Sections.{HoldTokens}
 use Rattle.image_writer.proofs.RowLemmas.{get_behind, get_joined, joined, tokens_at, tokens_of_rows}
 
 -- connection costs as functions
-pub same_cost : (m : CostTable) (costs : List ℕ) → AreCostsOf m costs → (right left : ℕ) (b : Bool) → is_pair (sizes_of m) right left ≡ b
-    → (if b then stored_cost (sizes_of m) costs right left else pos 0) ≡ (if b then matrix_cost m right left else pos 0)
-same_cost m costs are right left true is =
-    let parts = and_parts (nat_lt right m.right_size) (nat_lt left m.left_size) is in
-    are.costs right left (record { right_below = ltb-true right m.right_size parts.0; left_below = ltb-true left m.left_size parts.1 })
+pub same_cost : (m : CostTable) (costs : List ℕ) → AreCostsOf m costs → (right left : ℕ) (b : Bool) → is_pair m.sizes right left ≡ b
+    → (if b then stored_cost m.sizes costs right left else pos 0) ≡ (if b then matrix_cost m right left else pos 0)
+same_cost m costs are right left true is = are.costs right left is
 same_cost m costs are right left false is = refl
 
 -- the rows of a category behind those of lower ones

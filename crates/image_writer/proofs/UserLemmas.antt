@@ -12,7 +12,8 @@ use Rattle.image_writer.specs.Frames.{IsFramed}
 use Rattle.image_writer.specs.declared.lexicon.LexiconBytes.{LexiconBytes}
 use Rattle.image_writer.specs.Entries.{lexemes_of, tokens_of}
 use Rattle.image_writer.specs.Sections.{AreSections}
-use Rattle.image_writer.specs.Ids.{AreHeaderSizes, AreWithin}
+use Rattle.matrix_def.specs.Costs.{AreMatrixSizes}
+use Rattle.image_writer.specs.Ids.{AreWithin}
 use Rattle.image_writer.specs.UserImages.{IsUserImage}
 use Rattle.image_writer.proofs.FormedLemmas.{at, from_parts}
 use Rattle.image_writer.proofs.PartLemmas.{AreParts, numbers_with, sections_with, well_formed}
@@ -20,7 +21,7 @@ use Rattle.image_writer.proofs.PartLemmas.{AreParts, numbers_with, sections_with
 module _ (sizes : MatrixSizes) (rows : List Row) (bytes : LexiconBytes) where
   -- what the parts say of a user dictionary
   pub record AreUserParts : Type 0 where
-    pub sizes_fit : AreHeaderSizes sizes
+    pub sizes_fit : AreMatrixSizes sizes
     pub few : length rows ≤ ENTRIES_MAX
     pub ids : AreWithin sizes rows
     pub lexicon : AreSections rows [] bytes

@@ -15,7 +15,7 @@ use Rattle.matrix_def.specs.Costs.{CostTable, IsMatrix}
 use Rattle.char_def.specs.Categories.{CharCategories}
 use Rattle.image_writer.specs.declared.header.Numbers.{Numbers}
 use Rattle.image_writer.specs.Frames.{IsFramed}
-use Rattle.image_writer.specs.StoredTables.{AreCategoriesOf, AreCostsOf, AreRangesOf, AreUnknownOf, sizes_of}
+use Rattle.image_writer.specs.StoredTables.{AreCategoriesOf, AreCostsOf, AreRangesOf, AreUnknownOf}
 use Rattle.image_writer.specs.declared.lexicon.LexiconBytes.{LexiconBytes}
 use Rattle.image_writer.specs.Entries.{all_rows}
 use Rattle.image_writer.specs.Sections.{AreSections}
@@ -46,7 +46,7 @@ module _ (m : CostTable) (chars : CharCategories) (unknown : List (List Row)) (r
     pub count : length unknown ≡ length chars.categories
     pub some_categories : 1 ≤ length chars.categories
     pub few_categories : length chars.categories ≤ CATEGORIES_MAX
-    pub ids : AreWithin (sizes_of m) (all_rows rows unknown)
+    pub ids : AreWithin m.sizes (all_rows rows unknown)
     pub costs_are : AreCostsOf m costs
     pub categories_are : AreCategoriesOf chars categories
     pub ranges_are : AreRangesOf chars ranges
@@ -54,22 +54,16 @@ module _ (m : CostTable) (chars : CharCategories) (unknown : List (List Row)) (r
     pub lexicon : AreSections rows unknown bytes
 
   abbrev pub numbers : Numbers
-  numbers = numbers_with 0 (sizes_of m) (length chars.categories) rows unknown bytes
+  numbers = numbers_with 0 m.sizes (length chars.categories) rows unknown bytes
 
   abbrev pub sections : List (List ℕ)
   sections = sections_with costs categories ranges index bytes
 
   module _ (parts : AreSystemParts) (image : List ℕ) (framed : IsFramed numbers sections image) where
-    are_parts : AreParts 0 (sizes_of m) (length chars.categories) rows unknown costs categories ranges index bytes
+    are_parts : AreParts 0 m.sizes (length chars.categories) rows unknown costs categories ranges index bytes
     are_parts = record {
       is_kind = omega (arith);
-      sizes_fit = record {
-        some_right = parts.matrix.right_some;
-        few_right = parts.matrix.right_most;
-        some_left = parts.matrix.left_some;
-        few_left = parts.matrix.left_most;
-        few_costs = parts.matrix.few;
-      };
+      sizes_fit = parts.matrix.sizes;
       counts = (parts.some_categories, parts.few_categories);
       few = parts.few;
       few_unknown = parts.few_unknown;
@@ -85,7 +79,7 @@ module _ (m : CostTable) (chars : CharCategories) (unknown : List (List Row)) (r
     same_tables = record {
       kind = refl;
       sizes = refl;
-      connection = λ i right left. same_cost m costs parts.costs_are right left (is_pair (sizes_of m) right left) refl i;
+      connection = λ i right left. same_cost m costs parts.costs_are right left (is_pair m.sizes right left) refl i;
       categories = ap (map (λ (c : NamedCategory). c.category)) parts.categories_are.categories;
       info = parts.ranges_are.infos;
       unknown = λ j i. (
@@ -96,7 +90,7 @@ module _ (m : CostTable) (chars : CharCategories) (unknown : List (List Row)) (r
 
     pub system_image : IsSystemImage m chars unknown rows image
     system_image = record {
-      well_formed = well_formed 0 (sizes_of m) (length chars.categories) rows unknown costs categories ranges index bytes are_parts image framed;
+      well_formed = well_formed 0 m.sizes (length chars.categories) rows unknown costs categories ranges index bytes are_parts image framed;
       layout = framed.layout;
       tables = from_parts numbers sections image framed (λ h ss. SayTheSame (tables_in h ss) (tables_with m chars unknown rows)) same_tables;
       categories = from_parts numbers sections image framed (λ h ss. categories_in h.categories (at ss 1) ≡ chars.categories) parts.categories_are.categories;

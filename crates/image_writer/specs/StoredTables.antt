@@ -1,20 +1,17 @@
 -- Sections of an image that say what tables say.
-use Rattle.std.specs.Prelude.{◌≡◌, ℕ, ◌+◌, ◌≤◌, List, length, take}
+use Rattle.std.specs.Prelude.{◌≡◌, ℕ, ◌+◌, ◌≤◌, IsTrue, List, length, take}
 use Rattle.std.specs.List.{sum_by}
 use Rattle.mj_model.specs.CharDef.{code_point_max}
-use Rattle.mj_model.specs.declared.matrix_sizes.MatrixSizes.{MatrixSizes}
+use Rattle.mj_model.specs.Connection.{is_pair}
 use Rattle.image_bytes.specs.ImageSections.{AreCategories, AreCosts, AreRanges, IsIndex, categories_in, index_at, stored_cost, stored_info}
 use Rattle.mj_model.specs.Lexicon.{Row}
-use Rattle.matrix_def.specs.Costs.{CostTable, IsPair, matrix_cost}
+use Rattle.matrix_def.specs.Costs.{CostTable, matrix_cost}
 use Rattle.char_def.specs.Categories.{CharCategories, table_info}
-
-abbrev pub sizes_of : CostTable → MatrixSizes
-sizes_of m = record { right = m.right_size; left = m.left_size }
 
 -- the costs of a table
 pub record AreCostsOf (m : CostTable) (bytes : List ℕ) : Type 0 where
-  pub formed : AreCosts (sizes_of m) bytes
-  pub costs : (right left : ℕ) → IsPair m right left → stored_cost (sizes_of m) bytes right left ≡ matrix_cost m right left
+  pub formed : AreCosts m.sizes bytes
+  pub costs : (right left : ℕ) → IsTrue (is_pair m.sizes right left) → stored_cost m.sizes bytes right left ≡ matrix_cost m right left
 
 -- the categories of a table
 pub record AreCategoriesOf (t : CharCategories) (bytes : List ℕ) : Type 0 where

@@ -12,15 +12,14 @@ use Rattle.mj_model.specs.Tables.{Tables, System}
 use Rattle.mj_model.specs.UnkDef.{unknown_tokens}
 use Rattle.matrix_def.specs.Costs.{CostTable, matrix_cost}
 use Rattle.char_def.specs.Categories.{CharCategories, table_info}
-use Rattle.image_writer.specs.StoredTables.{sizes_of}
 use Rattle.image_writer.specs.Entries.{all_rows, lexemes_of, tokens_of}
 
 -- the tables of a system dictionary, part by part
 abbrev pub tables_with : CostTable → CharCategories → List (List Row) → List Row → Tables
 tables_with matrix chars unknown rows = record {
   kind = System;
-  sizes = sizes_of matrix;
-  connection = λ right left. if is_pair (sizes_of matrix) right left then matrix_cost matrix right left else pos 0;
+  sizes = matrix.sizes;
+  connection = λ right left. if is_pair matrix.sizes right left then matrix_cost matrix right left else pos 0;
   categories = map (λ (named : NamedCategory). named.category) chars.categories;
   info = table_info chars;
   unknown = unknown_tokens (length rows) unknown;

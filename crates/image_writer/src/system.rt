@@ -9,7 +9,6 @@ ghost use Rattle.mj_model.specs.Dictionary.{surface_of};
 ghost use Rattle.mj_model.specs.Lexicon.{rows_of};
 ghost use Rattle.mj_model.specs.declared.limits.TheConstants.{ENTRIES_MAX as EntriesMax};
 ghost use Rattle.char_def.specs.Categories.{table_info};
-ghost use Rattle.image_writer.specs.StoredTables.{sizes_of};
 ghost use Rattle.image_writer.specs.Entries.{HasKeySurface, all_rows, lexemes_of};
 ghost use Rattle.image_writer.specs.Sections.{IsTooLarge};
 ghost use Rattle.image_writer.specs.declared.fault.LexiconFault.TheVariants.{ArrayFull, FeaturesTooLarge};
@@ -26,7 +25,7 @@ use crate::ranges::write_ranges;
 use crate::unknown_index::write_unknown_index;
 use char_def::{CharTable, UnkTable};
 use matrix_def::Matrix;
-use mj_model::{MatrixSizes, Record};
+use mj_model::Record;
 use std::alloc::Global;
 
 /// The image of a system dictionary, whose entries stand in the byte order of their surfaces.
@@ -43,7 +42,7 @@ pub fn write_system(
     requires some { AllByRecursion (λ rows. 0 < length rows) unknown.now }
     requires surfaces { All HasKeySurface (rows_of lexicon.now) }
     requires sorted { IsSortedByKey surface_of (slice_cmp nat_cmp) (rows_of lexicon.now) }
-    requires ids { AreWithin (sizes_of matrix.now) (all_rows (rows_of lexicon.now) unknown.now) }
+    requires ids { AreWithin matrix.now.sizes (all_rows (rows_of lexicon.now) unknown.now) }
     requires storable { All IsStorable chars.now.categories }
     requires infos { (code : ℕ) → code ≤ code_point_max → IsInfoOf (length chars.now.categories) (table_info chars.now code) }
     requires some_categories { 1 ≤ length chars.now.categories }
@@ -59,10 +58,9 @@ pub fn write_system(
     let categories = write_categories(alloc, chars)?;
     let ranges = write_ranges(alloc, chars)?;
     let index = write_unknown_index(alloc, unknown, count, lexicon.len())?;
-    let (right, left) = matrix.sizes();
     let numbers = Numbers {
         kind: 0,
-        sizes: MatrixSizes { right, left },
+        sizes: matrix.sizes(),
         categories: count as u32,
         groups: sections.group_count,
         tokens: lexicon.len() as u32,

@@ -9,7 +9,8 @@ ghost use Rattle.mj_model.specs.declared.limits.TheConstants.{ENTRIES_MAX as Ent
 ghost use Rattle.image_writer.specs.Entries.{HasKeySurface, lexemes_of};
 ghost use Rattle.image_writer.specs.Sections.{IsTooLarge};
 ghost use Rattle.image_writer.specs.declared.fault.LexiconFault.TheVariants.{ArrayFull, FeaturesTooLarge};
-ghost use Rattle.image_writer.specs.Ids.{AreHeaderSizes, AreWithin};
+ghost use Rattle.matrix_def.specs.Costs.{AreMatrixSizes};
+ghost use Rattle.image_writer.specs.Ids.{AreWithin};
 ghost use Rattle.image_writer.specs.UserImages.{IsUserImage};
 
 use crate::fault::LexiconFault;
@@ -29,7 +30,7 @@ pub fn write_user(
     requires surfaces { All HasKeySurface (rows_of lexicon.now) }
     requires sorted { IsSortedByKey surface_of (slice_cmp nat_cmp) (rows_of lexicon.now) }
     requires ids { AreWithin sizes (rows_of lexicon.now) }
-    requires sizes { AreHeaderSizes sizes }
+    requires sizes { AreMatrixSizes sizes }
     ensures image { IfOk result (λ image. IsUserImage sizes (rows_of lexicon.now) image.items) }
 
     // A refusal has its reason.

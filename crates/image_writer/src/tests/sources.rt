@@ -19,8 +19,7 @@ pub fn write_sources(
     lines: &[Line<'_>],
 ) -> Result<Vec<u8>, Fail> {
     let matrix = read_matrix(alloc, sources.matrix)?;
-    let (right, left) = matrix.sizes();
-    let sizes = MatrixSizes { right, left };
+    let sizes = matrix.sizes();
     let chars = read_chars(alloc, sources.chars)?;
     let unknown = read_unk(alloc, sources.unk, &chars)?;
     let lexicon = records(alloc, sizes, lines)?;

@@ -37,7 +37,7 @@ returns-clause-image c =
     let unknown_is : c.len.result / 16 - length c.args.lexicon.now ≡ sum_by length unknown = omega (arith, fill, count, long, len) in
     system_image m chars unknown rows c.in_ok-costs.costs.items c.in_ok-categories.categories.items c.in_ok-ranges.ranges.items c.in_ok-index.index.items sections
     (record {
-      matrix = c.sizes-right.ensures.formed;
+      matrix = c.sizes.ensures.formed;
       few = omega (arith, long, few);
       few_unknown = c.requires.few_unknown;
       count = c.requires.categories;
@@ -55,7 +55,7 @@ returns-clause-image c =
     (λ i. (
       record {
         kind = 0;
-        sizes = record { right = c.sizes-right.ensures.right_size i; left = c.sizes-right.ensures.left_size i };
+        sizes = c.sizes.ensures.sizes i;
         categories = count_is i;
         groups = sections.group_count;
         tokens = long i;

@@ -3,14 +3,13 @@ use Rattle.mj_model.specs.declared.matrix_sizes.MatrixSizes.{MatrixSizes}
 use Rattle.mj_model.specs.Lexicon.{Row, rows_of}
 use Rattle.char_def.proofs.AcceptedChars.{table_infos_fit, table_storable}
 use Rattle.image_writer.specs.Entries.{all_rows}
-use Rattle.image_writer.specs.StoredTables.{sizes_of}
 use Rattle.image_writer.specs.Ids.{AreWithin}
 use Rattle.image_writer.proofs.SampleLemmas.{all_within, few_in_all, some_each}
 use Rattle.image_writer.proofs.tests.sources.write_sources.Goals as goal
 
 pub write_system-requires-clause-few_unknown : goal.write_system-requires-clause-few_unknown
 write_system-requires-clause-few_unknown c =
-    let sizes : MatrixSizes = record { right = c.sizes-right.result.0; left = c.sizes-right.result.1 } in
+    let sizes : MatrixSizes = c.sizes-sizes.result in
     let few = few_in_all sizes c.in_ok-unknown.unknown (c.if-not-are_unknown.ensures refl) in
     let many = c.in_ok-unknown.ensures.count in
     let count = c.count-count.ensures.count in
@@ -19,15 +18,14 @@ write_system-requires-clause-few_unknown c =
 
 pub write_system-requires-clause-some : goal.write_system-requires-clause-some
 write_system-requires-clause-some c =
-    some_each (record { right = c.sizes-right.result.0; left = c.sizes-right.result.1 }) c.in_ok-unknown.unknown (c.if-not-are_unknown.ensures refl)
+    some_each c.sizes-sizes.result c.in_ok-unknown.unknown (c.if-not-are_unknown.ensures refl)
 
 pub write_system-requires-clause-ids : goal.write_system-requires-clause-ids
 write_system-requires-clause-ids c =
-    let sizes : MatrixSizes = record { right = c.sizes-right.result.0; left = c.sizes-right.result.1 } in
-    let same : sizes ≡ sizes_of c.in_ok-matrix.matrix = λ i. record { right = c.sizes-right.ensures.right_size i; left = c.sizes-right.ensures.left_size i } in
+    let sizes : MatrixSizes = c.sizes-sizes.result in
     let rows : List Row = rows_of c.deref.result.now in
     let ids = subst (AreWithin sizes) (λ i. rows_of (sym c.deref.ensures.value i)) c.in_ok-lexicon.ensures.ids in
-    subst (λ (s : MatrixSizes). AreWithin s (all_rows rows c.in_ok-unknown.unknown)) same (all_within sizes rows c.in_ok-unknown.unknown ids (c.if-not-are_unknown.ensures refl))
+    subst (λ (s : MatrixSizes). AreWithin s (all_rows rows c.in_ok-unknown.unknown)) c.sizes-sizes.ensures.sizes (all_within sizes rows c.in_ok-unknown.unknown ids (c.if-not-are_unknown.ensures refl))
 
 pub write_system-requires-clause-storable : goal.write_system-requires-clause-storable
 write_system-requires-clause-storable c =
