@@ -16,9 +16,9 @@ use Rattle.image_bytes.specs.ImageMeaning.{image_lexicon, image_tables}
 use Rattle.mj_model.specs.SourceTables.{HaveTables, IsSourcesFault, SayTheSame, lexicon_bytes, system_tables}
 use Rattle.mj_model.specs.Tables.{Tables, Lexeme, Token}
 use Rattle.mj_model.specs.UnkDef.{unknown_tokens}
-use Rattle.dictionary_sources.specs.Parts.{AreParts}
-use Rattle.dictionary_sources.specs.declared.parts.SourceParts.{SourceParts}
-use Rattle.dictionary_sources.proofs.ConnectionLemmas.{costs_are, sizes_are}
+use Rattle.dict_compile.specs.Parts.{AreParts}
+use Rattle.dict_compile.specs.declared.parts.SourceParts.{SourceParts}
+use Rattle.dict_compile.proofs.ConnectionLemmas.{costs_are}
 use Rattle.mj_model.specs.FirstFault.{IsRefusal}
 use Rattle.image_writer.specs.declared.fault.LexiconFault.{LexiconFault}
 use Rattle.image_writer.specs.declared.fault.LexiconFault.TheVariants as lexicon
@@ -60,7 +60,7 @@ module _ (s : Sources) (parts : SourceParts) (h : AreParts s parts) (ordered : L
   say_the_same : SayTheSame tables (system_tables h.connection h.chars parts.unknown (lexemes_of ordered))
   say_the_same = record {
     kind = refl;
-    sizes = sizes_are h.connection parts.matrix h.matrix;
+    sizes = h.matrix.sizes;
     connection = costs_are s.matrix.now h.connection parts.matrix h.is_connection h.matrix;
     categories = ap (map (λ (named : NamedCategory). named.category)) h.table.categories;
     info = λ code within. h.table.infos code;

@@ -9,3 +9,9 @@ pub mod OrderLemmas
 pub mod FirstFaults
 pub mod UserLemmas
 pub mod EveryKey
+pub mod SkipLemmas
+pub mod FittingLemmas
+pub mod UnknownRows
+pub mod SourceLemmas
+pub mod ConnectionLemmas
+pub mod LexiconLemmas

@@ -14,7 +14,6 @@ use Rattle.std.proofs.lemmas.List.Sorted.{ranks_by, sorted_far}
 use Rattle.mj_model.specs.Dictionary.{IsInOrder, IsLexiconOf, lexeme_of, surface_of}
 use Rattle.mj_model.specs.Lexicon.{Row}
 use Rattle.mj_model.specs.Tables.{Lexeme}
-use Rattle.image_writer.specs.Entries.{lexemes_of}
 
 -- ---- lists of one order
 
@@ -89,10 +88,6 @@ pub one_row_order : (rows first second : List Row) → IsInOrder rows first → 
 one_row_order rows first second one other =
     one_order is_below (ranks_by nat_list_cmp_total surface_of) first second one.by_surface other.by_surface
     (λ row. one.in_source_order row ∙ sym (other.in_source_order row))
-
--- rows in order are a lexicon
-pub lexicon_of : (rows ordered : List Row) → IsInOrder rows ordered → IsLexiconOf rows (lexemes_of ordered)
-lexicon_of rows ordered in_order = (ordered, in_order, refl)
 
 -- rows have one lexicon
 pub one_lexicon : (rows : List Row) (first second : List Lexeme) → IsLexiconOf rows first → IsLexiconOf rows second → first ≡ second

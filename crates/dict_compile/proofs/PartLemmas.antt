@@ -5,23 +5,21 @@ use Rattle.mj_model.specs.CharDef.{NamedCategory}
 use Rattle.mj_model.specs.declared.matrix_sizes.MatrixSizes.{MatrixSizes}
 use Rattle.mj_model.specs.Lexicon.{rows_of}
 use Rattle.mj_model.specs.SourceTables.{lexicon_bytes}
-use Rattle.matrix_def.specs.Connections.{sizes_of}
 use Rattle.char_def.proofs.AcceptedChars.{table_infos_fit, table_storable}
-use Rattle.dictionary_sources.specs.AcceptedRows.{AreLexiconRows, AreUnknownRows}
-use Rattle.dictionary_sources.specs.Parts.{AreParts}
-use Rattle.dictionary_sources.specs.declared.parts.SourceParts.{SourceParts}
-use Rattle.dictionary_sources.proofs.ConnectionLemmas.{sizes_are}
-use Rattle.dictionary_sources.proofs.FittingLemmas.{lexicons_fit}
-use Rattle.dictionary_sources.proofs.UnknownRows.{unknown_fits}
+use Rattle.dict_compile.specs.AcceptedRows.{AreLexiconRows, AreUnknownRows}
+use Rattle.dict_compile.specs.Parts.{AreParts}
+use Rattle.dict_compile.specs.declared.parts.SourceParts.{SourceParts}
+use Rattle.dict_compile.proofs.FittingLemmas.{lexicons_fit}
+use Rattle.dict_compile.proofs.UnknownRows.{unknown_fits}
 use Rattle.dict_compile.specs.Images.{AreStorable}
 
 pub are_storable : (s : Sources) (parts : SourceParts) → AreParts s parts → AreStorable parts
 are_storable s parts h =
-    let sizes : h.connection.sizes ≡ sizes_of parts.matrix = sym (sizes_are h.connection parts.matrix h.matrix) in
+    let sizes : h.connection.sizes ≡ parts.matrix.sizes = sym h.matrix.sizes in
     record {
       rows = subst (λ sizes. AreLexiconRows sizes (rows_of parts.records.items)) sizes (lexicons_fit h.connection.sizes (lexicon_bytes s) (rows_of parts.records.items) h.rows);
       unknown =
-          subst (λ (categories : List NamedCategory). AreUnknownRows (sizes_of parts.matrix) categories parts.unknown) (sym h.table.categories)
+          subst (λ (categories : List NamedCategory). AreUnknownRows parts.matrix.sizes categories parts.unknown) (sym h.table.categories)
           (subst (λ (sizes : MatrixSizes). AreUnknownRows sizes h.chars.categories parts.unknown) sizes (unknown_fits h.connection.sizes h.chars.categories s.unk.now parts.unknown h.unknown));
       categories = table_storable s.chars.now h.chars parts.chars h.are_chars h.table;
       infos = λ code within. table_infos_fit s.chars.now h.chars parts.chars h.are_chars h.table code;

@@ -1,5 +1,5 @@
 -- Rows of a lexicon keep what an image asks of them when they are sorted.
-use Rattle.std.proofs.Common.{zero, suc, ◌≤◌, List, [], ◌∷◌, ◌++◌, length, arith}
+use Rattle.std.proofs.Common.{zero, suc, ◌≤◌, List, [], ◌∷◌, length, arith}
 use Rattle.std.specs.Prelude.{All, flat_map}
 use Rattle.std.specs.List.{AllByRecursion}
 use Rattle.std.proofs.lemmas.List.Sorted.{All-permutation, length_permutation}
@@ -9,7 +9,8 @@ use Rattle.mj_model.specs.Dictionary.{IsInOrder}
 use Rattle.mj_model.specs.declared.entry.Record.{Record}
 use Rattle.mj_model.specs.Lexicon.{Row, row_of, rows_of}
 use Rattle.std.proofs.lemmas.List.{length-map}
-use Rattle.dictionary_sources.specs.AcceptedRows.{HasIdsWithin, IsLexiconRow, AreLexiconRows}
+use Rattle.mj_model.proofs.Basics.{all_append}
+use Rattle.dict_compile.specs.AcceptedRows.{IsLexiconRow, AreLexiconRows}
 use Rattle.image_writer.specs.Entries.{HasKeySurface, all_rows}
 use Rattle.image_writer.specs.Ids.{IsWithin, AreWithin}
 
@@ -26,13 +27,9 @@ all_mapped : {X : Type 0} (P Q : X → Type 0) (xs : List X) → ((x : X) → P 
 all_mapped P Q [] f h = tt
 all_mapped P Q (x ∷ xs) f h = (f x h.0, all_mapped P Q xs f h.1)
 
-all_behind : {X : Type 0} (P : X → Type 0) (xs ys : List X) → AllByRecursion P xs → AllByRecursion P ys → AllByRecursion P (xs ++ ys)
-all_behind P [] ys h k = k
-all_behind P (x ∷ xs) ys h k = (h.0, all_behind P xs ys h.1 k)
-
 all_joined : {X : Type 0} (P : X → Type 0) (xss : List (List X)) → AllByRecursion (AllByRecursion P) xss → AllByRecursion P (flat_map (λ (xs : List X). xs) xss)
 all_joined P [] h = tt
-all_joined P (xs ∷ xss) h = all_behind P xs (flat_map (λ (ys : List _). ys) xss) h.0 (all_joined P xss h.1)
+all_joined P (xs ∷ xss) h = all_append P xs (flat_map (λ (ys : List _). ys) xss) h.0 (all_joined P xss h.1)
 
 -- sorted rows are the same rows
 pub rows_in_order : (sizes : MatrixSizes) (rows ordered : List Row) → IsInOrder rows ordered → AreLexiconRows sizes rows → AreLexiconRows sizes ordered
@@ -49,15 +46,14 @@ have_surfaces sizes rows h =
 
 pub have_ids : (sizes : MatrixSizes) (rows : List Row) → AreLexiconRows sizes rows → AreWithin sizes rows
 have_ids sizes rows h =
-    all_mapped (IsLexiconRow sizes) (IsWithin sizes) rows (λ row r. record { right_below = r.ids.right_below; left_below = r.ids.left_below }) h.each
+    all_mapped (IsLexiconRow sizes) (IsWithin sizes) rows (λ row r. r.ids) h.each
 
 -- the ids of all rows
-pub all_have_ids : (sizes : MatrixSizes) (rows : List Row) (unknown : List (List Row)) → AreLexiconRows sizes rows → AllByRecursion (AllByRecursion (HasIdsWithin sizes)) unknown
+pub all_have_ids : (sizes : MatrixSizes) (rows : List Row) (unknown : List (List Row)) → AreLexiconRows sizes rows → AllByRecursion (AllByRecursion (IsWithin sizes)) unknown
     → AreWithin sizes (all_rows rows unknown)
 all_have_ids sizes rows unknown h u =
-    all_behind (IsWithin sizes) rows (flat_map (λ (rows : List Row). rows) unknown) (have_ids sizes rows h)
-    (all_mapped (HasIdsWithin sizes) (IsWithin sizes) (flat_map (λ (rows : List Row). rows) unknown) (λ row r. record { right_below = r.right_below; left_below = r.left_below })
-    (all_joined (HasIdsWithin sizes) unknown u))
+    all_append (IsWithin sizes) rows (flat_map (λ (rows : List Row). rows) unknown) (have_ids sizes rows h)
+    (all_joined (IsWithin sizes) unknown u)
 
 pub few_records : (sizes : MatrixSizes) (records : List Record) → AreLexiconRows sizes (rows_of records) → length records ≤ ENTRIES_MAX
 few_records sizes records h = let few = h.few in let same = length-map records row_of in omega (arith, few, same)

@@ -12,7 +12,7 @@ use Rattle.mj_model.specs.Dictionary.{AreLexicons, IsInOrder, IsLexiconOf}
 use Rattle.mj_model.specs.FirstFault.{IsRefusal}
 use Rattle.image_bytes.specs.ImageMeaning.{image_lexicon, image_tables}
 use Rattle.mj_model.specs.Tables.{Tables, Lexeme, Token, User}
-use Rattle.dictionary_sources.specs.declared.lexicons.LexiconRecords.{LexiconRecords}
+use Rattle.dict_compile.specs.declared.lexicons.LexiconRecords.{LexiconRecords}
 use Rattle.image_writer.specs.declared.fault.LexiconFault.{LexiconFault}
 use Rattle.image_writer.specs.declared.fault.LexiconFault.TheVariants as lexicon
 use Rattle.image_writer.specs.Entries.{lexemes_of, tokens_of}
@@ -123,8 +123,8 @@ module _ (system : Tables) (lexicons : List (List ℕ)) where
 
 -- ---- the sizes of a system dictionary
 
-pub is_system_of : (system : Tables) (sizes : MatrixSizes) → false ≡ is_user system.kind → sizes ≡ system.sizes → IsSystemOf (record { right = sizes.right; left = sizes.left }) system
-is_system_of system sizes kind same = record { kind = a_system system.kind (sym kind); sizes_are = λ i. record { right = (sym same i).right; left = (sym same i).left } }
+pub is_system_of : (system : Tables) (sizes : MatrixSizes) → false ≡ is_user system.kind → sizes ≡ system.sizes → IsSystemOf sizes system
+is_system_of system sizes kind same = record { kind = a_system system.kind (sym kind); sizes_are = sym same }
 
 abbrev told_or : SourceFault → Result Compiled CompileUserFault → SourceFault
 told_or other (Ok compiled) = other

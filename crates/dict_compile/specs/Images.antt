@@ -4,10 +4,9 @@ use Rattle.mj_model.specs.CharDef.{code_point_max, IsInfoOf, IsStorable}
 use Rattle.image_bytes.specs.ImageBounds.{cells_max, most_cells}
 use Rattle.mj_model.specs.Dictionary.{IsInOrder}
 use Rattle.mj_model.specs.Lexicon.{Row, rows_of}
-use Rattle.matrix_def.specs.Connections.{sizes_of}
 use Rattle.char_def.specs.Categories.{table_info}
-use Rattle.dictionary_sources.specs.AcceptedRows.{AreLexiconRows, AreUnknownRows}
-use Rattle.dictionary_sources.specs.declared.parts.SourceParts.{SourceParts}
+use Rattle.dict_compile.specs.AcceptedRows.{AreLexiconRows, AreUnknownRows}
+use Rattle.dict_compile.specs.declared.parts.SourceParts.{SourceParts}
 use Rattle.image_writer.specs.Entries.{all_rows, lexemes_of}
 use Rattle.image_writer.specs.Sections.{IsTooLarge}
 use Rattle.image_writer.specs.SystemImages.{IsSystemImage}
@@ -15,8 +14,8 @@ use Rattle.dict_compile.specs.declared.compiled.Compiled.{Compiled}
 
 -- an image can hold the parts
 pub record AreStorable (parts : SourceParts) : Type 0 where
-  pub rows : AreLexiconRows (sizes_of parts.matrix) (rows_of parts.records.items)
-  pub unknown : AreUnknownRows (sizes_of parts.matrix) parts.chars.categories parts.unknown
+  pub rows : AreLexiconRows parts.matrix.sizes (rows_of parts.records.items)
+  pub unknown : AreUnknownRows parts.matrix.sizes parts.chars.categories parts.unknown
   pub categories : All IsStorable parts.chars.categories
   pub infos : (code : ℕ) → code ≤ code_point_max → IsInfoOf (length parts.chars.categories) (table_info parts.chars code)
 

@@ -4,7 +4,7 @@ use Rattle.mj_model.specs.declared.matrix_sizes.MatrixSizes.{MatrixSizes}
 use Rattle.mj_model.specs.Dictionary.{IsInOrder}
 use Rattle.mj_model.specs.Lexicon.{Row, rows_of}
 use Rattle.mj_model.specs.Tables.{Tables, System}
-use Rattle.dictionary_sources.specs.declared.lexicons.LexiconRecords.{LexiconRecords}
+use Rattle.dict_compile.specs.declared.lexicons.LexiconRecords.{LexiconRecords}
 use Rattle.image_writer.specs.Sections.{IsTooLarge}
 use Rattle.image_writer.specs.UserImages.{IsUserImage}
 use Rattle.dict_compile.specs.declared.compiled.Compiled.{Compiled}

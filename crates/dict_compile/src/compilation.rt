@@ -1,6 +1,6 @@
 //! The compilation of a system dictionary.
 
-ghost use Rattle.std.specs.Prelude.{◌≡◌, IfOk, IfErr};
+ghost use Rattle.std.specs.Prelude.{IfOk, IfErr};
 ghost use Rattle.mj_model.specs.declared.source_fault.SourceFault.{SourceFault as FaultOf};
 ghost use Rattle.dict_compile.specs.Compilation.{IsCompilation, IsCompilationCause, IsCompilationFault};
 ghost use Rattle.mj_model.specs.FirstFault.{IsRefusal};
@@ -10,8 +10,8 @@ ghost use Rattle.dict_compile.specs.EveryKey.{AnswersKeysOfSources};
 
 use crate::compiled::Compiled;
 use crate::fault::image_fault;
+use crate::parts::read_sources;
 use crate::system_image::system_image;
-use dictionary_sources::read_sources;
 use mj_model::{SourceFault, Sources};
 use std::alloc::Global;
 

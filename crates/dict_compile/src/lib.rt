@@ -4,8 +4,11 @@
 mod compilation;
 mod compiled;
 mod fault;
+mod lexicons;
+mod parts;
 mod sorting;
 mod system_image;
+mod unknown;
 mod user_compilation;
 mod user_image;
 

@@ -6,8 +6,8 @@ ghost use Rattle.image_writer.specs.declared.fault.LexiconFault.TheVariants.{Arr
 ghost use Rattle.dict_compile.specs.Images.{AreStorable, HaveTooLarge, IsImageOf, MayLackCells};
 
 use crate::compiled::Compiled;
+use crate::parts::SourceParts;
 use crate::sorting::in_order;
-use dictionary_sources::SourceParts;
 use image_writer::{LexiconFault, write_system};
 use std::alloc::Global;
 

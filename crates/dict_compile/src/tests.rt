@@ -3,4 +3,5 @@ mod damaged;
 mod lexicons;
 mod refused;
 mod samples;
+mod sources;
 mod user;

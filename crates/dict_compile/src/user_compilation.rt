@@ -6,8 +6,7 @@ ghost use Rattle.dict_compile.specs.Compilation.{IsUserCompilation, IsUserCause,
 ghost use Rattle.mj_model.specs.FirstFault.{IsRefusal};
 ghost use Rattle.image_bytes.specs.ImageMeaning.{image_tables};
 ghost use Rattle.mj_model.specs.Tables.{Tables as TablesOf, User};
-ghost use Rattle.dictionary_sources.specs.IdSizes.{sizes_in};
-ghost use Rattle.image_writer.specs.Ids.{AreHeaderSizes};
+ghost use Rattle.matrix_def.specs.Costs.{AreMatrixSizes};
 ghost use Rattle.dict_compile.specs.Answers.{IsRefusedFor, IsUserRefusedFor};
 ghost use Rattle.dict_compile.specs.EveryKey.{AnswersKeysOf};
 ghost use Rattle.dict_compile.specs.UserImages.{IsSystemOf};
@@ -15,10 +14,10 @@ ghost use Rattle.dict_compile.specs.declared.fault.CompileUserFault.TheVariants.
 
 use crate::compiled::Compiled;
 use crate::fault::{CompileUserFault, image_fault};
+use crate::lexicons::read_lexicons;
 use crate::user_image::user_image;
 use dict_image::Dict;
-use dictionary_sources::{IdSizes, read_lexicons};
-use mj_model::SourceFault;
+use mj_model::{MatrixSizes, SourceFault};
 use std::alloc::Global;
 
 /// Compiles the lexicons of a user dictionary, for the ids of a system dictionary, to an image of layout 3.
@@ -40,8 +39,7 @@ pub fn compile_user(
         return Err(CompileUserFault::NotSystem);
     }
     let sizes = system.matrix_sizes();
-    let (right, left) = (sizes.right, sizes.left);
-    match compile_lexicons(alloc, IdSizes { right, left }, lexicons) {
+    match compile_lexicons(alloc, sizes, lexicons) {
         Ok(compiled) => Ok(compiled),
         Err(fault) => Err(CompileUserFault::Source(fault)),
     }
@@ -50,13 +48,13 @@ pub fn compile_user(
 /// Compiles lexicons for a system dictionary of these sizes.
 fn compile_lexicons(
     alloc: Global,
-    sizes: IdSizes,
+    sizes: MatrixSizes,
     lexicons: &[&[u8]],
 ) -> Result<Compiled, SourceFault>
-    requires { AreHeaderSizes (sizes_in sizes) }
-    ensures compiled { (system : TablesOf) → IsSystemOf (sizes_in sizes) system → IfOk result (λ compiled. IsUserCompilation system (map (λ lexicon. lexicon.now) lexicons.now) compiled.image.items compiled.entries compiled.skipped) }
-    ensures refused { (system : TablesOf) → IsSystemOf (sizes_in sizes) system → IfErr result (λ fault. IsRefusal fault (IsUserCause system (map (λ lexicon. lexicon.now) lexicons.now) fault)) }
-    ensures first { (system : TablesOf) → IsSystemOf (sizes_in sizes) system → (fault : FaultOf) → IsUserFault system (map (λ lexicon. lexicon.now) lexicons.now) fault → IsRefusedFor fault result }
+    requires { AreMatrixSizes sizes }
+    ensures compiled { (system : TablesOf) → IsSystemOf sizes system → IfOk result (λ compiled. IsUserCompilation system (map (λ lexicon. lexicon.now) lexicons.now) compiled.image.items compiled.entries compiled.skipped) }
+    ensures refused { (system : TablesOf) → IsSystemOf sizes system → IfErr result (λ fault. IsRefusal fault (IsUserCause system (map (λ lexicon. lexicon.now) lexicons.now) fault)) }
+    ensures first { (system : TablesOf) → IsSystemOf sizes system → (fault : FaultOf) → IsUserFault system (map (λ lexicon. lexicon.now) lexicons.now) fault → IsRefusedFor fault result }
 {
     let read = read_lexicons(alloc, lexicons, sizes)?;
     match user_image(alloc, sizes, read) {

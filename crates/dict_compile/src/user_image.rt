@@ -2,16 +2,15 @@
 
 ghost use Rattle.std.specs.Prelude.{◌≡◌, IfOk, IfErr};
 ghost use Rattle.mj_model.specs.Lexicon.{rows_of};
-ghost use Rattle.dictionary_sources.specs.AcceptedRows.{AreLexiconRows};
-ghost use Rattle.dictionary_sources.specs.IdSizes.{sizes_in};
+ghost use Rattle.dict_compile.specs.AcceptedRows.{AreLexiconRows};
 ghost use Rattle.image_writer.specs.declared.fault.LexiconFault.TheVariants.{ArrayFull, FeaturesTooLarge};
-ghost use Rattle.image_writer.specs.Ids.{AreHeaderSizes};
+ghost use Rattle.matrix_def.specs.Costs.{AreMatrixSizes};
 ghost use Rattle.dict_compile.specs.Images.{MayLackCells};
 ghost use Rattle.dict_compile.specs.UserImages.{HasTooLarge, IsUserImageOf};
 
 use crate::compiled::Compiled;
+use crate::lexicons::LexiconRecords;
 use crate::sorting::in_order;
-use dictionary_sources::{IdSizes, LexiconRecords};
 use image_writer::{LexiconFault, write_user};
 use mj_model::MatrixSizes;
 use std::alloc::Global;
@@ -19,12 +18,12 @@ use std::alloc::Global;
 /// The image of a user dictionary, whose entries are sorted once.
 pub(crate) fn user_image(
     alloc: Global,
-    sizes: IdSizes,
+    sizes: MatrixSizes,
     read: LexiconRecords,
 ) -> Result<Compiled, LexiconFault>
-    requires header { AreHeaderSizes (sizes_in sizes) }
-    requires rows { AreLexiconRows (sizes_in sizes) (rows_of read.records.items) }
-    ensures image { IfOk result (IsUserImageOf (sizes_in sizes) read) }
+    requires header { AreMatrixSizes sizes }
+    requires rows { AreLexiconRows sizes (rows_of read.records.items) }
+    ensures image { IfOk result (IsUserImageOf sizes read) }
 
     // A refusal has its reason.
     ensures large { IfErr result (λ fault. fault ≡ FeaturesTooLarge → HasTooLarge (rows_of read.records.items)) }
@@ -32,14 +31,7 @@ pub(crate) fn user_image(
 {
     let entries = read.records.len() as u64;
     let lexicon = in_order(read.records)?;
-    let image = write_user(
-        alloc,
-        MatrixSizes {
-            right: sizes.right,
-            left: sizes.left,
-        },
-        &lexicon,
-    )?;
+    let image = write_user(alloc, sizes, &lexicon)?;
     Ok(Compiled {
         image,
         entries,

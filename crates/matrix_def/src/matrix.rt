@@ -1,5 +1,5 @@
 //! The connection costs.
-ghost use Rattle.std.specs.Prelude.{◌≡◌, ◌<◌, ◌+◌, ◌*◌, pos, replicate, slice_set, length, IsTrue, IfOk};
+ghost use Rattle.std.specs.Prelude.{◌≡◌, ◌<◌, ◌+◌, ◌*◌, pos, replicate, slice_set, IsTrue, IfOk};
 ghost use Rattle.mj_model.specs.Connection.{is_pair};
 ghost use Rattle.matrix_def.specs.Costs.{AreMatrixSizes, CostTable, IsMatrix, cell_at, matrix_cost};
 

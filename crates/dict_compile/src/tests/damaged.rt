@@ -1,8 +1,11 @@
 //! Compiled images that were changed, as they are loaded.
-use crate::tests::samples::{LEXICON, sample, sources};
+use crate::tests::samples::sample_dict;
 use crate::{compile, compile_user};
 use dict_image::load;
-use mj_model::ImageFault;
+use mj_model::ImageFault::{
+    BadLayout, BadMagic, BadSection, BadText, BadToken, Digest as BadDigest, Truncated,
+};
+use mj_model::sample;
 use sha2::{Digest, Sha256};
 use std::alloc::{AllocError, Global};
 use std::test::Fail;
@@ -30,7 +33,7 @@ fn sealed_with(alloc: Global, image: &[u8], at: usize, byte: u8) -> Result<Vec<u
 
 /// The sample's image. Its sections 1 and 2 have 8 and 62 bytes, so that its first range stands at byte 174.
 fn system_image(alloc: Global) -> Result<Vec<u8>, Fail> {
-    Ok(compile(alloc, &sources(&[LEXICON.as_bytes()]))?.image)
+    Ok(compile(alloc, &sample())?.image)
 }
 
 #[test]
@@ -38,32 +41,18 @@ fn changes_before_the_digest(rt: HostRuntime) -> Result<(), Fail> {
     let image = system_image(rt.alloc())?;
     let first_ranges = b"\0\0\0\0\x01\0\0\0\x20\0\0\0".as_slice();
     assert!(rt; image.get(174..186) == Some(first_ranges));
+    #[rattlefmt::skip]
     let rows = [
         // (what, place, byte, fault)
-        ("no change", 0, b'M', None),
-        ("byte 0", 0, 0, Some(ImageFault::BadMagic)),
-        ("layout 9", 8, 9, Some(ImageFault::BadLayout(9))),
-        ("kind 2", 12, 2, Some(ImageFault::BadSection(0))),
-        ("a cost", 104, 1, None),
-        ("INVOKE 2", 112, 2, Some(ImageFault::BadSection(2))),
-        (
-            "the first range from code point 1",
-            174,
-            1,
-            Some(ImageFault::BadSection(3)),
-        ),
-        (
-            "two equal first code points",
-            182,
-            0,
-            Some(ImageFault::BadSection(3)),
-        ),
-        (
-            "cell 0 has check -1",
-            310,
-            255,
-            Some(ImageFault::BadSection(5)),
-        ),
+        ("no change",                         0,   b'M', None),
+        ("byte 0",                            0,   0,    Some(BadMagic)),
+        ("layout 9",                          8,   9,    Some(BadLayout(9))),
+        ("kind 2",                            12,  2,    Some(BadSection(0))),
+        ("a cost",                            104, 1,    None),
+        ("INVOKE 2",                          112, 2,    Some(BadSection(2))),
+        ("the first range from code point 1", 174, 1,    Some(BadSection(3))),
+        ("two equal first code points",       182, 0,    Some(BadSection(3))),
+        ("cell 0 has check -1",               310, 255,  Some(BadSection(5))),
     ];
     for (what, at, byte, fault) in rows {
         let changed = sealed_with(rt.alloc(), &image, at, byte)?;
@@ -77,19 +66,15 @@ fn changes_behind_the_digest(rt: HostRuntime) -> Result<(), Fail> {
     let image = system_image(rt.alloc())?;
     let last = image.len().saturating_sub(1);
     let other = image.last().map_or(0, |byte| !*byte);
+    #[rattlefmt::skip]
     let rows = [
         // (what, place, byte, fault)
-        ("byte 0", 0, 0, ImageFault::BadMagic),
-        ("layout 9", 8, 9, ImageFault::BadLayout(9)),
-        ("kind 1", 12, 1, ImageFault::Digest),
-        ("a cost", 104, 1, ImageFault::Digest),
-        (
-            "the first range from code point 1",
-            174,
-            1,
-            ImageFault::Digest,
-        ),
-        ("the last byte", last, other, ImageFault::Digest),
+        ("byte 0",                            0,    0,     BadMagic),
+        ("layout 9",                          8,    9,     BadLayout(9)),
+        ("kind 1",                            12,   1,     BadDigest),
+        ("a cost",                            104,  1,     BadDigest),
+        ("the first range from code point 1", 174,  1,     BadDigest),
+        ("the last byte",                     last, other, BadDigest),
     ];
     for (what, at, byte, fault) in rows {
         let changed = with_byte(rt.alloc(), &image, at, byte)?;
@@ -105,33 +90,29 @@ fn other_lengths(rt: HostRuntime) -> Result<(), Fail> {
     for length in rows {
         let front = Vec::from_slice(rt.alloc(), image.get(..length).unwrap_or(b""))?;
         let fault = load(rt.alloc(), front).err();
-        assert_eq!(rt; (length, fault), (length, Some(ImageFault::Truncated)));
+        assert_eq!(rt; (length, fault), (length, Some(Truncated)));
     }
     image.push(0)?;
     let fault = load(rt.alloc(), image).err();
-    assert_eq!(rt; fault, Some(ImageFault::BadSection(9)));
+    assert_eq!(rt; fault, Some(BadSection(9)));
     Ok(())
 }
 
 #[test]
 fn changes_of_the_token(rt: HostRuntime) -> Result<(), Fail> {
-    let system = sample(rt.alloc())?;
+    let system = sample_dict(rt.alloc())?;
     let image = compile_user(rt.alloc(), &system, &[b"a,1,1,1,X\n".as_slice()])?.image;
+    #[rattlefmt::skip]
     let rows = [
         // (what, how many bytes before the digest, byte, fault)
-        ("no change", 1, b'X', None),
-        ("left id 2", 17, 2, Some(ImageFault::BadToken(0))),
-        ("right id 2", 15, 2, Some(ImageFault::BadToken(0))),
-        ("cost 2", 13, 2, None),
-        ("a byte of the zero", 11, 1, Some(ImageFault::BadToken(0))),
-        ("feature length 2", 5, 2, Some(ImageFault::BadText(0))),
-        ("feature not UTF-8", 1, 0xff, Some(ImageFault::BadText(0))),
-        (
-            "group 0 from token 1",
-            25,
-            1,
-            Some(ImageFault::BadSection(6)),
-        ),
+        ("no change",            1,  b'X', None),
+        ("left id 2",            17, 2,    Some(BadToken(0))),
+        ("right id 2",           15, 2,    Some(BadToken(0))),
+        ("cost 2",               13, 2,    None),
+        ("a byte of the zero",   11, 1,    Some(BadToken(0))),
+        ("feature length 2",     5,  2,    Some(BadText(0))),
+        ("feature not UTF-8",    1,  0xff, Some(BadText(0))),
+        ("group 0 from token 1", 25, 1,    Some(BadSection(6))),
     ];
     for (what, before, byte, fault) in rows {
         let at = image.len().saturating_sub(DIGEST).saturating_sub(before);

@@ -1,0 +1,22 @@
+-- What the sources of a system dictionary say, file by file.
+use Rattle.std.specs.Prelude.{Ok}
+use Rattle.mj_model.specs.declared.sources.Sources.{Sources}
+use Rattle.mj_model.specs.CharDef.{CharSource}
+use Rattle.mj_model.specs.Lexicon.{SkipLines, rows_of}
+use Rattle.mj_model.specs.Connection.{Connection}
+use Rattle.mj_model.specs.SourceTables.{AreChars, AreRows, AreUnknown, IsConnection, lexicon_bytes}
+use Rattle.matrix_def.specs.Costs.{IsTableOf as IsCostTableOf}
+use Rattle.char_def.specs.Categories.{IsTableOf}
+use Rattle.dict_compile.specs.declared.parts.SourceParts.{SourceParts}
+
+-- the sources are accepted, and these are what they say
+pub record AreParts (s : Sources) (parts : SourceParts) : Type 0 where
+  pub connection : Connection
+  pub is_connection : IsConnection s connection
+  pub matrix : IsCostTableOf connection parts.matrix
+  pub chars : CharSource
+  pub are_chars : AreChars s chars
+  pub table : IsTableOf chars parts.chars
+  pub unknown : AreUnknown s connection chars parts.unknown
+  pub rows : AreRows s connection (Ok (rows_of parts.records.items))
+  pub skipped : SkipLines (lexicon_bytes s) parts.skipped

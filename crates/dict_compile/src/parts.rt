@@ -1,0 +1,44 @@
+//! All sources together.
+
+ghost use Rattle.std.specs.Prelude.{Ok, IfOk, IfErr};
+ghost use Rattle.mj_model.specs.FirstFault.{IsRefusal};
+ghost use Rattle.mj_model.specs.SourceTables.{IsSourcesFault};
+ghost use Rattle.dict_compile.specs.Parts.{AreParts};
+
+use crate::lexicons::read_lexicons;
+use crate::unknown::read_unknown;
+use char_def::{CharTable, UnkTable, read_chars};
+use matrix_def::{Matrix, read_matrix};
+use mj_model::{Record, SourceFault, Sources};
+use std::alloc::Global;
+
+/// What the sources of a system dictionary say, file by file.
+#[derive(Drop)]
+pub(crate) struct SourceParts {
+    pub(crate) matrix: Matrix,
+    pub(crate) chars: CharTable,
+    pub(crate) unknown: UnkTable,
+    /// The entries of all lexicons, in source order.
+    pub(crate) records: Vec<Record>,
+    /// How many lines of the lexicons were skipped.
+    pub(crate) skipped: u128,
+}
+
+/// Reads the sources, up to the first fault.
+pub(crate) fn read_sources(alloc: Global, sources: &Sources<'_>) -> Result<SourceParts, SourceFault>
+    ensures accepted { IfOk result (AreParts sources.now) }
+    ensures refused { IfErr result (λ fault. IsRefusal fault (IsSourcesFault sources.now fault)) }
+{
+    let matrix = read_matrix(alloc, sources.matrix)?;
+    let sizes = matrix.sizes();
+    let chars = read_chars(alloc, sources.chars)?;
+    let unknown = read_unknown(alloc, sources.unk, &chars, sizes)?;
+    let lexicons = read_lexicons(alloc, sources.lexicons, sizes)?;
+    Ok(SourceParts {
+        matrix,
+        chars,
+        unknown,
+        records: lexicons.records,
+        skipped: lexicons.skipped,
+    })
+}

@@ -1,0 +1,26 @@
+//! The unknown entries of a dictionary's sources.
+
+ghost use Rattle.std.specs.Prelude.{Ok, Err, IfOk, IfErr};
+ghost use Rattle.mj_model.specs.FirstFault.{IsRefusal};
+ghost use Rattle.mj_model.specs.UnkDef.{IsUnkWithin};
+
+use char_def::{CharTable, UnkTable, read_unk};
+use mj_model::{MatrixSizes, SourceFault, SourceKind, UNK_FILE};
+use std::alloc::Global;
+
+/// Reads `unk.def`; its ids have to lie within the sizes.
+pub(crate) fn read_unknown(
+    alloc: Global,
+    bytes: &[u8],
+    chars: &CharTable,
+    sizes: MatrixSizes,
+) -> Result<UnkTable, SourceFault>
+    ensures accepted { IfOk result (λ unk. IsUnkWithin sizes chars.now.categories bytes.now (Ok unk)) }
+    ensures refused { IfErr result (λ fault. IsRefusal fault (IsUnkWithin sizes chars.now.categories bytes.now (Err fault))) }
+{
+    let unknown = read_unk(alloc, bytes, chars)?;
+    match unknown.first_line_outside(sizes) {
+        Some(line) => Err(SourceKind::IdOutside.at(UNK_FILE, line)),
+        None => Ok(unknown),
+    }
+}

@@ -1,4 +1,0 @@
-pub mod IdSizes
-pub mod AddedLexicon
-pub mod Parts
-pub mod AcceptedRows
