@@ -1,5 +1,5 @@
 -- The keys that begin a text, as a walk over the text meets them.
-use Rattle.std.specs.Prelude.{ℕ, suc, List, [], ◌∷◌, ◌++◌, take, drop, Option, None, Some, option_and_then, option_map}
+use Rattle.std.specs.Prelude.{◌≡◌, ℕ, suc, List, [], ◌∷◌, ◌++◌, take, drop, Option, None, Some, option_and_then, option_map, MatchOption}
 use Rattle.double_array.specs.CellMap.{Cell, base, step, value_in, value_of}
 use Rattle.double_array.specs.declared.steps.Place.{Place}
 use Rattle.double_array.specs.declared.walk.Walk.{Walk}
@@ -34,3 +34,9 @@ hits_at cells (Some place) n bytes = hits_from cells place.state n bytes
 -- the hits that are left to a walk
 abbrev pub hits_left : List Cell → List ℕ → Walk → List (ℕ × ℕ)
 hits_left cells text walk = hits_at cells walk.place walk.length (drop walk.length text)
+
+-- one step of a walk: it comes to a place, whose hit is the next one if its key has a value, or no hit is left
+abbrev pub IsStepOfWalk : List Cell → List ℕ → Walk → Walk → Option Place → Type 0
+IsStepOfWalk cells text old new place =
+    MatchOption place ((hits_left cells text old ≡ []) × (hits_left cells text new ≡ []))
+    (λ at. hits_left cells text old ≡ hit_at new.length (value_here cells at.state) ++ hits_left cells text new)

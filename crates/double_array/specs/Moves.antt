@@ -10,6 +10,10 @@ pub record IsFamilyOf (cells : List Cell) (s from : ℕ) (family : List Bool) : 
   pub sound : (code : ℕ) → HasCode family code → check cells (from + code) ≡ pos s
   pub complete : (code : ℕ) → code ≤ 256 → check cells (from + code) ≡ pos s → HasCode family code
 
+-- the family is that of the children of a state
+abbrev pub HasFamily : List Cell → ℕ → List Bool → Type 0
+HasFamily cells s family = (b : ℕ) × (base cells s ≡ pos b) × IsFamilyOf cells s b family
+
 -- the family of s, whose base is from, may move to the base to
 pub record IsRelocation (values : ℕ) (cells : List Cell) (s from to : ℕ) (family : List Bool) : Type 0 where
   pub rules : MeetsRules values cells

@@ -2,7 +2,7 @@
 ghost use Rattle.std.specs.Prelude.{◌≡◌, ◌≢◌, ℕ, ◌+◌, ◌<◌, ◌≤◌, pos, None, length};
 ghost use Rattle.double_array.specs.CellMap.{base as base_of, check as check_of, step as step_of};
 ghost use Rattle.double_array.specs.Built.{IsBuilt, IsCleared};
-ghost use Rattle.double_array.specs.Moves.{IsFamilyOf};
+ghost use Rattle.double_array.specs.Moves.{HasFamily, IsFamilyOf};
 
 use crate::pool::{CellPool, WIDTH};
 use crate::relocation::{family_of, relocate};
@@ -93,7 +93,7 @@ fn move_other(
     requires used { check_of pool.old.cells (from + code) ≡ pos other }
     requires apart { state ≢ other }
     requires room { pool.old.top + 514 ≤ length pool.old.cells }
-    requires family { (b : ℕ) × (base_of pool.old.cells other ≡ pos b) × IsFamilyOf pool.old.cells other b family.now }
+    requires family { HasFamily pool.old.cells other family.now }
     ensures cleared { IsCleared pool.old pool.new state code result.state result.wanted }
     ensures count { result.moved ≤ 257 }
 {

@@ -68,7 +68,8 @@ impl DoubleArray {
         // A refusal changes nothing. A key of the map is never refused.
         ensures kept { OnErr result (self.new ≡ self.old) }
         ensures absent { OnErr result (value_of self.old key.now ≡ None) }
-        ensures full { IfErr result (λ fault. fault ≡ Full → 2 ^ 30 - length key.now - 600 < length self.old) }
+        ensures full { IfErr result (λ fault. fault ≡ Full
+            → 2 ^ 30 - length key.now - 600 < length self.old) }
 
         ensures growth { length self.new ≤ length self.old + length key.now + 600 }
         ensures most { length self.new ≤ 2 ^ 30 }

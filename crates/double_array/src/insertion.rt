@@ -44,7 +44,8 @@ pub(crate) fn insert_key(pool: &mut CellPool, key: &[u8], value: u32) -> Result<
     ensures most { length pool.new.cells ≤ length pool.old.cells + length key.now + 600 }
     ensures kept { OnErr result (pool.new ≡ pool.old) }
     ensures absent { OnErr result (value_of pool.old.cells key.now ≡ None) }
-    ensures full { IfErr result (λ fault. fault ≡ Full → 2 ^ 30 < length pool.old.cells + length key.now + 600) }
+    ensures full { IfErr result (λ fault. fault ≡ Full
+        → 2 ^ 30 < length pool.old.cells + length key.now + 600) }
 {
     let at = walk_key(pool, key);
     let code = code_at(key, at.used);
@@ -109,7 +110,8 @@ fn replace_value(pool: &mut CellPool, end: usize, value: u32) -> u32
     requires state { (v : ℕ) × (v < values) × (base_of pool.old.cells end ≡ negsuc v) }
     requires value { value < values }
     ensures value { base_of pool.old.cells end ≡ negsuc result }
-    ensures cells { pool.new.cells ≡ slice_set pool.old.cells end (negsuc value, check_of pool.old.cells end) }
+    ensures cells { pool.new.cells
+        ≡ slice_set pool.old.cells end (negsuc value, check_of pool.old.cells end) }
     ensures top { pool.new.top ≡ pool.old.top }
 {
     let (base, _) = pool.cell(end);
@@ -125,7 +127,8 @@ fn make_room(pool: &mut CellPool, key_length: usize, left: usize) -> Result<(), 
     requires left { left ≤ key_length }
     ensures room { OnOk result (HasRoom pool.old pool.new key_length left) }
     ensures kept { OnErr result (pool.new ≡ pool.old) }
-    ensures full { IfErr result (λ fault. fault ≡ Full → 2 ^ 30 < length pool.old.cells + key_length + 600) }
+    ensures full { IfErr result (λ fault. fault ≡ Full
+        → 2 ^ 30 < length pool.old.cells + key_length + 600) }
 {
     if pool.len() >= pool.top() + 2 * WIDTH + left {
         return Ok(());

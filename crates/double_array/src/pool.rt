@@ -145,7 +145,8 @@ impl CellPool {
     pub(crate) fn set_base(&mut self, i: usize, base: i32)
         requires used { IsInUse self.old.cells i }
         requires within { i < length self.old.cells }
-        ensures cells { self.new.cells ≡ slice_set self.old.cells i (base, check_of self.old.cells i) }
+        ensures cells { self.new.cells
+            ≡ slice_set self.old.cells i (base, check_of self.old.cells i) }
         ensures top { self.new.top ≡ self.old.top }
     {
         change_base(&mut self.cells, i, base);
@@ -156,7 +157,8 @@ impl CellPool {
         requires used { IsInUse self.old.cells i }
         requires within { i < length self.old.cells }
         requires few { base ≤ 2 ^ 30 }
-        ensures cells { self.new.cells ≡ slice_set self.old.cells i (pos base, check_of self.old.cells i) }
+        ensures cells { self.new.cells
+            ≡ slice_set self.old.cells i (pos base, check_of self.old.cells i) }
         ensures top { self.new.top ≡ self.old.top }
     {
         self.set_base(i, base as i32);
@@ -167,7 +169,8 @@ impl CellPool {
         requires above { 0 < i }
         requires used { (s : ℕ) × (check_of self.old.cells i ≡ pos s) }
         requires state { state ≤ 2 ^ 30 }
-        ensures cells { self.new.cells ≡ slice_set self.old.cells i (base_of self.old.cells i, pos state) }
+        ensures cells { self.new.cells
+            ≡ slice_set self.old.cells i (base_of self.old.cells i, pos state) }
         ensures top { self.new.top ≡ self.old.top }
     {
         change_check(&mut self.cells, i, state);

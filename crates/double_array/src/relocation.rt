@@ -67,7 +67,8 @@ fn move_child(pool: &mut CellPool, state: usize, old: usize, new: usize)
     requires few { length pool.old.cells ≤ 2 ^ 30 }
     requires state { state ≤ 2 ^ 30 }
     requires window { HasChildrenFromBase pool.old.cells old }
-    requires base { (b : ℕ) → base_of pool.old.cells old ≡ pos b → (0 < b) × (b + 257 ≤ length pool.old.cells) }
+    requires base { (b : ℕ) → base_of pool.old.cells old ≡ pos b
+        → (0 < b) × (b + 257 ≤ length pool.old.cells) }
     ensures moved { IsChildMoved pool.old.cells pool.new.cells state old new }
     ensures top { pool.new.top ≡ max pool.old.top (new + 1) }
 {

@@ -108,7 +108,8 @@ pub(crate) fn link(cells: &mut Cells, i: usize, after: usize)
     ensures ring { IsRing cells.new }
     ensures links { (j : ℕ) → HasLinks cells.old j → HasLinks cells.new j }
     ensures linked { HasLinks cells.new i }
-    ensures others { (j : ℕ) → j ≢ i → (HasLinks cells.old j → ⊥) → cell_at cells.new j ≡ cell_at cells.old j }
+    ensures others { (j : ℕ) → j ≢ i → (HasLinks cells.old j → ⊥)
+        → cell_at cells.new j ≡ cell_at cells.old j }
     ensures seen { seen cells.new ≡ slice_set (seen cells.old) i free_cell }
 {
     let next = next(cells, after);

@@ -1,7 +1,7 @@
 //! Steps from state to state. One function reads the cells, and counts.
-ghost use Rattle.std.specs.Prelude.{◌≡◌, ◌+◌, ◌≤◌, None, Some, slice_get, option_and_then};
-ghost use Rattle.double_array.specs.CellMap.{base as base_of, step as step_of, value_in};
+ghost use Rattle.std.specs.Prelude.{◌≡◌, ◌+◌, ◌≤◌, None, Some, slice_get};
 ghost use Rattle.double_array.specs.CellRules.{AreCells};
+ghost use Rattle.double_array.specs.Hits.{value_here};
 ghost use Rattle.double_array.specs.Steps.{IsAt, IsChildBase, IsStepTo};
 
 use crate::cell_read::CellRead;
@@ -73,7 +73,7 @@ pub(crate) fn step<C: CellRead>(cells: &C, from: Place, byte: u8, reads: &mut u6
 pub(crate) fn value_at<C: CellRead>(cells: &C, from: Place, reads: &mut u64) -> Option<u32>
     requires cells { AreCells (C.cells cells.now) }
     requires from { IsAt (C.cells cells.now) from }
-    ensures value { result ≡ option_and_then (λ t. value_in (base_of (C.cells cells.now) t)) (step_of (C.cells cells.now) from.state 0) }
+    ensures value { result ≡ value_here (C.cells cells.now) from.state }
     ensures reads { reads.new ≤ reads.old + 1 }
 {
     let base = child(cells, from.state, from.base as usize, reads)?;

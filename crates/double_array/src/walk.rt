@@ -1,8 +1,8 @@
 //! A walk over the bytes of a text, from hit to hit.
-ghost use Rattle.std.specs.Prelude.{◌≡◌, ◌+◌, ◌*◌, ◌≤◌, [], ◌++◌, Some, MatchOption, IfSome};
+ghost use Rattle.std.specs.Prelude.{◌≡◌, ◌+◌, ◌*◌, ◌≤◌, Some, IfSome};
 ghost use Rattle.std.specs.Iterator.{YieldsFirstBy};
 ghost use Rattle.double_array.specs.Steps.{IsAt};
-ghost use Rattle.double_array.specs.Hits.{hit_at, value_here, hits_left};
+ghost use Rattle.double_array.specs.Hits.{IsStepOfWalk, hits_left};
 ghost use Rattle.double_array.specs.Walking.{IsWalking};
 ghost use Rattle.double_array.specs.CellMap.{prefixes_of};
 ghost use Rattle.double_array.specs.CellRules.{AreCells};
@@ -29,7 +29,8 @@ pub(crate) struct Walk {
 pub(crate) fn begin<C: CellRead>(cells: &C, text: &[u8]) -> Walk
     requires { AreCells (C.cells cells.now) }
     ensures walking { IsWalking (C.cells cells.now) text.now result }
-    ensures hits { hits_left (C.cells cells.now) text.now result ≡ prefixes_of (C.cells cells.now) text.now }
+    ensures hits { hits_left (C.cells cells.now) text.now result
+        ≡ prefixes_of (C.cells cells.now) text.now }
 {
     let mut reads = 0;
     let place = root(cells, &mut reads);
@@ -44,7 +45,8 @@ pub(crate) fn begin<C: CellRead>(cells: &C, text: &[u8]) -> Walk
 pub(crate) fn next_hit<C: CellRead>(cells: &C, text: &[u8], walk: &mut Walk) -> Option<Hit>
     requires { IsWalking (C.cells cells.now) text.now walk.old }
     ensures walking { IsWalking (C.cells cells.now) text.now walk.new }
-    ensures hits { YieldsFirstBy (λ hit. (hit.length, hit.value)) (hits_left (C.cells cells.now) text.now) walk.old result walk.new }
+    ensures hits { YieldsFirstBy (λ hit. (hit.length, hit.value))
+        (hits_left (C.cells cells.now) text.now) walk.old result walk.new }
 {
     while let Some(place) = advance(cells, text, walk) {
         if let Some(value) = value_at(cells, place, &mut walk.reads) {
@@ -61,7 +63,7 @@ pub(crate) fn next_hit<C: CellRead>(cells: &C, text: &[u8], walk: &mut Walk) -> 
 fn advance<C: CellRead>(cells: &C, text: &[u8], walk: &mut Walk) -> Option<Place>
     requires { IsWalking (C.cells cells.now) text.now walk.old }
     ensures walking { IsWalking (C.cells cells.now) text.now walk.new }
-    ensures hits { MatchOption result ((hits_left (C.cells cells.now) text.now walk.old ≡ []) × (hits_left (C.cells cells.now) text.now walk.new ≡ [])) (λ place. hits_left (C.cells cells.now) text.now walk.old ≡ hit_at walk.new.length (value_here (C.cells cells.now) place.state) ++ hits_left (C.cells cells.now) text.now walk.new) }
+    ensures hits { IsStepOfWalk (C.cells cells.now) text.now walk.old walk.new result }
     ensures place { IfSome result (IsAt (C.cells cells.now)) }
     ensures further { IfSome result (λ place. walk.new.length ≡ walk.old.length + 1) }
     ensures room { IfSome result (λ place. walk.new.reads ≤ 2 * walk.new.length) }
