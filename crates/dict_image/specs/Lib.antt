@@ -12,3 +12,4 @@ pub mod Cells
 pub mod Values
 pub mod Keys
 pub mod Stages
+pub mod Checks

@@ -20,13 +20,17 @@ end_tests h bytes =
 abbrev pub header_tests : Header → List Test
 header_tests h = unless (IsHeader h) (BadSection 0) ∷ []
 
+-- the index of the unknown tokens
+abbrev pub IsUnknownIndex : Header → List ℕ → Type 0
+IsUnknownIndex h index = IsIndex h.categories h.tokens (all_tokens h) index
+
 -- sections 1 to 4
 abbrev pub system_tests : Header → List ℕ → List ℕ → List ℕ → List ℕ → List Test
 system_tests h costs categories ranges index =
     unless (SystemAlone (kind_of h) (AreCosts h.sizes) costs) (BadSection 1)
     ∷ unless (SystemAlone (kind_of h) (AreCategories h.categories) categories) (BadSection 2)
     ∷ unless (SystemAlone (kind_of h) (AreRanges h.categories) ranges) (BadSection 3)
-    ∷ unless (SystemAlone (kind_of h) (IsIndex h.categories h.tokens (all_tokens h)) index) (BadSection 4) ∷ []
+    ∷ unless (SystemAlone (kind_of h) (IsUnknownIndex h) index) (BadSection 4) ∷ []
 
 -- section 5
 abbrev pub key_tests : ℕ → List ℕ → List Test

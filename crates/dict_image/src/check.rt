@@ -1,9 +1,10 @@
 //! Whether bytes are a well-formed image: each test in its order, and the first fault.
-ghost use Rattle.std.specs.Prelude.{◌≡◌, ◌⊎◌, ◌≤◌, length, IfOk, IfErr, MatchResult};
+ghost use Rattle.std.specs.Prelude.{◌≡◌, ◌⊎◌, ◌≤◌, length, IfOk, IfErr};
 ghost use Rattle.image_bytes.specs.ImageBytes.{header_of, section_end};
-ghost use Rattle.image_bytes.specs.ImageFaults.{IsImageFault, PassAll, IsFirstTold};
+ghost use Rattle.image_bytes.specs.ImageFaults.{IsImageFault};
 ghost use Rattle.mj_model.specs.declared.image_fault.ImageFault.TheVariants.{Memory};
 ghost use Rattle.image_bytes.specs.Headers.{AreEnds};
+ghost use Rattle.dict_image.specs.Checks.{PassTellOrStarve};
 ghost use Rattle.dict_image.specs.Held.{IsDict};
 ghost use Rattle.dict_image.specs.Stages.{section_tests};
 
@@ -56,7 +57,7 @@ fn check_sections(
 ) -> Result<(), ImageFault>
     requires ends { AreEnds ends.now (header_of bytes.now) }
     requires within { section_end (header_of bytes.now) 8 ≤ length bytes.now }
-    ensures { MatchResult result (λ _. PassAll (section_tests header.now bytes.now)) (λ fault. (fault ≡ Memory) ⊎ IsFirstTold (section_tests header.now bytes.now) fault) }
+    ensures { PassTellOrStarve (section_tests header.now bytes.now) result }
 {
     check_header(header)?;
     check_system(

@@ -119,7 +119,8 @@ impl Dict {
     /// The entries of a group.
     pub(crate) fn group(&self, i: u32) -> Entries<'_>
         requires { i < (header_of self.now).groups }
-        ensures { result ≡ tokens_in (section_of self.now 7) (section_of self.now 8) (section_of self.now 6) i }
+        ensures { result ≡ tokens_in (section_of self.now 7) (section_of self.now 8)
+            (section_of self.now 6) i }
     {
         Entries::listed(
             self.section(Groups),

@@ -90,7 +90,8 @@ fn next_token<'a>(
     requires order { next.old ≤ end }
     requires hold { HoldTokens tokens.now features.now end }
     ensures order { next.new ≤ end }
-    ensures entries { YieldsFirstBy token_seen (λ n. tokens_from tokens.now features.now n end) next.old result next.new }
+    ensures entries { YieldsFirstBy token_seen (λ n. tokens_from tokens.now features.now n end)
+        next.old result next.new }
 {
     let i = *next;
     if i == end {

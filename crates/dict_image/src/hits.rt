@@ -70,7 +70,8 @@ impl<'a> Iterator for Prefixes<'a> {
 fn next_prefix<'a>(dict: &'a Dict, hits: &mut Hits<'a, Dict>) -> Option<(usize, Entries<'a>)>
     requires groups { AllByRecursion (λ hit. hit.1 < (header_of dict.now).groups) hits.old.hits }
     ensures groups { AllByRecursion (λ hit. hit.1 < (header_of dict.now).groups) hits.new.hits }
-    ensures prefixes { YieldsFirstBy (λ prefix. (prefix.0, prefix.1)) (λ it. map (prefix_in (lexicon_sections dict.now)) it.hits) hits.old result hits.new }
+    ensures prefixes { YieldsFirstBy (λ prefix. (prefix.0, prefix.1))
+        (λ it. map (prefix_in (lexicon_sections dict.now)) it.hits) hits.old result hits.new }
     ensures text { hits.new.text ≡ hits.old.text }
 {
     let hit = hits.next()?;

@@ -9,7 +9,8 @@ use crate::section::Section;
 
 /// Where the header and sections 1 to 8 end, in bytes; None where that is more than a `usize` holds.
 pub fn section_ends(header: &Header) -> Option<[usize; 9]>
-    ensures { MatchOption result (2 ^ 64 ≤ section_end header.now 8) (λ ends. AreEnds ends header.now) }
+    ensures { MatchOption result (2 ^ 64 ≤ section_end header.now 8)
+        (λ ends. AreEnds ends header.now) }
 {
     let mut ends = [HEADER_LENGTH; 9];
     for k in 0..8 {

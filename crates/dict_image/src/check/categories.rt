@@ -1,7 +1,7 @@
 //! The categories of an image.
-ghost use Rattle.std.specs.Prelude.{◌≡◌, ◌↔◌, length, IsTrue, MatchOption};
+ghost use Rattle.std.specs.Prelude.{◌↔◌, IsTrue};
 ghost use Rattle.image_bytes.specs.ImageSections.{AreCategories};
-ghost use Rattle.dict_image.specs.CheckedCategories.{BeginsWithCategory, after_category};
+ghost use Rattle.dict_image.specs.Checks.{IsPastCategory};
 
 use simdutf8::is_utf8;
 
@@ -21,7 +21,7 @@ pub(crate) fn are_categories(count: u32, bytes: &[u8]) -> bool
 
 /// The bytes behind a category, if the bytes begin with one.
 fn past_category(bytes: &[u8]) -> Option<&[u8]>
-    ensures { MatchOption result (BeginsWithCategory bytes.now → ⊥) (λ rest. BeginsWithCategory bytes.now × (rest.now ≡ after_category bytes.now)) }
+    ensures { IsPastCategory bytes.now result }
 {
     let &[invoke, group, length, name_length, ..] = bytes else {
         return None;

@@ -1,9 +1,9 @@
 //! A cell of the keys, and what the rules allow it to be.
-ghost use Rattle.std.specs.Prelude.{◌≡◌, ℕ, ◌+◌, ◌<◌, pos, length, MatchOption};
+ghost use Rattle.std.specs.Prelude.{◌≡◌, ℕ, ◌<◌, pos, length, MatchOption};
 ghost use Rattle.double_array.specs.CellMap.{cell_at, check as check_of};
-ghost use Rattle.double_array.specs.CellRules.{IsBaseAfter, IsUsed};
 ghost use Rattle.image_bytes.specs.ImageSections.{stored_cells};
-ghost use Rattle.dict_image.specs.Cells.{number, cell_of, IsDistance, IsChildAt, IsAllowed, IsRole, IsBaseRole};
+ghost use Rattle.dict_image.specs.Cells.{number, cell_of, IsDistance};
+ghost use Rattle.dict_image.specs.Checks.{IsCodeOf, IsRoleAfter, IsRoleOf};
 
 use double_array::CellRead;
 use image_bytes::ImageCells;
@@ -58,7 +58,7 @@ pub(crate) fn read_cell(cells: &ImageCells<'_>, t: usize) -> Cell
 /// What cell t is, if it is free or meets the rules.
 pub(crate) fn role_of(cells: &ImageCells<'_>, groups: u32, t: usize) -> Option<Role>
     requires { t < length (stored_cells cells.now.bytes.now) }
-    ensures { MatchOption result (IsAllowed groups (stored_cells cells.now.bytes.now) t → ⊥) (IsRole groups (stored_cells cells.now.bytes.now) t) }
+    ensures { IsRoleOf groups (stored_cells cells.now.bytes.now) t result }
 {
     let cell = read_cell(cells, t);
     match (cell.base, cell.check) {
@@ -74,7 +74,7 @@ pub(crate) fn role_of(cells: &ImageCells<'_>, groups: u32, t: usize) -> Option<R
 /// The code of the step from a state to cell t, whose check it is.
 fn child_code(cells: &ImageCells<'_>, state: usize, t: usize) -> Option<usize>
     requires { check_of (stored_cells cells.now.bytes.now) t ≡ pos state }
-    ensures { MatchOption result ((values : ℕ) → IsUsed values (stored_cells cells.now.bytes.now) t → ⊥) (IsChildAt (stored_cells cells.now.bytes.now) t) }
+    ensures { IsCodeOf (stored_cells cells.now.bytes.now) t result }
 {
     if state >= cells.len() {
         return None;
@@ -98,7 +98,7 @@ fn distance(base: usize, t: usize) -> Option<usize>
 
 /// What a used cell is by its code and its base.
 fn used_role(groups: u32, code: usize, base: Signed) -> Option<Role>
-    ensures { MatchOption result (IsBaseAfter groups code (number base) → ⊥) (λ role. IsBaseAfter groups code (number base) × IsBaseRole groups (number base) role) }
+    ensures { IsRoleAfter groups code base result }
 {
     match base {
         Signed::Negative(value) if code == 0 && value < groups => Some(Role::Value(value)),

@@ -1,10 +1,8 @@
 //! What stands around the sections: the magic, the layout, the length and the digest.
-ghost use Rattle.std.specs.Prelude.{◌≡◌, ◌≤◌, ◌↔◌, drop, take, length, IsTrue, MatchResult};
+ghost use Rattle.std.specs.Prelude.{◌≡◌, ◌≤◌, ◌↔◌, drop, take, length, IsTrue};
 ghost use Rattle.sha2.specs.Sha256.{sha256};
-ghost use Rattle.image_bytes.specs.ImageBytes.{header_of, image_magic, section_end};
-ghost use Rattle.image_bytes.specs.ImageFaults.{PassAll, IsFirstTold};
-ghost use Rattle.image_bytes.specs.Headers.{AreEnds};
-ghost use Rattle.dict_image.specs.Stages.{front_tests, end_tests};
+ghost use Rattle.image_bytes.specs.ImageBytes.{header_of, image_magic};
+ghost use Rattle.dict_image.specs.Checks.{TellsEnds, TellsFront};
 
 use image_bytes::{DIGEST_LENGTH, HEADER_LENGTH, Header, LAYOUT, MAGIC, read_header, section_ends};
 use mj_model::ImageFault;
@@ -12,7 +10,7 @@ use sha2::{Digest, Sha256};
 
 /// The tests of the magic and the layout.
 pub(crate) fn check_front(bytes: &[u8]) -> Result<Header, ImageFault>
-    ensures { MatchResult result (λ header. PassAll (front_tests (header_of bytes.now) bytes.now) × (header ≡ header_of bytes.now)) (IsFirstTold (front_tests (header_of bytes.now) bytes.now)) }
+    ensures { TellsFront bytes.now result }
 {
     if bytes.len() < HEADER_LENGTH {
         return Err(ImageFault::Truncated);
@@ -38,7 +36,7 @@ fn has_magic(bytes: &[u8]) -> bool
 pub(crate) fn check_ends(bytes: &[u8], header: &Header) -> Result<[usize; 9], ImageFault>
     requires layout { header.now.layout ≡ 3 }
     requires header { header.now ≡ header_of bytes.now }
-    ensures { MatchResult result (λ ends. PassAll (end_tests (header_of bytes.now) bytes.now) × AreEnds ends (header_of bytes.now) × (section_end (header_of bytes.now) 8 ≤ length bytes.now)) (IsFirstTold (end_tests (header_of bytes.now) bytes.now)) }
+    ensures { TellsEnds bytes.now result }
 {
     let length = bytes.len();
     let Some(ends) = section_ends(header) else {

@@ -1,8 +1,9 @@
 //! The numbers of a header, within their bounds.
-ghost use Rattle.std.specs.Prelude.{◌≡◌, ◌↔◌, false, IsTrue, MatchResult};
+ghost use Rattle.std.specs.Prelude.{◌≡◌, ◌↔◌, false, IsTrue};
 ghost use Rattle.image_bytes.specs.ImageBytes.{kind_of};
-ghost use Rattle.image_bytes.specs.ImageFaults.{AreCounts, IsHeader, PassAll, IsFirstTold};
+ghost use Rattle.image_bytes.specs.ImageFaults.{AreCounts, IsHeader};
 ghost use Rattle.mj_model.specs.Tables.{System, User};
+ghost use Rattle.dict_image.specs.Checks.{PassOrTell};
 ghost use Rattle.dict_image.specs.Stages.{header_tests};
 
 use image_bytes::Header;
@@ -13,7 +14,7 @@ const SIZE_MAX: u32 = 65_535;
 
 /// The test of the header's numbers.
 pub(crate) fn check_header(header: &Header) -> Result<(), ImageFault>
-    ensures { MatchResult result (λ _. PassAll (header_tests header.now)) (IsFirstTold (header_tests header.now)) }
+    ensures { PassOrTell (header_tests header.now) result }
 {
     if is_header(header) {
         Ok(())
@@ -48,7 +49,8 @@ fn is_header(header: &Header) -> bool
 
 /// Whether a dictionary of this kind may have so many categories and unknown tokens.
 fn are_counts(header: &Header) -> bool
-    ensures { IsTrue result ↔ AreCounts (kind_of header.now) header.now.categories header.now.unknown }
+    ensures { IsTrue result
+        ↔ AreCounts (kind_of header.now) header.now.categories header.now.unknown }
 {
     if is_user(header) {
         header.categories == 0 && header.unknown == 0

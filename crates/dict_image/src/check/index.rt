@@ -1,6 +1,7 @@
 //! An index: which tokens each of its lists has.
-ghost use Rattle.std.specs.Prelude.{◌≡◌, ℕ, suc, ◌+◌, ◌*◌, ◌<◌, ◌↔◌, length, IsTrue};
-ghost use Rattle.image_bytes.specs.ImageSections.{IsIndex, index_at};
+ghost use Rattle.std.specs.Prelude.{◌≡◌, ◌+◌, ◌*◌, ◌↔◌, length, IsTrue};
+ghost use Rattle.image_bytes.specs.ImageSections.{IsIndex};
+ghost use Rattle.dict_image.specs.Checks.{NumbersRise};
 
 use image_bytes::u32_at;
 
@@ -18,7 +19,7 @@ pub(crate) fn is_index(lists: u32, low: u32, high: usize, index: &[u8]) -> bool
 /// Whether each number is below the next one.
 fn is_rising(lists: usize, index: &[u8]) -> bool
     requires { length index.now ≡ 4 * (lists + 1) }
-    ensures { IsTrue result ↔ ((i : ℕ) → i < lists → index_at index.now i < index_at index.now (suc i)) }
+    ensures { IsTrue result ↔ NumbersRise lists index.now }
 {
     for i in 0..lists {
         if u32_at(index, 4 * i) >= u32_at(index, 4 * (i + 1)) {

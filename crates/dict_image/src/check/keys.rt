@@ -1,9 +1,10 @@
 //! The keys of an image's groups, each found from the cell of the group's value.
-ghost use Rattle.std.specs.Prelude.{◌≡◌, ◌≢◌, ℕ, suc, ◌<◌, ◌≤◌, ◌↔◌, pos, negsuc, Some, List, length, map, drop, IsTrue, IfOk, MatchOption};
-ghost use Rattle.double_array.specs.CellMap.{base as base_of, check as check_of, walk};
+ghost use Rattle.std.specs.Prelude.{◌≡◌, ◌≢◌, ℕ, ◌↔◌, pos, negsuc, length, IsTrue, IfOk};
+ghost use Rattle.double_array.specs.CellMap.{base as base_of, check as check_of};
 ghost use Rattle.double_array.specs.CellRules.{AreCells};
-ghost use Rattle.image_bytes.specs.ImageFaults.{HasKey, IsLeastWithout};
+ghost use Rattle.image_bytes.specs.ImageFaults.{HasKey};
 ghost use Rattle.image_bytes.specs.ImageSections.{StandsOnce, stored_cells};
+ghost use Rattle.dict_image.specs.Checks.{IsKeyStart, IsLeastOrNone};
 ghost use Rattle.dict_image.specs.Keys.{IsState, IsStepBack};
 ghost use Rattle.dict_image.specs.Values.{HoldEach, ArePlaces};
 
@@ -29,7 +30,7 @@ pub(crate) fn first_without_key(
 ) -> Result<Option<u32>, AllocError>
     requires each { HoldEach groups (stored_cells cells.now.bytes.now) }
     requires places { ArePlaces groups (stored_cells cells.now.bytes.now) places.now }
-    ensures { let Has : ℕ → Type 0 = HasKey (stored_cells cells.now.bytes.now) in IfOk result (λ found. MatchOption found ((g : ℕ) → g < groups → Has g) (IsLeastWithout groups Has)) }
+    ensures { IfOk result (IsLeastOrNone groups (HasKey (stored_cells cells.now.bytes.now))) }
 {
     let mut room = key_room(alloc)?;
     Ok(without_key(groups, cells, places, &mut room))
@@ -47,7 +48,7 @@ fn without_key(groups: u32, cells: &ImageCells<'_>, places: &[u32], room: &mut [
     requires each { HoldEach groups (stored_cells cells.now.bytes.now) }
     requires places { ArePlaces groups (stored_cells cells.now.bytes.now) places.now }
     requires room { length room.old ≡ SURFACE_MAX }
-    ensures { let Has : ℕ → Type 0 = HasKey (stored_cells cells.now.bytes.now) in MatchOption result ((g : ℕ) → g < groups → Has g) (IsLeastWithout groups Has) }
+    ensures { IsLeastOrNone groups (HasKey (stored_cells cells.now.bytes.now)) result }
 {
     for group in 0..groups {
         if !has_key(cells, group, places[group as usize] as usize, room) {
@@ -78,7 +79,7 @@ fn key_to(cells: &ImageCells<'_>, state: usize, room: &mut [u8]) -> Option<usize
     requires cells { AreCells (stored_cells cells.now.bytes.now) }
     requires state { IsState (stored_cells cells.now.bytes.now) state }
     ensures length { length room.new ≡ length room.old }
-    ensures key { MatchOption result ((key : List ℕ) → length key ≤ length room.new → walk (stored_cells cells.now.bytes.now) 0 (map suc key) ≡ Some state → ⊥) (λ start. (start ≤ length room.new) × (walk (stored_cells cells.now.bytes.now) 0 (map suc (drop start room.new)) ≡ Some state)) }
+    ensures key { IsKeyStart (stored_cells cells.now.bytes.now) state room.new result }
 {
     let mut start = room.len();
     let mut at = state;

@@ -1,7 +1,6 @@
 //! Sections 5 to 8: cells and keys, groups, tokens and features.
-ghost use Rattle.std.specs.Prelude.{◌≡◌, ◌⊎◌, MatchResult};
-ghost use Rattle.image_bytes.specs.ImageFaults.{IsHeader, PassAll, IsFirstTold};
-ghost use Rattle.mj_model.specs.declared.image_fault.ImageFault.TheVariants.{Memory};
+ghost use Rattle.image_bytes.specs.ImageFaults.{IsHeader};
+ghost use Rattle.dict_image.specs.Checks.{PassOrTell, PassTellOrStarve};
 ghost use Rattle.dict_image.specs.Stages.{key_tests, token_tests};
 
 use crate::check::index::is_index;
@@ -14,7 +13,7 @@ use std::alloc::Global;
 
 /// The tests of the cells, and of each group's key.
 pub(crate) fn check_keys(alloc: Global, groups: u32, cells: &[u8]) -> Result<(), ImageFault>
-    ensures { MatchResult result (λ _. PassAll (key_tests groups cells.now)) (λ fault. (fault ≡ Memory) ⊎ IsFirstTold (key_tests groups cells.now) fault) }
+    ensures { PassTellOrStarve (key_tests groups cells.now) result }
 {
     let Some(places) = value_places(alloc, groups, cells)? else {
         return Err(ImageFault::BadSection(5));
@@ -33,7 +32,7 @@ pub(crate) fn check_tokens(
     features: &[u8],
 ) -> Result<(), ImageFault>
     requires { IsHeader header.now }
-    ensures { MatchResult result (λ _. PassAll (token_tests header.now groups.now tokens.now features.now)) (IsFirstTold (token_tests header.now groups.now tokens.now features.now)) }
+    ensures { PassOrTell (token_tests header.now groups.now tokens.now features.now) result }
 {
     let count = header.tokens + header.unknown;
     if !is_index(header.groups, 0, header.tokens as usize, groups) {

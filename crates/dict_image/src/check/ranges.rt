@@ -1,8 +1,8 @@
 //! The categories of code points, in ranges.
-ghost use Rattle.std.specs.Prelude.{ℕ, suc, ◌+◌, ◌*◌, ◌/◌, ◌%◌, ◌<◌, ◌≤◌, ◌↔◌, length, IsTrue};
-ghost use Rattle.image_bytes.specs.ImageSections.{AreRanges, info_of_entry, range_at};
+ghost use Rattle.std.specs.Prelude.{◌≤◌, ◌↔◌, IsTrue};
+ghost use Rattle.image_bytes.specs.ImageSections.{AreRanges, info_of_entry};
 ghost use Rattle.mj_model.specs.CharDef.{IsInfoOf};
-ghost use Rattle.dict_image.specs.CheckedRanges.{IsRangeOf};
+ghost use Rattle.dict_image.specs.Checks.{AreRangesOf, FirstsRise};
 
 use image_bytes::u32_at;
 
@@ -24,7 +24,7 @@ pub(crate) fn are_ranges(categories: u32, ranges: &[u8]) -> bool
 
 /// Whether each range begins behind the one before it.
 fn is_rising(ranges: &[u8]) -> bool
-    ensures { IsTrue result ↔ ((i : ℕ) → suc i < length ranges.now / 8 → (range_at ranges.now i).first < (range_at ranges.now (suc i)).first) }
+    ensures { IsTrue result ↔ FirstsRise ranges.now }
 {
     for i in 1..ranges.len() / 8 {
         if u32_at(ranges, 8 * (i - 1)) >= u32_at(ranges, 8 * i) {
@@ -37,7 +37,7 @@ fn is_rising(ranges: &[u8]) -> bool
 /// Whether each range begins at a code point, and names categories below a number.
 fn are_within(categories: u32, ranges: &[u8]) -> bool
     requires { categories ≤ 18 }
-    ensures { IsTrue result ↔ ((i : ℕ) → i < length ranges.now / 8 → IsRangeOf categories (range_at ranges.now i)) }
+    ensures { IsTrue result ↔ AreRangesOf categories ranges.now }
 {
     for i in 0..ranges.len() / 8 {
         if u32_at(ranges, 8 * i) > CODE_POINT_MAX

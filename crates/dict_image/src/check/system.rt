@@ -1,9 +1,10 @@
 //! Sections 1 to 4, which a user dictionary leaves empty.
-ghost use Rattle.std.specs.Prelude.{◌↔◌, IsTrue, MatchResult};
-ghost use Rattle.image_bytes.specs.ImageBytes.{all_tokens, kind_of};
-ghost use Rattle.image_bytes.specs.ImageFaults.{IsHeader, SystemAlone, PassAll, IsFirstTold};
-ghost use Rattle.image_bytes.specs.ImageSections.{AreCosts, AreCategories, AreRanges, IsIndex};
-ghost use Rattle.dict_image.specs.Stages.{system_tests};
+ghost use Rattle.std.specs.Prelude.{◌↔◌, IsTrue};
+ghost use Rattle.image_bytes.specs.ImageBytes.{kind_of};
+ghost use Rattle.image_bytes.specs.ImageFaults.{IsHeader, SystemAlone};
+ghost use Rattle.image_bytes.specs.ImageSections.{AreCosts, AreCategories, AreRanges};
+ghost use Rattle.dict_image.specs.Checks.{PassOrTell};
+ghost use Rattle.dict_image.specs.Stages.{system_tests, IsUnknownIndex};
 
 use crate::check::categories::are_categories;
 use crate::check::header::is_user;
@@ -21,7 +22,8 @@ pub(crate) fn check_system(
     index: &[u8],
 ) -> Result<(), ImageFault>
     requires { IsHeader header.now }
-    ensures { MatchResult result (λ _. PassAll (system_tests header.now costs.now categories.now ranges.now index.now)) (IsFirstTold (system_tests header.now costs.now categories.now ranges.now index.now)) }
+    ensures { PassOrTell (system_tests header.now costs.now categories.now ranges.now index.now)
+        result }
 {
     if !has_costs(header, costs) {
         return Err(ImageFault::BadSection(1));
@@ -41,7 +43,8 @@ pub(crate) fn check_system(
 /// Whether section 1 has a cost of 2 bytes for each pair of ids.
 fn has_costs(header: &Header, costs: &[u8]) -> bool
     requires { IsHeader header.now }
-    ensures { IsTrue result ↔ SystemAlone (kind_of header.now) (AreCosts header.now.sizes) costs.now }
+    ensures { IsTrue result
+        ↔ SystemAlone (kind_of header.now) (AreCosts header.now.sizes) costs.now }
 {
     if is_user(header) {
         costs.is_empty()
@@ -52,7 +55,8 @@ fn has_costs(header: &Header, costs: &[u8]) -> bool
 
 /// Whether section 2 has the categories.
 fn has_categories(header: &Header, categories: &[u8]) -> bool
-    ensures { IsTrue result ↔ SystemAlone (kind_of header.now) (AreCategories header.now.categories) categories.now }
+    ensures { IsTrue result
+        ↔ SystemAlone (kind_of header.now) (AreCategories header.now.categories) categories.now }
 {
     if is_user(header) {
         categories.is_empty()
@@ -64,7 +68,8 @@ fn has_categories(header: &Header, categories: &[u8]) -> bool
 /// Whether section 3 has ranges of code points.
 fn has_ranges(header: &Header, ranges: &[u8]) -> bool
     requires { IsHeader header.now }
-    ensures { IsTrue result ↔ SystemAlone (kind_of header.now) (AreRanges header.now.categories) ranges.now }
+    ensures { IsTrue result
+        ↔ SystemAlone (kind_of header.now) (AreRanges header.now.categories) ranges.now }
 {
     if is_user(header) {
         ranges.is_empty()
@@ -75,7 +80,8 @@ fn has_ranges(header: &Header, ranges: &[u8]) -> bool
 
 /// Whether section 4 shares out the unknown tokens to the categories.
 fn has_index(header: &Header, index: &[u8]) -> bool
-    ensures { IsTrue result ↔ SystemAlone (kind_of header.now) (IsIndex header.now.categories header.now.tokens (all_tokens header.now)) index.now }
+    ensures { IsTrue result
+        ↔ SystemAlone (kind_of header.now) (IsUnknownIndex header.now) index.now }
 {
     if is_user(header) {
         index.is_empty()

@@ -1,6 +1,6 @@
 //! Tokens and their features.
-ghost use Rattle.std.specs.Prelude.{◌≡◌, ◌+◌, ◌*◌, ◌≤◌, ◌<◌, ◌↔◌, ℕ, length, IsTrue, MatchOption};
-ghost use Rattle.image_bytes.specs.ImageFaults.{IsLeastWithout};
+ghost use Rattle.std.specs.Prelude.{◌≡◌, ◌+◌, ◌*◌, ◌≤◌, ◌↔◌, length, IsTrue};
+ghost use Rattle.dict_image.specs.Checks.{IsLeastOrNone};
 ghost use Rattle.image_bytes.specs.ImageSections.{FitsSizes, HasFeature, stored_token};
 
 use image_bytes::{u16_at, u32_at};
@@ -10,7 +10,7 @@ use simdutf8::is_utf8;
 /// The first of so many tokens whose ids lie outside the sizes or whose spare bytes are not 0.
 pub(crate) fn first_misfit(sizes: MatrixSizes, count: u32, tokens: &[u8]) -> Option<u32>
     requires { length tokens.now ≡ 16 * count }
-    ensures { let Fits : ℕ → Type 0 = λ i. FitsSizes sizes (stored_token tokens.now i) in MatchOption result ((i : ℕ) → i < count → Fits i) (IsLeastWithout count Fits) }
+    ensures { IsLeastOrNone count (λ i. FitsSizes sizes (stored_token tokens.now i)) result }
 {
     for token in 0..count {
         if !fits_sizes(sizes, tokens, token as usize) {
@@ -34,7 +34,8 @@ fn fits_sizes(sizes: MatrixSizes, tokens: &[u8], token: usize) -> bool
 /// The first of so many tokens whose feature lies outside the features or is not UTF-8.
 pub(crate) fn first_without_feature(count: u32, tokens: &[u8], features: &[u8]) -> Option<u32>
     requires { length tokens.now ≡ 16 * count }
-    ensures { let Has : ℕ → Type 0 = λ i. HasFeature features.now (stored_token tokens.now i) in MatchOption result ((i : ℕ) → i < count → Has i) (IsLeastWithout count Has) }
+    ensures { IsLeastOrNone count (λ i. HasFeature features.now (stored_token tokens.now i))
+        result }
 {
     for token in 0..count {
         if !has_feature(tokens, token as usize, features) {

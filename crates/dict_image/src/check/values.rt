@@ -1,7 +1,8 @@
 //! The cells of an image's keys: they meet the rules and hold each group once.
 ghost use Rattle.std.specs.Prelude.{◌≡◌, ◌+◌, ◌*◌, ◌/◌, ◌^◌, ◌<◌, ◌≤◌, ◌↔◌, false, length, IsTrue, IfOk, MatchOption};
 ghost use Rattle.image_bytes.specs.ImageSections.{HoldGroups, stored_cells};
-ghost use Rattle.dict_image.specs.Values.{IsRoot, HoldEach, ArePlaces, IsScanned};
+ghost use Rattle.dict_image.specs.Checks.{HoldEachAt, HoldGroupsAt};
+ghost use Rattle.dict_image.specs.Values.{IsRoot, HoldEach, IsScanned};
 
 use crate::check::cell::{Role, Signed, read_cell, role_of};
 use double_array::CellRead;
@@ -17,7 +18,8 @@ pub(crate) fn value_places(
     groups: u32,
     bytes: &[u8],
 ) -> Result<Option<Vec<u32>>, AllocError>
-    ensures { IfOk result (λ found. MatchOption found (HoldGroups groups bytes.now → ⊥) (λ places. HoldGroups groups bytes.now × ArePlaces groups (stored_cells bytes.now) places.items)) }
+    ensures { IfOk result (λ found. MatchOption found (HoldGroups groups bytes.now → ⊥)
+        (λ places. HoldGroupsAt groups bytes.now places.items)) }
 {
     if bytes.len() % 8 != 0 || bytes.is_empty() || bytes.len() / 8 > CELLS_MAX {
         return Ok(None);
@@ -45,7 +47,9 @@ fn is_root(cells: &ImageCells<'_>) -> bool
 fn scan(alloc: Global, groups: u32, cells: &ImageCells<'_>) -> Result<Option<Vec<u32>>, AllocError>
     requires root { IsRoot (stored_cells cells.now.bytes.now) }
     requires few { length (stored_cells cells.now.bytes.now) ≤ 2 ^ 30 }
-    ensures { IfOk result (λ found. MatchOption found (HoldEach groups (stored_cells cells.now.bytes.now) → ⊥) (λ places. HoldEach groups (stored_cells cells.now.bytes.now) × ArePlaces groups (stored_cells cells.now.bytes.now) places.items)) }
+    ensures { IfOk result (λ found. MatchOption found
+        (HoldEach groups (stored_cells cells.now.bytes.now) → ⊥)
+        (λ places. HoldEachAt groups (stored_cells cells.now.bytes.now) places.items)) }
 {
     let mut places = Vec::from_elem(alloc, 0, groups as usize)?;
     for t in 1..cells.len() {
@@ -67,7 +71,8 @@ fn note_cell(cells: &ImageCells<'_>, groups: u32, t: usize, places: &mut [u32]) 
     requires within { t < length (stored_cells cells.now.bytes.now) }
     requires few { length (stored_cells cells.now.bytes.now) ≤ 2 ^ 30 }
     requires scanned { IsScanned groups (stored_cells cells.now.bytes.now) t places.old }
-    ensures scanned { IsTrue result → IsScanned groups (stored_cells cells.now.bytes.now) (t + 1) places.new }
+    ensures scanned { IsTrue result
+        → IsScanned groups (stored_cells cells.now.bytes.now) (t + 1) places.new }
     ensures refused { result ≡ false → HoldEach groups (stored_cells cells.now.bytes.now) → ⊥ }
 {
     match role_of(cells, groups, t) {

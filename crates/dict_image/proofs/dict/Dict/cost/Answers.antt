@@ -1,5 +1,3 @@
-use Rattle.std.proofs.Common.{◌<◌, subst}
-use Rattle.image_bytes.specs.declared.header.Header.{Header}
 use Rattle.image_bytes.specs.ImageBytes.{header_of}
 use Rattle.dict_image.proofs.FormedLemmas.{costs_are}
 use Rattle.dict_image.proofs.FittingLemmas.{pair_within}

@@ -1,0 +1,93 @@
+-- What the tests of an image answer.
+use Rattle.std.specs.Prelude.{◌≡◌, ◌⊎◌, ℕ, suc, ◌/◌, ◌<◌, ◌≤◌, List, length, map, drop, Option, Some, Result, MatchOption, MatchResult}
+use Rattle.std.specs.Borrow.{Bor}
+use Rattle.mj_model.specs.declared.image_fault.ImageFault.{ImageFault}
+use Rattle.mj_model.specs.declared.image_fault.ImageFault.TheVariants.{Memory}
+use Rattle.double_array.specs.CellMap.{Cell, walk}
+use Rattle.double_array.specs.CellRules.{IsBaseAfter, IsUsed}
+use Rattle.image_bytes.specs.declared.header.Header.{Header}
+use Rattle.image_bytes.specs.Headers.{AreEnds}
+use Rattle.image_bytes.specs.ImageBytes.{header_of, section_end}
+use Rattle.image_bytes.specs.ImageFaults.{Test, PassAll, IsFirstTold, IsLeastWithout}
+use Rattle.image_bytes.specs.ImageSections.{HoldGroups, index_at, range_at, stored_cells}
+use Rattle.dict_image.specs.declared.check.cell.Role.{Role}
+use Rattle.dict_image.specs.declared.check.cell.Signed.{Signed}
+use Rattle.dict_image.specs.Cells.{IsAllowed, IsBaseRole, IsChildAt, IsRole, number}
+use Rattle.dict_image.specs.CheckedCategories.{BeginsWithCategory, after_category}
+use Rattle.dict_image.specs.CheckedRanges.{IsRangeOf}
+use Rattle.dict_image.specs.Stages.{front_tests, end_tests}
+use Rattle.dict_image.specs.Values.{HoldEach, ArePlaces}
+
+-- ---- tests
+
+-- all tests are passed, or the first that is not tells this fault
+abbrev pub PassOrTell : {X : Type 0} → List Test → Result X ImageFault → Type 0
+PassOrTell tests answer = MatchResult answer (λ _. PassAll tests) (IsFirstTold tests)
+
+-- or memory was refused
+abbrev pub PassTellOrStarve : {X : Type 0} → List Test → Result X ImageFault → Type 0
+PassTellOrStarve tests answer = MatchResult answer (λ _. PassAll tests) (λ fault. (fault ≡ Memory) ⊎ IsFirstTold tests fault)
+
+-- the header of bytes that pass the tests of their front
+abbrev pub TellsFront : List ℕ → Result Header ImageFault → Type 0
+TellsFront bytes answer =
+    MatchResult answer (λ header. PassAll (front_tests (header_of bytes) bytes) × (header ≡ header_of bytes))
+    (IsFirstTold (front_tests (header_of bytes) bytes))
+
+-- the ends of the sections of bytes that pass the tests of their length and digest
+abbrev pub TellsEnds : List ℕ → Result (List ℕ) ImageFault → Type 0
+TellsEnds bytes answer =
+    MatchResult answer (λ ends. PassAll (end_tests (header_of bytes) bytes) × AreEnds ends (header_of bytes) × (section_end (header_of bytes) 8 ≤ length bytes))
+    (IsFirstTold (end_tests (header_of bytes) bytes))
+
+-- the least number below n of which this is not so, if there is one
+abbrev pub IsLeastOrNone : ℕ → (ℕ → Type 0) → Option ℕ → Type 0
+IsLeastOrNone n Fact found = MatchOption found ((i : ℕ) → i < n → Fact i) (IsLeastWithout n Fact)
+
+-- ---- sections 2 to 4
+
+-- what stands behind the category with which bytes begin, if they begin with one
+abbrev pub IsPastCategory : List ℕ → Option (Bor (List ℕ)) → Type 0
+IsPastCategory bytes rest =
+    MatchOption rest (BeginsWithCategory bytes → ⊥) (λ more. BeginsWithCategory bytes × (more.now ≡ after_category bytes))
+
+-- the first code points of ranges rise
+abbrev pub FirstsRise : List ℕ → Type 0
+FirstsRise ranges = (i : ℕ) → suc i < length ranges / 8 → (range_at ranges i).first < (range_at ranges (suc i)).first
+
+-- each range has categories below a number
+abbrev pub AreRangesOf : ℕ → List ℕ → Type 0
+AreRangesOf categories ranges = (i : ℕ) → i < length ranges / 8 → IsRangeOf categories (range_at ranges i)
+
+-- the numbers of an index rise
+abbrev pub NumbersRise : ℕ → List ℕ → Type 0
+NumbersRise lists index = (i : ℕ) → i < lists → index_at index i < index_at index (suc i)
+
+-- ---- section 5
+
+-- what cell t is, if it is allowed
+abbrev pub IsRoleOf : ℕ → List Cell → ℕ → Option Role → Type 0
+IsRoleOf groups cells t role = MatchOption role (IsAllowed groups cells t → ⊥) (IsRole groups cells t)
+
+-- the code of the step to cell t, if the cell can be used
+abbrev pub IsCodeOf : List Cell → ℕ → Option ℕ → Type 0
+IsCodeOf cells t code = MatchOption code ((values : ℕ) → IsUsed values cells t → ⊥) (IsChildAt cells t)
+
+-- what a used cell is by its code and its base, if it may have that base
+abbrev pub IsRoleAfter : ℕ → ℕ → Signed → Option Role → Type 0
+IsRoleAfter groups code base role =
+    MatchOption role (IsBaseAfter groups code (number base) → ⊥)
+    (λ r. IsBaseAfter groups code (number base) × IsBaseRole groups (number base) r)
+
+-- where in the room the key begins that leads to a state, if one does that is no longer than the room
+abbrev pub IsKeyStart : List Cell → ℕ → List ℕ → Option ℕ → Type 0
+IsKeyStart cells state room found =
+    MatchOption found ((key : List ℕ) → length key ≤ length room → walk cells 0 (map suc key) ≡ Some state → ⊥)
+    (λ start. (start ≤ length room) × (walk cells 0 (map suc (drop start room)) ≡ Some state))
+
+-- the cells hold each group once, and these are the places of their values
+abbrev pub HoldEachAt : ℕ → List Cell → List ℕ → Type 0
+HoldEachAt groups cells places = HoldEach groups cells × ArePlaces groups cells places
+
+abbrev pub HoldGroupsAt : ℕ → List ℕ → List ℕ → Type 0
+HoldGroupsAt groups bytes places = HoldGroups groups bytes × ArePlaces groups (stored_cells bytes) places
