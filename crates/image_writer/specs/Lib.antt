@@ -14,3 +14,4 @@ pub mod Ids
 pub mod SystemImages
 pub mod UserImages
 pub mod Samples
+pub mod Refusals

@@ -24,7 +24,8 @@ pub(crate) fn write_categories(alloc: Global, chars: &CharTable) -> Result<Vec<u
 fn append_category(chars: &CharTable, i: usize, bytes: &mut Vec<u8>) -> Result<(), AllocError>
     requires there { i < length chars.now.categories }
     requires storable { IsStorable (category_at chars.now i) }
-    ensures { OnOk result (bytes.new.items ≡ bytes.old.items ++ category_bytes (category_at chars.now i)) }
+    ensures { OnOk result (bytes.new.items
+        ≡ bytes.old.items ++ category_bytes (category_at chars.now i)) }
 {
     let category = chars.category(i);
     let name = chars.name(i).as_bytes();

@@ -1,8 +1,7 @@
 //! The features of a lexicon, each once.
-ghost use Rattle.std.specs.Prelude.{◌≡◌, ◌≢◌, ◌<◌, ◌≤◌, ◌^◌, ◌+◌, None, bytes_eq, ℕ, ◌++◌, ◌∷◌, [], List, length, sum_by, IfOk, IfErr, OnOk};
+ghost use Rattle.std.specs.Prelude.{◌≡◌, ◌≢◌, ◌<◌, ◌^◌, ◌+◌, None, bytes_eq, ℕ, ◌++◌, ◌∷◌, [], List, length, IfOk, IfErr, OnOk};
 ghost use Rattle.std.specs.HashMap.{get_by};
 ghost use Rattle.std.proofs.Props.{props};
-ghost use Rattle.image_bytes.specs.ImageBounds.{each_once, feature_bytes_end};
 ghost use Rattle.image_writer.specs.Places.{ArePlacesWithin};
 ghost use Rattle.image_writer.specs.declared.fault.LexiconFault.TheVariants.{ArrayFull, FeaturesTooLarge};
 
@@ -25,6 +24,7 @@ pub(crate) struct FeatureStore<'a> {
 }
 
 impl<'a> FeatureStore<'a> {
+    ghost use Rattle.image_writer.specs.Refusals.{LargeOnlyOf, LargeOnlyWith};
     ghost use Rattle.image_writer.specs.Sections.{HoldsTexts, HoldsOneMore, IsAdded};
 
     /// No features.
@@ -40,8 +40,10 @@ impl<'a> FeatureStore<'a> {
     /// Where the feature begins; a new one is added at the end.
     pub(crate) fn place_of(&mut self, feature: &'a str) -> Result<u32, LexiconFault>
         ensures short { OnOk result (length feature.now < 2 ^ 32) }
-        ensures place { (texts : List (List ℕ)) → HoldsTexts texts self.old → IfOk result (λ place. HoldsOneMore texts feature.now self.old self.new place) }
-        ensures large { (texts : List (List ℕ)) → HoldsTexts texts self.old → IfErr result (λ fault. fault ≡ FeaturesTooLarge → feature_bytes_end ≤ sum_by length (each_once (texts ++ feature.now ∷ []))) }
+        ensures place { (texts : List (List ℕ)) → HoldsTexts texts self.old
+            → IfOk result (HoldsOneMore texts feature.now self.old self.new) }
+        ensures large { (texts : List (List ℕ)) → HoldsTexts texts self.old
+            → IfErr result (LargeOnlyOf (texts ++ feature.now ∷ [])) }
         ensures never_full { IfErr result (λ fault. fault ≢ ArrayFull) }
     {
         match self.places.get(feature).copied() {
@@ -56,7 +58,7 @@ impl<'a> FeatureStore<'a> {
         ensures short { OnOk result (length feature.now < 2 ^ 32) }
         ensures added { OnOk result (IsAdded feature.now self.old self.new) }
         ensures place { IfOk result (λ place. place ≡ length self.old.bytes.items) }
-        ensures large { IfErr result (λ fault. fault ≡ FeaturesTooLarge → 2 ^ 32 ≤ length self.old.bytes.items + length feature.now) }
+        ensures large { IfErr result (LargeOnlyWith self.old.bytes.items feature.now) }
         ensures never_full { IfErr result (λ fault. fault ≢ ArrayFull) }
     {
         if feature.len() >= FEATURE_BYTES_END - self.bytes.len() {

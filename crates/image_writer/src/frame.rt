@@ -12,7 +12,8 @@ pub(crate) fn write_image(
     numbers: Numbers,
     sections: &[&[u8]; 8],
 ) -> Result<Vec<u8>, AllocError>
-    ensures { IfOk result (λ image. IsFramed numbers (map (λ section. section.now) sections.now) image.items) }
+    ensures { IfOk result (λ image. IsFramed numbers (map (λ section. section.now) sections.now)
+        image.items) }
 {
     let mut image = Vec::new(alloc);
     append_header(numbers, sections, &mut image)?;
@@ -23,7 +24,8 @@ pub(crate) fn write_image(
 }
 
 fn append_sections(sections: &[&[u8]; 8], image: &mut Vec<u8>) -> Result<(), AllocError>
-    ensures { OnOk result (image.new.items ≡ image.old.items ++ flat_map (λ section. section.now) sections.now) }
+    ensures { OnOk result (image.new.items
+        ≡ image.old.items ++ flat_map (λ section. section.now) sections.now) }
 {
     for section in sections {
         image.extend_from_slice(section)?;

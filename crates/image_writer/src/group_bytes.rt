@@ -13,7 +13,8 @@ pub(crate) fn write_starts(
     entries: u32,
 ) -> Result<Vec<u8>, AllocError>
     ensures fill { IfOk result (λ bytes. length bytes.items ≡ 4 * (length starts.now + 1)) }
-    ensures numbers { IfOk result (λ bytes. (g : ℕ) → g < length starts.now + 1 → index_at bytes.items g ≡ slice_index_or starts.now g entries) }
+    ensures numbers { IfOk result (λ bytes. (g : ℕ) → g < length starts.now + 1
+        → index_at bytes.items g ≡ slice_index_or starts.now g entries) }
 {
     let mut bytes = Vec::new(alloc);
     for start in starts {

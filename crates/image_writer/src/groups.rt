@@ -3,13 +3,13 @@ ghost use Rattle.std.specs.Prelude.{◌≡◌, ◌≢◌, ◌<◌, ◌≤◌, �
 ghost use Rattle.std.specs.Cmp.Lexicographic.{slice_cmp};
 ghost use Rattle.std.specs.Ordering.{nat_cmp};
 ghost use Rattle.double_array.specs.CellMap.{IsMapWith};
-ghost use Rattle.image_bytes.specs.ImageBounds.{cells_max, most_cells};
 ghost use Rattle.mj_model.specs.Dictionary.{surface_of};
 ghost use Rattle.mj_model.specs.Lexicon.{rows_of};
 ghost use Rattle.mj_model.specs.declared.limits.TheConstants.{ENTRIES_MAX as EntriesMax, SURFACE_MAX as SurfaceMax};
-ghost use Rattle.image_writer.specs.Entries.{HasKeySurface, lexemes_of};
+ghost use Rattle.image_writer.specs.Entries.{HasKeySurface};
 ghost use Rattle.image_writer.specs.Groups.{AreGrouped, BeginsGroup};
-ghost use Rattle.image_writer.specs.declared.fault.LexiconFault.TheVariants.{ArrayFull, FeaturesTooLarge};
+ghost use Rattle.image_writer.specs.Refusals.{FullOnlyFor, FullOnlyNear};
+ghost use Rattle.image_writer.specs.declared.fault.LexiconFault.TheVariants.{FeaturesTooLarge};
 
 use crate::fault::LexiconFault;
 use double_array::DoubleArray;
@@ -31,10 +31,11 @@ impl Groups {
         requires some { 0 < length surface.now }
         requires short { length surface.now ≤ SurfaceMax }
         requires few { length self.old.starts.items < 2 ^ 31 - 1 }
-        ensures map { OnOk result (IsMapWith self.old.array self.new.array surface.now (length self.old.starts.items)) }
+        ensures map { OnOk result (IsMapWith self.old.array self.new.array surface.now
+            (length self.old.starts.items)) }
         ensures starts { OnOk result (self.new.starts.items ≡ self.old.starts.items ++ start ∷ []) }
         ensures growth { length self.new.array ≤ length self.old.array + length surface.now + 600 }
-        ensures full { IfErr result (λ fault. fault ≡ ArrayFull → 2 ^ 30 < length self.old.array + length surface.now + 600) }
+        ensures full { IfErr result (FullOnlyNear self.old.array surface.now) }
         ensures no_features { IfErr result (λ fault. fault ≢ FeaturesTooLarge) }
     {
         self.array.insert(surface, self.starts.len() as u32)?;
@@ -49,7 +50,7 @@ pub(crate) fn group_entries(alloc: Global, lexicon: &[Record]) -> Result<Groups,
     requires surfaces { All HasKeySurface (rows_of lexicon.now) }
     requires sorted { IsSortedByKey surface_of (slice_cmp nat_cmp) (rows_of lexicon.now) }
     ensures grouped { IfOk result (AreGrouped (rows_of lexicon.now) (length lexicon.now)) }
-    ensures full { IfErr result (λ fault. fault ≡ ArrayFull → cells_max < most_cells (lexemes_of (rows_of lexicon.now))) }
+    ensures full { IfErr result (FullOnlyFor (rows_of lexicon.now)) }
     ensures no_features { IfErr result (λ fault. fault ≢ FeaturesTooLarge) }
 {
     let mut groups = Groups {

@@ -28,7 +28,8 @@ pub(crate) fn append_header(
     sections: &[&[u8]; 8],
     image: &mut Vec<u8>,
 ) -> Result<(), AllocError>
-    ensures bytes { OnOk result (image.new.items ≡ image.old.items ++ header_bytes numbers (map (λ section. length section.now) sections.now)) }
+    ensures bytes { OnOk result (image.new.items ≡ image.old.items
+        ++ header_bytes numbers (map (λ section. length section.now) sections.now)) }
     ensures small { AreSmall (number_list numbers) }
     ensures short { OnOk result (AreShort (map (λ section. length section.now) sections.now)) }
 {
@@ -59,7 +60,8 @@ fn append_numbers(numbers: Numbers, image: &mut Vec<u8>) -> Result<(), AllocErro
 }
 
 fn append_lengths(sections: &[&[u8]; 8], image: &mut Vec<u8>) -> Result<(), AllocError>
-    ensures bytes { OnOk result (image.new.items ≡ image.old.items ++ length_bytes (map (λ section. length section.now) sections.now)) }
+    ensures bytes { OnOk result (image.new.items ≡ image.old.items
+        ++ length_bytes (map (λ section. length section.now) sections.now)) }
     ensures short { OnOk result (AreShort (map (λ section. length section.now) sections.now)) }
 {
     for section in sections {

@@ -1,14 +1,14 @@
 //! The sections of the keys and of the groups.
-ghost use Rattle.std.specs.Prelude.{◌≡◌, ◌≢◌, ◌<◌, ◌≤◌, length, All, IsSortedByKey, IfOk, IfErr};
+ghost use Rattle.std.specs.Prelude.{◌≢◌, ◌<◌, ◌≤◌, length, All, IsSortedByKey, IfOk, IfErr};
 ghost use Rattle.std.specs.Cmp.Lexicographic.{slice_cmp};
 ghost use Rattle.std.specs.Ordering.{nat_cmp};
-ghost use Rattle.image_bytes.specs.ImageBounds.{cells_max, most_cells};
 ghost use Rattle.mj_model.specs.Dictionary.{surface_of};
 ghost use Rattle.mj_model.specs.Lexicon.{rows_of};
 ghost use Rattle.mj_model.specs.declared.limits.TheConstants.{ENTRIES_MAX as EntriesMax};
-ghost use Rattle.image_writer.specs.Entries.{HasKeySurface, lexemes_of};
+ghost use Rattle.image_writer.specs.Entries.{HasKeySurface};
+ghost use Rattle.image_writer.specs.Refusals.{FullOnlyFor};
 ghost use Rattle.image_writer.specs.Sections.{AreKeyBytes};
-ghost use Rattle.image_writer.specs.declared.fault.LexiconFault.TheVariants.{ArrayFull, FeaturesTooLarge};
+ghost use Rattle.image_writer.specs.declared.fault.LexiconFault.TheVariants.{FeaturesTooLarge};
 
 use crate::cell_bytes::write_cells;
 use crate::fault::LexiconFault;
@@ -31,7 +31,7 @@ pub(crate) fn write_keys(alloc: Global, lexicon: &[Record]) -> Result<KeyBytes, 
     requires surfaces { All HasKeySurface (rows_of lexicon.now) }
     requires sorted { IsSortedByKey surface_of (slice_cmp nat_cmp) (rows_of lexicon.now) }
     ensures keys { IfOk result (AreKeyBytes (rows_of lexicon.now)) }
-    ensures full { IfErr result (λ fault. fault ≡ ArrayFull → cells_max < most_cells (lexemes_of (rows_of lexicon.now))) }
+    ensures full { IfErr result (FullOnlyFor (rows_of lexicon.now)) }
     ensures no_features { IfErr result (λ fault. fault ≢ FeaturesTooLarge) }
 {
     let groups = group_entries(alloc, lexicon)?;

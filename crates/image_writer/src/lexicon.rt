@@ -2,13 +2,13 @@
 ghost use Rattle.std.specs.Prelude.{◌≡◌, ◌≢◌, ◌<◌, ◌≤◌, List, [], length, All, IsSortedByKey, IfOk, IfErr, OnOk};
 ghost use Rattle.std.specs.Cmp.Lexicographic.{slice_cmp};
 ghost use Rattle.std.specs.Ordering.{nat_cmp};
-ghost use Rattle.image_bytes.specs.ImageBounds.{cells_max, most_cells};
 ghost use Rattle.mj_model.specs.Dictionary.{surface_of};
 ghost use Rattle.mj_model.specs.Lexicon.{Row, rows_of};
 ghost use Rattle.mj_model.specs.declared.limits.TheConstants.{ENTRIES_MAX as EntriesMax};
-ghost use Rattle.image_writer.specs.Entries.{HasKeySurface, all_rows, lexemes_of};
-ghost use Rattle.image_writer.specs.Sections.{AreKeyBytes, AreSections, AreWritten, IsTooLarge};
-ghost use Rattle.image_writer.specs.declared.fault.LexiconFault.TheVariants.{ArrayFull, FeaturesTooLarge};
+ghost use Rattle.image_writer.specs.Entries.{HasKeySurface, all_rows};
+ghost use Rattle.image_writer.specs.Refusals.{FullOnlyFor, LargeOnlyFor};
+ghost use Rattle.image_writer.specs.Sections.{AreKeyBytes, AreSections, AreWritten};
+ghost use Rattle.image_writer.specs.declared.fault.LexiconFault.TheVariants.{ArrayFull};
 
 use crate::fault::LexiconFault;
 use crate::keys::{KeyBytes, write_keys};
@@ -48,8 +48,8 @@ pub(crate) fn write_lexicon(
     ensures sections { IfOk result (AreSections (rows_of lexicon.now) unknown.now) }
 
     // A refusal has its reason.
-    ensures large { IfErr result (λ fault. fault ≡ FeaturesTooLarge → IsTooLarge (all_rows (rows_of lexicon.now) unknown.now)) }
-    ensures full { IfErr result (λ fault. fault ≡ ArrayFull → cells_max < most_cells (lexemes_of (rows_of lexicon.now))) }
+    ensures large { IfErr result (LargeOnlyFor (all_rows (rows_of lexicon.now) unknown.now)) }
+    ensures full { IfErr result (FullOnlyFor (rows_of lexicon.now)) }
 {
     let keys = write_keys(alloc, lexicon)?;
     let mut writer = TokenWriter::new(alloc);
@@ -69,8 +69,8 @@ pub(crate) fn write_user_lexicon(
     ensures sections { IfOk result (AreSections (rows_of lexicon.now) []) }
 
     // A refusal has its reason.
-    ensures large { IfErr result (λ fault. fault ≡ FeaturesTooLarge → IsTooLarge (rows_of lexicon.now)) }
-    ensures full { IfErr result (λ fault. fault ≡ ArrayFull → cells_max < most_cells (lexemes_of (rows_of lexicon.now))) }
+    ensures large { IfErr result (LargeOnlyFor (rows_of lexicon.now)) }
+    ensures full { IfErr result (FullOnlyFor (rows_of lexicon.now)) }
 {
     let keys = write_keys(alloc, lexicon)?;
     let mut writer = TokenWriter::new(alloc);
@@ -80,7 +80,8 @@ pub(crate) fn write_user_lexicon(
 
 /// The keys and the tokens together.
 fn sections(keys: KeyBytes, writer: TokenWriter<'_>) -> LexiconBytes
-    ensures { (lexicon : List Row) → (unknown : List (List Row)) → AreKeyBytes lexicon keys → AreWritten (all_rows lexicon unknown) writer.entry → AreSections lexicon unknown result }
+    ensures { (lexicon : List Row) → (unknown : List (List Row)) → AreKeyBytes lexicon keys
+        → AreWritten (all_rows lexicon unknown) writer.entry → AreSections lexicon unknown result }
 {
     LexiconBytes {
         keys: keys.cells,
@@ -98,8 +99,10 @@ fn add_unknown<'a>(
     categories: usize,
 ) -> Result<(), LexiconFault>
     requires { categories ≡ length unknown.now }
-    ensures written { (rows : List Row) → AreWritten rows writer.old → OnOk result (AreWritten (all_rows rows unknown.now) writer.new) }
-    ensures large { (rows : List Row) → AreWritten rows writer.old → IfErr result (λ fault. fault ≡ FeaturesTooLarge → IsTooLarge (all_rows rows unknown.now)) }
+    ensures written { (rows : List Row) → AreWritten rows writer.old
+        → OnOk result (AreWritten (all_rows rows unknown.now) writer.new) }
+    ensures large { (rows : List Row) → AreWritten rows writer.old
+        → IfErr result (LargeOnlyFor (all_rows rows unknown.now)) }
     ensures never_full { IfErr result (λ fault. fault ≢ ArrayFull) }
 {
     for category in 0..categories {

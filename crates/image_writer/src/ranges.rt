@@ -18,7 +18,8 @@ const CODE_POINT_MAX: u32 = 0x10FFFF;
 /// Ranges of 8 bytes: from their first code point on up to the next range all have the same categories. On `Err` memory was refused.
 pub(crate) fn write_ranges(alloc: Global, chars: &CharTable) -> Result<Vec<u8>, AllocError>
     requires few { length chars.now.categories ≤ CategoriesMax }
-    requires formed { (code : ℕ) → code ≤ code_point_max → IsInfoOf (length chars.now.categories) (table_info chars.now code) }
+    requires formed { (code : ℕ) → code ≤ code_point_max
+        → IsInfoOf (length chars.now.categories) (table_info chars.now code) }
     ensures { IfOk result (λ bytes. AreRangesOf chars.now bytes.items) }
 {
     let mut bytes = Vec::new(alloc);

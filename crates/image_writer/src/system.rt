@@ -4,14 +4,12 @@ ghost use Rattle.std.specs.Cmp.Lexicographic.{slice_cmp};
 ghost use Rattle.std.specs.List.{AllByRecursion};
 ghost use Rattle.std.specs.Ordering.{nat_cmp};
 ghost use Rattle.mj_model.specs.CharDef.{code_point_max, IsInfoOf, IsStorable};
-ghost use Rattle.image_bytes.specs.ImageBounds.{cells_max, most_cells};
 ghost use Rattle.mj_model.specs.Dictionary.{surface_of};
 ghost use Rattle.mj_model.specs.Lexicon.{rows_of};
 ghost use Rattle.mj_model.specs.declared.limits.TheConstants.{ENTRIES_MAX as EntriesMax};
 ghost use Rattle.char_def.specs.Categories.{table_info};
-ghost use Rattle.image_writer.specs.Entries.{HasKeySurface, all_rows, lexemes_of};
-ghost use Rattle.image_writer.specs.Sections.{IsTooLarge};
-ghost use Rattle.image_writer.specs.declared.fault.LexiconFault.TheVariants.{ArrayFull, FeaturesTooLarge};
+ghost use Rattle.image_writer.specs.Entries.{HasKeySurface, all_rows};
+ghost use Rattle.image_writer.specs.Refusals.{FullOnlyFor, LargeOnlyFor};
 ghost use Rattle.image_writer.specs.Ids.{AreWithin};
 ghost use Rattle.image_writer.specs.SystemImages.{IsSystemImage};
 
@@ -44,13 +42,15 @@ pub fn write_system(
     requires sorted { IsSortedByKey surface_of (slice_cmp nat_cmp) (rows_of lexicon.now) }
     requires ids { AreWithin matrix.now.sizes (all_rows (rows_of lexicon.now) unknown.now) }
     requires storable { All IsStorable chars.now.categories }
-    requires infos { (code : ℕ) → code ≤ code_point_max → IsInfoOf (length chars.now.categories) (table_info chars.now code) }
+    requires infos { (code : ℕ) → code ≤ code_point_max
+        → IsInfoOf (length chars.now.categories) (table_info chars.now code) }
     requires some_categories { 1 ≤ length chars.now.categories }
-    ensures image { IfOk result (λ image. IsSystemImage matrix.now chars.now unknown.now (rows_of lexicon.now) image.items) }
+    ensures image { IfOk result (λ image. IsSystemImage matrix.now chars.now unknown.now
+        (rows_of lexicon.now) image.items) }
 
     // A refusal has its reason.
-    ensures large { IfErr result (λ fault. fault ≡ FeaturesTooLarge → IsTooLarge (all_rows (rows_of lexicon.now) unknown.now)) }
-    ensures full { IfErr result (λ fault. fault ≡ ArrayFull → cells_max < most_cells (lexemes_of (rows_of lexicon.now))) }
+    ensures large { IfErr result (LargeOnlyFor (all_rows (rows_of lexicon.now) unknown.now)) }
+    ensures full { IfErr result (FullOnlyFor (rows_of lexicon.now)) }
 {
     let count = chars.count();
     let sections = write_lexicon(alloc, lexicon, unknown, count)?;

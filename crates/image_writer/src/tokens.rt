@@ -1,9 +1,10 @@
 //! The tokens of entries, and their features.
 ghost use Rattle.std.specs.Prelude.{◌≡◌, ◌≢◌, ◌<◌, ◌+◌, ◌++◌, ◌∷◌, [], List, length, IfErr, OnOk};
 ghost use Rattle.mj_model.specs.Lexicon.{Row, row_of, rows_of};
-ghost use Rattle.image_writer.specs.Sections.{AreWritten, IsTooLarge};
+ghost use Rattle.image_writer.specs.Sections.{AreWritten};
+ghost use Rattle.image_writer.specs.Refusals.{LargeOnlyFor};
 ghost use Rattle.image_writer.specs.TokenBytes.{FitsBytes, stored_bytes, stored_with};
-ghost use Rattle.image_writer.specs.declared.fault.LexiconFault.TheVariants.{ArrayFull, FeaturesTooLarge};
+ghost use Rattle.image_writer.specs.declared.fault.LexiconFault.TheVariants.{ArrayFull};
 
 use crate::fault::LexiconFault;
 use crate::features::FeatureStore;
@@ -31,8 +32,10 @@ impl<'a> TokenWriter<'a> {
 
     /// Adds the tokens of all the records, in their order.
     pub(crate) fn add_all(&mut self, records: &'a [Record]) -> Result<(), LexiconFault>
-        ensures written { (rows : List Row) → AreWritten rows self.old → OnOk result (AreWritten (rows ++ rows_of records.now) self.new) }
-        ensures large { (rows : List Row) → AreWritten rows self.old → IfErr result (λ fault. fault ≡ FeaturesTooLarge → IsTooLarge (rows ++ rows_of records.now)) }
+        ensures written { (rows : List Row) → AreWritten rows self.old
+            → OnOk result (AreWritten (rows ++ rows_of records.now) self.new) }
+        ensures large { (rows : List Row) → AreWritten rows self.old
+            → IfErr result (LargeOnlyFor (rows ++ rows_of records.now)) }
         ensures never_full { IfErr result (λ fault. fault ≢ ArrayFull) }
     {
         for record in records {
@@ -43,8 +46,10 @@ impl<'a> TokenWriter<'a> {
 
     /// Adds the token of a record.
     fn add(&mut self, record: &'a Record) -> Result<(), LexiconFault>
-        ensures written { (rows : List Row) → AreWritten rows self.old → OnOk result (AreWritten (rows ++ row_of record.now ∷ []) self.new) }
-        ensures large { (rows : List Row) → AreWritten rows self.old → IfErr result (λ fault. fault ≡ FeaturesTooLarge → IsTooLarge (rows ++ row_of record.now ∷ [])) }
+        ensures written { (rows : List Row) → AreWritten rows self.old
+            → OnOk result (AreWritten (rows ++ row_of record.now ∷ []) self.new) }
+        ensures large { (rows : List Row) → AreWritten rows self.old
+            → IfErr result (LargeOnlyFor (rows ++ row_of record.now ∷ [])) }
         ensures never_full { IfErr result (λ fault. fault ≢ ArrayFull) }
     {
         let entry = &record.entry;

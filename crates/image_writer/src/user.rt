@@ -1,14 +1,12 @@
 //! The image of a user dictionary.
-ghost use Rattle.std.specs.Prelude.{◌≡◌, ◌<◌, ◌≤◌, length, All, IsSortedByKey, IfOk, IfErr};
+ghost use Rattle.std.specs.Prelude.{◌<◌, ◌≤◌, length, All, IsSortedByKey, IfOk, IfErr};
 ghost use Rattle.std.specs.Cmp.Lexicographic.{slice_cmp};
 ghost use Rattle.std.specs.Ordering.{nat_cmp};
-ghost use Rattle.image_bytes.specs.ImageBounds.{cells_max, most_cells};
 ghost use Rattle.mj_model.specs.Dictionary.{surface_of};
 ghost use Rattle.mj_model.specs.Lexicon.{rows_of};
 ghost use Rattle.mj_model.specs.declared.limits.TheConstants.{ENTRIES_MAX as EntriesMax};
-ghost use Rattle.image_writer.specs.Entries.{HasKeySurface, lexemes_of};
-ghost use Rattle.image_writer.specs.Sections.{IsTooLarge};
-ghost use Rattle.image_writer.specs.declared.fault.LexiconFault.TheVariants.{ArrayFull, FeaturesTooLarge};
+ghost use Rattle.image_writer.specs.Entries.{HasKeySurface};
+ghost use Rattle.image_writer.specs.Refusals.{FullOnlyFor, LargeOnlyFor};
 ghost use Rattle.matrix_def.specs.Costs.{AreMatrixSizes};
 ghost use Rattle.image_writer.specs.Ids.{AreWithin};
 ghost use Rattle.image_writer.specs.UserImages.{IsUserImage};
@@ -34,8 +32,8 @@ pub fn write_user(
     ensures image { IfOk result (λ image. IsUserImage sizes (rows_of lexicon.now) image.items) }
 
     // A refusal has its reason.
-    ensures large { IfErr result (λ fault. fault ≡ FeaturesTooLarge → IsTooLarge (rows_of lexicon.now)) }
-    ensures full { IfErr result (λ fault. fault ≡ ArrayFull → cells_max < most_cells (lexemes_of (rows_of lexicon.now))) }
+    ensures large { IfErr result (LargeOnlyFor (rows_of lexicon.now)) }
+    ensures full { IfErr result (FullOnlyFor (rows_of lexicon.now)) }
 {
     let sections = write_user_lexicon(alloc, lexicon)?;
     let numbers = Numbers {

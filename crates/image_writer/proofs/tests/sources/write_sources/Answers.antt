@@ -1,4 +1,4 @@
-use Rattle.std.proofs.Common.{◌≡◌, List, refl, sym, subst, arith}
+use Rattle.std.proofs.Common.{List, refl, sym, subst, arith}
 use Rattle.mj_model.specs.declared.matrix_sizes.MatrixSizes.{MatrixSizes}
 use Rattle.mj_model.specs.Lexicon.{Row, rows_of}
 use Rattle.char_def.proofs.AcceptedChars.{table_infos_fit, table_storable}
