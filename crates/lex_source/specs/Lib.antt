@@ -3,3 +3,4 @@ pub mod Digits
 pub mod Filled
 pub mod Spelled
 pub mod Steps
+pub mod Answers

@@ -1,16 +1,16 @@
 //! Cuts and blanks of byte slices.
-ghost use Rattle.std.specs.Prelude.{◌≡◌, ◌==◌, ◌≤◌, false, length, MatchOption};
-ghost use Rattle.std.specs.List.{list_any, prefix_len};
+ghost use Rattle.std.specs.Prelude.{◌≡◌, ◌==◌, ◌≤◌, length};
+ghost use Rattle.std.specs.List.{prefix_len};
 ghost use Rattle.mj_model.specs.Bytes.{is_blank as is_blank_byte};
 ghost use Rattle.mj_model.specs.Lines.{is_blank_line as is_blank_text};
 ghost use Rattle.mj_model.specs.Numbers.{without_blanks_behind as without_trailing};
-ghost use Rattle.lex_source.specs.Cuts.{IsCut};
+ghost use Rattle.lex_source.specs.Answers.{IsCutAt};
 
 use memchr::memchr;
 
 /// What stands before the first such byte, and what stands behind it.
 pub fn split_first(bytes: &[u8], byte: u8) -> Option<(&[u8], &[u8])>
-    ensures { MatchOption result (list_any (λ c. c == byte) bytes.now ≡ false) (λ parts. IsCut (λ c. c == byte) bytes.now parts.0.now parts.1.now) }
+    ensures { IsCutAt byte bytes.now result }
 {
     let at = memchr(byte, bytes)?;
     Some((&bytes[..at], &bytes[at + 1..]))

@@ -1,6 +1,6 @@
 //! A field by its number.
-ghost use Rattle.std.specs.Prelude.{◌≡◌, ◌++◌, [], List, ℕ, IfOk, is_some, option_map, slice_get, string_bytes, take, unwrap_or, vec_len};
-ghost use Rattle.mj_model.specs.Fields.{AreFields};
+ghost use Rattle.std.specs.Prelude.{◌≡◌, IfOk, option_map, string_bytes, take, vec_len};
+ghost use Rattle.lex_source.specs.Answers.{GrowsByField, IsField};
 ghost use Rattle.lex_source.specs.Spelled.{IsFieldAt};
 
 use crate::raw_field::RawField;
@@ -11,7 +11,7 @@ use std::string::String;
 /// skipped; what stands between a closing quote and the next comma is ignored. (MeCab's CSV; what it leaves open is this
 /// project's own choice)
 pub fn field(alloc: Global, text: &str, n: usize) -> Result<Option<String>, AllocError>
-    ensures { IfOk result (λ found. (fields : List (List ℕ)) × AreFields text.now fields × (option_map string_bytes found ≡ slice_get fields n)) }
+    ensures { IfOk result (λ found. IsField text.now n (option_map string_bytes found)) }
 {
     match find_field(text, n) {
         Some(found) => Ok(Some(found.to_string(alloc)?)),
@@ -21,7 +21,8 @@ pub fn field(alloc: Global, text: &str, n: usize) -> Result<Option<String>, Allo
 
 /// Appends field `n` of a line, as `field` finds it, and tells whether there is one. On an error a part of it may stand there.
 pub fn append_field(out: &mut Vec<u8>, text: &str, n: usize) -> Result<bool, AllocError>
-    ensures appended { IfOk result (λ found. (fields : List (List ℕ)) × AreFields text.now fields × (found ≡ is_some (slice_get fields n)) × (out.new.items ≡ out.old.items ++ unwrap_or (slice_get fields n) [])) }
+    ensures appended { IfOk result (λ found. GrowsByField text.now n found
+        out.old.items out.new.items) }
     ensures kept { take (vec_len out.old) out.new.items ≡ out.old.items }
 {
     match find_field(text, n) {

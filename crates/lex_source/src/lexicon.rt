@@ -1,10 +1,8 @@
 //! Lexicons.
-ghost use Rattle.std.specs.Prelude.{◌≡◌, ◌++◌, ◌⊎◌, List, length, take, IfOk, IfErr, OnErr, Ok, Err};
-ghost use Rattle.mj_model.specs.declared.entry.Record.{Record as RecordOf};
-ghost use Rattle.mj_model.specs.declared.source_fault.SourceKind.TheVariants.{Memory};
+ghost use Rattle.std.specs.Prelude.{◌≡◌, length, take, IfOk, IfErr, OnErr, Ok, Err};
 ghost use Rattle.mj_model.specs.FirstFault.{IsRefusal};
-ghost use Rattle.mj_model.specs.Lexicon.{Row, IsLexicon, rows_of, lexicon_outcome};
-ghost use Rattle.lex_source.specs.Steps.{IsTaken, IsRefusedLine};
+ghost use Rattle.mj_model.specs.Lexicon.{IsLexicon};
+ghost use Rattle.lex_source.specs.Answers.{AppendsLexicon, AppendsLine, IsLineRefusal};
 
 use crate::outcome::{LineOutcome, read_line};
 use crate::source_lines::lines;
@@ -19,8 +17,9 @@ pub fn read_lexicon(
     file: u32,
     out: &mut Vec<Record>,
 ) -> Result<u64, SourceFault>
-    ensures accepted { IfOk result (λ skipped. (rows : List Row) × IsLexicon file (length out.old.items) bytes.now (Ok (record { rows = rows; skipped = skipped })) × (rows_of out.new.items ≡ rows_of out.old.items ++ rows)) }
-    ensures refused { IfErr result (λ fault. IsRefusal fault (IsLexicon file (length out.old.items) bytes.now (Err fault))) }
+    ensures accepted { IfOk result (AppendsLexicon file bytes.now out.old.items out.new.items) }
+    ensures refused { IfErr result (λ fault. IsRefusal fault
+        (IsLexicon file (length out.old.items) bytes.now (Err fault))) }
     ensures kept { OnErr result (out.new.items ≡ out.old.items) }
 {
     let held = out.len();
@@ -38,8 +37,9 @@ fn append_lines(
     file: u32,
     out: &mut Vec<Record>,
 ) -> Result<u64, SourceFault>
-    ensures accepted { IfOk result (λ skipped. (rows : List Row) × IsLexicon file (length out.old.items) bytes.now (Ok (record { rows = rows; skipped = skipped })) × (rows_of out.new.items ≡ rows_of out.old.items ++ rows)) }
-    ensures refused { IfErr result (λ fault. IsRefusal fault (IsLexicon file (length out.old.items) bytes.now (Err fault))) }
+    ensures accepted { IfOk result (AppendsLexicon file bytes.now out.old.items out.new.items) }
+    ensures refused { IfErr result (λ fault. IsRefusal fault
+        (IsLexicon file (length out.old.items) bytes.now (Err fault))) }
     ensures begins { take (length out.old.items) out.new.items ≡ out.old.items }
 {
     let mut skipped = 0;
@@ -59,8 +59,8 @@ fn append_line(
     line: &[u8],
     out: &mut Vec<Record>,
 ) -> Result<bool, SourceKind>
-    ensures taken { IfOk result (λ counts. (more : List RecordOf) × (out.new.items ≡ out.old.items ++ more) × IsTaken lexicon_outcome number line.now (length out.old.items) counts (rows_of more)) }
-    ensures refused { IfErr result (λ kind. (kind ≡ Memory) ⊎ IsRefusedLine lexicon_outcome number line.now (length out.old.items) kind) }
+    ensures taken { IfOk result (AppendsLine number line.now out.old.items out.new.items) }
+    ensures refused { IfErr result (IsLineRefusal number line.now (length out.old.items)) }
     ensures kept { OnErr result (out.new.items ≡ out.old.items) }
 {
     match read_line(alloc, number, line)? {

@@ -1,9 +1,10 @@
 //! What comes of a line of a lexicon.
-ghost use Rattle.std.specs.Prelude.{◌≡◌, ℕ, ◌⊎◌, MatchResult, Some, None, option_map};
-ghost use Rattle.mj_model.specs.declared.source_fault.SourceKind.TheVariants.{Memory, BadNumber};
-ghost use Rattle.mj_model.specs.Lexicon.{Parts, Refused, Accepted, IsOutcome, lexicon_outcome, row_from, row_of, accept_short};
+ghost use Rattle.std.specs.Prelude.{◌≡◌, ℕ, Some, None, option_map};
+ghost use Rattle.mj_model.specs.declared.source_fault.SourceKind.TheVariants.{BadNumber};
+ghost use Rattle.mj_model.specs.Lexicon.{Parts, Accepted, lexicon_outcome, row_from, accept_short};
+ghost use Rattle.lex_source.specs.Answers.{AnswersAccepted, AnswersLine, AnswersOutcome, AnswersRow};
 ghost use Rattle.lex_source.specs.Spelled.{StandsFor};
-ghost use Rattle.lex_source.specs.Steps.{outcome_of, row_with};
+ghost use Rattle.lex_source.specs.Steps.{row_with};
 
 use crate::numbers::{context_id, cost};
 use crate::parts::{LineParts, split_line};
@@ -30,7 +31,7 @@ pub(crate) struct IdsAndCost {
 
 /// What comes of a line.
 pub(crate) fn read_line(alloc: Global, number: u64, line: &[u8]) -> Result<LineOutcome, SourceKind>
-    ensures { MatchResult result (λ read. IsOutcome lexicon_outcome number line.now (outcome_of read)) (λ kind. (kind ≡ Memory) ⊎ IsOutcome lexicon_outcome number line.now (Refused kind)) }
+    ensures { AnswersLine number line.now result }
 {
     match split_line(line)? {
         Some(parts) => read_parts(alloc, number, parts),
@@ -41,7 +42,8 @@ pub(crate) fn read_line(alloc: Global, number: u64, line: &[u8]) -> Result<LineO
 /// What comes of a line with these parts.
 fn read_parts(alloc: Global, number: u64, parts: LineParts) -> Result<LineOutcome, SourceKind>
     requires { (meant : Parts) × StandsFor parts meant }
-    ensures { (meant : Parts) → StandsFor parts.entry meant → MatchResult result (λ read. lexicon_outcome number meant ≡ outcome_of read) (λ kind. (kind ≡ Memory) ⊎ (lexicon_outcome number meant ≡ Refused kind)) }
+    ensures { (meant : Parts) → StandsFor parts.entry meant
+        → AnswersOutcome (lexicon_outcome number meant) result }
 {
     if parts.surface.raw.is_empty() {
         return Ok(LineOutcome::Skipped);
@@ -52,7 +54,8 @@ fn read_parts(alloc: Global, number: u64, parts: LineParts) -> Result<LineOutcom
 /// The record of a line with these parts, whose surface is not too long.
 fn accept(alloc: Global, number: u64, parts: LineParts) -> Result<Record, SourceKind>
     requires { (meant : Parts) × StandsFor parts meant }
-    ensures { (meant : Parts) → StandsFor parts.entry meant → MatchResult result (λ made. accept_short (row_from number meant) ≡ Accepted (row_of made)) (λ kind. (kind ≡ Memory) ⊎ (accept_short (row_from number meant) ≡ Refused kind)) }
+    ensures { (meant : Parts) → StandsFor parts.entry meant
+        → AnswersAccepted (accept_short (row_from number meant)) result }
 {
     let made = record_of(alloc, number, parts)?;
     if made.surface.len() > SURFACE_MAX {
@@ -64,7 +67,8 @@ fn accept(alloc: Global, number: u64, parts: LineParts) -> Result<Record, Source
 /// The record of a line with these parts.
 pub(crate) fn record_of(alloc: Global, number: u64, parts: LineParts) -> Result<Record, SourceKind>
     requires { (meant : Parts) × StandsFor parts meant }
-    ensures { (meant : Parts) → StandsFor parts.entry meant → MatchResult result (λ made. row_from number meant ≡ Some (row_of made)) (λ kind. (kind ≡ Memory) ⊎ ((kind ≡ BadNumber) × (row_from number meant ≡ None))) }
+    ensures { (meant : Parts) → StandsFor parts.entry meant
+        → AnswersRow (row_from number meant) result }
 {
     let Some(numbers) = ids_and_cost(parts) else {
         return Err(SourceKind::BadNumber);
@@ -86,7 +90,8 @@ pub(crate) fn record_of(alloc: Global, number: u64, parts: LineParts) -> Result<
 
 /// The numbers of a line with these parts, or None where one is out of range.
 fn ids_and_cost(parts: LineParts) -> Option<IdsAndCost>
-    ensures { (number : ℕ) (meant : Parts) → StandsFor parts.entry meant → row_from number meant ≡ option_map (row_with number meant) result }
+    ensures { (number : ℕ) (meant : Parts) → StandsFor parts.entry meant
+        → row_from number meant ≡ option_map (row_with number meant) result }
 {
     Some(IdsAndCost {
         left: context_id(parts.left.raw.as_bytes())?,

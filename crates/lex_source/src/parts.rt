@@ -1,8 +1,7 @@
 //! The parts of a line of a lexicon.
-ghost use Rattle.std.specs.Prelude.{ℕ, IsTrue, MatchOption, MatchResult};
-ghost use Rattle.mj_model.specs.Lines.{is_blank_line as is_blank_text};
-ghost use Rattle.mj_model.specs.Lexicon.{Parts, Outcome, Refused, IsOutcome};
-ghost use Rattle.lex_source.specs.Spelled.{HasParts, HasFewFields, HasEntry};
+ghost use Rattle.std.specs.Prelude.{MatchOption};
+ghost use Rattle.lex_source.specs.Answers.{AnswersParts};
+ghost use Rattle.lex_source.specs.Spelled.{HasParts, HasFewFields};
 
 use crate::bytes::is_blank_line;
 use crate::raw_field::RawField;
@@ -20,7 +19,7 @@ pub(crate) struct LineParts<'a> {
 
 /// The parts of a line, or None where it is blank.
 pub(crate) fn split_line(line: &[u8]) -> Result<Option<LineParts<'_>>, SourceKind>
-    ensures { MatchResult result (λ found. MatchOption found (IsTrue (is_blank_text line.now)) (HasEntry line.now)) (λ kind. (judge : ℕ → Parts → Outcome) (number : ℕ) → IsOutcome judge number line.now (Refused kind)) }
+    ensures { AnswersParts line.now result }
 {
     if is_blank_line(line) {
         return Ok(None);

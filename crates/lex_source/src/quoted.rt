@@ -12,7 +12,8 @@ use std::alloc::AllocError;
 /// What stands up to the closing quote, and what stands behind it. Without such a quote the first is all of the text.
 pub(crate) fn split_quoted(inside: &str) -> (&str, Option<&str>)
     ensures doubled { IsDoubled result.0.now }
-    ensures behind { MatchOption result.1 (inside.now ≡ result.0.now) (λ behind. (inside.now ≡ result.0.now ++ quote ∷ behind.now) × (BeginsWithQuote behind.now → ⊥)) }
+    ensures behind { MatchOption result.1 (inside.now ≡ result.0.now)
+        (λ behind. (inside.now ≡ result.0.now ++ quote ∷ behind.now) × (BeginsWithQuote behind.now → ⊥)) }
 {
     let end = quoted_end(inside.as_bytes());
     if end == inside.len() {
@@ -47,7 +48,8 @@ fn next_quote(bytes: &[u8], start: usize) -> usize
 /// Appends a text with each pair of quotes as one. On an error a part of it may stand there.
 pub(crate) fn append_undoubled<S: TextSink>(out: &mut S, raw: &str) -> Result<(), AllocError>
     requires { IsDoubled raw.now }
-    ensures appended { (field : List ℕ) → raw.now ≡ doubled field → OnOk result (S.bytes out.new ≡ S.bytes out.old ++ field) }
+    ensures appended { (field : List ℕ) → raw.now ≡ doubled field
+        → OnOk result (S.bytes out.new ≡ S.bytes out.old ++ field) }
     ensures kept { take (length (S.bytes out.old)) (S.bytes out.new) ≡ S.bytes out.old }
 {
     let mut rest = raw;

@@ -23,7 +23,8 @@ pub(crate) struct RawField<'a> {
 impl<'a> RawField<'a> {
     /// The first field of a text; blanks and tabs before it are skipped.
     pub(crate) fn first(text: &'a str) -> RawField<'a>
-        ensures { StandsFirst (IsFirstField text.now) result.raw.now result.quoted (option_copied result.rest) }
+        ensures { StandsFirst (IsFirstField text.now) result.raw.now result.quoted
+            (option_copied result.rest) }
     {
         let text = without_blanks(text);
         if text.as_bytes().first() == Some(&b'"') {
@@ -36,7 +37,8 @@ impl<'a> RawField<'a> {
     /// The field without its quotes.
     pub(crate) fn to_string(self, alloc: Global) -> Result<String, AllocError>
         requires { (field : List ℕ) × IsSpelled self.raw.now self.quoted field }
-        ensures { (field : List ℕ) → IsSpelled self.entry.raw.now self.entry.quoted field → IfOk result (λ text. string_bytes text ≡ field) }
+        ensures { (field : List ℕ) → IsSpelled self.entry.raw.now self.entry.quoted field
+            → IfOk result (λ text. string_bytes text ≡ field) }
     {
         let mut text = String::with_capacity(alloc, self.raw.len())?;
         self.append_to(&mut text)?;
@@ -46,7 +48,8 @@ impl<'a> RawField<'a> {
     /// Appends the field without its quotes. On an error a part of it may stand there.
     pub(crate) fn append_to<S: TextSink>(self, out: &mut S) -> Result<(), AllocError>
         requires { (field : List ℕ) × IsSpelled self.raw.now self.quoted field }
-        ensures appended { (field : List ℕ) → IsSpelled self.entry.raw.now self.entry.quoted field → OnOk result (S.bytes out.new ≡ S.bytes out.old ++ field) }
+        ensures appended { (field : List ℕ) → IsSpelled self.entry.raw.now self.entry.quoted field
+            → OnOk result (S.bytes out.new ≡ S.bytes out.old ++ field) }
         ensures kept { take (length (S.bytes out.old)) (S.bytes out.new) ≡ S.bytes out.old }
     {
         if self.quoted {
@@ -60,7 +63,8 @@ impl<'a> RawField<'a> {
 /// The first field of a text that begins with no quote.
 fn plain_field(text: &str) -> RawField<'_>
     requires { BeginsWithQuote text.now → ⊥ }
-    ensures { StandsFirst (IsFieldOf text.now) result.raw.now result.quoted (option_copied result.rest) }
+    ensures { StandsFirst (IsFieldOf text.now) result.raw.now result.quoted
+        (option_copied result.rest) }
 {
     match split_text(text, b',') {
         Some((raw, rest)) => RawField {
@@ -78,7 +82,8 @@ fn plain_field(text: &str) -> RawField<'_>
 
 /// The first field of a text that begins with a quote, from what follows that quote.
 fn quoted_field(inside: &str) -> RawField<'_>
-    ensures { StandsFirst (IsFieldOf (quote ∷ inside.now)) result.raw.now result.quoted (option_copied result.rest) }
+    ensures { StandsFirst (IsFieldOf (quote ∷ inside.now)) result.raw.now result.quoted
+        (option_copied result.rest) }
 {
     let (raw, behind) = split_quoted(inside);
     let rest = match behind {

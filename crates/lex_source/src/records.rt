@@ -1,8 +1,5 @@
 //! Lines of a lexicon's form.
-ghost use Rattle.std.specs.Prelude.{◌≡◌, ◌⊎◌, MatchResult};
-ghost use Rattle.mj_model.specs.declared.source_fault.SourceKind.TheVariants.{Memory};
-ghost use Rattle.mj_model.specs.Lexicon.{Refused, IsOutcome};
-ghost use Rattle.lex_source.specs.Steps.{row_outcome, record_outcome};
+ghost use Rattle.lex_source.specs.Answers.{AnswersRecord};
 
 use crate::outcome::record_of;
 use crate::parts::split_line;
@@ -12,7 +9,7 @@ use std::alloc::Global;
 /// The record of a line of a lexicon's form, whatever its surface, or None where the line is blank. `number` is the line's
 /// number. (MeCab, dic-detail)
 pub fn read_record(alloc: Global, number: u64, line: &[u8]) -> Result<Option<Record>, SourceKind>
-    ensures { MatchResult result (λ found. IsOutcome row_outcome number line.now (record_outcome found)) (λ kind. (kind ≡ Memory) ⊎ IsOutcome row_outcome number line.now (Refused kind)) }
+    ensures { AnswersRecord number line.now result }
 {
     match split_line(line)? {
         Some(parts) => Ok(Some(record_of(alloc, number, parts)?)),

@@ -1,8 +1,7 @@
 //! Cuts of a text at an ASCII byte.
-ghost use Rattle.std.specs.Prelude.{◌≡◌, ◌==◌, ◌+◌, ◌<◌, false, length, take, drop, slice_index, MatchOption};
-ghost use Rattle.std.specs.List.{list_any};
+ghost use Rattle.std.specs.Prelude.{◌≡◌, ◌+◌, ◌<◌, length, take, drop, slice_index};
 ghost use Rattle.mj_model.specs.Fields.{without_blanks as without_blanks_before};
-ghost use Rattle.lex_source.specs.Cuts.{IsCut};
+ghost use Rattle.lex_source.specs.Answers.{IsCutAt};
 
 use crate::bytes::blanks_before;
 use memchr::memchr;
@@ -20,7 +19,7 @@ pub(crate) fn split_around(text: &str, at: usize) -> (&str, &str)
 /// What stands before the first such ASCII byte, and what stands behind it.
 pub(crate) fn split_text(text: &str, byte: u8) -> Option<(&str, &str)>
     requires { byte < 128 }
-    ensures { MatchOption result (list_any (λ c. c == byte) text.now ≡ false) (λ parts. IsCut (λ c. c == byte) text.now parts.0.now parts.1.now) }
+    ensures { IsCutAt byte text.now result }
 {
     let at = memchr(byte, text.as_bytes())?;
     Some(split_around(text, at))

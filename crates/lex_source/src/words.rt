@@ -52,7 +52,8 @@ impl<'a> Iterator for Words<'a> {
 
 /// The first word of a line, and what follows it.
 fn first_word(line: &[u8]) -> Option<(&[u8], &[u8])>
-    ensures { MatchOption result (words_of line.now ≡ []) (λ parts. words_of line.now ≡ parts.0.now ∷ words_of parts.1.now) }
+    ensures { MatchOption result (words_of line.now ≡ [])
+        (λ parts. words_of line.now ≡ parts.0.now ∷ words_of parts.1.now) }
 {
     let text = &line[blanks_before(line)..];
     if text.is_empty() {

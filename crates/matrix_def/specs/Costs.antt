@@ -1,8 +1,8 @@
 -- A table of connection costs.
-use Rattle.std.specs.Prelude.{◌≡◌, ℕ, ◌+◌, ◌*◌, ◌<◌, ◌≤◌, ℤ, pos, neg_ℤ, ◌≤ℤ◌, IsTrue, if◌then◌else◌, List, length, slice_index_or}
+use Rattle.std.specs.Prelude.{◌≡◌, ℕ, ◌+◌, ◌*◌, ◌<◌, ◌≤◌, ℤ, pos, neg_ℤ, ◌≤ℤ◌, IsTrue, if◌then◌else◌, List, length, slice_index_or, Ok}
 use Rattle.mj_model.specs.declared.limits.TheConstants.{MATRIX_CELLS_MAX}
 use Rattle.mj_model.specs.declared.matrix_sizes.MatrixSizes.{MatrixSizes}
-use Rattle.mj_model.specs.Connection.{Connection, connection_cost, is_pair}
+use Rattle.mj_model.specs.Connection.{Connection, connection_cost, connection_of, is_pair}
 
 -- the sizes, and the costs of one right id after another
 pub record CostTable : Type 0 where
@@ -43,3 +43,7 @@ pub record IsMatrix (m : CostTable) : Type 0 where
 pub record IsTableOf (c : Connection) (m : CostTable) : Type 0 where
   pub sizes : m.sizes ≡ c.sizes
   pub costs : (right left : ℕ) → IsTrue (is_pair m.sizes right left) → matrix_cost m right left ≡ connection_cost c right left
+
+-- the table is what the bytes of a `matrix.def` say
+abbrev pub IsTableIn : List ℕ → CostTable → Type 0
+IsTableIn bytes m = (c : Connection) × (connection_of bytes ≡ Ok c) × IsTableOf c m

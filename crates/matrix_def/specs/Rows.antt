@@ -26,3 +26,8 @@ pub record HoldsUpTo (sizes : MatrixSizes) (all left : List (ℕ × List ℕ)) (
   pub none : first_fault MATRIX_FILE (row_fault sizes) rows ≡ None
   pub formed : IsMatrix m
   pub holds : IsTableOf (record { sizes = sizes; cells = cells_of rows }) m
+
+-- rows are without fault, and the table holds what they list
+abbrev pub IsFilledBy : MatrixSizes → List (ℕ × List ℕ) → CostTable → Type 0
+IsFilledBy sizes rows m =
+    (first_fault MATRIX_FILE (row_fault sizes) rows ≡ None) × IsTableOf (record { sizes = sizes; cells = cells_of rows }) m

@@ -26,7 +26,8 @@ impl Matrix {
     /// A table in which each pair costs 0.
     pub(crate) fn empty(alloc: Global, sizes: MatrixSizes) -> Result<Matrix, AllocError>
         requires { AreMatrixSizes sizes }
-        ensures value { IfOk result (λ m. m ≡ record { sizes = sizes; costs = replicate (sizes.right * sizes.left) (pos 0) }) }
+        ensures value { IfOk result (λ m. m
+            ≡ record { sizes = sizes; costs = replicate (sizes.right * sizes.left) (pos 0) }) }
         ensures formed { IfOk result (λ m. IsMatrix m) }
     {
         let costs = Vec::from_elem(alloc, 0, sizes.right as usize * sizes.left as usize)?;
@@ -67,7 +68,8 @@ impl Matrix {
 
     pub(crate) fn set(&mut self, right: u16, left: u16, cost: i16)
         requires { IsTrue (is_pair self.old.sizes right left) }
-        ensures value { self.new ≡ record self.old { costs = slice_set self.old.costs (cell_at self.old right left) cost } }
+        ensures value { self.new
+            ≡ record self.old { costs = slice_set self.old.costs (cell_at self.old right left) cost } }
         ensures formed { IsMatrix self.new }
     {
         let at = cell(self.sizes, right, left);

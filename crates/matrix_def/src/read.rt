@@ -1,10 +1,10 @@
 //! The reader of `matrix.def`.
-ghost use Rattle.std.specs.Prelude.{◌≡◌, [], Ok, Err, Some, None, IfOk, IfErr};
+ghost use Rattle.std.specs.Prelude.{◌≡◌, [], Ok, Err, Some, IfOk, IfErr};
 ghost use Rattle.mj_model.specs.declared.source_fault.TheConstants.{MATRIX_FILE as MatrixFile};
 ghost use Rattle.mj_model.specs.FirstFault.{IsRefusal, first_fault};
-ghost use Rattle.mj_model.specs.Connection.{Connection, connection_of, row_fault};
-ghost use Rattle.matrix_def.specs.Costs.{IsMatrix, IsTableOf};
-ghost use Rattle.matrix_def.specs.Rows.{cells_of};
+ghost use Rattle.mj_model.specs.Connection.{connection_of, row_fault};
+ghost use Rattle.matrix_def.specs.Costs.{IsMatrix, IsTableIn, IsTableOf};
+ghost use Rattle.matrix_def.specs.Rows.{IsFilledBy};
 
 use crate::matrix::Matrix;
 use crate::rows::{read_row, read_sizes};
@@ -15,8 +15,9 @@ use std::alloc::Global;
 /// The connection costs that `matrix.def` lists; a pair that it doesn't list costs 0, and of a repeated pair the last row
 /// counts. (MeCab, `matrix.def`; what it leaves open is this project's own choice)
 pub fn read_matrix(alloc: Global, bytes: &[u8]) -> Result<Matrix, SourceFault>
-    ensures accepted { IfOk result (λ m. (c : Connection) × (connection_of bytes.now ≡ Ok c) × IsTableOf c m) }
-    ensures refused { IfErr result (λ fault. IsRefusal fault (connection_of bytes.now ≡ Err fault)) }
+    ensures accepted { IfOk result (IsTableIn bytes.now) }
+    ensures refused { IfErr result (λ fault. IsRefusal fault
+        (connection_of bytes.now ≡ Err fault)) }
 {
     let mut rows = FilledLines::new(bytes);
     let Some((line, header)) = rows.next() else {
@@ -37,8 +38,9 @@ pub fn read_matrix(alloc: Global, bytes: &[u8]) -> Result<Matrix, SourceFault>
 fn fill(matrix: &mut Matrix, sizes: MatrixSizes, rows: FilledLines) -> Result<(), SourceFault>
     requires formed { IsMatrix matrix.old }
     requires empty { IsTableOf (record { sizes = sizes; cells = [] }) matrix.old }
-    ensures filled { IfOk result (λ _. (first_fault MatrixFile (row_fault sizes) rows.entry ≡ None) × IsTableOf (record { sizes = sizes; cells = cells_of rows.entry }) matrix.new) }
-    ensures refused { IfErr result (λ fault. first_fault MatrixFile (row_fault sizes) rows.entry ≡ Some fault) }
+    ensures filled { IfOk result (λ _. IsFilledBy sizes rows.entry matrix.new) }
+    ensures refused { IfErr result (λ fault. first_fault MatrixFile (row_fault sizes) rows.entry
+        ≡ Some fault) }
 {
     for (line, row) in rows {
         match read_row(sizes, row) {

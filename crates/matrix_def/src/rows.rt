@@ -29,7 +29,8 @@ pub(crate) fn read_sizes(line: &[u8]) -> Option<MatrixSizes>
 
 /// The cell that a row says, within the sizes.
 pub(crate) fn read_row(sizes: MatrixSizes, line: &[u8]) -> Result<MatrixCell, SourceKind>
-    ensures { MatchResult result (λ cell. IsRow sizes line.now (cell_of cell)) (λ kind. row_fault sizes line.now ≡ Some kind) }
+    ensures { MatchResult result (λ cell. IsRow sizes line.now (cell_of cell))
+        (λ kind. row_fault sizes line.now ≡ Some kind) }
 {
     let Some(cell) = read_cell(line) else {
         return Err(SourceKind::BadRow);
@@ -64,7 +65,8 @@ fn size(word: &[u8]) -> Option<u16>
 
 /// The words of a line that has exactly two.
 fn two_words(line: &[u8]) -> Option<(&[u8], &[u8])>
-    ensures { MatchOption result (length (words_of line.now) ≡ 2 → ⊥) (λ words. words_of line.now ≡ words.0.now ∷ words.1.now ∷ []) }
+    ensures { MatchOption result (length (words_of line.now) ≡ 2 → ⊥)
+        (λ words. words_of line.now ≡ words.0.now ∷ words.1.now ∷ []) }
 {
     let mut words = Words::new(line);
     let first = words.next()?;
@@ -77,7 +79,8 @@ fn two_words(line: &[u8]) -> Option<(&[u8], &[u8])>
 
 /// The words of a line that has exactly three.
 fn three_words(line: &[u8]) -> Option<(&[u8], &[u8], &[u8])>
-    ensures { MatchOption result (length (words_of line.now) ≡ 3 → ⊥) (λ words. words_of line.now ≡ words.0.now ∷ words.1.now ∷ words.2.now ∷ []) }
+    ensures { MatchOption result (length (words_of line.now) ≡ 3 → ⊥)
+        (λ words. words_of line.now ≡ words.0.now ∷ words.1.now ∷ words.2.now ∷ []) }
 {
     let mut words = Words::new(line);
     let first = words.next()?;
