@@ -1,4 +1,4 @@
-use Rattle.std.proofs.Common.{◌≡◌, ℕ, ◌+◌, ◌<◌, ◌≤◌, List, Some, None, Option, length, get_or, suc, ◌⊎◌, inl, inr, refl, sym, ap, ◌∙◌, subst, arith, slice_get}
+use Rattle.std.proofs.Common.{◌≡◌, ℕ, ◌<◌, ◌≤◌, List, Some, None, Option, length, get_or, suc, ◌⊎◌, inl, inr, refl, sym, ap, ◌∙◌, subst, arith, slice_get}
 use Rattle.std.specs.Prelude.{ℤ, ◌<ℤ◌}
 use Rattle.std.proofs.lemmas.Int.{ints}
 use Rattle.std.proofs.lemmas.Bool.{cases_lt}
@@ -6,18 +6,6 @@ use Rattle.std.proofs.lemmas.Option.{same_Some, slice_get_within, get_or_from_sl
 use Rattle.lattice.specs.declared.node.Node.{Node}
 use Rattle.lattice.specs.declared.node.End.{End}
 use Rattle.lattice.specs.Nodes.{end_cost, HoldsOver, IsBestEnd, IsBestOf, IsBetterOf, IsLatest, LinksAreLatest, end_at}
-
--- what holds of each of the first i nodes and of number i holds of the first i + 1
-pub upto_next : (nodes : List Node) (P : ℕ → Node → Type 0) (i : ℕ) (n : Node) → slice_get nodes i ≡ Some n → ((k : ℕ) (m : Node) → k < i → slice_get nodes k ≡ Some m → P k m) → P i n
-    → (k : ℕ) (m : Node) → k < i + 1 → slice_get nodes k ≡ Some m → P k m
-upto_next nodes P i n got below here k m within at =
-    elim (cases_lt k i) [
-      | inl less ↦ below k m less at
-      | inr more ↦
-          let same : i ≡ k = omega arith in
-          subst (λ (j : ℕ). P j m) same
-          (subst (P i) (same_Some n m (sym got ∙ ap (slice_get nodes) same ∙ at)) here)
-    ]
 
 module _ (conn : ℕ → ℕ → ℤ) (nodes : List Node) (place left : ℕ) where
   pub none_yet : IsBestOf conn nodes place left (length nodes) None

@@ -1,16 +1,14 @@
 -- The words of a list at each place are words of a text, whatever the list.
-use Rattle.std.proofs.Common.{◌≡◌, ℕ, zero, suc, ◌+◌, ◌<◌, ◌≤◌, ◌^◌, Bool, true, false, cond, List, [], ◌∷◌, ◌++◌, length, get_or, drop, slice_get, Contains, Some, refl, ap, sym, ◌∙◌, subst, arith}
+use Rattle.std.proofs.Common.{◌≡◌, ℕ, zero, suc, ◌+◌, ◌<◌, ◌≤◌, ◌^◌, Bool, true, false, cond, List, [], ◌∷◌, ◌++◌, slice_get, Contains, Some, refl, ap, ◌∙◌, subst, arith}
 use Rattle.std.specs.Prelude.{pos, negsuc, nat_eq, nat_lt, nat_le, int_lt}
 use Rattle.std.proofs.lemmas.Int.{ints}
 use Rattle.std.proofs.lemmas.Bool.{eqb-true, ltb-true, leb-true, and_parts}
-use Rattle.std.proofs.lemmas.List.{append_assoc}
-use Rattle.std.proofs.Math.Seq.{drop-cons}
 use Rattle.std.proofs.lemmas.Option.{same_Some}
 use Rattle.mj_model.specs.declared.word.Word.{Word}
 use Rattle.mj_model.specs.declared.word.Origin.TheVariants.{Known}
 use Rattle.mj_model.specs.Bounds.{IsWithin}
 use Rattle.paths.specs.Searchable.{IsSearchable}
-use Rattle.lattice.specs.Sample.{lies_at, numbered, sample_word, sample_words, sample_connection}
+use Rattle.lattice.specs.Sample.{lies_at, numbered, sample_words, sample_connection}
 use Rattle.lattice.proofs.Pushed.{get_from_Contains}
 
 -- a word that lies at the place, with a number of at least k
@@ -99,15 +97,3 @@ sample_is_searchable ws len short = record {
   eos_follows = record { after_bos = tt; after_word = λ p w h. tt };
   word_follows = λ p w h. record { after_bos = tt; after_word = λ q v g. tt };
 }
-
--- one turn of the loop over the list
-pub one_more : (ws now after all : List Word) (i len p : ℕ) (d : Word) → i < length ws → now ++ sample_words (drop i ws) i len p ≡ all → after ≡ now ++ sample_word i len p (get_or ws i d)
-    → after ++ sample_words (drop (i + 1) ws) (i + 1) len p ≡ all
-one_more ws now after all i len p d within so_far is =
-    let next : suc i ≡ i + 1 = omega arith in
-    let split : drop i ws ≡ get_or ws i d ∷ drop (i + 1) ws = subst (λ (n : ℕ). drop i ws ≡ get_or ws i d ∷ drop n ws) next (drop-cons ws i d within) in
-    let first : sample_words (drop i ws) i len p ≡ sample_word i len p (get_or ws i d) ++ sample_words (drop (i + 1) ws) (i + 1) len p = ap (λ (us : List Word). sample_words us i len p) split in
-    ap (λ (us : List Word). us ++ sample_words (drop (i + 1) ws) (i + 1) len p) is
-    ∙ append_assoc now (sample_word i len p (get_or ws i d)) (sample_words (drop (i + 1) ws) (i + 1) len p)
-    ∙ ap (λ (us : List Word). now ++ us) (sym first)
-    ∙ so_far

@@ -1,3 +1,4 @@
 pub mod Nodes
 pub mod Lattice
 pub mod Sample
+pub mod SearchedText

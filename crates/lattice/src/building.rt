@@ -3,8 +3,8 @@
 ghost use Rattle.std.specs.Prelude.{◌≡◌, ◌+◌, ◌<◌, ◌^◌, ◌++◌, ◌∷◌, [], slice_set, length, OnOk};
 ghost use Rattle.mj_model.specs.Bounds.{IsWithin};
 ghost use Rattle.lattice.specs.Nodes.{AreLinked, reached};
-ghost use Rattle.paths.specs.Searchable.{IsSearchable};
-ghost use Rattle.lattice.specs.Lattice.{IsLattice, node_of};
+ghost use Rattle.lattice.specs.Lattice.{node_of};
+ghost use Rattle.lattice.specs.SearchedText.{CanBeSearched, IsLatticeOf};
 
 use crate::joining::join;
 use crate::node::{Join, Node};
@@ -21,10 +21,11 @@ pub fn build<S: WordSource>(
     heads: &mut Vec<Option<usize>>,
     words: &mut Vec<Word>,
 ) -> Result<(), AllocError>
-    requires source { IsSearchable (S.is_place source.now) (S.is_pair source.now) (S.words source.now) (S.connection source.now) (S.text_length source.now) }
-    ensures lattice { OnOk result (IsLattice (S.words source.now) (S.connection source.now) nodes.new.items (S.text_length source.now) 0) }
+    requires source { CanBeSearched (S.says source.now) }
+    ensures lattice { OnOk result
+        (IsLatticeOf (S.says source.now) nodes.new.items (S.says source.now).text_length 0) }
     ensures links { OnOk result (AreLinked nodes.new.items heads.new.items) }
-    ensures heads { OnOk result (length heads.new.items ≡ S.text_length source.now + 1) }
+    ensures heads { OnOk result (length heads.new.items ≡ (S.says source.now).text_length + 1) }
 {
     let length = source.length();
     nodes.clear();
@@ -45,12 +46,12 @@ fn add_place<S: WordSource>(
     words: &mut Vec<Word>,
     place: usize,
 ) -> Result<(), AllocError>
-    requires source { IsSearchable (S.is_place source.now) (S.is_pair source.now) (S.words source.now) (S.connection source.now) (S.text_length source.now) }
-    requires place { place < S.text_length source.now }
-    requires heads { length heads.old ≡ S.text_length source.now + 1 }
-    requires lattice { IsLattice (S.words source.now) (S.connection source.now) nodes.old.items place 0 }
+    requires source { CanBeSearched (S.says source.now) }
+    requires place { place < (S.says source.now).text_length }
+    requires heads { length heads.old ≡ (S.says source.now).text_length + 1 }
+    requires lattice { IsLatticeOf (S.says source.now) nodes.old.items place 0 }
     requires links { AreLinked nodes.old.items heads.old }
-    ensures lattice { OnOk result (IsLattice (S.words source.now) (S.connection source.now) nodes.new.items (place + 1) 0) }
+    ensures lattice { OnOk result (IsLatticeOf (S.says source.now) nodes.new.items (place + 1) 0) }
     ensures links { OnOk result (AreLinked nodes.new.items heads.new) }
 {
     if !is_reached(place, heads[place]) {
@@ -80,13 +81,13 @@ fn add_words<S: WordSource>(
     words: &[Word],
     place: usize,
 ) -> Result<(), AllocError>
-    requires source { IsSearchable (S.is_place source.now) (S.is_pair source.now) (S.words source.now) (S.connection source.now) (S.text_length source.now) }
-    requires place { place < S.text_length source.now }
-    requires words { words.now ≡ S.words source.now place }
-    requires heads { length heads.old ≡ S.text_length source.now + 1 }
-    requires lattice { IsLattice (S.words source.now) (S.connection source.now) nodes.old.items place 0 }
+    requires source { CanBeSearched (S.says source.now) }
+    requires place { place < (S.says source.now).text_length }
+    requires words { words.now ≡ (S.says source.now).words place }
+    requires heads { length heads.old ≡ (S.says source.now).text_length + 1 }
+    requires lattice { IsLatticeOf (S.says source.now) nodes.old.items place 0 }
     requires links { AreLinked nodes.old.items heads.old }
-    ensures lattice { OnOk result (IsLattice (S.words source.now) (S.connection source.now) nodes.new.items (place + 1) 0) }
+    ensures lattice { OnOk result (IsLatticeOf (S.says source.now) nodes.new.items (place + 1) 0) }
     ensures links { OnOk result (AreLinked nodes.new.items heads.new) }
 {
     for word in words {
@@ -108,7 +109,8 @@ fn add_node(
 ) -> Result<(), AllocError>
     requires end { node.word.end < length heads.old }
     ensures nodes { OnOk result (nodes.new.items ≡ nodes.old.items ++ node ∷ []) }
-    ensures heads { OnOk result (heads.new ≡ slice_set heads.old node.word.end (Some (length nodes.old.items))) }
+    ensures heads { OnOk result
+        (heads.new ≡ slice_set heads.old node.word.end (Some (length nodes.old.items))) }
 {
     let end = node.word.end;
     let number = nodes.len();

@@ -2,9 +2,8 @@
 
 ghost use Rattle.std.specs.Prelude.{◌≡◌, length, All};
 ghost use Rattle.lattice.specs.Nodes.{IsBestOf, HasSmallTotal, IsBetterOf, IsFollowedBy, end_at, LinksAreLatest, IsLatest};
-ghost use Rattle.paths.specs.Searchable.{IsSearchable, MayFollow};
-ghost use Rattle.lattice.specs.Nodes.{IsBestOf};
-ghost use Rattle.lattice.specs.Lattice.{ReachesTo, IsJoinOf};
+ghost use Rattle.paths.specs.Searchable.{MayFollow};
+ghost use Rattle.lattice.specs.SearchedText.{CanBeSearched, IsBestJoin, Reaches};
 
 use crate::node::{BOUNDARY_ID, End, Join, Node};
 use crate::source::WordSource;
@@ -17,12 +16,12 @@ pub fn join<S: WordSource>(
     place: usize,
     left: u16,
 ) -> Option<Join>
-    requires source { IsSearchable (S.is_place source.now) (S.is_pair source.now) (S.words source.now) (S.connection source.now) (S.text_length source.now) }
-    requires left { MayFollow (S.is_pair source.now) (S.words source.now) left }
-    requires lattice { ReachesTo (S.words source.now) (S.connection source.now) nodes.now place }
+    requires source { CanBeSearched (S.says source.now) }
+    requires left { MayFollow (S.says source.now).is_pair (S.says source.now).words left }
+    requires lattice { Reaches (S.says source.now) nodes.now place }
     requires links { LinksAreLatest nodes.now }
     requires head { IsLatest nodes.now place (length nodes.now) head }
-    ensures { IsJoinOf (S.words source.now) (S.connection source.now) nodes.now place left result }
+    ensures { IsBestJoin (S.says source.now) nodes.now place left result }
 {
     if place == 0 {
         return Some(Join {
@@ -48,10 +47,10 @@ fn best_end<S: WordSource>(
     left: u16,
 ) -> Option<End>
     requires totals { All HasSmallTotal nodes.now }
-    requires pairs { All (IsFollowedBy (S.is_pair source.now) left) nodes.now }
+    requires pairs { All (IsFollowedBy (S.says source.now).is_pair left) nodes.now }
     requires links { LinksAreLatest nodes.now }
     requires head { IsLatest nodes.now place (length nodes.now) head }
-    ensures { IsBestOf (S.connection source.now) nodes.now place left 0 result }
+    ensures { IsBestOf (S.says source.now).connection nodes.now place left 0 result }
 {
     let mut best: Option<End> = None;
     let mut link = head;
@@ -65,8 +64,8 @@ fn best_end<S: WordSource>(
 /// A node as an end, where a word of this left id follows.
 fn end_of<S: WordSource>(source: &S, number: usize, node: &Node, left: u16) -> End
     requires total { HasSmallTotal node.now }
-    requires pair { IsFollowedBy (S.is_pair source.now) left node.now }
-    ensures { result ≡ end_at (S.connection source.now) left number node.now }
+    requires pair { IsFollowedBy (S.says source.now).is_pair left node.now }
+    ensures { result ≡ end_at (S.says source.now).connection left number node.now }
 {
     End {
         node: number,

@@ -1,11 +1,13 @@
 //! The lattice that is kept from line to line.
 
-ghost use Rattle.std.specs.Prelude.{◌≡◌, IfOk, OnOk, OnErr};
-ghost use Rattle.paths.specs.Best.{IsBestPath};
-ghost use Rattle.paths.specs.Cost.{path_cost};
-ghost use Rattle.paths.specs.Searchable.{IsSearchable};
+ghost use Rattle.std.specs.Prelude.{◌≡◌, ◌≤◌, length, IfOk, OnOk, OnErr};
+ghost use Rattle.mj_model.specs.declared.limits.TheConstants.{SENTENCE_MAX};
+ghost use Rattle.paths.specs.BestOver.{IsBestOver, cost_over};
+ghost use Rattle.lattice.specs.SearchedText.{CanBeSearched, IsBestIn, cost_of};
+ghost use Rattle.word_lookup.specs.Overlays.{overlay_of};
 
 use crate::building::build;
+use crate::dictionary_text::DictionaryText;
 use crate::node::Node;
 use crate::path::Path;
 use crate::source::WordSource;
@@ -13,6 +15,7 @@ use crate::tracing::trace_best;
 use mj_model::Word;
 use std::alloc::{AllocError, Global};
 use std::mem;
+use word_lookup::Dictionaries;
 
 /// Finds best paths, and keeps its memory from text to text.
 ///
@@ -45,10 +48,11 @@ impl Lattice {
 
     /// Makes `path` the best path of a text. Its memory and the lattice's are used again.
     pub fn fill<S: WordSource>(&mut self, source: &S, path: &mut Path) -> Result<(), AllocError>
-        requires { IsSearchable (S.is_place source.now) (S.is_pair source.now) (S.words source.now) (S.connection source.now) (S.text_length source.now) }
+        requires { CanBeSearched (S.says source.now) }
         // It is before every other path.
-        ensures best { OnOk result (IsBestPath (S.words source.now) (S.connection source.now) path.new.words.items) }
-        ensures total { OnOk result (path.new.total ≡ path_cost (S.connection source.now) path.new.words.items) }
+        ensures best { OnOk result (IsBestIn (S.says source.now) path.new.words.items) }
+        ensures total { OnOk result
+            (path.new.total ≡ cost_of (S.says source.now) path.new.words.items) }
 
         // On an error the path is as it was.
         ensures words_kept { OnErr result (path.new.words.items ≡ path.old.words.items) }
@@ -69,10 +73,11 @@ impl Lattice {
 
     /// The best path of a text.
     pub fn best_over<S: WordSource>(&mut self, source: &S) -> Result<Path, AllocError>
-        requires { IsSearchable (S.is_place source.now) (S.is_pair source.now) (S.words source.now) (S.connection source.now) (S.text_length source.now) }
+        requires { CanBeSearched (S.says source.now) }
         // It is before every other path.
-        ensures best { IfOk result (λ path. IsBestPath (S.words source.now) (S.connection source.now) path.words.items) }
-        ensures total { IfOk result (λ path. path.total ≡ path_cost (S.connection source.now) path.words.items) }
+        ensures best { IfOk result (λ path. IsBestIn (S.says source.now) path.words.items) }
+        ensures total { IfOk result
+            (λ path. path.total ≡ cost_of (S.says source.now) path.words.items) }
     {
         let mut path = Path {
             words: Vec::new(self.alloc),
@@ -81,14 +86,46 @@ impl Lattice {
         self.fill(source, &mut path)?;
         Ok(path)
     }
+
+    /// Makes `path` the best path of a text of at most `SENTENCE_MAX` bytes. Its memory and the lattice's are used again.
+    pub fn fill_best(
+        &mut self,
+        dictionaries: &Dictionaries<'_>,
+        text: &str,
+        path: &mut Path,
+    ) -> Result<(), AllocError>
+        requires { length text.now ≤ SENTENCE_MAX }
+        ensures best { OnOk result
+            (IsBestOver (overlay_of dictionaries.now) text.now path.new.words.items) }
+        ensures total { OnOk result
+            (path.new.total ≡ cost_over (overlay_of dictionaries.now) path.new.words.items) }
+
+        // On an error the path is as it was.
+        ensures words_kept { OnErr result (path.new.words.items ≡ path.old.words.items) }
+        ensures total_kept { OnErr result (path.new.total ≡ path.old.total) }
+    {
+        self.fill(&DictionaryText { dictionaries, text }, path)
+    }
+
+    /// The best path of a text of at most `SENTENCE_MAX` bytes.
+    pub fn best(&mut self, dictionaries: &Dictionaries<'_>, text: &str) -> Result<Path, AllocError>
+        requires { length text.now ≤ SENTENCE_MAX }
+        ensures best { IfOk result
+            (λ path. IsBestOver (overlay_of dictionaries.now) text.now path.words.items) }
+        ensures total { IfOk result
+            (λ path. path.total ≡ cost_over (overlay_of dictionaries.now) path.words.items) }
+    {
+        self.best_over(&DictionaryText { dictionaries, text })
+    }
 }
 
 /// The best path of a text, by a lattice of its own.
 pub fn best_path_over<S: WordSource>(alloc: Global, source: &S) -> Result<Path, AllocError>
-    requires { IsSearchable (S.is_place source.now) (S.is_pair source.now) (S.words source.now) (S.connection source.now) (S.text_length source.now) }
+    requires { CanBeSearched (S.says source.now) }
     // It is before every other path.
-    ensures best { IfOk result (λ path. IsBestPath (S.words source.now) (S.connection source.now) path.words.items) }
-    ensures total { IfOk result (λ path. path.total ≡ path_cost (S.connection source.now) path.words.items) }
+    ensures best { IfOk result (λ path. IsBestIn (S.says source.now) path.words.items) }
+    ensures total { IfOk result
+        (λ path. path.total ≡ cost_of (S.says source.now) path.words.items) }
 {
     let mut lattice = Lattice::new(alloc);
     lattice.best_over(source)

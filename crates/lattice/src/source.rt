@@ -1,39 +1,28 @@
 //! Where the search takes words and connection costs from.
 
-ghost use Rattle.std.specs.Prelude.{◌≡◌, ℕ, ℤ, ◌++◌, List, OnOk, OnErr};
-ghost use Rattle.mj_model.specs.declared.word.Word.{Word};
+ghost use Rattle.std.specs.Prelude.{◌≡◌, ◌++◌, OnOk, OnErr};
+ghost use Rattle.lattice.specs.SearchedText.{SearchedText};
 
 use mj_model::Word;
 use std::alloc::{AllocError, Global};
 
 /// A text over dictionaries: the words of each place, and the cost of each connection.
 pub trait WordSource {
-    /// The length of the text in bytes.
-    ghost text_length: { Self → ℕ };
-
-    /// The words of each place, in their order; none where no character begins.
-    ghost words: { Self → ℕ → List Word };
-
-    /// Where a character begins, or the text ends.
-    ghost is_place: { Self → ℕ → Type 0 };
-
-    /// The right id of the word before and the left id of the next lie within the connection table's sizes.
-    ghost is_pair: { Self → ℕ → ℕ → Type 0 };
-
-    /// The connection cost, from the right id of the word before and the left id of the next.
-    ghost connection: { Self → ℕ → ℕ → ℤ };
+    /// The text's length, its words, its connections, its places and its pairs of ids.
+    ghost says: { Self → SearchedText };
 
     /// In bytes.
     fn length(&self) -> usize
-        ensures { result ≡ text_length self.now };
+        ensures { result ≡ (says self.now).text_length };
 
     /// Appends the words of a place to `out`.
     fn words_at(&self, alloc: Global, place: usize, out: &mut Vec<Word>) -> Result<(), AllocError>
-        requires { is_place self.now place }
-        ensures appended { OnOk result (out.new.items ≡ out.old.items ++ words self.now place) }
+        requires { (says self.now).is_place place }
+        ensures appended { OnOk result
+            (out.new.items ≡ out.old.items ++ (says self.now).words place) }
         ensures kept { OnErr result (out.new.items ≡ out.old.items) };
 
     fn connection_cost(&self, right: u16, left: u16) -> i16
-        requires { is_pair self.now right left }
-        ensures { result ≡ connection self.now right left };
+        requires { (says self.now).is_pair right left }
+        ensures { result ≡ (says self.now).connection right left };
 }

@@ -1,11 +1,9 @@
 //! The way back through a lattice, from its end.
 
 ghost use Rattle.std.specs.Prelude.{◌≡◌, ◌+◌, length, IfOk, OnOk};
-ghost use Rattle.paths.specs.Best.{IsBestPath};
-ghost use Rattle.paths.specs.Cost.{path_cost};
 ghost use Rattle.lattice.specs.Nodes.{AreLinked};
-ghost use Rattle.paths.specs.Searchable.{IsSearchable};
-ghost use Rattle.lattice.specs.Lattice.{IsLattice, IsLastEnd, LinksGoBack, IsBelow, Traces};
+ghost use Rattle.lattice.specs.Lattice.{IsLastEnd, LinksGoBack, IsBelow, Traces};
+ghost use Rattle.lattice.specs.SearchedText.{CanBeSearched, IsBestIn, IsLatticeOf, cost_of};
 
 use crate::joining::join;
 use crate::node::{BOUNDARY_ID, Node};
@@ -20,12 +18,12 @@ pub fn trace_best<S: WordSource>(
     heads: &[Option<usize>],
     words: &mut Vec<Word>,
 ) -> Result<i64, AllocError>
-    requires source { IsSearchable (S.is_place source.now) (S.is_pair source.now) (S.words source.now) (S.connection source.now) (S.text_length source.now) }
-    requires lattice { IsLattice (S.words source.now) (S.connection source.now) nodes.now (S.text_length source.now) 0 }
+    requires source { CanBeSearched (S.says source.now) }
+    requires lattice { IsLatticeOf (S.says source.now) nodes.now (S.says source.now).text_length 0 }
     requires links { AreLinked nodes.now heads.now }
-    requires heads { length heads.now ≡ S.text_length source.now + 1 }
-    ensures best { OnOk result (IsBestPath (S.words source.now) (S.connection source.now) words.new.items) }
-    ensures total { IfOk result (λ total. total ≡ path_cost (S.connection source.now) words.new.items) }
+    requires heads { length heads.now ≡ (S.says source.now).text_length + 1 }
+    ensures best { OnOk result (IsBestIn (S.says source.now) words.new.items) }
+    ensures total { IfOk result (λ total. total ≡ cost_of (S.says source.now) words.new.items) }
 {
     let last = last_end(nodes);
     match join(source, nodes, heads[last], last, BOUNDARY_ID) {

@@ -15,15 +15,13 @@ pub struct Sample {
 }
 
 impl WordSource for Sample {
-    ghost text_length = { λ s. s.length };
-
-    ghost words = { λ s p. sample_words s.words.items 0 s.length p };
-
-    ghost is_place = { λ s p. Unit {0} };
-
-    ghost is_pair = { λ s r l. Unit {0} };
-
-    ghost connection = { λ s r l. sample_connection r l };
+    ghost says = { λ s. record {
+      text_length = s.length;
+      words = sample_words s.words.items 0 s.length;
+      connection = sample_connection;
+      is_place = λ p. Unit {0};
+      is_pair = λ r l. Unit {0};
+    } };
 
     fn length(&self) -> usize {
         self.length

@@ -7,12 +7,12 @@ pub returns-then-not-is_reached-clause-lattice : goal.returns-then-not-is_reache
 returns-then-not-is_reached-clause-lattice g c =
     let heads = c.args.heads.now in
     let within : c.args.place < length heads = omega (arith, c.requires.place, c.requires.heads) in
-    not_reached (g.S.WordSource.words c.args.source.now) (g.S.WordSource.connection c.args.source.now) (g.S.WordSource.text_length c.args.source.now) c.requires.source.source
+    not_reached (g.S.WordSource.says c.args.source.now).words (g.S.WordSource.says c.args.source.now).connection (g.S.WordSource.says c.args.source.now).text_length c.requires.source.source
     c.args.nodes.now.items heads c.args.place (get_or heads c.args.place None) c.requires.lattice c.requires.links (slice_get-get_or heads c.args.place None within) (sym c.is_reached.ensures ∙ c.if-not-is_reached.true)
 
 pub words_at-requires : goal.words_at-requires
 words_at-requires g c =
     let heads = c.args.heads.now in
     let within : c.args.place < length heads = omega (arith, c.requires.place, c.requires.heads) in
-    reached_place (g.S.WordSource.words c.args.source.now) (g.S.WordSource.connection c.args.source.now) (g.S.WordSource.text_length c.args.source.now) c.requires.source.source
-    (g.S.WordSource.is_place c.args.source.now) c.args.nodes.now.items heads c.args.place c.args.place (get_or heads c.args.place None) c.requires.source.places c.requires.lattice c.requires.links (slice_get-get_or heads c.args.place None within) (sym c.is_reached.ensures ∙ c.if-not-is_reached.false)
+    reached_place (g.S.WordSource.says c.args.source.now).words (g.S.WordSource.says c.args.source.now).connection (g.S.WordSource.says c.args.source.now).text_length c.requires.source.source
+    (g.S.WordSource.says c.args.source.now).is_place c.args.nodes.now.items heads c.args.place c.args.place (get_or heads c.args.place None) c.requires.source.places c.requires.lattice c.requires.links (slice_get-get_or heads c.args.place None within) (sym c.is_reached.ensures ∙ c.if-not-is_reached.false)

@@ -16,18 +16,18 @@ no_word = record { place = 0; start = 0; end = 0; left = 0; right = 0; cost = po
 
 pub offset_bounds-heads-word : goal.offset_bounds-heads-word
 offset_bounds-heads-word g c =
-    let e = word_ends (g.S.WordSource.words c.args.source.now) (g.S.WordSource.connection c.args.source.now) (g.S.WordSource.text_length c.args.source.now) c.requires.source.source c.args.words.now c.args.place c.loop-word.word-index no_word c.loop-word-test.true c.requires.words in
+    let e = word_ends (g.S.WordSource.says c.args.source.now).words (g.S.WordSource.says c.args.source.now).connection (g.S.WordSource.says c.args.source.now).text_length c.requires.source.source c.args.words.now c.args.place c.loop-word.word-index no_word c.loop-word-test.true c.requires.words in
     let short = c.requires.source.short in
     omega (arith, e, short)
 
 pub slice_copy_out-earlier : goal.slice_copy_out-earlier
 slice_copy_out-earlier g c =
-    let e = word_ends (g.S.WordSource.words c.args.source.now) (g.S.WordSource.connection c.args.source.now) (g.S.WordSource.text_length c.args.source.now) c.requires.source.source c.args.words.now c.args.place c.loop-word.word-index no_word c.loop-word-test.true c.requires.words in
+    let e = word_ends (g.S.WordSource.says c.args.source.now).words (g.S.WordSource.says c.args.source.now).connection (g.S.WordSource.says c.args.source.now).text_length c.requires.source.source c.args.words.now c.args.place c.loop-word.word-index no_word c.loop-word-test.true c.requires.words in
     omega (arith, e, c.requires.heads, c.loop-word.auto.heads)
 
 pub join-requires-clause-left : goal.join-requires-clause-left
 join-requires-clause-left g c =
-    let there = word_there (g.S.WordSource.words c.args.source.now) (g.S.WordSource.connection c.args.source.now) (g.S.WordSource.text_length c.args.source.now) c.requires.source.source c.args.words.now c.args.place c.loop-word.word-index no_word c.loop-word-test.true c.requires.words in
+    let there = word_there (g.S.WordSource.says c.args.source.now).words (g.S.WordSource.says c.args.source.now).connection (g.S.WordSource.says c.args.source.now).text_length c.requires.source.source c.args.words.now c.args.place c.loop-word.word-index no_word c.loop-word-test.true c.requires.words in
     c.requires.source.word_follows c.args.place _ there
 
 pub join-requires-clause-head : goal.join-requires-clause-head
@@ -39,20 +39,20 @@ join-requires-clause-head g c =
 
 pub node_after-requires : goal.node_after-requires
 node_after-requires g c =
-    small_join (g.S.WordSource.words c.args.source.now) (g.S.WordSource.connection c.args.source.now) (g.S.WordSource.text_length c.args.source.now) c.requires.source.source
+    small_join (g.S.WordSource.says c.args.source.now).words (g.S.WordSource.says c.args.source.now).connection (g.S.WordSource.says c.args.source.now).text_length c.requires.source.source
     c.deref.result.now c.args.place _ c.in-Some.found c.requires.source.short c.requires.place c.in-Some.ensures
 
 pub add_node-requires : goal.add_node-requires
 add_node-requires g c =
-    let e = word_ends (g.S.WordSource.words c.args.source.now) (g.S.WordSource.connection c.args.source.now) (g.S.WordSource.text_length c.args.source.now) c.requires.source.source c.args.words.now c.args.place c.loop-word.word-index no_word c.loop-word-test.true c.requires.words in
+    let e = word_ends (g.S.WordSource.says c.args.source.now).words (g.S.WordSource.says c.args.source.now).connection (g.S.WordSource.says c.args.source.now).text_length c.requires.source.source c.args.words.now c.args.place c.loop-word.word-index no_word c.loop-word-test.true c.requires.words in
     let n = ap (λ (x : Node). x.word.end) c.node_after.ensures in
     record { end = omega (arith, e, n, c.requires.heads, c.loop-word.auto.heads) }
 
 pub loop-word-preserved : goal.loop-word-preserved
 loop-word-preserved g c =
-    let words = g.S.WordSource.words c.args.source.now in
-    let conn = g.S.WordSource.connection c.args.source.now in
-    let len = g.S.WordSource.text_length c.args.source.now in
+    let words = (g.S.WordSource.says c.args.source.now).words in
+    let conn = (g.S.WordSource.says c.args.source.now).connection in
+    let len = (g.S.WordSource.says c.args.source.now).text_length in
     let nodes = c.loop-word.nodes.items in
     let heads = c.loop-word.heads in
     let k = c.loop-word.word-index in
@@ -79,9 +79,9 @@ loop-word-preserved g c =
 
 pub returns-clause-lattice : goal.returns-clause-lattice
 returns-clause-lattice g c =
-    let words = g.S.WordSource.words c.args.source.now in
-    let conn = g.S.WordSource.connection c.args.source.now in
-    let len = g.S.WordSource.text_length c.args.source.now in
+    let words = (g.S.WordSource.says c.args.source.now).words in
+    let conn = (g.S.WordSource.says c.args.source.now).connection in
+    let len = (g.S.WordSource.says c.args.source.now).text_length in
     let all : c.loop-word.word-index ≡ length c.args.words.now = omega (arith, c.loop-word.auto.word-index-end, c.loop-word-test.false) in
     goes_on words conn len c.requires.source.source c.loop-word.nodes.items c.args.place
     (subst (IsLattice words conn c.loop-word.nodes.items c.args.place) (all ∙ ap length c.requires.words) c.loop-word.invariant.lattice)

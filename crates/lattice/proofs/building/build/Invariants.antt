@@ -5,7 +5,7 @@ use Rattle.lattice.proofs.building.build.Given as goal
 
 abbrev pub invariant-loop-place : goal.invariant-loop-place
 invariant-loop-place g l = record {
-  lattice : IsLattice (g.S.WordSource.words l.source) (g.S.WordSource.connection l.source) l.nodes.items l.place 0;
+  lattice : IsLattice (g.S.WordSource.says l.source).words (g.S.WordSource.says l.source).connection l.nodes.items l.place 0;
   links : AreLinked l.nodes.items l.heads.items;
-  heads : length l.heads.items ≡ g.S.WordSource.text_length l.source + 1;
+  heads : length l.heads.items ≡ (g.S.WordSource.says l.source).text_length + 1;
 }

@@ -7,9 +7,9 @@ use Rattle.lattice.proofs.tracing.trace_best.Goals as goal
 
 pub offset_bounds-heads-last : goal.offset_bounds-heads-last
 offset_bounds-heads-last g c =
-    let words = g.S.WordSource.words c.args.source.now in
-    let conn = g.S.WordSource.connection c.args.source.now in
-    let len = g.S.WordSource.text_length c.args.source.now in
+    let words = (g.S.WordSource.says c.args.source.now).words in
+    let conn = (g.S.WordSource.says c.args.source.now).connection in
+    let len = (g.S.WordSource.says c.args.source.now).text_length in
     let nodes = c.args.nodes.now in
     let last = c.last_end-last.result in
     let is_last = c.last_end-last.ensures in
@@ -19,9 +19,9 @@ offset_bounds-heads-last g c =
 
 pub bounds-heads-last : goal.bounds-heads-last
 bounds-heads-last g c =
-    let words = g.S.WordSource.words c.args.source.now in
-    let conn = g.S.WordSource.connection c.args.source.now in
-    let len = g.S.WordSource.text_length c.args.source.now in
+    let words = (g.S.WordSource.says c.args.source.now).words in
+    let conn = (g.S.WordSource.says c.args.source.now).connection in
+    let len = (g.S.WordSource.says c.args.source.now).text_length in
     let nodes = c.args.nodes.now in
     let last = c.last_end-last.result in
     let is_last = c.last_end-last.ensures in
@@ -30,9 +30,9 @@ bounds-heads-last g c =
 
 pub join-requires-clause-lattice : goal.join-requires-clause-lattice
 join-requires-clause-lattice g c =
-    let words = g.S.WordSource.words c.args.source.now in
-    let conn = g.S.WordSource.connection c.args.source.now in
-    let len = g.S.WordSource.text_length c.args.source.now in
+    let words = (g.S.WordSource.says c.args.source.now).words in
+    let conn = (g.S.WordSource.says c.args.source.now).connection in
+    let len = (g.S.WordSource.says c.args.source.now).text_length in
     let nodes = c.args.nodes.now in
     let last = c.last_end-last.result in
     let is_last = c.last_end-last.ensures in
@@ -40,9 +40,9 @@ join-requires-clause-lattice g c =
 
 pub join-requires-clause-head : goal.join-requires-clause-head
 join-requires-clause-head g c =
-    let words = g.S.WordSource.words c.args.source.now in
-    let conn = g.S.WordSource.connection c.args.source.now in
-    let len = g.S.WordSource.text_length c.args.source.now in
+    let words = (g.S.WordSource.says c.args.source.now).words in
+    let conn = (g.S.WordSource.says c.args.source.now).connection in
+    let len = (g.S.WordSource.says c.args.source.now).text_length in
     let nodes = c.args.nodes.now in
     let last = c.last_end-last.result in
     let is_last = c.last_end-last.ensures in
@@ -53,9 +53,9 @@ join-requires-clause-head g c =
 
 pub words_back-requires-clause-links : goal.words_back-requires-clause-links
 words_back-requires-clause-links g c =
-    let words = g.S.WordSource.words c.args.source.now in
-    let conn = g.S.WordSource.connection c.args.source.now in
-    let len = g.S.WordSource.text_length c.args.source.now in
+    let words = (g.S.WordSource.says c.args.source.now).words in
+    let conn = (g.S.WordSource.says c.args.source.now).connection in
+    let len = (g.S.WordSource.says c.args.source.now).text_length in
     let nodes = c.args.nodes.now in
     let last = c.last_end-last.result in
     let is_last = c.last_end-last.ensures in
@@ -63,9 +63,9 @@ words_back-requires-clause-links g c =
 
 pub words_back-requires-clause-from : goal.words_back-requires-clause-from
 words_back-requires-clause-from g c =
-    let words = g.S.WordSource.words c.args.source.now in
-    let conn = g.S.WordSource.connection c.args.source.now in
-    let len = g.S.WordSource.text_length c.args.source.now in
+    let words = (g.S.WordSource.says c.args.source.now).words in
+    let conn = (g.S.WordSource.says c.args.source.now).connection in
+    let len = (g.S.WordSource.says c.args.source.now).text_length in
     let nodes = c.args.nodes.now in
     let last = c.last_end-last.result in
     let is_last = c.last_end-last.ensures in
@@ -73,9 +73,9 @@ words_back-requires-clause-from g c =
 
 pub unreachable-requires : goal.unreachable-requires
 unreachable-requires g c =
-    let words = g.S.WordSource.words c.args.source.now in
-    let conn = g.S.WordSource.connection c.args.source.now in
-    let len = g.S.WordSource.text_length c.args.source.now in
+    let words = (g.S.WordSource.says c.args.source.now).words in
+    let conn = (g.S.WordSource.says c.args.source.now).connection in
+    let len = (g.S.WordSource.says c.args.source.now).text_length in
     let nodes = c.args.nodes.now in
     let last = c.last_end-last.result in
     let is_last = c.last_end-last.ensures in
@@ -83,9 +83,9 @@ unreachable-requires g c =
 
 pub returns-clause-best : goal.returns-clause-best
 returns-clause-best g c =
-    let words = g.S.WordSource.words c.args.source.now in
-    let conn = g.S.WordSource.connection c.args.source.now in
-    let len = g.S.WordSource.text_length c.args.source.now in
+    let words = (g.S.WordSource.says c.args.source.now).words in
+    let conn = (g.S.WordSource.says c.args.source.now).connection in
+    let len = (g.S.WordSource.says c.args.source.now).text_length in
     let nodes = c.args.nodes.now in
     let last = c.last_end-last.result in
     let is_last = c.last_end-last.ensures in
@@ -93,9 +93,9 @@ returns-clause-best g c =
 
 pub returns-clause-total : goal.returns-clause-total
 returns-clause-total g c =
-    let words = g.S.WordSource.words c.args.source.now in
-    let conn = g.S.WordSource.connection c.args.source.now in
-    let len = g.S.WordSource.text_length c.args.source.now in
+    let words = (g.S.WordSource.says c.args.source.now).words in
+    let conn = (g.S.WordSource.says c.args.source.now).connection in
+    let len = (g.S.WordSource.says c.args.source.now).text_length in
     let nodes = c.args.nodes.now in
     let last = c.last_end-last.result in
     let is_last = c.last_end-last.ensures in

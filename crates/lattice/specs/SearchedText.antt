@@ -1,0 +1,42 @@
+-- What the search is told of a text, as one record.
+use Rattle.std.specs.Prelude.{ℕ, ℤ, List, Option}
+use Rattle.mj_model.specs.declared.word.Word.{Word}
+use Rattle.paths.specs.Best.{IsBestPath}
+use Rattle.paths.specs.Cost.{path_cost}
+use Rattle.paths.specs.Searchable.{IsSearchable}
+use Rattle.lattice.specs.declared.node.Node.{Node}
+use Rattle.lattice.specs.declared.node.Join.{Join}
+use Rattle.lattice.specs.Lattice.{IsJoinOf, IsLattice, ReachesTo}
+
+-- a text's length in bytes, the words of each place in their order, the connection cost of a right id and the next word's left id,
+-- where a character begins or the text ends, and which ids lie within the connection table's sizes
+pub record SearchedText : Type 1 where
+  pub text_length : ℕ
+  pub words : ℕ → List Word
+  pub connection : ℕ → ℕ → ℤ
+  pub is_place : ℕ → Type 0
+  pub is_pair : ℕ → ℕ → Type 0
+
+-- it has what the search asks of a text
+abbrev pub CanBeSearched : SearchedText → Type 0
+CanBeSearched t = IsSearchable t.is_place t.is_pair t.words t.connection t.text_length
+
+-- the best of its paths
+abbrev pub IsBestIn : SearchedText → List Word → Type 0
+IsBestIn t path = IsBestPath t.words t.connection path
+
+-- what a path costs there
+abbrev pub cost_of : SearchedText → List Word → ℤ
+cost_of t path = path_cost t.connection path
+
+-- the nodes are its words before the k-th one of place p that some chain reaches, in their order
+abbrev pub IsLatticeOf : SearchedText → List Node → ℕ → ℕ → Type 0
+IsLatticeOf t nodes p k = IsLattice t.words t.connection nodes p k
+
+-- the nodes are its lattice, which goes to the place at least
+abbrev pub Reaches : SearchedText → List Node → ℕ → Type 0
+Reaches t nodes place = ReachesTo t.words t.connection nodes place
+
+-- the best chain to the place where a word of this left id follows, if any chain leads there
+abbrev pub IsBestJoin : SearchedText → List Node → ℕ → ℕ → Option Join → Type 0
+IsBestJoin t nodes place left found = IsJoinOf t.words t.connection nodes place left found
