@@ -1,5 +1,5 @@
--- What a reader and a writer count of the calls on them.
-use Rattle.std.specs.Prelude.{ℕ, ◌<◌, ◌^◌, ◌-◌, Bool, false, nat_lt, ◌==◌, ◌&&◌, ◌||◌, if◌then◌else◌, Result, Ok, Err}
+-- What a reader and a writer tell: what is left or held, and what they count of the calls on them.
+use Rattle.std.specs.Prelude.{ℕ, ◌<◌, ◌^◌, ◌-◌, List, Option, Bool, false, nat_lt, ◌==◌, ◌&&◌, ◌||◌, if◌then◌else◌, Result, Ok, Err}
 
 -- 1 for a read that gave no byte into a buffer with room: the end of the input
 abbrev pub end_in : {E : Type 0} → Result ℕ E → ℕ → ℕ
@@ -33,3 +33,25 @@ unflushed_after_flush before (Err e) = before
 -- a count can still rise
 abbrev pub CanRise : ℕ → Type 0
 CanRise count = count < 2 ^ 64 - 1
+
+-- what a reader has left, where it says so, and its counts: of reads, of those that gave no byte into a buffer with room, since the
+-- input had ended, and of those that answered an error
+pub record ReaderTold : Type 0 where
+  pub left : Option (List ℕ)
+  pub reads : ℕ
+  pub ends : ℕ
+  pub failures : ℕ
+
+-- what a writer holds, where it says so; how many writes answered an error or took none of at least one byte, and flushes answered an
+-- error; and whether a write took bytes after the last flush that succeeded
+pub record WriterTold : Type 0 where
+  pub held : Option (List ℕ)
+  pub failures : ℕ
+  pub unflushed : Bool
+
+-- the counts leave room for a run
+abbrev pub MayBeRead : ReaderTold → Type 0
+MayBeRead told = (told.reads < 2 ^ 63) × (told.ends < 2 ^ 63) × (told.failures < 2 ^ 63)
+
+abbrev pub MayBeWritten : WriterTold → Type 0
+MayBeWritten told = told.failures < 2 ^ 63

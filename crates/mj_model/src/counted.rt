@@ -1,6 +1,6 @@
 //! A reader or a writer with counts.
 
-ghost use Rattle.std.specs.Prelude.{◌≡◌, false};
+ghost use Rattle.std.specs.Prelude.{◌≡◌, false, refl};
 
 use crate::text_in::TextIn;
 use crate::text_out::TextOut;
@@ -54,11 +54,7 @@ impl<T: Read> Read for Counted<T> {
 }
 
 impl<T: Read> TextIn for Counted<T> {
-    ghost reads = { λ c. c.reads };
-
-    ghost ends = { λ c. c.ends };
-
-    ghost failures = { λ c. c.failures };
+    ghost told = { λ c. record { left = T.remaining c.inner; reads = c.reads; ends = c.ends; failures = c.failures } };
 
     fn read_counted(&mut self, buf: &mut [u8]) -> io::Result<usize> {
         let room = buf.len();
@@ -83,6 +79,8 @@ impl<T: Read> TextIn for Counted<T> {
     fn failures(&self) -> u64 {
         self.failures
     }
+
+    ghost tells_left = { λ c. refl };
 }
 
 impl<T: Write> Write for Counted<T> {
@@ -98,9 +96,7 @@ impl<T: Write> Write for Counted<T> {
 }
 
 impl<T: Write> TextOut for Counted<T> {
-    ghost failures = { λ c. c.failures };
-
-    ghost unflushed = { λ c. c.unflushed };
+    ghost told = { λ c. record { held = T.contents c.inner; failures = c.failures; unflushed = c.unflushed } };
 
     fn write_counted(&mut self, buf: &[u8]) -> io::Result<usize> {
         let result = self.inner.write(buf);
@@ -129,4 +125,6 @@ impl<T: Write> TextOut for Counted<T> {
     fn unflushed(&self) -> bool {
         self.unflushed
     }
+
+    ghost tells_held = { λ c. refl };
 }

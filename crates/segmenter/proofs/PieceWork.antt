@@ -1,5 +1,6 @@
 -- Work on the bytes of one read: each step prints the line up to the next LF.
-use Rattle.std.proofs.Common.{◌≡◌, ℕ, ◌+◌, ◌<◌, ◌≤◌, suc, true, false, List, [], ◌∷◌, ◌++◌, length, take, drop, get_or, refl, sym, ap, ◌∙◌, subst, arith, append_assoc, append-nil, inl, inr, Option, Some, None, length-append, length-drop, length-take}
+use Rattle.std.proofs.Common.{◌≡◌, ℕ, ◌+◌, ◌<◌, ◌≤◌, suc, true, false, List, [], ◌∷◌, ◌++◌, length, take, drop, get_or, refl, sym, ap, ◌∙◌, subst, arith, append_assoc, append-nil, inl, inr, length-append, length-drop, length-take}
+use Rattle.std.specs.Prelude.{Result, Ok, Err}
 use Rattle.std.proofs.lemmas.List.{get_or-take, get_or_default}
 use Rattle.std.proofs.lemmas.List.Elements.{All-append, All-nil}
 use Rattle.std.proofs.lemmas.Bool.{false_from_ne_true}
@@ -31,28 +32,27 @@ no_feed_at_all rest none k d h =
 
 -- ---- lines that print, with one more
 
-module _ (Judges : List ℕ → Option LineFault → Type 0) (Prints : List ℕ → List ℕ → Type 0) where
-  pub print_more : (number : ℕ) (lines : List (List ℕ)) (text line more : List ℕ) → AllPrint Judges Prints number lines text
-      → Judges line None → Prints line more → AllPrint Judges Prints number (lines ++ line ∷ []) (text ++ more)
-  print_more number [] text line more h good prints =
-      inr (good, more, [], prints, (refl, refl), ap (λ (t : List ℕ). t ++ more) h.0 ∙ sym (append-nil more))
-  print_more number (first ∷ lines) text line more (inl h) good prints = absurd (cc)
-  print_more number (first ∷ lines) text line more (inr h) good prints =
+module _ (Tells : List ℕ → Result (List ℕ) LineFault → Type 0) where
+  pub print_more : (number : ℕ) (lines : List (List ℕ)) (text line more : List ℕ) → AllPrint Tells number lines text
+      → Tells line (Ok more) → AllPrint Tells number (lines ++ line ∷ []) (text ++ more)
+  print_more number [] text line more h tells =
+      inr (more, [], tells, (refl, refl), ap (λ (t : List ℕ). t ++ more) h.0 ∙ sym (append-nil more))
+  print_more number (first ∷ lines) text line more (inl h) tells = absurd (cc)
+  print_more number (first ∷ lines) text line more (inr h) tells =
       inr (
         h.0,
-        h.1,
-        h.2 ++ more,
-        h.3,
-        print_more (number + 1) lines h.2 line more h.4 good prints,
-        ap (λ (t : List ℕ). t ++ more) h.5 ∙ append_assoc h.1 h.2 more,
+        h.1 ++ more,
+        h.2,
+        print_more (number + 1) lines h.1 line more h.3 tells,
+        ap (λ (t : List ℕ). t ++ more) h.4 ∙ append_assoc h.0 h.1 more,
       )
 
   pub working_line : (before size : ℕ) (out_before bytes held rest : List ℕ) (after : ℕ) (out_after more : List ℕ) (at : ℕ)
-      → Working Judges Prints before size out_before bytes held rest after out_after
+      → Working Tells before size out_before bytes held rest after out_after
       → NoneBefore (Passes (is_byte 10) rest) 0 (length rest) at → Passes (is_byte 10) rest at
-      → Judges (held ++ take at rest) None → Prints (held ++ take at rest) more
-      → Working Judges Prints before size out_before bytes [] (drop (at + 1) rest) (after + 1) (out_after ++ more)
-  working_line before size out_before bytes held rest after out_after more at w first passes good prints =
+      → Tells (held ++ take at rest) (Ok more)
+      → Working Tells before size out_before bytes [] (drop (at + 1) rest) (after + 1) (out_after ++ more)
+  working_line before size out_before bytes held rest after out_after more at w first passes tells =
       let line = held ++ take at rest in
       let next = drop (at + 1) rest in
       let c = get_or rest at 0 in
@@ -64,7 +64,7 @@ module _ (Judges : List ℕ → Option LineFault → Type 0) (Prints : List ℕ 
         done = w.done ++ line ∷ [];
         worked = record {
           text = w.worked.text ++ more;
-          print = print_more (before + 1) w.done w.worked.text line more w.worked.print good prints;
+          print = print_more (before + 1) w.done w.worked.text line more w.worked.print tells;
           counted = (let more_lines = length-append w.done (line ∷ []) in omega (arith, w.worked.counted, more_lines));
           appended = ap (λ t. t ++ more) w.worked.appended ∙ append_assoc out_before w.worked.text more;
         };
@@ -75,10 +75,10 @@ module _ (Judges : List ℕ → Option LineFault → Type 0) (Prints : List ℕ 
       }
 
   pub working_stopped : (before size : ℕ) (out_before bytes held rest : List ℕ) (after : ℕ) (out_after : List ℕ) (at : ℕ) (error : LineError)
-      → Working Judges Prints before size out_before bytes held rest after out_after
+      → Working Tells before size out_before bytes held rest after out_after
       → NoneBefore (Passes (is_byte 10) rest) 0 (length rest) at → Passes (is_byte 10) rest at
-      → TellsFault (λ fault. Judges (held ++ take at rest) (Some fault)) error
-      → Stopped Judges Prints before out_before bytes error after out_after
+      → TellsFault (λ fault. Tells (held ++ take at rest) (Err fault)) error
+      → Stopped Tells before out_before bytes error after out_after
   working_stopped before size out_before bytes held rest after out_after at Memory w first passes tells =
       record { done = w.done; worked = w.worked; cause = (whole_lines (held ++ rest), w.whole) }
   working_stopped before size out_before bytes held rest after out_after at (Bad fault) w first passes tells =
@@ -95,25 +95,25 @@ module _ (Judges : List ℕ → Option LineFault → Type 0) (Prints : List ℕ 
       }
 
   pub working_done : (before size : ℕ) (out_before bytes held rest : List ℕ) (after : ℕ) (out_after : List ℕ)
-      → Working Judges Prints before size out_before bytes held rest after out_after → Nowhere (Passes (is_byte 10) rest) 0 (length rest)
-      → Worked Judges Prints before out_before (whole_lines bytes) after out_after
+      → Working Tells before size out_before bytes held rest after out_after → Nowhere (Passes (is_byte 10) rest) 0 (length rest)
+      → Worked Tells before out_before (whole_lines bytes) after out_after
   working_done before size out_before bytes held rest after out_after w none =
       let all = All-append (λ c. is_line_feed c ≡ false) held rest w.no_feed (no_feed_at_all rest none) in
-      subst (λ lines. Worked Judges Prints before out_before lines after out_after)
+      subst (λ lines. Worked Tells before out_before lines after out_after)
       (sym (w.whole ∙ ap (λ z. w.done ++ z) (whole_lines-none (held ++ rest) all) ∙ append-nil w.done)) w.worked
 
   pub working_open : (before size : ℕ) (out_before bytes held rest : List ℕ) (after : ℕ) (out_after : List ℕ)
-      → Working Judges Prints before size out_before bytes held rest after out_after → Nowhere (Passes (is_byte 10) rest) 0 (length rest)
+      → Working Tells before size out_before bytes held rest after out_after → Nowhere (Passes (is_byte 10) rest) 0 (length rest)
       → held ++ rest ≡ open_line bytes
   working_open before size out_before bytes held rest after out_after w none =
       let all = All-append (λ c. is_line_feed c ≡ false) held rest w.no_feed (no_feed_at_all rest none) in
       sym (w.open_is ∙ open_line-none (held ++ rest) all)
 
   pub working_too_long : (before size : ℕ) (out_before bytes held rest : List ℕ) (after : ℕ) (out_after : List ℕ) (error : LineError)
-      → ((line : List ℕ) → SENTENCE_MAX < length line → Judges line (Some TooLong))
-      → Working Judges Prints before size out_before bytes held rest after out_after → Nowhere (Passes (is_byte 10) rest) 0 (length rest)
+      → ((line : List ℕ) → SENTENCE_MAX < length line → Tells line (Err TooLong))
+      → Working Tells before size out_before bytes held rest after out_after → Nowhere (Passes (is_byte 10) rest) 0 (length rest)
       → TellsFault (λ fault. (fault ≡ TooLong) × (SENTENCE_MAX < length (held ++ rest))) error
-      → Stopped Judges Prints before out_before bytes error after out_after
+      → Stopped Tells before out_before bytes error after out_after
   working_too_long before size out_before bytes held rest after out_after Memory long w none tells =
       record { done = w.done; worked = w.worked; cause = (whole_lines (held ++ rest), w.whole) }
   working_too_long before size out_before bytes held rest after out_after (Bad fault) long w none tells =

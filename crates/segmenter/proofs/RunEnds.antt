@@ -1,9 +1,10 @@
 -- How a run ends behind what it read and wrote so far.
 use Rattle.std.proofs.Common.{◌≡◌, ℕ, ◌+◌, ◌<◌, true, false, List, [], ◌∷◌, ◌++◌, length, refl, sym, ap, ◌∙◌, subst, arith, append_assoc, append-nil, length-append, inl, inr}
-use Rattle.std.specs.Prelude.{Option, Some, None, Result, Ok, Err, IfOk, IfErr, OnOk, nat_lt}
+use Rattle.std.specs.Prelude.{Option, None, Result, Ok, Err, IfOk, IfErr, OnOk, nat_lt}
 use Rattle.std.proofs.lemmas.Bool.{lt-ltb, le-ltb}
 use Rattle.std.specs.Io.KnownBytes.{Appends, Consumes}
 use Rattle.std.proofs.KnownBytes.{Appends-trans, Consumes-trans}
+use Rattle.mj_model.specs.Counts.{ReaderTold, WriterTold}
 use Rattle.mj_model.specs.declared.run_fault.RunFault.{RunFault}
 use Rattle.mj_model.specs.declared.run_fault.RunFault.TheVariants as run
 use Rattle.mj_model.specs.Output.{text_lines}
@@ -15,7 +16,7 @@ use Rattle.segmenter.specs.declared.line_fault.LineError.TheVariants.{Bad, Memor
 use Rattle.segmenter.specs.LineErrors.{run_fault}
 use Rattle.segmenter.specs.Progress.{AllPrint, IsCause}
 use Rattle.segmenter.specs.Steps.{Stepped, StepStopped, last_line, IsLastCause}
-use Rattle.segmenter.specs.Runs.{Told, IsStarved, IsBad, EndsSo, Ran, lines_read}
+use Rattle.segmenter.specs.Runs.{Told, IsStarved, IsBad, EndsSo, Ran, both_told, lines_read}
 use Rattle.mj_model.specs.declared.source_fault.SourceFault.{SourceFault}
 use Rattle.segmenter.proofs.PieceLemmas.{open_line-append}
 use Rattle.segmenter.proofs.RunWork.{Running, bad_behind, print_on, whole_on, text_lines-parts}
@@ -41,30 +42,30 @@ last_there (c ∷ cs) h = refl
 ltb_same : (n : ℕ) → nat_lt n n ≡ false
 ltb_same n = le-ltb n n (omega arith)
 
-module _ (Judges : List ℕ → Option LineFault → Type 0) (Prints : List ℕ → List ℕ → Type 0) (bound : ℕ) where
+module _ (Tells : List ℕ → Result (List ℕ) LineFault → Type 0) (bound : ℕ) where
   -- how a run ends, with what it read and wrote
   abbrev pub RanSo : Option (List ℕ) → Option (List ℕ) → Option (List ℕ) → Option (List ℕ) → Told → Told → Result ℕ RunFault → Type 0
   RanSo left0 left1 held0 held1 before after result =
-      (bytes : List ℕ) × (written : List ℕ) × Consumes left0 left1 bytes × Appends held0 held1 written × EndsSo Judges Prints bound bytes written before after result
+      (bytes : List ℕ) × (written : List ℕ) × Consumes left0 left1 bytes × Appends held0 held1 written × EndsSo Tells bound bytes written before after result
 
   module _ (left0 left1 left2 held0 held1 held2 : Option (List ℕ)) (before now after : Told) (turn : ℕ) (pending out : List ℕ) (lines sent : ℕ)
-      (r : Running Judges Prints left0 left1 held0 held1 before now turn pending out lines sent) where
+      (r : Running Tells left0 left1 held0 held1 before now turn pending out lines sent) where
     -- ---- a write failed
 
     cut_run : (bytes written : List ℕ) (done more : List (List ℕ)) (fault : RunFault) (text left : List ℕ)
-        → text_lines bytes ≡ (whole_lines r.bytes ++ done) ++ more → AllPrint Judges Prints (lines + 1) done text → text ≡ written ++ left
+        → text_lines bytes ≡ (whole_lines r.bytes ++ done) ++ more → AllPrint Tells (lines + 1) done text → text ≡ written ++ left
         → fault ≡ run.Write (sent + length written) → after.write_failures ≡ now.write_failures + 1
-        → EndsSo Judges Prints bound bytes (r.written ++ written) before after (Err fault)
+        → EndsSo Tells bound bytes (r.written ++ written) before after (Err fault)
     cut_run bytes written done more fault text left first print front fault_is failure =
         let total = length-append r.written written in
-        subst (λ f. EndsSo Judges Prints bound bytes (r.written ++ written) before after (Err f)) (sym fault_is) (
+        subst (λ f. EndsSo Tells bound bytes (r.written ++ written) before after (Err f)) (sym fault_is) (
           record {
             lines = whole_lines r.bytes ++ done;
             more = more;
             text = r.written ++ text;
             left = left;
             first = first;
-            printed = print_on Judges Prints r.bytes pending r.written text lines r.print r.open_is r.counted done None print;
+            printed = print_on Tells r.bytes pending r.written text lines r.print r.open_is r.counted done None print;
             front = ap (λ t. r.written ++ t) front ∙ sym (append_assoc r.written written left);
             count = omega (arith, r.sent_is, total);
           },
@@ -76,34 +77,34 @@ module _ (Judges : List ℕ → Option LineFault → Type 0) (Prints : List ℕ 
     number_is : (done : List (List ℕ)) (line : ℕ) → line ≡ lines + length done + 1 → line ≡ 1 + length (whole_lines r.bytes ++ done)
     number_is done line e = let total = length-append (whole_lines r.bytes) done in omega (arith, e, total, r.counted)
 
-    printed_on : (done : List (List ℕ)) (text : List ℕ) → AllPrint Judges Prints (lines + 1) done text → AllPrint Judges Prints 1 (whole_lines r.bytes ++ done) (r.written ++ text)
-    printed_on done text print = print_on Judges Prints r.bytes pending r.written text lines r.print r.open_is r.counted done None print
+    printed_on : (done : List (List ℕ)) (text : List ℕ) → AllPrint Tells (lines + 1) done text → AllPrint Tells 1 (whole_lines r.bytes ++ done) (r.written ++ text)
+    printed_on done text print = print_on Tells r.bytes pending r.written text lines r.print r.open_is r.counted done None print
 
     starved_run : (bytes written : List ℕ) (done more : List (List ℕ)) (line : ℕ) → text_lines bytes ≡ (whole_lines r.bytes ++ done) ++ more
-        → AllPrint Judges Prints (lines + 1) done written → line ≡ lines + length done + 1 → IsStarved Judges Prints bytes (r.written ++ written) line
+        → AllPrint Tells (lines + 1) done written → line ≡ lines + length done + 1 → IsStarved Tells bytes (r.written ++ written) line
     starved_run bytes written done more line first print e =
         let number = number_is done line e in
         record { lines = whole_lines r.bytes ++ done; more = more; first = first; printed = printed_on done written print; number = omega (arith, number) }
 
     bad_run : (all : List (List ℕ)) (written : List ℕ) (done more : List (List ℕ)) (bad : List ℕ) (fault : LineFault) (line : ℕ)
-        → all ≡ (whole_lines r.bytes ++ done) ++ bad ∷ more → AllPrint Judges Prints (lines + 1) done written → Judges bad (Some fault)
-        → line ≡ lines + length done + 1 → IsBad Judges Prints all (r.written ++ written) line fault
+        → all ≡ (whole_lines r.bytes ++ done) ++ bad ∷ more → AllPrint Tells (lines + 1) done written → Tells bad (Err fault)
+        → line ≡ lines + length done + 1 → IsBad Tells all (r.written ++ written) line fault
     bad_run all written done more bad fault line parts print judged e =
-        subst (λ ls. IsBad Judges Prints ls (r.written ++ written) line fault) (sym parts)
-        (bad_behind Judges Prints 1 (whole_lines r.bytes ++ done) more (r.written ++ written) bad fault line (printed_on done written print) judged (number_is done line e))
+        subst (λ ls. IsBad Tells ls (r.written ++ written) line fault) (sym parts)
+        (bad_behind Tells 1 (whole_lines r.bytes ++ done) more (r.written ++ written) bad fault line (printed_on done written print) judged (number_is done line e))
 
     -- a line is told as bad among the lines that were read whole, and so among all
-    bad_ends : (bytes written : List ℕ) (fault : LineFault) (line : ℕ) → IsBad Judges Prints (text_lines bytes) written line fault
-        → IsBad Judges Prints (lines_read (nat_lt before.ends after.ends) bytes) written line fault
-        → EndsSo Judges Prints bound bytes written before after (Err (run_fault (Bad fault) line))
+    bad_ends : (bytes written : List ℕ) (fault : LineFault) (line : ℕ) → IsBad Tells (text_lines bytes) written line fault
+        → IsBad Tells (lines_read (nat_lt before.ends after.ends) bytes) written line fault
+        → EndsSo Tells bound bytes written before after (Err (run_fault (Bad fault) line))
     bad_ends bytes written TooLong line all whole = all
     bad_ends bytes written NotUtf8 line all whole = whole
 
     -- ---- behind the work on the bytes of one read
 
     work_error : (piece written : List ℕ) (done : List (List ℕ)) (error : LineError) (line : ℕ) → after.ends ≡ now.ends
-        → AllPrint Judges Prints (lines + 1) done written → IsCause Judges (pending ++ piece) done error → line ≡ lines + length done + 1
-        → EndsSo Judges Prints bound (r.bytes ++ piece) (r.written ++ written) before after (Err (run_fault error line))
+        → AllPrint Tells (lines + 1) done written → IsCause Tells (pending ++ piece) done error → line ≡ lines + length done + 1
+        → EndsSo Tells bound (r.bytes ++ piece) (r.written ++ written) before after (Err (run_fault error line))
     work_error piece written done Memory line ends print cause e =
         starved_run (r.bytes ++ piece) written done (cause.0 ++ last_line (open_line (r.bytes ++ piece))) line
         (first_lines r.bytes piece pending done cause.0 r.open_is cause.1) print e
@@ -113,18 +114,18 @@ module _ (Judges : List ℕ → Option LineFault → Type 0) (Prints : List ℕ 
         let whole = whole_on r.bytes piece pending r.open_is ∙ ap (λ z. whole_lines r.bytes ++ z) c.2 ∙ sym (append_assoc (whole_lines r.bytes) done (c.0 ∷ c.1)) in
         bad_ends (r.bytes ++ piece) (r.written ++ written) fault line
         (bad_run (text_lines (r.bytes ++ piece)) written done (c.1 ++ tail) c.0 fault line (first_lines r.bytes piece pending done (c.0 ∷ c.1) r.open_is c.2) print c.3 e)
-        (subst (λ b. IsBad Judges Prints (lines_read b (r.bytes ++ piece)) (r.written ++ written) line fault) (sym not_ended)
+        (subst (λ b. IsBad Tells (lines_read b (r.bytes ++ piece)) (r.written ++ written) line fault) (sym not_ended)
         (bad_run (whole_lines (r.bytes ++ piece)) written done c.1 c.0 fault line whole print c.3 e))
     work_error piece written done (Bad fault) line ends print (inr c) e =
         let open_is = open_line-append r.bytes piece ∙ ap (λ o. open_line (o ++ piece)) (sym r.open_is) in
         let parts = text_lines-parts (r.bytes ++ piece)
         ∙ ap (λ z. z ++ last_line (open_line (r.bytes ++ piece))) (whole_on r.bytes piece pending r.open_is ∙ ap (λ z. whole_lines r.bytes ++ z) c.0)
         ∙ ap (λ z. (whole_lines r.bytes ++ done) ++ z) (ap last_line open_is ∙ last_there (open_line (pending ++ piece)) (omega (arith, c.3))) in
-        subst (λ f. EndsSo Judges Prints bound (r.bytes ++ piece) (r.written ++ written) before after (Err (run_fault (Bad f) line))) (sym c.1)
+        subst (λ f. EndsSo Tells bound (r.bytes ++ piece) (r.written ++ written) before after (Err (run_fault (Bad f) line))) (sym c.1)
         (bad_run (text_lines (r.bytes ++ piece)) written done [] (open_line (pending ++ piece)) TooLong line parts print c.2 e)
 
     pub ran_work : (piece : List ℕ) (fault : RunFault) → Consumes left1 left2 piece → after.ends ≡ now.ends
-        → StepStopped Judges Prints (IsCause Judges (pending ++ piece)) lines (whole_lines (pending ++ piece))
+        → StepStopped Tells (IsCause Tells (pending ++ piece)) lines (whole_lines (pending ++ piece))
         (record { held_before = held1; held_after = held2; failures_before = now.write_failures; failures_after = after.write_failures }) sent fault
         → RanSo left0 left2 held0 held2 before after (Err fault)
     ran_work piece fault took ends (inl s) = (
@@ -140,15 +141,15 @@ module _ (Judges : List ℕ → Option LineFault → Type 0) (Prints : List ℕ 
       r.written ++ s.written,
       Consumes-trans left0 left1 left2 r.bytes piece r.read took,
       Appends-trans held0 held1 held2 r.written s.written r.wrote s.wrote,
-      subst (λ f. EndsSo Judges Prints bound (r.bytes ++ piece) (r.written ++ s.written) before after (Err f)) (sym s.fault_is)
+      subst (λ f. EndsSo Tells bound (r.bytes ++ piece) (r.written ++ s.written) before after (Err f)) (sym s.fault_is)
           (work_error piece s.written s.done s.error (lines + length s.done + 1) ends s.print s.cause refl),
     )
 
     -- ---- at the end of the input
 
     finish_error : (written : List ℕ) (done : List (List ℕ)) (error : LineError) (line : ℕ) → after.ends ≡ now.ends + 1
-        → AllPrint Judges Prints (lines + 1) done written → IsLastCause Judges pending done error → line ≡ lines + length done + 1
-        → EndsSo Judges Prints bound r.bytes (r.written ++ written) before after (Err (run_fault error line))
+        → AllPrint Tells (lines + 1) done written → IsLastCause Tells pending done error → line ≡ lines + length done + 1
+        → EndsSo Tells bound r.bytes (r.written ++ written) before after (Err (run_fault error line))
     finish_error written done Memory line ends print cause e =
         starved_run r.bytes written done (last_line pending) line
         (last_lines r.bytes pending r.open_is ∙ ap (λ z. z ++ last_line pending) (sym (append-nil (whole_lines r.bytes)) ∙ ap (λ d. whole_lines r.bytes ++ d) (sym cause.none_before))) print e
@@ -158,10 +159,10 @@ module _ (Judges : List ℕ → Option LineFault → Type 0) (Prints : List ℕ 
         ∙ ap (λ z. z ++ pending ∷ []) (sym (append-nil (whole_lines r.bytes)) ∙ ap (λ d. whole_lines r.bytes ++ d) (sym cause.none_before)) in
         let all = bad_run (text_lines r.bytes) written done [] pending fault line parts print cause.tells e in
         bad_ends r.bytes (r.written ++ written) fault line all
-        (subst (λ b. IsBad Judges Prints (lines_read b r.bytes) (r.written ++ written) line fault) (sym ended) all)
+        (subst (λ b. IsBad Tells (lines_read b r.bytes) (r.written ++ written) line fault) (sym ended) all)
 
     pub ran_to_fault : (fault : RunFault) → Consumes left1 left2 [] → after.ends ≡ now.ends + 1
-        → StepStopped Judges Prints (IsLastCause Judges pending) lines (last_line pending)
+        → StepStopped Tells (IsLastCause Tells pending) lines (last_line pending)
         (record { held_before = held1; held_after = held2; failures_before = now.write_failures; failures_after = after.write_failures }) sent fault
         → RanSo left0 left2 held0 held2 before after (Err fault)
     ran_to_fault fault took ends (inl s) = (
@@ -178,12 +179,12 @@ module _ (Judges : List ℕ → Option LineFault → Type 0) (Prints : List ℕ 
       r.written ++ s.written,
       subst (λ bs. Consumes left0 left2 bs) (append-nil r.bytes) (Consumes-trans left0 left1 left2 r.bytes [] r.read took),
       Appends-trans held0 held1 held2 r.written s.written r.wrote s.wrote,
-      subst (λ f. EndsSo Judges Prints bound r.bytes (r.written ++ s.written) before after (Err f)) (sym s.fault_is)
+      subst (λ f. EndsSo Tells bound r.bytes (r.written ++ s.written) before after (Err f)) (sym s.fault_is)
           (finish_error s.written s.done s.error (lines + length s.done + 1) ends s.print s.cause refl),
     )
 
     pub ran_to_the_end : (count sent_after : ℕ) → Consumes left1 left2 [] → after.ends ≡ now.ends + 1
-        → Stepped Judges Prints lines (last_line pending) count
+        → Stepped Tells lines (last_line pending) count
         (record { held_before = held1; held_after = held2; failures_before = now.write_failures; failures_after = after.write_failures }) sent sent_after
         → after.unflushed ≡ false
         → RanSo left0 left2 held0 held2 before after (Ok count)
@@ -195,7 +196,7 @@ module _ (Judges : List ℕ → Option LineFault → Type 0) (Prints : List ℕ 
           subst (λ bs. Consumes left0 left2 bs) (append-nil r.bytes) (Consumes-trans left0 left1 left2 r.bytes [] r.read took),
           Appends-trans held0 held1 held2 r.written s.text r.wrote s.wrote,
           record {
-            printed = subst (λ ls. AllPrint Judges Prints 1 ls (r.written ++ s.text)) (sym all) (printed_on (last_line pending) s.text s.print);
+            printed = subst (λ ls. AllPrint Tells 1 ls (r.written ++ s.text)) (sym all) (printed_on (last_line pending) s.text s.print);
             counted = omega (arith, s.counted, r.counted, total);
             ended = ends ∙ ap (λ n. n + 1) r.ends;
             flushed = flushed;
@@ -203,10 +204,10 @@ module _ (Judges : List ℕ → Option LineFault → Type 0) (Prints : List ℕ 
         )
 
     pub ran_finish : (result : Result ℕ RunFault) (sent_after : ℕ) → Consumes left1 left2 [] → after.ends ≡ now.ends + 1
-        → IfOk result (λ count. Stepped Judges Prints lines (last_line pending) count
+        → IfOk result (λ count. Stepped Tells lines (last_line pending) count
         (record { held_before = held1; held_after = held2; failures_before = now.write_failures; failures_after = after.write_failures }) sent sent_after)
         → OnOk result (after.unflushed ≡ false)
-        → IfErr result (StepStopped Judges Prints (IsLastCause Judges pending) lines (last_line pending)
+        → IfErr result (StepStopped Tells (IsLastCause Tells pending) lines (last_line pending)
         (record { held_before = held1; held_after = held2; failures_before = now.write_failures; failures_after = after.write_failures }) sent)
         → RanSo left0 left2 held0 held2 before after result
     ran_finish (Ok count) sent_after took ends s flushed stopped = ran_to_the_end count sent_after took ends s flushed
@@ -214,12 +215,12 @@ module _ (Judges : List ℕ → Option LineFault → Type 0) (Prints : List ℕ 
 
 -- ---- a run tells no fault of sources
 
-pub ran_tells_no_source : (Judges : List ℕ → Option LineFault → Type 0) (Prints : List ℕ → List ℕ → Type 0) (bound : ℕ) (left0 left1 held0 held1 : Option (List ℕ)) (before after : Told)
-    (result : Result ℕ RunFault) (fault : SourceFault) → Ran Judges Prints bound left0 left1 held0 held1 before after result → result ≡ Err (run.Source fault) → ⊥
-ran_tells_no_source Judges Prints bound left0 left1 held0 held1 before after result fault ran e =
-    subst (EndsSo Judges Prints bound ran.bytes ran.written before after) e ran.ends
+pub ran_tells_no_source : (Tells : List ℕ → Result (List ℕ) LineFault → Type 0) (bound : ℕ) (from to : ReaderTold) (before after : WriterTold)
+    (result : Result ℕ RunFault) (fault : SourceFault) → Ran Tells bound from to before after result → result ≡ Err (run.Source fault) → ⊥
+ran_tells_no_source Tells bound from to before after result fault ran e =
+    subst (EndsSo Tells bound ran.bytes ran.written (both_told from before) (both_told to after)) e ran.ends
 
-pub ran_tells_no_user : (Judges : List ℕ → Option LineFault → Type 0) (Prints : List ℕ → List ℕ → Type 0) (bound : ℕ) (left0 left1 held0 held1 : Option (List ℕ)) (before after : Told)
-    (result : Result ℕ RunFault) (i : ℕ) (fault : SourceFault) → Ran Judges Prints bound left0 left1 held0 held1 before after result → result ≡ Err (run.UserSource i fault) → ⊥
-ran_tells_no_user Judges Prints bound left0 left1 held0 held1 before after result i fault ran e =
-    subst (EndsSo Judges Prints bound ran.bytes ran.written before after) e ran.ends
+pub ran_tells_no_user : (Tells : List ℕ → Result (List ℕ) LineFault → Type 0) (bound : ℕ) (from to : ReaderTold) (before after : WriterTold)
+    (result : Result ℕ RunFault) (i : ℕ) (fault : SourceFault) → Ran Tells bound from to before after result → result ≡ Err (run.UserSource i fault) → ⊥
+ran_tells_no_user Tells bound from to before after result i fault ran e =
+    subst (EndsSo Tells bound ran.bytes ran.written (both_told from before) (both_told to after)) e ran.ends

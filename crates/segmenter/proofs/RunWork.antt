@@ -1,10 +1,10 @@
 -- A run over a text, read by read.
 use Rattle.std.proofs.Common.{◌≡◌, ℕ, ◌+◌, ◌*◌, ◌^◌, ◌<◌, ◌≤◌, Bool, true, false, cond, List, [], ◌∷◌, ◌++◌, length, get_or, zero, suc, refl, sym, ap, ◌∙◌, subst, arith, append_assoc, append-nil, length-append, inl, inr}
 use Rattle.std.proofs.lemmas.List.Elements.{All-nil, All-append}
-use Rattle.std.specs.Prelude.{Option, Some, None}
+use Rattle.std.specs.Prelude.{Option, Some, None, Result, Err}
 use Rattle.std.specs.List.{slice_split, onto_first}
 use Rattle.std.specs.Io.KnownBytes.{Appends, Consumes}
-use Rattle.std.proofs.KnownBytes.{Appends-trans, Consumes-trans, Consumes-nil, Appends-nil}
+use Rattle.std.proofs.KnownBytes.{Appends-trans, Consumes-trans}
 use Rattle.mj_model.specs.Bytes.{is_line_feed}
 use Rattle.mj_model.specs.Lines.{without_last_empty}
 use Rattle.mj_model.specs.Output.{Output, BadLine, text_lines}
@@ -51,26 +51,25 @@ whole_on bytes piece pending e = whole_lines-append bytes piece ∙ ap (λ o. wh
 
 -- ---- lines that print, and more behind them
 
-module _ (Judges : List ℕ → Option LineFault → Type 0) (Prints : List ℕ → List ℕ → Type 0) where
-  pub output-append : (n : ℕ) (xs ys : List (List ℕ)) (a b : List ℕ) (bad : Option (BadLine LineFault)) → AllPrint Judges Prints n xs a
-      → Output Judges Prints (n + length xs) ys b bad → Output Judges Prints n (xs ++ ys) (a ++ b) bad
+module _ (Tells : List ℕ → Result (List ℕ) LineFault → Type 0) where
+  pub output-append : (n : ℕ) (xs ys : List (List ℕ)) (a b : List ℕ) (bad : Option (BadLine LineFault)) → AllPrint Tells n xs a
+      → Output Tells (n + length xs) ys b bad → Output Tells n (xs ++ ys) (a ++ b) bad
   output-append n [] ys a b bad h out =
-      subst (λ z. Output Judges Prints n ys (z ++ b) bad) (sym h.0) (subst (λ m. Output Judges Prints m ys b bad) {x = n + 0} {y = n} (omega arith) out)
+      subst (λ z. Output Tells n ys (z ++ b) bad) (sym h.0) (subst (λ m. Output Tells m ys b bad) {x = n + 0} {y = n} (omega arith) out)
   output-append n (x ∷ xs) ys a b bad (inl h) out = absurd (let e = h.3 in cc)
   output-append n (x ∷ xs) ys a b bad (inr h) out =
       inr (
         h.0,
-        h.1,
-        h.2 ++ b,
-        h.3,
-        output-append (n + 1) xs ys h.2 b bad h.4 (subst (λ m. Output Judges Prints m ys b bad) {x = n + length (x ∷ xs)} {y = n + 1 + length xs} (omega arith) out),
-        ap (λ (t : List ℕ). t ++ b) h.5 ∙ append_assoc h.1 h.2 b,
+        h.1 ++ b,
+        h.2,
+        output-append (n + 1) xs ys h.1 b bad h.3 (subst (λ m. Output Tells m ys b bad) {x = n + length (x ∷ xs)} {y = n + 1 + length xs} (omega arith) out),
+        ap (λ (t : List ℕ). t ++ b) h.4 ∙ append_assoc h.0 h.1 b,
       )
 
-  pub bad_behind : (n : ℕ) (done more : List (List ℕ)) (text bad : List ℕ) (fault : LineFault) (line : ℕ) → AllPrint Judges Prints n done text
-      → Judges bad (Some fault) → line ≡ n + length done → Output Judges Prints n (done ++ bad ∷ more) text (Some (record { number = line; fault = fault }))
+  pub bad_behind : (n : ℕ) (done more : List (List ℕ)) (text bad : List ℕ) (fault : LineFault) (line : ℕ) → AllPrint Tells n done text
+      → Tells bad (Err fault) → line ≡ n + length done → Output Tells n (done ++ bad ∷ more) text (Some (record { number = line; fault = fault }))
   bad_behind n done more text bad fault line h judged e =
-      subst (λ t. Output Judges Prints n (done ++ bad ∷ more) t (Some (record { number = line; fault = fault }))) (append-nil text)
+      subst (λ t. Output Tells n (done ++ bad ∷ more) t (Some (record { number = line; fault = fault }))) (append-nil text)
       (output-append n done (bad ∷ more) text [] (Some (record { number = line; fault = fault })) h
       (inl (fault, judged, refl, ap (λ m. Some (record { number = m; fault = fault })) e)))
 
@@ -81,7 +80,7 @@ module _ (Judges : List ℕ → Option LineFault → Type 0) (Prints : List ℕ 
     pub written : List ℕ
     pub read : Consumes left0 left1 bytes
     pub wrote : Appends held0 held1 written
-    pub print : AllPrint Judges Prints 1 (whole_lines bytes) written
+    pub print : AllPrint Tells 1 (whole_lines bytes) written
     pub open_is : pending ≡ open_line bytes
     pub counted : lines ≡ length (whole_lines bytes)
     pub sent_is : sent ≡ length written
@@ -93,35 +92,16 @@ module _ (Judges : List ℕ → Option LineFault → Type 0) (Prints : List ℕ 
     pub read_failures : now.read_failures ≡ before.read_failures
     pub write_failures : now.write_failures ≡ before.write_failures
 
-  pub running_start : (R W : Option (List ℕ)) (told : Told) (out : List ℕ) → out ≡ [] → Running R R W W told told 0 [] out 0 0
-  running_start R W told out e = record {
-    bytes = [];
-    written = [];
-    read = Consumes-nil R;
-    wrote = Appends-nil W;
-    print = (refl, refl);
-    open_is = refl;
-    counted = refl;
-    sent_is = refl;
-    nothing_waits = e;
-    few_lines = omega arith;
-    few_bytes = omega arith;
-    reads = omega arith;
-    ends = refl;
-    read_failures = refl;
-    write_failures = refl;
-  }
-
   -- what printed so far, and then the lines of one more piece
-  pub print_on : (bytes pending written text : List ℕ) (lines : ℕ) → AllPrint Judges Prints 1 (whole_lines bytes) written → pending ≡ open_line bytes → lines ≡ length (whole_lines bytes)
-      → (ws : List (List ℕ)) (bad : Option (BadLine LineFault)) → Output Judges Prints (lines + 1) ws text bad → Output Judges Prints 1 (whole_lines bytes ++ ws) (written ++ text) bad
+  pub print_on : (bytes pending written text : List ℕ) (lines : ℕ) → AllPrint Tells 1 (whole_lines bytes) written → pending ≡ open_line bytes → lines ≡ length (whole_lines bytes)
+      → (ws : List (List ℕ)) (bad : Option (BadLine LineFault)) → Output Tells (lines + 1) ws text bad → Output Tells 1 (whole_lines bytes ++ ws) (written ++ text) bad
   print_on bytes pending written text lines h open_is counted ws bad out =
-      output-append 1 (whole_lines bytes) ws written text bad h (subst (λ m. Output Judges Prints m ws text bad) {x = lines + 1} {y = 1 + length (whole_lines bytes)} (omega (arith, counted)) out)
+      output-append 1 (whole_lines bytes) ws written text bad h (subst (λ m. Output Tells m ws text bad) {x = lines + 1} {y = 1 + length (whole_lines bytes)} (omega (arith, counted)) out)
 
   pub running_more : (left0 left1 left2 held0 held1 held2 : Option (List ℕ)) (before now after : Told) (turn : ℕ) (pending out piece : List ℕ) (lines sent : ℕ) (pending_after out_after : List ℕ) (lines_after sent_after f0 f1 : ℕ)
       → Running left0 left1 held0 held1 before now turn pending out lines sent
       → Consumes left1 left2 piece → length piece ≤ 2 ^ 16
-      → Stepped Judges Prints lines (whole_lines (pending ++ piece)) lines_after (record { held_before = held1; held_after = held2; failures_before = now.write_failures; failures_after = after.write_failures }) sent sent_after
+      → Stepped Tells lines (whole_lines (pending ++ piece)) lines_after (record { held_before = held1; held_after = held2; failures_before = now.write_failures; failures_after = after.write_failures }) sent sent_after
       → pending_after ≡ open_line (pending ++ piece) → out_after ≡ [] → lines_after ≤ lines + length piece → sent_after ≤ sent + 2 ^ 64
       → after.reads ≡ now.reads + 1 → after.ends ≡ now.ends → after.read_failures ≡ now.read_failures
       → Running left0 left2 held0 held2 before after (turn + 1) pending_after out_after lines_after sent_after
@@ -134,7 +114,7 @@ module _ (Judges : List ℕ → Option LineFault → Type 0) (Prints : List ℕ 
         written = r.written ++ s.text;
         read = Consumes-trans left0 left1 left2 r.bytes piece r.read took;
         wrote = Appends-trans held0 held1 held2 r.written s.text r.wrote s.wrote;
-        print = subst (λ ws. AllPrint Judges Prints 1 ws (r.written ++ s.text)) (sym whole)
+        print = subst (λ ws. AllPrint Tells 1 ws (r.written ++ s.text)) (sym whole)
             (print_on r.bytes pending r.written s.text lines r.print r.open_is r.counted (whole_lines (pending ++ piece)) None s.print);
         open_is = open_is ∙ ap (λ o. open_line (o ++ piece)) r.open_is ∙ sym (open_line-append r.bytes piece);
         counted = omega (arith, s.counted, r.counted, wc);

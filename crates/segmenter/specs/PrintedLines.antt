@@ -1,5 +1,5 @@
--- Which lines of a text are bad, and what a good one prints over dictionaries.
-use Rattle.std.specs.Prelude.{ℕ, ◌<◌, ◌≤◌, List, length, IsUtf8, Option, Some, None}
+-- What a line of a text prints over dictionaries, or what is wrong with it.
+use Rattle.std.specs.Prelude.{ℕ, ◌<◌, ◌≤◌, List, length, IsUtf8, Result, Ok, Err}
 use Rattle.mj_model.specs.declared.limits.TheConstants.{SENTENCE_MAX}
 use Rattle.mj_model.specs.declared.word.Word.{Word}
 use Rattle.paths.specs.BestOver.{IsBestOver}
@@ -10,11 +10,15 @@ use Rattle.segmenter.specs.declared.line_fault.LineFault.{LineFault}
 use Rattle.segmenter.specs.declared.line_fault.LineFault.TheVariants.{TooLong, NotUtf8}
 
 -- a line is good where it is short enough, and text
-abbrev pub Judges : List ℕ → Option LineFault → Type 0
-Judges line None = (length line ≤ SENTENCE_MAX) × IsUtf8 line
-Judges line (Some TooLong) = SENTENCE_MAX < length line
-Judges line (Some NotUtf8) = (length line ≤ SENTENCE_MAX) × (IsUtf8 line → ⊥)
+abbrev pub IsGood : List ℕ → Type 0
+IsGood line = (length line ≤ SENTENCE_MAX) × IsUtf8 line
 
--- a good line prints the text of its best path in a format
+-- the text of a line's best path in a format
 abbrev pub Prints : Overlay → Format → List ℕ → List ℕ → Type 0
 Prints o f line text = (path : List Word) × IsBestOver o line path × ShowsPath o f line path text
+
+-- a good line prints the text of its best path in a format, and a bad one has a fault
+abbrev pub Tells : Overlay → Format → List ℕ → Result (List ℕ) LineFault → Type 0
+Tells o f line (Ok text) = IsGood line × Prints o f line text
+Tells o f line (Err TooLong) = SENTENCE_MAX < length line
+Tells o f line (Err NotUtf8) = (length line ≤ SENTENCE_MAX) × (IsUtf8 line → ⊥)

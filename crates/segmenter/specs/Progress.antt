@@ -1,5 +1,5 @@
 -- How far the work on a text has come.
-use Rattle.std.specs.Prelude.{◌≡◌, ℕ, ◌+◌, ◌<◌, ◌≤◌, List, ◌∷◌, ◌++◌, length, All, false, Option, Some, None, ◌⊎◌}
+use Rattle.std.specs.Prelude.{◌≡◌, ℕ, ◌+◌, ◌<◌, ◌≤◌, List, ◌∷◌, ◌++◌, length, All, false, None, Result, Ok, Err, ◌⊎◌}
 use Rattle.mj_model.specs.declared.limits.TheConstants.{SENTENCE_MAX}
 use Rattle.mj_model.specs.Bytes.{is_line_feed}
 use Rattle.mj_model.specs.Output.{Output}
@@ -10,40 +10,44 @@ use Rattle.segmenter.specs.declared.line_fault.LineError.{LineError}
 use Rattle.segmenter.specs.declared.line_fault.LineError.TheVariants.{Bad, Memory}
 
 -- lines from a number on print as a text, none of them bad
-abbrev pub AllPrint : (List ℕ → Option LineFault → Type 0) → (List ℕ → List ℕ → Type 0) → ℕ → List (List ℕ) → List ℕ → Type 0
-AllPrint Judges Prints number lines text = Output Judges Prints number lines text None
+abbrev pub AllPrint : (List ℕ → Result (List ℕ) LineFault → Type 0) → ℕ → List (List ℕ) → List ℕ → Type 0
+AllPrint Tells number lines text = Output Tells number lines text None
+
+-- a line is good, and `out` grew by what it prints
+abbrev pub IsPrinted : (List ℕ → Result (List ℕ) LineFault → Type 0) → List ℕ → List ℕ → List ℕ → Type 0
+IsPrinted Tells line out_before out_after = (text : List ℕ) × Tells line (Ok text) × (out_after ≡ out_before ++ text)
 
 -- no byte is an LF
 abbrev pub HasNoFeed : List ℕ → Type 0
 HasNoFeed bytes = All (λ c. is_line_feed c ≡ false) bytes
 
 -- after `before` printed lines these lines printed too, and `out` grew by what they print
-pub record Worked (Judges : List ℕ → Option LineFault → Type 0) (Prints : List ℕ → List ℕ → Type 0)
+pub record Worked (Tells : List ℕ → Result (List ℕ) LineFault → Type 0)
     (before : ℕ) (out_before : List ℕ) (lines : List (List ℕ)) (after : ℕ) (out_after : List ℕ) : Type 0 where
   pub text : List ℕ
-  pub print : AllPrint Judges Prints (before + 1) lines text
+  pub print : AllPrint Tells (before + 1) lines text
   pub counted : after ≡ before + length lines
   pub appended : out_after ≡ out_before ++ text
 
 -- why the work stopped behind the printed lines: memory was refused, the next line is bad, or the open line is too long already
-abbrev pub IsCause : (List ℕ → Option LineFault → Type 0) → List ℕ → List (List ℕ) → LineError → Type 0
-IsCause Judges bytes done Memory = (more : List (List ℕ)) × (whole_lines bytes ≡ done ++ more)
-IsCause Judges bytes done (Bad fault) =
-    ((bad : List ℕ) × (more : List (List ℕ)) × (whole_lines bytes ≡ done ++ bad ∷ more) × Judges bad (Some fault))
-    ⊎ ((whole_lines bytes ≡ done) × (fault ≡ TooLong) × Judges (open_line bytes) (Some TooLong) × (SENTENCE_MAX < length (open_line bytes)))
+abbrev pub IsCause : (List ℕ → Result (List ℕ) LineFault → Type 0) → List ℕ → List (List ℕ) → LineError → Type 0
+IsCause Tells bytes done Memory = (more : List (List ℕ)) × (whole_lines bytes ≡ done ++ more)
+IsCause Tells bytes done (Bad fault) =
+    ((bad : List ℕ) × (more : List (List ℕ)) × (whole_lines bytes ≡ done ++ bad ∷ more) × Tells bad (Err fault))
+    ⊎ ((whole_lines bytes ≡ done) × (fault ≡ TooLong) × Tells (open_line bytes) (Err TooLong) × (SENTENCE_MAX < length (open_line bytes)))
 
 -- the work on bytes stopped for an error, behind some lines that printed
-pub record Stopped (Judges : List ℕ → Option LineFault → Type 0) (Prints : List ℕ → List ℕ → Type 0)
+pub record Stopped (Tells : List ℕ → Result (List ℕ) LineFault → Type 0)
     (before : ℕ) (out_before bytes : List ℕ) (error : LineError) (after : ℕ) (out_after : List ℕ) : Type 0 where
   pub done : List (List ℕ)
-  pub worked : Worked Judges Prints before out_before done after out_after
-  pub cause : IsCause Judges bytes done error
+  pub worked : Worked Tells before out_before done after out_after
+  pub cause : IsCause Tells bytes done error
 
 -- the lines so far printed, all bytes are cut as what is held of the open line and the rest will be, and of the bytes that came no more than `size` lines can end
-pub record Working (Judges : List ℕ → Option LineFault → Type 0) (Prints : List ℕ → List ℕ → Type 0)
+pub record Working (Tells : List ℕ → Result (List ℕ) LineFault → Type 0)
     (before size : ℕ) (out_before bytes held rest : List ℕ) (after : ℕ) (out_after : List ℕ) : Type 0 where
   pub done : List (List ℕ)
-  pub worked : Worked Judges Prints before out_before done after out_after
+  pub worked : Worked Tells before out_before done after out_after
   pub whole : whole_lines bytes ≡ done ++ whole_lines (held ++ rest)
   pub open_is : open_line bytes ≡ open_line (held ++ rest)
   pub no_feed : HasNoFeed held

@@ -1,19 +1,27 @@
 -- How a run over a text ends: what it read, what it wrote, and why it stopped.
-use Rattle.std.specs.Prelude.{◌≡◌, ℕ, ◌+◌, Bool, false, nat_lt, if◌then◌else◌, List, ◌++◌, length, Option, Some, Result, Ok, Err, OnOk}
+use Rattle.std.specs.Prelude.{◌≡◌, ℕ, ◌+◌, Bool, false, nat_lt, if◌then◌else◌, List, ◌++◌, length, Some, Result, Ok, Err, OnOk}
 use Rattle.std.specs.Io.KnownBytes.{Consumes, Appends, IsAtEnd}
+use Rattle.mj_model.specs.Counts.{ReaderTold, WriterTold}
+use Rattle.mj_model.specs.declared.limits.TheConstants.{READS_MAX}
 use Rattle.mj_model.specs.declared.run_fault.RunFault.{RunFault}
 use Rattle.mj_model.specs.declared.run_fault.RunFault.TheVariants as run
+use Rattle.mj_model.specs.declared.sources.Sources.{Sources}
 use Rattle.mj_model.specs.Output.{Output, text_lines}
+use Rattle.dict_compile.specs.SourceOverlays.{HaveOverlay}
+use Rattle.mj_model.specs.Tables.{Overlay}
 use Rattle.mj_model.specs.TextLines.{whole_lines}
+use Rattle.paths.specs.PathLaws.{CoversTexts}
+use Rattle.out_format.specs.Formats.{Format}
 use Rattle.segmenter.specs.declared.line_fault.LineFault.{LineFault}
 use Rattle.segmenter.specs.declared.line_fault.LineFault.TheVariants.{TooLong, NotUtf8}
+use Rattle.segmenter.specs.PrintedLines.{Tells}
 use Rattle.segmenter.specs.Progress.{AllPrint}
 
 -- the lines that were read whole: those up to the last LF, at the end of the input also the one behind it
 abbrev pub lines_read : Bool → List ℕ → List (List ℕ)
 lines_read ended bytes = if ended then text_lines bytes else whole_lines bytes
 
--- what a reader and a writer told before or after a run
+-- the counts of a reader and a writer before or after a run
 pub record Told : Type 0 where
   pub reads : ℕ
   pub ends : ℕ
@@ -21,70 +29,94 @@ pub record Told : Type 0 where
   pub write_failures : ℕ
   pub unflushed : Bool
 
+-- by what they told
+abbrev pub both_told : ReaderTold → WriterTold → Told
+both_told reader writer = record {
+  reads = reader.reads;
+  ends = reader.ends;
+  read_failures = reader.failures;
+  write_failures = writer.failures;
+  unflushed = writer.unflushed;
+}
+
 -- all lines printed, and what they print is written and flushed
-pub record IsDone (Judges : List ℕ → Option LineFault → Type 0) (Prints : List ℕ → List ℕ → Type 0)
+pub record IsDone (Tells : List ℕ → Result (List ℕ) LineFault → Type 0)
     (bytes written : List ℕ) (before after : Told) (lines : ℕ) : Type 0 where
-  pub printed : AllPrint Judges Prints 1 (text_lines bytes) written
+  pub printed : AllPrint Tells 1 (text_lines bytes) written
   pub counted : lines ≡ length (text_lines bytes)
   pub ended : after.ends ≡ before.ends + 1
   pub flushed : after.unflushed ≡ false
 
 -- the lines that were read whole printed; the next one has this number
-pub record StoppedBehind (Judges : List ℕ → Option LineFault → Type 0) (Prints : List ℕ → List ℕ → Type 0)
+pub record StoppedBehind (Tells : List ℕ → Result (List ℕ) LineFault → Type 0)
     (bytes written : List ℕ) (line : ℕ) : Type 0 where
-  pub printed : AllPrint Judges Prints 1 (whole_lines bytes) written
+  pub printed : AllPrint Tells 1 (whole_lines bytes) written
   pub number : line ≡ length (whole_lines bytes) + 1
 
 -- what was written is a front of what the first lines print
-pub record IsCut (Judges : List ℕ → Option LineFault → Type 0) (Prints : List ℕ → List ℕ → Type 0)
+pub record IsCut (Tells : List ℕ → Result (List ℕ) LineFault → Type 0)
     (bytes written : List ℕ) (sent : ℕ) : Type 0 where
   pub lines : List (List ℕ)
   pub more : List (List ℕ)
   pub text : List ℕ
   pub left : List ℕ
   pub first : text_lines bytes ≡ lines ++ more
-  pub printed : AllPrint Judges Prints 1 lines text
+  pub printed : AllPrint Tells 1 lines text
   pub front : text ≡ written ++ left
   pub count : sent ≡ length written
 
 -- the first lines printed, and what they print is written; the next one has this number
-pub record IsStarved (Judges : List ℕ → Option LineFault → Type 0) (Prints : List ℕ → List ℕ → Type 0)
+pub record IsStarved (Tells : List ℕ → Result (List ℕ) LineFault → Type 0)
     (bytes written : List ℕ) (line : ℕ) : Type 0 where
   pub lines : List (List ℕ)
   pub more : List (List ℕ)
   pub first : text_lines bytes ≡ lines ++ more
-  pub printed : AllPrint Judges Prints 1 lines written
+  pub printed : AllPrint Tells 1 lines written
   pub number : line ≡ length lines + 1
 
 -- the lines before the first bad one printed, and what they print is written
-abbrev pub IsBad : (List ℕ → Option LineFault → Type 0) → (List ℕ → List ℕ → Type 0) → List (List ℕ) → List ℕ → ℕ → LineFault → Type 0
-IsBad Judges Prints lines written number fault = Output Judges Prints 1 lines written (Some (record { number = number; fault = fault }))
+abbrev pub IsBad : (List ℕ → Result (List ℕ) LineFault → Type 0) → List (List ℕ) → List ℕ → ℕ → LineFault → Type 0
+IsBad Tells lines written number fault = Output Tells 1 lines written (Some (record { number = number; fault = fault }))
 
 -- a run that read and wrote these bytes ends so
-abbrev pub EndsSo : (List ℕ → Option LineFault → Type 0) → (List ℕ → List ℕ → Type 0) → ℕ → List ℕ → List ℕ → Told → Told → Result ℕ RunFault → Type 0
-EndsSo Judges Prints bound bytes written before after (Ok lines) = IsDone Judges Prints bytes written before after lines
-EndsSo Judges Prints bound bytes written before after (Err (run.Source fault)) = ⊥
-EndsSo Judges Prints bound bytes written before after (Err (run.UserSource i fault)) = ⊥
-EndsSo Judges Prints bound bytes written before after (Err (run.Read line)) =
-    StoppedBehind Judges Prints bytes written line × (after.read_failures ≡ before.read_failures + 1)
-EndsSo Judges Prints bound bytes written before after (Err (run.Write sent)) =
-    IsCut Judges Prints bytes written sent × (after.write_failures ≡ before.write_failures + 1)
-EndsSo Judges Prints bound bytes written before after (Err (run.NotUtf8 line)) =
-    IsBad Judges Prints (lines_read (nat_lt before.ends after.ends) bytes) written line NotUtf8
-EndsSo Judges Prints bound bytes written before after (Err (run.TooLong line)) = IsBad Judges Prints (text_lines bytes) written line TooLong
-EndsSo Judges Prints bound bytes written before after (Err (run.InputTooLong line)) =
-    StoppedBehind Judges Prints bytes written line × (after.reads ≡ before.reads + bound) × (after.ends ≡ before.ends)
-EndsSo Judges Prints bound bytes written before after (Err (run.Memory line)) = IsStarved Judges Prints bytes written line
+abbrev pub EndsSo : (List ℕ → Result (List ℕ) LineFault → Type 0) → ℕ → List ℕ → List ℕ → Told → Told → Result ℕ RunFault → Type 0
+EndsSo Tells bound bytes written before after (Ok lines) = IsDone Tells bytes written before after lines
+EndsSo Tells bound bytes written before after (Err (run.Source fault)) = ⊥
+EndsSo Tells bound bytes written before after (Err (run.UserSource i fault)) = ⊥
+EndsSo Tells bound bytes written before after (Err (run.Read line)) =
+    StoppedBehind Tells bytes written line × (after.read_failures ≡ before.read_failures + 1)
+EndsSo Tells bound bytes written before after (Err (run.Write sent)) =
+    IsCut Tells bytes written sent × (after.write_failures ≡ before.write_failures + 1)
+EndsSo Tells bound bytes written before after (Err (run.NotUtf8 line)) =
+    IsBad Tells (lines_read (nat_lt before.ends after.ends) bytes) written line NotUtf8
+EndsSo Tells bound bytes written before after (Err (run.TooLong line)) = IsBad Tells (text_lines bytes) written line TooLong
+EndsSo Tells bound bytes written before after (Err (run.InputTooLong line)) =
+    StoppedBehind Tells bytes written line × (after.reads ≡ before.reads + bound) × (after.ends ≡ before.ends)
+EndsSo Tells bound bytes written before after (Err (run.Memory line)) = IsStarved Tells bytes written line
 
--- a run read and wrote some bytes, and ended so behind them; where it succeeded the reader has none left
-pub record Ran (Judges : List ℕ → Option LineFault → Type 0) (Prints : List ℕ → List ℕ → Type 0) (bound : ℕ)
-    (left_before left_after held_before held_after : Option (List ℕ)) (before after : Told) (result : Result ℕ RunFault) : Type 0 where
+-- a run read and wrote some bytes, by what the reader and the writer tell, and ended so behind them
+abbrev pub ReadsAndWrites : (List ℕ → Result (List ℕ) LineFault → Type 0) → ℕ → ReaderTold → ReaderTold → WriterTold → WriterTold → Result ℕ RunFault → Type 0
+ReadsAndWrites Tells bound from to before after result =
+    (bytes : List ℕ) × (written : List ℕ) × Consumes from.left to.left bytes × Appends before.held after.held written
+    × EndsSo Tells bound bytes written (both_told from before) (both_told to after) result
+
+-- a run: what it read, what it wrote, how it ended behind them, and that where it succeeded the reader is at its end
+pub record Ran (Tells : List ℕ → Result (List ℕ) LineFault → Type 0) (bound : ℕ) (from to : ReaderTold) (before after : WriterTold)
+    (result : Result ℕ RunFault) : Type 0 where
   pub bytes : List ℕ
   pub written : List ℕ
-  pub read : Consumes left_before left_after bytes
-  pub wrote : Appends held_before held_after written
-  pub ends : EndsSo Judges Prints bound bytes written before after result
-  pub to_the_end : OnOk result (IsAtEnd left_after)
+  pub read : Consumes from.left to.left bytes
+  pub wrote : Appends before.held after.held written
+  pub ends : EndsSo Tells bound bytes written (both_told from before) (both_told to after) result
+  pub to_the_end : OnOk result (IsAtEnd to.left)
+
+-- a run over what sources and users' lexicons say, which covers every text
+pub record RanOver (s : Sources) (users : List (List (List ℕ))) (grouping : ℕ) (format : Format) (from to : ReaderTold) (before after : WriterTold)
+    (result : Result ℕ RunFault) : Type 0 where
+  pub overlay : Overlay
+  pub have : HaveOverlay s users grouping overlay
+  pub covered : CoversTexts overlay
+  pub ran : Ran (Tells overlay format) READS_MAX from to before after result
 
 -- a run ended before its first read: the sources or a user's lexicons are at fault, or memory was refused
 abbrev pub IsEarly : Result ℕ RunFault → Type 0

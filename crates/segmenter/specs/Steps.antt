@@ -1,6 +1,7 @@
 -- One step of a run: the work on the bytes of one read, or on the end of the input, with what it prints written.
-use Rattle.std.specs.Prelude.{◌≡◌, ℕ, ◌+◌, List, [], ◌∷◌, ◌++◌, length, Option, Some, ◌⊎◌}
+use Rattle.std.specs.Prelude.{◌≡◌, ℕ, ◌+◌, List, [], ◌∷◌, ◌++◌, length, Option, Result, Err, ◌⊎◌}
 use Rattle.std.specs.Io.KnownBytes.{Appends}
+use Rattle.mj_model.specs.Counts.{WriterTold}
 use Rattle.mj_model.specs.declared.run_fault.RunFault.{RunFault}
 use Rattle.mj_model.specs.declared.run_fault.RunFault.TheVariants as run
 use Rattle.segmenter.specs.declared.line_fault.LineFault.{LineFault}
@@ -15,51 +16,55 @@ pub record Step : Type 0 where
   pub failures_before : ℕ
   pub failures_after : ℕ
 
+-- by what the writer told before and after
+abbrev pub step_of : WriterTold → WriterTold → Step
+step_of from to = record { held_before = from.held; held_after = to.held; failures_before = from.failures; failures_after = to.failures }
+
 -- the lines behind the first `before` ones printed, and what they print is written
-pub record Stepped (Judges : List ℕ → Option LineFault → Type 0) (Prints : List ℕ → List ℕ → Type 0)
+pub record Stepped (Tells : List ℕ → Result (List ℕ) LineFault → Type 0)
     (before : ℕ) (lines : List (List ℕ)) (after : ℕ) (step : Step) (sent_before sent_after : ℕ) : Type 0 where
   pub text : List ℕ
-  pub print : AllPrint Judges Prints (before + 1) lines text
+  pub print : AllPrint Tells (before + 1) lines text
   pub counted : after ≡ before + length lines
   pub wrote : Appends step.held_before step.held_after text
   pub sent : sent_after ≡ sent_before + length text
   pub no_failure : step.failures_after ≡ step.failures_before
 
 -- the first of some lines printed, and what was written is a front of that
-pub record IsCutAt (Judges : List ℕ → Option LineFault → Type 0) (Prints : List ℕ → List ℕ → Type 0)
+pub record IsCutAt (Tells : List ℕ → Result (List ℕ) LineFault → Type 0)
     (before : ℕ) (lines : List (List ℕ)) (written : List ℕ) : Type 0 where
   pub done : List (List ℕ)
   pub more : List (List ℕ)
   pub text : List ℕ
   pub left : List ℕ
   pub first : lines ≡ done ++ more
-  pub print : AllPrint Judges Prints (before + 1) done text
+  pub print : AllPrint Tells (before + 1) done text
   pub front : text ≡ written ++ left
 
 -- a write failed
-pub record WriteStopped (Judges : List ℕ → Option LineFault → Type 0) (Prints : List ℕ → List ℕ → Type 0)
+pub record WriteStopped (Tells : List ℕ → Result (List ℕ) LineFault → Type 0)
     (before : ℕ) (lines : List (List ℕ)) (step : Step) (sent_before : ℕ) (fault : RunFault) : Type 0 where
   pub written : List ℕ
   pub wrote : Appends step.held_before step.held_after written
-  pub cut : IsCutAt Judges Prints before lines written
+  pub cut : IsCutAt Tells before lines written
   pub fault_is : fault ≡ run.Write (sent_before + length written)
   pub failure : step.failures_after ≡ step.failures_before + 1
 
 -- a line stopped the work, and what the lines before it print is written
-pub record LineStopped (Judges : List ℕ → Option LineFault → Type 0) (Prints : List ℕ → List ℕ → Type 0)
+pub record LineStopped (Tells : List ℕ → Result (List ℕ) LineFault → Type 0)
     (Cause : List (List ℕ) → LineError → Type 0) (before : ℕ) (step : Step) (fault : RunFault) : Type 0 where
   pub written : List ℕ
   pub wrote : Appends step.held_before step.held_after written
   pub done : List (List ℕ)
-  pub print : AllPrint Judges Prints (before + 1) done written
+  pub print : AllPrint Tells (before + 1) done written
   pub error : LineError
   pub fault_is : fault ≡ run_fault error (before + length done + 1)
   pub cause : Cause done error
 
-abbrev pub StepStopped : (List ℕ → Option LineFault → Type 0) → (List ℕ → List ℕ → Type 0)
+abbrev pub StepStopped : (List ℕ → Result (List ℕ) LineFault → Type 0)
     → (List (List ℕ) → LineError → Type 0) → ℕ → List (List ℕ) → Step → ℕ → RunFault → Type 0
-StepStopped Judges Prints Cause before lines step sent_before fault =
-    WriteStopped Judges Prints before lines step sent_before fault ⊎ LineStopped Judges Prints Cause before step fault
+StepStopped Tells Cause before lines step sent_before fault =
+    WriteStopped Tells before lines step sent_before fault ⊎ LineStopped Tells Cause before step fault
 
 -- the last line of a text, where it lacks its LF
 abbrev pub last_line : List ℕ → List (List ℕ)
@@ -67,7 +72,7 @@ last_line [] = []
 last_line (c ∷ cs) = (c ∷ cs) ∷ []
 
 -- the last line did not print
-pub record IsLastCause (Judges : List ℕ → Option LineFault → Type 0) (tail : List ℕ) (done : List (List ℕ)) (error : LineError) : Type 0 where
+pub record IsLastCause (Tells : List ℕ → Result (List ℕ) LineFault → Type 0) (tail : List ℕ) (done : List (List ℕ)) (error : LineError) : Type 0 where
   pub none_before : done ≡ []
   pub there : last_line tail ≡ tail ∷ []
-  pub tells : TellsFault (λ fault. Judges tail (Some fault)) error
+  pub tells : TellsFault (λ fault. Tells tail (Err fault)) error

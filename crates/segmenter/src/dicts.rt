@@ -18,32 +18,35 @@ ghost use Rattle.segmenter.specs.SourceDicts.{IsDictOf, IsUserDictOf, IsUsersRef
 use crate::early_fault::user_fault;
 use dict_compile::{CompileUserFault, compile, compile_user};
 use dict_image::{Dict, load};
-use mj_model::{ImageFault, RunFault, SourceFault, SourceKind, Sources};
+use mj_model::{ImageFault, RunFault, SourceFault, Sources};
 use std::alloc::{AllocError, Global};
 
 /// The dictionary of sources.
 pub(crate) fn system_dict(alloc: Global, sources: &Sources<'_>) -> Result<Dict, SourceFault>
     ensures dict { IfOk result (λ dict. IsDictOf sources.now dict) }
-    ensures refused { IfErr result (λ fault. IsRefusal fault (IsCompilationCause sources.now fault)) }
-    ensures first { (fault : FaultOf) → IsCompilationFault sources.now fault → IsCompileRefusedFor fault result }
+    ensures refused { IfErr result (λ fault.
+        IsRefusal fault (IsCompilationCause sources.now fault)) }
+    ensures first { (fault : FaultOf) → IsCompilationFault sources.now fault
+        → IsCompileRefusedFor fault result }
 {
-    match compile(alloc, sources) {
-        Ok(compiled) => loaded(alloc, compiled.image),
-        Err(fault) => Err(fault),
-    }
+    let compiled = compile(alloc, sources)?;
+    Ok(loaded(alloc, compiled.image)?)
 }
 
 /// The user dictionary of lexicons.
 fn user_dict(alloc: Global, system: &Dict, lexicons: &[&[u8]]) -> Result<Dict, SourceFault>
     requires { (image_tables system.now).kind ≡ System }
-    ensures dict { IfOk result (λ dict. IsUserDictOf (image_tables system.now) (lexicons_of lexicons.now) dict) }
-    ensures refused { IfErr result (λ fault. IsRefusal fault (IsUserCause (image_tables system.now) (lexicons_of lexicons.now) fault)) }
+    ensures dict { IfOk result (λ dict.
+        IsUserDictOf (image_tables system.now) (lexicons_of lexicons.now) dict) }
+    ensures refused { IfErr result (λ fault.
+        IsRefusal fault (IsUserCause (image_tables system.now) (lexicons_of lexicons.now) fault)) }
 {
-    match compile_user(alloc, system, lexicons) {
-        Ok(compiled) => loaded(alloc, compiled.image),
-        Err(CompileUserFault::Source(fault)) => Err(fault),
+    let compiled = match compile_user(alloc, system, lexicons) {
+        Ok(compiled) => compiled,
+        Err(CompileUserFault::Source(fault)) => return Err(fault),
         Err(CompileUserFault::NotSystem) => unreachable!(),
-    }
+    };
+    Ok(loaded(alloc, compiled.image)?)
 }
 
 /// The user dictionaries of each user's lexicons, up to the first fault.
@@ -53,9 +56,12 @@ pub(crate) fn user_dicts(
     users: &[&[&[u8]]],
 ) -> Result<Vec<Dict>, RunFault>
     requires { (image_tables system.now).kind ≡ System }
-    ensures dicts { IfOk result (λ dicts. AllZip (IsUserDictOf (image_tables system.now)) (users_of users.now) dicts.items) }
+    ensures dicts { IfOk result (λ dicts.
+        AllZip (IsUserDictOf (image_tables system.now)) (users_of users.now) dicts.items) }
     ensures refused { IfErr result (IsUsersRefusal (image_tables system.now) (users_of users.now)) }
-    ensures first { (i : ℕ) (fault : FaultOf) → IsOfUser (IsUserFault (image_tables system.now)) (image_tables system.now) (users_of users.now) i fault → IsRefusedFor (UserSource i fault) result }
+    ensures first { (i : ℕ) (fault : FaultOf)
+        → IsOfUser (IsUserFault (image_tables system.now)) (image_tables system.now) (users_of users.now) i fault
+        → IsRefusedFor (UserSource i fault) result }
 {
     let mut dicts = Vec::new(alloc);
     for (i, lexicons) in users.iter().enumerate() {
@@ -78,26 +84,21 @@ fn add(dicts: &mut Vec<Dict>, dict: Dict) -> Result<(), AllocError>
     Ok(())
 }
 
-/// The dictionary of a well-formed image.
-fn loaded(alloc: Global, image: Vec<u8>) -> Result<Dict, SourceFault>
+/// The dictionary of a well-formed image, which is refused for want of memory alone.
+fn loaded(alloc: Global, image: Vec<u8>) -> Result<Dict, AllocError>
     requires { IsWellFormed image.items }
-    ensures dict { IfOk result (λ dict. dict ≡ image.items) }
-    ensures refused { IfErr result (λ fault. fault.kind ≡ Memory) }
+    ensures { IfOk result (λ dict. dict ≡ image.items) }
 {
-    match load(alloc, image) {
-        Ok(dict) => Ok(dict),
-        Err(fault) => Err(refusal(fault)),
-    }
+    let dict = match load(alloc, image) {
+        Ok(dict) => dict,
+        Err(fault) => return Err(want_of_memory(fault)),
+    };
+    Ok(dict)
 }
 
-/// Want of memory, as a source's fault.
-fn refusal(_memory: ImageFault) -> SourceFault
-    requires { _memory ≡ MemoryOfImage }
-    ensures { result.kind ≡ Memory }
+/// What a load that was refused memory is refused for.
+fn want_of_memory(_fault: ImageFault) -> AllocError
+    requires { _fault ≡ MemoryOfImage }
 {
-    SourceFault {
-        file: 0,
-        line: 0,
-        kind: SourceKind::Memory,
-    }
+    AllocError
 }

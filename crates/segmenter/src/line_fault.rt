@@ -3,6 +3,7 @@
 ghost use Rattle.std.specs.Prelude.{◌≡◌};
 
 use mj_model::RunFault;
+use std::alloc::AllocError;
 
 /// What is wrong with a line of text.
 #[derive(Clone, Copy, Debug, PartialEq, Eq, Drop)]
@@ -30,5 +31,15 @@ impl LineError {
             LineError::Bad(LineFault::NotUtf8) => RunFault::NotUtf8(line),
             LineError::Memory => RunFault::Memory(line),
         }
+    }
+}
+
+impl From<AllocError> for LineError {
+    ghost use Rattle.segmenter.specs.declared.line_fault.LineError.TheVariants.{Memory};
+
+    ghost from_gives = { λ _ error. error ≡ Memory };
+
+    fn from(_refused: AllocError) -> LineError {
+        LineError::Memory
     }
 }

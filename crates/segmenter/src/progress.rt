@@ -1,11 +1,11 @@
 //! The work on a text between two reads.
 
-ghost use Rattle.std.specs.Prelude.{◌≡◌, ◌+◌, ◌<◌, ◌≤◌, ◌^◌, ◌++◌, length, Some, OnOk, IfOk, IfErr, OnErr, vec_len, List, ℕ, None, [], take, drop};
+ghost use Rattle.std.specs.Prelude.{◌≡◌, ◌+◌, ◌<◌, ◌≤◌, ◌^◌, ◌++◌, length, Ok, Err, OnOk, IfErr, OnErr, [], take, drop};
 ghost use Rattle.mj_model.specs.declared.limits.TheConstants.{SENTENCE_MAX};
 ghost use Rattle.mj_model.specs.TextLines.{whole_lines, open_line};
 ghost use Rattle.segmenter.specs.LineErrors.{TellsFault};
 ghost use Rattle.segmenter.specs.declared.line_fault.LineFault.TheVariants.{TooLong};
-ghost use Rattle.segmenter.specs.Progress.{HasNoFeed, Worked, Stopped};
+ghost use Rattle.segmenter.specs.Progress.{HasNoFeed, IsPrinted, Worked, Stopped};
 ghost use Rattle.segmenter.specs.Steps.{last_line, IsLastCause};
 
 use crate::line_fault::{LineError, LineFault};
@@ -31,9 +31,8 @@ fn print_any<P: LinePrinter>(
     line: &[u8],
     out: &mut Vec<u8>,
 ) -> Result<(), LineError>
-    ensures good { OnOk result (P.judges printer.now line.now None) }
-    ensures printed { OnOk result ((text : List ℕ) × P.prints printer.now line.now text × (out.new.items ≡ out.old.items ++ text)) }
-    ensures bad { IfErr result (TellsFault (λ fault. P.judges printer.now line.now (Some fault))) }
+    ensures printed { OnOk result (IsPrinted (P.tells printer.now) line.now out.old.items out.new.items) }
+    ensures bad { IfErr result (TellsFault (λ fault. P.tells printer.now line.now (Err fault))) }
     ensures kept { OnErr result (out.new.items ≡ out.old.items) }
 {
     if line.len() > SENTENCE_MAX {
@@ -46,15 +45,14 @@ fn print_any<P: LinePrinter>(
 fn hold(pending: &mut Vec<u8>, part: &[u8]) -> Result<(), LineError>
     ensures held { OnOk result (pending.new.items ≡ pending.old.items ++ part.now) }
     ensures short { OnOk result (length pending.new.items ≤ SENTENCE_MAX) }
-    ensures long { IfErr result (TellsFault (λ fault. (fault ≡ TooLong) × (SENTENCE_MAX < length (pending.old.items ++ part.now)))) }
+    ensures long { IfErr result (TellsFault (λ fault.
+        (fault ≡ TooLong) × (SENTENCE_MAX < length (pending.old.items ++ part.now)))) }
 {
     if part.len() > SENTENCE_MAX || pending.len() > SENTENCE_MAX - part.len() {
         return Err(LineError::Bad(LineFault::TooLong));
     }
-    match pending.extend_from_slice(part) {
-        Ok(()) => Ok(()),
-        Err(_) => Err(LineError::Memory),
-    }
+    pending.extend_from_slice(part)?;
+    Ok(())
 }
 
 /// The bytes before an LF, and those behind it.
@@ -75,12 +73,14 @@ impl Progress {
         part: &[u8],
     ) -> Result<(), LineError>
         requires count { self.old.lines + 1 < 2 ^ 64 }
-        ensures good { OnOk result (P.judges printer.now (self.old.pending.items ++ part.now) None) }
-        ensures printed { OnOk result ((text : List ℕ) × P.prints printer.now (self.old.pending.items ++ part.now) text × (self.new.out.items ≡ self.old.out.items ++ text)) }
+        ensures printed { OnOk result (IsPrinted (P.tells printer.now) (self.old.pending.items ++ part.now)
+            self.old.out.items self.new.out.items) }
         ensures counted { OnOk result (self.new.lines ≡ self.old.lines + 1) }
         ensures ended { OnOk result (self.new.pending.items ≡ []) }
-        ensures bad { IfErr result (TellsFault (λ fault. P.judges printer.now (self.old.pending.items ++ part.now) (Some fault))) }
-        ensures kept { OnErr result ((self.new.out.items ≡ self.old.out.items) × (self.new.lines ≡ self.old.lines)) }
+        ensures bad { IfErr result (TellsFault (λ fault.
+            P.tells printer.now (self.old.pending.items ++ part.now) (Err fault))) }
+        ensures kept { OnErr result
+            ((self.new.out.items ≡ self.old.out.items) × (self.new.lines ≡ self.old.lines)) }
     {
         if self.pending.is_empty() {
             print_any(printer, kept, part, &mut self.out)?;
@@ -102,11 +102,13 @@ impl Progress {
     ) -> Result<(), LineError>
         requires count { self.old.lines + length piece.now < 2 ^ 64 }
         requires open { HasNoFeed self.old.pending.items }
-        ensures worked { OnOk result (Worked (P.judges printer.now) (P.prints printer.now) self.old.lines self.old.out.items
+        ensures worked { OnOk result (Worked (P.tells printer.now) self.old.lines self.old.out.items
             (whole_lines (self.old.pending.items ++ piece.now)) self.new.lines self.new.out.items) }
         ensures counted { self.new.lines ≤ self.old.lines + length piece.now }
-        ensures open { OnOk result (self.new.pending.items ≡ open_line (self.old.pending.items ++ piece.now)) }
-        ensures stopped { IfErr result (λ error. Stopped (P.judges printer.now) (P.prints printer.now) self.old.lines self.old.out.items
+        ensures open { OnOk result
+            (self.new.pending.items ≡ open_line (self.old.pending.items ++ piece.now)) }
+        ensures stopped { IfErr result (λ error.
+            Stopped (P.tells printer.now) self.old.lines self.old.out.items
             (self.old.pending.items ++ piece.now) error self.new.lines self.new.out.items) }
     {
         let mut rest = piece;
@@ -125,10 +127,12 @@ impl Progress {
         kept: &mut P::Kept,
     ) -> Result<(), LineError>
         requires count { self.old.lines + 1 < 2 ^ 64 }
-        ensures worked { OnOk result (Worked (P.judges printer.now) (P.prints printer.now) self.old.lines self.old.out.items
+        ensures worked { OnOk result (Worked (P.tells printer.now) self.old.lines self.old.out.items
             (last_line self.old.pending.items) self.new.lines self.new.out.items) }
-        ensures stopped { IfErr result (IsLastCause (P.judges printer.now) self.old.pending.items []) }
-        ensures kept { OnErr result ((self.new.out.items ≡ self.old.out.items) × (self.new.lines ≡ self.old.lines)) }
+        ensures stopped { IfErr result
+            (IsLastCause (P.tells printer.now) self.old.pending.items []) }
+        ensures kept { OnErr result
+            ((self.new.out.items ≡ self.old.out.items) × (self.new.lines ≡ self.old.lines)) }
     {
         if self.pending.is_empty() {
             return Ok(());

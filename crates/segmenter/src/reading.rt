@@ -1,9 +1,9 @@
 //! The loop over a text: read, work, write.
 
-ghost use Rattle.std.specs.Prelude.{◌≡◌, ℕ, List, ◌+◌, ◌≤◌, ◌<◌, ◌^◌, ◌++◌, length, [], false, OnOk, OnErr, IfOk, IfErr, vec_len};
-ghost use Rattle.std.specs.Io.KnownBytes.{Appends, Consumes, IsAtEnd};
-ghost use Rattle.segmenter.specs.Progress.{HasNoFeed};
-ghost use Rattle.segmenter.specs.Runs.{EndsSo, Ran};
+ghost use Rattle.std.specs.Prelude.{◌+◌, ◌≤◌, ◌<◌, ◌^◌, length, OnOk, IfOk, vec_len};
+ghost use Rattle.std.specs.Io.KnownBytes.{IsAtEnd};
+ghost use Rattle.mj_model.specs.Counts.{MayBeRead, MayBeWritten};
+ghost use Rattle.segmenter.specs.Runs.{Ran, ReadsAndWrites};
 
 use crate::line_printer::LinePrinter;
 use crate::progress::Progress;
@@ -26,17 +26,11 @@ fn print_lines<P: LinePrinter, R: TextIn, W: TextOut>(
 ) -> Result<u64, RunFault>
     requires bound { bound ≤ 2 ^ 40 }
     requires buffer { (0 < length buffer.old) × (length buffer.old ≤ 2 ^ 16) }
-    requires reads { R.reads reader.old < 2 ^ 63 }
-    requires ends { R.ends reader.old < 2 ^ 63 }
-    requires read_failures { R.TextIn.failures reader.old < 2 ^ 63 }
-    requires write_failures { W.TextOut.failures writer.old < 2 ^ 63 }
-    ensures run { (bytes : List ℕ) × (written : List ℕ) × Consumes (R.remaining reader.old) (R.remaining reader.new) bytes
-        × Appends (W.contents writer.old) (W.contents writer.new) written
-        × EndsSo (P.judges printer.now) (P.prints printer.now) bound bytes written
-        (record { reads = R.reads reader.old; ends = R.ends reader.old; read_failures = R.TextIn.failures reader.old; write_failures = W.TextOut.failures writer.old; unflushed = W.unflushed writer.old })
-        (record { reads = R.reads reader.new; ends = R.ends reader.new; read_failures = R.TextIn.failures reader.new; write_failures = W.TextOut.failures writer.new; unflushed = W.unflushed writer.new })
-        result }
-    ensures to_the_end { OnOk result (IsAtEnd (R.remaining reader.new)) }
+    requires reader { MayBeRead (R.told reader.old) }
+    requires writer { MayBeWritten (W.told writer.old) }
+    ensures run { ReadsAndWrites (P.tells printer.now) bound (R.told reader.old) (R.told reader.new)
+        (W.told writer.old) (W.told writer.new) result }
+    ensures to_the_end { OnOk result (IsAtEnd (R.told reader.new).left) }
 {
     let mut progress = Progress {
         pending: Vec::new(alloc),
@@ -78,14 +72,10 @@ pub fn run_over<P: LinePrinter, R: TextIn, W: TextOut>(
     bound: u64,
 ) -> Result<u64, RunFault>
     requires bound { bound ≤ 2 ^ 40 }
-    requires reads { R.reads reader.old < 2 ^ 63 }
-    requires ends { R.ends reader.old < 2 ^ 63 }
-    requires read_failures { R.TextIn.failures reader.old < 2 ^ 63 }
-    requires write_failures { W.TextOut.failures writer.old < 2 ^ 63 }
-    ensures run { Ran (P.judges printer.now) (P.prints printer.now) bound (R.remaining reader.old) (R.remaining reader.new) (W.contents writer.old) (W.contents writer.new)
-        (record { reads = R.reads reader.old; ends = R.ends reader.old; read_failures = R.TextIn.failures reader.old; write_failures = W.TextOut.failures writer.old; unflushed = W.unflushed writer.old })
-        (record { reads = R.reads reader.new; ends = R.ends reader.new; read_failures = R.TextIn.failures reader.new; write_failures = W.TextOut.failures writer.new; unflushed = W.unflushed writer.new })
-        result }
+    requires reader { MayBeRead (R.told reader.old) }
+    requires writer { MayBeWritten (W.told writer.old) }
+    ensures run { Ran (P.tells printer.now) bound (R.told reader.old) (R.told reader.new)
+        (W.told writer.old) (W.told writer.new) result }
 {
     let Ok(mut buffer) = new_buffer(alloc) else {
         return Err(RunFault::Memory(1));

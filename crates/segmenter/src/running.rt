@@ -1,16 +1,13 @@
 //! From sources and text to words.
 
-ghost use Rattle.std.specs.Prelude.{◌≡◌, ℕ, ◌<◌, ◌≤◌, ◌^◌, ◌⊎◌, Err};
-ghost use Rattle.mj_model.specs.declared.limits.TheConstants.{GROUPING_MAX, READS_MAX as ReadsMax};
-ghost use Rattle.mj_model.specs.declared.run_fault.RunFault.TheVariants.{Source, UserSource, Memory as MemoryAt};
+ghost use Rattle.std.specs.Prelude.{◌≡◌, ℕ, ◌<◌, ◌≤◌, ◌⊎◌, Err};
+ghost use Rattle.mj_model.specs.Counts.{MayBeRead, MayBeWritten};
+ghost use Rattle.mj_model.specs.declared.limits.TheConstants.{GROUPING_MAX};
+ghost use Rattle.mj_model.specs.declared.run_fault.RunFault.TheVariants.{Source, UserSource};
 ghost use Rattle.mj_model.specs.declared.source_fault.SourceFault.{SourceFault as FaultOf};
-ghost use Rattle.mj_model.specs.declared.source_fault.SourceKind.TheVariants.{Memory};
 ghost use Rattle.dict_compile.specs.Compilation.{IsCompilationCause, IsCompilationFault};
-ghost use Rattle.paths.specs.PathLaws.{CoversTexts};
-ghost use Rattle.dict_compile.specs.SourceOverlays.{HaveOverlay, IsUsersCause, IsUsersFault};
-ghost use Rattle.mj_model.specs.Tables.{Overlay};
-ghost use Rattle.segmenter.specs.PrintedLines.{Judges, Prints};
-ghost use Rattle.segmenter.specs.Runs.{Ran, IsEarly};
+ghost use Rattle.dict_compile.specs.SourceOverlays.{IsUsersCause, IsUsersFault};
+ghost use Rattle.segmenter.specs.Runs.{IsEarly, RanOver};
 ghost use Rattle.segmenter.specs.SourceDicts.{IsRefusedFor, users_of};
 
 use crate::dicts::{system_dict, user_dicts};
@@ -35,33 +32,29 @@ pub fn run_sources<R: TextIn, W: TextOut>(
     writer: &mut W,
 ) -> Result<u64, RunFault>
     requires grouping { grouping ≤ GROUPING_MAX }
-    requires reads { R.reads reader.old < 2 ^ 63 }
-    requires ends { R.ends reader.old < 2 ^ 63 }
-    requires read_failures { R.TextIn.failures reader.old < 2 ^ 63 }
-    requires write_failures { W.TextOut.failures writer.old < 2 ^ 63 }
+    requires reader { MayBeRead (R.told reader.old) }
+    requires writer { MayBeWritten (W.told writer.old) }
     // The fault of the sources or of a user's lexicons has its cause.
-    ensures source { (fault : FaultOf) → result ≡ Err (Source fault) → IsCompilationCause sources.now fault }
-    ensures user_source { (i : ℕ) (fault : FaultOf) → result ≡ Err (UserSource i fault) → IsUsersCause sources.now (users_of users.now) i fault }
+    ensures source { (fault : FaultOf) → result ≡ Err (Source fault)
+        → IsCompilationCause sources.now fault }
+    ensures user_source { (i : ℕ) (fault : FaultOf) → result ≡ Err (UserSource i fault)
+        → IsUsersCause sources.now (users_of users.now) i fault }
     // Sources at fault, and then users' lexicons at fault, are refused with the first fault, want of memory and of cells aside.
-    ensures refused { (fault : FaultOf) → IsCompilationFault sources.now fault → IsRefusedFor (Source fault) result }
-    ensures user_refused { (i : ℕ) (fault : FaultOf) → IsUsersFault sources.now (users_of users.now) i fault → IsRefusedFor (UserSource i fault) result }
+    ensures refused { (fault : FaultOf) → IsCompilationFault sources.now fault
+        → IsRefusedFor (Source fault) result }
+    ensures user_refused { (i : ℕ) (fault : FaultOf) → IsUsersFault sources.now (users_of users.now) i fault
+        → IsRefusedFor (UserSource i fault) result }
     // Either it ended before its first read, with nothing read or written, or it ran over what the sources and the users' lexicons
-    // say, which covers every text.
+    // say, which covers every text: what was read, what was written, how the run ended, and where the reader is.
     ensures run { (IsEarly result × (reader.new ≡ reader.old) × (writer.new ≡ writer.old))
-        ⊎ ((o : Overlay) × HaveOverlay sources.now (users_of users.now) grouping o × CoversTexts o
-        × Ran Judges (Prints o format.now) ReadsMax (R.remaining reader.old) (R.remaining reader.new) (W.contents writer.old) (W.contents writer.new)
-        (record { reads = R.reads reader.old; ends = R.ends reader.old; read_failures = R.TextIn.failures reader.old; write_failures = W.TextOut.failures writer.old; unflushed = W.unflushed writer.old })
-        (record { reads = R.reads reader.new; ends = R.ends reader.new; read_failures = R.TextIn.failures reader.new; write_failures = W.TextOut.failures writer.new; unflushed = W.unflushed writer.new })
-        result) }
+        ⊎ RanOver sources.now (users_of users.now) grouping format.now
+        (R.told reader.old) (R.told reader.new) (W.told writer.old) (W.told writer.new) result }
 {
     let system = match system_dict(alloc, sources) {
         Ok(system) => system,
         Err(fault) => return Err(source_fault(fault)),
     };
-    let users = match user_dicts(alloc, &system, users) {
-        Ok(users) => users,
-        Err(fault) => return Err(fault),
-    };
+    let users = user_dicts(alloc, &system, users)?;
     let Ok(dictionaries) = Dictionaries::new(&system, &users) else {
         unreachable!()
     };

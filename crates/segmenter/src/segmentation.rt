@@ -1,9 +1,10 @@
 //! From text to words.
 
-ghost use Rattle.std.specs.Prelude.{◌≤◌, ◌<◌, ◌^◌};
+ghost use Rattle.std.specs.Prelude.{◌<◌};
+ghost use Rattle.mj_model.specs.Counts.{MayBeRead, MayBeWritten};
 ghost use Rattle.mj_model.specs.declared.limits.TheConstants.{READS_MAX as ReadsMax};
 ghost use Rattle.paths.specs.PathLaws.{CoversTexts};
-ghost use Rattle.segmenter.specs.PrintedLines.{Judges, Prints};
+ghost use Rattle.segmenter.specs.PrintedLines.{Tells};
 ghost use Rattle.segmenter.specs.Runs.{Ran};
 ghost use Rattle.word_lookup.specs.Overlays.{overlay_of};
 
@@ -25,16 +26,13 @@ pub fn segment<R: TextIn, W: TextOut>(
     reader: &mut R,
     writer: &mut W,
 ) -> Result<u64, RunFault>
-    requires reads { R.reads reader.old < 2 ^ 63 }
-    requires ends { R.ends reader.old < 2 ^ 63 }
-    requires read_failures { R.TextIn.failures reader.old < 2 ^ 63 }
-    requires write_failures { W.TextOut.failures writer.old < 2 ^ 63 }
+    requires reader { MayBeRead (R.told reader.old) }
+    requires writer { MayBeWritten (W.told writer.old) }
     // The dictionaries cover every text: each has exactly one best path.
     ensures covered { CoversTexts (overlay_of dictionaries.now) }
-    ensures run { Ran Judges (Prints (overlay_of dictionaries.now) format.now) ReadsMax (R.remaining reader.old) (R.remaining reader.new) (W.contents writer.old) (W.contents writer.new)
-        (record { reads = R.reads reader.old; ends = R.ends reader.old; read_failures = R.TextIn.failures reader.old; write_failures = W.TextOut.failures writer.old; unflushed = W.unflushed writer.old })
-        (record { reads = R.reads reader.new; ends = R.ends reader.new; read_failures = R.TextIn.failures reader.new; write_failures = W.TextOut.failures writer.new; unflushed = W.unflushed writer.new })
-        result }
+    // What was read, what was written, how the run ended, and where the reader is.
+    ensures run { Ran (Tells (overlay_of dictionaries.now) format.now) ReadsMax
+        (R.told reader.old) (R.told reader.new) (W.told writer.old) (W.told writer.new) result }
 {
     let printer = WordsPrinter {
         alloc,

@@ -6,7 +6,7 @@ ghost use Rattle.mj_model.specs.Counts.{CanRise};
 ghost use Rattle.mj_model.specs.TextLines.{whole_lines, open_line};
 ghost use Rattle.mj_model.specs.declared.run_fault.RunFault.TheVariants.{Write};
 ghost use Rattle.segmenter.specs.Progress.{HasNoFeed, IsCause};
-ghost use Rattle.segmenter.specs.Steps.{Stepped, StepStopped, last_line, IsLastCause};
+ghost use Rattle.segmenter.specs.Steps.{Stepped, StepStopped, last_line, step_of, IsLastCause};
 
 use crate::line_fault::LineError;
 use crate::line_printer::LinePrinter;
@@ -17,15 +17,18 @@ use mj_model::{RunFault, TextOut};
 /// Writes what is to be written, and forgets it.
 fn write_out<W: TextOut>(writer: &mut W, out: &mut Vec<u8>, sent: &mut u128) -> Result<(), RunFault>
     requires room { sent.old + 2 ^ 64 ≤ 2 ^ 128 }
-    requires failures { CanRise (W.TextOut.failures writer.old) }
-    ensures written { OnOk result (Appends (W.contents writer.old) (W.contents writer.new) out.old.items) }
+    requires failures { CanRise (W.told writer.old).failures }
+    ensures written { OnOk result
+        (Appends (W.told writer.old).held (W.told writer.new).held out.old.items) }
     ensures counted { OnOk result (sent.new ≡ sent.old + length out.old.items) }
     ensures forgotten { OnOk result (out.new.items ≡ []) }
     ensures few_bytes { OnOk result (sent.new ≤ sent.old + 2 ^ 64) }
-    ensures no_failure { OnOk result (W.TextOut.failures writer.new ≡ W.TextOut.failures writer.old) }
+    ensures no_failure { OnOk result ((W.told writer.new).failures ≡ (W.told writer.old).failures) }
     ensures cut { IfErr result (λ fault. (n : ℕ) × (n ≤ length out.old.items)
-        × Appends (W.contents writer.old) (W.contents writer.new) (take n out.old.items) × (fault ≡ Write (sent.old + n))) }
-    ensures failure { OnErr result (W.TextOut.failures writer.new ≡ W.TextOut.failures writer.old + 1) }
+        × Appends (W.told writer.old).held (W.told writer.new).held (take n out.old.items)
+        × (fault ≡ Write (sent.old + n))) }
+    ensures failure { OnErr result
+        ((W.told writer.new).failures ≡ (W.told writer.old).failures + 1) }
 {
     match write_bytes(writer, out) {
         Ok(()) => {
@@ -50,26 +53,29 @@ pub fn work<P: LinePrinter, W: TextOut>(
     requires open { HasNoFeed progress.old.pending.items }
     requires nothing_waits { progress.old.out.items ≡ [] }
     requires room { sent.old + 2 ^ 64 ≤ 2 ^ 128 }
-    requires failures { CanRise (W.TextOut.failures writer.old) }
-    ensures worked { OnOk result (Stepped (P.judges printer.now) (P.prints printer.now) progress.old.lines
+    requires failures { CanRise (W.told writer.old).failures }
+    ensures worked { OnOk result (Stepped (P.tells printer.now) progress.old.lines
         (whole_lines (progress.old.pending.items ++ piece.now)) progress.new.lines
-        (record { held_before = W.contents writer.old; held_after = W.contents writer.new; failures_before = W.TextOut.failures writer.old; failures_after = W.TextOut.failures writer.new })
+        (step_of (W.told writer.old) (W.told writer.new))
         sent.old sent.new) }
-    ensures open { OnOk result (progress.new.pending.items ≡ open_line (progress.old.pending.items ++ piece.now)) }
+    ensures open { OnOk result
+        (progress.new.pending.items ≡ open_line (progress.old.pending.items ++ piece.now)) }
     ensures nothing_waits { OnOk result (progress.new.out.items ≡ []) }
     ensures few_bytes { OnOk result (sent.new ≤ sent.old + 2 ^ 64) }
     ensures few_lines { progress.new.lines ≤ progress.old.lines + length piece.now }
-    ensures stopped { IfErr result (StepStopped (P.judges printer.now) (P.prints printer.now) (IsCause (P.judges printer.now) (progress.old.pending.items ++ piece.now)) progress.old.lines
+    ensures stopped { IfErr result (StepStopped (P.tells printer.now)
+        (IsCause (P.tells printer.now) (progress.old.pending.items ++ piece.now)) progress.old.lines
         (whole_lines (progress.old.pending.items ++ piece.now))
-        (record { held_before = W.contents writer.old; held_after = W.contents writer.new; failures_before = W.TextOut.failures writer.old; failures_after = W.TextOut.failures writer.new })
+        (step_of (W.told writer.old) (W.told writer.new))
         sent.old) }
 {
     let taken = progress.take_piece(printer, kept, piece);
     write_out(writer, &mut progress.out, sent)?;
-    match taken {
-        Ok(()) => Ok(()),
-        Err(error) => Err(error.at(progress.lines + 1)),
+    let next_line = progress.lines + 1;
+    if let Err(error) = taken {
+        return Err(error.at(next_line));
     }
+    Ok(())
 }
 
 /// The end of the input: the line without an LF prints, and all is written and flushed. Answers the number of lines.
@@ -83,15 +89,16 @@ pub fn finish<P: LinePrinter, W: TextOut>(
     requires count { progress.old.lines + 1 < 2 ^ 64 }
     requires nothing_waits { progress.old.out.items ≡ [] }
     requires room { sent.old + 2 ^ 65 ≤ 2 ^ 128 }
-    requires failures { CanRise (W.TextOut.failures writer.old) }
-    ensures finished { IfOk result (λ lines. Stepped (P.judges printer.now) (P.prints printer.now) progress.old.lines
+    requires failures { CanRise (W.told writer.old).failures }
+    ensures finished { IfOk result (λ lines. Stepped (P.tells printer.now) progress.old.lines
         (last_line progress.old.pending.items) lines
-        (record { held_before = W.contents writer.old; held_after = W.contents writer.new; failures_before = W.TextOut.failures writer.old; failures_after = W.TextOut.failures writer.new })
+        (step_of (W.told writer.old) (W.told writer.new))
         sent.old sent.new) }
-    ensures flushed { OnOk result (W.unflushed writer.new ≡ false) }
-    ensures stopped { IfErr result (StepStopped (P.judges printer.now) (P.prints printer.now) (IsLastCause (P.judges printer.now) progress.old.pending.items) progress.old.lines
+    ensures flushed { OnOk result ((W.told writer.new).unflushed ≡ false) }
+    ensures stopped { IfErr result (StepStopped (P.tells printer.now)
+        (IsLastCause (P.tells printer.now) progress.old.pending.items) progress.old.lines
         (last_line progress.old.pending.items)
-        (record { held_before = W.contents writer.old; held_after = W.contents writer.new; failures_before = W.TextOut.failures writer.old; failures_after = W.TextOut.failures writer.new })
+        (step_of (W.told writer.old) (W.told writer.new))
         sent.old) }
 {
     if let Err(error) = progress.end_text(printer, kept) {

@@ -2,7 +2,7 @@
 
 ghost use Rattle.std.specs.Prelude.{◌≡◌, ℕ, ◌++◌, ◌≤◌, List, length, OnOk, OnErr};
 ghost use Rattle.mj_model.specs.declared.limits.TheConstants.{SENTENCE_MAX};
-ghost use Rattle.segmenter.specs.PrintedLines.{Judges, Prints};
+ghost use Rattle.segmenter.specs.PrintedLines.{Prints, Tells};
 ghost use Rattle.word_lookup.specs.Overlays.{overlay_of};
 
 use crate::line_fault::{LineError, LineFault};
@@ -44,9 +44,7 @@ pub struct WordsPrinter<'d, 'f> {
 impl<'d, 'f> LinePrinter for WordsPrinter<'d, 'f> {
     type Kept = LineMemory;
 
-    ghost judges = { λ p. Judges };
-
-    ghost prints = { λ p. Prints (overlay_of p.dictionaries) p.format.now };
+    ghost tells = { λ p. Tells (overlay_of p.dictionaries) p.format.now };
 
     fn print_line(
         &self,
@@ -57,10 +55,8 @@ impl<'d, 'f> LinePrinter for WordsPrinter<'d, 'f> {
         let Ok(text) = simdutf8::basic::from_utf8(line) else {
             return Err(LineError::Bad(LineFault::NotUtf8));
         };
-        match self.append_text(kept, text, out) {
-            Ok(()) => Ok(()),
-            Err(AllocError) => Err(LineError::Memory),
-        }
+        self.append_text(kept, text, out)?;
+        Ok(())
     }
 
     ghost too_long = { λ p line h. h };
@@ -75,7 +71,9 @@ impl<'d, 'f> WordsPrinter<'d, 'f> {
         out: &mut Vec<u8>,
     ) -> Result<(), AllocError>
         requires { length text.now ≤ SENTENCE_MAX }
-        ensures printed { OnOk result ((more : List ℕ) × Prints (overlay_of self.now.dictionaries) self.now.format.now text.now more × (out.new.items ≡ out.old.items ++ more)) }
+        ensures printed { OnOk result ((more : List ℕ)
+            × Prints (overlay_of self.now.dictionaries) self.now.format.now text.now more
+            × (out.new.items ≡ out.old.items ++ more)) }
         ensures kept { OnErr result (out.new.items ≡ out.old.items) }
     {
         kept.lattice

@@ -1,6 +1,6 @@
 //! Writing what lines print.
 
-ghost use Rattle.std.specs.Prelude.{◌≡◌, ℕ, ◌+◌, ◌≤◌, ◌<◌, ◌^◌, length, take, [], OnOk, OnErr, IfErr};
+ghost use Rattle.std.specs.Prelude.{◌≡◌, ◌+◌, ◌≤◌, ◌<◌, length, take, OnOk, OnErr, IfErr};
 ghost use Rattle.std.specs.Io.KnownBytes.{Appends};
 ghost use Rattle.mj_model.specs.Counts.{CanRise};
 
@@ -8,12 +8,15 @@ use mj_model::TextOut;
 
 /// Writes all bytes. An error tells how many were taken before the write that failed or took none.
 pub fn write_bytes<W: TextOut>(writer: &mut W, bytes: &[u8]) -> Result<(), usize>
-    requires { CanRise (W.TextOut.failures writer.old) }
-    ensures written { OnOk result (Appends (W.contents writer.old) (W.contents writer.new) bytes.now) }
-    ensures no_failure { OnOk result (W.TextOut.failures writer.new ≡ W.TextOut.failures writer.old) }
+    requires { CanRise (W.told writer.old).failures }
+    ensures written { OnOk result
+        (Appends (W.told writer.old).held (W.told writer.new).held bytes.now) }
+    ensures no_failure { OnOk result ((W.told writer.new).failures ≡ (W.told writer.old).failures) }
     ensures within { IfErr result (λ sent. sent ≤ length bytes.now) }
-    ensures cut { IfErr result (λ sent. Appends (W.contents writer.old) (W.contents writer.new) (take sent bytes.now)) }
-    ensures failure { OnErr result (W.TextOut.failures writer.new ≡ W.TextOut.failures writer.old + 1) }
+    ensures cut { IfErr result (λ sent.
+        Appends (W.told writer.old).held (W.told writer.new).held (take sent bytes.now)) }
+    ensures failure { OnErr result
+        ((W.told writer.new).failures ≡ (W.told writer.old).failures + 1) }
 {
     let mut sent = 0;
     while sent < bytes.len() {

@@ -1,16 +1,30 @@
-use Rattle.dict_compile.specs.Compilation.{IsCompilationCause}
+use Rattle.std.proofs.Common.{subst, sym, inl}
+use Rattle.std.proofs.lemmas.Result.{err_from_is_err_and}
 use Rattle.dict_compile.proofs.FirstFaults.{not_compiled}
 use Rattle.segmenter.specs.SourceDicts.{IsDictOf}
-use Rattle.segmenter.proofs.LoadedLemmas.{loaded_dict, loaded_refused}
 use Rattle.segmenter.proofs.dicts.system_dict.Goals as goal
 
-pub returns-in-Ok-clause-dict : goal.returns-in-Ok-clause-dict
-returns-in-Ok-clause-dict c =
-    loaded_dict c.loaded.result (IsDictOf c.args.sources.now) c.in-Ok.compiled.image.items c.loaded.ensures.dict (c.in-Ok.compiled.entries, c.in-Ok.compiled.skipped, c.in-Ok.ensures.compiled)
+pub returns-in_err-compiled-clause-refused : goal.returns-in_err-compiled-clause-refused
+returns-in_err-compiled-clause-refused c =
+    let p = err_from_is_err_and c.from_residual.result c.from_residual.ensures.1 in
+    rw (p.1, p.2) c.in_err-compiled.ensures.refused
 
-pub returns-in-Ok-clause-refused : goal.returns-in-Ok-clause-refused
-returns-in-Ok-clause-refused c = loaded_refused c.loaded.result (IsCompilationCause c.args.sources.now) c.loaded.ensures.refused
+pub returns-in_err-compiled-clause-first : goal.returns-in_err-compiled-clause-first
+returns-in_err-compiled-clause-first c = λ fault h.
+    let p = err_from_is_err_and c.from_residual.result c.from_residual.ensures.1 in
+    rw (p.1, p.2) (c.in_err-compiled.ensures.first fault h)
 
-pub returns-in-Ok-clause-first : goal.returns-in-Ok-clause-first
-returns-in-Ok-clause-first c = λ fault h.
-    absurd (not_compiled c.args.sources.now c.in-Ok.compiled.image.items c.in-Ok.compiled.entries c.in-Ok.compiled.skipped fault c.in-Ok.ensures.compiled h)
+pub returns-in_err-loaded-clause-refused : goal.returns-in_err-loaded-clause-refused
+returns-in_err-loaded-clause-refused c =
+    let p = err_from_is_err_and c.from_residual-in_err-loaded.result c.from_residual-in_err-loaded.ensures.1 in
+    rw p.1 (inl p.2)
+
+pub returns-in_err-loaded-clause-first : goal.returns-in_err-loaded-clause-first
+returns-in_err-loaded-clause-first c = λ fault h.
+    let compiled = c.in_ok-compiled.compiled in
+    absurd (not_compiled c.args.sources.now compiled.image.items compiled.entries compiled.skipped fault c.in_ok-compiled.ensures.compiled h)
+
+pub returns-clause-dict : goal.returns-clause-dict
+returns-clause-dict c =
+    let compiled = c.in_ok-compiled.compiled in
+    subst (IsDictOf c.args.sources.now) (sym c.in_ok-loaded.ensures) (compiled.entries, compiled.skipped, c.in_ok-compiled.ensures.compiled)

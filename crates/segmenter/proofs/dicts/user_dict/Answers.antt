@@ -1,13 +1,21 @@
-use Rattle.dict_compile.specs.Compilation.{IsUserCause}
+use Rattle.std.proofs.Common.{subst, sym, inl}
+use Rattle.std.proofs.lemmas.Result.{err_from_is_err_and}
 use Rattle.image_bytes.specs.ImageMeaning.{image_tables}
 use Rattle.segmenter.specs.SourceDicts.{IsUserDictOf, lexicons_of}
-use Rattle.segmenter.proofs.LoadedLemmas.{loaded_dict, loaded_refused}
 use Rattle.segmenter.proofs.dicts.user_dict.Goals as goal
 
-pub returns-in-Ok-clause-dict : goal.returns-in-Ok-clause-dict
-returns-in-Ok-clause-dict c =
-    loaded_dict c.loaded.result (IsUserDictOf (image_tables c.args.system.now) (lexicons_of c.args.lexicons.now)) c.in-Ok.compiled.image.items c.loaded.ensures.dict
-    (c.in-Ok.compiled.entries, c.in-Ok.compiled.skipped, c.in-Ok.ensures.compiled)
+pub returns-in_err-loaded-clause-dict : goal.returns-in_err-loaded-clause-dict
+returns-in_err-loaded-clause-dict c =
+    let p = err_from_is_err_and c.from_residual.result c.from_residual.ensures.1 in
+    rw p.1 tt
 
-pub returns-in-Ok-clause-refused : goal.returns-in-Ok-clause-refused
-returns-in-Ok-clause-refused c = loaded_refused c.loaded.result (IsUserCause (image_tables c.args.system.now) (lexicons_of c.args.lexicons.now)) c.loaded.ensures.refused
+pub returns-in_err-loaded-clause-refused : goal.returns-in_err-loaded-clause-refused
+returns-in_err-loaded-clause-refused c =
+    let p = err_from_is_err_and c.from_residual.result c.from_residual.ensures.1 in
+    rw p.1 (inl p.2)
+
+pub returns-clause-dict : goal.returns-clause-dict
+returns-clause-dict c =
+    let compiled = c.in-Ok.compiled in
+    subst (IsUserDictOf (image_tables c.args.system.now) (lexicons_of c.args.lexicons.now)) (sym c.in_ok-loaded.ensures)
+    (compiled.entries, compiled.skipped, c.in-Ok.ensures.compiled)

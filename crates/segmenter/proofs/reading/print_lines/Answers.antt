@@ -2,6 +2,7 @@ use Rattle.std.proofs.Common.{arith, length, take, sym, subst, length-take, nat_
 use Rattle.std.specs.Io.KnownBytes.{Consumes}
 use Rattle.std.proofs.lemmas.Result.{err_from_is_err_and}
 use Rattle.segmenter.specs.Progress.{HasNoFeed}
+use Rattle.segmenter.specs.Runs.{both_told}
 use Rattle.segmenter.proofs.RunWork.{running_more, open_no_feed}
 use Rattle.segmenter.proofs.RunEnds.{ran_work, ran_finish}
 use Rattle.segmenter.proofs.WritingLemmas.{no_failure, one_end}
@@ -21,7 +22,7 @@ loop-turn-preserved g c =
     let same = c.read_counted.auto.buf in
     let len = length-take taken c.read_counted.new.buf in
     let small = c.requires.buffer.1 in
-    running_more (g.P.LinePrinter.judges c.args.printer.now) (g.P.LinePrinter.prints c.args.printer.now) _ _ _ _ _ _ _ _ _ c.loop-turn._turn
+    running_more (g.P.LinePrinter.tells c.args.printer.now) _ _ _ _ _ _ _ _ _ c.loop-turn._turn
     c.loop-turn.progress.pending.items c.loop-turn.progress.out.items (take taken c.read_counted.new.buf) c.loop-turn.progress.lines c.loop-turn.sent
     c.work.new.progress.pending.items c.work.new.progress.out.items c.work.new.progress.lines c.work.new.sent 0 0
     c.loop-turn.invariant c.in-Ok.ensures.bytes.0 (omega (arith, kept, same, len, small)) c.in_ok-work.ensures.worked c.in_ok-work.ensures.open
@@ -35,8 +36,8 @@ returns-in_err-work-clause-run g c =
     let none = no_failure taken (nat_lt 0 (length c.loop-turn.buffer)) c.in-Ok.n-test.1 in
     let ends = c.in-Ok.ensures.ends in
     rw (p.1, p.2)
-    (ran_work (g.P.LinePrinter.judges c.args.printer.now) (g.P.LinePrinter.prints c.args.printer.now) c.args.bound _ _ _ _ _ _ _ _
-    (record { reads = g.R.TextIn.reads c.read_counted.new.self; ends = g.R.TextIn.ends c.read_counted.new.self; read_failures = g.R.TextIn.failures c.read_counted.new.self; write_failures = g.W.TextOut.failures c.work.new.writer; unflushed = g.W.TextOut.unflushed c.work.new.writer })
+    (ran_work (g.P.LinePrinter.tells c.args.printer.now) c.args.bound _ _ _ _ _ _ _ _
+    (both_told (g.R.TextIn.told c.read_counted.new.self) (g.W.TextOut.told c.work.new.writer))
     c.loop-turn._turn
     c.loop-turn.progress.pending.items c.loop-turn.progress.out.items c.loop-turn.progress.lines c.loop-turn.sent c.loop-turn.invariant
     (take taken c.read_counted.new.buf) c.in_err-work.field-0.0 c.in-Ok.ensures.bytes.0 (omega (arith, ends, none)) c.in_err-work.ensures.stopped)
@@ -48,9 +49,9 @@ returns-in-Ok-eq0-clause-run g c =
     let some = c.requires.buffer.0 in
     let none = c.in-Ok-eq0.field-0-test in
     let one = one_end c.in-Ok-eq0.field-0 (length c.loop-turn.buffer) none (omega (arith, kept, some)) in
-    let took = subst (λ n. Consumes (g.R.Read.remaining c.loop-turn.reader) (g.R.Read.remaining c.read_counted.new.self) (take n c.read_counted.new.buf)) none c.in-Ok-eq0.ensures.bytes.0 in
-    ran_finish (g.P.LinePrinter.judges c.args.printer.now) (g.P.LinePrinter.prints c.args.printer.now) c.args.bound _ _ _ _ _ _ _ _
-    (record { reads = g.R.TextIn.reads c.read_counted.new.self; ends = g.R.TextIn.ends c.read_counted.new.self; read_failures = g.R.TextIn.failures c.read_counted.new.self; write_failures = g.W.TextOut.failures c.finish.new.writer; unflushed = g.W.TextOut.unflushed c.finish.new.writer })
+    let took = subst (λ n. Consumes (g.R.TextIn.told c.loop-turn.reader).left (g.R.TextIn.told c.read_counted.new.self).left (take n c.read_counted.new.buf)) none c.in-Ok-eq0.ensures.bytes.0 in
+    ran_finish (g.P.LinePrinter.tells c.args.printer.now) c.args.bound _ _ _ _ _ _ _ _
+    (both_told (g.R.TextIn.told c.read_counted.new.self) (g.W.TextOut.told c.finish.new.writer))
     c.loop-turn._turn
     c.loop-turn.progress.pending.items c.loop-turn.progress.out.items c.loop-turn.progress.lines c.loop-turn.sent c.loop-turn.invariant
     c.finish.result c.finish.new.sent took (omega (arith, ends, one)) c.finish.ensures.finished c.finish.ensures.flushed c.finish.ensures.stopped

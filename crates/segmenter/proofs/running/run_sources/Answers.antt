@@ -1,5 +1,6 @@
 use Rattle.std.proofs.Common.{◌∙◌, subst, refl, inl, inr, map, ◌≡◌}
 use Rattle.std.specs.Prelude.{Some}
+use Rattle.std.proofs.lemmas.Result.{err_from_is_err_and}
 use Rattle.image_bytes.specs.ImageMeaning.{image_tables}
 use Rattle.mj_model.specs.Overlays.{overlay_fault}
 use Rattle.dict_compile.proofs.FirstFaults.{not_compiled}
@@ -30,36 +31,42 @@ returns-in-Err-clause-run g c = inl (source_is_early c.in-Err.fault c.source_fau
 pub user_dicts-requires : goal.user_dicts-requires
 user_dicts-requires g c = c.in-Ok.ensures.dict.2.have.tables.kind
 
-pub returns-in-Err-user_dicts-clause-source : goal.returns-in-Err-user_dicts-clause-source
-returns-in-Err-user_dicts-clause-source g c = λ told e. absurd (users_tell_no_source (image_tables c.in-Ok.system) (users_of c.args.users.now) c.in-Err-user_dicts.fault told c.in-Err-user_dicts.ensures.refused e)
+pub returns-in_err-users-clause-source : goal.returns-in_err-users-clause-source
+returns-in_err-users-clause-source g c = λ told.
+    let p = err_from_is_err_and c.from_residual.result c.from_residual.ensures.1 in
+    rw (p.1, p.2) (λ e. absurd (users_tell_no_source (image_tables c.in-Ok.system) (users_of c.args.users.now) c.in_err-users.field-0.0 told c.in_err-users.ensures.refused e))
 
-pub returns-in-Err-user_dicts-clause-user_source : goal.returns-in-Err-user_dicts-clause-user_source
-returns-in-Err-user_dicts-clause-user_source g c = λ i told e.
-    users_told c.args.sources.now c.in-Ok.system (users_of c.args.users.now) c.in-Err-user_dicts.fault i told c.in-Ok.ensures.dict c.in-Err-user_dicts.ensures.refused e
+pub returns-in_err-users-clause-user_source : goal.returns-in_err-users-clause-user_source
+returns-in_err-users-clause-user_source g c = λ i told.
+    let p = err_from_is_err_and c.from_residual.result c.from_residual.ensures.1 in
+    rw (p.1, p.2) (users_told c.args.sources.now c.in-Ok.system (users_of c.args.users.now) c.in_err-users.field-0.0 i told c.in-Ok.ensures.dict c.in_err-users.ensures.refused)
 
-pub returns-in-Err-user_dicts-clause-refused : goal.returns-in-Err-user_dicts-clause-refused
-returns-in-Err-user_dicts-clause-refused g c = λ fault h.
+pub returns-in_err-users-clause-refused : goal.returns-in_err-users-clause-refused
+returns-in_err-users-clause-refused g c = λ fault h.
     absurd (not_compiled c.args.sources.now c.in-Ok.system c.in-Ok.ensures.dict.0 c.in-Ok.ensures.dict.1 fault c.in-Ok.ensures.dict.2 h)
 
-pub returns-in-Err-user_dicts-clause-user_refused : goal.returns-in-Err-user_dicts-clause-user_refused
-returns-in-Err-user_dicts-clause-user_refused g c = λ i fault h.
-    c.in-Err-user_dicts.ensures.first i fault (users_over c.args.sources.now c.in-Ok.system (users_of c.args.users.now) i fault c.in-Ok.ensures.dict h)
+pub returns-in_err-users-clause-user_refused : goal.returns-in_err-users-clause-user_refused
+returns-in_err-users-clause-user_refused g c = λ i fault h.
+    let p = err_from_is_err_and c.from_residual.result c.from_residual.ensures.1 in
+    rw (p.1, p.2) (c.in_err-users.ensures.first i fault (users_over c.args.sources.now c.in-Ok.system (users_of c.args.users.now) i fault c.in-Ok.ensures.dict h))
 
-pub returns-in-Err-user_dicts-clause-run : goal.returns-in-Err-user_dicts-clause-run
-returns-in-Err-user_dicts-clause-run g c = inl (users_are_early (image_tables c.in-Ok.system) (users_of c.args.users.now) c.in-Err-user_dicts.fault c.in-Err-user_dicts.ensures.refused, refl, refl)
+pub returns-in_err-users-clause-run : goal.returns-in_err-users-clause-run
+returns-in_err-users-clause-run g c =
+    let p = err_from_is_err_and c.from_residual.result c.from_residual.ensures.1 in
+    rw (p.1, p.2) (inl (users_are_early (image_tables c.in-Ok.system) (users_of c.args.users.now) c.in_err-users.field-0.0 c.in_err-users.ensures.refused, refl, refl))
 
 pub unreachable-requires : goal.unreachable-requires
 unreachable-requires g c =
     let system = image_tables c.in-Ok.system in
-    none_and_some (overlay_fault system (map image_tables c.in-Ok-user_dicts.users.items)) c.in_default.field-0
-    (no_overlay_fault system (users_of c.args.users.now) c.in-Ok-user_dicts.users.items c.in-Ok.ensures.dict.2.have.tables.kind c.in-Ok-user_dicts.ensures.dicts)
+    none_and_some (overlay_fault system (map image_tables c.in_ok-users.users.items)) c.in_default.field-0
+    (no_overlay_fault system (users_of c.args.users.now) c.in_ok-users.users.items c.in-Ok.ensures.dict.2.have.tables.kind c.in_ok-users.ensures.dicts)
     (subst (λ dicts. overlay_fault system (map image_tables dicts) ≡ Some c.in_default.field-0) c.deref.ensures.value c.in_default.ensures.refused)
 
 pub returns-clause-source : goal.returns-clause-source
-returns-clause-source g c = λ told e. absurd (ran_tells_no_source _ _ _ _ _ _ _ _ _ c.segment.result told c.segment.ensures.run e)
+returns-clause-source g c = λ told e. absurd (ran_tells_no_source _ _ _ _ _ _ c.segment.result told c.segment.ensures.run e)
 
 pub returns-clause-user_source : goal.returns-clause-user_source
-returns-clause-user_source g c = λ i told e. absurd (ran_tells_no_user _ _ _ _ _ _ _ _ _ c.segment.result i told c.segment.ensures.run e)
+returns-clause-user_source g c = λ i told e. absurd (ran_tells_no_user _ _ _ _ _ _ c.segment.result i told c.segment.ensures.run e)
 
 pub returns-clause-refused : goal.returns-clause-refused
 returns-clause-refused g c = λ fault h.
@@ -67,17 +74,17 @@ returns-clause-refused g c = λ fault h.
 
 pub returns-clause-user_refused : goal.returns-clause-user_refused
 returns-clause-user_refused g c = λ i fault h.
-    absurd (none_at_fault (image_tables c.in-Ok.system) (users_of c.args.users.now) c.in-Ok-user_dicts.users.items c.in-Ok-user_dicts.ensures.dicts i fault
+    absurd (none_at_fault (image_tables c.in-Ok.system) (users_of c.args.users.now) c.in_ok-users.users.items c.in_ok-users.ensures.dicts i fault
     (users_over c.args.sources.now c.in-Ok.system (users_of c.args.users.now) i fault c.in-Ok.ensures.dict h))
 
 pub returns-clause-run : goal.returns-clause-run
 returns-clause-run g c =
     let o = overlay_of c.with_grouping-dictionaries.result in
-    inr (
-      o,
-      have_overlay c.args.sources.now (users_of c.args.users.now) c.args.grouping c.in-Ok.system c.in-Ok-user_dicts.users.items o c.in-Ok.ensures.dict c.in-Ok-user_dicts.ensures.dicts
+    inr (record {
+      overlay = o;
+      have = have_overlay c.args.sources.now (users_of c.args.users.now) c.args.grouping c.in-Ok.system c.in_ok-users.users.items o c.in-Ok.ensures.dict c.in_ok-users.ensures.dicts
           (c.with_grouping-dictionaries.ensures
-          ∙ with_grouping c.args.grouping (overlay_of c.in-Ok-new.dictionaries) (image_tables c.in-Ok.system) c.deref.result.now c.in-Ok-user_dicts.users.items c.in-Ok-new.ensures.overlay c.deref.ensures.value),
-      c.segment.ensures.covered,
-      c.segment.ensures.run,
-    )
+          ∙ with_grouping c.args.grouping (overlay_of c.in-Ok-new.dictionaries) (image_tables c.in-Ok.system) c.deref.result.now c.in_ok-users.users.items c.in-Ok-new.ensures.overlay c.deref.ensures.value);
+      covered = c.segment.ensures.covered;
+      ran = c.segment.ensures.run;
+    })

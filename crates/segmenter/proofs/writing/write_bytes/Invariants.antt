@@ -5,8 +5,8 @@ use Rattle.segmenter.proofs.writing.write_bytes.Given as goal
 abbrev pub invariant-loop-sent : goal.invariant-loop-sent
 invariant-loop-sent g l =
     (l.sent ≤ length l.bytes)
-    × Appends (g.W.Write.contents l.initial.writer) (g.W.Write.contents l.writer) (take l.sent l.bytes)
-    × (g.W.TextOut.failures l.writer ≡ g.W.TextOut.failures l.initial.writer)
+    × Appends (g.W.TextOut.told l.initial.writer).held (g.W.TextOut.told l.writer).held (take l.sent l.bytes)
+    × ((g.W.TextOut.told l.writer).failures ≡ (g.W.TextOut.told l.initial.writer).failures)
 
 abbrev pub decreases-loop-sent : goal.decreases-loop-sent
 decreases-loop-sent g l = length l.bytes - l.sent

@@ -1,4 +1,5 @@
-use Rattle.std.proofs.Common.{arith, ◌++◌, length, ◌∙◌, subst, Some, None, List, ℕ}
+use Rattle.std.proofs.Common.{arith, ◌++◌, length, ◌∙◌, subst, List, ℕ}
+use Rattle.std.specs.Prelude.{Ok, Err}
 use Rattle.std.proofs.lemmas.Result.{err_from_is_err_and}
 use Rattle.segmenter.specs.LineErrors.{TellsFault}
 use Rattle.segmenter.proofs.PieceWork.{working_line, working_stopped, working_done, working_open, working_too_long}
@@ -14,24 +15,21 @@ end_line-requires g c =
 
 pub loop-at-preserved : goal.loop-at-preserved
 loop-at-preserved g c =
-    let judges = g.P.LinePrinter.judges c.args.printer.now in
-    let prints = g.P.LinePrinter.prints c.args.printer.now in
+    let Tells = g.P.LinePrinter.tells c.args.printer.now in
     let printed = c.in_ok-end_line.ensures.printed in
     let line_is = c.cut.ensures.line in
-    let good = subst (λ (l : List ℕ). judges (c.loop-at.self.pending.items ++ l) None) line_is c.in_ok-end_line.ensures.good in
-    let prints_it = subst (λ (l : List ℕ). prints (c.loop-at.self.pending.items ++ l) printed.0) line_is printed.1 in
-    let w = working_line judges prints c.args.self.now.lines (length c.args.piece.now) c.args.self.now.out.items (c.args.self.now.pending.items ++ c.args.piece.now)
+    let tells = subst (λ (l : List ℕ). Tells (c.loop-at.self.pending.items ++ l) (Ok printed.0)) line_is printed.1 in
+    let w = working_line Tells c.args.self.now.lines (length c.args.piece.now) c.args.self.now.out.items (c.args.self.now.pending.items ++ c.args.piece.now)
     c.loop-at.self.pending.items c.loop-at.rest.now c.loop-at.self.lines c.loop-at.self.out.items printed.0 c.in-Some.at
-    c.loop-at.invariant c.in-Some.ensures.0 c.in-Some.ensures.1 good prints_it in
+    c.loop-at.invariant c.in-Some.ensures.0 c.in-Some.ensures.1 tells in
     rw (c.in_ok-end_line.ensures.ended, c.cut.ensures.behind, c.in_ok-end_line.ensures.counted, printed.2) w
 
 pub returns-in_err-end_line-clause-stopped : goal.returns-in_err-end_line-clause-stopped
 returns-in_err-end_line-clause-stopped g c =
-    let judges = g.P.LinePrinter.judges c.args.printer.now in
-    let prints = g.P.LinePrinter.prints c.args.printer.now in
+    let Tells = g.P.LinePrinter.tells c.args.printer.now in
     let error = c.in_err-end_line.field-0.0 in
-    let tells = subst (λ (l : List ℕ). TellsFault (λ fault. judges (c.loop-at.self.pending.items ++ l) (Some fault)) error) c.cut.ensures.line c.in_err-end_line.ensures.bad in
-    let w = working_stopped judges prints c.args.self.now.lines (length c.args.piece.now) c.args.self.now.out.items (c.args.self.now.pending.items ++ c.args.piece.now)
+    let tells = subst (λ (l : List ℕ). TellsFault (λ fault. Tells (c.loop-at.self.pending.items ++ l) (Err fault)) error) c.cut.ensures.line c.in_err-end_line.ensures.bad in
+    let w = working_stopped Tells c.args.self.now.lines (length c.args.piece.now) c.args.self.now.out.items (c.args.self.now.pending.items ++ c.args.piece.now)
     c.loop-at.self.pending.items c.loop-at.rest.now c.loop-at.self.lines c.loop-at.self.out.items c.in-Some.at error
     c.loop-at.invariant c.in-Some.ensures.0 c.in-Some.ensures.1 tells in
     let p = err_from_is_err_and c.from_residual.result c.from_residual.ensures.1 in
@@ -39,18 +37,18 @@ returns-in_err-end_line-clause-stopped g c =
 
 pub returns-clause-worked : goal.returns-clause-worked
 returns-clause-worked g c =
-    on_ok c.hold.result _ (working_done (g.P.LinePrinter.judges c.args.printer.now) (g.P.LinePrinter.prints c.args.printer.now) c.args.self.now.lines (length c.args.piece.now) c.args.self.now.out.items
+    on_ok c.hold.result _ (working_done (g.P.LinePrinter.tells c.args.printer.now) c.args.self.now.lines (length c.args.piece.now) c.args.self.now.out.items
     (c.args.self.now.pending.items ++ c.args.piece.now) c.loop-at.self.pending.items c.loop-at.rest.now c.loop-at.self.lines c.loop-at.self.out.items c.loop-at.invariant c.in_default.ensures)
 
 pub returns-clause-open : goal.returns-clause-open
 returns-clause-open g c =
-    let is = working_open (g.P.LinePrinter.judges c.args.printer.now) (g.P.LinePrinter.prints c.args.printer.now) c.args.self.now.lines (length c.args.piece.now) c.args.self.now.out.items
+    let is = working_open (g.P.LinePrinter.tells c.args.printer.now) c.args.self.now.lines (length c.args.piece.now) c.args.self.now.out.items
     (c.args.self.now.pending.items ++ c.args.piece.now) c.loop-at.self.pending.items c.loop-at.rest.now c.loop-at.self.lines c.loop-at.self.out.items c.loop-at.invariant c.in_default.ensures in
     on_ok_by c.hold.result _ _ (λ held. held ∙ is) c.hold.ensures.held
 
 pub returns-clause-stopped : goal.returns-clause-stopped
 returns-clause-stopped g c =
     if_err_by c.hold.result _ _ (λ error tells.
-    working_too_long (g.P.LinePrinter.judges c.args.printer.now) (g.P.LinePrinter.prints c.args.printer.now) c.args.self.now.lines (length c.args.piece.now) c.args.self.now.out.items
+    working_too_long (g.P.LinePrinter.tells c.args.printer.now) c.args.self.now.lines (length c.args.piece.now) c.args.self.now.out.items
     (c.args.self.now.pending.items ++ c.args.piece.now) c.loop-at.self.pending.items c.loop-at.rest.now c.loop-at.self.lines c.loop-at.self.out.items error
     (g.met.P.LinePrinter.too_long c.args.printer.now) c.loop-at.invariant c.in_default.ensures tells) c.hold.ensures.long
