@@ -5,9 +5,11 @@ use Rattle.std.specs.Char.{is_ascii_digit}
 use Rattle.std.specs.List.{prefix_len}
 use Rattle.std.specs.Str.{all_ascii_digits}
 use Rattle.std.proofs.lemmas.Bool.{cases_Bool, and_parts, and_from, leb-true, cond-true, cond-false, le-leb, lt-leb}
-use Rattle.std.proofs.lemmas.List.{take_at, drop_at, drop_more, drop_all, take-append-drop, length-append, length-drop, length-take-le}
+use Rattle.std.proofs.lemmas.List.{take_at, drop_at, drop_more, take-append-drop, length-append, length-drop, length-take-le}
+use Rattle.std.proofs.lemmas.Option.{same_Some}
 use Rattle.out_format.specs.Formats.{IsIndex}
 use Rattle.mj_model.specs.Numbers.{digits_value}
+use Rattle.mj_model.proofs.Basics.{same_head, same_tail}
 use Rattle.out_format.specs.FirstItems.{HasIndex, HasNoIndex}
 
 abbrev pub digits_before : List ℕ → ℕ
@@ -59,14 +61,8 @@ index_facts digits cs rest n is e =
       rest_is = (let e = split in cc);
     }
 
-tail_is : (c d : ℕ) (cs ds : List ℕ) → c ∷ cs ≡ d ∷ ds → cs ≡ ds
-tail_is c d cs ds e = cc
-
-head_is : (c d : ℕ) (cs ds : List ℕ) → c ∷ cs ≡ d ∷ ds → c ≡ d
-head_is c d cs ds e = cc
-
 pub facts_of : (cs rest : List ℕ) (n : ℕ) → HasIndex (91 ∷ cs) n rest → IndexFacts cs n rest
-facts_of cs rest n has = index_facts has.digits cs rest n has.is_index (tail_is 91 91 cs (has.digits ++ 93 ∷ rest) has.is)
+facts_of cs rest n has = index_facts has.digits cs rest n has.is_index (same_tail 91 91 cs (has.digits ++ 93 ∷ rest) has.is)
 
 -- ---- how the code finds an index
 
@@ -76,13 +72,10 @@ digits_there cs count is = ap (λ (k : ℕ). all_ascii_digits (take k cs)) is �
 some_not_none : (x : ℕ) → Some x ≡ None → ⊥
 some_not_none x e = cc
 
-some_is : (x y : ℕ) → Some x ≡ Some y → x ≡ y
-some_is x y e = cc
-
 value_fits : (value n : ℕ) → Some n ≡ cond (nat_le value 65535) (Some value) None → (value ≡ n) × (n ≤ 65535)
 value_fits value n e = elim (cases_Bool (nat_le value 65535)) [
   | inl fits ↦
-      let same : value ≡ n = some_is value n (sym (e ∙ cond-true (nat_le value 65535) (Some value) None fits)) in
+      let same : value ≡ n = same_Some value n (sym (e ∙ cond-true (nat_le value 65535) (Some value) None fits)) in
       let low : value ≤ 65535 = leb-true value 65535 fits in
       (same, omega (arith, same, low))
   | inr great ↦ absurd (some_not_none n (e ∙ cond-false (nat_le value 65535) (Some value) None great))
@@ -106,7 +99,7 @@ has_index cs sub rest count n is within some few behind closed number =
     }
 
 pub no_bracket : (c : ℕ) (cs : List ℕ) → (c ≡ 91 → ⊥) → HasNoIndex (c ∷ cs)
-no_bracket c cs other = λ n rest has. other (head_is c 91 cs (has.digits ++ 93 ∷ rest) has.is)
+no_bracket c cs other = λ n rest has. other (same_head c 91 cs (has.digits ++ 93 ∷ rest) has.is)
 
 pub no_text : HasNoIndex []
 no_text = λ n rest has. let e = has.is in absurd (cc)
@@ -131,7 +124,7 @@ not_closed cs sub more count c is behind here other = λ n rest has.
     let low : digits_before cs < length cs = f.within in
     let within : count < length cs = omega (arith, is, low) in
     let split : c ∷ more ≡ get_or cs count 0 ∷ drop (count + 1) cs = sym (sym behind ∙ here) ∙ drop_more cs count 0 within in
-    other (head_is c (get_or cs count 0) more (drop (count + 1) cs) split ∙ there)
+    other (same_head c (get_or cs count 0) more (drop (count + 1) cs) split ∙ there)
 
 pub too_great : (cs : List ℕ) (count : ℕ) → count ≡ digits_before cs
     → None ≡ cond (nat_le (digits_value (take count cs)) 65535) (Some (digits_value (take count cs))) None → HasNoIndex (91 ∷ cs)
@@ -151,29 +144,9 @@ grows : (digits : List ℕ) (value : ℕ) → value ≤ value_from value digits
 grows [] value = omega arith
 grows (d ∷ ds) value = let more : 10 * value + (d - 0x30) ≤ value_from (10 * value + (d - 0x30)) ds = grows ds (10 * value + (d - 0x30)) in omega (arith, more)
 
-pub record IsDigitAt (digits : List ℕ) (i : ℕ) : Type 0 where
-  pub low : 48 ≤ get_or digits i 0
-  pub high : get_or digits i 0 ≤ 57
-  pub more : all_ascii_digits (drop (i + 1) digits) ≡ true
-
-pub digit_at : (digits : List ℕ) (i : ℕ) → i < length digits → all_ascii_digits (drop i digits) ≡ true → IsDigitAt digits i
-digit_at digits i in' are =
-    let c = get_or digits i 0 in
-    let p = and_parts (is_ascii_digit c) (all_ascii_digits (drop (i + 1) digits)) (sym (ap all_ascii_digits (drop_more digits i 0 in')) ∙ are) in
-    let q = and_parts (nat_le 48 c) (nat_le c 57) p.0 in
-    record { low = leb-true 48 c q.0; high = leb-true c 57 q.1; more = p.1 }
-
 pub value_great : (digits : List ℕ) (i whole value next : ℕ) → i < length digits → whole ≡ value_from value (drop i digits) → next ≡ 10 * value + (get_or digits i 0 - 0x30) → 65535 < next
     → None ≡ cond (nat_le whole 65535) (Some whole) None
 value_great digits i whole value next in' is step great =
     let up : next ≤ value_from next (drop (i + 1) digits) = grows (drop (i + 1) digits) next in
     let e : whole ≡ value_from next (drop (i + 1) digits) = is ∙ ap (value_from value) (drop_more digits i 0 in') ∙ ap (λ (v : ℕ). value_from v (drop (i + 1) digits)) (sym step) in
     sym (cond-false (nat_le whole 65535) (Some whole) None (lt-leb whole 65535 (omega (arith, up, e, great))))
-
-pub value_more : (digits : List ℕ) (i whole value next : ℕ) → i < length digits → whole ≡ value_from value (drop i digits) → next ≡ 10 * value + (get_or digits i 0 - 0x30) → whole ≡ value_from next (drop (i + 1) digits)
-value_more digits i whole value next in' is step = is ∙ ap (value_from value) (drop_more digits i 0 in') ∙ ap (λ (v : ℕ). value_from v (drop (i + 1) digits)) (sym step)
-
-pub value_whole : (digits : List ℕ) (i whole value : ℕ) → length digits ≤ i → whole ≡ value_from value (drop i digits) → value ≤ 65535 → Some value ≡ cond (nat_le whole 65535) (Some whole) None
-value_whole digits i whole value past is low =
-    let e : whole ≡ value = is ∙ ap (value_from value) (drop_all i digits past) in
-    ap Some (sym e) ∙ sym (cond-true (nat_le whole 65535) (Some whole) None (le-leb whole 65535 (omega (arith, e, low))))

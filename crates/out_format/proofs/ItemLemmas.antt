@@ -5,6 +5,7 @@ use Rattle.std.specs.List.{AllByRecursion}
 use Rattle.std.proofs.lemmas.Bool.{cases_Bool, eqb-true, cond-false, ne_eqb}
 use Rattle.mj_model.specs.declared.format_item.FormatItem.{FormatItem}
 use Rattle.mj_model.specs.declared.format_item.FormatItem.TheVariants as item
+use Rattle.mj_model.proofs.Basics.{same_head, same_tail, no_head}
 use Rattle.out_format.specs.Formats.{SpellsItem, IsIndex}
 use Rattle.out_format.specs.FirstItems.{HasIndex, HasNoIndex, BeginsItem, HasNoItem}
 use Rattle.out_format.specs.ItemTables.{item_in, letters, properties, ids, letter_item, property_item, id_item}
@@ -117,14 +118,11 @@ record IsFieldAt (i : FormatItem) (behind rest : List ℕ) : Type 0 where
   there : behind ≡ 102 ∷ inside
   has : HasIndex inside n rest
 
-tail_is : (c d : ℕ) (cs ds : List ℕ) → c ∷ cs ≡ d ∷ ds → cs ≡ ds
-tail_is c d cs ds e = cc
-
 begun : (i : FormatItem) (behind rest : List ℕ) → BeginsItem i (37 ∷ behind) rest → (plain_at behind ≡ Some (i, rest)) ⊎ IsFieldAt i behind rest
 begun i behind rest h = elim (view i h.front h.spelled) [
   | inl p ↦
       let e : 37 ∷ behind ≡ 37 ∷ (p.letters ++ rest) = h.is ∙ ap (λ (xs : List ℕ). xs ++ rest) p.spelled in
-      inl (ap plain_at (tail_is 37 37 behind (p.letters ++ rest) e) ∙ p.read rest)
+      inl (ap plain_at (same_tail 37 37 behind (p.letters ++ rest) e) ∙ p.read rest)
   | inr f ↦
       let digits = f.digits in
       let e : 37 ∷ behind ≡ 37 ∷ 102 ∷ 91 ∷ ((digits ++ 93 ∷ []) ++ rest) = h.is ∙ ap (λ (xs : List ℕ). xs ++ rest) f.spelled in
@@ -132,7 +130,7 @@ begun i behind rest h = elim (view i h.front h.spelled) [
         n = f.n;
         inside = 91 ∷ (digits ++ 93 ∷ rest);
         is = f.is;
-        there = tail_is 37 37 behind (102 ∷ 91 ∷ (digits ++ 93 ∷ rest)) (e ∙ ap (λ (xs : List ℕ). 37 ∷ 102 ∷ 91 ∷ xs) (append_assoc digits (93 ∷ []) rest));
+        there = same_tail 37 37 behind (102 ∷ 91 ∷ (digits ++ 93 ∷ rest)) (e ∙ ap (λ (xs : List ℕ). 37 ∷ 102 ∷ 91 ∷ xs) (append_assoc digits (93 ∷ []) rest));
         has = record { digits = digits; is_index = f.is_index; is = refl };
       })
 ]
@@ -146,25 +144,19 @@ none_at behind plain field = λ i rest h. elim (begun i behind rest h) [
   | inr f ↦ field f.inside f.there f.n rest f.has
 ]
 
-head_is : (c d : ℕ) (cs ds : List ℕ) → c ∷ cs ≡ d ∷ ds → c ≡ d
-head_is c d cs ds e = cc
-
-no_head : (c : ℕ) (cs : List ℕ) → [] ≡ c ∷ cs → ⊥
-no_head c cs e = cc
-
 pub no_item_at_end : HasNoItem (37 ∷ [])
 no_item_at_end = none_at [] refl (λ inside e. absurd (no_head 102 inside e))
 
 pub no_letter : (c : ℕ) (cs : List ℕ) → (c ≡ 102 → ⊥) → (c ≡ 112 → ⊥) → letter_item c ≡ None → HasNoItem (37 ∷ c ∷ cs)
 no_letter c cs not_field not_property none =
     none_at (c ∷ cs) (cond-false (c == 112) (property_at cs) (with_rest cs (letter_item c)) (ne_eqb c 112 not_property) ∙ ap (with_rest cs) none)
-    (λ inside e. absurd (not_field (head_is c 102 cs inside e)))
+    (λ inside e. absurd (not_field (same_head c 102 cs inside e)))
 
 pub no_field : (cs : List ℕ) → HasNoIndex cs → HasNoItem (37 ∷ 102 ∷ cs)
-no_field cs none = none_at (102 ∷ cs) refl (λ inside e. subst HasNoIndex (tail_is 102 102 cs inside e) none)
+no_field cs none = none_at (102 ∷ cs) refl (λ inside e. subst HasNoIndex (same_tail 102 102 cs inside e) none)
 
 no_property_by : (cs : List ℕ) → property_at cs ≡ None → HasNoItem (37 ∷ 112 ∷ cs)
-no_property_by cs none = none_at (112 ∷ cs) none (λ inside e. absurd (let h : ◌≡◌ {A = ℕ} 112 102 = head_is 112 102 cs inside e in omega arith))
+no_property_by cs none = none_at (112 ∷ cs) none (λ inside e. absurd (let h : ◌≡◌ {A = ℕ} 112 102 = same_head 112 102 cs inside e in omega arith))
 
 pub no_property_at_end : HasNoItem (37 ∷ 112 ∷ [])
 no_property_at_end = no_property_by [] refl
@@ -212,7 +204,7 @@ one_item i j behind rest more h k = elim (begun i behind rest h) [
   | inr f ↦ elim (begun j behind more k) [
     | inl q ↦ absurd (field_not_plain j i behind more rest q f)
     | inr g ↦
-        let same : HasIndex f.inside g.n more = subst (λ (xs : List ℕ). HasIndex xs g.n more) (tail_is 102 102 g.inside f.inside (sym g.there ∙ f.there)) g.has in
+        let same : HasIndex f.inside g.n more = subst (λ (xs : List ℕ). HasIndex xs g.n more) (same_tail 102 102 g.inside f.inside (sym g.there ∙ f.there)) g.has in
         let one = one_index f.inside rest more f.n g.n f.has same in
         (f.is ∙ ap (λ (n : ℕ). item.Field n) one.0 ∙ sym g.is, one.1)
   ]

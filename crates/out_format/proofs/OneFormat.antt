@@ -1,40 +1,33 @@
 -- Four texts read in at most one way: no spelling of a piece begins another, so the pieces of a text are fixed from its front on, and so is
 -- the first place where none begins.
-use Rattle.std.proofs.Common.{◌≡◌, ℕ, ◌+◌, ◌-◌, ◌<◌, List, [], ◌∷◌, ◌++◌, length, take, drop, refl, sym, ◌∙◌, ap, subst, arith, Option, Some, inl, inr, ◌⊎◌, append_assoc}
+use Rattle.std.proofs.Common.{◌≡◌, ℕ, ◌+◌, ◌-◌, ◌<◌, List, [], ◌∷◌, ◌++◌, length, take, drop, refl, sym, ◌∙◌, ap, subst, arith, Option, inl, inr, ◌⊎◌, append_assoc}
 use Rattle.std.specs.Prelude.{Result, Ok, Err}
 use Rattle.std.proofs.lemmas.List.{length-append, length-drop, take-append-drop}
+use Rattle.std.proofs.lemmas.Option.{same_Some}
 use Rattle.mj_model.specs.declared.format_fault.FormatPart.{FormatPart}
 use Rattle.mj_model.specs.declared.format_fault.FormatPart.TheVariants.{Node, Unk, Bos, Eos}
 use Rattle.mj_model.specs.declared.format_fault.FormatKind.{FormatKind}
 use Rattle.mj_model.specs.declared.format_fault.FormatFault.{FormatFault}
 use Rattle.mj_model.specs.declared.format_fault.FormatFault.TheVariants as fault
+use Rattle.mj_model.proofs.Basics.{same_head, same_tail}
 use Rattle.out_format.specs.Formats.{Piece, Byte, Shows, escaped, Begins, Reads, IsBadAt, bad_kind, Format, FormatTexts, part_text, IsGood, AreGoodBefore, ReadsFormat, IsFormat}
 use Rattle.out_format.proofs.ItemLemmas.{percent_first, one_item}
 use Rattle.out_format.proofs.PieceLemmas.{SpelledBy, byte_no_item, rest_shorter}
 
-head_is : (c d : ℕ) (cs ds : List ℕ) → c ∷ cs ≡ d ∷ ds → c ≡ d
-head_is c d cs ds e = cc
-
-tail_is : (c d : ℕ) (cs ds : List ℕ) → c ∷ cs ≡ d ∷ ds → cs ≡ ds
-tail_is c d cs ds e = cc
-
-some_is : (x y : ℕ) → Some x ≡ Some y → x ≡ y
-some_is x y e = cc
-
 one_byte : (table : ℕ → Option ℕ) (b d : ℕ) (text front back rest more : List ℕ) → SpelledBy table b front → SpelledBy table d back → text ≡ front ++ rest → text ≡ back ++ more → (b ≡ d) × (rest ≡ more)
 one_byte table b d text front back rest more (inl p) (inl q) h k =
     let e : b ∷ rest ≡ d ∷ more = sym (h ∙ ap (λ (xs : List ℕ). xs ++ rest) p.0) ∙ (k ∙ ap (λ (xs : List ℕ). xs ++ more) q.0) in
-    (head_is b d rest more e, tail_is b d rest more e)
+    (same_head b d rest more e, same_tail b d rest more e)
 one_byte table b d text front back rest more (inl p) (inr (c, found, q)) h k =
     let e : b ∷ rest ≡ 92 ∷ c ∷ more = sym (h ∙ ap (λ (xs : List ℕ). xs ++ rest) p.0) ∙ (k ∙ ap (λ (xs : List ℕ). xs ++ more) q) in
-    absurd (p.2 (head_is b 92 rest (c ∷ more) e))
+    absurd (p.2 (same_head b 92 rest (c ∷ more) e))
 one_byte table b d text front back rest more (inr (c, found, p)) (inl q) h k =
     let e : d ∷ more ≡ 92 ∷ c ∷ rest = sym (k ∙ ap (λ (xs : List ℕ). xs ++ more) q.0) ∙ (h ∙ ap (λ (xs : List ℕ). xs ++ rest) p) in
-    absurd (q.2 (head_is d 92 more (c ∷ rest) e))
+    absurd (q.2 (same_head d 92 more (c ∷ rest) e))
 one_byte table b d text front back rest more (inr (c, found, p)) (inr (a, there, q)) h k =
     let e : 92 ∷ c ∷ rest ≡ 92 ∷ a ∷ more = sym (h ∙ ap (λ (xs : List ℕ). xs ++ rest) p) ∙ (k ∙ ap (λ (xs : List ℕ). xs ++ more) q) in
-    let f : c ∷ rest ≡ a ∷ more = tail_is 92 92 (c ∷ rest) (a ∷ more) e in
-    (some_is b d (sym found ∙ ap table (head_is c a rest more f) ∙ there), tail_is c a rest more f)
+    let f : c ∷ rest ≡ a ∷ more = same_tail 92 92 (c ∷ rest) (a ∷ more) e in
+    (same_Some b d (sym found ∙ ap table (same_head c a rest more f) ∙ there), same_tail c a rest more f)
 
 one_piece : (part : FormatPart) (p q : Piece) (text rest more : List ℕ) → Begins part p text rest → Begins part q text more → (p ≡ q) × (rest ≡ more)
 one_piece part (Shows i) (Shows j) text rest more h k =

@@ -5,18 +5,10 @@ use Rattle.mj_model.specs.declared.format_item.FormatItem.{FormatItem}
 use Rattle.mj_model.specs.declared.format_fault.FormatPart.{FormatPart}
 use Rattle.mj_model.specs.declared.format_fault.FormatKind.{FormatKind}
 use Rattle.mj_model.specs.declared.format_fault.FormatKind.TheVariants.{BadEscape}
+use Rattle.mj_model.proofs.Basics.{same_head, same_tail, no_head}
 use Rattle.out_format.specs.Formats.{Piece, Byte, Shows, Spells, SpellsItem, escaped, MayShow, Begins, Reads, IsBadAt, bad_kind, bad_item}
 use Rattle.out_format.specs.FirstItems.{BeginsItem, HasNoItem, IsStuck}
 use Rattle.out_format.proofs.ItemLemmas.{percent_first, one_item}
-
-head_is : (c d : ℕ) (cs ds : List ℕ) → c ∷ cs ≡ d ∷ ds → c ≡ d
-head_is c d cs ds e = cc
-
-tail_is : (c d : ℕ) (cs ds : List ℕ) → c ∷ cs ≡ d ∷ ds → cs ≡ ds
-tail_is c d cs ds e = cc
-
-no_head : (c : ℕ) (cs : List ℕ) → [] ≡ c ∷ cs → ⊥
-no_head c cs e = cc
 
 none_some : (x : ℕ) → None ≡ Some x → ⊥
 none_some x e = cc
@@ -43,7 +35,7 @@ numbers_apart e = omega arith
 item_no_escape : (i : FormatItem) (behind front rest : List ℕ) → SpellsItem i front → 92 ∷ behind ≡ front ++ rest → ⊥
 item_no_escape i behind front rest h is =
     let p = percent_first i front h in
-    numbers_apart (head_is 92 37 behind (p.0 ++ rest) (is ∙ ap (λ (xs : List ℕ). xs ++ rest) p.1))
+    numbers_apart (same_head 92 37 behind (p.0 ++ rest) (is ∙ ap (λ (xs : List ℕ). xs ++ rest) p.1))
 
 -- a byte as it is spelled, where the escapes are any table
 abbrev pub SpelledBy : (ℕ → Option ℕ) → ℕ → List ℕ → Type 0
@@ -51,12 +43,12 @@ SpelledBy table b front = ((front ≡ b ∷ []) × (b ≡ 37 → ⊥) × (b ≡ 
 
 byte_no_escape : (table : ℕ → Option ℕ) (b : ℕ) (behind front rest : List ℕ) → SpelledBy table b front → 92 ∷ behind ≡ front ++ rest
     → ((c : ℕ) (more : List ℕ) → behind ≡ c ∷ more → table c ≡ Some b → ⊥) → ⊥
-byte_no_escape table b behind front rest (inl plain) is none = plain.2 (sym (head_is 92 b behind rest (is ∙ ap (λ (xs : List ℕ). xs ++ rest) plain.0)))
-byte_no_escape table b behind front rest (inr (c, e, spelled)) is none = none c rest (tail_is 92 92 behind (c ∷ rest) (is ∙ ap (λ (xs : List ℕ). xs ++ rest) spelled)) e
+byte_no_escape table b behind front rest (inl plain) is none = plain.2 (sym (same_head 92 b behind rest (is ∙ ap (λ (xs : List ℕ). xs ++ rest) plain.0)))
+byte_no_escape table b behind front rest (inr (c, e, spelled)) is none = none c rest (same_tail 92 92 behind (c ∷ rest) (is ∙ ap (λ (xs : List ℕ). xs ++ rest) spelled)) e
 
 pub byte_no_item : (table : ℕ → Option ℕ) (b : ℕ) (behind front rest : List ℕ) → SpelledBy table b front → 37 ∷ behind ≡ front ++ rest → ⊥
-byte_no_item table b behind front rest (inl plain) is = plain.1 (sym (head_is 37 b behind rest (is ∙ ap (λ (xs : List ℕ). xs ++ rest) plain.0)))
-byte_no_item table b behind front rest (inr (c, e, spelled)) is = numbers_apart (sym (head_is 37 92 behind (c ∷ rest) (is ∙ ap (λ (xs : List ℕ). xs ++ rest) spelled)))
+byte_no_item table b behind front rest (inl plain) is = plain.1 (sym (same_head 37 b behind rest (is ∙ ap (λ (xs : List ℕ). xs ++ rest) plain.0)))
+byte_no_item table b behind front rest (inr (c, e, spelled)) is = numbers_apart (sym (same_head 37 92 behind (c ∷ rest) (is ∙ ap (λ (xs : List ℕ). xs ++ rest) spelled)))
 
 byte_some : (table : ℕ → Option ℕ) (b : ℕ) (front : List ℕ) → SpelledBy table b front → 0 < length front
 byte_some table b front (inl plain) = let e : length front ≡ length (b ∷ []) = ap length plain.0 in omega (arith, e)
@@ -72,7 +64,7 @@ stuck_at_end part = record { stuck = no_escape_by part [] (λ c b rest e found. 
 
 pub stuck_at_escape : (part : FormatPart) (c : ℕ) (rest : List ℕ) → escaped c ≡ None → IsStuck part (92 ∷ c ∷ rest) BadEscape
 stuck_at_escape part c rest none = record {
-  stuck = no_escape_by part (c ∷ rest) (λ d b more e found. none_some b (sym none ∙ ap escaped (head_is c d rest more e) ∙ found));
+  stuck = no_escape_by part (c ∷ rest) (λ d b more e found. none_some b (sym none ∙ ap escaped (same_head c d rest more e) ∙ found));
   is_kind = refl;
 }
 

@@ -1,7 +1,7 @@
 -- What pieces and words show, one after another.
-use Rattle.std.proofs.Common.{◌≡◌, ℕ, ◌+◌, ◌<◌, ◌≤◌, List, [], ◌∷◌, ◌++◌, length, take, drop, get_or, refl, sym, ◌∙◌, ap, subst, arith, Result, Ok, Err, append_assoc, append-nil}
-use Rattle.std.specs.Prelude.{ℤ, pos, ◌+ℤ◌, OnOk, min}
-use Rattle.std.proofs.lemmas.List.{take_more, drop_more, drop_all, take-take, take_at, length-take}
+use Rattle.std.proofs.Common.{◌≡◌, ℕ, ◌+◌, ◌<◌, ◌≤◌, List, [], ◌∷◌, ◌++◌, length, take, drop, get_or, refl, sym, ◌∙◌, ap, subst, Result, Ok, Err, append_assoc, append-nil}
+use Rattle.std.specs.Prelude.{ℤ, pos, ◌+ℤ◌, OnOk}
+use Rattle.std.proofs.lemmas.List.{take_more, drop_more, drop_all}
 use Rattle.std.proofs.lemmas.List.Concat.{flat_map-append}
 use Rattle.mj_model.specs.declared.format_item.FormatItem.{FormatItem}
 use Rattle.mj_model.specs.declared.word.Word.{Word}
@@ -34,9 +34,6 @@ pub record Appended (IsShown : List ℕ → Type 0) (old new : List ℕ) : Type 
   pub is_shown : IsShown shown
   pub appended : new ≡ old ++ shown
 
-pub nothing_yet : (ShowsOne : FormatItem → List ℕ → Type 0) (old : List ℕ) → Appended (ShowsPieces ShowsOne []) old old
-nothing_yet ShowsOne old = record { shown = []; is_shown = refl; appended = sym (append-nil old) }
-
 pub part_more : (ShowsOne : FormatItem → List ℕ → Type 0) (parts : List Part) (i : ℕ) (part : Part) (old mid new : List ℕ) → i < length parts → get_or parts i part ≡ part
     → Appended (ShowsPieces ShowsOne (pieces_of (take i parts))) old mid → (shown : List ℕ) × ShowsPieces ShowsOne (pieces_in part) shown × (new ≡ mid ++ shown)
     → Appended (ShowsPieces ShowsOne (pieces_of (take (i + 1) parts))) old new
@@ -52,16 +49,6 @@ part_more ShowsOne parts i part old mid new in' here so_far (front, is, e) =
     }
 
 -- ---- what stood in front stays there
-
-pub in_front : (old shown new : List ℕ) → new ≡ old ++ shown → take (length old) new ≡ old
-in_front old shown new e = ap (take (length old)) e ∙ take_at old shown (length old) refl
-
-pub front_kept : (old mid new : List ℕ) → take (length old) mid ≡ old → take (length mid) new ≡ mid → take (length old) new ≡ old
-front_kept old mid new a b =
-    let long : length (take (length old) mid) ≡ min (length old) (length mid) = length-take (length old) mid in
-    let same : length (take (length old) mid) ≡ length old = ap length a in
-    let low : length old ≤ length mid = omega (arith, long, same) in
-    sym (take-take (length old) (length mid) new low) ∙ ap (take (length old)) b ∙ a
 
 -- ---- words, one after another
 

@@ -1,6 +1,6 @@
 //! A line as a whole, before its first word or behind its last one.
 
-ghost use Rattle.std.specs.Prelude.{◌≡◌, codes};
+ghost use Rattle.std.specs.Prelude.{◌≡◌};
 
 use crate::appending::{append_bytes, append_cost, append_count};
 use crate::shows_items::ShowsItems;

@@ -1,6 +1,6 @@
 //! One text of a format, read into parts.
 
-ghost use Rattle.std.specs.Prelude.{◌≡◌, MatchResult};
+ghost use Rattle.std.specs.Prelude.{MatchResult};
 ghost use Rattle.out_format.specs.Formats.{Reads};
 ghost use Rattle.out_format.specs.FirstItems.{IsFaultOf};
 ghost use Rattle.out_format.specs.Pieces.{pieces_of};

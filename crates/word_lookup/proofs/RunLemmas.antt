@@ -59,9 +59,6 @@ module _ (info : ℕ → CharInfo) where
   pub end : (entry last : CharInfo) (cs : List ℕ) (k n : ℕ) → length cs ≤ k → n + run info last (drop k cs) ≡ run info entry cs → n ≡ run info entry cs
   end entry last cs k n past so_far = let e = at_drop_all (run info last) cs k past in omega (arith, so_far, e)
 
-  min_suc : (n m : ℕ) → min (suc n) (suc m) ≡ suc (min n m)
-  min_suc n m = omega arith
-
   front_by : (entry : CharInfo) (c : ℕ) (cs : List ℕ) (n : ℕ) (b : Bool) → run info (info c) (take n cs) ≡ min n (run info (info c) cs)
       → cond b (suc (run info (info c) (take n cs))) 0 ≡ min (suc n) (cond b (suc (run info (info c) cs)) 0)
   front_by entry c cs n true h = omega (arith, h)

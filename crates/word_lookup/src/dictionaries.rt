@@ -1,7 +1,6 @@
 //! The dictionaries that words are looked up in.
 
-ghost use Rattle.std.specs.Prelude.{◌≡◌, ℕ, ◌+◌, ◌<◌, ◌≤◌, ◌^◌, ◌++◌, ◌∷◌, [], length, map, take, drop, vec_len, chars, IsTrue, IsOk, IfOk, OnOk, OnErr, IfErr, Bool, Some, None, slice_index_or};
-ghost use Rattle.std.specs.Str.{IsUtf8};
+ghost use Rattle.std.specs.Prelude.{◌≡◌, ◌+◌, ◌<◌, ◌≤◌, ◌^◌, ◌++◌, [], length, map, take, drop, vec_len, chars, IsTrue, IsOk, IfOk, OnOk, OnErr, IfErr, Some, None, slice_index_or};
 ghost use Rattle.paths.specs.Blanks.{skip};
 ghost use Rattle.mj_model.specs.Connection.{is_pair};
 ghost use Rattle.image_bytes.specs.ImageMeaning.{image_tables};
