@@ -1,5 +1,84 @@
-//! Formats read and paths printed, over the sample's sources.
+//! Formats' texts that read, and the first faults of those that don't.
 
-mod parsing;
-mod printing;
-mod samples;
+use crate::{Format, FormatFault, FormatKind, FormatPart};
+use std::test::Fail;
+
+#[test]
+fn node_texts(rt: HostRuntime) -> Result<(), Fail> {
+    use FormatKind::{BadEscape, BadIndex, BadItem};
+    #[rattlefmt::skip]
+    let rows: [(&str, &str, Option<(usize, FormatKind)>); 28] = [
+        // (what, the node's text, the byte of its first fault)
+        ("no text",                           "",                                                        None),
+        ("plain text",                        "名詞/",                                                   None),
+        ("every item",                        "%m%M%pS%H%f[0]%c%s%S%L%phl%phr%pC%pn%pc%pl%pL%ps%pe%t%%", None),
+        ("every escape",                      "\\0\\a\\b\\t\\n\\v\\f\\r\\s\\\\",                         None),
+        ("a backslash at the end",            "a\\",                                                     Some((1, BadEscape))),
+        ("no such escape",                    "\\q",                                                     Some((0, BadEscape))),
+        ("an escaped character of two bytes", "é\\é",                                                    Some((2, BadEscape))),
+        ("a backslash behind an escaped one", "\\\\\\",                                                  Some((2, BadEscape))),
+        ("a percent sign at the end",         "ab%",                                                     Some((2, BadItem))),
+        ("bad_items",                         "%f[9]|%f[0]|%%\\s%q",                                     Some((16, BadItem))),
+        ("%p at the end",                     "%p",                                                      Some((0, BadItem))),
+        ("%ph at the end",                    "%ph",                                                     Some((0, BadItem))),
+        ("no such item of %p",                "%pm",                                                     Some((0, BadItem))),
+        ("no such item of %ph",               "%phc",                                                    Some((0, BadItem))),
+        ("the leftmost fault",                "%q\\q",                                                   Some((0, BadItem))),
+        ("the leftmost fault, an escape",     "\\q%q",                                                   Some((0, BadEscape))),
+        ("%f without an index",               "%f",                                                      Some((0, BadIndex))),
+        ("no number",                         "%f[x]",                                                   Some((0, BadIndex))),
+        ("no digit",                          "%f[]",                                                    Some((0, BadIndex))),
+        ("two indexes",                       "%f[1,2]",                                                 Some((0, BadIndex))),
+        ("no closing bracket",                "%f[1",                                                    Some((0, BadIndex))),
+        ("no opening bracket",                "%f1]",                                                    Some((0, BadIndex))),
+        ("a sign",                            "%f[+1]",                                                  Some((0, BadIndex))),
+        ("the greatest index",                "%f[65535]",                                               None),
+        ("an index that is too great",        "%f[65536]",                                               Some((0, BadIndex))),
+        ("five digits",                       "%f[00001]",                                               None),
+        ("six digits",                        "%f[000001]",                                              Some((0, BadIndex))),
+        ("a field behind text",               "名%f[1]%f[",                                              Some((8, BadIndex))),
+    ];
+    for (what, node, expected) in rows {
+        let part = FormatPart::Node;
+        let fault = expected.map(|(at, kind)| FormatFault::Bad { part, at, kind });
+        let told = Format::parse(rt.alloc(), node, None, "", "").err();
+        assert_eq!(rt; told, fault, "{what}");
+    }
+    Ok(())
+}
+
+#[test]
+fn parts_of_formats(rt: HostRuntime) -> Result<(), Fail> {
+    use FormatKind::{BadEscape, BadItem};
+    use FormatPart::{Bos, Eos, Node, Unk};
+    type Texts = (
+        &'static str,
+        Option<&'static str>,
+        &'static str,
+        &'static str,
+    );
+    #[rattlefmt::skip]
+    let rows: [(&str, Texts, Option<(FormatPart, usize, FormatKind)>); 14] = [
+        // (what, node, unk, bos and eos, the first fault)
+        ("items of the line",                         ("", None, "%S%L%%", "%S%L%pc%%"),   None),
+        ("items of words before the first",           ("", None, "%m", ""),                Some((Bos, 0, BadItem))),
+        ("the cost before the first word",            ("%m", None, "%pc", ""),             Some((Bos, 0, BadItem))),
+        ("a field before the first word",             ("", None, "%f[0]", ""),             Some((Bos, 0, BadItem))),
+        ("%f without an index before the first word", ("", None, "%f", ""),                Some((Bos, 0, BadItem))),
+        ("items of words behind the last",            ("", None, "", "%m"),                Some((Eos, 0, BadItem))),
+        ("a field behind the last word",              ("", None, "", "a%f[0]"),            Some((Eos, 1, BadItem))),
+        ("escapes of the line",                       ("", None, "\\t", "\\q"),            Some((Eos, 0, BadEscape))),
+        ("the part of unknown words",                 ("", Some("%s\\"), "", ""),          Some((Unk, 2, BadEscape))),
+        ("node before unk",                           ("%", Some("\\"), "%", "%"),         Some((Node, 0, BadItem))),
+        ("unk before bos",                            ("", Some("\\"), "%", "%"),          Some((Unk, 0, BadEscape))),
+        ("bos before eos",                            ("", Some(""), "a%", "%"),           Some((Bos, 1, BadItem))),
+        ("a good bos",                                ("", Some(""), "a", "%"),            Some((Eos, 0, BadItem))),
+        ("all parts",                                 ("%m", Some("%M"), "\\n", "%pc\\n"), None),
+    ];
+    for (what, (node, unk, bos, eos), expected) in rows {
+        let fault = expected.map(|(part, at, kind)| FormatFault::Bad { part, at, kind });
+        let told = Format::parse(rt.alloc(), node, unk, bos, eos).err();
+        assert_eq!(rt; told, fault, "{what}");
+    }
+    Ok(())
+}

@@ -11,6 +11,3 @@ mod unknown_entries;
 
 pub use dictionaries::Dictionaries;
 pub use mj_model::{Origin, Word};
-
-#[cfg(test)]
-mod tests;

@@ -10,17 +10,13 @@ fn fault_words(rt: HostRuntime) -> Result<(), Fail> {
         line: 1,
         kind: SourceKind::TooFewFields,
     };
+    #[rattlefmt::skip]
     let rows = [
         // (fault, code, name, text)
-        (
-            RunFault::Source(fault),
-            "S2",
-            "TooFewFields",
-            "file 3, line 1: S2 TooFewFields",
-        ),
-        (RunFault::Write(120), "G2", "Write", "G2 Write 120"),
-        (RunFault::NotUtf8(3), "G3", "NotUtf8", "line 3: G3 NotUtf8"),
-        (RunFault::Memory(0), "Memory", "Memory", "Memory"),
+        (RunFault::Source(fault), "S2",     "TooFewFields", "file 3, line 1: S2 TooFewFields"),
+        (RunFault::Write(120),    "G2",     "Write",        "G2 Write 120"),
+        (RunFault::NotUtf8(3),    "G3",     "NotUtf8",      "line 3: G3 NotUtf8"),
+        (RunFault::Memory(0),     "Memory", "Memory",       "Memory"),
     ];
     for (fault, code, name, text) in rows {
         assert!(rt; fault.code() == code, "{text}");

@@ -1,5 +1,6 @@
 //! Best paths over sources, with their totals.
 
+use super::samples::{letters, system};
 use crate::dicts::system_dict;
 use crate::sample;
 use dict_image::Dict;
@@ -7,33 +8,13 @@ use lattice::{Lattice, best_path};
 use mj_model::{SENTENCE_MAX, Sources};
 use std::alloc::Global;
 use std::process::Abort;
-use std::str;
-use std::str::Utf8Error;
-use std::string::String;
 use std::test::Fail;
 use word_lookup::Dictionaries;
-
-/// The sample's lexicon.
-fn plums() -> Result<&'static str, Utf8Error> {
-    let lexicon = sample().lexicons.first();
-    lexicon.map_or(Ok(""), |lexicon| str::from_utf8(lexicon))
-}
-
-/// The sample's dictionary, with further lines of `char.def` and this lexicon.
-fn dict(alloc: Global, further: &str, lexicon: &str) -> Result<Dict, Fail> {
-    let mut chars = Vec::from_slice(alloc, sample().chars)?;
-    chars.extend_from_slice(further.as_bytes())?;
-    let sources = Sources {
-        chars: &chars,
-        lexicons: &[lexicon.as_bytes()],
-        ..sample()
-    };
-    Ok(system_dict(alloc, &sources)?)
-}
 
 /// Asks for the best path of a text: these words at this total.
 fn expect_path(
     rt: &(impl Abort + Alloc<A = Global>),
+    what: &str,
     dict: &Dict,
     grouping: u16,
     text: &str,
@@ -44,66 +25,40 @@ fn expect_path(
     assert!(rt; text.len() <= SENTENCE_MAX);
     let dictionaries = Dictionaries::new(dict, &[])?.with_grouping(grouping);
     let path = best_path(rt.alloc(), &dictionaries, text)?;
-    assert_eq!(rt; path.total, total, "{text}");
-    assert_eq!(rt; path.words.len(), surfaces.len(), "{text}");
+    assert_eq!(rt; path.total, total, "{what}");
+    assert_eq!(rt; path.words.len(), surfaces.len(), "{what}");
     for (word, surface) in path.words.iter().zip(surfaces.iter()) {
-        assert!(rt; text.get(word.start..word.end) == Some(*surface), "{text}");
+        assert!(rt; text.get(word.start..word.end) == Some(*surface), "{what}");
     }
     Ok(())
 }
 
 #[test]
 fn best_paths(rt: HostRuntime) -> Result<(), Fail> {
-    let plums = plums()?;
-    let letters = "a,1,1,10,X\nb,1,1,10,X\nab,1,1,27,X\n";
+    let plums = sample().lexicons;
+    let letters: &[&[u8]] = &[b"a,1,1,10,X\nb,1,1,10,X\nab,1,1,27,X\n"];
     let blank = "すもも,1,1,100,X\nも,1,1,20,X\nもも,1,1,30,X\nも ,1,1,500,Z\n";
-    let rows: [(&str, &str, &str, &str, i64, &[&str]); 12] = [
-        // (what, further lines of char.def, lexicon, text, total, surfaces)
-        ("sumomo", "", plums, "すもももも", 152, &["すもも", "もも"]),
-        ("only_blanks", "", plums, "   ", 0, &[]),
-        ("tie_later_place", "", letters, "ab", 42, &["a", "b"]),
-        ("tokyo_tie", "", plums, "東京都", 2022, &["東京", "都"]),
-        ("katakana_group_and_length", "", plums, "アイ", 1015, &["アイ"]),
-        (
-            "chain_over_prolonged_mark",
-            "0x30FC KATAKANA HIRAGANA\n",
-            plums,
-            "アーす",
-            1015,
-            &["アーす"],
-        ),
-        ("ends_later", "", blank, "も ", 515, &["も "]),
-        ("beyond_the_basic_plane", "", plums, "𠮷野", 2022, &["𠮷", "野"]),
-        (
-            "U+0000 is itself alone",
-            "0x0000 KANJI\n",
-            plums,
-            "𠮷野",
-            2022,
-            &["𠮷", "野"],
-        ),
-        (
-            "mapped beyond the basic plane",
-            "0x20000..0x2A6DF KANJI\n",
-            plums,
-            "𠮷野",
-            1015,
-            &["𠮷野"],
-        ),
-        (
-            "U+FFFF may be mapped",
-            "0xFFFF KANJI\n",
-            plums,
-            "も",
-            35,
-            &["も"],
-        ),
-        ("empty_lexicon", "", "", "も", 1015, &["も"]),
+    let blank: &[&[u8]] = &[blank.as_bytes()];
+    let none: &[&[u8]] = &[b""];
+    #[rattlefmt::skip]
+    let rows: [(&str, &str, &[&[u8]], &str, i64, &[&str]); 12] = [
+        // (what, a line of char.def, lexicon, text, total, surfaces)
+        ("sumomo",                        "",                           plums,   "すもももも", 152,  &["すもも", "もも"]),
+        ("only_blanks",                   "",                           plums,   "   ",        0,    &[]),
+        ("tie_later_place",               "",                           letters, "ab",         42,   &["a", "b"]),
+        ("tokyo_tie",                     "",                           plums,   "東京都",     2022, &["東京", "都"]),
+        ("katakana_group_and_length",     "",                           plums,   "アイ",       1015, &["アイ"]),
+        ("chain_over_prolonged_mark",     "0x30FC KATAKANA HIRAGANA\n", plums,   "アーす",     1015, &["アーす"]),
+        ("ends_later",                    "",                           blank,   "も ",        515,  &["も "]),
+        ("beyond_the_basic_plane",        "",                           plums,   "𠮷野",       2022, &["𠮷", "野"]),
+        ("U+0000 is itself alone",        "0x0000 KANJI\n",             plums,   "𠮷野",       2022, &["𠮷", "野"]),
+        ("mapped beyond the basic plane", "0x20000..0x2A6DF KANJI\n",   plums,   "𠮷野",       1015, &["𠮷野"]),
+        ("U+FFFF may be mapped",          "0xFFFF KANJI\n",             plums,   "も",         35,   &["も"]),
+        ("empty_lexicon",                 "",                           none,    "も",         1015, &["も"]),
     ];
-    for (what, further, lexicon, text, total, surfaces) in rows {
-        let dict = dict(rt.alloc(), further, lexicon)?;
-        expect_path(&rt, &dict, 24, text, total, surfaces)?;
-        assert!(rt; !what.is_empty());
+    for (what, line, lexicons, text, total, surfaces) in rows {
+        let dict = system(rt.alloc(), line, lexicons)?;
+        expect_path(&rt, what, &dict, 24, text, total, surfaces)?;
     }
     Ok(())
 }
@@ -127,9 +82,9 @@ fn grouping_limit(rt: HostRuntime) -> Result<(), Fail> {
         (0, "アイ", 2022, &["ア", "イ"]),
         (1000, LETTERS_27, 1015, &[LETTERS_27]),
     ];
-    let dict = dict(rt.alloc(), "", plums()?)?;
+    let dict = system_dict(rt.alloc(), &sample())?;
     for (grouping, text, total, surfaces) in rows {
-        expect_path(&rt, &dict, grouping, text, total, surfaces)?;
+        expect_path(&rt, text, &dict, grouping, text, total, surfaces)?;
     }
     let long = letters(rt.alloc(), 1001)?;
     assert!(rt; long.len() <= SENTENCE_MAX);
@@ -140,12 +95,6 @@ fn grouping_limit(rt: HostRuntime) -> Result<(), Fail> {
     Ok(())
 }
 
-/// The letter `z`, so many times.
-fn letters(alloc: Global, count: usize) -> Result<String, Fail> {
-    let bytes = Vec::from_elem(alloc, b'z', count)?;
-    Ok(String::from_str(alloc, str::from_utf8(&bytes)?)?)
-}
-
 #[test]
 fn asymmetric_matrix(rt: HostRuntime) -> Result<(), Fail> {
     let sources = Sources {
@@ -154,7 +103,7 @@ fn asymmetric_matrix(rt: HostRuntime) -> Result<(), Fail> {
         ..sample()
     };
     let dict = system_dict(rt.alloc(), &sources)?;
-    expect_path(&rt, &dict, 24, "も", 129, &["も"])
+    expect_path(&rt, "も", &dict, 24, "も", 129, &["も"])
 }
 
 #[test]
@@ -165,7 +114,7 @@ fn longest_line(rt: HostRuntime) -> Result<(), Fail> {
         (65_536, 65_970_592, 65_512),
         (SENTENCE_MAX, 1_055_891_872, 1_048_552),
     ];
-    let dict = dict(rt.alloc(), "", plums()?)?;
+    let dict = system_dict(rt.alloc(), &sample())?;
     let dictionaries = Dictionaries::new(&dict, &[])?;
     for (bytes, total, words) in rows {
         let text = letters(rt.alloc(), bytes)?;
@@ -186,7 +135,7 @@ fn one_lattice(rt: HostRuntime) -> Result<(), Fail> {
         ("すもももも", 152, 2),
         ("", 0, 0),
     ];
-    let dict = dict(rt.alloc(), "", plums()?)?;
+    let dict = system_dict(rt.alloc(), &sample())?;
     let dictionaries = Dictionaries::new(&dict, &[])?;
     let mut lattice = Lattice::new(rt.alloc());
     for (text, total, words) in rows {

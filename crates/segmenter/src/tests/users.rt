@@ -1,9 +1,9 @@
 //! User dictionaries over the sample.
 
 use super::runs::{run, run_in};
+use super::samples::user;
+use crate::dicts::system_dict;
 use crate::{sample, segment};
-use dict_compile::{compile, compile_user};
-use dict_image::load;
 use mj_model::{Counted, RunFault, SourceFault, SourceKind, Sources};
 use out_format::Format;
 use std::alloc::Global;
@@ -120,22 +120,16 @@ fn sources_before_users(rt: HostRuntime) {
 #[test]
 fn segment_over_images(rt: HostRuntime) -> Result<(), Fail> {
     let alloc = rt.alloc();
-    let system = load(alloc, compile(alloc, &sample())?.image)?;
-    let compiled = compile_user(alloc, &system, &[USER.as_bytes()])?;
-    assert_eq!(rt; compiled.entries, 1);
-    let users = [load(alloc, compiled.image)?];
+    let system = system_dict(alloc, &sample())?;
+    let users = [user(alloc, &system, USER)?];
     let words = Format::default_of(alloc)?;
     let costs = Format::parse(alloc, "%m/%f[1]/%pc ", None, "", "%pc\\n")?;
+    #[rattlefmt::skip]
     let rows = [
         // (what, format, whether the user's dictionary is laid over it, output)
-        ("sumomo", &words, false, "すもも\t名詞,すもも\nもも\t名詞,もも\nEOS\n"),
-        (
-            "costs of sumomo",
-            &costs,
-            false,
-            "すもも/すもも/110 もも/もも/147 152\n",
-        ),
-        ("with a user", &costs, true, "すもも/すもも/110 もも/ユーザ/118 123\n"),
+        ("sumomo",          &words, false, "すもも\t名詞,すもも\nもも\t名詞,もも\nEOS\n"),
+        ("costs of sumomo", &costs, false, "すもも/すもも/110 もも/もも/147 152\n"),
+        ("with a user",     &costs, true,  "すもも/すもも/110 もも/ユーザ/118 123\n"),
     ];
     for (what, format, with_user, output) in rows {
         let laid_over = if with_user { &users[..] } else { &users[..0] };

@@ -1,19 +1,21 @@
 //! Blanks and categories.
 
-use super::samples::{LEXICON, alone, system};
-use super::words::is_at;
+use super::expected_words::is_at;
+use super::samples::system;
+use crate::sample;
 use std::alloc::Global;
 use std::test::Fail;
+use word_lookup::Dictionaries;
 
-/// The place behind the blanks of a place, over the sample's dictionary with a further mapping.
+/// The place behind the blanks of a place, over the sample's dictionary with a further line of `char.def`.
 fn blanks_behind(
     alloc: Global,
-    mapping: &str,
+    line: &str,
     text: &str,
     place: usize,
 ) -> Result<Option<usize>, Fail> {
-    let system = system(alloc, mapping, LEXICON)?;
-    let dictionaries = alone(&system)?;
+    let system = system(alloc, line, sample().lexicons)?;
+    let dictionaries = Dictionaries::new(&system, &[])?;
     if is_at(text, place) {
         Ok(Some(dictionaries.blanks(text, place)))
     } else {
@@ -24,7 +26,7 @@ fn blanks_behind(
 #[test]
 fn blanks(rt: HostRuntime) -> Result<(), Fail> {
     let rows = [
-        // (what, a further mapping, text, place, place behind the blanks)
+        // (what, a further line of char.def, text, place, place behind the blanks)
         ("no blank", "", "も", 0, 0),
         ("one blank", "", " すもも  もも ", 0, 1),
         ("two blanks", "", " すもも  もも ", 10, 12),
@@ -33,9 +35,9 @@ fn blanks(rt: HostRuntime) -> Result<(), Fail> {
         ("a wide blank", "0x3000 SPACE\n", "\u{3000}も", 0, 3),
         ("on over a letter", "0x0009 SPACE ALPHA\n", "\tzも", 0, 2),
     ];
-    for (what, mapping, text, place, behind) in rows {
+    for (what, line, text, place, behind) in rows {
         assert_eq!(rt;
-            blanks_behind(rt.alloc(), mapping, text, place)?,
+            blanks_behind(rt.alloc(), line, text, place)?,
             Some(behind),
             "{what}"
         );
@@ -46,16 +48,16 @@ fn blanks(rt: HostRuntime) -> Result<(), Fail> {
 #[test]
 fn categories(rt: HostRuntime) -> Result<(), Fail> {
     let rows = [
-        // (what, a further mapping, character, set of categories, first category)
+        // (what, a further line of char.def, character, set of categories, first category)
         ("a letter", "", 'z', 4, 2),
         ("a blank", "", ' ', 2, 1),
         ("two categories", "0x30FC KATAKANA HIRAGANA\n", 'ー', 40, 3),
         ("not mapped", "", '𠮷', 1, 0),
         ("mapped", "0x20000..0x2A6DF KANJI\n", '𠮷', 16, 4),
     ];
-    for (what, mapping, c, bits, first) in rows {
-        let system = system(rt.alloc(), mapping, LEXICON)?;
-        let info = alone(&system)?.info(c);
+    for (what, line, c, bits, first) in rows {
+        let system = system(rt.alloc(), line, sample().lexicons)?;
+        let info = Dictionaries::new(&system, &[])?.info(c);
         assert_eq!(rt; info.bits, bits, "{what}");
         assert_eq!(rt; info.first(), first, "{what}");
     }

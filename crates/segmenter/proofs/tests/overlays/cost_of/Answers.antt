@@ -3,7 +3,7 @@ use Rattle.std.specs.Prelude.{IsTrue}
 use Rattle.mj_model.specs.declared.matrix_sizes.MatrixSizes.{MatrixSizes}
 use Rattle.mj_model.specs.Connection.{is_pair}
 use Rattle.mj_model.specs.Tables.{Overlay}
-use Rattle.word_lookup.proofs.tests.overlays.cost_of.Goals as goal
+use Rattle.segmenter.proofs.tests.overlays.cost_of.Goals as goal
 
 pub cost-requires : goal.cost-requires
 cost-requires c =

@@ -1,6 +1,6 @@
 use Rattle.std.proofs.lemmas.Str.{IsUtf8-drop}
 use Rattle.paths.proofs.PlaceWords.{place_there}
-use Rattle.word_lookup.proofs.tests.words.is_at.Goals as goal
+use Rattle.segmenter.proofs.tests.expected_words.is_at.Goals as goal
 
 pub returns : goal.returns
 returns c = λ there.

@@ -1,6 +1,0 @@
-//! Words at places of texts, over compiled dictionaries.
-
-mod characters;
-mod overlays;
-mod samples;
-mod words;
