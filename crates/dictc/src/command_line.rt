@@ -1,8 +1,8 @@
 //! The command line.
 
-use crate::choices::{Options, OptionsFault};
-use clap::error::ErrorKind;
-use clap::{Arg, ArgAction, ArgMatches, Command, Error};
+use crate::choices::Options;
+use clap::{Arg, ArgAction, ArgMatches, Command};
+use programs::{OptionsFault, found, needed_text, texts_of};
 use std::alloc::{AllocError, Global};
 use std::string::String;
 
@@ -14,13 +14,11 @@ const USER: &str = "user";
 
 /// Reads the words that follow the program's name.
 pub fn options(alloc: Global, words: Vec<String>) -> Result<Options, OptionsFault> {
-    let command = match command(alloc) {
-        Ok(command) => command,
-        Err(_) => return Err(OptionsFault::Memory),
-    };
-    match command.try_get_matches_from(words.as_slice()) {
-        Ok(matches) => chosen(alloc, &matches).map_err(|_| OptionsFault::Memory),
-        Err(error) => Err(options_fault(alloc, &error)),
+    let matches = found(alloc, command(alloc)?, words.as_slice())?;
+    match matches.subcommand() {
+        Some((name, given)) if name == USER => user_options(alloc, given),
+        Some((_, given)) => system_options(alloc, given),
+        None => system_options(alloc, &matches),
     }
 }
 
@@ -84,54 +82,22 @@ fn lexicons_arg<'a>(alloc: Global) -> Arg<'a> {
         .help("The lexicons, in their order")
 }
 
-/// The choices that were found.
-fn chosen(alloc: Global, matches: &ArgMatches<'_>) -> Result<Options, AllocError> {
-    let user = matches.subcommand_name() == Some(USER);
-    match matches.subcommand() {
-        Some((_, given)) => choices(alloc, user, given),
-        None => choices(alloc, user, matches),
-    }
-}
-
-/// The choices of a subcommand.
-fn choices(alloc: Global, user: bool, given: &ArgMatches<'_>) -> Result<Options, AllocError> {
-    Ok(Options {
-        user,
-        matrix: text_of(alloc, given, "matrix")?,
-        chars: text_of(alloc, given, "char")?,
-        unk: text_of(alloc, given, "unk")?,
-        dic: text_of(alloc, given, "dic")?,
-        out: String::from_str(alloc, given.get_str("out").unwrap_or(""))?,
-        lexicons: texts_of(alloc, given.get_strs("lexicons").unwrap_or(&[]))?,
+/// The choices of `dictc system`.
+fn system_options(alloc: Global, given: &ArgMatches<'_>) -> Result<Options, OptionsFault> {
+    Ok(Options::System {
+        matrix: needed_text(alloc, given, "matrix")?,
+        chars: needed_text(alloc, given, "char")?,
+        unk: needed_text(alloc, given, "unk")?,
+        out: needed_text(alloc, given, "out")?,
+        lexicons: texts_of(alloc, given, "lexicons")?,
     })
 }
 
-/// The value of an option, where it was given.
-fn text_of(
-    alloc: Global,
-    matches: &ArgMatches<'_>,
-    id: &str,
-) -> Result<Option<String>, AllocError> {
-    match matches.get_str(id) {
-        Some(text) => Ok(Some(String::from_str(alloc, text)?)),
-        None => Ok(None),
-    }
-}
-
-fn texts_of(alloc: Global, given: &[&str]) -> Result<Vec<String>, AllocError> {
-    given
-        .iter()
-        .map(|text| String::from_str(alloc, text))
-        .try_collect(alloc)
-}
-
-fn options_fault(alloc: Global, error: &Error) -> OptionsFault {
-    if error.kind() == ErrorKind::OutOfMemory {
-        return OptionsFault::Memory;
-    }
-    match format!(in alloc; "{error}") {
-        Ok(text) if error.use_stderr() => OptionsFault::Bad(text),
-        Ok(text) => OptionsFault::Help(text),
-        Err(_) => OptionsFault::Memory,
-    }
+/// The choices of `dictc user`.
+fn user_options(alloc: Global, given: &ArgMatches<'_>) -> Result<Options, OptionsFault> {
+    Ok(Options::User {
+        dic: needed_text(alloc, given, "dic")?,
+        out: needed_text(alloc, given, "out")?,
+        lexicons: texts_of(alloc, given, "lexicons")?,
+    })
 }

@@ -4,72 +4,34 @@
 mod choices;
 mod command_line;
 mod compiling;
-mod fault;
 mod reporting;
 
-use choices::{Options, OptionsFault};
+use choices::Options;
 use command_line::options;
 use compiling::compile_image;
-use fault::Fault;
-use reporting::{done, report};
+use programs::{Fault, OptionsFault, ended, words_given};
+use reporting::tell_counts;
 use std::process::ExitCode;
-use std::string::String;
-use std::{env, io};
+
+/// The program's name, as its lines begin.
+const PROGRAM: &str = "dictc";
 
 fn main(rt: HostRuntime) -> ExitCode {
-    let status = match words_given(&rt) {
-        Ok(words) => run(&rt, words),
-        Err(error) => ended(&rt, OptionsFault::of_words(rt.alloc(), &error)),
+    let status = match options_given(&rt) {
+        Ok(options) => ended(&rt, PROGRAM, run(&rt, &options)),
+        Err(fault) => fault.tell(&rt, PROGRAM),
     };
     ExitCode::from(status)
 }
 
-/// The words that follow the program's name.
-fn words_given(rt: &HostRuntime) -> io::Result<Vec<String>> {
-    let mut words = Vec::new(rt.alloc());
-    for word in env::args(rt)?.skip(1) {
-        words.push(word)?;
-    }
-    Ok(words)
+fn options_given(rt: &HostRuntime) -> Result<Options, OptionsFault> {
+    options(rt.alloc(), words_given(rt, PROGRAM)?)
 }
 
-/// Does what the words ask for, and answers the exit status.
-fn run(rt: &HostRuntime, words: Vec<String>) -> u8 {
-    match options(rt.alloc(), words) {
-        Ok(options) => run_with(rt, &options),
-        Err(fault) => ended(rt, fault),
-    }
-}
-
-/// Prints why there are no choices, and answers the exit status.
-fn ended(rt: &HostRuntime, fault: OptionsFault) -> u8 {
-    match fault {
-        OptionsFault::Help(text) => {
-            let _ = rt.print(text);
-            0
-        }
-        OptionsFault::Bad(text) => {
-            let _ = rt.eprint(text);
-            2
-        }
-        OptionsFault::Memory => told(rt, &Fault::Memory),
-    }
-}
-
-/// Compiles, and answers the exit status.
-fn run_with(rt: &HostRuntime, options: &Options) -> u8 {
-    match compile_image(rt, options) {
-        Ok(compiled) => match done(&compiled, &mut rt.stdout()) {
-            0 => 0,
-            _ => told(rt, &Fault::Output),
-        },
-        Err(fault) => told(rt, &fault),
-    }
-}
-
-/// Tells a fault on standard error.
-fn told(rt: &HostRuntime, fault: &Fault) -> u8 {
-    report(fault, &mut rt.stderr())
+/// Compiles, and tells what was compiled on standard output.
+fn run(rt: &HostRuntime, options: &Options) -> Result<(), Fault> {
+    let compiled = compile_image(rt, options)?;
+    tell_counts(&compiled, &mut rt.stdout())
 }
 
 #[cfg(test)]

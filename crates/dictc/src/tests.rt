@@ -17,13 +17,6 @@ pub(crate) fn words(alloc: Global, given: &[&str]) -> Result<Vec<String>, AllocE
     Ok(words)
 }
 
-pub(crate) fn is_text(got: &Option<String>, wanted: Option<&str>) -> bool {
-    match got {
-        Some(text) => wanted == Some(text.as_str()),
-        None => wanted == None,
-    }
-}
-
 /// A new directory of this test's own.
 pub(crate) fn new_directory(rt: &HostRuntime, test: &str) -> io::Result<String> {
     let id = process::id(rt.process());

@@ -1,9 +1,9 @@
 //! The command line.
 
-use crate::choices::{Options, OptionsFault};
-use clap::error::ErrorKind;
-use clap::{Arg, ArgAction, ArgGroup, ArgMatches, Command, Error, value_parser};
+use crate::choices::{Input, Options};
+use clap::{Arg, ArgAction, ArgGroup, ArgMatches, Command, value_parser};
 use mj_model::{GROUPING_DEFAULT, GROUPING_MAX};
+use programs::{OptionsFault, found, text_of, texts_of};
 use std::alloc::{AllocError, Global};
 use std::string::String;
 
@@ -12,14 +12,8 @@ const OUTPUTS: [&str; 1] = ["wakati"];
 
 /// Reads the words that follow the program's name.
 pub fn options(alloc: Global, words: Vec<String>) -> Result<Options, OptionsFault> {
-    let command = match command(alloc) {
-        Ok(command) => command,
-        Err(_) => return Err(OptionsFault::Memory),
-    };
-    match command.try_get_matches_from(words.as_slice()) {
-        Ok(matches) => choices(alloc, &matches).map_err(|_| OptionsFault::Memory),
-        Err(error) => Err(options_fault(alloc, &error)),
-    }
+    let matches = found(alloc, command(alloc)?, words.as_slice())?;
+    Ok(choices(alloc, &matches)?)
 }
 
 /// What the program takes.
@@ -110,10 +104,7 @@ fn format_arg<'a>(alloc: Global, id: &'a str, letter: char, help: &'a str) -> Ar
 /// The choices that were found.
 fn choices(alloc: Global, matches: &ArgMatches<'_>) -> Result<Options, AllocError> {
     Ok(Options {
-        dic: text_of(alloc, matches, "dic")?,
-        users: texts_of(alloc, matches.get_strs("users").unwrap_or(&[]))?,
-        sources: text_of(alloc, matches, "sources")?,
-        sample: matches.get_flag("sample"),
+        input: input(alloc, matches)?,
         grouping: matches.get_one("grouping").unwrap_or(GROUPING_DEFAULT),
         output: text_of(alloc, matches, "output")?,
         node: text_of(alloc, matches, "node")?,
@@ -123,32 +114,14 @@ fn choices(alloc: Global, matches: &ArgMatches<'_>) -> Result<Options, AllocErro
     })
 }
 
-/// The value of an option, where it was given.
-fn text_of(
-    alloc: Global,
-    matches: &ArgMatches<'_>,
-    id: &str,
-) -> Result<Option<String>, AllocError> {
-    match matches.get_str(id) {
-        Some(text) => Ok(Some(String::from_str(alloc, text)?)),
-        None => Ok(None),
+/// By what the text is cut: an image, a directory, or else the sample.
+fn input(alloc: Global, matches: &ArgMatches<'_>) -> Result<Input, AllocError> {
+    if let Some(dic) = text_of(alloc, matches, "dic")? {
+        let users = texts_of(alloc, matches, "users")?;
+        return Ok(Input::Images { dic, users });
     }
-}
-
-fn texts_of(alloc: Global, given: &[&str]) -> Result<Vec<String>, AllocError> {
-    given
-        .iter()
-        .map(|text| String::from_str(alloc, text))
-        .try_collect(alloc)
-}
-
-fn options_fault(alloc: Global, error: &Error) -> OptionsFault {
-    if error.kind() == ErrorKind::OutOfMemory {
-        return OptionsFault::Memory;
-    }
-    match format!(in alloc; "{error}") {
-        Ok(text) if error.use_stderr() => OptionsFault::Bad(text),
-        Ok(text) => OptionsFault::Help(text),
-        Err(_) => OptionsFault::Memory,
+    match text_of(alloc, matches, "sources")? {
+        Some(dir) => Ok(Input::Sources(dir)),
+        None => Ok(Input::Sample),
     }
 }

@@ -1,17 +1,14 @@
 //! Standard input is cut by the dictionary that the command line names.
 
-use crate::choices::Options;
-use crate::fault::Fault;
+use crate::choices::{Input, Options};
 use crate::formatting::format_of;
 use crate::images::cut_by_images;
 use crate::source_directory::read_directory;
-use files::texts;
-use mj_model::{Counted, GROUPING_MAX, RunFault, SourceFault, Sources};
+use mj_model::{Counted, GROUPING_MAX, RunFault, Sources};
 use out_format::Format;
+use programs::{Fault, texts};
 use segmenter::{run_sources, sample};
-use std::alloc::{AllocError, Global};
 use std::io::Write;
-use std::string::String;
 
 /// How words are cut and printed.
 #[derive(Drop)]
@@ -24,16 +21,15 @@ pub struct Manner {
 pub fn cut(rt: &HostRuntime, options: &Options) -> Result<(), Fault> {
     let manner = Manner {
         grouping: options.grouping,
-        format: format_of(rt.alloc(), options).map_err(Fault::Format)?,
+        format: format_of(rt.alloc(), options)?,
     };
-    match (&options.dic, &options.sources) {
-        (Some(dic), _) => cut_by_images(rt, dic.as_str(), &options.users, &manner),
-        (None, Some(dir)) => cut_by_directory(rt, dir.as_str(), &manner),
-        (None, None) => match cut_by(rt, &sample(), &manner) {
-            Ok(()) => Ok(()),
-            Err(RunFault::Source(fault)) => Err(source_fault(rt.alloc(), "sample", fault)),
-            Err(fault) => Err(Fault::Run(fault)),
-        },
+    match &options.input {
+        Input::Images { dic, users } => cut_by_images(rt, dic.as_str(), users, &manner),
+        Input::Sources(dir) => cut_by_directory(rt, dir.as_str(), &manner),
+        Input::Sample => cut_by(rt, &sample(), &manner).map_err(|fault| match fault {
+            RunFault::Source(fault) => Fault::of_source(rt.alloc(), "sample", fault),
+            fault => Fault::Run(fault),
+        }),
     }
 }
 
@@ -47,41 +43,27 @@ fn cut_by_directory(rt: &HostRuntime, dir: &str, manner: &Manner) -> Result<(), 
         unk: &files.unk.bytes,
         lexicons: &lexicons,
     };
-    match cut_by(rt, &sources, manner) {
-        Ok(()) => Ok(()),
-        Err(RunFault::Source(fault)) => {
-            Err(source_fault(rt.alloc(), files.path(fault.file), fault))
-        }
-        Err(fault) => Err(Fault::Run(fault)),
-    }
+    cut_by(rt, &sources, manner).map_err(|fault| match fault {
+        RunFault::Source(fault) => Fault::of_source(rt.alloc(), files.path(fault.file), fault),
+        fault => Fault::Run(fault),
+    })
 }
 
 /// Cuts it by sources, without users' ones. After a fault what was printed before is flushed.
 fn cut_by(rt: &HostRuntime, sources: &Sources<'_>, manner: &Manner) -> Result<(), RunFault> {
     let mut reader = Counted::new(rt.reader());
     let mut writer = Counted::new(rt.stdout());
-    let grouping = manner.grouping.min(GROUPING_MAX);
-    match run_sources(
+    let cut = run_sources(
         rt.alloc(),
         sources,
         &[],
-        grouping,
+        manner.grouping.min(GROUPING_MAX),
         &manner.format,
         &mut reader,
         &mut writer,
-    ) {
-        Ok(_) => Ok(()),
-        Err(fault) => {
-            let _ = writer.flush();
-            Err(fault)
-        }
+    );
+    if cut.is_err() {
+        let _ = writer.flush();
     }
-}
-
-/// A source's fault with its path.
-fn source_fault(alloc: Global, path: &str, fault: SourceFault) -> Fault {
-    match String::from_str(alloc, path) {
-        Ok(path) => Fault::Source(path, fault),
-        Err(AllocError) => Fault::Memory,
-    }
+    cut.map(|_lines| ())
 }

@@ -1,12 +1,10 @@
 //! Standard input is cut by the images that the command line names.
 
 use crate::cutting::Manner;
-use crate::fault::Fault;
-use dict_image::{Dict, load};
-use files::WholeFile;
 use mj_model::{Counted, GROUPING_MAX, OverlayFault};
+use programs::{Fault, dictionaries_at, dictionary_at};
 use segmenter::segment;
-use std::alloc::{AllocError, Global};
+use std::alloc::Global;
 use std::io::Write;
 use std::string::String;
 use word_lookup::Dictionaries;
@@ -20,42 +18,22 @@ pub fn cut_by_images(
 ) -> Result<(), Fault> {
     let system = dictionary_at(rt, dic)?;
     let overlays = dictionaries_at(rt, users)?;
-    let dictionaries = match Dictionaries::new(&system, &overlays) {
-        Ok(dictionaries) => dictionaries.with_grouping(manner.grouping.min(GROUPING_MAX)),
-        Err(fault) => return Err(overlay_fault(rt.alloc(), dic, users, fault)),
-    };
+    let dictionaries = Dictionaries::new(&system, &overlays)
+        .map_err(|fault| overlay_fault(rt.alloc(), dic, users, fault))?
+        .with_grouping(manner.grouping.min(GROUPING_MAX));
     let mut reader = Counted::new(rt.reader());
     let mut writer = Counted::new(rt.stdout());
-    match segment(
+    let cut = segment(
         rt.alloc(),
         &dictionaries,
         &manner.format,
         &mut reader,
         &mut writer,
-    ) {
-        Ok(_) => Ok(()),
-        Err(fault) => {
-            let _ = writer.flush();
-            Err(Fault::Run(fault))
-        }
+    );
+    if cut.is_err() {
+        let _ = writer.flush();
     }
-}
-
-/// The dictionary of the image at a path.
-pub fn dictionary_at(rt: &HostRuntime, path: &str) -> Result<Dict, Fault> {
-    let file = WholeFile::read(rt, path)?;
-    match load(rt.alloc(), file.bytes) {
-        Ok(dictionary) => Ok(dictionary),
-        Err(fault) => Err(Fault::Image(file.path, fault)),
-    }
-}
-
-/// The dictionaries of the images at paths, read one after the other.
-fn dictionaries_at(rt: &HostRuntime, paths: &[String]) -> Result<Vec<Dict>, Fault> {
-    paths
-        .iter()
-        .map(|path| dictionary_at(rt, path.as_str()))
-        .try_collect(rt.alloc())
+    cut.map(|_lines| ()).map_err(Fault::Run)
 }
 
 /// What is wrong with the images together, with the path of the one at fault.
@@ -67,8 +45,5 @@ pub fn overlay_fault(alloc: Global, dic: &str, users: &[String], fault: OverlayF
             None => dic,
         },
     };
-    match String::from_str(alloc, path) {
-        Ok(path) => Fault::Overlay(path, fault),
-        Err(AllocError) => Fault::Memory,
-    }
+    Fault::of_overlay(alloc, path, fault)
 }

@@ -1,8 +1,7 @@
-//! Command lines, files, and what is told of faults.
+//! Command lines, files, and images at fault.
 
 mod command_lines;
 mod directories;
-mod told;
 mod user_images;
 
 use std::alloc::{AllocError, Global};

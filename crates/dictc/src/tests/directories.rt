@@ -3,8 +3,8 @@
 use super::{in_directory, new_directory};
 use crate::choices::Options;
 use crate::compiling::compile_image;
-use crate::fault::Fault;
 use mj_model::ImageFault;
+use programs::Fault;
 use std::test::Fail;
 use std::{fs, io};
 
@@ -12,13 +12,19 @@ use std::{fs, io};
 fn options_in(rt: &HostRuntime, dir: &str, user: bool) -> io::Result<Options> {
     let mut lexicons = Vec::new(rt.alloc());
     lexicons.push(in_directory(rt, dir, "lexicon.csv")?)?;
-    Ok(Options {
-        user,
-        matrix: Some(in_directory(rt, dir, "matrix.def")?),
-        chars: Some(in_directory(rt, dir, "char.def")?),
-        unk: Some(in_directory(rt, dir, "unk.def")?),
-        dic: Some(in_directory(rt, dir, "sys.img")?),
-        out: in_directory(rt, dir, "img")?,
+    let out = in_directory(rt, dir, "img")?;
+    if user {
+        return Ok(Options::User {
+            dic: in_directory(rt, dir, "sys.img")?,
+            out,
+            lexicons,
+        });
+    }
+    Ok(Options::System {
+        matrix: in_directory(rt, dir, "matrix.def")?,
+        chars: in_directory(rt, dir, "char.def")?,
+        unk: in_directory(rt, dir, "unk.def")?,
+        out,
         lexicons,
     })
 }

@@ -1,52 +1,57 @@
 //! Command lines: what is chosen, and what is refused.
 
 use super::{is_text, words};
-use crate::choices::OptionsFault;
+use crate::choices::Input;
 use crate::command_line::options;
-use std::io::{Error, ErrorKind};
+use programs::OptionsFault;
+use std::alloc::{AllocError, Global};
 use std::string::String;
 use std::test::Fail;
 
-/// The directory that is asked for, whether the sample is, and the grouping.
-type Choice = (Option<&'static str>, bool, u16);
+/// What a command line asks for: images, a directory or the sample.
+#[derive(Clone, Copy)]
+enum Asked {
+    Images(&'static str, &'static [&'static str]),
+    Directory(&'static str),
+    Sample,
+}
+
+impl Asked {
+    fn input(self, alloc: Global) -> Result<Input, AllocError> {
+        Ok(match self {
+            Asked::Images(dic, users) => Input::Images {
+                dic: String::from_str(alloc, dic)?,
+                users: words(alloc, users)?,
+            },
+            Asked::Directory(dir) => Input::Sources(String::from_str(alloc, dir)?),
+            Asked::Sample => Input::Sample,
+        })
+    }
+}
 
 #[test]
 fn command_lines(rt: HostRuntime) -> Result<(), Fail> {
-    let rows: [(&str, &[&str], Choice); 7] = [
-        // (what, words, choices)
-        ("the sample", &["--sample"], (None, true, 24)),
-        (
-            "a directory",
-            &["--sources", "a/b"],
-            (Some("a/b"), false, 24),
-        ),
-        ("with =", &["--sources=a"], (Some("a"), false, 24)),
-        ("no grouping", &["--sample", "-M", "0"], (None, true, 0)),
-        (
-            "grouping first",
-            &["-M", "25", "--sample"],
-            (None, true, 25),
-        ),
-        (
-            "grouping joined",
-            &["-M1000", "--sample"],
-            (None, true, 1000),
-        ),
-        (
-            "both",
-            &["--sources", "a", "-M", "7"],
-            (Some("a"), false, 7),
-        ),
+    use Asked::{Directory, Images, Sample};
+    #[rattlefmt::skip]
+    let rows: [(&str, &[&str], Asked, u16); 12] = [
+        // (what, words, what is asked for, grouping)
+        ("the sample",                   &["--sample"],                                 Sample,                       24),
+        ("a directory",                  &["--sources", "a/b"],                         Directory("a/b"),             24),
+        ("with =",                       &["--sources=a"],                              Directory("a"),               24),
+        ("no grouping",                  &["--sample", "-M", "0"],                      Sample,                       0),
+        ("grouping first",               &["-M", "25", "--sample"],                     Sample,                       25),
+        ("grouping joined",              &["-M1000", "--sample"],                       Sample,                       1000),
+        ("both",                         &["--sources", "a", "-M", "7"],                Directory("a"),               7),
+        ("a system",                     &["-d", "sys.img"],                            Images("sys.img", &[]),       24),
+        ("a system joined",              &["-dsys.img"],                                Images("sys.img", &[]),       24),
+        ("with a user",                  &["-d", "sys.img", "-u", "user.img"],          Images("sys.img", &["user.img"]), 24),
+        ("with users in their order",    &["-u", "b", "-d", "s", "-u", "a", "-u", "b"], Images("s", &["b", "a", "b"]), 24),
+        ("with a format and a grouping", &["-d", "s", "-O", "wakati", "-M", "3"],       Images("s", &[]),             3),
     ];
-    for (what, given, (sources, sample, grouping)) in rows {
+    for (what, given, asked, grouping) in rows {
         match options(rt.alloc(), words(rt.alloc(), given)?) {
             Ok(options) => {
-                let dir = match &options.sources {
-                    Some(dir) => Some(dir.as_str()),
-                    None => None,
-                };
-                assert!(rt; dir == sources, "{what}");
-                assert!(rt; options.sample == sample, "{what}");
+                assert!(rt; options.input == asked.input(rt.alloc())?, "{what}");
                 assert!(rt; options.grouping == grouping, "{what}");
             }
             Err(_) => assert!(rt; false, "{what}"),
@@ -56,69 +61,15 @@ fn command_lines(rt: HostRuntime) -> Result<(), Fail> {
 }
 
 #[test]
-fn command_lines_with_images(rt: HostRuntime) -> Result<(), Fail> {
-    let rows: [(&str, &[&str], &str, &[&str]); 5] = [
-        // (what, words, the system's image, the users' images)
-        ("a system", &["-d", "sys.img"], "sys.img", &[]),
-        ("joined", &["-dsys.img"], "sys.img", &[]),
-        (
-            "with a user",
-            &["-d", "sys.img", "-u", "user.img"],
-            "sys.img",
-            &["user.img"],
-        ),
-        (
-            "with users in their order",
-            &["-u", "b", "-d", "s", "-u", "a", "-u", "b"],
-            "s",
-            &["b", "a", "b"],
-        ),
-        (
-            "with a format and a grouping",
-            &["-d", "s", "-O", "wakati", "-M", "3"],
-            "s",
-            &[],
-        ),
-    ];
-    for (what, given, dic, users) in rows {
-        match options(rt.alloc(), words(rt.alloc(), given)?) {
-            Ok(options) => {
-                assert!(rt; is_text(&options.dic, Some(dic)), "{what}");
-                assert!(rt; options.users == words(rt.alloc(), users)?, "{what}");
-                assert!(rt; is_text(&options.sources, None), "{what}");
-                assert!(rt; !options.sample, "{what}");
-            }
-            Err(_) => assert!(rt; false, "{what}"),
-        }
-    }
-    Ok(())
-}
-
-#[test]
 fn format_options(rt: HostRuntime) -> Result<(), Fail> {
+    #[rattlefmt::skip]
     let rows: [(&str, &[&str], [Option<&str>; 5]); 5] = [
         // (what, words, the name and the four formats)
-        ("none", &["--sample"], [None, None, None, None, None]),
-        (
-            "all",
-            &["--sample", "-F", "a", "-U", "b", "-B", "c", "-E", "d"],
-            [None, Some("a"), Some("b"), Some("c"), Some("d")],
-        ),
-        (
-            "empty, and with a hyphen",
-            &["--sample", "-F", "", "-E", "-%pc"],
-            [None, Some(""), None, None, Some("-%pc")],
-        ),
-        (
-            "joined",
-            &["--sample", "-F%m\\n"],
-            [None, Some("%m\\n"), None, None, None],
-        ),
-        (
-            "by name",
-            &["--sample", "-O", "wakati", "-F", "%q"],
-            [Some("wakati"), Some("%q"), None, None, None],
-        ),
+        ("none",                     &["--sample"],                                             [None, None, None, None, None]),
+        ("all",                      &["--sample", "-F", "a", "-U", "b", "-B", "c", "-E", "d"], [None, Some("a"), Some("b"), Some("c"), Some("d")]),
+        ("empty, and with a hyphen", &["--sample", "-F", "", "-E", "-%pc"],                     [None, Some(""), None, None, Some("-%pc")]),
+        ("joined",                   &["--sample", "-F%m\\n"],                                  [None, Some("%m\\n"), None, None, None]),
+        ("by name",                  &["--sample", "-O", "wakati", "-F", "%q"],                 [Some("wakati"), Some("%q"), None, None, None]),
     ];
     for (what, given, wanted) in rows {
         match options(rt.alloc(), words(rt.alloc(), given)?) {
@@ -183,27 +134,6 @@ fn command_lines_that_end_at_once(rt: HostRuntime) -> Result<(), Fail> {
             Err(OptionsFault::Memory) => Some(4),
         };
         assert!(rt; got == Some(status), "{what}");
-    }
-    Ok(())
-}
-
-#[test]
-fn words_that_cannot_be_had(rt: HostRuntime) -> Result<(), Fail> {
-    let rows = [
-        // (what, kind, text of a wrong command line)
-        (
-            "an argument that is not UTF-8",
-            ErrorKind::InvalidData,
-            Some("jseg: an argument is not UTF-8\n"),
-        ),
-        ("no memory", ErrorKind::OutOfMemory, None),
-    ];
-    for (what, kind, wanted) in rows {
-        match &OptionsFault::of_words(rt.alloc(), &Error::from(kind)) {
-            OptionsFault::Bad(text) => assert!(rt; wanted == Some(text.as_str()), "{what}"),
-            OptionsFault::Memory => assert!(rt; wanted == None, "{what}"),
-            OptionsFault::Help(_) => assert!(rt; false, "{what}"),
-        }
     }
     Ok(())
 }

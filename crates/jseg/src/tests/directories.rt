@@ -1,10 +1,8 @@
-//! Source directories and images that are read, and those that can't be.
+//! Source directories that are read, and those that can't be.
 
 use super::new_directory;
-use crate::fault::Fault;
-use crate::images::dictionary_at;
 use crate::source_directory::read_directory;
-use mj_model::ImageFault;
+use programs::Fault;
 use std::test::Fail;
 use std::{fs, io};
 
@@ -85,26 +83,6 @@ fn unreadable_directories(rt: HostRuntime) -> Result<(), Fail> {
     match &read {
         Err(Fault::File(told)) => assert!(rt; told.as_str() == folder.as_str(), "a folder"),
         _ => assert!(rt; false, "a folder"),
-    }
-    Ok(())
-}
-
-#[test]
-fn unreadable_images(rt: HostRuntime) -> Result<(), Fail> {
-    let dir = new_directory(&rt, "images")?;
-    write_file(&rt, dir.as_str(), "short.img", "no image")?;
-    let missing = format!(in rt.alloc(); "{dir}/none.img")?;
-    let short = format!(in rt.alloc(); "{dir}/short.img")?;
-    let none = dictionary_at(&rt, missing.as_str()).err();
-    let refused = dictionary_at(&rt, short.as_str()).err();
-    fs::remove_dir_all(&rt, dir.as_str())?;
-    match &none {
-        Some(Fault::File(told)) => assert!(rt; *told == missing),
-        _ => assert!(rt; false, "a missing image"),
-    }
-    match &refused {
-        Some(Fault::Image(told, ImageFault::Truncated)) => assert!(rt; *told == short),
-        _ => assert!(rt; false, "a short image"),
     }
     Ok(())
 }

@@ -1,9 +1,9 @@
-//! A user's image where the system's is wanted.
+//! Images of no use where they were given.
 
-use super::new_directory;
-use crate::images::{dictionary_at, overlay_fault};
-use crate::reporting::report;
+use super::{new_directory, words};
+use crate::images::overlay_fault;
 use mj_model::OverlayFault;
+use programs::{dictionary_at, report};
 use std::alloc::{AllocError, Global};
 use std::fs;
 use std::test::Fail;
@@ -66,11 +66,32 @@ fn user_image_as_the_system(rt: HostRuntime) -> Result<(), Fail> {
             assert!(rt; fault == OverlayFault::NotSystem);
             let mut told = Vec::new(rt.alloc());
             let fault = overlay_fault(rt.alloc(), path.as_str(), &[], fault);
-            assert!(rt; report(&fault, &mut told) == 1);
+            assert!(rt; report("jseg", &fault, &mut told) == 1);
             let line = format!(in rt.alloc(); "jseg: {path}: O1 NotSystem\n")?;
             assert!(rt; told.as_slice() == line.as_bytes());
         }
         Ok(_) => assert!(rt; false, "a user's image is taken for the system's"),
+    }
+    Ok(())
+}
+
+#[test]
+fn images_at_fault(rt: HostRuntime) -> Result<(), Fail> {
+    #[rattlefmt::skip]
+    let rows = [
+        // (fault, line)
+        (OverlayFault::NotSystem,     "jseg: s.img: O1 NotSystem\n"),
+        (OverlayFault::NotUser(0),    "jseg: a.img: O2 NotUser 0\n"),
+        (OverlayFault::NotUser(1),    "jseg: b.img: O2 NotUser 1\n"),
+        (OverlayFault::OtherSizes(0), "jseg: a.img: O3 OtherSizes 0\n"),
+        (OverlayFault::OtherSizes(1), "jseg: b.img: O3 OtherSizes 1\n"),
+    ];
+    let users = words(rt.alloc(), &["a.img", "b.img"])?;
+    for (fault, line) in rows {
+        let mut told = Vec::new(rt.alloc());
+        let fault = overlay_fault(rt.alloc(), "s.img", &users, fault);
+        assert!(rt; report("jseg", &fault, &mut told) == 1, "{line}");
+        assert!(rt; told.as_slice() == line.as_bytes(), "{line}");
     }
     Ok(())
 }

@@ -1,6 +1,9 @@
 //! Files that are read and written, and those that can't be.
 
-use crate::{FileFault, SourceFiles, WholeFile, read_files, read_whole, texts, write_file};
+use crate::{
+    Fault, SourceFiles, WholeFile, dictionary_at, read_files, read_whole, texts, write_file,
+};
+use mj_model::ImageFault;
 use std::alloc::{AllocError, Global};
 use std::io::{self, ErrorKind, Read};
 use std::os::unix::fs::symlink;
@@ -11,7 +14,7 @@ use std::{fs, process};
 /// A new directory of this test's own.
 fn new_directory(rt: &HostRuntime, test: &str) -> io::Result<String> {
     let id = process::id(rt.process());
-    let dir = format!(in rt.alloc(); "/tmp/files_{test}_{id}")?;
+    let dir = format!(in rt.alloc(); "/tmp/programs_{test}_{id}")?;
     fs::create_dir(rt, dir.as_str())?;
     Ok(dir)
 }
@@ -26,9 +29,9 @@ fn names_in(rt: &HostRuntime, dir: &str) -> io::Result<usize> {
 }
 
 /// Whether a file at this path is what a call told.
-fn is_file_fault(fault: Option<&FileFault>, path: &str) -> bool {
+fn is_file_fault(fault: Option<&Fault>, path: &str) -> bool {
     match fault {
-        Some(FileFault::File(told)) => told.as_str() == path,
+        Some(Fault::File(told)) => told.as_str() == path,
         _ => false,
     }
 }
@@ -149,8 +152,8 @@ fn files_that_fail(rt: HostRuntime) -> Result<(), Fail> {
 #[test]
 fn refused_files(rt: HostRuntime) -> Result<(), Fail> {
     let error = io::Error::from(ErrorKind::OutOfMemory);
-    assert!(rt; FileFault::at(rt.alloc(), "a", &error) == FileFault::Memory);
-    assert!(rt; FileFault::from(AllocError) == FileFault::Memory);
+    assert!(rt; Fault::of_file(rt.alloc(), "a", &error) == Fault::Memory);
+    assert!(rt; Fault::from(AllocError) == Fault::Memory);
     Ok(())
 }
 
@@ -219,5 +222,19 @@ fn files_in_their_order(rt: HostRuntime) -> Result<(), Fail> {
     }
     let gone = read_files(&rt, &paths).err();
     assert!(rt; is_file_fault(gone.as_ref(), paths[0].as_str()));
+    Ok(())
+}
+
+#[test]
+fn images_that_cannot_be_read(rt: HostRuntime) -> Result<(), Fail> {
+    let dir = new_directory(&rt, "images")?;
+    let missing = format!(in rt.alloc(); "{dir}/none.img")?;
+    let short = format!(in rt.alloc(); "{dir}/short.img")?;
+    fs::write(&rt, short.as_str(), "no image")?;
+    let none = dictionary_at(&rt, missing.as_str()).err();
+    let refused = dictionary_at(&rt, short.as_str()).err();
+    fs::remove_dir_all(&rt, dir.as_str())?;
+    assert!(rt; is_file_fault(none.as_ref(), missing.as_str()));
+    assert!(rt; refused == Some(Fault::Image(short, ImageFault::Truncated)));
     Ok(())
 }

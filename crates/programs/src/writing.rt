@@ -1,6 +1,6 @@
 //! A file that is written whole or not at all.
 
-use crate::fault::FileFault;
+use crate::fault::Fault;
 use std::fs::{self, File};
 use std::io::{self, Write};
 use std::process;
@@ -10,16 +10,13 @@ use std::string::String;
 ///
 /// The bytes go to a new file beside it, which then takes its name: a failed call leaves the old file as it was, and
 /// no new one where that can be removed. What is no file, as a device, is written where it stands.
-pub fn write_file(rt: &HostRuntime, path: &str, bytes: &[u8]) -> Result<(), FileFault> {
+pub fn write_file(rt: &HostRuntime, path: &str, bytes: &[u8]) -> Result<(), Fault> {
     let written = match fs::metadata(rt, path) {
         Ok(old) if old.is_file() => replace_behind(rt, path, bytes),
         Ok(_) => fs::write(rt, path, bytes),
         Err(_) => replace(rt, path, bytes),
     };
-    match written {
-        Ok(()) => Ok(()),
-        Err(error) => Err(FileFault::at(rt.alloc(), path, &error)),
-    }
+    written.map_err(|error| Fault::of_file(rt.alloc(), path, &error))
 }
 
 /// Replaces the file at a path, or the one that a link there leads to.

@@ -2,7 +2,7 @@
 
 ghost use Rattle.std.specs.Prelude.{◌≡◌, IfOk, map, string_bytes};
 
-use crate::fault::FileFault;
+use crate::fault::Fault;
 use crate::reading::read_whole;
 use mj_model::READS_MAX;
 use std::alloc::{AllocError, Global};
@@ -18,7 +18,7 @@ pub struct WholeFile {
 
 impl WholeFile {
     /// Reads the file at a path, within `READS_MAX` reads.
-    pub fn read(rt: &HostRuntime, path: &str) -> Result<WholeFile, FileFault>
+    pub fn read(rt: &HostRuntime, path: &str) -> Result<WholeFile, Fault>
         ensures path { IfOk result (λ file. string_bytes file.path ≡ path.now) }
     {
         match bytes_at(rt, path) {
@@ -26,7 +26,7 @@ impl WholeFile {
                 path: String::from_str(rt.alloc(), path)?,
                 bytes,
             }),
-            Err(error) => Err(FileFault::at(rt.alloc(), path, &error)),
+            Err(error) => Err(Fault::of_file(rt.alloc(), path, &error)),
         }
     }
 }
@@ -37,20 +37,22 @@ fn bytes_at(rt: &HostRuntime, path: &str) -> io::Result<Vec<u8>> {
 }
 
 /// Reads the files at paths, one after the other.
-pub fn read_files(rt: &HostRuntime, paths: &[String]) -> Result<Vec<WholeFile>, FileFault>
-    ensures paths { IfOk result (λ files. map (λ file. string_bytes file.path) files.items ≡ map (λ path. string_bytes path) paths.now) }
+pub fn read_files(rt: &HostRuntime, paths: &[String]) -> Result<Vec<WholeFile>, Fault>
+    ensures paths { IfOk result (λ files.
+        map (λ file. string_bytes file.path) files.items ≡ map (λ path. string_bytes path) paths.now) }
 {
     let mut files = Vec::new(rt.alloc());
     for path in paths {
         let file = WholeFile::read(rt, path.as_str())?;
-        files.push(file).map_err(|_| FileFault::Memory)?;
+        files.push(file)?;
     }
     Ok(files)
 }
 
 /// The bytes of each file.
 pub fn texts(alloc: Global, files: &[WholeFile]) -> Result<Vec<&[u8]>, AllocError>
-    ensures { IfOk result (λ texts. map (λ text. text.now) texts.items ≡ map (λ file. file.bytes.items) files.now) }
+    ensures { IfOk result (λ texts.
+        map (λ text. text.now) texts.items ≡ map (λ file. file.bytes.items) files.now) }
 {
     let mut texts = Vec::new(alloc);
     for file in files {

@@ -11,7 +11,8 @@ const BUFFER: usize = 65_536;
 
 /// The bytes of a reader that ends within so many reads; one that doesn't is an error of kind `FileTooLarge`.
 pub fn read_whole<R: Read>(alloc: Global, reader: &mut R, reads: u64) -> io::Result<Vec<u8>>
-    ensures whole { IfOk result (λ bytes. IfSome (R.remaining reader.old) (λ known. bytes.items ≡ known)) }
+    ensures whole { IfOk result (λ bytes.
+        IfSome (R.remaining reader.old) (λ known. bytes.items ≡ known)) }
     ensures end { IfOk result (λ _. IsAtEnd (R.remaining reader.new)) }
 {
     let mut buffer = new_buffer(alloc)?;
@@ -32,7 +33,8 @@ fn read_through<R: Read>(
     reads: u64,
 ) -> io::Result<Vec<u8>>
     requires buffer { 0 < length buffer.old }
-    ensures whole { IfOk result (λ bytes. IfSome (R.remaining reader.old) (λ known. bytes.items ≡ known)) }
+    ensures whole { IfOk result (λ bytes.
+        IfSome (R.remaining reader.old) (λ known. bytes.items ≡ known)) }
     ensures end { IfOk result (λ _. IsAtEnd (R.remaining reader.new)) }
 {
     let mut bytes = Vec::new(alloc);

@@ -1,0 +1,88 @@
+//! What a program tells when it ends early.
+
+ghost use Rattle.std.specs.Prelude.{◌≡◌, String, string_bytes};
+ghost use Rattle.std.specs.IoError.{error_kind};
+ghost use Rattle.std.specs.declared.alloc.Global.{Global};
+ghost use Rattle.programs.specs.declared.fault.Fault.TheVariants.{File, Memory, Source, Overlay};
+
+use mj_model::{FormatFault, ImageFault, OverlayFault, RunFault, SourceFault};
+use std::alloc::{AllocError, AllocFailed, Global};
+use std::io::{self, ErrorKind};
+use std::string::String;
+
+/// Why a program ended before its work was done.
+#[derive(Debug, PartialEq, Eq, Drop)]
+pub enum Fault {
+    /// The file or directory at this path can't be read or written, or doesn't end.
+    File(String),
+    /// The source at this path is refused.
+    Source(String, SourceFault),
+    /// The image at this path is refused.
+    Image(String, ImageFault),
+    /// The image at this path is of no use where it was given.
+    Overlay(String, OverlayFault),
+    /// The format is refused.
+    Format(FormatFault),
+    /// The run over the text ended; what it carries is neither `Source` nor `UserSource`.
+    Run(RunFault),
+    /// Standard output failed.
+    Output,
+    /// Memory was refused.
+    Memory,
+}
+
+impl Fault {
+    /// The fault of a call on the file or directory at a path that failed.
+    pub fn of_file(alloc: Global, path: &str, error: &io::Error) -> Fault
+        ensures path { (told : String Global) → result ≡ File told → string_bytes told ≡ path.now }
+        ensures memory { error_kind error.now ≡ ErrorKind.OutOfMemory → result ≡ Memory }
+    {
+        if error.kind() == ErrorKind::OutOfMemory {
+            return Fault::Memory;
+        }
+        match String::from_str(alloc, path) {
+            Ok(path) => Fault::File(path),
+            Err(AllocError) => Fault::Memory,
+        }
+    }
+
+    /// The fault of the source at a path.
+    pub fn of_source(alloc: Global, path: &str, fault: SourceFault) -> Fault
+        ensures { (told : String Global) → result ≡ Source told fault
+            → string_bytes told ≡ path.now }
+    {
+        match String::from_str(alloc, path) {
+            Ok(path) => Fault::Source(path, fault),
+            Err(AllocError) => Fault::Memory,
+        }
+    }
+
+    /// The fault of the image at a path among those that are laid over one another.
+    pub fn of_overlay(alloc: Global, path: &str, fault: OverlayFault) -> Fault
+        ensures { (told : String Global) → result ≡ Overlay told fault
+            → string_bytes told ≡ path.now }
+    {
+        match String::from_str(alloc, path) {
+            Ok(path) => Fault::Overlay(path, fault),
+            Err(AllocError) => Fault::Memory,
+        }
+    }
+}
+
+impl From<AllocError> for Fault {
+    fn from(_refused: AllocError) -> Fault {
+        Fault::Memory
+    }
+}
+
+impl<T: Drop> From<AllocFailed<T>> for Fault {
+    fn from(_refused: AllocFailed<T>) -> Fault {
+        Fault::Memory
+    }
+}
+
+impl From<FormatFault> for Fault {
+    fn from(fault: FormatFault) -> Fault {
+        Fault::Format(fault)
+    }
+}

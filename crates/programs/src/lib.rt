@@ -1,0 +1,25 @@
+//! What the programs share: files read and written whole, command lines, images, and what is told at the end.
+#![tactic(auto)]
+
+mod command_line;
+mod fault;
+mod images;
+mod options_fault;
+mod reading;
+mod reporting;
+mod source_files;
+mod whole_file;
+mod writing;
+
+pub use command_line::{found, needed_text, text_of, texts_of, words_given};
+pub use fault::Fault;
+pub use images::{dictionaries_at, dictionary_at};
+pub use options_fault::OptionsFault;
+pub use reading::read_whole;
+pub use reporting::{ended, report};
+pub use source_files::{SourceFiles, lexicon_path};
+pub use whole_file::{WholeFile, read_files, texts};
+pub use writing::write_file;
+
+#[cfg(test)]
+mod tests;

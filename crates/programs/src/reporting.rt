@@ -1,0 +1,66 @@
+//! The line that a program ends with on standard error, and the exit status.
+
+use crate::fault::Fault;
+use mj_model::{FormatFault, ImageFault, RunFault, SourceFault, SourceKind};
+use std::io::{self, Write};
+
+/// The exit status of a program's work, whose fault is told on standard error.
+pub fn ended(rt: &HostRuntime, program: &str, work: Result<(), Fault>) -> u8 {
+    match work {
+        Ok(()) => 0,
+        Err(fault) => report(program, &fault, &mut rt.stderr()),
+    }
+}
+
+/// Writes the fault's line and answers the status; a failed write of it is ignored.
+pub fn report<W: Write>(program: &str, fault: &Fault, err: &mut W) -> u8 {
+    let _ = write_line(program, fault, err);
+    status(fault)
+}
+
+fn write_line<W: Write>(program: &str, fault: &Fault, err: &mut W) -> io::Result<()> {
+    match fault {
+        Fault::File(path) => writeln!(err, "{program}: {path}: F1 File"),
+        Fault::Source(path, fault) => write_source(program, path.as_str(), fault, err),
+        Fault::Image(_, ImageFault::Memory) | Fault::Memory => writeln!(err, "{program}: Memory"),
+        Fault::Image(path, fault) => writeln!(err, "{program}: {path}: {fault}"),
+        Fault::Overlay(path, fault) => writeln!(err, "{program}: {path}: {fault}"),
+        Fault::Format(fault) => writeln!(err, "{program}: {fault}"),
+        Fault::Run(fault) => writeln!(err, "{program}: {fault}"),
+        Fault::Output => writeln!(err, "{program}: F2 Output"),
+    }
+}
+
+/// The line of a source's fault. What belongs to no file is told without a path.
+fn write_source<W: Write>(
+    program: &str,
+    path: &str,
+    fault: &SourceFault,
+    err: &mut W,
+) -> io::Result<()> {
+    let SourceFault { line, kind, .. } = fault;
+    match kind {
+        SourceKind::Memory | SourceKind::ArrayFull | SourceKind::FeaturesTooLarge => {
+            writeln!(err, "{program}: {kind}")
+        }
+        _ => writeln!(err, "{program}: {path}:{line}: {kind}"),
+    }
+}
+
+/// 1 for a refused source, image, overlay or text, 2 for a refused format, 3 for a file or device, 4 for memory.
+fn status(fault: &Fault) -> u8 {
+    match fault {
+        Fault::Source(_, fault) => match fault.kind {
+            SourceKind::Memory => 4,
+            _ => 1,
+        },
+        Fault::Image(_, ImageFault::Memory) | Fault::Memory => 4,
+        Fault::Image(..) | Fault::Overlay(..) => 1,
+        Fault::Format(FormatFault::Memory) => 4,
+        Fault::Format(_) => 2,
+        Fault::File(_) | Fault::Output => 3,
+        Fault::Run(RunFault::Read(_) | RunFault::Write(_)) => 3,
+        Fault::Run(RunFault::Memory(_)) => 4,
+        Fault::Run(_) => 1,
+    }
+}
