@@ -7,3 +7,4 @@ pub mod Definitions
 pub mod Categories
 pub mod UnkRows
 pub mod Outside
+pub mod Answers

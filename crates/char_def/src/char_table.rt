@@ -1,10 +1,11 @@
 //! The categories of all code points.
-ghost use Rattle.std.specs.Prelude.{◌≡◌, ◌≤◌, ◌<◌, [], false, length, Ok, Err, Some, None, IfOk, IfErr, MatchOption, MatchResult};
+ghost use Rattle.std.specs.Prelude.{◌≡◌, ◌≤◌, ◌<◌, length, Ok, Err, Some, None, IfOk, IfErr};
+ghost use Rattle.char_def.specs.Answers.{AnswersInfo, IsNumberOf, IsTableIn};
 ghost use Rattle.mj_model.specs.declared.limits.TheConstants.{CATEGORIES_MAX as CategoriesMax};
 ghost use Rattle.mj_model.specs.FirstFault.{IsRefusal};
-ghost use Rattle.mj_model.specs.CharDef.{CharSource, char_source, unless_defined, is_defined, info_of_names, code_point_max};
-ghost use Rattle.char_def.specs.Categories.{table_info, category_at, HasFirstCategories, IsTableOf};
-ghost use Rattle.char_def.specs.Definitions.{definitions_are, HasNumber};
+ghost use Rattle.mj_model.specs.CharDef.{char_source, code_point_max};
+ghost use Rattle.char_def.specs.Categories.{table_info, category_at, HasFirstCategories};
+ghost use Rattle.char_def.specs.Definitions.{definitions_are};
 
 use crate::coverage::coverage;
 use crate::definitions::{Definition, number_of, read_definitions};
@@ -62,7 +63,7 @@ impl CharTable {
 
     /// The number of the category of this name.
     pub(crate) fn number_of(&self, name: &[u8]) -> Option<usize>
-        ensures { MatchOption result (is_defined self.now.categories name.now ≡ false) (HasNumber self.now.categories name.now) }
+        ensures { IsNumberOf self.now.categories name.now result }
     {
         number_of(&self.definitions, name)
     }
@@ -87,7 +88,7 @@ impl CharTable {
 /// The categories that `char.def` defines, and those that it gives to code points: a code point has those of the last mapping
 /// that covers it, else DEFAULT. (MeCab, `char.def`; what it leaves open is this project's own choice)
 pub fn read_chars(alloc: Global, bytes: &[u8]) -> Result<CharTable, SourceFault>
-    ensures accepted { IfOk result (λ table. (source : CharSource) × (char_source bytes.now ≡ Ok source) × IsTableOf source table) }
+    ensures accepted { IfOk result (IsTableIn bytes.now) }
     ensures refused { IfErr result (λ fault. IsRefusal fault (char_source bytes.now ≡ Err fault)) }
 {
     let definitions = read_definitions(alloc, bytes)?;
@@ -105,7 +106,7 @@ pub fn read_chars(alloc: Global, bytes: &[u8]) -> Result<CharTable, SourceFault>
 /// The category of a name alone, which `char.def` has to define.
 fn single(definitions: &[Definition], name: &str, kind: SourceKind) -> Result<CharInfo, SourceFault>
     requires { length definitions.now ≤ CategoriesMax }
-    ensures { MatchResult result (λ info. (unless_defined (definitions_are definitions.now) name.now kind ≡ None) × (info ≡ info_of_names (definitions_are definitions.now) name.now [])) (λ fault. unless_defined (definitions_are definitions.now) name.now kind ≡ Some fault) }
+    ensures { AnswersInfo (definitions_are definitions.now) name.now kind result }
 {
     match number_of(definitions, name.as_bytes()) {
         Some(number) => Ok(CharInfo {

@@ -1,11 +1,11 @@
 //! The categories that `char.def` defines.
-ghost use Rattle.std.specs.Prelude.{◌≡◌, ◌≤◌, ◌++◌, ◌⊎◌, [], length, false, None, Some, IfOk, IfErr, OnOk, MatchOption};
+ghost use Rattle.std.specs.Prelude.{◌≡◌, ◌≤◌, ◌++◌, [], length, None, Some, IfOk, IfErr, OnOk};
+ghost use Rattle.char_def.specs.Answers.{IsDefinitionRefusal, IsNumberOf};
 ghost use Rattle.mj_model.specs.declared.limits.TheConstants.{CATEGORIES_MAX as CategoriesMax};
-ghost use Rattle.mj_model.specs.declared.source_fault.SourceKind.TheVariants.{Memory};
-ghost use Rattle.mj_model.specs.CharDef.{char_line, defined_by, line_fault, first_bad_line, source_from, is_defined};
+ghost use Rattle.mj_model.specs.CharDef.{char_line, defined_by, line_fault, first_bad_line, source_from};
 ghost use Rattle.mj_model.specs.FirstFault.{IsRefusal};
 ghost use Rattle.mj_model.specs.Lines.{numbered_lines};
-ghost use Rattle.char_def.specs.Definitions.{definitions_are, HasNumber};
+ghost use Rattle.char_def.specs.Definitions.{definitions_are};
 
 use crate::line::{CharLine, read_line};
 use lex_source::lines;
@@ -23,9 +23,11 @@ pub struct Definition {
 /// The categories in the order of their lines.
 pub(crate) fn read_definitions(alloc: Global, bytes: &[u8]) -> Result<Vec<Definition>, SourceFault>
     ensures accepted { IfOk result (λ read. first_bad_line [] (numbered_lines bytes.now) ≡ None) }
-    ensures categories { IfOk result (λ read. definitions_are read.items ≡ (source_from (numbered_lines bytes.now)).categories) }
+    ensures categories { IfOk result (λ read. definitions_are read.items
+        ≡ (source_from (numbered_lines bytes.now)).categories) }
     ensures few { IfOk result (λ read. length read.items ≤ CategoriesMax) }
-    ensures refused { IfErr result (λ fault. IsRefusal fault (first_bad_line [] (numbered_lines bytes.now) ≡ Some fault)) }
+    ensures refused { IfErr result (λ fault. IsRefusal fault
+        (first_bad_line [] (numbered_lines bytes.now) ≡ Some fault)) }
 {
     let mut definitions = Vec::new(alloc);
     for (number, line) in lines(bytes) {
@@ -39,10 +41,13 @@ pub(crate) fn read_definitions(alloc: Global, bytes: &[u8]) -> Result<Vec<Defini
 /// Adds the category that a line defines.
 fn add_line(alloc: Global, line: &[u8], definitions: &mut Vec<Definition>) -> Result<(), SourceKind>
     requires few { length definitions.old.items ≤ CategoriesMax }
-    ensures fits { OnOk result (line_fault (definitions_are definitions.old.items) (char_line line.now) ≡ None) }
-    ensures added { OnOk result (definitions_are definitions.new.items ≡ definitions_are definitions.old.items ++ defined_by (char_line line.now)) }
+    ensures fits { OnOk result (line_fault (definitions_are definitions.old.items)
+        (char_line line.now) ≡ None) }
+    ensures added { OnOk result (definitions_are definitions.new.items
+        ≡ definitions_are definitions.old.items ++ defined_by (char_line line.now)) }
     ensures few { OnOk result (length definitions.new.items ≤ CategoriesMax) }
-    ensures refused { IfErr result (λ kind. (kind ≡ Memory) ⊎ (line_fault (definitions_are definitions.old.items) (char_line line.now) ≡ Some kind)) }
+    ensures refused { IfErr result (IsDefinitionRefusal (definitions_are definitions.old.items)
+        line.now) }
 {
     let CharLine::Category(category) = read_line(line)? else {
         return Ok(());
@@ -62,7 +67,7 @@ fn add_line(alloc: Global, line: &[u8], definitions: &mut Vec<Definition>) -> Re
 
 /// The number of the category of this name.
 pub(crate) fn number_of(definitions: &[Definition], name: &[u8]) -> Option<usize>
-    ensures { MatchOption result (is_defined (definitions_are definitions.now) name.now ≡ false) (HasNumber (definitions_are definitions.now) name.now) }
+    ensures { IsNumberOf (definitions_are definitions.now) name.now result }
 {
     for (number, definition) in definitions.iter().enumerate() {
         if definition.name.as_bytes() == name {

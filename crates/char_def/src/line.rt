@@ -1,5 +1,6 @@
 //! Lines of `char.def`.
-ghost use Rattle.std.specs.Prelude.{◌≡◌, ◌∷◌, ◌<◌, ◌&&◌, ℕ, List, Some, None, true, false, nat_lt, length, MatchOption, MatchResult, option_map};
+ghost use Rattle.std.specs.Prelude.{◌≡◌, ◌∷◌, ◌<◌, ◌&&◌, ℕ, List, Some, None, true, false, nat_lt, length, MatchResult, option_map};
+ghost use Rattle.char_def.specs.Answers.{IsNameIn};
 ghost use Rattle.std.specs.List.{list_all};
 ghost use Rattle.mj_model.specs.CharDef.{Bad, is_name, flag as flag_of, category_of, category_from, mapping_line as mapping_of, char_line, words_before_comment};
 ghost use Rattle.mj_model.specs.Numbers.{natural_in};
@@ -65,7 +66,8 @@ fn mapping_line<'a>(
     names: LineWords<'a>,
 ) -> Result<CharLine<'a>, SourceKind>
     requires { checked ≡ names }
-    ensures { MatchResult result (IsMapping range.now names.entry) (λ kind. mapping_of range.now names.entry ≡ Bad kind) }
+    ensures { MatchResult result (IsMapping range.now names.entry)
+        (λ kind. mapping_of range.now names.entry ≡ Bad kind) }
 {
     if !are_names(checked) {
         return Err(SourceKind::BadLine);
@@ -78,7 +80,8 @@ fn mapping_line<'a>(
 
 /// The words of a line behind its first one.
 fn behind_first(line: &[u8]) -> LineWords<'_>
-    ensures { (word : List ℕ) (words : List (List ℕ)) → words_before_comment line.now ≡ word ∷ words → result ≡ words }
+    ensures { (word : List ℕ) (words : List (List ℕ))
+        → words_before_comment line.now ≡ word ∷ words → result ≡ words }
 {
     let mut words = LineWords::new(line);
     let _ = words.next();
@@ -101,7 +104,7 @@ fn are_names(words: LineWords) -> bool
 
 /// A word as the name of a category.
 fn category_name(word: &[u8]) -> Option<&str>
-    ensures { MatchOption result (is_name word.now ≡ false) (λ name. (is_name word.now ≡ true) × (name.now ≡ word.now)) }
+    ensures { IsNameIn word.now result }
 {
     if word.len() > NAME_MAX {
         return None;

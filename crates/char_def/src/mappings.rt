@@ -1,14 +1,11 @@
 //! The mappings of `char.def`.
-ghost use Rattle.std.specs.Prelude.{◌≡◌, ◌≤◌, ◌++◌, ◌∷◌, ◌⊎◌, ℕ, List, map, length, true, false, None, Some, IfOk, IfErr, OnOk, MatchOption};
-ghost use Rattle.std.specs.List.{list_all};
+ghost use Rattle.std.specs.Prelude.{◌≡◌, ◌≤◌, ◌++◌, ◌∷◌, ℕ, List, map, length, None, Some, IfOk, IfErr, OnOk};
+ghost use Rattle.char_def.specs.Answers.{IsInfoOfNames, IsMappingRefusal, all_said, first_bad_mapping, said_in};
 ghost use Rattle.mj_model.specs.declared.limits.TheConstants.{CATEGORIES_MAX as CategoriesMax};
-ghost use Rattle.mj_model.specs.declared.source_fault.TheConstants.{CHAR_FILE as CharFile};
-ghost use Rattle.mj_model.specs.declared.source_fault.SourceKind.TheVariants.{Memory};
-ghost use Rattle.mj_model.specs.CharDef.{char_line, mapped_by, mapping_fault, source_from, is_defined, info_of_names};
-ghost use Rattle.mj_model.specs.FirstFault.{IsRefusal, first_fault};
-ghost use Rattle.mj_model.specs.Lines.{numbered_lines};
+ghost use Rattle.mj_model.specs.CharDef.{char_line, mapping_fault};
+ghost use Rattle.mj_model.specs.FirstFault.{IsRefusal};
 ghost use Rattle.char_def.specs.Definitions.{definitions_are};
-ghost use Rattle.char_def.specs.Mapped.{said, said_by};
+ghost use Rattle.char_def.specs.Mapped.{said_by};
 
 use crate::definitions::{Definition, number_of};
 use crate::line::{CharLine, read_line};
@@ -25,9 +22,12 @@ pub(crate) fn read_mappings(
     definitions: &[Definition],
 ) -> Result<Vec<MappedRange>, SourceFault>
     requires { length definitions.now ≤ CategoriesMax }
-    ensures accepted { IfOk result (λ read. first_fault CharFile (λ line. mapping_fault (definitions_are definitions.now) (char_line line)) (numbered_lines bytes.now) ≡ None) }
-    ensures mappings { IfOk result (λ read. map said_by read.items ≡ map (said (definitions_are definitions.now)) (source_from (numbered_lines bytes.now)).mappings) }
-    ensures refused { IfErr result (λ fault. IsRefusal fault (first_fault CharFile (λ line. mapping_fault (definitions_are definitions.now) (char_line line)) (numbered_lines bytes.now) ≡ Some fault)) }
+    ensures accepted { IfOk result (λ read. first_bad_mapping (definitions_are definitions.now)
+        bytes.now ≡ None) }
+    ensures mappings { IfOk result (λ read. map said_by read.items
+        ≡ all_said (definitions_are definitions.now) bytes.now) }
+    ensures refused { IfErr result (λ fault. IsRefusal fault
+        (first_bad_mapping (definitions_are definitions.now) bytes.now ≡ Some fault)) }
 {
     let mut mapped = Vec::new(alloc);
     for (number, line) in lines(bytes) {
@@ -45,9 +45,11 @@ fn add_line(
     mapped: &mut Vec<MappedRange>,
 ) -> Result<(), SourceKind>
     requires { length definitions.now ≤ CategoriesMax }
-    ensures fits { OnOk result (mapping_fault (definitions_are definitions.now) (char_line line.now) ≡ None) }
-    ensures added { OnOk result (map said_by mapped.new.items ≡ map said_by mapped.old.items ++ map (said (definitions_are definitions.now)) (mapped_by (char_line line.now))) }
-    ensures refused { IfErr result (λ kind. (kind ≡ Memory) ⊎ (mapping_fault (definitions_are definitions.now) (char_line line.now) ≡ Some kind)) }
+    ensures fits { OnOk result (mapping_fault (definitions_are definitions.now)
+        (char_line line.now) ≡ None) }
+    ensures added { OnOk result (map said_by mapped.new.items
+        ≡ map said_by mapped.old.items ++ said_in (definitions_are definitions.now) line.now) }
+    ensures refused { IfErr result (IsMappingRefusal (definitions_are definitions.now) line.now) }
 {
     let Ok(CharLine::Mapping(mapping)) = read_line(line) else {
         return Ok(());
@@ -66,7 +68,8 @@ fn add_line(
 fn info_of(definitions: &[Definition], names: LineWords) -> Option<CharInfo>
     requires few { length definitions.now ≤ CategoriesMax }
     requires some { (first : List ℕ) × (others : List (List ℕ)) × (names ≡ first ∷ others) }
-    ensures { (first : List ℕ) (others : List (List ℕ)) → names.entry ≡ first ∷ others → MatchOption result (list_all (is_defined (definitions_are definitions.now)) (first ∷ others) ≡ false) (λ info. (list_all (is_defined (definitions_are definitions.now)) (first ∷ others) ≡ true) × (info ≡ info_of_names (definitions_are definitions.now) first others)) }
+    ensures { (first : List ℕ) (others : List (List ℕ)) → names.entry ≡ first ∷ others
+        → IsInfoOfNames (definitions_are definitions.now) first others result }
 {
     let mut others = names;
     let head = number_of(definitions, others.next()?)?;

@@ -11,7 +11,8 @@ pub(crate) fn least_line_outside(
     sizes: MatrixSizes,
     first: Option<u64>,
 ) -> Option<u64>
-    ensures { (before : List ℕ) → IsLeastOf before first → IsLeastOf (before ++ lines_outside sizes (rows_of records.now)) result }
+    ensures { (before : List ℕ) → IsLeastOf before first
+        → IsLeastOf (before ++ lines_outside sizes (rows_of records.now)) result }
 {
     let mut least = first;
     for record in records {

@@ -1,5 +1,6 @@
 //! Categories of code points, later mappings laid over earlier ones.
 ghost use Rattle.std.specs.Prelude.{◌≡◌, ◌≤◌, ◌<◌, ◌+◌, ◌⊎◌, ℕ, [], length, IfOk, MatchOption};
+ghost use Rattle.char_def.specs.Answers.{IsFirstOf};
 ghost use Rattle.char_def.specs.Steps.{info_from, info_by, AreRising, BeginAt, AreOverlaid};
 
 use mj_model::CharInfo;
@@ -23,10 +24,12 @@ impl<'a> Ahead<'a> {
     /// What is ahead behind code point `first`.
     fn past(self, first: u32) -> Ahead<'a>
         requires { AreRising first self.steps.now }
-        ensures same { (code : ℕ) → first ≤ code → info_from self.entry.info self.entry.steps.now code ≡ info_from result.info result.steps.now code }
+        ensures same { (code : ℕ) → first ≤ code → info_from self.entry.info self.entry.steps.now code
+            ≡ info_from result.info result.steps.now code }
         ensures rising { AreRising (first + 1) result.steps.now }
         ensures no_more { length result.steps.now ≤ length self.entry.steps.now }
-        ensures fewer { BeginAt first self.entry.steps.now → length result.steps.now < length self.entry.steps.now }
+        ensures fewer { BeginAt first self.entry.steps.now
+            → length result.steps.now < length self.entry.steps.now }
     {
         match self.steps {
             [step, rest @ ..] if step.first == first => Ahead {
@@ -40,8 +43,9 @@ impl<'a> Ahead<'a> {
 
 /// Where the next of two lists of steps begins.
 fn next_first(lower: &[Step], upper: &[Step]) -> Option<u32>
-    ensures least { MatchOption result ((lower.now ≡ []) × (upper.now ≡ [])) (λ first. (from : ℕ) → AreRising from lower.now → AreRising from upper.now → (from ≤ first) × AreRising first lower.now × AreRising first upper.now) }
-    ensures begins { MatchOption result (lower.now ≡ []) (λ first. BeginAt first lower.now ⊎ BeginAt first upper.now) }
+    ensures least { IsFirstOf lower.now upper.now result }
+    ensures begins { MatchOption result (lower.now ≡ [])
+        (λ first. BeginAt first lower.now ⊎ BeginAt first upper.now) }
 {
     match (lower.first(), upper.first()) {
         (Some(below), Some(above)) => Some(below.first.min(above.first)),

@@ -1,6 +1,7 @@
 //! Ranges of code points, as words.
-ghost use Rattle.std.specs.Prelude.{◌≡◌, MatchOption, None, Some};
-ghost use Rattle.mj_model.specs.CharDef.{range_of, range_from, high_end as high_end_of};
+ghost use Rattle.std.specs.Prelude.{◌≡◌, None, Some};
+ghost use Rattle.char_def.specs.Answers.{AnswersRange, AnswersRangeFrom};
+ghost use Rattle.mj_model.specs.CharDef.{high_end as high_end_of};
 ghost use Rattle.char_def.specs.Hex.{up_to_max};
 
 use crate::code_range::{CODE_POINT_MAX, CodeRange};
@@ -9,7 +10,7 @@ use lex_source::split_first;
 
 /// `0xHEX` or `0xLOW..0xHIGH`. (MeCab, `char.def`)
 pub(crate) fn code_range(word: &[u8]) -> Option<CodeRange>
-    ensures { MatchOption result (range_of word.now ≡ None) (λ range. range_of word.now ≡ Some (record { low = range.low; high = range.high })) }
+    ensures { AnswersRange result word.now }
 {
     match split_first(word, b'.') {
         Some((low, rest)) => range_between(hexadecimal(low)?, high_end(rest)?),
@@ -32,7 +33,7 @@ fn high_end(rest: &[u8]) -> Option<u32>
 
 /// A range within Unicode. Numbers above it are all one.
 fn range_between(low: u32, high: u32) -> Option<CodeRange>
-    ensures { MatchOption result (range_from low high ≡ None) (λ range. range_from low high ≡ Some (record { low = range.low; high = range.high })) }
+    ensures { AnswersRangeFrom result low high }
 {
     if low <= high && high <= CODE_POINT_MAX {
         Some(CodeRange { low, high })

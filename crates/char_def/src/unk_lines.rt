@@ -1,12 +1,11 @@
 //! The lines of `unk.def`, by category.
-ghost use Rattle.std.specs.Prelude.{◌≡◌, ◌≤◌, ◌<◌, ◌⊎◌, [], ◌∷◌, ◌++◌, slice_set, slice_index_or, replicate, length, Ok, Err, IfOk, IfErr, OnOk};
+ghost use Rattle.std.specs.Prelude.{◌≡◌, ◌≤◌, ◌<◌, [], replicate, length, Ok, Err, IfOk, IfErr, OnOk};
+ghost use Rattle.char_def.specs.Answers.{AreListsIn, IsUnkRefusal, with_row};
 ghost use Rattle.mj_model.specs.declared.limits.TheConstants.{CATEGORIES_MAX as CategoriesMax};
 ghost use Rattle.mj_model.specs.declared.source_fault.TheConstants.{UNK_FILE as UnkFile};
-ghost use Rattle.mj_model.specs.declared.source_fault.SourceKind.TheVariants.{Memory};
 ghost use Rattle.mj_model.specs.FirstFault.{IsRefusal};
-ghost use Rattle.mj_model.specs.Lexicon.{Reading, ReadsAs, row_of};
-ghost use Rattle.mj_model.specs.UnkDef.{unk_outcome, rows_by_category, first_without_rows};
-ghost use Rattle.lex_source.specs.Steps.{IsRefusedLine};
+ghost use Rattle.mj_model.specs.Lexicon.{ReadsAs, row_of};
+ghost use Rattle.mj_model.specs.UnkDef.{unk_outcome, first_without_rows};
 ghost use Rattle.char_def.specs.UnkRows.{lists_are, HasAdded};
 
 use crate::char_table::CharTable;
@@ -20,10 +19,12 @@ pub(crate) fn read_lines(
     bytes: &[u8],
     table: &CharTable,
 ) -> Result<Vec<Vec<Record>>, SourceFault>
-    ensures accepted { IfOk result (λ lists. (reading : Reading) × ReadsAs (unk_outcome table.now.categories) UnkFile 0 bytes.now (Ok reading) × (lists_are lists.items ≡ rows_by_category table.now.categories reading.rows)) }
+    ensures accepted { IfOk result (λ lists. AreListsIn table.now.categories bytes.now
+        (lists_are lists.items)) }
     ensures count { IfOk result (λ lists. length lists.items ≡ length table.now.categories) }
     ensures few { IfOk result (λ lists. length lists.items ≤ CategoriesMax) }
-    ensures refused { IfErr result (λ fault. IsRefusal fault (ReadsAs (unk_outcome table.now.categories) UnkFile 0 bytes.now (Err fault))) }
+    ensures refused { IfErr result (λ fault. IsRefusal fault
+        (ReadsAs (unk_outcome table.now.categories) UnkFile 0 bytes.now (Err fault))) }
 {
     let mut lists = empty_lists(alloc, table.count())?;
     let mut held = 0;
@@ -46,9 +47,10 @@ fn add_line(
     lists: &mut Vec<Vec<Record>>,
 ) -> Result<usize, SourceKind>
     requires { length lists.old.items ≡ length table.now.categories }
-    ensures added { IfOk result (λ now. HasAdded table.now.categories number line.now held now lists.old.items lists.new.items) }
+    ensures added { IfOk result (λ now. HasAdded table.now.categories number line.now held now
+        lists.old.items lists.new.items) }
     ensures count { OnOk result (length lists.new.items ≡ length lists.old.items) }
-    ensures refused { IfErr result (λ kind. (kind ≡ Memory) ⊎ IsRefusedLine (unk_outcome table.now.categories) number line.now held kind) }
+    ensures refused { IfErr result (IsUnkRefusal table.now.categories number line.now held) }
 {
     let Some(record) = read_record(alloc, number, line)? else {
         return Ok(held);
@@ -66,7 +68,8 @@ fn add_line(
 /// Adds a record to those of a category.
 fn add(lists: &mut Vec<Vec<Record>>, category: usize, made: Record) -> Result<(), AllocError>
     requires { category < length lists.old.items }
-    ensures added { OnOk result (lists_are lists.new.items ≡ slice_set (lists_are lists.old.items) category (slice_index_or (lists_are lists.old.items) category [] ++ row_of made ∷ [])) }
+    ensures added { OnOk result (lists_are lists.new.items
+        ≡ with_row (lists_are lists.old.items) category (row_of made)) }
     ensures count { OnOk result (length lists.new.items ≡ length lists.old.items) }
 {
     lists[category].push(made)?;

@@ -39,7 +39,8 @@ impl UnkTable {
 
     /// The first line of `unk.def` whose ids don't lie within the sizes.
     pub fn first_line_outside(&self, sizes: MatrixSizes) -> Option<u64>
-        ensures { MatchOption result (all_lines_outside sizes self.now ≡ []) (IsLeast (all_lines_outside sizes self.now)) }
+        ensures { MatchOption result (all_lines_outside sizes self.now ≡ [])
+            (IsLeast (all_lines_outside sizes self.now)) }
     {
         let mut first = None;
         for list in &self.lists {
@@ -54,7 +55,8 @@ impl UnkTable {
 pub fn read_unk(alloc: Global, bytes: &[u8], table: &CharTable) -> Result<UnkTable, SourceFault>
     ensures accepted { IfOk result (λ unk. IsUnkDef table.now.categories bytes.now (Ok unk)) }
     ensures count { IfOk result (λ unk. length unk ≡ length table.now.categories) }
-    ensures refused { IfErr result (λ fault. IsRefusal fault (IsUnkDef table.now.categories bytes.now (Err fault))) }
+    ensures refused { IfErr result (λ fault. IsRefusal fault
+        (IsUnkDef table.now.categories bytes.now (Err fault))) }
 {
     let lists = read_lines(alloc, bytes, table)?;
     let missing = first_empty(&lists);

@@ -1,0 +1,95 @@
+-- What the readers of `char.def` and `unk.def` answer.
+use Rattle.std.specs.Prelude.{◌≡◌, ◌⊎◌, ℕ, ◌≤◌, ◌++◌, true, false, List, [], ◌∷◌, map, Option, Some, None, Result, Ok, slice_set, slice_index_or, MatchOption, MatchResult}
+use Rattle.std.specs.Borrow.{Bor}
+use Rattle.std.specs.List.{list_all}
+use Rattle.mj_model.specs.declared.category.CharInfo.{CharInfo}
+use Rattle.mj_model.specs.declared.source_fault.SourceFault.{SourceFault}
+use Rattle.mj_model.specs.declared.source_fault.SourceKind.{SourceKind}
+use Rattle.mj_model.specs.declared.source_fault.SourceKind.TheVariants.{Memory}
+use Rattle.mj_model.specs.declared.source_fault.TheConstants.{CHAR_FILE, UNK_FILE}
+use Rattle.mj_model.specs.CharDef.{NamedCategory, CharSource, char_line, char_source, info_of_names, is_defined, is_name, line_fault, mapped_by, mapping_fault, range_from, range_of, source_from, unless_defined}
+use Rattle.mj_model.specs.FirstFault.{first_fault}
+use Rattle.mj_model.specs.Lexicon.{Reading, ReadsAs, Row}
+use Rattle.mj_model.specs.Lines.{numbered_lines}
+use Rattle.mj_model.specs.UnkDef.{rows_by_category, unk_outcome}
+use Rattle.lex_source.specs.Steps.{IsRefusedLine}
+use Rattle.char_def.specs.declared.code_range.CodeRange.{CodeRange}
+use Rattle.char_def.specs.declared.overlay.Step.{Step}
+use Rattle.char_def.specs.Categories.{CharCategories, IsTableOf}
+use Rattle.char_def.specs.Definitions.{HasNumber}
+use Rattle.char_def.specs.Mapped.{Said, range_is, said}
+use Rattle.char_def.specs.Steps.{AreRising}
+
+-- ---- `char.def`
+
+-- the table is what the bytes of a `char.def` say
+abbrev pub IsTableIn : List ℕ → CharCategories → Type 0
+IsTableIn bytes table = (source : CharSource) × (char_source bytes ≡ Ok source) × IsTableOf source table
+
+-- the number of the category of a name, if there is one
+abbrev pub IsNumberOf : List NamedCategory → List ℕ → Option ℕ → Type 0
+IsNumberOf categories name found = MatchOption found (is_defined categories name ≡ false) (HasNumber categories name)
+
+-- the categories of a name alone, if it is defined, else this fault
+abbrev pub AnswersInfo : List NamedCategory → List ℕ → SourceKind → Result CharInfo SourceFault → Type 0
+AnswersInfo categories name kind answer =
+    MatchResult answer (λ info. (unless_defined categories name kind ≡ None) × (info ≡ info_of_names categories name []))
+    (λ fault. unless_defined categories name kind ≡ Some fault)
+
+-- the categories of all the names together, if all are defined
+abbrev pub IsInfoOfNames : List NamedCategory → List ℕ → List (List ℕ) → Option CharInfo → Type 0
+IsInfoOfNames categories first others found =
+    MatchOption found (list_all (is_defined categories) (first ∷ others) ≡ false)
+    (λ info. (list_all (is_defined categories) (first ∷ others) ≡ true) × (info ≡ info_of_names categories first others))
+
+-- why a line is refused where these categories are defined before it, or that memory was refused
+abbrev pub IsDefinitionRefusal : List NamedCategory → List ℕ → SourceKind → Type 0
+IsDefinitionRefusal before line kind = (kind ≡ Memory) ⊎ (line_fault before (char_line line) ≡ Some kind)
+
+-- why a mapping is refused where these are all categories, or that memory was refused
+abbrev pub IsMappingRefusal : List NamedCategory → List ℕ → SourceKind → Type 0
+IsMappingRefusal categories line kind = (kind ≡ Memory) ⊎ (mapping_fault categories (char_line line) ≡ Some kind)
+
+-- the first mapping at fault
+abbrev pub first_bad_mapping : List NamedCategory → List ℕ → Option SourceFault
+first_bad_mapping categories bytes = first_fault CHAR_FILE (λ line. mapping_fault categories (char_line line)) (numbered_lines bytes)
+
+-- what the mappings of a `char.def` say
+abbrev pub all_said : List NamedCategory → List ℕ → List Said
+all_said categories bytes = map (said categories) (source_from (numbered_lines bytes)).mappings
+
+-- what the mapping of a line says, if it is one
+abbrev pub said_in : List NamedCategory → List ℕ → List Said
+said_in categories line = map (said categories) (mapped_by (char_line line))
+
+-- a word that may be a name, if it may
+abbrev pub IsNameIn : List ℕ → Option (Bor (List ℕ)) → Type 0
+IsNameIn word found = MatchOption found (is_name word ≡ false) (λ name. (is_name word ≡ true) × (name.now ≡ word))
+
+-- a range, if there is one
+abbrev pub AnswersRange : Option CodeRange → List ℕ → Type 0
+AnswersRange found word = MatchOption found (range_of word ≡ None) (λ range. range_of word ≡ Some (range_is range))
+
+abbrev pub AnswersRangeFrom : Option CodeRange → ℕ → ℕ → Type 0
+AnswersRangeFrom found low high = MatchOption found (range_from low high ≡ None) (λ range. range_from low high ≡ Some (range_is range))
+
+-- where the first of two lists of steps begins, if one has a step
+abbrev pub IsFirstOf : List Step → List Step → Option ℕ → Type 0
+IsFirstOf lower upper found =
+    MatchOption found ((lower ≡ []) × (upper ≡ []))
+    (λ first. (from : ℕ) → AreRising from lower → AreRising from upper → (from ≤ first) × AreRising first lower × AreRising first upper)
+
+-- ---- `unk.def`
+
+-- the rows of each category, as the bytes of an `unk.def` read
+abbrev pub AreListsIn : List NamedCategory → List ℕ → List (List Row) → Type 0
+AreListsIn categories bytes lists =
+    (reading : Reading) × ReadsAs (unk_outcome categories) UNK_FILE 0 bytes (Ok reading) × (lists ≡ rows_by_category categories reading.rows)
+
+-- why a line is refused where so many are held, or that memory was refused
+abbrev pub IsUnkRefusal : List NamedCategory → ℕ → List ℕ → ℕ → SourceKind → Type 0
+IsUnkRefusal categories number line held kind = (kind ≡ Memory) ⊎ IsRefusedLine (unk_outcome categories) number line held kind
+
+-- lists with one more row of a category
+abbrev pub with_row : List (List Row) → ℕ → Row → List (List Row)
+with_row lists category row = slice_set lists category (slice_index_or lists category [] ++ row ∷ [])
