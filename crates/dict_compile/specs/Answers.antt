@@ -1,5 +1,6 @@
 -- What may be told of sources that are at fault.
-use Rattle.std.specs.Prelude.{◌≡◌, ◌⊎◌, Result, Ok, Err}
+use Rattle.std.specs.Prelude.{◌≡◌, ◌⊎◌, ℕ, List, map, Result, Ok, Err}
+use Rattle.std.specs.Borrow.{Bor}
 use Rattle.mj_model.specs.declared.source_fault.SourceFault.{SourceFault}
 use Rattle.mj_model.specs.declared.source_fault.SourceKind.TheVariants.{ArrayFull, Memory}
 use Rattle.dict_compile.specs.declared.compiled.Compiled.{Compiled}
@@ -20,3 +21,7 @@ abbrev pub IsUserRefusedFor : SourceFault → Result Compiled CompileUserFault �
 IsUserRefusedFor fault (Ok compiled) = ⊥
 IsUserRefusedFor fault (Err NotSystem) = ⊥
 IsUserRefusedFor fault (Err (Source told)) = IsToldFor fault told
+
+-- the bytes of lexicons
+abbrev pub lexicons_of : List (Bor (List ℕ)) → List (List ℕ)
+lexicons_of lexicons = map (λ (lexicon : Bor (List ℕ)). lexicon.now) lexicons

@@ -20,11 +20,15 @@ use std::alloc::Global;
 /// `matrix.def` is looked at first, then `char.def`, `unk.def`, and each lexicon as given. (MeCab, `mecab-dict-index`; the order is this
 /// project's own choice)
 pub fn compile(alloc: Global, sources: &Sources<'_>) -> Result<Compiled, SourceFault>
-    ensures compiled { IfOk result (λ compiled. IsCompilation sources.now compiled.image.items compiled.entries compiled.skipped) }
-    ensures every_key { IfOk result (λ compiled. AnswersKeysOfSources sources.now (image_tables compiled.image.items)) }
-    ensures refused { IfErr result (λ fault. IsRefusal fault (IsCompilationCause sources.now fault)) }
+    ensures compiled { IfOk result (λ compiled. IsCompilation sources.now compiled.image.items
+        compiled.entries compiled.skipped) }
+    ensures every_key { IfOk result (λ compiled. AnswersKeysOfSources sources.now
+        (image_tables compiled.image.items)) }
+    ensures refused { IfErr result (λ fault. IsRefusal fault
+        (IsCompilationCause sources.now fault)) }
     // Sources at fault are refused with their first fault, want of memory and of cells aside.
-    ensures first { (fault : FaultOf) → IsCompilationFault sources.now fault → IsRefusedFor fault result }
+    ensures first { (fault : FaultOf) → IsCompilationFault sources.now fault
+        → IsRefusedFor fault result }
 {
     let parts = read_sources(alloc, sources)?;
     match system_image(alloc, parts) {

@@ -1,11 +1,12 @@
 //! The lexicons of a source directory.
 
-ghost use Rattle.std.specs.Prelude.{◌≡◌, ℕ, ◌+◌, ◌<◌, ◌≤◌, ◌^◌, [], length, map, Some, None, Ok, Err, IfOk, IfErr, option_map};
+ghost use Rattle.std.specs.Prelude.{◌≡◌, ℕ, ◌+◌, ◌<◌, ◌≤◌, ◌^◌, [], length, Some, None, Ok, Err, IfOk, IfErr, option_map};
 ghost use Rattle.mj_model.specs.Dictionary.{AreLexicons, first_outside, next_file};
 ghost use Rattle.mj_model.specs.FirstFault.{IsRefusal};
 ghost use Rattle.mj_model.specs.Lexicon.{SkipLines, rows_of};
 ghost use Rattle.mj_model.specs.declared.source_fault.TheConstants.{FIRST_LEXICON_FILE as FirstFile};
 ghost use Rattle.mj_model.specs.declared.source_fault.SourceKind.TheVariants.{IdOutside};
+ghost use Rattle.dict_compile.specs.Answers.{lexicons_of};
 ghost use Rattle.dict_compile.specs.AddedLexicon.{AddsLexicon, IsLexiconFault};
 
 use lex_source::read_lexicon;
@@ -53,8 +54,10 @@ fn add_lexicon(
     sizes: MatrixSizes,
     records: &mut Vec<Record>,
 ) -> Result<u64, SourceFault>
-    ensures accepted { IfOk result (AddsLexicon file sizes bytes.now records.old.items records.new.items) }
-    ensures refused { IfErr result (λ fault. IsRefusal fault (IsLexiconFault file sizes bytes.now (length records.old.items) fault)) }
+    ensures accepted { IfOk result (AddsLexicon file sizes bytes.now records.old.items
+        records.new.items) }
+    ensures refused { IfErr result (λ fault. IsRefusal fault
+        (IsLexiconFault file sizes bytes.now (length records.old.items) fault)) }
 {
     let held = records.len();
     let skipped = read_lexicon(alloc, bytes, file, records)?;
@@ -78,9 +81,11 @@ pub(crate) fn read_lexicons(
     lexicons: &[&[u8]],
     sizes: MatrixSizes,
 ) -> Result<LexiconRecords, SourceFault>
-    ensures accepted { IfOk result (λ read. AreLexicons sizes FirstFile [] (map (λ lexicon. lexicon.now) lexicons.now) (Ok (rows_of read.records.items))) }
-    ensures skipped { IfOk result (λ read. SkipLines (map (λ lexicon. lexicon.now) lexicons.now) read.skipped) }
-    ensures refused { IfErr result (λ fault. IsRefusal fault (AreLexicons sizes FirstFile [] (map (λ lexicon. lexicon.now) lexicons.now) (Err fault))) }
+    ensures accepted { IfOk result (λ read. AreLexicons sizes FirstFile []
+        (lexicons_of lexicons.now) (Ok (rows_of read.records.items))) }
+    ensures skipped { IfOk result (λ read. SkipLines (lexicons_of lexicons.now) read.skipped) }
+    ensures refused { IfErr result (λ fault. IsRefusal fault
+        (AreLexicons sizes FirstFile [] (lexicons_of lexicons.now) (Err fault))) }
 {
     let mut records = Vec::new(alloc);
     let mut skipped = 0;

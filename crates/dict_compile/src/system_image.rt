@@ -18,7 +18,8 @@ pub(crate) fn system_image(alloc: Global, parts: SourceParts) -> Result<Compiled
 
     // A refusal has its reason.
     ensures large { IfErr result (λ fault. fault ≡ FeaturesTooLarge → HaveTooLarge parts) }
-    ensures full { IfErr result (λ fault. fault ≡ ArrayFull → MayLackCells (rows_of parts.records.items)) }
+    ensures full { IfErr result (λ fault. fault ≡ ArrayFull
+        → MayLackCells (rows_of parts.records.items)) }
 {
     let entries = parts.records.len() as u64;
     let lexicon = in_order(parts.records)?;

@@ -15,8 +15,10 @@ pub(crate) fn read_unknown(
     chars: &CharTable,
     sizes: MatrixSizes,
 ) -> Result<UnkTable, SourceFault>
-    ensures accepted { IfOk result (λ unk. IsUnkWithin sizes chars.now.categories bytes.now (Ok unk)) }
-    ensures refused { IfErr result (λ fault. IsRefusal fault (IsUnkWithin sizes chars.now.categories bytes.now (Err fault))) }
+    ensures accepted { IfOk result (λ unk. IsUnkWithin sizes chars.now.categories bytes.now
+        (Ok unk)) }
+    ensures refused { IfErr result (λ fault. IsRefusal fault
+        (IsUnkWithin sizes chars.now.categories bytes.now (Err fault))) }
 {
     let unknown = read_unk(alloc, bytes, chars)?;
     match unknown.first_line_outside(sizes) {

@@ -1,13 +1,13 @@
 //! The compilation of a user dictionary.
 
-ghost use Rattle.std.specs.Prelude.{◌≡◌, ◌↔◌, map, Err, IfOk, IfErr};
+ghost use Rattle.std.specs.Prelude.{◌≡◌, ◌↔◌, Err, IfOk, IfErr};
 ghost use Rattle.mj_model.specs.declared.source_fault.SourceFault.{SourceFault as FaultOf};
 ghost use Rattle.dict_compile.specs.Compilation.{IsUserCompilation, IsUserCause, IsUserFault};
 ghost use Rattle.mj_model.specs.FirstFault.{IsRefusal};
 ghost use Rattle.image_bytes.specs.ImageMeaning.{image_tables};
 ghost use Rattle.mj_model.specs.Tables.{Tables as TablesOf, User};
 ghost use Rattle.matrix_def.specs.Costs.{AreMatrixSizes};
-ghost use Rattle.dict_compile.specs.Answers.{IsRefusedFor, IsUserRefusedFor};
+ghost use Rattle.dict_compile.specs.Answers.{IsRefusedFor, IsUserRefusedFor, lexicons_of};
 ghost use Rattle.dict_compile.specs.EveryKey.{AnswersKeysOf};
 ghost use Rattle.dict_compile.specs.UserImages.{IsSystemOf};
 ghost use Rattle.dict_compile.specs.declared.fault.CompileUserFault.TheVariants.{NotSystem, Source};
@@ -28,12 +28,17 @@ pub fn compile_user(
     system: &Dict,
     lexicons: &[&[u8]],
 ) -> Result<Compiled, CompileUserFault>
-    ensures compiled { IfOk result (λ compiled. IsUserCompilation (image_tables system.now) (map (λ lexicon. lexicon.now) lexicons.now) compiled.image.items compiled.entries compiled.skipped) }
-    ensures every_key { IfOk result (λ compiled. AnswersKeysOf (image_tables system.now).sizes (map (λ lexicon. lexicon.now) lexicons.now) (image_tables compiled.image.items)) }
+    ensures compiled { IfOk result (λ compiled. IsUserCompilation (image_tables system.now)
+        (lexicons_of lexicons.now) compiled.image.items compiled.entries compiled.skipped) }
+    ensures every_key { IfOk result (λ compiled. AnswersKeysOf (image_tables system.now).sizes
+        (lexicons_of lexicons.now) (image_tables compiled.image.items)) }
     ensures not_system { (result ≡ Err NotSystem) ↔ ((image_tables system.now).kind ≡ User) }
-    ensures refused { (fault : FaultOf) → result ≡ Err (Source fault) → IsRefusal fault (IsUserCause (image_tables system.now) (map (λ lexicon. lexicon.now) lexicons.now) fault) }
+    ensures refused { (fault : FaultOf) → result ≡ Err (Source fault)
+        → IsRefusal fault (IsUserCause (image_tables system.now) (lexicons_of lexicons.now) fault) }
     // Lexicons at fault are refused with their first fault, want of memory and of cells aside.
-    ensures first { (fault : FaultOf) → IsUserFault (image_tables system.now) (map (λ lexicon. lexicon.now) lexicons.now) fault → IsUserRefusedFor fault result }
+    ensures first { (fault : FaultOf)
+        → IsUserFault (image_tables system.now) (lexicons_of lexicons.now) fault
+        → IsUserRefusedFor fault result }
 {
     if system.is_user() {
         return Err(CompileUserFault::NotSystem);
@@ -52,9 +57,13 @@ fn compile_lexicons(
     lexicons: &[&[u8]],
 ) -> Result<Compiled, SourceFault>
     requires { AreMatrixSizes sizes }
-    ensures compiled { (system : TablesOf) → IsSystemOf sizes system → IfOk result (λ compiled. IsUserCompilation system (map (λ lexicon. lexicon.now) lexicons.now) compiled.image.items compiled.entries compiled.skipped) }
-    ensures refused { (system : TablesOf) → IsSystemOf sizes system → IfErr result (λ fault. IsRefusal fault (IsUserCause system (map (λ lexicon. lexicon.now) lexicons.now) fault)) }
-    ensures first { (system : TablesOf) → IsSystemOf sizes system → (fault : FaultOf) → IsUserFault system (map (λ lexicon. lexicon.now) lexicons.now) fault → IsRefusedFor fault result }
+    ensures compiled { (system : TablesOf) → IsSystemOf sizes system
+        → IfOk result (λ compiled. IsUserCompilation system (lexicons_of lexicons.now)
+        compiled.image.items compiled.entries compiled.skipped) }
+    ensures refused { (system : TablesOf) → IsSystemOf sizes system → IfErr result
+        (λ fault. IsRefusal fault (IsUserCause system (lexicons_of lexicons.now) fault)) }
+    ensures first { (system : TablesOf) → IsSystemOf sizes system → (fault : FaultOf)
+        → IsUserFault system (lexicons_of lexicons.now) fault → IsRefusedFor fault result }
 {
     let read = read_lexicons(alloc, lexicons, sizes)?;
     match user_image(alloc, sizes, read) {

@@ -26,8 +26,10 @@ pub(crate) fn user_image(
     ensures image { IfOk result (IsUserImageOf sizes read) }
 
     // A refusal has its reason.
-    ensures large { IfErr result (λ fault. fault ≡ FeaturesTooLarge → HasTooLarge (rows_of read.records.items)) }
-    ensures full { IfErr result (λ fault. fault ≡ ArrayFull → MayLackCells (rows_of read.records.items)) }
+    ensures large { IfErr result (λ fault. fault ≡ FeaturesTooLarge
+        → HasTooLarge (rows_of read.records.items)) }
+    ensures full { IfErr result (λ fault. fault ≡ ArrayFull
+        → MayLackCells (rows_of read.records.items)) }
 {
     let entries = read.records.len() as u64;
     let lexicon = in_order(read.records)?;

@@ -1,6 +1,5 @@
 //! What is wrong with dictionaries that are laid over one another.
 
-ghost use Rattle.std.specs.Prelude.{◌≡◌};
 
 use crate::named_fault::NamedFault;
 use thiserror::Error;

@@ -1,6 +1,5 @@
 //! What ends a run over a text.
 
-ghost use Rattle.std.specs.Prelude.{◌≡◌};
 
 use crate::named_fault::NamedFault;
 use crate::source_fault::SourceFault;

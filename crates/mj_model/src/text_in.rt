@@ -21,8 +21,10 @@ pub trait TextIn: Read {
         ensures bound { ReadsAtMost result buf.new }
         ensures bytes { ReadConsumes (told self.old).left (told self.new).left result buf.new }
         ensures reads { (told self.new).reads ≡ (told self.old).reads + 1 }
-        ensures ends { (told self.new).ends ≡ (told self.old).ends + end_in result (length buf.old) }
-        ensures failures { (told self.new).failures ≡ (told self.old).failures + failed_read result };
+        ensures ends { (told self.new).ends
+            ≡ (told self.old).ends + end_in result (length buf.old) }
+        ensures failures { (told self.new).failures
+            ≡ (told self.old).failures + failed_read result };
 
     fn reads(&self) -> u64
         ensures { result ≡ (told self.now).reads };

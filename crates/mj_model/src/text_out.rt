@@ -18,15 +18,19 @@ pub trait TextOut: Write {
         requires { CanRise (told self.old).failures }
         ensures bound { WritesAtMost result buf.now }
         ensures bytes { WriteAppends (told self.old).held (told self.new).held result buf.now }
-        ensures failures { (told self.new).failures ≡ (told self.old).failures + failed_write result (length buf.now) }
-        ensures unflushed { (told self.new).unflushed ≡ unflushed_after_write (told self.old).unflushed result };
+        ensures failures { (told self.new).failures
+            ≡ (told self.old).failures + failed_write result (length buf.now) }
+        ensures unflushed { (told self.new).unflushed
+            ≡ unflushed_after_write (told self.old).unflushed result };
 
     /// Flushes as `flush` does, and counts a failure.
     fn flush_counted(&mut self) -> io::Result<()>
         requires { CanRise (told self.old).failures }
         ensures bytes { Keeps (told self.old).held (told self.new).held }
-        ensures failures { (told self.new).failures ≡ (told self.old).failures + failed_flush result }
-        ensures unflushed { (told self.new).unflushed ≡ unflushed_after_flush (told self.old).unflushed result };
+        ensures failures { (told self.new).failures
+            ≡ (told self.old).failures + failed_flush result }
+        ensures unflushed { (told self.new).unflushed
+            ≡ unflushed_after_flush (told self.old).unflushed result };
 
     fn failures(&self) -> u64
         ensures { result ≡ (told self.now).failures };
