@@ -17,7 +17,8 @@ pub(crate) fn take_block<T, A: Allocator>(
     _like: &T,
 ) -> Result<(Slots<T>, FreeToken<T, A>), AllocError>
     requires { FitsInBlock T.row places }
-    ensures { IfOk result (λ block. (slots_len block.0 ≡ places) × IsTokenOf block.1 block.0 alloc.now) }
+    ensures { IfOk result (λ block. (slots_len block.0 ≡ places)
+        × IsTokenOf block.1 block.0 alloc.now) }
 {
     match alloc.allocate(places * size_of::<T>(), align_of::<T>()) {
         Ok(start) => {

@@ -13,7 +13,8 @@ use std::alloc::{AllocError, Global};
 /// Puts the pair into each place from `from` up to `to`.
 pub(crate) fn fill(row: &mut Slots<(i32, i32)>, from: usize, to: usize, pair: (i32, i32))
     requires { (from ≤ to) × (to ≤ slots_len row.old) × Filled (slots_filled row.old) 0 from }
-    ensures items { take to (slots_items row.new) ≡ take from (slots_items row.old) ++ replicate (to - from) pair }
+    ensures items { take to (slots_items row.new)
+        ≡ take from (slots_items row.old) ++ replicate (to - from) pair }
     ensures filled { Filled (slots_filled row.new) 0 to }
     ensures places { SamePlaces row.old row.new }
 {
@@ -33,9 +34,11 @@ pub(crate) fn move_to_block(
 ) -> Result<(Slots<(i32, i32)>, FreeToken<(i32, i32), Global>), AllocError>
     requires row { (count ≤ slots_len row.old) × Filled (slots_filled row.old) 0 count }
     requires places { (count ≤ places) × (places ≤ CellsMax) }
-    ensures items { IfOk result (λ block. take count (slots_items block.0) ≡ take count (slots_items row.old)) }
+    ensures items { IfOk result (λ block. take count (slots_items block.0)
+        ≡ take count (slots_items row.old)) }
     ensures filled { IfOk result (λ block. Filled (slots_filled block.0) 0 count) }
-    ensures block { IfOk result (λ block. (slots_len block.0 ≡ places) × IsTokenOf block.1 block.0 alloc.now) }
+    ensures block { IfOk result (λ block. (slots_len block.0 ≡ places)
+        × IsTokenOf block.1 block.0 alloc.now) }
     ensures same { SamePlaces row.old row.new }
     ensures kept { OnErr result (row.new ≡ row.old) }
 {

@@ -24,7 +24,8 @@ impl<'a> Ahead<'a> {
     /// What is ahead behind code point `first`.
     fn past(self, first: u32) -> Ahead<'a>
         requires { AreRising first self.steps.now }
-        ensures same { (code : ℕ) → first ≤ code → info_from self.entry.info self.entry.steps.now code
+        ensures same { (code : ℕ) → first ≤ code
+            → info_from self.entry.info self.entry.steps.now code
             ≡ info_from result.info result.steps.now code }
         ensures rising { AreRising (first + 1) result.steps.now }
         ensures no_more { length result.steps.now ≤ length self.entry.steps.now }

@@ -44,8 +44,7 @@ fn compile_sources(alloc: Global, files: &SourceFiles) -> Result<Compiled, Fault
         unk: &files.unk.bytes,
         lexicons: &lexicons,
     };
-    compile(alloc, &sources)
-        .map_err(|fault| Fault::of_source(alloc, files.path(fault.file), fault))
+    compile(alloc, &sources).map_err(|fault| Fault::of_source(alloc, files.path(fault.file), fault))
 }
 
 /// Compiles a user dictionary for the system dictionary at a path.

@@ -2,9 +2,8 @@
 
 use programs::{Fault, SourceFiles, WholeFile, read_files};
 use std::alloc::Global;
-use std::fs;
-use std::io;
 use std::string::String;
+use std::{fs, io};
 
 /// Reads `matrix.def`, `char.def`, `unk.def`, the directory, and then each file whose name ends with `.csv`, in byte order.
 pub fn read_directory(rt: &HostRuntime, dir: &str) -> Result<SourceFiles, Fault> {

@@ -13,7 +13,8 @@ use std::alloc::AllocError;
 pub(crate) fn split_quoted(inside: &str) -> (&str, Option<&str>)
     ensures doubled { IsDoubled result.0.now }
     ensures behind { MatchOption result.1 (inside.now ≡ result.0.now)
-        (λ behind. (inside.now ≡ result.0.now ++ quote ∷ behind.now) × (BeginsWithQuote behind.now → ⊥)) }
+        (λ behind. (inside.now ≡ result.0.now ++ quote ∷ behind.now)
+        × (BeginsWithQuote behind.now → ⊥)) }
 {
     let end = quoted_end(inside.as_bytes());
     if end == inside.len() {

@@ -1,6 +1,5 @@
 //! What is wrong with dictionaries that are laid over one another.
 
-
 use crate::named_fault::NamedFault;
 use thiserror::Error;
 

@@ -1,6 +1,5 @@
 //! What ends a run over a text.
 
-
 use crate::named_fault::NamedFault;
 use crate::source_fault::SourceFault;
 use thiserror::Error;

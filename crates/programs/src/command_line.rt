@@ -54,10 +54,7 @@ pub fn needed_text(
 ) -> Result<String, OptionsFault> {
     match matches.get_str(id) {
         Some(text) => Ok(String::from_str(alloc, text)?),
-        None => Err(OptionsFault::Bad(String::from_str(
-            alloc,
-            "error: an option is missing\n",
-        )?)),
+        None => Err(OptionsFault::Bad(String::from_str(alloc, "error: an option is missing\n")?)),
     }
 }
 

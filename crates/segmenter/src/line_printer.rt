@@ -25,7 +25,8 @@ pub trait LinePrinter {
         out: &mut Vec<u8>,
     ) -> Result<(), LineError>
         requires { length line.now ≤ SENTENCE_MAX }
-        ensures printed { OnOk result (IsPrinted (tells self.now) line.now out.old.items out.new.items) }
+        ensures printed { OnOk result (IsPrinted (tells self.now) line.now
+            out.old.items out.new.items) }
         ensures bad { IfErr result (TellsFault (λ fault. tells self.now line.now (Err fault))) }
         ensures kept { OnErr result (out.new.items ≡ out.old.items) };
 

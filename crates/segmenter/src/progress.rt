@@ -31,7 +31,8 @@ fn print_any<P: LinePrinter>(
     line: &[u8],
     out: &mut Vec<u8>,
 ) -> Result<(), LineError>
-    ensures printed { OnOk result (IsPrinted (P.tells printer.now) line.now out.old.items out.new.items) }
+    ensures printed { OnOk result (IsPrinted (P.tells printer.now) line.now
+        out.old.items out.new.items) }
     ensures bad { IfErr result (TellsFault (λ fault. P.tells printer.now line.now (Err fault))) }
     ensures kept { OnErr result (out.new.items ≡ out.old.items) }
 {
@@ -73,7 +74,8 @@ impl Progress {
         part: &[u8],
     ) -> Result<(), LineError>
         requires count { self.old.lines + 1 < 2 ^ 64 }
-        ensures printed { OnOk result (IsPrinted (P.tells printer.now) (self.old.pending.items ++ part.now)
+        ensures printed { OnOk result (IsPrinted (P.tells printer.now)
+            (self.old.pending.items ++ part.now)
             self.old.out.items self.new.out.items) }
         ensures counted { OnOk result (self.new.lines ≡ self.old.lines + 1) }
         ensures ended { OnOk result (self.new.pending.items ≡ []) }

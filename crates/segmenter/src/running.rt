@@ -42,7 +42,8 @@ pub fn run_sources<R: TextIn, W: TextOut>(
     // Sources at fault, and then users' lexicons at fault, are refused with the first fault, want of memory and of cells aside.
     ensures refused { (fault : FaultOf) → IsCompilationFault sources.now fault
         → IsRefusedFor (Source fault) result }
-    ensures user_refused { (i : ℕ) (fault : FaultOf) → IsUsersFault sources.now (users_of users.now) i fault
+    ensures user_refused { (i : ℕ) (fault : FaultOf)
+        → IsUsersFault sources.now (users_of users.now) i fault
         → IsRefusedFor (UserSource i fault) result }
     // Either it ended before its first read, with nothing read or written, or it ran over what the sources and the users' lexicons
     // say, which covers every text: what was read, what was written, how the run ended, and where the reader is.

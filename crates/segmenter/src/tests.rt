@@ -1,5 +1,6 @@
 //! Sources and texts with their output, words of places, and devices that fail.
 
+mod best_paths;
 mod characters;
 mod devices;
 mod expected_words;
@@ -7,7 +8,6 @@ mod failing;
 mod faults;
 mod formats;
 mod overlays;
-mod paths;
 mod refusals;
 mod rows;
 mod runs;

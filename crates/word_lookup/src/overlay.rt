@@ -13,7 +13,8 @@ use mj_model::{MatrixSizes, OverlayFault};
 /// Whether user dictionaries were made for a system with these sizes of its connection table.
 pub fn check_users(users: &[Dict], sizes: MatrixSizes) -> Result<(), OverlayFault>
     ensures accepted { OnOk result (AllByRecursion (IsUserOf sizes) (map image_tables users.now)) }
-    ensures refused { IfErr result (λ fault. first_user_fault sizes 0 (map image_tables users.now) ≡ Some fault) }
+    ensures refused { IfErr result (λ fault.
+        first_user_fault sizes 0 (map image_tables users.now) ≡ Some fault) }
 {
     for (i, user) in users.iter().enumerate() {
         check_user(user, i, sizes)?;
@@ -24,7 +25,8 @@ pub fn check_users(users: &[Dict], sizes: MatrixSizes) -> Result<(), OverlayFaul
 /// Whether dictionary `i` of the users was made for a system with these sizes.
 fn check_user(user: &Dict, i: usize, sizes: MatrixSizes) -> Result<(), OverlayFault>
     ensures accepted { OnOk result (IsUserOf sizes (image_tables user.now)) }
-    ensures refused { IfErr result (λ fault. (others : List Tables) → first_user_fault sizes i (image_tables user.now ∷ others) ≡ Some fault) }
+    ensures refused { IfErr result (λ fault. (others : List Tables)
+        → first_user_fault sizes i (image_tables user.now ∷ others) ≡ Some fault) }
 {
     if !user.is_user() {
         return Err(OverlayFault::NotUser(i));

@@ -85,17 +85,17 @@ fn two_lexicons(rt: HostRuntime) -> Result<(), Fail> {
     #[rattlefmt::skip]
     let rows: [(&str, &str, &str, u64, u128, &str, &[Expected]); 11] = [
         // (what, the two lexicons, how many entries, how many skipped lines, a key, its entries)
-        ("same_surface_twice",        "a,1,1,10,X\na,1,1,10,Y\n", "",                         2, 0, "a",   &[(0, 1, 1, 10, "X"), (1, 1, 1, 10, "Y")]),
-        ("features in falling order", "a,1,1,10,Y\nb,1,1,10,Z\na,1,1,10,X\n", "",             3, 0, "a",   &[(0, 1, 1, 10, "Y"), (1, 1, 1, 10, "X")]),
-        ("one surface in each",       "b,1,1,9,Z\na,0,1,30,Y\n", "a,1,0,-5,X\n",              3, 0, "a",   &[(0, 0, 1, 30, "Y"), (1, 1, 0, -5, "X")]),
-        ("lexicon_lines",             "\n,1,1,5,X\nも,1,1,20,Y\r\n", "",                       1, 1, "も",  &[(0, 1, 1, 20, "Y")]),
-        ("skipped lines in both",     ",1,1,5,X\n,9,9,5,X\na,1,1,10,X\n", "b,1,1,10,Y\n,1,1,5,X\n", 2, 3, "b", &[(1, 1, 1, 10, "Y")]),
-        ("skipped lines alone",       ",1,1,5,X\n", ",1,1,5,X\n",                              0, 2, "",    NONE),
-        ("empty_lexicon",             "", "",                                                 0, 0, "も",  NONE),
-        ("blank lines",               "\n\r\n", "\n",                                        0, 0, "も",  NONE),
-        ("quoted_fields",             "\"a,b\",1,1,10,X\n\"a\"\"b\",1,1,10,Y\n", "",           2, 0, "a,b", &[(1, 1, 1, 10, "X")]),
-        ("least and greatest cost",   "a,1,1,-32768,X\na,1,1,32767,X\n", "",                 2, 0, "a",   &[(0, 1, 1, -32768, "X"), (1, 1, 1, 32767, "X")]),
-        ("beyond the basic plane",    "𠮷,1,1,10,X\nも,1,1,20,Y\n", "",                       2, 0, "𠮷",  &[(1, 1, 1, 10, "X")]),
+        ("same_surface_twice", "a,1,1,10,X\na,1,1,10,Y\n", "", 2, 0, "a", &[(0, 1, 1, 10, "X"), (1, 1, 1, 10, "Y")]),
+        ("features in falling order", "a,1,1,10,Y\nb,1,1,10,Z\na,1,1,10,X\n", "", 3, 0, "a", &[(0, 1, 1, 10, "Y"), (1, 1, 1, 10, "X")]),
+        ("one surface in each", "b,1,1,9,Z\na,0,1,30,Y\n", "a,1,0,-5,X\n", 3, 0, "a", &[(0, 0, 1, 30, "Y"), (1, 1, 0, -5, "X")]),
+        ("lexicon_lines", "\n,1,1,5,X\nも,1,1,20,Y\r\n", "", 1, 1, "も", &[(0, 1, 1, 20, "Y")]),
+        ("skipped lines in both", ",1,1,5,X\n,9,9,5,X\na,1,1,10,X\n", "b,1,1,10,Y\n,1,1,5,X\n", 2, 3, "b", &[(1, 1, 1, 10, "Y")]),
+        ("skipped lines alone", ",1,1,5,X\n", ",1,1,5,X\n", 0, 2, "", NONE),
+        ("empty_lexicon", "", "", 0, 0, "も", NONE),
+        ("blank lines", "\n\r\n", "\n", 0, 0, "も", NONE),
+        ("quoted_fields", "\"a,b\",1,1,10,X\n\"a\"\"b\",1,1,10,Y\n", "", 2, 0, "a,b", &[(1, 1, 1, 10, "X")]),
+        ("least and greatest cost", "a,1,1,-32768,X\na,1,1,32767,X\n", "", 2, 0, "a", &[(0, 1, 1, -32768, "X"), (1, 1, 1, 32767, "X")]),
+        ("beyond the basic plane", "𠮷,1,1,10,X\nも,1,1,20,Y\n", "", 2, 0, "𠮷", &[(1, 1, 1, 10, "X")]),
     ];
     for (what, first, second, count, skipped, key, entries) in rows {
         let answer = compiled(rt.alloc(), first, second, key, entries)?;
@@ -120,8 +120,8 @@ fn connection_costs(rt: HostRuntime) -> Result<(), Fail> {
     let rows = [
         // (what, matrix.def, right ids, left ids, the costs of each right id in turn)
         ("asymmetric_matrix", "2 3\n0 2 100\n1 0 9\n", 2, 3, b"\0\0\0\0\x64\0\x09\0\0\0\0\0".as_slice()),
-        ("negative cost",     "2 2\n0 0 -434\n",       2, 2, b"\x4e\xfe\0\0\0\0\0\0"),
-        ("a pair twice",      "2 2\n0 1 3\n0 1 4\n",   2, 2, b"\0\0\x04\0\0\0\0\0"),
+        ("negative cost", "2 2\n0 0 -434\n", 2, 2, b"\x4e\xfe\0\0\0\0\0\0"),
+        ("a pair twice", "2 2\n0 1 3\n0 1 4\n", 2, 2, b"\0\0\x04\0\0\0\0\0"),
     ];
     for (what, matrix, right, left, costs) in rows {
         let lexicons = ["も,1,1,20,X\n".as_bytes()];

@@ -16,10 +16,10 @@ fn accepted_lexicons(rt: HostRuntime) -> Result<(), Fail> {
     #[rattlefmt::skip]
     let rows = [
         // (what, the two lexicons, how many records, the line of the last one, how many skipped lines)
-        ("empty_lexicon",       "",                              "",                           0, None,    0),
-        ("lexicon_lines",       "\n,1,1,5,X\nも,1,1,20,Y\r\n",   "",                           1, Some(3), 1),
-        ("greatest ids",        "も,2,1,20,X\n",                 "も,0,0,20,X\n",              2, Some(1), 0),
-        ("skipped ids outside", ",9,9,5,X\n",                    "\n,1,1,5,X\na,1,1,5,X\n",    1, Some(3), 2),
+        ("empty_lexicon", "", "", 0, None, 0),
+        ("lexicon_lines", "\n,1,1,5,X\nも,1,1,20,Y\r\n", "", 1, Some(3), 1),
+        ("greatest ids", "も,2,1,20,X\n", "も,0,0,20,X\n", 2, Some(1), 0),
+        ("skipped ids outside", ",9,9,5,X\n", "\n,1,1,5,X\na,1,1,5,X\n", 1, Some(3), 2),
     ];
     for (what, first, second, count, line, skipped) in rows {
         let read = read(&rt, first, second)?;
@@ -52,10 +52,10 @@ fn all_sources(rt: HostRuntime) {
     #[rattlefmt::skip]
     let rows = [
         // (what, unk.def, lexicon, the fault)
-        ("accepted",              unknown,                            "も,2,1,20,X\n,1,1,1,X\n", None),
-        ("an unknown id outside", "DEFAULT,1,2,9,X\nSPACE,3,0,9,X\n", "も,3,1,20,X\n",           Some(IdOutside.at(2, 2))),
-        ("no unknown SPACE",      "DEFAULT,1,2,9,X\n",                "",                        Some(MissingCategory(1).at(2, 0))),
-        ("an id outside",         "DEFAULT,1,1,9,X\nSPACE,0,0,9,X\n", "も,1,3,20,X\n",           Some(IdOutside.at(3, 1))),
+        ("accepted", unknown, "も,2,1,20,X\n,1,1,1,X\n", None),
+        ("an unknown id outside", "DEFAULT,1,2,9,X\nSPACE,3,0,9,X\n", "も,3,1,20,X\n", Some(IdOutside.at(2, 2))),
+        ("no unknown SPACE", "DEFAULT,1,2,9,X\n", "", Some(MissingCategory(1).at(2, 0))),
+        ("an id outside", "DEFAULT,1,1,9,X\nSPACE,0,0,9,X\n", "も,1,3,20,X\n", Some(IdOutside.at(3, 1))),
     ];
     for (what, unknown, lexicon, expected) in rows {
         let sources = Sources {

@@ -36,12 +36,12 @@ fn user_dictionary(rt: HostRuntime) -> Result<(), Fail> {
     #[rattlefmt::skip]
     let rows: [(&str, &str, &str, u64, u128, &str, &[Expected]); 6] = [
         // (what, the two lexicons, how many entries, how many skipped lines, a key, its entries)
-        ("user_dictionary",        LINE, "",                                        1, 0, "もも", &[(0, 1, 1, 1, "名詞,ユーザ")]),
-        ("no entry of the system", LINE, "",                                        1, 0, "も",   NONE),
-        ("one surface in each",    "b,1,1,9,Z\na,0,1,30,Y\n", "a,1,0,-5,X\n",       3, 0, "a",    &[(0, 0, 1, 30, "Y"), (1, 1, 0, -5, "X")]),
-        ("empty lexicons",         "", "",                                          0, 0, "もも", NONE),
-        ("skipped lines in both",  ",1,1,5,X\n,1,1,5,X\n", "a,1,1,5,X\n,1,1,5,X\n", 1, 3, "a",    &[(0, 1, 1, 5, "X")]),
-        ("a byte order mark is a surface's", "\u{feff}a,1,1,5,X\n", "",             1, 0, "a",    NONE),
+        ("user_dictionary", LINE, "", 1, 0, "もも", &[(0, 1, 1, 1, "名詞,ユーザ")]),
+        ("no entry of the system", LINE, "", 1, 0, "も", NONE),
+        ("one surface in each", "b,1,1,9,Z\na,0,1,30,Y\n", "a,1,0,-5,X\n", 3, 0, "a", &[(0, 0, 1, 30, "Y"), (1, 1, 0, -5, "X")]),
+        ("empty lexicons", "", "", 0, 0, "もも", NONE),
+        ("skipped lines in both", ",1,1,5,X\n,1,1,5,X\n", "a,1,1,5,X\n,1,1,5,X\n", 1, 3, "a", &[(0, 1, 1, 5, "X")]),
+        ("a byte order mark is a surface's", "\u{feff}a,1,1,5,X\n", "", 1, 0, "a", NONE),
     ];
     for (what, first, second, count, skipped, key, entries) in rows {
         let answer = compiled(rt.alloc(), &system, first, second, key, entries)?;

@@ -56,15 +56,15 @@ fn ranges_of_code_points(rt: HostRuntime) -> Result<(), Fail> {
     #[rattlefmt::skip]
     let rows: [(&str, &[u8], _); 9] = [
         // (what, section 3, the fault)
-        ("two ranges",              b"\0\0\0\0\x01\0\0\0\xff\xff\x10\0\x01\0\0\0", None),
-        ("none",                    b"",                                             Some(BadSection(3))),
-        ("half a range",            b"\0\0\0\0",                                     Some(BadSection(3))),
-        ("the first from 1",        b"\x01\0\0\0\x01\0\0\0",                         Some(BadSection(3))),
-        ("equal first code points", b"\0\0\0\0\x01\0\0\0\0\0\0\0\x01\0\0\0",         Some(BadSection(3))),
-        ("past U+10FFFF",           b"\0\0\0\0\x01\0\0\0\0\0\x11\0\x01\0\0\0",       Some(BadSection(3))),
-        ("no category",             b"\0\0\0\0\0\0\0\0",                             Some(BadSection(3))),
-        ("first category 1",        b"\0\0\0\0\x01\0\x04\0",                         Some(BadSection(3))),
-        ("category 1 in the set",   b"\0\0\0\0\x03\0\0\0",                           Some(BadSection(3))),
+        ("two ranges", b"\0\0\0\0\x01\0\0\0\xff\xff\x10\0\x01\0\0\0", None),
+        ("none", b"", Some(BadSection(3))),
+        ("half a range", b"\0\0\0\0", Some(BadSection(3))),
+        ("the first from 1", b"\x01\0\0\0\x01\0\0\0", Some(BadSection(3))),
+        ("equal first code points", b"\0\0\0\0\x01\0\0\0\0\0\0\0\x01\0\0\0", Some(BadSection(3))),
+        ("past U+10FFFF", b"\0\0\0\0\x01\0\0\0\0\0\x11\0\x01\0\0\0", Some(BadSection(3))),
+        ("no category", b"\0\0\0\0\0\0\0\0", Some(BadSection(3))),
+        ("first category 1", b"\0\0\0\0\x01\0\x04\0", Some(BadSection(3))),
+        ("category 1 in the set", b"\0\0\0\0\x03\0\0\0", Some(BadSection(3))),
     ];
     for (what, ranges, expected) in rows {
         let bytes = sealed(rt.alloc(), &one_category(rt.alloc(), ranges)?)?;

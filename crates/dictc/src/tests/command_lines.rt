@@ -43,11 +43,11 @@ fn command_lines(rt: HostRuntime) -> Result<(), Fail> {
     #[rattlefmt::skip]
     let rows: [(&str, &[&str], Asked); 5] = [
         // (what, words, what is asked for)
-        ("a system dictionary",                 &["system", "--matrix", "m", "--char", "c", "--unk", "u", "--out", "o", "a.csv"],  System(&["a.csv"])),
-        ("in another order, with =",            &["system", "b.csv", "--out=o", "--unk=u", "a.csv", "--char=c", "--matrix=m"],     System(&["b.csv", "a.csv"])),
-        ("a user dictionary",                   &["user", "--dic", "sys.img", "--out", "o", "a.csv"],                              User("sys.img", &["a.csv"])),
-        ("the same lexicon twice",              &["user", "--dic", "s", "--out", "o", "a", "b", "a"],                              User("s", &["a", "b", "a"])),
-        ("a lexicon that looks like an option", &["user", "--dic", "s", "--out", "o", "--", "--out"],                              User("s", &["--out"])),
+        ("a system dictionary", &["system", "--matrix", "m", "--char", "c", "--unk", "u", "--out", "o", "a.csv"], System(&["a.csv"])),
+        ("in another order, with =", &["system", "b.csv", "--out=o", "--unk=u", "a.csv", "--char=c", "--matrix=m"], System(&["b.csv", "a.csv"])),
+        ("a user dictionary", &["user", "--dic", "sys.img", "--out", "o", "a.csv"], User("sys.img", &["a.csv"])),
+        ("the same lexicon twice", &["user", "--dic", "s", "--out", "o", "a", "b", "a"], User("s", &["a", "b", "a"])),
+        ("a lexicon that looks like an option", &["user", "--dic", "s", "--out", "o", "--", "--out"], User("s", &["--out"])),
     ];
     for (what, given, asked) in rows {
         match options(rt.alloc(), words(rt.alloc(), given)?) {
@@ -63,22 +63,22 @@ fn command_lines_that_end_at_once(rt: HostRuntime) -> Result<(), Fail> {
     #[rattlefmt::skip]
     let rows: [(&str, &[&str], u8); 16] = [
         // (what, words, status)
-        ("help",                         &["--help"],                                                                                0),
-        ("help for a system",            &["system", "--help"],                                                                      0),
-        ("help for a user",              &["user", "--help"],                                                                        0),
-        ("nothing asked for",            &[],                                                                                        2),
-        ("another subcommand",           &["delete"],                                                                                2),
-        ("options alone",                &["--out", "o", "a"],                                                                       2),
-        ("a system without its options", &["system", "a"],                                                                           2),
-        ("no matrix",                    &["system", "--char", "c", "--unk", "u", "--out", "o", "a"],                                2),
-        ("no lexicon",                   &["system", "--matrix", "m", "--char", "c", "--unk", "u", "--out", "o"],                    2),
-        ("a system for a system",        &["system", "--matrix", "m", "--char", "c", "--unk", "u", "--dic", "d", "--out", "o", "a"], 2),
-        ("a user for no system",         &["user", "--out", "o", "a"],                                                               2),
-        ("a user without an image",      &["user", "--dic", "s", "a"],                                                               2),
-        ("a user without a lexicon",     &["user", "--dic", "s", "--out", "o"],                                                      2),
-        ("a user with a matrix",         &["user", "--dic", "s", "--matrix", "m", "--out", "o", "a"],                                2),
-        ("an option twice",              &["user", "--dic", "s", "--dic", "s", "--out", "o", "a"],                                   2),
-        ("no value",                     &["user", "--dic", "s", "a", "--out"],                                                      2),
+        ("help", &["--help"], 0),
+        ("help for a system", &["system", "--help"], 0),
+        ("help for a user", &["user", "--help"], 0),
+        ("nothing asked for", &[], 2),
+        ("another subcommand", &["delete"], 2),
+        ("options alone", &["--out", "o", "a"], 2),
+        ("a system without its options", &["system", "a"], 2),
+        ("no matrix", &["system", "--char", "c", "--unk", "u", "--out", "o", "a"], 2),
+        ("no lexicon", &["system", "--matrix", "m", "--char", "c", "--unk", "u", "--out", "o"], 2),
+        ("a system for a system", &["system", "--matrix", "m", "--char", "c", "--unk", "u", "--dic", "d", "--out", "o", "a"], 2),
+        ("a user for no system", &["user", "--out", "o", "a"], 2),
+        ("a user without an image", &["user", "--dic", "s", "a"], 2),
+        ("a user without a lexicon", &["user", "--dic", "s", "--out", "o"], 2),
+        ("a user with a matrix", &["user", "--dic", "s", "--matrix", "m", "--out", "o", "a"], 2),
+        ("an option twice", &["user", "--dic", "s", "--dic", "s", "--out", "o", "a"], 2),
+        ("no value", &["user", "--dic", "s", "a", "--out"], 2),
     ];
     for (what, given, status) in rows {
         let got = match options(rt.alloc(), words(rt.alloc(), given)?) {

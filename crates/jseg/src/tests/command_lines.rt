@@ -35,18 +35,18 @@ fn command_lines(rt: HostRuntime) -> Result<(), Fail> {
     #[rattlefmt::skip]
     let rows: [(&str, &[&str], Asked, u16); 12] = [
         // (what, words, what is asked for, grouping)
-        ("the sample",                   &["--sample"],                                 Sample,                       24),
-        ("a directory",                  &["--sources", "a/b"],                         Directory("a/b"),             24),
-        ("with =",                       &["--sources=a"],                              Directory("a"),               24),
-        ("no grouping",                  &["--sample", "-M", "0"],                      Sample,                       0),
-        ("grouping first",               &["-M", "25", "--sample"],                     Sample,                       25),
-        ("grouping joined",              &["-M1000", "--sample"],                       Sample,                       1000),
-        ("both",                         &["--sources", "a", "-M", "7"],                Directory("a"),               7),
-        ("a system",                     &["-d", "sys.img"],                            Images("sys.img", &[]),       24),
-        ("a system joined",              &["-dsys.img"],                                Images("sys.img", &[]),       24),
-        ("with a user",                  &["-d", "sys.img", "-u", "user.img"],          Images("sys.img", &["user.img"]), 24),
-        ("with users in their order",    &["-u", "b", "-d", "s", "-u", "a", "-u", "b"], Images("s", &["b", "a", "b"]), 24),
-        ("with a format and a grouping", &["-d", "s", "-O", "wakati", "-M", "3"],       Images("s", &[]),             3),
+        ("the sample", &["--sample"], Sample, 24),
+        ("a directory", &["--sources", "a/b"], Directory("a/b"), 24),
+        ("with =", &["--sources=a"], Directory("a"), 24),
+        ("no grouping", &["--sample", "-M", "0"], Sample, 0),
+        ("grouping first", &["-M", "25", "--sample"], Sample, 25),
+        ("grouping joined", &["-M1000", "--sample"], Sample, 1000),
+        ("both", &["--sources", "a", "-M", "7"], Directory("a"), 7),
+        ("a system", &["-d", "sys.img"], Images("sys.img", &[]), 24),
+        ("a system joined", &["-dsys.img"], Images("sys.img", &[]), 24),
+        ("with a user", &["-d", "sys.img", "-u", "user.img"], Images("sys.img", &["user.img"]), 24),
+        ("with users in their order", &["-u", "b", "-d", "s", "-u", "a", "-u", "b"], Images("s", &["b", "a", "b"]), 24),
+        ("with a format and a grouping", &["-d", "s", "-O", "wakati", "-M", "3"], Images("s", &[]), 3),
     ];
     for (what, given, asked, grouping) in rows {
         match options(rt.alloc(), words(rt.alloc(), given)?) {
@@ -65,11 +65,11 @@ fn format_options(rt: HostRuntime) -> Result<(), Fail> {
     #[rattlefmt::skip]
     let rows: [(&str, &[&str], [Option<&str>; 5]); 5] = [
         // (what, words, the name and the four formats)
-        ("none",                     &["--sample"],                                             [None, None, None, None, None]),
-        ("all",                      &["--sample", "-F", "a", "-U", "b", "-B", "c", "-E", "d"], [None, Some("a"), Some("b"), Some("c"), Some("d")]),
-        ("empty, and with a hyphen", &["--sample", "-F", "", "-E", "-%pc"],                     [None, Some(""), None, None, Some("-%pc")]),
-        ("joined",                   &["--sample", "-F%m\\n"],                                  [None, Some("%m\\n"), None, None, None]),
-        ("by name",                  &["--sample", "-O", "wakati", "-F", "%q"],                 [Some("wakati"), Some("%q"), None, None, None]),
+        ("none", &["--sample"], [None, None, None, None, None]),
+        ("all", &["--sample", "-F", "a", "-U", "b", "-B", "c", "-E", "d"], [None, Some("a"), Some("b"), Some("c"), Some("d")]),
+        ("empty, and with a hyphen", &["--sample", "-F", "", "-E", "-%pc"], [None, Some(""), None, None, Some("-%pc")]),
+        ("joined", &["--sample", "-F%m\\n"], [None, Some("%m\\n"), None, None, None]),
+        ("by name", &["--sample", "-O", "wakati", "-F", "%q"], [Some("wakati"), Some("%q"), None, None, None]),
     ];
     for (what, given, wanted) in rows {
         match options(rt.alloc(), words(rt.alloc(), given)?) {

@@ -22,21 +22,21 @@ fn formats(rt: HostRuntime) -> Result<(), Fail> {
     #[rattlefmt::skip]
     let rows = [
         // (what, a line of char.def, node, unk, bos, eos, text, output)
-        ("cost_format",               "",                           "%m/%f[0]/%c/%pn/%pc\\s",   None,            "",       "%pc\\n",    "すもももも\n",     "すもも/名詞/100/110/110 もも/名詞/30/37/147 152\n"),
-        ("blanks_in_wakati",          "",                           "%M|%ps|%pe|%pl|%pL|%pS;",  None,            "",       "%L\\n",     " すもも  もも \n", " すもも|1|10|9|10| ;  もも|12|18|6|8|  ;19\n"),
-        ("chain_over_prolonged_mark", "0x30FC KATAKANA HIRAGANA\n", "%m:%t:%pc",                None,            "",       "\\n",       "アーす",           "アーす:3:1010\n"),
-        ("ids and connections",       "",                           "%phl,%phr,%pC;",           None,            "",       "EOS\\n",    "すもももも\n",     "1,1,10;1,1,7;EOS\n"),
-        ("before and behind",         "",                           "%m/",                      None,            "[%S]",   "%L|%pc\\n", "すもも",           "[すもも]すもも/9|115\n"),
-        ("known and unknown",         "",                           "%m:%s\\s",                 None,            "",       "EOS\\n",    "もz",              "も:0 z:1 EOS\n"),
-        ("a part for unknown words",  "",                           "%m,",                      Some("<%m>%H"),  "",       "",          "もz",              "も,<z>未知"),
-        ("bad_items",                 "",                           "%f[9]|%f[0]|%%\\s",        None,            "",       "",          "z",                "|未知|% "),
-        ("fields",                    "",                           "%f[1]%f[0]%f[2];%H",       None,            "",       "",          "も",               "も助詞;助詞,も"),
-        ("escapes",                   "",                           "",                         None,            escapes,  "",          "も",               "\u{0}\u{7}\u{8}\t\n\u{b}\u{c}\r \\"),
-        ("the line of each word",     "",                           "%S%L%%",                   None,            "%%",     "%%",        "も",               "%も3%%"),
-        ("no word",                   "",                           "%m",                       None,            "%S|",    "%pc\\n",    "   ",              "   |0\n"),
-        ("an empty line",             "",                           "%m",                       None,            "%S|%L",  "|%pc",      "\n",               "|0|0"),
-        ("plain text",                "",                           "語",                       None,            "文頭",   "文末",      "すもももも",       "文頭語語文末"),
-        ("nothing",                   "",                           "",                         None,            "",       "",          "も\nz\n",          ""),
+        ("cost_format", "", "%m/%f[0]/%c/%pn/%pc\\s", None, "", "%pc\\n", "すもももも\n", "すもも/名詞/100/110/110 もも/名詞/30/37/147 152\n"),
+        ("blanks_in_wakati", "", "%M|%ps|%pe|%pl|%pL|%pS;", None, "", "%L\\n", " すもも  もも \n", " すもも|1|10|9|10| ;  もも|12|18|6|8|  ;19\n"),
+        ("chain_over_prolonged_mark", "0x30FC KATAKANA HIRAGANA\n", "%m:%t:%pc", None, "", "\\n", "アーす", "アーす:3:1010\n"),
+        ("ids and connections", "", "%phl,%phr,%pC;", None, "", "EOS\\n", "すもももも\n", "1,1,10;1,1,7;EOS\n"),
+        ("before and behind", "", "%m/", None, "[%S]", "%L|%pc\\n", "すもも", "[すもも]すもも/9|115\n"),
+        ("known and unknown", "", "%m:%s\\s", None, "", "EOS\\n", "もz", "も:0 z:1 EOS\n"),
+        ("a part for unknown words", "", "%m,", Some("<%m>%H"), "", "", "もz", "も,<z>未知"),
+        ("bad_items", "", "%f[9]|%f[0]|%%\\s", None, "", "", "z", "|未知|% "),
+        ("fields", "", "%f[1]%f[0]%f[2];%H", None, "", "", "も", "も助詞;助詞,も"),
+        ("escapes", "", "", None, escapes, "", "も", "\u{0}\u{7}\u{8}\t\n\u{b}\u{c}\r \\"),
+        ("the line of each word", "", "%S%L%%", None, "%%", "%%", "も", "%も3%%"),
+        ("no word", "", "%m", None, "%S|", "%pc\\n", "   ", "   |0\n"),
+        ("an empty line", "", "%m", None, "%S|%L", "|%pc", "\n", "|0|0"),
+        ("plain text", "", "語", None, "文頭", "文末", "すもももも", "文頭語語文末"),
+        ("nothing", "", "", None, "", "", "も\nz\n", ""),
     ];
     for (what, line, node, unk, bos, eos, text, output) in rows {
         let format = Format::parse(rt.alloc(), node, unk, bos, eos)?;

@@ -58,12 +58,12 @@ fn refused_overlays(rt: HostRuntime) -> Result<(), Fail> {
     #[rattlefmt::skip]
     let rows: [(&str, &Dict, &[Dict], OverlayFault); 6] = [
         // (what, system, users, fault)
-        ("user as system",                  &fitting, &[],                OverlayFault::NotSystem),
-        ("user as system before its users", &fitting, &system_users,      OverlayFault::NotSystem),
-        ("system as user",                  &first,   &system_users,      OverlayFault::NotUser(0)),
-        ("user of sizes 2 3",               &first,   &wide_users,        OverlayFault::OtherSizes(0)),
-        ("the first of two faults",         &first,   &mixed_users,       OverlayFault::OtherSizes(1)),
-        ("system of sizes 2 3 as user",     &first,   &wide_system_users, OverlayFault::NotUser(0)),
+        ("user as system", &fitting, &[], OverlayFault::NotSystem),
+        ("user as system before its users", &fitting, &system_users, OverlayFault::NotSystem),
+        ("system as user", &first, &system_users, OverlayFault::NotUser(0)),
+        ("user of sizes 2 3", &first, &wide_users, OverlayFault::OtherSizes(0)),
+        ("the first of two faults", &first, &mixed_users, OverlayFault::OtherSizes(1)),
+        ("system of sizes 2 3 as user", &first, &wide_system_users, OverlayFault::NotUser(0)),
     ];
     for (what, laid_under, users, fault) in rows {
         assert_eq!(rt;
@@ -82,13 +82,13 @@ fn features_of_numbers(rt: HostRuntime) -> Result<(), Fail> {
     #[rattlefmt::skip]
     let rows = [
         // (what, origin, feature)
-        ("the first entry in byte order",             Origin::Known { dict: 0, token: 0 }, "名詞,すもも"),
-        ("an unknown entry is none of the lexicon",   Origin::Known { dict: 0, token: 3 }, ""),
-        ("no such dictionary",                        Origin::Known { dict: 1, token: 0 }, ""),
-        ("an entry of the lexicon is no unknown one", Origin::Unknown { token: 2 },        ""),
-        ("the first unknown entry",                   Origin::Unknown { token: 3 },        "未知"),
-        ("the last unknown entry",                    Origin::Unknown { token: 8 },        "未知"),
-        ("behind the last entry",                     Origin::Unknown { token: 9 },        ""),
+        ("the first entry in byte order", Origin::Known { dict: 0, token: 0 }, "名詞,すもも"),
+        ("an unknown entry is none of the lexicon", Origin::Known { dict: 0, token: 3 }, ""),
+        ("no such dictionary", Origin::Known { dict: 1, token: 0 }, ""),
+        ("an entry of the lexicon is no unknown one", Origin::Unknown { token: 2 }, ""),
+        ("the first unknown entry", Origin::Unknown { token: 3 }, "未知"),
+        ("the last unknown entry", Origin::Unknown { token: 8 }, "未知"),
+        ("behind the last entry", Origin::Unknown { token: 9 }, ""),
     ];
     for (what, origin, feature) in rows {
         let word = Word {

@@ -17,16 +17,16 @@ fn matrix_and_lexicon(rt: HostRuntime) -> Result<(), Fail> {
     #[rattlefmt::skip]
     let rows = [
         // (what, matrix, lexicon, file, line, kind)
-        ("asymmetric_matrix",     "2 3\n0 2 100\n1 0 9\n", "も,1,2,20,X\n",             3, 1, SourceKind::IdOutside),
-        ("open quote",            "2 2\n",                 "\"ab,1,1,10,X\n",           3, 1, SourceKind::TooFewFields),
-        ("cost too low",          "2 2\n",                 "も,1,1,-32769,X\n",         3, 1, SourceKind::BadNumber),
-        ("row too dear",          "2 2\n0 0 40000\n",      "",                          0, 2, SourceKind::BadRow),
-        ("row outside",           "2 2\n2 0 1\n",          "",                          0, 2, SourceKind::PairOutside),
-        ("header of 0",           "0 2\n",                 "",                          0, 1, SourceKind::BadHeader),
-        ("no header",             "",                      "",                          0, 0, SourceKind::BadHeader),
-        ("too large",             "65535 65535\n",         "",                          0, 1, SourceKind::TooLarge),
-        ("matrix before lexicon", "0 2\n",                 "も,1,1,x,X\n",              0, 1, SourceKind::BadHeader),
-        ("line before its ids",   "2 2\n",                 "も,5,1,20,X\nも,1,1,x,X\n", 3, 2, SourceKind::BadNumber),
+        ("asymmetric_matrix", "2 3\n0 2 100\n1 0 9\n", "も,1,2,20,X\n", 3, 1, SourceKind::IdOutside),
+        ("open quote", "2 2\n", "\"ab,1,1,10,X\n", 3, 1, SourceKind::TooFewFields),
+        ("cost too low", "2 2\n", "も,1,1,-32769,X\n", 3, 1, SourceKind::BadNumber),
+        ("row too dear", "2 2\n0 0 40000\n", "", 0, 2, SourceKind::BadRow),
+        ("row outside", "2 2\n2 0 1\n", "", 0, 2, SourceKind::PairOutside),
+        ("header of 0", "0 2\n", "", 0, 1, SourceKind::BadHeader),
+        ("no header", "", "", 0, 0, SourceKind::BadHeader),
+        ("too large", "65535 65535\n", "", 0, 1, SourceKind::TooLarge),
+        ("matrix before lexicon", "0 2\n", "も,1,1,x,X\n", 0, 1, SourceKind::BadHeader),
+        ("line before its ids", "2 2\n", "も,5,1,20,X\nも,1,1,x,X\n", 3, 2, SourceKind::BadNumber),
     ];
     for (what, matrix, lexicon, file, line, kind) in rows {
         let sources = Sources {

@@ -11,17 +11,17 @@ fn sample_lines(rt: HostRuntime) -> Result<(), Fail> {
     #[rattlefmt::skip]
     let rows = [
         // (what, text, answer, output)
-        ("sumomo",                              "すもももも\n",             Ok(1), "すもも\t名詞,すもも\nもも\t名詞,もも\nEOS\n"),
-        ("empty input",                         "",                         Ok(0), ""),
-        ("empty line",                          "\n",                       Ok(1), "EOS\n"),
-        ("last line without LF",                "も",                       Ok(1), "も\t助詞,も\nEOS\n"),
-        ("only_blanks",                         "   \n",                    Ok(1), "EOS\n"),
-        ("blanks between words",                " すもも  もも \n",         Ok(1), "すもも\t名詞,すもも\nもも\t名詞,もも\nEOS\n"),
-        ("two lines",                           "も\nもも",                 Ok(2), "も\t助詞,も\nEOS\nもも\t名詞,もも\nEOS\n"),
-        ("an unknown word on line 2",           "も\nx\n",                  Ok(2), "も\t助詞,も\nEOS\nx\t未知\nEOS\n"),
-        ("an unknown word behind known ones",   "すもももx\n",              Ok(1), "すもも\t名詞,すもも\nも\t助詞,も\nx\t未知\nEOS\n"),
+        ("sumomo", "すもももも\n", Ok(1), "すもも\t名詞,すもも\nもも\t名詞,もも\nEOS\n"),
+        ("empty input", "", Ok(0), ""),
+        ("empty line", "\n", Ok(1), "EOS\n"),
+        ("last line without LF", "も", Ok(1), "も\t助詞,も\nEOS\n"),
+        ("only_blanks", "   \n", Ok(1), "EOS\n"),
+        ("blanks between words", " すもも  もも \n", Ok(1), "すもも\t名詞,すもも\nもも\t名詞,もも\nEOS\n"),
+        ("two lines", "も\nもも", Ok(2), "も\t助詞,も\nEOS\nもも\t名詞,もも\nEOS\n"),
+        ("an unknown word on line 2", "も\nx\n", Ok(2), "も\t助詞,も\nEOS\nx\t未知\nEOS\n"),
+        ("an unknown word behind known ones", "すもももx\n", Ok(1), "すもも\t名詞,すもも\nも\t助詞,も\nx\t未知\nEOS\n"),
         ("an ideographic space is a character", "\u{3000}すもも\u{3000}\n", Ok(1), "\u{3000}\t未知\nすもも\t名詞,すもも\n\u{3000}\t未知\nEOS\n"),
-        ("tokyo_tie",                           "東京都\n",                 Ok(1), "東京\t未知\n都\t未知\nEOS\n"),
+        ("tokyo_tie", "東京都\n", Ok(1), "東京\t未知\n都\t未知\nEOS\n"),
     ];
     for (what, text, answer, output) in rows {
         let outcome = run(rt.alloc(), &sample(), &[], text.as_bytes());
@@ -36,12 +36,12 @@ fn lexicons(rt: HostRuntime) -> Result<(), Fail> {
     #[rattlefmt::skip]
     let rows = [
         // (what, lexicon, text, output)
-        ("tie_later_place",    "a,1,1,10,X\nb,1,1,10,X\nab,1,1,27,X\n", "ab",   "a\tX\nb\tX\nEOS\n"),
-        ("same_surface_twice", "a,1,1,10,X\na,1,1,10,Y\n",              "a",    "a\tX\nEOS\n"),
-        ("ends_later",         "も,1,1,20,助詞,も\nも ,1,1,500,Z\n",    "も ",  "も \tZ\nEOS\n"),
-        ("quoted_fields",      "\"a,b\",1,1,10,X\n",                    "a,b",  "a,b\tX\nEOS\n"),
-        ("quote in a surface", "\"a\"\"b\",1,1,10,Y\n",                 "a\"b", "a\"b\tY\nEOS\n"),
-        ("lexicon_lines",      "\n,1,1,5,X\nも,1,1,20,Y\r\n",           "も",   "も\tY\nEOS\n"),
+        ("tie_later_place", "a,1,1,10,X\nb,1,1,10,X\nab,1,1,27,X\n", "ab", "a\tX\nb\tX\nEOS\n"),
+        ("same_surface_twice", "a,1,1,10,X\na,1,1,10,Y\n", "a", "a\tX\nEOS\n"),
+        ("ends_later", "も,1,1,20,助詞,も\nも ,1,1,500,Z\n", "も ", "も \tZ\nEOS\n"),
+        ("quoted_fields", "\"a,b\",1,1,10,X\n", "a,b", "a,b\tX\nEOS\n"),
+        ("quote in a surface", "\"a\"\"b\",1,1,10,Y\n", "a\"b", "a\"b\tY\nEOS\n"),
+        ("lexicon_lines", "\n,1,1,5,X\nも,1,1,20,Y\r\n", "も", "も\tY\nEOS\n"),
     ];
     for (what, lexicon, text, output) in rows {
         let sources = Sources {
@@ -60,8 +60,8 @@ fn blanks_of_other_kinds(rt: HostRuntime) -> Result<(), Fail> {
     #[rattlefmt::skip]
     let rows = [
         // (what, further line of char.def, text, output)
-        ("an ideographic space",     "0x3000 SPACE\n",       "\u{3000}すもも\u{3000}\n", "すもも\t名詞,すもも\nEOS\n"),
-        ("the chain goes on over z", "0x0009 SPACE ALPHA\n", "\tzも\n",                  "も\t助詞,も\nEOS\n"),
+        ("an ideographic space", "0x3000 SPACE\n", "\u{3000}すもも\u{3000}\n", "すもも\t名詞,すもも\nEOS\n"),
+        ("the chain goes on over z", "0x0009 SPACE ALPHA\n", "\tzも\n", "も\t助詞,も\nEOS\n"),
     ];
     for (what, further, text, output) in rows {
         let chars = chars_with(rt.alloc(), further)?;

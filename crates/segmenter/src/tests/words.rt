@@ -10,25 +10,42 @@ use word_lookup::Dictionaries;
 #[test]
 fn words_of_the_sample(rt: HostRuntime) -> Result<(), Fail> {
     #[rattlefmt::skip]
-    let rows: [(&str, &str, &str, usize, &[Expected]); 17] = [
+    let rows: [(&str, &str, &str, usize, &[Expected]); 9] = [
         // (what, a further line of char.def, text, place, words)
-        ("sumomo",                          "",                           "すもももも",             0,  &[Known(0, 9, 100, "名詞,すもも")]),
-        ("behind the first character",      "",                           "すもももも",             3,  &[Known(3, 6, 20, "助詞,も"), Known(3, 9, 30, "名詞,もも")]),
-        ("katakana_group_and_length",       "",                           "アイ",                   0,  &[Unknown(0, 6), Unknown(0, 3)]),
-        ("chain_over_prolonged_mark",       "0x30FC KATAKANA HIRAGANA\n", "アーす",                 0,  &[Unknown(0, 9), Unknown(0, 3), Unknown(0, 6)]),
-        ("tokyo_tie",                       "",                           "東京都",                 0,  &[Unknown(0, 3), Unknown(0, 6)]),
-        ("a blank before the first word",   "",                           " すもも  もも ",         0,  &[Known(1, 10, 100, "名詞,すもも")]),
-        ("blanks between words",            "",                           " すもも  もも ",         10, &[Known(12, 15, 20, "助詞,も"), Known(12, 18, 30, "名詞,もも")]),
-        ("a blank behind the last word",    "",                           " すもも  もも ",         18, &[]),
-        ("only_blanks",                     "",                           "   ",                    0,  &[]),
-        ("the end of the text",             "",                           "も",                     3,  &[]),
-        ("a wide blank",                    "0x3000 SPACE\n",             "\u{3000}すもも\u{3000}", 0,  &[Known(3, 12, 100, "名詞,すもも")]),
-        ("a wide blank behind",             "0x3000 SPACE\n",             "\u{3000}すもも\u{3000}", 12, &[]),
-        ("a wide blank that is not mapped", "",                           "\u{3000}すもも\u{3000}", 0,  &[Unknown(0, 3)]),
-        ("blanks go on over a letter",      "0x0009 SPACE ALPHA\n",       "\tzも",                  0,  &[Known(2, 5, 20, "助詞,も")]),
-        ("beyond_the_basic_plane",          "",                           "𠮷野",                   0,  &[Unknown(0, 4)]),
-        ("not the entry of U+0000",         "0x0000 KANJI\n",             "𠮷野",                   0,  &[Unknown(0, 4)]),
-        ("mapped beyond the basic plane",   "0x20000..0x2A6DF KANJI\n",   "𠮷野",                   0,  &[Unknown(0, 4), Unknown(0, 7)]),
+        ("sumomo", "", "すもももも", 0, &[Known(0, 9, 100, "名詞,すもも")]),
+        ("behind the first character", "", "すもももも", 3, &[Known(3, 6, 20, "助詞,も"), Known(3, 9, 30, "名詞,もも")]),
+        ("katakana_group_and_length", "", "アイ", 0, &[Unknown(0, 6), Unknown(0, 3)]),
+        ("chain_over_prolonged_mark", "0x30FC KATAKANA HIRAGANA\n", "アーす", 0, &[Unknown(0, 9), Unknown(0, 3), Unknown(0, 6)]),
+        ("tokyo_tie", "", "東京都", 0, &[Unknown(0, 3), Unknown(0, 6)]),
+        ("the end of the text", "", "も", 3, &[]),
+        ("beyond_the_basic_plane", "", "𠮷野", 0, &[Unknown(0, 4)]),
+        ("not the entry of U+0000", "0x0000 KANJI\n", "𠮷野", 0, &[Unknown(0, 4)]),
+        ("mapped beyond the basic plane", "0x20000..0x2A6DF KANJI\n", "𠮷野", 0, &[Unknown(0, 4), Unknown(0, 7)]),
+    ];
+    for (what, line, text, place, expected) in rows {
+        let system = system(rt.alloc(), line, sample().lexicons)?;
+        let dictionaries = Dictionaries::new(&system, &[])?;
+        assert!(rt;
+            are_words(rt.alloc(), dictionaries, text, place, expected)?,
+            "{what}"
+        );
+    }
+    Ok(())
+}
+
+#[test]
+fn words_beside_blanks(rt: HostRuntime) -> Result<(), Fail> {
+    #[rattlefmt::skip]
+    let rows: [(&str, &str, &str, usize, &[Expected]); 8] = [
+        // (what, a further line of char.def, text, place, words)
+        ("a blank before the first word", "", " すもも  もも ", 0, &[Known(1, 10, 100, "名詞,すもも")]),
+        ("blanks between words", "", " すもも  もも ", 10, &[Known(12, 15, 20, "助詞,も"), Known(12, 18, 30, "名詞,もも")]),
+        ("a blank behind the last word", "", " すもも  もも ", 18, &[]),
+        ("only_blanks", "", "   ", 0, &[]),
+        ("a wide blank", "0x3000 SPACE\n", "\u{3000}すもも\u{3000}", 0, &[Known(3, 12, 100, "名詞,すもも")]),
+        ("a wide blank behind", "0x3000 SPACE\n", "\u{3000}すもも\u{3000}", 12, &[]),
+        ("a wide blank that is not mapped", "", "\u{3000}すもも\u{3000}", 0, &[Unknown(0, 3)]),
+        ("blanks go on over a letter", "0x0009 SPACE ALPHA\n", "\tzも", 0, &[Known(2, 5, 20, "助詞,も")]),
     ];
     for (what, line, text, place, expected) in rows {
         let system = system(rt.alloc(), line, sample().lexicons)?;
@@ -46,11 +63,11 @@ fn words_of_lexicons(rt: HostRuntime) -> Result<(), Fail> {
     #[rattlefmt::skip]
     let rows: [(&str, &str, &str, &[Expected]); 5] = [
         // (what, lexicon, text, words at its beginning)
-        ("tie_later_place",    "a,1,1,10,X\nb,1,1,10,X\nab,1,1,27,X\n", "ab",  &[Known(0, 1, 10, "X"), Known(0, 2, 27, "X"), Unknown(0, 2)]),
-        ("same_surface_twice", "a,1,1,10,X\na,1,1,10,Y\n",              "a",   &[Known(0, 1, 10, "X"), Known(0, 1, 10, "Y"), Unknown(0, 1)]),
-        ("ends_later",         "も,1,1,20,助詞,も\nも ,1,1,500,Z\n",    "も ", &[Known(0, 3, 20, "助詞,も"), Known(0, 4, 500, "Z")]),
-        ("quoted_fields",      "\"a,b\",1,1,10,X\n",                    "a,b", &[Known(0, 3, 10, "X"), Unknown(0, 1)]),
-        ("empty_lexicon",      "",                                      "も",  &[Unknown(0, 3)]),
+        ("tie_later_place", "a,1,1,10,X\nb,1,1,10,X\nab,1,1,27,X\n", "ab", &[Known(0, 1, 10, "X"), Known(0, 2, 27, "X"), Unknown(0, 2)]),
+        ("same_surface_twice", "a,1,1,10,X\na,1,1,10,Y\n", "a", &[Known(0, 1, 10, "X"), Known(0, 1, 10, "Y"), Unknown(0, 1)]),
+        ("ends_later", "も,1,1,20,助詞,も\nも ,1,1,500,Z\n", "も ", &[Known(0, 3, 20, "助詞,も"), Known(0, 4, 500, "Z")]),
+        ("quoted_fields", "\"a,b\",1,1,10,X\n", "a,b", &[Known(0, 3, 10, "X"), Unknown(0, 1)]),
+        ("empty_lexicon", "", "も", &[Unknown(0, 3)]),
     ];
     for (what, lexicon, text, expected) in rows {
         let system = system(rt.alloc(), "", &[lexicon.as_bytes()])?;

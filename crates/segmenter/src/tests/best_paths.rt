@@ -35,29 +35,30 @@ fn expect_path(
 
 #[test]
 fn best_paths(rt: HostRuntime) -> Result<(), Fail> {
-    let plums = sample().lexicons;
-    let letters: &[&[u8]] = &[b"a,1,1,10,X\nb,1,1,10,X\nab,1,1,27,X\n"];
-    let blank = "すもも,1,1,100,X\nも,1,1,20,X\nもも,1,1,30,X\nも ,1,1,500,Z\n";
-    let blank: &[&[u8]] = &[blank.as_bytes()];
-    let none: &[&[u8]] = &[b""];
+    let letters = Some("a,1,1,10,X\nb,1,1,10,X\nab,1,1,27,X\n");
+    let blank = Some("すもも,1,1,100,X\nも,1,1,20,X\nもも,1,1,30,X\nも ,1,1,500,Z\n");
+    let none = Some("");
     #[rattlefmt::skip]
-    let rows: [(&str, &str, &[&[u8]], &str, i64, &[&str]); 12] = [
-        // (what, a line of char.def, lexicon, text, total, surfaces)
-        ("sumomo",                        "",                           plums,   "すもももも", 152,  &["すもも", "もも"]),
-        ("only_blanks",                   "",                           plums,   "   ",        0,    &[]),
-        ("tie_later_place",               "",                           letters, "ab",         42,   &["a", "b"]),
-        ("tokyo_tie",                     "",                           plums,   "東京都",     2022, &["東京", "都"]),
-        ("katakana_group_and_length",     "",                           plums,   "アイ",       1015, &["アイ"]),
-        ("chain_over_prolonged_mark",     "0x30FC KATAKANA HIRAGANA\n", plums,   "アーす",     1015, &["アーす"]),
-        ("ends_later",                    "",                           blank,   "も ",        515,  &["も "]),
-        ("beyond_the_basic_plane",        "",                           plums,   "𠮷野",       2022, &["𠮷", "野"]),
-        ("U+0000 is itself alone",        "0x0000 KANJI\n",             plums,   "𠮷野",       2022, &["𠮷", "野"]),
-        ("mapped beyond the basic plane", "0x20000..0x2A6DF KANJI\n",   plums,   "𠮷野",       1015, &["𠮷野"]),
-        ("U+FFFF may be mapped",          "0xFFFF KANJI\n",             plums,   "も",         35,   &["も"]),
-        ("empty_lexicon",                 "",                           none,    "も",         1015, &["も"]),
+    let rows: [(&str, &str, Option<&str>, &str, i64, &[&str]); 12] = [
+        // (what, a line of char.def, a lexicon in place of the sample's, text, total, surfaces)
+        ("sumomo", "", None, "すもももも", 152, &["すもも", "もも"]),
+        ("only_blanks", "", None, "   ", 0, &[]),
+        ("tie_later_place", "", letters, "ab", 42, &["a", "b"]),
+        ("tokyo_tie", "", None, "東京都", 2022, &["東京", "都"]),
+        ("katakana_group_and_length", "", None, "アイ", 1015, &["アイ"]),
+        ("chain_over_prolonged_mark", "0x30FC KATAKANA HIRAGANA\n", None, "アーす", 1015, &["アーす"]),
+        ("ends_later", "", blank, "も ", 515, &["も "]),
+        ("beyond_the_basic_plane", "", None, "𠮷野", 2022, &["𠮷", "野"]),
+        ("U+0000 is itself alone", "0x0000 KANJI\n", None, "𠮷野", 2022, &["𠮷", "野"]),
+        ("mapped beyond the basic plane", "0x20000..0x2A6DF KANJI\n", None, "𠮷野", 1015, &["𠮷野"]),
+        ("U+FFFF may be mapped", "0xFFFF KANJI\n", None, "も", 35, &["も"]),
+        ("empty_lexicon", "", none, "も", 1015, &["も"]),
     ];
-    for (what, line, lexicons, text, total, surfaces) in rows {
-        let dict = system(rt.alloc(), line, lexicons)?;
+    for (what, line, lexicon, text, total, surfaces) in rows {
+        let dict = match lexicon {
+            Some(lexicon) => system(rt.alloc(), line, &[lexicon.as_bytes()])?,
+            None => system(rt.alloc(), line, sample().lexicons)?,
+        };
         expect_path(&rt, what, &dict, 24, text, total, surfaces)?;
     }
     Ok(())
@@ -86,10 +87,11 @@ fn grouping_limit(rt: HostRuntime) -> Result<(), Fail> {
     for (grouping, text, total, surfaces) in rows {
         expect_path(&rt, text, &dict, grouping, text, total, surfaces)?;
     }
-    let long = letters(rt.alloc(), 1001)?;
+    let letters = letters(rt.alloc(), 1001)?;
+    let long = letters.as_str();
     assert!(rt; long.len() <= SENTENCE_MAX);
     let dictionaries = Dictionaries::new(&dict, &[])?.with_grouping(1000);
-    let path = best_path(rt.alloc(), &dictionaries, long.as_str())?;
+    let path = best_path(rt.alloc(), &dictionaries, long)?;
     assert_eq!(rt; path.total, 1015);
     assert_eq!(rt; path.words.len(), 1);
     Ok(())
