@@ -57,7 +57,7 @@ fn directory_of_files(rt: &HostRuntime, test: &str) -> Result<String, Fail> {
     }
     for lexicon in sample.lexicons {
         let path = in_directory(rt, dir.as_str(), "lexicon.csv")?;
-        fs::write(rt, path.as_str(), lexicon)?;
+        fs::write(rt, path.as_str(), *lexicon)?;
     }
     for (name, text) in LEXICONS {
         let path = in_directory(rt, dir.as_str(), name)?;
