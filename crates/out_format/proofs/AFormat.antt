@@ -2,7 +2,10 @@
 use Rattle.std.proofs.Common.{◌≡◌, ℕ, zero, suc, ◌-◌, ◌<◌, ◌≤◌, List, [], ◌∷◌, ◌++◌, length, take, drop, refl, sym, ap, subst, arith, Option, Some, None, inl, inr, ◌⊎◌}
 use Rattle.std.specs.Prelude.{Result, Ok, Err, nat_le}
 use Rattle.std.proofs.lemmas.Bool.{cases_Bool, cases_eq, cases_lt, cond-true, cond-false}
+use Rattle.std.proofs.lemmas.List.Folds.{Any-from_list_any}
 use Rattle.std.proofs.lemmas.List.Sums.{prefix_len-le-length}
+use Rattle.std.specs.List.{list_any}
+use Rattle.mj_model.proofs.Basics.{same_head, no_head}
 use Rattle.std.specs.Char.{is_ascii_digit}
 use Rattle.mj_model.specs.declared.format_item.FormatItem.{FormatItem}
 use Rattle.mj_model.specs.declared.format_item.FormatItem.TheVariants as item
@@ -12,13 +15,14 @@ use Rattle.mj_model.specs.declared.format_fault.FormatKind.{FormatKind}
 use Rattle.mj_model.specs.declared.format_fault.FormatKind.TheVariants.{BadEscape}
 use Rattle.mj_model.specs.declared.format_fault.FormatFault.{FormatFault}
 use Rattle.mj_model.specs.declared.format_fault.FormatFault.TheVariants as fault
-use Rattle.out_format.specs.Formats.{Piece, Byte, Shows, escaped, bad_item, MayShow, Begins, Reads, IsBadAt, Format, FormatTexts, part_text, IsFormat, HasOneFormat}
+use Rattle.out_format.specs.Formats.{Piece, Byte, Shows, escaped, bad_item, includes, Begins, Reads, IsBadAt, Format, FormatTexts, part_text, IsFormat, HasOneFormat}
 use Rattle.mj_model.specs.Numbers.{digits_value}
-use Rattle.out_format.specs.FirstItems.{HasIndex, HasNoIndex, BeginsItem, HasNoItem, IsStuck}
-use Rattle.out_format.specs.ItemTables.{letter_item, property_item, id_item}
+use Rattle.out_format.specs.FirstItems.{HasIndex, HasNoIndex, HasNoField, HasNoItem, IsStuck}
+use Rattle.out_format.specs.declared.items.ShownIn.TheVariants.{Words}
+use Rattle.out_format.specs.declared.items.TheConstants.{ITEMS}
 use Rattle.out_format.proofs.IndexLemmas.{digits_before, has_index, no_bracket, no_text, too_few, too_many, at_end, not_closed, too_great}
-use Rattle.out_format.proofs.ItemLemmas.{begins_letter, begins_property, begins_id, begins_field, no_item_at_end, no_letter, no_field, no_property_at_end, no_property, no_id_at_end, no_id}
-use Rattle.out_format.proofs.PieceLemmas.{begins_byte, begins_escape, begins_item, stuck_at_end, stuck_at_escape, stuck_at_percent, stuck_at_item, IsReadUpTo, read_more, read_whole, bad_at, rest_shorter}
+use Rattle.out_format.proofs.ItemLemmas.{fits, begins_listed, begins_field, no_field_of, no_field, no_index, no_item}
+use Rattle.out_format.proofs.PieceLemmas.{begins_byte, begins_escape, stuck_at_end, stuck_at_escape, stuck_at_item, IsReadUpTo, read_more, read_whole, bad_at, rest_shorter}
 use Rattle.out_format.proofs.OneFormat.{at_most_one_format}
 
 -- ---- an index
@@ -61,110 +65,36 @@ an_index (c ∷ cs) = elim (cases_eq c 91) [
 
 -- ---- an item
 
-abbrev AnItem : List ℕ → Type 0
-AnItem text = ((i : FormatItem) × (rest : List ℕ) × BeginsItem i text rest) ⊎ HasNoItem text
+abbrev AField : FormatPart → List ℕ → Type 0
+AField part behind = ((n : ℕ) × (rest : List ℕ) × Begins part (Shows (item.Field n)) (37 ∷ behind) rest) ⊎ HasNoField part (37 ∷ behind)
 
-id_by : (c : ℕ) (cs : List ℕ) (found : Option FormatItem) → id_item c ≡ found → AnItem (37 ∷ 112 ∷ 104 ∷ c ∷ cs)
-id_by c cs None e = inr (no_id c cs e)
-id_by c cs (Some i) e = inl (i, cs, begins_id c i cs e)
-
-an_id : (text : List ℕ) → AnItem (37 ∷ 112 ∷ 104 ∷ text)
-an_id [] = inr no_id_at_end
-an_id (c ∷ cs) = id_by c cs (id_item c) refl
-
-property_by : (c : ℕ) (cs : List ℕ) (found : Option FormatItem) → (c ≡ 104 → ⊥) → property_item c ≡ found → AnItem (37 ∷ 112 ∷ c ∷ cs)
-property_by c cs None not_id e = inr (no_property c cs not_id e)
-property_by c cs (Some i) not_id e = inl (i, cs, begins_property c i cs e)
-
-a_property : (text : List ℕ) → AnItem (37 ∷ 112 ∷ text)
-a_property [] = inr no_property_at_end
-a_property (c ∷ cs) = elim (cases_eq c 104) [
-  | inl is ↦ subst (λ (k : ℕ). AnItem (37 ∷ 112 ∷ k ∷ cs)) (sym is) (an_id cs)
-  | inr other ↦ property_by c cs (property_item c) other refl
+a_field : (part : FormatPart) (behind : List ℕ) → AField part behind
+a_field part [] = inr (no_field part [] (λ inside e. absurd (no_head 102 inside e)))
+a_field part (c ∷ cs) = elim (cases_eq c 102) [
+  | inr other ↦ inr (no_field part (c ∷ cs) (λ inside e. absurd (other (same_head c 102 cs inside e))))
+  | inl is ↦ subst (λ (k : ℕ). AField part (k ∷ cs)) (sym is) (elim (cases_Bool (includes Words part)) [
+    | inr may_not ↦ inr (no_field_of part (37 ∷ 102 ∷ cs) may_not)
+    | inl may ↦ elim (an_index cs) [
+      | inl (n, rest, has) ↦ inl (n, rest, begins_field part cs rest n may has)
+      | inr none ↦ inr (no_index part cs none)
+    ]
+  ])
 ]
 
-a_field : (text : List ℕ) → AnItem (37 ∷ 102 ∷ text)
-a_field text = elim (an_index text) [
-  | inl (n, rest, has) ↦ inl (item.Field n, rest, begins_field text rest n has)
-  | inr none ↦ inr (no_field text none)
-]
+abbrev AnItem : FormatPart → List ℕ → Type 0
+AnItem part behind = ((i : FormatItem) × (rest : List ℕ) × Begins part (Shows i) (37 ∷ behind) rest) ⊎ HasNoItem part (37 ∷ behind)
 
-letter_by : (c : ℕ) (cs : List ℕ) (found : Option FormatItem) → (c ≡ 102 → ⊥) → (c ≡ 112 → ⊥) → letter_item c ≡ found → AnItem (37 ∷ c ∷ cs)
-letter_by c cs None not_field not_property e = inr (no_letter c cs not_field not_property e)
-letter_by c cs (Some i) not_field not_property e = inl (i, cs, begins_letter c i cs e)
-
-an_item : (behind : List ℕ) → AnItem (37 ∷ behind)
-an_item [] = inr no_item_at_end
-an_item (c ∷ cs) = elim (cases_eq c 102) [
-  | inl is ↦ subst (λ (k : ℕ). AnItem (37 ∷ k ∷ cs)) (sym is) (a_field cs)
-  | inr not_field ↦ elim (cases_eq c 112) [
-    | inl is ↦ subst (λ (k : ℕ). AnItem (37 ∷ k ∷ cs)) (sym is) (a_property cs)
-    | inr not_property ↦ letter_by c cs (letter_item c) not_field not_property refl
+an_item : (part : FormatPart) (behind : List ℕ) → AnItem part behind
+an_item part behind = elim (cases_Bool (list_any (fits part behind) ITEMS)) [
+  | inl some ↦
+      let found = Any-from_list_any (fits part behind) ITEMS some in
+      let row = found.1 in
+      inl (row.1, drop (length row.0.now) behind, begins_listed part behind row (found.0, found.2, found.3) found.4)
+  | inr none ↦ elim (a_field part behind) [
+    | inl (n, rest, h) ↦ inl (item.Field n, rest, h)
+    | inr no_one ↦ inr (no_item part behind none no_one)
   ]
 ]
-
--- ---- an item of a part
-
-neither : (i : FormatItem) → (i ≡ item.Sentence → ⊥) → (i ≡ item.SentenceLength → ⊥) → (i ≡ item.Percent → ⊥) → MayShow Bos i → ⊥
-neither i a b c (inl e) = a e
-neither i a b c (inr (inl e)) = b e
-neither i a b c (inr (inr e)) = c e
-
-none : (i : FormatItem) → (i ≡ item.Sentence → ⊥) → (i ≡ item.SentenceLength → ⊥) → (i ≡ item.Percent → ⊥) → (i ≡ item.CostSoFar → ⊥) → MayShow Eos i → ⊥
-none i a b c d (inl e) = a e
-none i a b c d (inr (inl e)) = b e
-none i a b c d (inr (inr (inl e))) = c e
-none i a b c d (inr (inr (inr e))) = d e
-
-of_line : (i : FormatItem) → MayShow Bos i ⊎ (MayShow Bos i → ⊥)
-of_line item.Surface = inr (neither item.Surface (λ e. cc) (λ e. cc) (λ e. cc))
-of_line item.SurfaceWithBlanks = inr (neither item.SurfaceWithBlanks (λ e. cc) (λ e. cc) (λ e. cc))
-of_line item.Blanks = inr (neither item.Blanks (λ e. cc) (λ e. cc) (λ e. cc))
-of_line item.Feature = inr (neither item.Feature (λ e. cc) (λ e. cc) (λ e. cc))
-of_line (item.Field n) = inr (neither (item.Field n) (λ e. cc) (λ e. cc) (λ e. cc))
-of_line item.WordCost = inr (neither item.WordCost (λ e. cc) (λ e. cc) (λ e. cc))
-of_line item.IsUnknown = inr (neither item.IsUnknown (λ e. cc) (λ e. cc) (λ e. cc))
-of_line item.Sentence = inl (inl refl)
-of_line item.SentenceLength = inl (inr (inl refl))
-of_line item.LeftId = inr (neither item.LeftId (λ e. cc) (λ e. cc) (λ e. cc))
-of_line item.RightId = inr (neither item.RightId (λ e. cc) (λ e. cc) (λ e. cc))
-of_line item.ConnectionCost = inr (neither item.ConnectionCost (λ e. cc) (λ e. cc) (λ e. cc))
-of_line item.CostHere = inr (neither item.CostHere (λ e. cc) (λ e. cc) (λ e. cc))
-of_line item.CostSoFar = inr (neither item.CostSoFar (λ e. cc) (λ e. cc) (λ e. cc))
-of_line item.SurfaceLength = inr (neither item.SurfaceLength (λ e. cc) (λ e. cc) (λ e. cc))
-of_line item.LengthWithBlanks = inr (neither item.LengthWithBlanks (λ e. cc) (λ e. cc) (λ e. cc))
-of_line item.Start = inr (neither item.Start (λ e. cc) (λ e. cc) (λ e. cc))
-of_line item.End = inr (neither item.End (λ e. cc) (λ e. cc) (λ e. cc))
-of_line item.CharacterCategory = inr (neither item.CharacterCategory (λ e. cc) (λ e. cc) (λ e. cc))
-of_line item.Percent = inl (inr (inr refl))
-
-of_end : (i : FormatItem) → MayShow Eos i ⊎ (MayShow Eos i → ⊥)
-of_end item.Surface = inr (none item.Surface (λ e. cc) (λ e. cc) (λ e. cc) (λ e. cc))
-of_end item.SurfaceWithBlanks = inr (none item.SurfaceWithBlanks (λ e. cc) (λ e. cc) (λ e. cc) (λ e. cc))
-of_end item.Blanks = inr (none item.Blanks (λ e. cc) (λ e. cc) (λ e. cc) (λ e. cc))
-of_end item.Feature = inr (none item.Feature (λ e. cc) (λ e. cc) (λ e. cc) (λ e. cc))
-of_end (item.Field n) = inr (none (item.Field n) (λ e. cc) (λ e. cc) (λ e. cc) (λ e. cc))
-of_end item.WordCost = inr (none item.WordCost (λ e. cc) (λ e. cc) (λ e. cc) (λ e. cc))
-of_end item.IsUnknown = inr (none item.IsUnknown (λ e. cc) (λ e. cc) (λ e. cc) (λ e. cc))
-of_end item.Sentence = inl (inl refl)
-of_end item.SentenceLength = inl (inr (inl refl))
-of_end item.LeftId = inr (none item.LeftId (λ e. cc) (λ e. cc) (λ e. cc) (λ e. cc))
-of_end item.RightId = inr (none item.RightId (λ e. cc) (λ e. cc) (λ e. cc) (λ e. cc))
-of_end item.ConnectionCost = inr (none item.ConnectionCost (λ e. cc) (λ e. cc) (λ e. cc) (λ e. cc))
-of_end item.CostHere = inr (none item.CostHere (λ e. cc) (λ e. cc) (λ e. cc) (λ e. cc))
-of_end item.CostSoFar = inl (inr (inr (inr refl)))
-of_end item.SurfaceLength = inr (none item.SurfaceLength (λ e. cc) (λ e. cc) (λ e. cc) (λ e. cc))
-of_end item.LengthWithBlanks = inr (none item.LengthWithBlanks (λ e. cc) (λ e. cc) (λ e. cc) (λ e. cc))
-of_end item.Start = inr (none item.Start (λ e. cc) (λ e. cc) (λ e. cc) (λ e. cc))
-of_end item.End = inr (none item.End (λ e. cc) (λ e. cc) (λ e. cc) (λ e. cc))
-of_end item.CharacterCategory = inr (none item.CharacterCategory (λ e. cc) (λ e. cc) (λ e. cc) (λ e. cc))
-of_end item.Percent = inl (inr (inr (inl refl)))
-
-may_or_not : (part : FormatPart) (i : FormatItem) → MayShow part i ⊎ (MayShow part i → ⊥)
-may_or_not Node i = inl tt
-may_or_not Unk i = inl tt
-may_or_not Bos i = of_line i
-may_or_not Eos i = of_end i
 
 -- ---- a piece
 
@@ -180,12 +110,9 @@ an_escape part [] = inr (BadEscape, stuck_at_end part)
 an_escape part (c ∷ cs) = escape_by part c cs (escaped c) refl
 
 item_of_part : (part : FormatPart) (behind : List ℕ) → APiece part (37 ∷ behind)
-item_of_part part behind = elim (an_item behind) [
-  | inl (i, rest, h) ↦ elim (may_or_not part i) [
-    | inl may ↦ inl (Shows i, rest, begins_item part i (37 ∷ behind) rest may h)
-    | inr may_not ↦ inr (bad_item part behind, stuck_at_item part i behind rest (bad_item part behind) h may_not refl)
-  ]
-  | inr missing ↦ inr (bad_item part behind, stuck_at_percent part behind (bad_item part behind) missing refl)
+item_of_part part behind = elim (an_item part behind) [
+  | inl (i, rest, h) ↦ inl (Shows i, rest, h)
+  | inr none ↦ inr (bad_item part behind, stuck_at_item part behind (bad_item part behind) none refl)
 ]
 
 a_piece : (part : FormatPart) (c : ℕ) (cs : List ℕ) → APiece part (c ∷ cs)

@@ -1,115 +1,135 @@
--- No item begins with another, so a text begins with at most one: the letters behind `%` decide which.
-use Rattle.std.proofs.Common.{◌≡◌, ℕ, Bool, cond, ◌==◌, List, [], ◌∷◌, ◌++◌, refl, sym, ◌∙◌, ap, subst, Option, Some, None, inl, inr, ◌⊎◌, append_assoc, arith}
-use Rattle.std.specs.Prelude.{find, option_map}
-use Rattle.std.specs.List.{AllByRecursion}
-use Rattle.std.proofs.lemmas.Bool.{cases_Bool, eqb-true, cond-false, ne_eqb}
+-- A text begins with at most one item: no letters of the table begin with another row's, nor with the letter of the fields.
+use Rattle.std.proofs.Common.{◌≡◌, ℕ, Bool, ◌+◌, ◌-◌, ◌<◌, ◌≤◌, Option, Some, None, cond, ◌==◌, true, false, List, [], ◌∷◌, ◌++◌, length, drop, take, get_or, refl, sym, ◌∙◌, ap, subst, inl, inr, append_assoc, arith, Contains}
+use Rattle.std.specs.Prelude.{◌&&◌, map}
+use Rattle.std.specs.List.{AllPairs, list_all, list_any, starts_with}
+use Rattle.std.proofs.lemmas.Bool.{cases_eq, cases_order, and_parts, and_from, or_from, eq-eqb, cond-true}
+use Rattle.std.proofs.lemmas.Bool.Decides.{Decides-eqb}
+use Rattle.std.proofs.lemmas.List.{drop_at, get_or_default, get_or-map, length-map, take_all, take_rest}
+use Rattle.std.proofs.lemmas.List.Elements.{All-contains, Contains-get_or}
+use Rattle.std.proofs.lemmas.List.Folds.{list_any_at, list_any_more}
+use Rattle.std.proofs.lemmas.List.Kept.{AllPairs-cons}
+use Rattle.std.proofs.lemmas.List.Sums.{AllPass-from_list_all}
+use Rattle.std.proofs.lemmas.Slice.Eq.{starts_is}
 use Rattle.mj_model.specs.declared.format_item.FormatItem.{FormatItem}
 use Rattle.mj_model.specs.declared.format_item.FormatItem.TheVariants as item
-use Rattle.mj_model.proofs.Basics.{same_head, same_tail, no_head}
-use Rattle.out_format.specs.Formats.{SpellsItem, IsIndex}
-use Rattle.out_format.specs.FirstItems.{HasIndex, HasNoIndex, BeginsItem, HasNoItem}
-use Rattle.out_format.specs.ItemTables.{item_in, letters, properties, ids, letter_item, property_item, id_item}
+use Rattle.mj_model.specs.declared.format_fault.FormatPart.{FormatPart}
+use Rattle.mj_model.proofs.Basics.{same_head, same_tail}
+use Rattle.out_format.specs.declared.first_item.FirstItem.{FirstItem}
+use Rattle.out_format.specs.declared.items.ShownIn.TheVariants.{Words}
+use Rattle.out_format.specs.declared.items.TheConstants.{ITEMS}
+use Rattle.out_format.specs.Formats.{Row, includes, IsListed, IsField, SpellsItem, Shows, Begins}
+use Rattle.out_format.specs.Answers.{HeldRow, row_of, IsFirstField, IsFirstItem}
+use Rattle.out_format.specs.FirstItems.{HasIndex, HasNoIndex, HasNoField, HasNoItem}
 use Rattle.out_format.proofs.IndexLemmas.{facts_of}
 
--- ---- what a table holds
+-- ---- the rows of the table
 
-row_spelled : (prefix : List ℕ) (table : List (ℕ × FormatItem)) (c : ℕ) (i : FormatItem) → AllByRecursion (λ (row : ℕ × FormatItem). SpellsItem row.1 (prefix ++ row.0 ∷ [])) table
-    → item_in table c ≡ Some i → SpellsItem i (prefix ++ c ∷ [])
-row_spelled prefix [] c i all e = absurd (cc)
-row_spelled prefix (row ∷ rows) c i all e = elim (cases_Bool (row.0 == c)) [
-  | inl is ↦
-      let found : Some row.1 ≡ Some i = sym (ap (λ (b : Bool). option_map (λ (r : ℕ × FormatItem). r.1) (cond b (Some row) (find (λ (r : ℕ × FormatItem). r.0 == c) rows))) is) ∙ e in
-      let same : row.1 ≡ i = cc in
-      subst (λ (k : ℕ). SpellsItem i (prefix ++ k ∷ [])) (eqb-true row.0 c is) (subst (λ (j : FormatItem). SpellsItem j (prefix ++ row.0 ∷ [])) same all.0)
-  | inr other ↦
-      row_spelled prefix rows c i all.1
-      (sym (ap (λ (b : Bool). option_map (λ (r : ℕ × FormatItem). r.1) (cond b (Some row) (find (λ (r : ℕ × FormatItem). r.0 == c) rows))) other) ∙ e)
+-- two texts differ at a place that both have
+differ : List ℕ → List ℕ → Bool
+differ [] ys = false
+differ (x ∷ xs) [] = false
+differ (x ∷ xs) (y ∷ ys) = cond (x == y) (differ xs ys) true
+
+all_differ : List Row → Bool
+all_differ [] = true
+all_differ (row ∷ rows) = list_all (λ (r : Row). differ row.0.now r.0.now) rows && all_differ rows
+
+table_differs : all_differ ITEMS ≡ true
+unfolding all_differ differ
+table_differs = refl
+
+none_of_fields : list_all (λ (row : Row). differ row.0.now (102 ∷ [])) ITEMS ≡ true
+unfolding differ
+none_of_fields = refl
+
+not_both : (xs ys rest more : List ℕ) → differ xs ys ≡ true → xs ++ rest ≡ ys ++ more → ⊥
+unfolding differ
+not_both [] ys rest more h e = absurd (cc)
+not_both (x ∷ xs) [] rest more h e = absurd (cc)
+not_both (x ∷ xs) (y ∷ ys) rest more h e = elim (cases_eq x y) [
+  | inl same ↦ not_both xs ys rest more (sym (cond-true (x == y) (differ xs ys) true (eq-eqb x y same)) ∙ h) (same_tail x y (xs ++ rest) (ys ++ more) e)
+  | inr other ↦ other (same_head x y (xs ++ rest) (ys ++ more) e)
 ]
 
-letter_spelled : (c : ℕ) (i : FormatItem) → letter_item c ≡ Some i → SpellsItem i (37 ∷ c ∷ [])
-letter_spelled c i e = row_spelled (37 ∷ []) letters c i (refl, (refl, (refl, (refl, (refl, (refl, (refl, (refl, (refl, tt))))))))) e
+abbrev Differ : Row → Row → Type 0
+Differ r s = differ r.0.now s.0.now ≡ true
 
-property_spelled : (c : ℕ) (i : FormatItem) → property_item c ≡ Some i → SpellsItem i (37 ∷ 112 ∷ c ∷ [])
-property_spelled c i e = row_spelled (37 ∷ 112 ∷ []) properties c i (refl, (refl, (refl, (refl, (refl, (refl, (refl, (refl, tt)))))))) e
+pairs_differ : (rows : List Row) → all_differ rows ≡ true → AllPairs Differ rows
+unfolding all_differ
+pairs_differ [] h = λ i j d less in'. absurd (omega arith)
+pairs_differ (row ∷ rows) h =
+    let both = and_parts (list_all (λ (r : Row). differ row.0.now r.0.now) rows) (all_differ rows) h in
+    AllPairs-cons Differ row rows (AllPass-from_list_all (λ (r : Row). differ row.0.now r.0.now) rows both.0) (pairs_differ rows both.1)
 
-id_spelled : (c : ℕ) (i : FormatItem) → id_item c ≡ Some i → SpellsItem i (37 ∷ 112 ∷ 104 ∷ c ∷ [])
-id_spelled c i e = row_spelled (37 ∷ 112 ∷ 104 ∷ []) ids c i (refl, (refl, tt)) e
+one_row : (r s : Row) (rest more : List ℕ) → Contains ITEMS r → Contains ITEMS s → r.0.now ++ rest ≡ s.0.now ++ more → r ≡ s
+one_row r s rest more (i, low, is) (j, lower, here) e =
+    let there : get_or ITEMS j r ≡ s = get_or_default ITEMS j r s lower ∙ here in
+    elim (cases_order i j) [
+      | inl same ↦ sym is ∙ ap (λ (k : ℕ). get_or ITEMS k r) same ∙ there
+      | inr (inl less) ↦
+          let apart = subst (λ (x : Row). Differ x s) is (subst (Differ (get_or ITEMS i r)) there (pairs_differ ITEMS table_differs i j r less lower)) in
+          absurd (not_both r.0.now s.0.now rest more apart e)
+      | inr (inr less) ↦
+          let apart = subst (λ (x : Row). Differ x r) there (subst (Differ (get_or ITEMS j r)) is (pairs_differ ITEMS table_differs j i r less low)) in
+          absurd (not_both s.0.now r.0.now more rest apart (sym e))
+    ]
 
-pub begins_letter : (c : ℕ) (i : FormatItem) (rest : List ℕ) → letter_item c ≡ Some i → BeginsItem i (37 ∷ c ∷ rest) rest
-begins_letter c i rest e = record { front = 37 ∷ c ∷ []; spelled = letter_spelled c i e; is = refl }
+row_of_no_field : (row : Row) (rest inside : List ℕ) → Contains ITEMS row → row.0.now ++ rest ≡ 102 ∷ inside → ⊥
+row_of_no_field row rest inside in' e =
+    let P = λ (r : Row). differ r.0.now (102 ∷ []) ≡ true in
+    not_both row.0.now (102 ∷ []) rest inside (All-contains P ITEMS row (AllPass-from_list_all (λ (r : Row). differ r.0.now (102 ∷ [])) ITEMS none_of_fields) in') e
 
-pub begins_property : (c : ℕ) (i : FormatItem) (rest : List ℕ) → property_item c ≡ Some i → BeginsItem i (37 ∷ 112 ∷ c ∷ rest) rest
-begins_property c i rest e = record { front = 37 ∷ 112 ∷ c ∷ []; spelled = property_spelled c i e; is = refl }
+-- ---- the item that a text begins with
 
-pub begins_id : (c : ℕ) (i : FormatItem) (rest : List ℕ) → id_item c ≡ Some i → BeginsItem i (37 ∷ 112 ∷ 104 ∷ c ∷ rest) rest
-begins_id c i rest e = record { front = 37 ∷ 112 ∷ 104 ∷ c ∷ []; spelled = id_spelled c i e; is = refl }
+pub percent_first : (part : FormatPart) (i : FormatItem) (front : List ℕ) → SpellsItem part i front → (more : List ℕ) × (front ≡ 37 ∷ more)
+percent_first part i front (inl listed) = (listed.letters, listed.is)
+percent_first part i front (inr field) = (102 ∷ 91 ∷ (field.digits ++ 93 ∷ []), field.is)
 
-pub begins_field : (behind rest : List ℕ) (n : ℕ) → HasIndex behind n rest → BeginsItem (item.Field n) (37 ∷ 102 ∷ behind) rest
-begins_field behind rest n has = record {
+-- a part may show the item of a row, and a text begins with its letters
+abbrev pub fits : FormatPart → List ℕ → Row → Bool
+fits part behind row = includes row.2 part && starts_with ◌==◌ behind row.0.now
+
+pub begins_listed : (part : FormatPart) (behind : List ℕ) (row : Row) → Contains ITEMS row → fits part behind row ≡ true → Begins part (Shows row.1) (37 ∷ behind) (drop (length row.0.now) behind)
+begins_listed part behind row in' h =
+    let both = and_parts (includes row.2 part) (starts_with ◌==◌ behind row.0.now) h in
+    record {
+      front = 37 ∷ row.0.now;
+      spelled = inl (record { letters = row.0.now; texts = row.2; row = in'; may = both.0; is = refl });
+      is = ap (λ (xs : List ℕ). 37 ∷ xs) ((starts_is Decides-eqb behind row.0.now _ refl).0 both.1);
+    }
+
+pub begins_field : (part : FormatPart) (behind rest : List ℕ) (n : ℕ) → includes Words part ≡ true → HasIndex behind n rest → Begins part (Shows (item.Field n)) (37 ∷ 102 ∷ behind) rest
+begins_field part behind rest n may has = record {
   front = 37 ∷ 102 ∷ 91 ∷ (has.digits ++ 93 ∷ []);
-  spelled = (has.digits, has.is_index, refl);
+  spelled = inr (record { n = n; digits = has.digits; is_field = refl; is_index = has.is_index; may = may; is = refl });
   is = ap (λ (xs : List ℕ). 37 ∷ 102 ∷ xs) (has.is ∙ ap (λ (xs : List ℕ). 91 ∷ xs) (sym (append_assoc has.digits (93 ∷ []) rest)));
 }
 
--- ---- the item by the letters behind `%`
+-- ---- how the code goes over the table
 
-abbrev with_rest : List ℕ → Option FormatItem → Option (FormatItem × List ℕ)
-with_rest rest found = option_map (λ (i : FormatItem). (i, rest)) found
+row_here : (rows : List HeldRow) (table : List Row) (i : ℕ) (d : HeldRow) → map row_of rows ≡ table → i < length rows
+    → get_or table i (row_of d) ≡ row_of (get_or rows i d)
+row_here rows table i d is low = ap (λ (t : List Row). get_or t i (row_of d)) (sym is) ∙ get_or-map row_of rows i d (row_of d) low
 
-abbrev id_at : List ℕ → Option (FormatItem × List ℕ)
-id_at [] = None
-id_at (c ∷ cs) = with_rest cs (id_item c)
+below : (rows : List HeldRow) (table : List Row) (i : ℕ) → map row_of rows ≡ table → i < length rows → i < length table
+below rows table i is low = let n : length rows ≡ length table = sym (length-map rows row_of) ∙ ap length is in omega (arith, low, n)
 
-abbrev property_at : List ℕ → Option (FormatItem × List ℕ)
-property_at [] = None
-property_at (c ∷ cs) = cond (c == 104) (id_at cs) (with_rest cs (property_item c))
+pub row_begins : (part : FormatPart) (behind : List ℕ) (rows : List HeldRow) (i : ℕ) (d : HeldRow) → map row_of rows ≡ ITEMS → i < length rows
+    → includes (get_or rows i d).2 part ≡ true → starts_with ◌==◌ behind (get_or rows i d).0.now ≡ true
+    → Begins part (Shows (get_or rows i d).1) (37 ∷ behind) (take (length behind - length (get_or rows i d).0.now) (drop (length (get_or rows i d).0.now) behind))
+row_begins part behind rows i d is low may begins =
+    let row = row_of (get_or rows i d) in
+    let in' : Contains ITEMS row = subst (Contains ITEMS) (row_here rows ITEMS i d is low) (Contains-get_or ITEMS i (row_of d) (below rows ITEMS i is low)) in
+    subst (Begins part (Shows row.1) (37 ∷ behind)) (sym (take_rest behind (length row.0.now)))
+    (begins_listed part behind row in' (and_from (includes row.2 part) (starts_with ◌==◌ behind row.0.now) may begins))
 
--- all but fields
-abbrev plain_at : List ℕ → Option (FormatItem × List ℕ)
-plain_at [] = None
-plain_at (c ∷ cs) = cond (c == 112) (property_at cs) (with_rest cs (letter_item c))
+pub none_so_far : (part : FormatPart) (behind : List ℕ) (rows : List HeldRow) (table : List Row) (i : ℕ) (d : HeldRow) → map row_of rows ≡ table
+    → i < length rows → fits part behind (row_of (get_or rows i d)) ≡ false → list_any (fits part behind) (take i table) ≡ false → list_any (fits part behind) (take (i + 1) table) ≡ false
+none_so_far part behind rows table i d is low unfit before =
+    list_any_more (fits part behind) table i (row_of d) (below rows table i is low)
+    ∙ or_from (list_any (fits part behind) (take i table)) (fits part behind (get_or table i (row_of d))) before (ap (fits part behind) (row_here rows table i d is low) ∙ unfit)
 
-record IsPlain (i : FormatItem) (front : List ℕ) : Type 0 where
-  letters : List ℕ
-  spelled : front ≡ 37 ∷ letters
-  read : (rest : List ℕ) → plain_at (letters ++ rest) ≡ Some (i, rest)
-
-record IsField (i : FormatItem) (front : List ℕ) : Type 0 where
-  n : ℕ
-  digits : List ℕ
-  is : i ≡ item.Field n
-  is_index : IsIndex digits n
-  spelled : front ≡ 37 ∷ 102 ∷ 91 ∷ (digits ++ 93 ∷ [])
-
-abbrev View : FormatItem → List ℕ → Type 0
-View i front = IsPlain i front ⊎ IsField i front
-
-view : (i : FormatItem) (front : List ℕ) → SpellsItem i front → View i front
-view item.Surface front h = inl (record { letters = 109 ∷ []; spelled = h; read = λ rest. refl })
-view item.SurfaceWithBlanks front h = inl (record { letters = 77 ∷ []; spelled = h; read = λ rest. refl })
-view item.Blanks front h = inl (record { letters = 112 ∷ 83 ∷ []; spelled = h; read = λ rest. refl })
-view item.Feature front h = inl (record { letters = 72 ∷ []; spelled = h; read = λ rest. refl })
-view (item.Field n) front h = inr (record { n = n; digits = h.0; is = refl; is_index = h.1; spelled = h.2 })
-view item.WordCost front h = inl (record { letters = 99 ∷ []; spelled = h; read = λ rest. refl })
-view item.IsUnknown front h = inl (record { letters = 115 ∷ []; spelled = h; read = λ rest. refl })
-view item.Sentence front h = inl (record { letters = 83 ∷ []; spelled = h; read = λ rest. refl })
-view item.SentenceLength front h = inl (record { letters = 76 ∷ []; spelled = h; read = λ rest. refl })
-view item.LeftId front h = inl (record { letters = 112 ∷ 104 ∷ 108 ∷ []; spelled = h; read = λ rest. refl })
-view item.RightId front h = inl (record { letters = 112 ∷ 104 ∷ 114 ∷ []; spelled = h; read = λ rest. refl })
-view item.ConnectionCost front h = inl (record { letters = 112 ∷ 67 ∷ []; spelled = h; read = λ rest. refl })
-view item.CostHere front h = inl (record { letters = 112 ∷ 110 ∷ []; spelled = h; read = λ rest. refl })
-view item.CostSoFar front h = inl (record { letters = 112 ∷ 99 ∷ []; spelled = h; read = λ rest. refl })
-view item.SurfaceLength front h = inl (record { letters = 112 ∷ 108 ∷ []; spelled = h; read = λ rest. refl })
-view item.LengthWithBlanks front h = inl (record { letters = 112 ∷ 76 ∷ []; spelled = h; read = λ rest. refl })
-view item.Start front h = inl (record { letters = 112 ∷ 115 ∷ []; spelled = h; read = λ rest. refl })
-view item.End front h = inl (record { letters = 112 ∷ 101 ∷ []; spelled = h; read = λ rest. refl })
-view item.CharacterCategory front h = inl (record { letters = 116 ∷ []; spelled = h; read = λ rest. refl })
-view item.Percent front h = inl (record { letters = 37 ∷ []; spelled = h; read = λ rest. refl })
-
-pub percent_first : (i : FormatItem) (front : List ℕ) → SpellsItem i front → (more : List ℕ) × (front ≡ 37 ∷ more)
-percent_first i front h = elim (view i front h) [ inl p ↦ (p.letters, p.spelled) | inr f ↦ (102 ∷ 91 ∷ (f.digits ++ 93 ∷ []), f.spelled) ]
-
--- ---- an item that begins a text, by what follows its percent sign
+-- ---- a field
 
 record IsFieldAt (i : FormatItem) (behind rest : List ℕ) : Type 0 where
   n : ℕ
@@ -118,58 +138,54 @@ record IsFieldAt (i : FormatItem) (behind rest : List ℕ) : Type 0 where
   there : behind ≡ 102 ∷ inside
   has : HasIndex inside n rest
 
-begun : (i : FormatItem) (behind rest : List ℕ) → BeginsItem i (37 ∷ behind) rest → (plain_at behind ≡ Some (i, rest)) ⊎ IsFieldAt i behind rest
-begun i behind rest h = elim (view i h.front h.spelled) [
-  | inl p ↦
-      let e : 37 ∷ behind ≡ 37 ∷ (p.letters ++ rest) = h.is ∙ ap (λ (xs : List ℕ). xs ++ rest) p.spelled in
-      inl (ap plain_at (same_tail 37 37 behind (p.letters ++ rest) e) ∙ p.read rest)
-  | inr f ↦
-      let digits = f.digits in
-      let e : 37 ∷ behind ≡ 37 ∷ 102 ∷ 91 ∷ ((digits ++ 93 ∷ []) ++ rest) = h.is ∙ ap (λ (xs : List ℕ). xs ++ rest) f.spelled in
-      inr (record {
-        n = f.n;
-        inside = 91 ∷ (digits ++ 93 ∷ rest);
-        is = f.is;
-        there = same_tail 37 37 behind (102 ∷ 91 ∷ (digits ++ 93 ∷ rest)) (e ∙ ap (λ (xs : List ℕ). 37 ∷ 102 ∷ 91 ∷ xs) (append_assoc digits (93 ∷ []) rest));
-        has = record { digits = digits; is_index = f.is_index; is = refl };
-      })
+field_at : (part : FormatPart) (i : FormatItem) (behind front rest : List ℕ) → IsField part i front → 37 ∷ behind ≡ front ++ rest → IsFieldAt i behind rest
+field_at part i behind front rest f is =
+    let digits = f.digits in
+    let e : 37 ∷ behind ≡ 37 ∷ 102 ∷ 91 ∷ ((digits ++ 93 ∷ []) ++ rest) = is ∙ ap (λ (xs : List ℕ). xs ++ rest) f.is in
+    record {
+      n = f.n;
+      inside = 91 ∷ (digits ++ 93 ∷ rest);
+      is = f.is_field;
+      there = same_tail 37 37 behind (102 ∷ 91 ∷ (digits ++ 93 ∷ rest)) (e ∙ ap (λ (xs : List ℕ). 37 ∷ 102 ∷ 91 ∷ xs) (append_assoc digits (93 ∷ []) rest));
+      has = record { digits = digits; is_index = f.is_index; is = refl };
+    }
+
+letters_at : (behind letters front rest : List ℕ) → front ≡ 37 ∷ letters → 37 ∷ behind ≡ front ++ rest → behind ≡ letters ++ rest
+letters_at behind letters front rest spelled is = same_tail 37 37 behind (letters ++ rest) (is ∙ ap (λ (xs : List ℕ). xs ++ rest) spelled)
+
+-- ---- no item begins a text
+
+pub no_field_of : (part : FormatPart) (text : List ℕ) → includes Words part ≡ false → HasNoField part text
+no_field_of part text none = λ i front rest f is. let may = f.may in absurd (cc)
+
+pub no_field : (part : FormatPart) (behind : List ℕ) → ((inside : List ℕ) → behind ≡ 102 ∷ inside → HasNoIndex inside) → HasNoField part (37 ∷ behind)
+no_field part behind none = λ i front rest f is. let at = field_at part i behind front rest f is in none at.inside at.there at.n rest at.has
+
+pub no_index : (part : FormatPart) (cs : List ℕ) → HasNoIndex cs → HasNoField part (37 ∷ 102 ∷ cs)
+no_index part cs none = no_field part (102 ∷ cs) (λ inside e. subst HasNoIndex (same_tail 102 102 cs inside e) none)
+
+pub no_item : (part : FormatPart) (behind : List ℕ) → list_any (fits part behind) ITEMS ≡ false → HasNoField part (37 ∷ behind) → HasNoItem part (37 ∷ behind)
+no_item part behind none no_one = λ i rest h. elim h.spelled [
+  | inl l ↦
+      let at = l.row in
+      let row : Row = (record { now = l.letters }, i, l.texts) in
+      let here = (starts_is Decides-eqb behind l.letters _ refl).1 rest (letters_at behind l.letters h.front rest l.is h.is) in
+      let there : fits part behind (get_or ITEMS at.0 row) ≡ true =
+      subst (λ (r : Row). fits part behind r ≡ true) (sym at.2) (and_from (includes l.texts part) (starts_with ◌==◌ behind l.letters) l.may here) in
+      let some = list_any_at (fits part behind) ITEMS at.0 row at.1 there in
+      absurd (cc)
+  | inr f ↦ no_one i h.front rest f h.is
 ]
 
-none_some : (x : FormatItem × List ℕ) → None ≡ Some x → ⊥
-none_some x e = cc
+pub after_the_rows : (part : FormatPart) (behind : List ℕ) (rows : List HeldRow) (table : List Row) (i : ℕ) → map row_of rows ≡ table → length rows ≤ i
+    → list_any (fits part behind) (take i table) ≡ false → list_any (fits part behind) table ≡ false
+after_the_rows part behind rows table i is past none =
+    let n : length rows ≡ length table = sym (length-map rows row_of) ∙ ap length is in
+    sym (ap (list_any (fits part behind)) (take_all i table (omega (arith, past, n)))) ∙ none
 
-none_at : (behind : List ℕ) → plain_at behind ≡ None → ((inside : List ℕ) → behind ≡ 102 ∷ inside → HasNoIndex inside) → HasNoItem (37 ∷ behind)
-none_at behind plain field = λ i rest h. elim (begun i behind rest h) [
-  | inl p ↦ none_some (i, rest) (sym plain ∙ p)
-  | inr f ↦ field f.inside f.there f.n rest f.has
-]
-
-pub no_item_at_end : HasNoItem (37 ∷ [])
-no_item_at_end = none_at [] refl (λ inside e. absurd (no_head 102 inside e))
-
-pub no_letter : (c : ℕ) (cs : List ℕ) → (c ≡ 102 → ⊥) → (c ≡ 112 → ⊥) → letter_item c ≡ None → HasNoItem (37 ∷ c ∷ cs)
-no_letter c cs not_field not_property none =
-    none_at (c ∷ cs) (cond-false (c == 112) (property_at cs) (with_rest cs (letter_item c)) (ne_eqb c 112 not_property) ∙ ap (with_rest cs) none)
-    (λ inside e. absurd (not_field (same_head c 102 cs inside e)))
-
-pub no_field : (cs : List ℕ) → HasNoIndex cs → HasNoItem (37 ∷ 102 ∷ cs)
-no_field cs none = none_at (102 ∷ cs) refl (λ inside e. subst HasNoIndex (same_tail 102 102 cs inside e) none)
-
-no_property_by : (cs : List ℕ) → property_at cs ≡ None → HasNoItem (37 ∷ 112 ∷ cs)
-no_property_by cs none = none_at (112 ∷ cs) none (λ inside e. absurd (let h : ◌≡◌ {A = ℕ} 112 102 = same_head 112 102 cs inside e in omega arith))
-
-pub no_property_at_end : HasNoItem (37 ∷ 112 ∷ [])
-no_property_at_end = no_property_by [] refl
-
-pub no_property : (c : ℕ) (cs : List ℕ) → (c ≡ 104 → ⊥) → property_item c ≡ None → HasNoItem (37 ∷ 112 ∷ c ∷ cs)
-no_property c cs not_id none =
-    no_property_by (c ∷ cs) (cond-false (c == 104) (id_at cs) (with_rest cs (property_item c)) (ne_eqb c 104 not_id) ∙ ap (with_rest cs) none)
-
-pub no_id_at_end : HasNoItem (37 ∷ 112 ∷ 104 ∷ [])
-no_id_at_end = no_property_by (104 ∷ []) refl
-
-pub no_id : (c : ℕ) (cs : List ℕ) → id_item c ≡ None → HasNoItem (37 ∷ 112 ∷ 104 ∷ c ∷ cs)
-no_id c cs none = no_property_by (104 ∷ c ∷ cs) (ap (with_rest cs) none)
+pub field_or_none : (part : FormatPart) (behind : List ℕ) (first : Option FirstItem) → list_any (fits part behind) ITEMS ≡ false → IsFirstField part (37 ∷ behind) first → IsFirstItem part (37 ∷ behind) first
+field_or_none part behind None none h = no_item part behind none h
+field_or_none part behind (Some field) none h = h
 
 -- ---- a text begins with at most one item
 
@@ -180,32 +196,31 @@ one_index inside rest more n m h k =
     let g = facts_of opened more m (subst (λ (xs : List ℕ). HasIndex xs m more) h.is k) in
     (sym f.value ∙ g.value, f.rest_is ∙ sym g.rest_is)
 
-item_or : Option (FormatItem × List ℕ) → FormatItem → FormatItem
-item_or None i = i
-item_or (Some x) i = x.0
+one_listed : (part : FormatPart) (i j : FormatItem) (behind front back rest more : List ℕ) → IsListed part i front → IsListed part j back → 37 ∷ behind ≡ front ++ rest → 37 ∷ behind ≡ back ++ more → (i ≡ j) × (rest ≡ more)
+one_listed part i j behind front back rest more l m h k =
+    let a = letters_at behind l.letters front rest l.is h in
+    let b = letters_at behind m.letters back more m.is k in
+    let one = one_row (record { now = l.letters }, i, l.texts) (record { now = m.letters }, j, m.texts) rest more l.row m.row (sym a ∙ b) in
+    let n : length l.letters ≡ length m.letters = ap (λ (r : Row). length r.0.now) one in (
+      ap (λ (r : Row). r.1) one,
+      sym (ap (drop (length l.letters)) a ∙ drop_at l.letters rest (length l.letters) refl) ∙ ap (λ (k : ℕ). drop k behind) n ∙ ap (drop (length m.letters)) b
+          ∙ drop_at m.letters more (length m.letters) refl,
+    )
 
-rest_or : Option (FormatItem × List ℕ) → List ℕ → List ℕ
-rest_or None rest = rest
-rest_or (Some x) rest = x.1
+one_field : (i j : FormatItem) (behind rest more : List ℕ) → IsFieldAt i behind rest → IsFieldAt j behind more → (i ≡ j) × (rest ≡ more)
+one_field i j behind rest more f g =
+    let same : HasIndex f.inside g.n more = subst (λ (xs : List ℕ). HasIndex xs g.n more) (same_tail 102 102 g.inside f.inside (sym g.there ∙ f.there)) g.has in
+    let one = one_index f.inside rest more f.n g.n f.has same in
+    (f.is ∙ ap (λ (n : ℕ). item.Field n) one.0 ∙ sym g.is, one.1)
 
-pair_parts : (i j : FormatItem) (rest more : List ℕ) → ◌≡◌ {A = Option (FormatItem × List ℕ)} (Some (i, rest)) (Some (j, more)) → (i ≡ j) × (rest ≡ more)
-unfolding item_or rest_or
-pair_parts i j rest more e = (ap (λ (x : Option (FormatItem × List ℕ)). item_or x i) e, ap (λ (x : Option (FormatItem × List ℕ)). rest_or x rest) e)
+not_both_kinds : (part : FormatPart) (i j : FormatItem) (behind front back rest more : List ℕ) → IsListed part i front → IsField part j back → 37 ∷ behind ≡ front ++ rest → 37 ∷ behind ≡ back ++ more → ⊥
+not_both_kinds part i j behind front back rest more l f h k =
+    let at = field_at part j behind back more f k in
+    row_of_no_field (record { now = l.letters }, i, l.texts) rest at.inside l.row (sym (letters_at behind l.letters front rest l.is h) ∙ at.there)
 
-field_not_plain : (i j : FormatItem) (behind rest more : List ℕ) → plain_at behind ≡ Some (i, rest) → IsFieldAt j behind more → ⊥
-field_not_plain i j behind rest more p f = none_some (i, rest) (sym (ap plain_at f.there) ∙ p)
-
-pub one_item : (i j : FormatItem) (behind rest more : List ℕ) → BeginsItem i (37 ∷ behind) rest → BeginsItem j (37 ∷ behind) more → (i ≡ j) × (rest ≡ more)
-one_item i j behind rest more h k = elim (begun i behind rest h) [
-  | inl p ↦ elim (begun j behind more k) [
-    | inl q ↦ pair_parts i j rest more (sym p ∙ q)
-    | inr f ↦ absurd (field_not_plain i j behind rest more p f)
-  ]
-  | inr f ↦ elim (begun j behind more k) [
-    | inl q ↦ absurd (field_not_plain j i behind more rest q f)
-    | inr g ↦
-        let same : HasIndex f.inside g.n more = subst (λ (xs : List ℕ). HasIndex xs g.n more) (same_tail 102 102 g.inside f.inside (sym g.there ∙ f.there)) g.has in
-        let one = one_index f.inside rest more f.n g.n f.has same in
-        (f.is ∙ ap (λ (n : ℕ). item.Field n) one.0 ∙ sym g.is, one.1)
-  ]
-]
+pub one_item : (part : FormatPart) (i j : FormatItem) (behind front back rest more : List ℕ) → SpellsItem part i front → SpellsItem part j back → 37 ∷ behind ≡ front ++ rest → 37 ∷ behind ≡ back ++ more
+    → (i ≡ j) × (rest ≡ more)
+one_item part i j behind front back rest more (inl l) (inl m) h k = one_listed part i j behind front back rest more l m h k
+one_item part i j behind front back rest more (inl l) (inr f) h k = absurd (not_both_kinds part i j behind front back rest more l f h k)
+one_item part i j behind front back rest more (inr f) (inl l) h k = absurd (not_both_kinds part j i behind back front more rest l f k h)
+one_item part i j behind front back rest more (inr f) (inr g) h k = one_field i j behind rest more (field_at part i behind front rest f h) (field_at part j behind back more g k)

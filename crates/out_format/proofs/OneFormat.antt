@@ -31,16 +31,16 @@ one_byte table b d text front back rest more (inr (c, found, p)) (inr (a, there,
 
 one_piece : (part : FormatPart) (p q : Piece) (text rest more : List ℕ) → Begins part p text rest → Begins part q text more → (p ≡ q) × (rest ≡ more)
 one_piece part (Shows i) (Shows j) text rest more h k =
-    let a = percent_first i h.front h.spelled in
+    let a = percent_first part i h.front h.spelled in
     let e : text ≡ 37 ∷ (a.0 ++ rest) = h.is ∙ ap (λ (xs : List ℕ). xs ++ rest) a.1 in
-    let one = one_item i j (a.0 ++ rest) rest more (record { front = h.front; spelled = h.spelled; is = sym e ∙ h.is }) (record { front = k.front; spelled = k.spelled; is = sym e ∙ k.is }) in
+    let one = one_item part i j (a.0 ++ rest) h.front k.front rest more h.spelled k.spelled (sym e ∙ h.is) (sym e ∙ k.is) in
     (ap Shows one.0, one.1)
 one_piece part (Shows i) (Byte d) text rest more h k =
-    let a = percent_first i h.front h.spelled in
+    let a = percent_first part i h.front h.spelled in
     let e : text ≡ 37 ∷ (a.0 ++ rest) = h.is ∙ ap (λ (xs : List ℕ). xs ++ rest) a.1 in
     absurd (byte_no_item escaped d (a.0 ++ rest) k.front more k.spelled (sym e ∙ k.is))
 one_piece part (Byte b) (Shows j) text rest more h k =
-    let a = percent_first j k.front k.spelled in
+    let a = percent_first part j k.front k.spelled in
     let e : text ≡ 37 ∷ (a.0 ++ more) = k.is ∙ ap (λ (xs : List ℕ). xs ++ more) a.1 in
     absurd (byte_no_item escaped b (a.0 ++ more) h.front rest h.spelled (sym e ∙ h.is))
 one_piece part (Byte b) (Byte d) text rest more h k =
@@ -48,7 +48,7 @@ one_piece part (Byte b) (Byte d) text rest more h k =
     (ap Byte one.0, one.1)
 
 longer : (part : FormatPart) (p : Piece) (text rest done behind : List ℕ) → Begins part p done rest → text ≡ done ++ behind → Begins part p text (rest ++ behind)
-longer part p text rest done behind h is = record { front = h.front; spelled = h.spelled; may = h.may; is = is ∙ ap (λ (xs : List ℕ). xs ++ behind) h.is ∙ append_assoc h.front rest behind }
+longer part p text rest done behind h is = record { front = h.front; spelled = h.spelled; is = is ∙ ap (λ (xs : List ℕ). xs ++ behind) h.is ∙ append_assoc h.front rest behind }
 
 nothing_begins : (part : FormatPart) (p : Piece) (text rest : List ℕ) → text ≡ [] → Begins part p text rest → ⊥
 nothing_begins part p text rest none h = let less = rest_shorter part p text rest h in let e : length text ≡ 0 = ap length none in omega (arith, less, e)

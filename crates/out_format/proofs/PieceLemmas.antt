@@ -6,9 +6,9 @@ use Rattle.mj_model.specs.declared.format_fault.FormatPart.{FormatPart}
 use Rattle.mj_model.specs.declared.format_fault.FormatKind.{FormatKind}
 use Rattle.mj_model.specs.declared.format_fault.FormatKind.TheVariants.{BadEscape}
 use Rattle.mj_model.proofs.Basics.{same_head, same_tail, no_head}
-use Rattle.out_format.specs.Formats.{Piece, Byte, Shows, Spells, SpellsItem, escaped, MayShow, Begins, Reads, IsBadAt, bad_kind, bad_item}
-use Rattle.out_format.specs.FirstItems.{BeginsItem, HasNoItem, IsStuck}
-use Rattle.out_format.proofs.ItemLemmas.{percent_first, one_item}
+use Rattle.out_format.specs.Formats.{Piece, Byte, Shows, Spells, SpellsItem, escaped, Begins, Reads, IsBadAt, bad_kind, bad_item}
+use Rattle.out_format.specs.FirstItems.{HasNoItem, IsStuck}
+use Rattle.out_format.proofs.ItemLemmas.{percent_first}
 
 none_some : (x : ℕ) → None ≡ Some x → ⊥
 none_some x e = cc
@@ -16,25 +16,19 @@ none_some x e = cc
 -- ---- the pieces that begin a text
 
 pub begins_byte : (part : FormatPart) (b : ℕ) (rest : List ℕ) → (b ≡ 37 → ⊥) → (b ≡ 92 → ⊥) → Begins part (Byte b) (b ∷ rest) rest
-begins_byte part b rest not_item not_escape = record { front = b ∷ []; spelled = inl (refl, not_item, not_escape); may = tt; is = refl }
+begins_byte part b rest not_item not_escape = record { front = b ∷ []; spelled = inl (refl, not_item, not_escape); is = refl }
 
 pub begins_escape : (part : FormatPart) (c b : ℕ) (rest : List ℕ) → escaped c ≡ Some b → Begins part (Byte b) (92 ∷ c ∷ rest) rest
-begins_escape part c b rest e = record { front = 92 ∷ c ∷ []; spelled = inr (c, e, refl); may = tt; is = refl }
-
-pub begins_item : (part : FormatPart) (i : FormatItem) (text rest : List ℕ) → MayShow part i → BeginsItem i text rest → Begins part (Shows i) text rest
-begins_item part i text rest may h = record { front = h.front; spelled = h.spelled; may = may; is = h.is }
+begins_escape part c b rest e = record { front = 92 ∷ c ∷ []; spelled = inr (c, e, refl); is = refl }
 
 -- ---- no piece begins a text
-
-item_at : (part : FormatPart) (i : FormatItem) (text rest : List ℕ) → Begins part (Shows i) text rest → BeginsItem i text rest
-item_at part i text rest h = record { front = h.front; spelled = h.spelled; is = h.is }
 
 numbers_apart : ◌≡◌ {A = ℕ} 92 37 → ⊥
 numbers_apart e = omega arith
 
-item_no_escape : (i : FormatItem) (behind front rest : List ℕ) → SpellsItem i front → 92 ∷ behind ≡ front ++ rest → ⊥
-item_no_escape i behind front rest h is =
-    let p = percent_first i front h in
+item_no_escape : (part : FormatPart) (i : FormatItem) (behind front rest : List ℕ) → SpellsItem part i front → 92 ∷ behind ≡ front ++ rest → ⊥
+item_no_escape part i behind front rest h is =
+    let p = percent_first part i front h in
     numbers_apart (same_head 92 37 behind (p.0 ++ rest) (is ∙ ap (λ (xs : List ℕ). xs ++ rest) p.1))
 
 -- a byte as it is spelled, where the escapes are any table
@@ -56,7 +50,7 @@ byte_some table b front (inr (c, e, spelled)) = let long : length front ≡ leng
 
 no_escape_by : (part : FormatPart) (behind : List ℕ) → ((c b : ℕ) (rest : List ℕ) → behind ≡ c ∷ rest → escaped c ≡ Some b → ⊥)
     → (piece : Piece) (rest : List ℕ) → Begins part piece (92 ∷ behind) rest → ⊥
-no_escape_by part behind none (Shows i) rest h = item_no_escape i behind h.front rest h.spelled h.is
+no_escape_by part behind none (Shows i) rest h = item_no_escape part i behind h.front rest h.spelled h.is
 no_escape_by part behind none (Byte b) rest h = byte_no_escape escaped b behind h.front rest h.spelled h.is (λ c more e found. none c b more e found)
 
 pub stuck_at_end : (part : FormatPart) → IsStuck part (92 ∷ []) BadEscape
@@ -68,27 +62,20 @@ stuck_at_escape part c rest none = record {
   is_kind = refl;
 }
 
-no_item_by : (part : FormatPart) (behind : List ℕ) → ((i : FormatItem) (rest : List ℕ) → BeginsItem i (37 ∷ behind) rest → MayShow part i → ⊥)
-    → (piece : Piece) (rest : List ℕ) → Begins part piece (37 ∷ behind) rest → ⊥
-no_item_by part behind none (Shows i) rest h = none i rest (item_at part i (37 ∷ behind) rest h) h.may
-no_item_by part behind none (Byte b) rest h = byte_no_item escaped b behind h.front rest h.spelled h.is
+no_piece : (part : FormatPart) (behind : List ℕ) → HasNoItem part (37 ∷ behind) → (piece : Piece) (rest : List ℕ) → Begins part piece (37 ∷ behind) rest → ⊥
+no_piece part behind none (Shows i) rest h = none i rest h
+no_piece part behind none (Byte b) rest h = byte_no_item escaped b behind h.front rest h.spelled h.is
 
-pub stuck_at_percent : (part : FormatPart) (behind : List ℕ) (kind : FormatKind) → HasNoItem (37 ∷ behind) → kind ≡ bad_item part behind → IsStuck part (37 ∷ behind) kind
-stuck_at_percent part behind kind none is = record { stuck = no_item_by part behind (λ i rest h may. none i rest h); is_kind = is }
-
-pub stuck_at_item : (part : FormatPart) (i : FormatItem) (behind rest : List ℕ) (kind : FormatKind) → BeginsItem i (37 ∷ behind) rest → (MayShow part i → ⊥) → kind ≡ bad_item part behind → IsStuck part (37 ∷ behind) kind
-stuck_at_item part i behind rest kind h may_not is = record {
-  stuck = no_item_by part behind (λ j more k may. may_not (subst (MayShow part) (one_item j i behind more rest k h).0 may));
-  is_kind = is;
-}
+pub stuck_at_item : (part : FormatPart) (behind : List ℕ) (kind : FormatKind) → HasNoItem part (37 ∷ behind) → kind ≡ bad_item part behind → IsStuck part (37 ∷ behind) kind
+stuck_at_item part behind kind none is = record { stuck = no_piece part behind none; is_kind = is }
 
 -- ---- a text read piece by piece
 
 pub reads_more : (part : FormatPart) (pieces : List Piece) (done : List ℕ) (piece : Piece) (text rest : List ℕ) → Reads part pieces done → (h : Begins part piece text rest) → Reads part (pieces ++ piece ∷ []) (done ++ h.front)
 reads_more part [] done piece text rest is h =
-    ([], record { front = h.front; spelled = h.spelled; may = h.may; is = ap (λ (xs : List ℕ). xs ++ h.front) is ∙ sym (append-nil h.front) }, refl)
+    ([], record { front = h.front; spelled = h.spelled; is = ap (λ (xs : List ℕ). xs ++ h.front) is ∙ sym (append-nil h.front) }, refl)
 reads_more part (p ∷ ps) done piece text rest (more, first, is) h =
-    (more ++ h.front, record { front = first.front; spelled = first.spelled; may = first.may; is = ap (λ (xs : List ℕ). xs ++ h.front) first.is ∙ append_assoc first.front more h.front }, reads_more part ps more piece text rest is h)
+    (more ++ h.front, record { front = first.front; spelled = first.spelled; is = ap (λ (xs : List ℕ). xs ++ h.front) first.is ∙ append_assoc first.front more h.front }, reads_more part ps more piece text rest is h)
 
 -- the text up to here reads as these pieces
 pub record IsReadUpTo (part : FormatPart) (pieces : List Piece) (text rest : List ℕ) : Type 0 where
@@ -123,12 +110,12 @@ bad_at part pieces text rest at kind so_far is some stuck =
       is_kind = stuck.is_kind ∙ ap (bad_kind part) (sym behind);
     }
 
-spelled_some : (piece : Piece) (front : List ℕ) → Spells piece front → 0 < length front
-spelled_some (Shows i) front h = let p = percent_first i front h in let e : length front ≡ length (37 ∷ p.0) = ap length p.1 in omega (arith, e)
-spelled_some (Byte b) front h = byte_some escaped b front h
+spelled_some : (part : FormatPart) (piece : Piece) (front : List ℕ) → Spells part piece front → 0 < length front
+spelled_some part (Shows i) front h = let p = percent_first part i front h in let e : length front ≡ length (37 ∷ p.0) = ap length p.1 in omega (arith, e)
+spelled_some part (Byte b) front h = byte_some escaped b front h
 
 pub rest_shorter : (part : FormatPart) (piece : Piece) (text rest : List ℕ) → Begins part piece text rest → length rest < length text
 rest_shorter part piece text rest h =
-    let some = spelled_some piece h.front h.spelled in
+    let some = spelled_some part piece h.front h.spelled in
     let long = ap length h.is in
     omega (arith, some, long, length-append h.front rest)

@@ -5,7 +5,7 @@ use Rattle.mj_model.specs.declared.format_fault.FormatPart.{FormatPart}
 use Rattle.mj_model.specs.declared.format_fault.FormatKind.{FormatKind}
 use Rattle.mj_model.specs.declared.format_fault.FormatFault.{FormatFault}
 use Rattle.mj_model.specs.declared.format_fault.FormatFault.TheVariants as fault
-use Rattle.out_format.specs.Formats.{IsIndex, SpellsItem, Piece, Begins, IsBadAt, bad_kind}
+use Rattle.out_format.specs.Formats.{IsIndex, IsField, Piece, Shows, Begins, IsBadAt, bad_kind}
 
 -- a text begins with the index n between brackets, and goes on so
 pub record HasIndex (text : List ℕ) (n : ℕ) (rest : List ℕ) : Type 0 where
@@ -16,14 +16,11 @@ pub record HasIndex (text : List ℕ) (n : ℕ) (rest : List ℕ) : Type 0 where
 abbrev pub HasNoIndex : List ℕ → Type 0
 HasNoIndex text = (n : ℕ) (rest : List ℕ) → HasIndex text n rest → ⊥
 
--- a text begins with an item, and goes on so
-pub record BeginsItem (i : FormatItem) (text rest : List ℕ) : Type 0 where
-  pub front : List ℕ
-  pub spelled : SpellsItem i front
-  pub is : text ≡ front ++ rest
+abbrev pub HasNoField : FormatPart → List ℕ → Type 0
+HasNoField part text = (i : FormatItem) (front rest : List ℕ) → IsField part i front → text ≡ front ++ rest → ⊥
 
-abbrev pub HasNoItem : List ℕ → Type 0
-HasNoItem text = (i : FormatItem) (rest : List ℕ) → BeginsItem i text rest → ⊥
+abbrev pub HasNoItem : FormatPart → List ℕ → Type 0
+HasNoItem part text = (i : FormatItem) (rest : List ℕ) → Begins part (Shows i) text rest → ⊥
 
 -- no piece of the part begins a text, and this is why
 pub record IsStuck (part : FormatPart) (text : List ℕ) (kind : FormatKind) : Type 0 where

@@ -1,5 +1,5 @@
 -- Output formats (MeCab, format.html): how their texts read.
-use Rattle.std.specs.Prelude.{◌≡◌, ℕ, ◌<◌, ◌≤◌, ◌&&◌, ◌==◌, Bool, true, false, if◌then◌else◌, List, [], ◌∷◌, ◌++◌, length, take, drop, find, Option, Some, option_map, Result, Ok, Err, ◌⊎◌, codes}
+use Rattle.std.specs.Prelude.{◌≡◌, ℕ, ◌<◌, ◌≤◌, ◌&&◌, ◌==◌, Bool, true, false, if◌then◌else◌, List, [], ◌∷◌, ◌++◌, length, take, drop, find, Option, Some, option_map, Result, Ok, Err, ◌⊎◌, codes, Contains}
 use Rattle.std.specs.Option.{option_map_or}
 use Rattle.std.specs.Str.{all_ascii_digits}
 use Rattle.mj_model.specs.declared.format_item.FormatItem.{FormatItem}
@@ -11,6 +11,9 @@ use Rattle.mj_model.specs.declared.format_fault.FormatKind.TheVariants.{BadEscap
 use Rattle.mj_model.specs.declared.format_fault.FormatFault.{FormatFault}
 use Rattle.mj_model.specs.declared.format_fault.FormatFault.TheVariants as fault
 use Rattle.mj_model.specs.Numbers.{digits_value}
+use Rattle.out_format.specs.declared.items.ShownIn.{ShownIn}
+use Rattle.out_format.specs.declared.items.ShownIn.TheVariants.{Words, WordsAndEnd}
+use Rattle.out_format.specs.declared.items.TheConstants.{ITEMS}
 
 -- what a format says: a byte, or an item
 pub data Piece : Type 0 where
@@ -40,28 +43,37 @@ pub record IsIndex (digits : List ℕ) (n : ℕ) : Type 0 where
   pub value : digits_value digits ≡ n
   pub low : n ≤ 65535
 
--- how an item is spelled
-abbrev pub SpellsItem : FormatItem → List ℕ → Type 0
-SpellsItem item.Surface text = text ≡ codes "%m"
-SpellsItem item.SurfaceWithBlanks text = text ≡ codes "%M"
-SpellsItem item.Blanks text = text ≡ codes "%pS"
-SpellsItem item.Feature text = text ≡ codes "%H"
-SpellsItem (item.Field n) text = (digits : List ℕ) × IsIndex digits n × (text ≡ codes "%f[" ++ (digits ++ codes "]"))
-SpellsItem item.WordCost text = text ≡ codes "%c"
-SpellsItem item.IsUnknown text = text ≡ codes "%s"
-SpellsItem item.Sentence text = text ≡ codes "%S"
-SpellsItem item.SentenceLength text = text ≡ codes "%L"
-SpellsItem item.LeftId text = text ≡ codes "%phl"
-SpellsItem item.RightId text = text ≡ codes "%phr"
-SpellsItem item.ConnectionCost text = text ≡ codes "%pC"
-SpellsItem item.CostHere text = text ≡ codes "%pn"
-SpellsItem item.CostSoFar text = text ≡ codes "%pc"
-SpellsItem item.SurfaceLength text = text ≡ codes "%pl"
-SpellsItem item.LengthWithBlanks text = text ≡ codes "%pL"
-SpellsItem item.Start text = text ≡ codes "%ps"
-SpellsItem item.End text = text ≡ codes "%pe"
-SpellsItem item.CharacterCategory text = text ≡ codes "%t"
-SpellsItem item.Percent text = text ≡ codes "%%"
+-- the parts whose texts may show an item
+abbrev pub includes : ShownIn → FormatPart → Bool
+includes Words Bos = false
+includes Words Eos = false
+includes WordsAndEnd Bos = false
+includes texts part = true
+
+-- a row of the table of items: letters, the item that they spell, and the texts that may show it
+abbrev pub Row : Type 0
+Row = record { now : List ℕ } × FormatItem × ShownIn
+
+-- an item of the table is spelled as a percent sign and its letters, in the texts that may show it
+pub record IsListed (part : FormatPart) (i : FormatItem) (text : List ℕ) : Type 0 where
+  pub letters : List ℕ
+  pub texts : ShownIn
+  pub row : Contains ITEMS (record { now = letters }, i, texts)
+  pub may : includes texts part ≡ true
+  pub is : text ≡ percent ∷ letters
+
+-- a field is spelled as `%f` and its index between brackets, in the texts of words
+pub record IsField (part : FormatPart) (i : FormatItem) (text : List ℕ) : Type 0 where
+  pub n : ℕ
+  pub digits : List ℕ
+  pub is_field : i ≡ item.Field n
+  pub is_index : IsIndex digits n
+  pub may : includes Words part ≡ true
+  pub is : text ≡ codes "%f[" ++ (digits ++ codes "]")
+
+-- how a part's text spells an item that it may show
+abbrev pub SpellsItem : FormatPart → FormatItem → List ℕ → Type 0
+SpellsItem part i text = IsListed part i text ⊎ IsField part i text
 
 -- a byte stands for itself, if it is neither a percent sign nor a backslash, or is escaped
 abbrev pub SpellsByte : ℕ → List ℕ → Type 0
@@ -69,27 +81,14 @@ SpellsByte b text =
     ((text ≡ b ∷ []) × (b ≡ percent → ⊥) × (b ≡ backslash → ⊥))
     ⊎ ((c : ℕ) × (escaped c ≡ Some b) × (text ≡ backslash ∷ c ∷ []))
 
-abbrev pub Spells : Piece → List ℕ → Type 0
-Spells (Byte b) text = SpellsByte b text
-Spells (Shows i) text = SpellsItem i text
-
--- the items that a part may show: before the first word and behind the last one those of the line alone, and behind the last one the cost
--- of the path too
-abbrev pub MayShow : FormatPart → FormatItem → Type 0
-MayShow Node i = Unit {0}
-MayShow Unk i = Unit {0}
-MayShow Bos i = (i ≡ item.Sentence) ⊎ (i ≡ item.SentenceLength) ⊎ (i ≡ item.Percent)
-MayShow Eos i = (i ≡ item.Sentence) ⊎ (i ≡ item.SentenceLength) ⊎ (i ≡ item.Percent) ⊎ (i ≡ item.CostSoFar)
-
-abbrev pub MayStand : FormatPart → Piece → Type 0
-MayStand part (Byte b) = Unit {0}
-MayStand part (Shows i) = MayShow part i
+abbrev pub Spells : FormatPart → Piece → List ℕ → Type 0
+Spells part (Byte b) text = SpellsByte b text
+Spells part (Shows i) text = SpellsItem part i text
 
 -- a part's text begins with this piece, and goes on so
 pub record Begins (part : FormatPart) (piece : Piece) (text rest : List ℕ) : Type 0 where
   pub front : List ℕ
-  pub spelled : Spells piece front
-  pub may : MayStand part piece
+  pub spelled : Spells part piece front
   pub is : text ≡ front ++ rest
 
 -- a part's text reads as these pieces
@@ -97,16 +96,9 @@ abbrev pub Reads : FormatPart → List Piece → List ℕ → Type 0
 Reads part [] text = text ≡ []
 Reads part (piece ∷ pieces) text = (rest : List ℕ) × Begins part piece text rest × Reads part pieces rest
 
--- a part that shows the fields of words
-abbrev pub shows_fields : FormatPart → Bool
-shows_fields Node = true
-shows_fields Unk = true
-shows_fields Bos = false
-shows_fields Eos = false
-
 abbrev pub bad_item : FormatPart → List ℕ → FormatKind
 bad_item part [] = BadItem
-bad_item part (c ∷ cs) = if shows_fields part && c == 102 then BadIndex else BadItem
+bad_item part (c ∷ cs) = if includes Words part && c == 102 then BadIndex else BadItem
 
 -- why no piece begins here: at a backslash it is the escape, at `%f` the index of the field, else the item
 abbrev pub bad_kind : FormatPart → List ℕ → FormatKind

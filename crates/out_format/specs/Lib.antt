@@ -1,4 +1,3 @@
-pub mod ItemTables
 pub mod FirstItems
 pub mod Pieces
 pub mod Building

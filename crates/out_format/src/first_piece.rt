@@ -1,12 +1,13 @@
 //! The piece that a format's text begins with: a byte, an escape or an item.
 
-ghost use Rattle.std.specs.Prelude.{◌≡◌, ◌<◌, ◌∷◌, ◌↔◌, length, IsTrue};
-ghost use Rattle.out_format.specs.Formats.{MayShow, shows_fields as shows_fields_of, bad_item as bad_item_of};
+ghost use Rattle.std.specs.Prelude.{◌≡◌, ◌<◌, ◌∷◌, length};
+ghost use Rattle.out_format.specs.Formats.{bad_item as bad_item_of};
 ghost use Rattle.out_format.specs.Answers.{IsFirstPiece};
 
 use crate::bytes::first_byte;
 use crate::escapes::escaped_byte;
-use crate::items::first_item;
+use crate::first_item::first_item;
+use crate::items::ShownIn;
 use mj_model::{FormatItem, FormatKind, FormatPart};
 
 /// What a format says at one place.
@@ -63,53 +64,22 @@ fn escape_of_part(behind: &[u8], part: FormatPart) -> Result<FirstPiece<'_>, For
 fn item_of_part(behind: &[u8], part: FormatPart) -> Result<FirstPiece<'_>, FormatKind>
     ensures { IsFirstPiece part (37 ∷ behind.now) result }
 {
-    match first_item(behind) {
-        Some(first) if may_show(part, first.item) => Ok(FirstPiece {
+    match first_item(part, behind) {
+        Some(first) => Ok(FirstPiece {
             piece: NextPiece::Item(first.item),
             rest: first.rest,
         }),
-        _ => Err(bad_item(part, behind)),
+        None => Err(bad_item(part, behind)),
     }
-}
-
-/// Whether an item may stand in a part.
-fn may_show(part: FormatPart, item: FormatItem) -> bool
-    ensures { IsTrue result ↔ MayShow part item }
-{
-    match part {
-        FormatPart::Node | FormatPart::Unk => true,
-        FormatPart::Bos => is_of_line(item),
-        FormatPart::Eos => is_of_line(item) || item == FormatItem::CostSoFar,
-    }
-}
-
-/// Whether an item says something of the line alone, or is a percent sign.
-fn is_of_line(item: FormatItem) -> bool
-    ensures { IsTrue result ↔ MayShow FormatPart.Bos item }
-{
-    matches!(
-        item,
-        FormatItem::Sentence | FormatItem::SentenceLength | FormatItem::Percent
-    )
 }
 
 /// What is wrong where no item of the part follows a percent sign.
 fn bad_item(part: FormatPart, behind: &[u8]) -> FormatKind
     ensures { result ≡ bad_item_of part behind.now }
 {
-    if behind.first() == Some(&b'f') && shows_fields(part) {
+    if behind.first() == Some(&b'f') && ShownIn::Words.includes(part) {
         FormatKind::BadIndex
     } else {
         FormatKind::BadItem
-    }
-}
-
-/// Whether a part shows the fields of words.
-fn shows_fields(part: FormatPart) -> bool
-    ensures { result ≡ shows_fields_of part }
-{
-    match part {
-        FormatPart::Node | FormatPart::Unk => true,
-        FormatPart::Bos | FormatPart::Eos => false,
     }
 }

@@ -1,113 +1,62 @@
-//! How the items of formats are spelled.
+//! The items of formats without an index: their letters, and the texts that may show them. (MeCab, format.html)
 
-ghost use Rattle.std.specs.Prelude.{◌≡◌, ◌∷◌};
-ghost use Rattle.out_format.specs.Answers.{IsFirstItem};
-ghost use Rattle.out_format.specs.ItemTables.{letter_item as item_of_letter, property_item as item_of_property, id_item as item_of_id};
+ghost use Rattle.std.specs.Prelude.{◌≡◌, map};
+ghost use Rattle.out_format.specs.Formats.{includes as includes_part};
+ghost use Rattle.out_format.specs.Answers.{row_of};
 
-use crate::bytes::first_byte;
-use crate::index::first_index;
-use mj_model::FormatItem;
+use mj_model::{FormatItem, FormatPart};
 
-/// An item, and what follows it.
-#[derive(Clone, Copy)]
-pub struct FirstItem<'a> {
-    pub item: FormatItem,
-    pub rest: &'a [u8],
+/// Which texts of a format may show an item.
+#[derive(Clone, Copy, Debug, PartialEq, Eq, Drop)]
+pub enum ShownIn {
+    /// Also the text before the first word
+    EveryText,
+    /// Also the text behind the last word
+    WordsAndEnd,
+    /// The texts of known and of unknown words alone
+    Words,
 }
 
-/// The item that a text begins with, from what follows its percent sign.
-pub fn first_item(behind: &[u8]) -> Option<FirstItem<'_>>
-    ensures { IsFirstItem (37 ∷ behind.now) result }
-{
-    let (letter, rest) = first_byte(behind)?;
-    match letter {
-        b'f' => first_field(rest),
-        b'p' => first_property(rest),
-        _ => Some(FirstItem {
-            item: letter_item(letter)?,
-            rest,
-        }),
+impl ShownIn {
+    /// Whether the text of a part is among them.
+    pub fn includes(self, part: FormatPart) -> bool
+        ensures { result ≡ includes_part self part }
+    {
+        match part {
+            FormatPart::Node | FormatPart::Unk => true,
+            FormatPart::Bos => self == ShownIn::EveryText,
+            FormatPart::Eos => self != ShownIn::Words,
+        }
     }
 }
 
-/// The item of a field, from what follows `%f`.
-fn first_field(behind: &[u8]) -> Option<FirstItem<'_>>
-    ensures { IsFirstItem (37 ∷ 102 ∷ behind.now) result }
-{
-    let index = first_index(behind)?;
-    Some(FirstItem {
-        item: FormatItem::Field(index.number),
-        rest: index.rest,
-    })
-}
+/// The letters behind the percent sign, the item, and the texts that may show it. No letters begin with another row's.
+#[rattlefmt::skip]
+pub const ITEMS: [(&[u8], FormatItem, ShownIn); 19] = [
+    (b"m", FormatItem::Surface, ShownIn::Words),
+    (b"M", FormatItem::SurfaceWithBlanks, ShownIn::Words),
+    (b"pS", FormatItem::Blanks, ShownIn::Words),
+    (b"H", FormatItem::Feature, ShownIn::Words),
+    (b"c", FormatItem::WordCost, ShownIn::Words),
+    (b"s", FormatItem::IsUnknown, ShownIn::Words),
+    (b"S", FormatItem::Sentence, ShownIn::EveryText),
+    (b"L", FormatItem::SentenceLength, ShownIn::EveryText),
+    (b"phl", FormatItem::LeftId, ShownIn::Words),
+    (b"phr", FormatItem::RightId, ShownIn::Words),
+    (b"pC", FormatItem::ConnectionCost, ShownIn::Words),
+    (b"pn", FormatItem::CostHere, ShownIn::Words),
+    (b"pc", FormatItem::CostSoFar, ShownIn::WordsAndEnd),
+    (b"pl", FormatItem::SurfaceLength, ShownIn::Words),
+    (b"pL", FormatItem::LengthWithBlanks, ShownIn::Words),
+    (b"ps", FormatItem::Start, ShownIn::Words),
+    (b"pe", FormatItem::End, ShownIn::Words),
+    (b"t", FormatItem::CharacterCategory, ShownIn::Words),
+    (b"%", FormatItem::Percent, ShownIn::EveryText),
+];
 
-/// The item of two or three letters, from what follows `%p`.
-fn first_property(behind: &[u8]) -> Option<FirstItem<'_>>
-    ensures { IsFirstItem (37 ∷ 112 ∷ behind.now) result }
+/// The rows of the table.
+pub fn item_rows() -> &'static [(&'static [u8], FormatItem, ShownIn)]
+    ensures { map row_of result.now ≡ ITEMS }
 {
-    let (letter, rest) = first_byte(behind)?;
-    match letter {
-        b'h' => first_id(rest),
-        _ => Some(FirstItem {
-            item: property_item(letter)?,
-            rest,
-        }),
-    }
-}
-
-/// The item of a context id, from what follows `%ph`.
-fn first_id(behind: &[u8]) -> Option<FirstItem<'_>>
-    ensures { IsFirstItem (37 ∷ 112 ∷ 104 ∷ behind.now) result }
-{
-    let (letter, rest) = first_byte(behind)?;
-    Some(FirstItem {
-        item: id_item(letter)?,
-        rest,
-    })
-}
-
-/// The item of `%` and a letter, or `%%`.
-fn letter_item(letter: u8) -> Option<FormatItem>
-    ensures { result ≡ item_of_letter letter }
-{
-    match letter {
-        b'm' => Some(FormatItem::Surface),
-        b'M' => Some(FormatItem::SurfaceWithBlanks),
-        b'H' => Some(FormatItem::Feature),
-        b'c' => Some(FormatItem::WordCost),
-        b's' => Some(FormatItem::IsUnknown),
-        b'S' => Some(FormatItem::Sentence),
-        b'L' => Some(FormatItem::SentenceLength),
-        b't' => Some(FormatItem::CharacterCategory),
-        b'%' => Some(FormatItem::Percent),
-        _ => None,
-    }
-}
-
-/// The item of `%p` and a letter.
-fn property_item(letter: u8) -> Option<FormatItem>
-    ensures { result ≡ item_of_property letter }
-{
-    match letter {
-        b'S' => Some(FormatItem::Blanks),
-        b'C' => Some(FormatItem::ConnectionCost),
-        b'n' => Some(FormatItem::CostHere),
-        b'c' => Some(FormatItem::CostSoFar),
-        b'l' => Some(FormatItem::SurfaceLength),
-        b'L' => Some(FormatItem::LengthWithBlanks),
-        b's' => Some(FormatItem::Start),
-        b'e' => Some(FormatItem::End),
-        _ => None,
-    }
-}
-
-/// The item of `%ph` and a letter.
-fn id_item(letter: u8) -> Option<FormatItem>
-    ensures { result ≡ item_of_id letter }
-{
-    match letter {
-        b'l' => Some(FormatItem::LeftId),
-        b'r' => Some(FormatItem::RightId),
-        _ => None,
-    }
+    &ITEMS
 }

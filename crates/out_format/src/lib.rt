@@ -5,6 +5,7 @@ mod appending;
 mod building;
 mod bytes;
 mod escapes;
+mod first_item;
 mod first_piece;
 mod format;
 mod index;
