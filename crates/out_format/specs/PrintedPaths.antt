@@ -47,6 +47,14 @@ abbrev pub first_category : Overlay → List ℕ → ℕ
 first_category o [] = 0
 first_category o (c ∷ cs) = (o.system.info c).head
 
+-- what an item of a line shows, where its path costs this much up to there; an item of words shows nothing by itself
+abbrev pub line_item : List ℕ → ℤ → FormatItem → List ℕ
+line_item line cost item.Sentence = line
+line_item line cost item.SentenceLength = decimal (length line)
+line_item line cost item.CostSoFar = signed_decimal cost
+line_item line cost item.Percent = codes "%"
+line_item line cost i = []
+
 -- what an item shows of a word of a line
 abbrev pub ShowsItem : Overlay → List ℕ → Standing → FormatItem → List ℕ → Type 0
 ShowsItem o line s item.Surface shown = shown ≡ between line s.word.start s.word.end
@@ -56,42 +64,16 @@ ShowsItem o line s item.Feature shown = shown ≡ feature_of o s.word.origin
 ShowsItem o line s (item.Field n) shown = (fields : List (List ℕ)) × AreFields (feature_of o s.word.origin) fields × (shown ≡ field_shown (slice_get fields n))
 ShowsItem o line s item.WordCost shown = shown ≡ signed_decimal s.word.cost
 ShowsItem o line s item.IsUnknown shown = shown ≡ unknown_digit s.word.origin
-ShowsItem o line s item.Sentence shown = shown ≡ line
-ShowsItem o line s item.SentenceLength shown = shown ≡ decimal (length line)
 ShowsItem o line s item.LeftId shown = shown ≡ decimal s.word.left
 ShowsItem o line s item.RightId shown = shown ≡ decimal s.word.right
 ShowsItem o line s item.ConnectionCost shown = shown ≡ signed_decimal (connection_before o s)
 ShowsItem o line s item.CostHere shown = shown ≡ signed_decimal (cost_here o s)
-ShowsItem o line s item.CostSoFar shown = shown ≡ signed_decimal s.cost_so_far
 ShowsItem o line s item.SurfaceLength shown = shown ≡ decimal (s.word.end - s.word.start)
 ShowsItem o line s item.LengthWithBlanks shown = shown ≡ decimal (s.word.end - s.word.place)
 ShowsItem o line s item.Start shown = shown ≡ decimal s.word.start
 ShowsItem o line s item.End shown = shown ≡ decimal s.word.end
 ShowsItem o line s item.CharacterCategory shown = shown ≡ decimal (first_category o (chars_from line s.word.start))
-ShowsItem o line s item.Percent shown = shown ≡ codes "%"
-
--- what an item shows before the first word or behind the last one, where this is the cost of the path; items of words stand in no such part
-abbrev pub line_item : List ℕ → ℤ → FormatItem → List ℕ
-line_item line total item.Sentence = line
-line_item line total item.SentenceLength = decimal (length line)
-line_item line total item.CostSoFar = signed_decimal total
-line_item line total item.Percent = codes "%"
-line_item line total item.Surface = []
-line_item line total item.SurfaceWithBlanks = []
-line_item line total item.Blanks = []
-line_item line total item.Feature = []
-line_item line total (item.Field n) = []
-line_item line total item.WordCost = []
-line_item line total item.IsUnknown = []
-line_item line total item.LeftId = []
-line_item line total item.RightId = []
-line_item line total item.ConnectionCost = []
-line_item line total item.CostHere = []
-line_item line total item.SurfaceLength = []
-line_item line total item.LengthWithBlanks = []
-line_item line total item.Start = []
-line_item line total item.End = []
-line_item line total item.CharacterCategory = []
+ShowsItem o line s i shown = shown ≡ line_item line s.cost_so_far i
 
 -- what pieces show, each item by itself
 abbrev pub ShowsPieces : (FormatItem → List ℕ → Type 0) → List Piece → List ℕ → Type 0

@@ -10,7 +10,7 @@ use Rattle.out_format.specs.declared.word_in_path.WordInPath.{WordInPath}
 use Rattle.word_lookup.specs.Overlays.{overlay_of}
 
 abbrev pub standing_of : WordInPath → Standing
-standing_of w = record { word = w.word.now; right_before = w.right_before; cost_so_far = w.cost_so_far }
+standing_of w = record { word = w.word.now; right_before = w.right_before; cost_so_far = w.line.cost }
 
 -- a word's blanks and surface stand in the line, a character begins where the surface does, and the word may follow one of this right id
 pub record IsWordOf (o : Overlay) (line : List ℕ) (right : ℕ) (w : Word) : Type 0 where
@@ -26,7 +26,7 @@ overlay_in w = overlay_of w.dictionaries.now
 
 -- the characters of the line from its surface on
 abbrev pub chars_of : WordInPath → List ℕ
-chars_of w = chars_from w.text.now w.word.now.start
+chars_of w = chars_from w.line.text.now w.word.now.start
 
 abbrev pub CanStand : WordInPath → Type 0
-CanStand w = IsWordOf (overlay_in w) w.text.now w.right_before w.word.now
+CanStand w = IsWordOf (overlay_in w) w.line.text.now w.right_before w.word.now

@@ -1,4 +1,4 @@
-//! A line as a whole, before its first word or behind its last one.
+//! A line, and what the items show of it.
 
 ghost use Rattle.std.specs.Prelude.{◌≡◌};
 
@@ -7,7 +7,7 @@ use crate::shows_items::ShowsItems;
 use mj_model::FormatItem;
 use std::alloc::AllocError;
 
-/// A line, and what its path costs; 0 before the first word.
+/// A line, and what its path costs up to a place: 0 before the first word.
 #[derive(Clone, Copy)]
 pub struct Line<'a> {
     pub text: &'a str,

@@ -86,10 +86,12 @@ fn append_words<'a>(
         cost_so_far = cost_with(dictionaries, right_before, cost_so_far, word);
         let standing = WordInPath {
             dictionaries,
-            text,
+            line: Line {
+                text,
+                cost: cost_so_far,
+            },
             word,
             right_before,
-            cost_so_far,
         };
         append_parts(&standing, format.word_parts(word.origin), out)?;
         right_before = word.right;

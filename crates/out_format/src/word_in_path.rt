@@ -8,19 +8,19 @@ ghost use Rattle.paths.specs.Words.{is_place};
 ghost use Rattle.out_format.specs.Standings.{CanStand, chars_of, overlay_in, standing_of};
 
 use crate::appending::{append_bytes, append_cost, append_count, append_shown_field};
+use crate::line::Line;
 use crate::shows_items::ShowsItems;
 use mj_model::{FormatItem, Origin, Word};
 use std::alloc::AllocError;
 use word_lookup::Dictionaries;
 
-/// A word of a line, the right id of the word before it, and what the path costs up to and with it.
+/// A word of a line, which has the cost of the path up to and with it, and the right id of the word before it.
 #[derive(Clone, Copy)]
 pub struct WordInPath<'a> {
     pub dictionaries: &'a Dictionaries<'a>,
-    pub text: &'a str,
+    pub line: Line<'a>,
     pub word: &'a Word,
     pub right_before: u16,
-    pub cost_so_far: i64,
 }
 
 impl<'a> ShowsItems for WordInPath<'a> {
@@ -29,7 +29,7 @@ impl<'a> ShowsItems for WordInPath<'a> {
 
     ghost can_show = { CanStand };
 
-    ghost shows = { λ w. ShowsItem (overlay_in w) w.text.now (standing_of w) };
+    ghost shows = { λ w. ShowsItem (overlay_in w) w.line.text.now (standing_of w) };
 
     fn append_item(&self, item: FormatItem, out: &mut Vec<u8>) -> Result<(), AllocError> {
         let word = self.word;
@@ -41,19 +41,16 @@ impl<'a> ShowsItems for WordInPath<'a> {
             FormatItem::Field(n) => append_shown_field(self.feature(), n, out),
             FormatItem::WordCost => append_cost(i64::from(word.cost), out),
             FormatItem::IsUnknown => append_bytes(unknown_mark(word.origin), out),
-            FormatItem::Sentence => append_bytes(self.text.as_bytes(), out),
-            FormatItem::SentenceLength => append_count(self.text.len(), out),
             FormatItem::LeftId => append_count(usize::from(word.left), out),
             FormatItem::RightId => append_count(usize::from(word.right), out),
             FormatItem::ConnectionCost => append_cost(self.connection_cost(), out),
             FormatItem::CostHere => append_cost(self.cost_here(), out),
-            FormatItem::CostSoFar => append_cost(self.cost_so_far, out),
             FormatItem::SurfaceLength => append_count(word.end - word.start, out),
             FormatItem::LengthWithBlanks => append_count(word.end - word.place, out),
             FormatItem::Start => append_count(word.start, out),
             FormatItem::End => append_count(word.end, out),
             FormatItem::CharacterCategory => append_count(self.first_category(), out),
-            FormatItem::Percent => append_bytes(b"%", out),
+            _ => self.line.append_item(item, out),
         }
     }
 }
@@ -62,12 +59,12 @@ impl<'a> WordInPath<'a> {
     /// Appends the bytes of the line from one place to another.
     fn append_between(&self, from: usize, to: usize, out: &mut Vec<u8>) -> Result<(), AllocError>
         requires forward { from ≤ to }
-        requires within { to ≤ length self.now.text.now }
+        requires within { to ≤ length self.now.line.text.now }
         ensures appended { OnOk result (out.new.items ≡ out.old.items
-            ++ between self.now.text.now from to) }
+            ++ between self.now.line.text.now from to) }
         ensures kept { take (vec_len out.old) out.new.items ≡ out.old.items }
     {
-        append_bytes(&self.text.as_bytes()[from..to], out)
+        append_bytes(&self.line.text.as_bytes()[from..to], out)
     }
 
     fn feature(&self) -> &str
@@ -98,7 +95,7 @@ impl<'a> WordInPath<'a> {
         requires { CanStand self.now }
         ensures { result ≡ category_of_first (overlay_in self.now) (chars_of self.now) }
     {
-        match text_from(self.text, self.word.start).chars().next() {
+        match text_from(self.line.text, self.word.start).chars().next() {
             Some(first) => usize::from(self.dictionaries.info(first).first()),
             None => 0,
         }
