@@ -1,13 +1,19 @@
 -- Pieces at the beginning of a part's text, and the text read piece by piece.
-use Rattle.std.proofs.Common.{◌≡◌, ℕ, ◌+◌, ◌-◌, ◌<◌, List, [], ◌∷◌, ◌++◌, length, take, drop, refl, sym, ◌∙◌, ap, subst, arith, Option, Some, None, inl, inr, ◌⊎◌, append_assoc, append-nil}
+use Rattle.std.proofs.Common.{◌≡◌, ℕ, ◌+◌, ◌-◌, ◌<◌, List, [], ◌∷◌, ◌++◌, length, take, drop, refl, sym, ◌∙◌, ap, subst, arith, Result, Ok, Err, Option, Some, None, inl, inr, ◌⊎◌, append_assoc, append-nil}
 use Rattle.std.proofs.lemmas.List.{take_at, drop_at, length-append}
 use Rattle.mj_model.specs.declared.format_item.FormatItem.{FormatItem}
 use Rattle.mj_model.specs.declared.format_fault.FormatPart.{FormatPart}
 use Rattle.mj_model.specs.declared.format_fault.FormatKind.{FormatKind}
 use Rattle.mj_model.specs.declared.format_fault.FormatKind.TheVariants.{BadEscape}
+use Rattle.mj_model.specs.declared.format_fault.FormatFault.{FormatFault}
+use Rattle.mj_model.specs.declared.format_fault.FormatFault.TheVariants as fault
+use Rattle.std.specs.Result.{MatchResult}
+use Rattle.out_format.specs.declared.first_piece.FirstPiece.{FirstPiece}
+use Rattle.out_format.specs.Answers.{IsFirstPiece}
+use Rattle.out_format.specs.Pieces.{piece_of}
 use Rattle.mj_model.proofs.Basics.{same_head, same_tail, no_head}
 use Rattle.out_format.specs.Formats.{Piece, Byte, Shows, Spells, SpellsItem, escaped, Begins, Reads, IsBadAt, bad_kind, bad_item}
-use Rattle.out_format.specs.FirstItems.{HasNoItem, IsStuck}
+use Rattle.out_format.specs.FirstItems.{HasNoItem, IsStuck, IsFaultOf}
 use Rattle.out_format.proofs.ItemLemmas.{percent_first}
 
 none_some : (x : ℕ) → None ≡ Some x → ⊥
@@ -119,3 +125,17 @@ rest_shorter part piece text rest h =
     let some = spelled_some part piece h.front h.spelled in
     let long = ap length h.is in
     omega (arith, some, long, length-append h.front rest)
+
+-- ---- the first piece, or the fault that is told in place of its absence
+
+pub piece_there : (part : FormatPart) (text : List ℕ) (first : Result FirstPiece FormatKind) (found : FirstPiece) → IsFirstPiece part text first
+    → MatchResult first (λ piece. ◌≡◌ {A = Result FirstPiece FormatFault} (Ok found) (Ok piece)) (λ kind. ⊥) → Begins part (piece_of found.piece) text found.rest.now
+piece_there part text (Ok piece) found begins is = let same : piece ≡ found = cc in subst (λ (p : FirstPiece). Begins part (piece_of p.piece) text p.rest.now) same begins
+piece_there part text (Err kind) found stuck is = absurd is
+
+pub fault_there : (part : FormatPart) (pieces : List Piece) (text rest : List ℕ) (at : ℕ) (first : Result FirstPiece FormatKind) (found : FormatFault) → IsReadUpTo part pieces text rest
+    → at ≡ length text - length rest → 0 < length rest → IsFirstPiece part rest first
+    → MatchResult first (λ piece. ◌≡◌ {A = Result FirstPiece FormatFault} (Err found) (Ok piece)) (λ kind. found ≡ fault.Bad part at kind) → IsFaultOf part text found
+fault_there part pieces text rest at (Ok piece) found so_far is some begins told = absurd (cc)
+fault_there part pieces text rest at (Err kind) found so_far is some stuck told =
+    subst (IsFaultOf part text) (sym told) (refl, bad_at part pieces text rest at kind so_far is some stuck)

@@ -9,7 +9,7 @@ use crate::building::PartsSoFar;
 use crate::first_piece::first_piece;
 use crate::part::Part;
 use mj_model::{FormatFault, FormatPart};
-use std::alloc::{AllocError, Global};
+use std::alloc::Global;
 
 /// Reads the text of a part. A fault tells its first byte that no piece begins at.
 pub fn parse_part(alloc: Global, text: &str, part: FormatPart) -> Result<Vec<Part>, FormatFault>
@@ -19,21 +19,10 @@ pub fn parse_part(alloc: Global, text: &str, part: FormatPart) -> Result<Vec<Par
     let mut parts = PartsSoFar::new(alloc);
     let mut rest = text.as_bytes();
     while !rest.is_empty() {
-        match first_piece(rest, part) {
-            Ok(first) => {
-                let Ok(()) = parts.push(first.piece) else {
-                    return Err(FormatFault::Memory);
-                };
-                rest = first.rest;
-            }
-            Err(kind) => {
-                let at = text.len() - rest.len();
-                return Err(FormatFault::Bad { part, at, kind });
-            }
-        }
+        let at = text.len() - rest.len();
+        let first = first_piece(rest, part).map_err(|kind| FormatFault::Bad { part, at, kind })?;
+        parts.push(first.piece)?;
+        rest = first.rest;
     }
-    match parts.finish() {
-        Ok(parts) => Ok(parts),
-        Err(AllocError) => Err(FormatFault::Memory),
-    }
+    Ok(parts.finish()?)
 }
