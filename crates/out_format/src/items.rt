@@ -31,6 +31,7 @@ impl ShownIn {
 }
 
 /// The letters behind the percent sign, the item, and the texts that may show it. No letters begin with another row's.
+/// A further item has a row here, its meaning in `PrintedPaths`, and its printing at `WordInPath` or `Line`.
 #[rattlefmt::skip]
 pub const ITEMS: [(&[u8], FormatItem, ShownIn); 19] = [
     (b"m", FormatItem::Surface, ShownIn::Words),

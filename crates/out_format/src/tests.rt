@@ -1,6 +1,8 @@
 //! Formats' texts that read, and the first faults of those that don't.
 
+use crate::part::Part;
 use crate::{Format, FormatFault, FormatKind, FormatPart};
+use mj_model::FormatItem;
 use std::test::Fail;
 
 #[test]
@@ -79,6 +81,23 @@ fn parts_of_formats(rt: HostRuntime) -> Result<(), Fail> {
         let fault = expected.map(|(part, at, kind)| FormatFault::Bad { part, at, kind });
         let told = Format::parse(rt.alloc(), node, unk, bos, eos).err();
         assert_eq!(rt; told, fault, "{what}");
+    }
+    Ok(())
+}
+
+/// The ids of words, which many dictionaries don't tell apart.
+#[test]
+fn left_and_right_ids(rt: HostRuntime) -> Result<(), Fail> {
+    #[rattlefmt::skip]
+    let rows = [
+        // (node, its item: MeCab, format.html)
+        ("%phl", FormatItem::LeftId),
+        ("%phr", FormatItem::RightId),
+    ];
+    for (node, item) in rows {
+        let format = Format::parse(rt.alloc(), node, None, "", "")?;
+        let shows_it = matches!(format.node.first(), Some(Part::Item(first)) if *first == item);
+        assert!(rt; shows_it, "{node}");
     }
     Ok(())
 }
