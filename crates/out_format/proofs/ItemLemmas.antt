@@ -74,11 +74,6 @@ one_row r s rest more (i, low, is) (j, lower, here) e =
           absurd (not_both s.0.now r.0.now more rest apart (sym e))
     ]
 
-row_of_no_field : (row : Row) (rest inside : List ℕ) → Contains ITEMS row → row.0.now ++ rest ≡ 102 ∷ inside → ⊥
-row_of_no_field row rest inside in' e =
-    let P = λ (r : Row). differ r.0.now (102 ∷ []) ≡ true in
-    not_both row.0.now (102 ∷ []) rest inside (All-contains P ITEMS row (AllPass-from_list_all (λ (r : Row). differ r.0.now (102 ∷ [])) ITEMS none_of_fields) in') e
-
 -- ---- the item that a text begins with
 
 pub percent_first : (part : FormatPart) (i : FormatItem) (front : List ℕ) → SpellsItem part i front → (more : List ℕ) × (front ≡ 37 ∷ more)
@@ -216,7 +211,9 @@ one_field i j behind rest more f g =
 not_both_kinds : (part : FormatPart) (i j : FormatItem) (behind front back rest more : List ℕ) → IsListed part i front → IsField part j back → 37 ∷ behind ≡ front ++ rest → 37 ∷ behind ≡ back ++ more → ⊥
 not_both_kinds part i j behind front back rest more l f h k =
     let at = field_at part j behind back more f k in
-    row_of_no_field (record { now = l.letters }, i, l.texts) rest at.inside l.row (sym (letters_at behind l.letters front rest l.is h) ∙ at.there)
+    let P = λ (row : Row). differ row.0.now (102 ∷ []) ≡ true in
+    let apart = All-contains P ITEMS (record { now = l.letters }, i, l.texts) (AllPass-from_list_all (λ (row : Row). differ row.0.now (102 ∷ [])) ITEMS none_of_fields) l.row in
+    not_both l.letters (102 ∷ []) rest at.inside apart (sym (letters_at behind l.letters front rest l.is h) ∙ at.there)
 
 pub one_item : (part : FormatPart) (i j : FormatItem) (behind front back rest more : List ℕ) → SpellsItem part i front → SpellsItem part j back → 37 ∷ behind ≡ front ++ rest → 37 ∷ behind ≡ back ++ more
     → (i ≡ j) × (rest ≡ more)
