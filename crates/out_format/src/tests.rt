@@ -66,7 +66,7 @@ fn parts_of_formats(rt: HostRuntime) -> Result<(), Fail> {
         ("items of words before the first", ("", None, "%m", ""), Some((Bos, 0, BadItem))),
         ("the cost before the first word", ("%m", None, "%pc", ""), Some((Bos, 0, BadItem))),
         ("a field before the first word", ("", None, "%f[0]", ""), Some((Bos, 0, BadItem))),
-        ("%f without an index before the first word", ("", None, "%f", ""), Some((Bos, 0, BadItem))),
+        ("%f alone before the first word", ("", None, "%f", ""), Some((Bos, 0, BadItem))),
         ("items of words behind the last", ("", None, "", "%m"), Some((Eos, 0, BadItem))),
         ("a field behind the last word", ("", None, "", "a%f[0]"), Some((Eos, 1, BadItem))),
         ("escapes of the line", ("", None, "\\t", "\\q"), Some((Eos, 0, BadEscape))),
@@ -85,19 +85,42 @@ fn parts_of_formats(rt: HostRuntime) -> Result<(), Fail> {
     Ok(())
 }
 
-/// The ids of words, which many dictionaries don't tell apart.
+/// The letters of each item, and whether the text before the first word and the one behind the last word may show it. (MeCab, format.html;
+/// which texts show what is this project's own choice)
 #[test]
-fn left_and_right_ids(rt: HostRuntime) -> Result<(), Fail> {
+fn texts_of_items(rt: HostRuntime) -> Result<(), Fail> {
     #[rattlefmt::skip]
     let rows = [
-        // (node, its item: MeCab, format.html)
-        ("%phl", FormatItem::LeftId),
-        ("%phr", FormatItem::RightId),
+        // (text, its item, may stand before the first word, may stand behind the last word)
+        ("%m",    FormatItem::Surface,           false, false),
+        ("%M",    FormatItem::SurfaceWithBlanks, false, false),
+        ("%pS",   FormatItem::Blanks,            false, false),
+        ("%H",    FormatItem::Feature,           false, false),
+        ("%f[7]", FormatItem::Field(7),          false, false),
+        ("%c",    FormatItem::WordCost,          false, false),
+        ("%s",    FormatItem::IsUnknown,         false, false),
+        ("%S",    FormatItem::Sentence,          true,  true),
+        ("%L",    FormatItem::SentenceLength,    true,  true),
+        ("%phl",  FormatItem::LeftId,            false, false),
+        ("%phr",  FormatItem::RightId,           false, false),
+        ("%pC",   FormatItem::ConnectionCost,    false, false),
+        ("%pn",   FormatItem::CostHere,          false, false),
+        ("%pc",   FormatItem::CostSoFar,         false, true),
+        ("%pl",   FormatItem::SurfaceLength,     false, false),
+        ("%pL",   FormatItem::LengthWithBlanks,  false, false),
+        ("%ps",   FormatItem::Start,             false, false),
+        ("%pe",   FormatItem::End,               false, false),
+        ("%t",    FormatItem::CharacterCategory, false, false),
+        ("%%",    FormatItem::Percent,           true,  true),
     ];
-    for (node, item) in rows {
-        let format = Format::parse(rt.alloc(), node, None, "", "")?;
+    for (text, item, bos, eos) in rows {
+        let format = Format::parse(rt.alloc(), text, None, "", "")?;
         let shows_it = matches!(format.node.first(), Some(Part::Item(first)) if *first == item);
-        assert!(rt; shows_it, "{node}");
+        assert!(rt; shows_it, "{text}");
+        let before = Format::parse(rt.alloc(), "", None, text, "");
+        assert_eq!(rt; before.is_ok(), bos, "{text}");
+        let behind = Format::parse(rt.alloc(), "", None, "", text);
+        assert_eq!(rt; behind.is_ok(), eos, "{text}");
     }
     Ok(())
 }
