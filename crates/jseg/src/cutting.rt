@@ -4,7 +4,7 @@ use crate::choices::{Input, Options};
 use crate::formatting::format_of;
 use crate::images::cut_by_images;
 use crate::source_directory::read_directory;
-use mj_model::{Counted, GROUPING_MAX, RunFault, Sources};
+use mj_model::{Counted, GROUPING_MAX, NO_FILE, RunFault, Sources};
 use out_format::Format;
 use programs::{Fault, texts};
 use segmenter::{run_sources, sample};
@@ -27,7 +27,10 @@ pub fn cut(rt: &HostRuntime, options: &Options) -> Result<(), Fault> {
         Input::Images { dic, users } => cut_by_images(rt, dic.as_str(), users, &manner),
         Input::Sources(dir) => cut_by_directory(rt, dir.as_str(), &manner),
         Input::Sample => cut_by(rt, &sample(), &manner).map_err(|fault| match fault {
-            RunFault::Source(fault) => Fault::of_source(rt.alloc(), "sample", fault),
+            RunFault::Source(fault) => {
+                let path = (fault.file != NO_FILE).then_some("sample");
+                Fault::of_source(rt.alloc(), path, fault)
+            }
             fault => Fault::Run(fault),
         }),
     }

@@ -8,10 +8,7 @@ use std::{env, io};
 
 /// The words that follow the program's name.
 pub fn words_given(rt: &HostRuntime, program: &str) -> Result<Vec<String>, OptionsFault> {
-    match words(rt) {
-        Ok(words) => Ok(words),
-        Err(error) => Err(OptionsFault::of_words(rt.alloc(), program, &error)),
-    }
+    words(rt).map_err(|error| OptionsFault::of_words(rt.alloc(), program, &error))
 }
 
 fn words(rt: &HostRuntime) -> io::Result<Vec<String>> {
@@ -28,10 +25,9 @@ pub fn found<'a>(
     command: Command<'a>,
     words: &'a [String],
 ) -> Result<ArgMatches<'a>, OptionsFault> {
-    match command.try_get_matches_from(words) {
-        Ok(matches) => Ok(matches),
-        Err(error) => Err(OptionsFault::of_parser(alloc, &error)),
-    }
+    command
+        .try_get_matches_from(words)
+        .map_err(|error| OptionsFault::of_parser(alloc, &error))
 }
 
 /// The value of an option, where it was given.

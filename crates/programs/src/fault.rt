@@ -1,9 +1,9 @@
 //! What a program tells when it ends early.
 
-ghost use Rattle.std.specs.Prelude.{◌≡◌, String, string_bytes};
+ghost use Rattle.std.specs.Prelude.{◌≡◌, String, None, IfSome, string_bytes};
 ghost use Rattle.std.specs.IoError.{error_kind};
 ghost use Rattle.std.specs.declared.alloc.Global.{Global};
-ghost use Rattle.programs.specs.declared.fault.Fault.TheVariants.{File, Memory, Source, Overlay};
+ghost use Rattle.programs.specs.declared.fault.Fault.TheVariants.{File, Memory, Source, Sources, Overlay};
 
 use mj_model::{FormatFault, ImageFault, OverlayFault, RunFault, SourceFault};
 use std::alloc::{AllocError, AllocFailed, Global};
@@ -17,6 +17,8 @@ pub enum Fault {
     File(String),
     /// The source at this path is refused.
     Source(String, SourceFault),
+    /// The sources together are refused: the fault belongs to no file.
+    Sources(SourceFault),
     /// The image at this path is refused.
     Image(String, ImageFault),
     /// The image at this path is of no use where it was given.
@@ -40,21 +42,19 @@ impl Fault {
         if error.kind() == ErrorKind::OutOfMemory {
             return Fault::Memory;
         }
-        match String::from_str(alloc, path) {
-            Ok(path) => Fault::File(path),
-            Err(AllocError) => Fault::Memory,
-        }
+        String::from_str(alloc, path).map_or(Fault::Memory, Fault::File)
     }
 
-    /// The fault of the source at a path.
-    pub fn of_source(alloc: Global, path: &str, fault: SourceFault) -> Fault
-        ensures { (told : String Global) → result ≡ Source told fault
-            → string_bytes told ≡ path.now }
+    /// The fault of the source at a path, or of the sources together where it belongs to no file.
+    pub fn of_source(alloc: Global, path: Option<&str>, fault: SourceFault) -> Fault
+        ensures source { (told : String Global) → result ≡ Source told fault
+            → IfSome path.entry (λ path. string_bytes told ≡ path.now) }
+        ensures together { path.entry ≡ None → result ≡ Sources fault }
     {
-        match String::from_str(alloc, path) {
-            Ok(path) => Fault::Source(path, fault),
-            Err(AllocError) => Fault::Memory,
-        }
+        let Some(path) = path else {
+            return Fault::Sources(fault);
+        };
+        String::from_str(alloc, path).map_or(Fault::Memory, |path| Fault::Source(path, fault))
     }
 
     /// The fault of the image at a path among those that are laid over one another.
@@ -62,10 +62,7 @@ impl Fault {
         ensures { (told : String Global) → result ≡ Overlay told fault
             → string_bytes told ≡ path.now }
     {
-        match String::from_str(alloc, path) {
-            Ok(path) => Fault::Overlay(path, fault),
-            Err(AllocError) => Fault::Memory,
-        }
+        String::from_str(alloc, path).map_or(Fault::Memory, |path| Fault::Overlay(path, fault))
     }
 }
 

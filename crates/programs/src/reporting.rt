@@ -22,6 +22,7 @@ fn write_line<W: Write>(program: &str, fault: &Fault, err: &mut W) -> io::Result
     match fault {
         Fault::File(path) => writeln!(err, "{program}: {path}: F1 File"),
         Fault::Source(path, fault) => write_source(program, path.as_str(), fault, err),
+        Fault::Sources(SourceFault { kind, .. }) => writeln!(err, "{program}: {kind}"),
         Fault::Image(_, ImageFault::Memory) | Fault::Memory => writeln!(err, "{program}: Memory"),
         Fault::Image(path, fault) => writeln!(err, "{program}: {path}: {fault}"),
         Fault::Overlay(path, fault) => writeln!(err, "{program}: {path}: {fault}"),
@@ -31,7 +32,7 @@ fn write_line<W: Write>(program: &str, fault: &Fault, err: &mut W) -> io::Result
     }
 }
 
-/// The line of a source's fault. What belongs to no file is told without a path.
+/// The line of a source's fault. Want of memory is told without a path.
 fn write_source<W: Write>(
     program: &str,
     path: &str,
@@ -40,9 +41,7 @@ fn write_source<W: Write>(
 ) -> io::Result<()> {
     let SourceFault { line, kind, .. } = fault;
     match kind {
-        SourceKind::Memory | SourceKind::ArrayFull | SourceKind::FeaturesTooLarge => {
-            writeln!(err, "{program}: {kind}")
-        }
+        SourceKind::Memory => writeln!(err, "{program}: {kind}"),
         _ => writeln!(err, "{program}: {path}:{line}: {kind}"),
     }
 }
@@ -50,7 +49,7 @@ fn write_source<W: Write>(
 /// 1 for a refused source, image, overlay or text, 2 for a refused format, 3 for a file or device, 4 for memory.
 fn status(fault: &Fault) -> u8 {
     match fault {
-        Fault::Source(_, fault) => match fault.kind {
+        Fault::Source(_, fault) | Fault::Sources(fault) => match fault.kind {
             SourceKind::Memory => 4,
             _ => 1,
         },

@@ -21,13 +21,11 @@ impl WholeFile {
     pub fn read(rt: &HostRuntime, path: &str) -> Result<WholeFile, Fault>
         ensures path { IfOk result (λ file. string_bytes file.path ≡ path.now) }
     {
-        match bytes_at(rt, path) {
-            Ok(bytes) => Ok(WholeFile {
-                path: String::from_str(rt.alloc(), path)?,
-                bytes,
-            }),
-            Err(error) => Err(Fault::of_file(rt.alloc(), path, &error)),
-        }
+        let bytes = bytes_at(rt, path).map_err(|error| Fault::of_file(rt.alloc(), path, &error))?;
+        Ok(WholeFile {
+            path: String::from_str(rt.alloc(), path)?,
+            bytes,
+        })
     }
 }
 

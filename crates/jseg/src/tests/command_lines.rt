@@ -46,7 +46,7 @@ fn command_lines(rt: HostRuntime) -> Result<(), Fail> {
         ("a system joined", &["-dsys.img"], Images("sys.img", &[]), 24),
         ("with a user", &["-d", "sys.img", "-u", "user.img"], Images("sys.img", &["user.img"]), 24),
         ("with users in their order", &["-u", "b", "-d", "s", "-u", "a", "-u", "b"], Images("s", &["b", "a", "b"]), 24),
-        ("with a format and a grouping", &["-d", "s", "-O", "wakati", "-M", "3"], Images("s", &[]), 3),
+        ("a format and a grouping", &["-d", "s", "-O", "wakati", "-M", "3"], Images("s", &[]), 3),
     ];
     for (what, given, asked, grouping) in rows {
         match options(rt.alloc(), words(rt.alloc(), given)?) {
@@ -69,7 +69,7 @@ fn format_options(rt: HostRuntime) -> Result<(), Fail> {
         ("all", &["--sample", "-F", "a", "-U", "b", "-B", "c", "-E", "d"], [None, Some("a"), Some("b"), Some("c"), Some("d")]),
         ("empty, and with a hyphen", &["--sample", "-F", "", "-E", "-%pc"], [None, Some(""), None, None, Some("-%pc")]),
         ("joined", &["--sample", "-F%m\\n"], [None, Some("%m\\n"), None, None, None]),
-        ("by name", &["--sample", "-O", "wakati", "-F", "%q"], [Some("wakati"), Some("%q"), None, None, None]),
+        ("a name", &["--sample", "-O", "wakati", "-F", "%q"], [Some("wakati"), Some("%q"), None, None, None]),
     ];
     for (what, given, wanted) in rows {
         match options(rt.alloc(), words(rt.alloc(), given)?) {

@@ -46,7 +46,7 @@ fn source_directories(rt: HostRuntime) -> Result<(), Fail> {
     for (name, text, number) in rows {
         if let Some(number) = number {
             let path = format!(in rt.alloc(); "{dir}/{name}")?;
-            assert!(rt; files.path(number) == path.as_str(), "{name}");
+            assert!(rt; files.path(number) == Some(path.as_str()), "{name}");
             assert!(rt;
                 bytes[number as usize].as_slice() == text.as_bytes(),
                 "{name}"

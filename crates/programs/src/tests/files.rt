@@ -181,13 +181,13 @@ fn paths_of_sources(rt: HostRuntime) -> Result<(), Fail> {
     };
     let rows = [
         // (number, path)
-        (0, "matrix.def"),
-        (1, "char.def"),
-        (2, "unk.def"),
-        (3, "a.csv"),
-        (4, "b.csv"),
-        (5, ""),
-        (u32::MAX, ""),
+        (0, Some("matrix.def")),
+        (1, Some("char.def")),
+        (2, Some("unk.def")),
+        (3, Some("a.csv")),
+        (4, Some("b.csv")),
+        (5, None),
+        (u32::MAX, None),
     ];
     for (number, path) in rows {
         assert!(rt; files.path(number) == path, "{number}");

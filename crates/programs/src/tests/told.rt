@@ -1,8 +1,10 @@
 //! What is told of faults, and the statuses.
 
 use crate::{Fault, report};
+use mj_model::OverlayFault::{NotSystem, NotUser, OtherSizes};
+use mj_model::SourceKind::{BadNumber, MissingCategory};
 use mj_model::{
-    FormatFault, FormatKind, FormatPart, ImageFault, OverlayFault, RunFault, SourceFault,
+    FormatFault, FormatKind, FormatPart, ImageFault, NO_FILE, OverlayFault, RunFault, SourceFault,
     SourceKind,
 };
 use std::alloc::{AllocError, Global};
@@ -15,21 +17,16 @@ fn image(alloc: Global, fault: ImageFault) -> Result<Fault, AllocError> {
 
 fn source(alloc: Global, line: u64, kind: SourceKind) -> Fault {
     let file = 2;
-    Fault::of_source(alloc, "a/unk.def", SourceFault { file, line, kind })
+    Fault::of_source(alloc, Some("unk.def"), SourceFault { file, line, kind })
 }
 
 /// A fault of the whole compilation, which belongs to no file.
 fn whole(alloc: Global, kind: SourceKind) -> Fault {
-    let file = u32::MAX;
-    Fault::of_source(
-        alloc,
-        "",
-        SourceFault {
-            file,
-            line: 0,
-            kind,
-        },
-    )
+    Fault::of_source(alloc, None, kind.at(NO_FILE, 0))
+}
+
+fn overlay(alloc: Global, fault: OverlayFault) -> Fault {
+    Fault::of_overlay(alloc, "a.img", fault)
 }
 
 #[test]
@@ -41,17 +38,17 @@ fn told_faults(rt: HostRuntime) -> Result<(), Fail> {
     #[rattlefmt::skip]
     let rows = [
         // (program, fault, line, status)
-        ("jseg", source(alloc, 0, SourceKind::MissingCategory(4)), "jseg: a/unk.def:0: U2 MissingCategory 4\n", 1),
-        ("jseg", source(alloc, 7, SourceKind::BadNumber), "jseg: a/unk.def:7: S3 BadNumber\n", 1),
+        ("jseg", source(alloc, 0, MissingCategory(4)), "jseg: unk.def:0: U2 MissingCategory 4\n", 1),
+        ("jseg", source(alloc, 7, BadNumber), "jseg: unk.def:7: S3 BadNumber\n", 1),
         ("jseg", source(alloc, 1, SourceKind::Memory), "jseg: Memory\n", 4),
-        ("jseg", source(alloc, 0, SourceKind::ArrayFull), "jseg: I2 ArrayFull\n", 1),
-        ("jseg", source(alloc, 0, SourceKind::FeaturesTooLarge), "jseg: I3 FeaturesTooLarge\n", 1),
+        ("jseg", whole(alloc, SourceKind::ArrayFull), "jseg: I2 ArrayFull\n", 1),
+        ("jseg", whole(alloc, SourceKind::FeaturesTooLarge), "jseg: I3 FeaturesTooLarge\n", 1),
         ("jseg", image(alloc, ImageFault::Truncated)?, "jseg: sys.img: L1 Truncated\n", 1),
         ("jseg", image(alloc, ImageFault::BadSection(9))?, "jseg: sys.img: L4 BadSection 9\n", 1),
         ("jseg", image(alloc, ImageFault::Digest)?, "jseg: sys.img: L8 Digest\n", 1),
         ("jseg", image(alloc, ImageFault::Memory)?, "jseg: Memory\n", 4),
-        ("jseg", Fault::of_overlay(alloc, "a.img", OverlayFault::NotUser(0)), "jseg: a.img: O2 NotUser 0\n", 1),
-        ("jseg", Fault::of_overlay(alloc, "b.img", OverlayFault::OtherSizes(1)), "jseg: b.img: O3 OtherSizes 1\n", 1),
+        ("jseg", overlay(alloc, NotUser(0)), "jseg: a.img: O2 NotUser 0\n", 1),
+        ("jseg", overlay(alloc, OtherSizes(1)), "jseg: a.img: O3 OtherSizes 1\n", 1),
         ("jseg", Fault::Format(FormatFault::Bad { part, at, kind }), "jseg: P2 BadItem 16\n", 2),
         ("jseg", Fault::Format(FormatFault::Memory), "jseg: Memory\n", 4),
         ("jseg", Fault::Run(RunFault::Read(2)), "jseg: line 2: G1 Read\n", 3),
@@ -62,15 +59,16 @@ fn told_faults(rt: HostRuntime) -> Result<(), Fail> {
         ("jseg", Fault::Run(RunFault::Memory(5)), "jseg: Memory\n", 4),
         ("jseg", Fault::File(String::from_str(alloc, "a/x.csv")?), "jseg: a/x.csv: F1 File\n", 3),
         ("jseg", Fault::Memory, "jseg: Memory\n", 4),
-        ("dictc", source(alloc, 0, SourceKind::MissingCategory(4)), "dictc: a/unk.def:0: U2 MissingCategory 4\n", 1),
-        ("dictc", source(alloc, 7, SourceKind::BadNumber), "dictc: a/unk.def:7: S3 BadNumber\n", 1),
+        ("dictc", source(alloc, 0, MissingCategory(4)), "dictc: unk.def:0: U2 MissingCategory 4\n", 1),
+        ("dictc", source(alloc, 7, BadNumber), "dictc: unk.def:7: S3 BadNumber\n", 1),
         ("dictc", source(alloc, 1, SourceKind::Memory), "dictc: Memory\n", 4),
         ("dictc", whole(alloc, SourceKind::ArrayFull), "dictc: I2 ArrayFull\n", 1),
         ("dictc", whole(alloc, SourceKind::FeaturesTooLarge), "dictc: I3 FeaturesTooLarge\n", 1),
+        ("dictc", whole(alloc, SourceKind::Memory), "dictc: Memory\n", 4),
         ("dictc", image(alloc, ImageFault::Truncated)?, "dictc: sys.img: L1 Truncated\n", 1),
         ("dictc", image(alloc, ImageFault::BadLayout(9))?, "dictc: sys.img: L3 BadLayout 9\n", 1),
         ("dictc", image(alloc, ImageFault::Memory)?, "dictc: Memory\n", 4),
-        ("dictc", Fault::of_overlay(alloc, "user.img", OverlayFault::NotSystem), "dictc: user.img: O1 NotSystem\n", 1),
+        ("dictc", overlay(alloc, NotSystem), "dictc: a.img: O1 NotSystem\n", 1),
         ("dictc", Fault::File(String::from_str(alloc, "a/x.csv")?), "dictc: a/x.csv: F1 File\n", 3),
         ("dictc", Fault::Output, "dictc: F2 Output\n", 3),
         ("dictc", Fault::Memory, "dictc: Memory\n", 4),
