@@ -15,7 +15,7 @@ ghost use Rattle.mj_model.specs.Tables.{System};
 ghost use Rattle.dict_compile.specs.Answers.{IsRefusedFor as IsCompileRefusedFor};
 ghost use Rattle.segmenter.specs.SourceDicts.{IsDictOf, IsUserDictOf, IsUsersRefusal, IsRefusedFor, lexicons_of, users_of};
 
-use crate::early_fault::user_fault;
+use crate::early_fault::early_end;
 use dict_compile::{CompileUserFault, compile, compile_user};
 use dict_image::{Dict, load};
 use mj_model::{ImageFault, RunFault, SourceFault, Sources};
@@ -67,7 +67,7 @@ pub(crate) fn user_dicts(
     for (i, lexicons) in users.iter().enumerate() {
         let dict = match user_dict(alloc, system, lexicons) {
             Ok(dict) => dict,
-            Err(fault) => return Err(user_fault(i, fault)),
+            Err(fault) => return Err(early_end(fault, RunFault::UserSource(i, fault))),
         };
         if add(&mut dicts, dict).is_err() {
             return Err(RunFault::Memory(0));

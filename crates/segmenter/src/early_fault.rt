@@ -1,28 +1,18 @@
 //! Faults of sources as ends of a run.
 
-ghost use Rattle.mj_model.specs.declared.run_fault.RunFault.TheVariants.{Source, UserSource};
+ghost use Rattle.std.specs.Prelude.{◌≡◌};
+ghost use Rattle.mj_model.specs.declared.run_fault.RunFault.{RunFault as FaultOfRun};
+ghost use Rattle.mj_model.specs.declared.source_fault.SourceFault.{SourceFault as FaultOf};
 ghost use Rattle.segmenter.specs.EarlyFaults.{EndsEarly};
 
 use mj_model::{RunFault, SourceFault, SourceKind};
 
-/// A fault of the sources.
-pub(crate) fn source_fault(fault: SourceFault) -> RunFault
-    ensures { EndsEarly Source fault result }
+/// How a run ends for a fault of sources: want of memory belongs to no line, any other fault is told so.
+pub(crate) fn early_end(fault: SourceFault, told: RunFault) -> RunFault
+    ensures { (end : FaultOf → FaultOfRun) → told ≡ end fault → EndsEarly end fault result }
 {
-    if matches!(fault.kind, SourceKind::Memory) {
-        RunFault::Memory(0)
-    } else {
-        RunFault::Source(fault)
-    }
-}
-
-/// A fault of a user's lexicons.
-pub(crate) fn user_fault(user: usize, fault: SourceFault) -> RunFault
-    ensures { EndsEarly (UserSource user) fault result }
-{
-    if matches!(fault.kind, SourceKind::Memory) {
-        RunFault::Memory(0)
-    } else {
-        RunFault::UserSource(user, fault)
+    match fault.kind {
+        SourceKind::Memory => RunFault::Memory(0),
+        _ => told,
     }
 }

@@ -31,5 +31,6 @@ pub trait LinePrinter {
         ensures kept { OnErr result (out.new.items ≡ out.old.items) };
 
     /// A line of more bytes is bad.
-    ghost too_long: { (x : Self) (line : List ℕ) → SENTENCE_MAX < length line → tells x line (Err TooLong) };
+    ghost too_long: { (x : Self) (line : List ℕ) → SENTENCE_MAX < length line
+        → tells x line (Err TooLong) };
 }

@@ -11,7 +11,7 @@ ghost use Rattle.segmenter.specs.Runs.{IsEarly, RanOver};
 ghost use Rattle.segmenter.specs.SourceDicts.{IsRefusedFor, users_of};
 
 use crate::dicts::{system_dict, user_dicts};
-use crate::early_fault::source_fault;
+use crate::early_fault::early_end;
 use crate::segmentation::segment;
 use mj_model::{RunFault, Sources, TextIn, TextOut};
 use out_format::Format;
@@ -53,7 +53,7 @@ pub fn run_sources<R: TextIn, W: TextOut>(
 {
     let system = match system_dict(alloc, sources) {
         Ok(system) => system,
-        Err(fault) => return Err(source_fault(fault)),
+        Err(fault) => return Err(early_end(fault, RunFault::Source(fault))),
     };
     let users = user_dicts(alloc, &system, users)?;
     let Ok(dictionaries) = Dictionaries::new(&system, &users) else {

@@ -74,7 +74,8 @@ fn by_number(number: usize, word: &Word) -> Word
 
 /// Adds the word if it lies at the place, and answers whether there was memory for it.
 fn add_sample(length: usize, place: usize, number: usize, word: &Word, out: &mut Vec<Word>) -> bool
-    ensures added { IsTrue result → out.new.items ≡ out.old.items ++ sample_word number length place word.now }
+    ensures added { IsTrue result
+        → out.new.items ≡ out.old.items ++ sample_word number length place word.now }
     ensures kept { IsFalse result → out.new.items ≡ out.old.items }
 {
     !lies_here(length, place, word) || out.push(by_number(number, word)).is_ok()

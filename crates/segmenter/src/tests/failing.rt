@@ -172,7 +172,7 @@ fn long_lines(rt: HostRuntime) -> Result<(), Fail> {
     #[rattlefmt::skip]
     let rows = [
         // (what, first byte, bytes with it, LF, failing read, answer)
-        ("a byte too long, then a failure", None, most + 1, false, Some(18), Err(RunFault::TooLong(1))),
+        ("a byte too long, failing", None, most + 1, false, Some(18), Err(RunFault::TooLong(1))),
         ("a bad byte, and too long", Some(0xff), most + 1, true, None, Err(RunFault::TooLong(1))),
         ("a bad byte", Some(0xff), most, true, None, Err(RunFault::NotUtf8(1))),
         ("the longest line", None, most, false, None, Ok(1)),

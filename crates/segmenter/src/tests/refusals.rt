@@ -2,7 +2,11 @@
 
 use super::runs::run;
 use crate::sample;
-use mj_model::{RunFault, SourceFault, SourceKind, Sources};
+use mj_model::SourceKind::{
+    BadHeader, BadNumber, BadRange, BadRow, IdOutside, MissingCategory, NoSpace, NoSuchCategory,
+    PairOutside, TooFewFields, TooLarge,
+};
+use mj_model::{RunFault, SourceFault, Sources};
 use std::alloc::Global;
 use std::string::String;
 use std::test::Fail;
@@ -17,16 +21,16 @@ fn matrix_and_lexicon(rt: HostRuntime) -> Result<(), Fail> {
     #[rattlefmt::skip]
     let rows = [
         // (what, matrix, lexicon, file, line, kind)
-        ("asymmetric_matrix", "2 3\n0 2 100\n1 0 9\n", "も,1,2,20,X\n", 3, 1, SourceKind::IdOutside),
-        ("open quote", "2 2\n", "\"ab,1,1,10,X\n", 3, 1, SourceKind::TooFewFields),
-        ("cost too low", "2 2\n", "も,1,1,-32769,X\n", 3, 1, SourceKind::BadNumber),
-        ("row too dear", "2 2\n0 0 40000\n", "", 0, 2, SourceKind::BadRow),
-        ("row outside", "2 2\n2 0 1\n", "", 0, 2, SourceKind::PairOutside),
-        ("header of 0", "0 2\n", "", 0, 1, SourceKind::BadHeader),
-        ("no header", "", "", 0, 0, SourceKind::BadHeader),
-        ("too large", "65535 65535\n", "", 0, 1, SourceKind::TooLarge),
-        ("matrix before lexicon", "0 2\n", "も,1,1,x,X\n", 0, 1, SourceKind::BadHeader),
-        ("line before its ids", "2 2\n", "も,5,1,20,X\nも,1,1,x,X\n", 3, 2, SourceKind::BadNumber),
+        ("asymmetric_matrix", "2 3\n0 2 100\n1 0 9\n", "も,1,2,20,X\n", 3, 1, IdOutside),
+        ("open quote", "2 2\n", "\"ab,1,1,10,X\n", 3, 1, TooFewFields),
+        ("cost too low", "2 2\n", "も,1,1,-32769,X\n", 3, 1, BadNumber),
+        ("row too dear", "2 2\n0 0 40000\n", "", 0, 2, BadRow),
+        ("row outside", "2 2\n2 0 1\n", "", 0, 2, PairOutside),
+        ("header of 0", "0 2\n", "", 0, 1, BadHeader),
+        ("no header", "", "", 0, 0, BadHeader),
+        ("too large", "65535 65535\n", "", 0, 1, TooLarge),
+        ("matrix before lexicon", "0 2\n", "も,1,1,x,X\n", 0, 1, BadHeader),
+        ("line before its ids", "2 2\n", "も,5,1,20,X\nも,1,1,x,X\n", 3, 2, BadNumber),
     ];
     for (what, matrix, lexicon, file, line, kind) in rows {
         let sources = Sources {
@@ -58,14 +62,14 @@ fn categories_and_unknown_entries(rt: HostRuntime) -> Result<(), Fail> {
     #[rattlefmt::skip]
     let rows = [
         // (what, lines left out of char.def, those of unk.def, a further line of each, file, line, kind)
-        ("no SPACE", "SPACE", all, "", "", 1, 0, SourceKind::NoSpace),
-        ("missing_categories", all, "KANJI", "", "", 2, 0, SourceKind::MissingCategory(4)),
-        ("both", "SPACE", "KANJI", "", "", 1, 0, SourceKind::NoSpace),
-        ("beyond Unicode", all, all, "0x110000 KANJI\n", "", 1, 13, SourceKind::BadRange),
-        ("an id outside", all, all, "", "KANJI,2,1,1000,X\nSPACE,1,2,1000,X\n", 2, 7, SourceKind::IdOutside),
-        ("a line before its ids", all, all, "", "KANJI,2,1,1000,X\nKANJI,1,1,x,X\n", 2, 8, SourceKind::BadNumber),
-        ("a missing category before ids", all, "KANJI", "", "SPACE,2,1,1000,X\n", 2, 0, SourceKind::MissingCategory(4)),
-        ("no such category", all, all, "", "KANA,1,1,1000,X\n", 2, 7, SourceKind::NoSuchCategory),
+        ("no SPACE", "SPACE", all, "", "", 1, 0, NoSpace),
+        ("missing_categories", all, "KANJI", "", "", 2, 0, MissingCategory(4)),
+        ("both", "SPACE", "KANJI", "", "", 1, 0, NoSpace),
+        ("beyond Unicode", all, all, "0x110000 KANJI\n", "", 1, 13, BadRange),
+        ("an id outside", all, all, "", "KANJI,2,1,1000,X\nSPACE,1,2,1000,X\n", 2, 7, IdOutside),
+        ("lines before ids", all, all, "", "KANJI,2,1,1000,X\nKANJI,1,1,x,X\n", 2, 8, BadNumber),
+        ("no category before ids", all, "KANJI", "", "SPACE,2,1,1000,X\n", 2, 0, MissingCategory(4)),
+        ("no such category", all, all, "", "KANA,1,1,1000,X\n", 2, 7, NoSuchCategory),
     ];
     for (what, no_chars, no_unk, chars, unk, file, line, kind) in rows {
         let mut char_lines = without(rt.alloc(), sample().chars, no_chars)?;

@@ -4,8 +4,23 @@ use super::expected_words::Expected::{self, Known, Unknown};
 use super::expected_words::are_words;
 use super::samples::{letters, system};
 use crate::sample;
+use std::alloc::Global;
 use std::test::Fail;
 use word_lookup::Dictionaries;
+
+/// Whether these are the words at a place, by the sample with a further line of `char.def` and with these lexicons.
+fn has_words(
+    alloc: Global,
+    line: &str,
+    lexicons: &[&[u8]],
+    text: &str,
+    place: usize,
+    expected: &[Expected],
+) -> Result<bool, Fail> {
+    let system = system(alloc, line, lexicons)?;
+    let dictionaries = Dictionaries::new(&system, &[])?;
+    Ok(are_words(alloc, dictionaries, text, place, expected)?)
+}
 
 #[test]
 fn words_of_the_sample(rt: HostRuntime) -> Result<(), Fail> {
@@ -23,12 +38,9 @@ fn words_of_the_sample(rt: HostRuntime) -> Result<(), Fail> {
         ("mapped beyond the basic plane", "0x20000..0x2A6DF KANJI\n", "𠮷野", 0, &[Unknown(0, 4), Unknown(0, 7)]),
     ];
     for (what, line, text, place, expected) in rows {
-        let system = system(rt.alloc(), line, sample().lexicons)?;
-        let dictionaries = Dictionaries::new(&system, &[])?;
-        assert!(rt;
-            are_words(rt.alloc(), dictionaries, text, place, expected)?,
-            "{what}"
-        );
+        let lexicons = sample().lexicons;
+        let holds = has_words(rt.alloc(), line, lexicons, text, place, expected)?;
+        assert!(rt; holds, "{what}");
     }
     Ok(())
 }
@@ -45,15 +57,12 @@ fn words_beside_blanks(rt: HostRuntime) -> Result<(), Fail> {
         ("a wide blank", "0x3000 SPACE\n", "\u{3000}すもも\u{3000}", 0, &[Known(3, 12, 100, "名詞,すもも")]),
         ("a wide blank behind", "0x3000 SPACE\n", "\u{3000}すもも\u{3000}", 12, &[]),
         ("a wide blank that is not mapped", "", "\u{3000}すもも\u{3000}", 0, &[Unknown(0, 3)]),
-        ("blanks go on over a letter", "0x0009 SPACE ALPHA\n", "\tzも", 0, &[Known(2, 5, 20, "助詞,も")]),
+        ("blanks over a letter", "0x0009 SPACE ALPHA\n", "\tzも", 0, &[Known(2, 5, 20, "助詞,も")]),
     ];
     for (what, line, text, place, expected) in rows {
-        let system = system(rt.alloc(), line, sample().lexicons)?;
-        let dictionaries = Dictionaries::new(&system, &[])?;
-        assert!(rt;
-            are_words(rt.alloc(), dictionaries, text, place, expected)?,
-            "{what}"
-        );
+        let lexicons = sample().lexicons;
+        let holds = has_words(rt.alloc(), line, lexicons, text, place, expected)?;
+        assert!(rt; holds, "{what}");
     }
     Ok(())
 }
@@ -70,12 +79,8 @@ fn words_of_lexicons(rt: HostRuntime) -> Result<(), Fail> {
         ("empty_lexicon", "", "も", &[Unknown(0, 3)]),
     ];
     for (what, lexicon, text, expected) in rows {
-        let system = system(rt.alloc(), "", &[lexicon.as_bytes()])?;
-        let dictionaries = Dictionaries::new(&system, &[])?;
-        assert!(rt;
-            are_words(rt.alloc(), dictionaries, text, 0, expected)?,
-            "{what}"
-        );
+        let holds = has_words(rt.alloc(), "", &[lexicon.as_bytes()], text, 0, expected)?;
+        assert!(rt; holds, "{what}");
     }
     Ok(())
 }

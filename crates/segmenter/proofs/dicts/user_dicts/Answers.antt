@@ -1,6 +1,7 @@
-use Rattle.std.proofs.Common.{◌≡◌, ◌++◌, ◌∷◌, [], ◌+◌, subst, sym, take}
+use Rattle.std.proofs.Common.{refl, ◌≡◌, ◌++◌, ◌∷◌, [], ◌+◌, subst, sym, take}
 use Rattle.std.specs.List.{AllZip}
 use Rattle.image_bytes.specs.ImageMeaning.{image_tables}
+use Rattle.mj_model.specs.declared.run_fault.RunFault.TheVariants.{UserSource}
 use Rattle.segmenter.specs.SourceDicts.{IsUserDictOf, users_of}
 use Rattle.segmenter.proofs.LoadedLemmas.{when_ok}
 use Rattle.segmenter.proofs.UserDicts.{none_at_fault, user_first, user_more, user_refused, users_end}
@@ -11,11 +12,11 @@ loop-i-init c = subst (λ dicts. AllZip (IsUserDictOf (image_tables c.args.syste
 
 pub returns-in-Err-clause-refused : goal.returns-in-Err-clause-refused
 returns-in-Err-clause-refused c =
-    user_refused (image_tables c.args.system.now) c.args.users.now c.loop-i.i _ c.loop-i.dicts.items c.loop-i-test.true c.loop-i.invariant c.in-Err.fault c.user_fault.result c.user_fault.ensures c.in-Err.ensures.refused
+    user_refused (image_tables c.args.system.now) c.args.users.now c.loop-i.i _ c.loop-i.dicts.items c.loop-i-test.true c.loop-i.invariant c.in-Err.fault c.early_end.result (c.early_end.ensures (UserSource c.loop-i.i) refl) c.in-Err.ensures.refused
 
 pub returns-in-Err-clause-first : goal.returns-in-Err-clause-first
 returns-in-Err-clause-first c =
-    user_first (image_tables c.args.system.now) c.args.users.now c.loop-i.i _ c.loop-i.dicts.items c.loop-i-test.true c.loop-i.invariant c.in-Err.fault c.user_fault.result c.user_fault.ensures c.in-Err.ensures.refused
+    user_first (image_tables c.args.system.now) c.args.users.now c.loop-i.i _ c.loop-i.dicts.items c.loop-i-test.true c.loop-i.invariant c.in-Err.fault c.early_end.result (c.early_end.ensures (UserSource c.loop-i.i) refl) c.in-Err.ensures.refused
 
 pub loop-i-preserved : goal.loop-i-preserved
 loop-i-preserved c =

@@ -5,6 +5,7 @@ use Rattle.image_bytes.specs.ImageMeaning.{image_tables}
 use Rattle.mj_model.specs.Overlays.{overlay_fault}
 use Rattle.dict_compile.proofs.FirstFaults.{not_compiled}
 use Rattle.word_lookup.specs.Overlays.{overlay_of}
+use Rattle.mj_model.specs.declared.run_fault.RunFault.TheVariants.{Source}
 use Rattle.segmenter.specs.SourceDicts.{users_of}
 use Rattle.segmenter.proofs.EarlyEnds.{source_first, source_before_users, source_is_early, source_of_no_user, source_told, users_are_early, users_over, users_tell_no_source, users_told}
 use Rattle.segmenter.proofs.OverlayLemmas.{have_overlay, no_overlay_fault, none_and_some, with_grouping}
@@ -13,20 +14,20 @@ use Rattle.segmenter.proofs.UserDicts.{none_at_fault}
 use Rattle.segmenter.proofs.running.run_sources.Goals as goal
 
 pub returns-in-Err-clause-source : goal.returns-in-Err-clause-source
-returns-in-Err-clause-source g c = λ told e. source_told c.args.sources.now c.in-Err.fault told c.source_fault.result c.source_fault.ensures c.in-Err.ensures.refused e
+returns-in-Err-clause-source g c = λ told e. source_told c.args.sources.now c.in-Err.fault told c.early_end.result (c.early_end.ensures Source refl) c.in-Err.ensures.refused e
 
 pub returns-in-Err-clause-user_source : goal.returns-in-Err-clause-user_source
-returns-in-Err-clause-user_source g c = λ i told e. absurd (source_of_no_user c.in-Err.fault told i c.source_fault.result c.source_fault.ensures e)
+returns-in-Err-clause-user_source g c = λ i told e. absurd (source_of_no_user c.in-Err.fault told i c.early_end.result (c.early_end.ensures Source refl) e)
 
 pub returns-in-Err-clause-refused : goal.returns-in-Err-clause-refused
-returns-in-Err-clause-refused g c = λ fault h. source_first c.in-Err.fault fault c.source_fault.result c.source_fault.ensures (c.in-Err.ensures.first fault h)
+returns-in-Err-clause-refused g c = λ fault h. source_first c.in-Err.fault fault c.early_end.result (c.early_end.ensures Source refl) (c.in-Err.ensures.first fault h)
 
 pub returns-in-Err-clause-user_refused : goal.returns-in-Err-clause-user_refused
 returns-in-Err-clause-user_refused g c = λ i fault h.
-    source_before_users c.args.sources.now h.0 c.in-Err.fault _ c.source_fault.result h.1 c.source_fault.ensures c.in-Err.ensures.refused
+    source_before_users c.args.sources.now h.0 c.in-Err.fault _ c.early_end.result h.1 (c.early_end.ensures Source refl) c.in-Err.ensures.refused
 
 pub returns-in-Err-clause-run : goal.returns-in-Err-clause-run
-returns-in-Err-clause-run g c = inl (source_is_early c.in-Err.fault c.source_fault.result c.source_fault.ensures, refl, refl)
+returns-in-Err-clause-run g c = inl (source_is_early c.in-Err.fault c.early_end.result (c.early_end.ensures Source refl), refl, refl)
 
 pub user_dicts-requires : goal.user_dicts-requires
 user_dicts-requires g c = c.in-Ok.ensures.dict.2.have.tables.kind
