@@ -8,3 +8,5 @@ pub mod OutcomeLemmas
 pub mod LexiconLemmas
 pub mod AppendLemmas
 pub mod WordLemmas
+pub mod SortedRows
+pub mod EntryLemmas

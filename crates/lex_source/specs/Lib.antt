@@ -4,3 +4,5 @@ pub mod Filled
 pub mod Spelled
 pub mod Steps
 pub mod Answers
+pub mod Lexicons
+pub mod AddedLexicon

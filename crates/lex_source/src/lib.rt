@@ -13,6 +13,8 @@ mod quoted;
 mod raw_field;
 mod records;
 mod sink;
+mod sorted_lexicon;
+mod source_lexicon;
 mod source_lines;
 mod text;
 mod words;
@@ -24,6 +26,8 @@ pub use lexicon::read_lexicon;
 pub use numbered::Lines;
 pub use numbers::{context_id, cost, number};
 pub use records::read_record;
+pub use sorted_lexicon::SortedLexicon;
+pub use source_lexicon::SourceLexicon;
 pub use source_lines::lines;
 pub use words::Words;
 

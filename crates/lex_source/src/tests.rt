@@ -1,9 +1,10 @@
 //! Rows of lexicons, fields and numbers.
 use crate::{
-    FilledLines, Words, append_field, context_id, cost, field, lines, number, read_lexicon,
+    FilledLines, SourceLexicon, Words, append_field, context_id, cost, field, lines, number,
+    read_lexicon,
 };
-use mj_model::Record;
-use mj_model::SourceKind::{BadNumber, NotUtf8, SurfaceTooLong, TooFewFields};
+use mj_model::SourceKind::{BadNumber, IdOutside, NotUtf8, SurfaceTooLong, TooFewFields};
+use mj_model::{MatrixSizes, Record};
 use std::test::Fail;
 
 #[test]
@@ -203,4 +204,54 @@ fn number_ranges(rt: HostRuntime) {
     for (text, expected) in ids {
         assert_eq!(rt; context_id(text.as_bytes()), expected, "{text}");
     }
+}
+
+/// The sizes of a connection table with three right ids and two left ids.
+const SIZES: MatrixSizes = MatrixSizes { right: 3, left: 2 };
+
+#[test]
+fn sorted_lexicons(rt: HostRuntime) -> Result<(), Fail> {
+    #[rattlefmt::skip]
+    let rows = [
+        // (what, two lexicons, the features in the order of the surfaces)
+        ("no lines",                      "",                          "",              ""),
+        ("bytes, not letters",            "b,0,0,1,x\nB,0,0,1,y\n",    "あ,0,0,1,z\n", "yxz"),
+        ("one surface",                   "a,1,2,9,x\na,0,0,1,y\n",    "a,0,0,5,z\n",  "xyz"),
+        ("a surface that begins another", "ab,0,0,1,x\nabc,0,0,1,y\n", "a,0,0,1,z\n",  "zxy"),
+    ];
+    for (what, first, second, expected) in rows {
+        let mut lexicon = SourceLexicon::new(rt.alloc(), SIZES);
+        lexicon.add(rt.alloc(), first.as_bytes(), 3)?;
+        lexicon.add(rt.alloc(), second.as_bytes(), 4)?;
+        assert_eq!(rt; lexicon.len(), expected.len(), "{what}");
+
+        let sorted = lexicon.sorted()?;
+        assert_eq!(rt; sorted.sizes(), SIZES, "{what}");
+        let mut features = Vec::new(rt.alloc());
+        for entry in sorted.records() {
+            features.extend_from_slice(entry.entry.feature.as_bytes())?;
+        }
+        assert_eq!(rt; features.as_slice(), expected.as_bytes(), "{what}");
+    }
+    Ok(())
+}
+
+#[test]
+fn refused_lexicons_add_nothing(rt: HostRuntime) -> Result<(), Fail> {
+    let mut lexicon = SourceLexicon::new(rt.alloc(), SIZES);
+    lexicon.add(rt.alloc(), b"a,0,0,1,x\n", 3)?;
+    #[rattlefmt::skip]
+    let rows = [
+        // (what, a lexicon, the line, the kind)
+        ("a left id outside",     "b,0,0,1,y\nc,2,0,1,z\n", 2, IdOutside),
+        ("a right id outside",    "b,0,3,1,y\n",            1, IdOutside),
+        ("a bad line behind one", "b,0,0,1,y\nc,0,0,1\n",   2, TooFewFields),
+        ("a line before its ids", "b,9,9,1,y\nc,0,0,x,z\n", 2, BadNumber),
+    ];
+    for (what, bytes, line, kind) in rows {
+        let fault = lexicon.add(rt.alloc(), bytes.as_bytes(), 4).err();
+        assert_eq!(rt; fault, Some(kind.at(4, line)), "{what}");
+        assert_eq!(rt; lexicon.len(), 1, "{what}");
+    }
+    Ok(())
 }

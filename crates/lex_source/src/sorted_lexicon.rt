@@ -1,0 +1,41 @@
+//! Entries in the order of a dictionary.
+ghost use Rattle.std.specs.Prelude.{◌≡◌};
+ghost use Rattle.mj_model.specs.Lexicon.{rows_of};
+ghost use Rattle.lex_source.specs.Lexicons.{AreSortedRows};
+
+use mj_model::{MatrixSizes, Record};
+use std::marker::Model;
+
+/// The entries of a dictionary in the byte order of their surfaces, whose ids lie within the sizes of a connection table.
+#[derive(Drop)]
+pub struct SortedLexicon {
+    pub(crate) sizes: MatrixSizes,
+    pub(crate) records: Vec<Record>,
+}
+
+impl Model for SortedLexicon {
+    ghost use Rattle.lex_source.specs.Lexicons.{AreSortedRows, LexiconRows, entries_in};
+
+    ghost Value = { LexiconRows };
+
+    ghost view = { λ l. entries_in l.sizes l.records.items };
+
+    ghost invariant = { λ l. AreSortedRows (entries_in l.sizes l.records.items) };
+}
+
+impl SortedLexicon {
+    /// The sizes that the ids lie within.
+    pub fn sizes(&self) -> MatrixSizes
+        ensures { result ≡ self.now.sizes }
+    {
+        self.sizes
+    }
+
+    /// The entries.
+    pub fn records(&self) -> &[Record]
+        ensures rows { rows_of result.now ≡ self.now.rows }
+        ensures formed { AreSortedRows self.now }
+    {
+        &self.records
+    }
+}

@@ -1,0 +1,121 @@
+//! Entries in the order of their sources.
+ghost use Rattle.std.specs.Prelude.{◌≡◌, ℕ, [], length, take, IfOk, IfErr, OnErr, option_map};
+ghost use Rattle.mj_model.specs.declared.source_fault.SourceKind.TheVariants.{IdOutside};
+ghost use Rattle.mj_model.specs.Dictionary.{IsInOrder, first_outside};
+ghost use Rattle.mj_model.specs.FirstFault.{IsRefusal};
+ghost use Rattle.mj_model.specs.Lexicon.{rows_of};
+ghost use Rattle.lex_source.specs.Lexicons.{AreSortedOf, entries_in};
+ghost use Rattle.lex_source.specs.AddedLexicon.{AddsLexicon, IsLexiconFault};
+
+use crate::lexicon::read_lexicon;
+use crate::sorted_lexicon::SortedLexicon;
+use mj_model::{MatrixSizes, Record, SourceFault, SourceKind};
+use std::alloc::{AllocError, Global};
+use std::marker::Model;
+
+/// The entries of lexicons in source order, whose ids lie within the sizes of a connection table.
+#[derive(Drop)]
+pub struct SourceLexicon {
+    sizes: MatrixSizes,
+    records: Vec<Record>,
+}
+
+impl Model for SourceLexicon {
+    ghost use Rattle.lex_source.specs.Lexicons.{AreLexiconRows, LexiconRows, entries_in};
+
+    ghost Value = { LexiconRows };
+
+    ghost view = { λ l. entries_in l.sizes l.records.items };
+
+    ghost invariant = { λ l. AreLexiconRows (entries_in l.sizes l.records.items) };
+}
+
+impl SourceLexicon {
+    /// No entries.
+    pub fn new(alloc: Global, sizes: MatrixSizes) -> SourceLexicon
+        ensures { result ≡ record { sizes = sizes; rows = [] } }
+    {
+        SourceLexicon {
+            sizes,
+            records: Vec::new(alloc),
+        }
+    }
+
+    /// How many entries there are.
+    pub fn len(&self) -> usize
+        ensures { result ≡ length self.now.rows }
+    {
+        self.records.len()
+    }
+
+    /// Adds the accepted lines of a lexicon, and answers how many were skipped for their empty surface. `file` is the lexicon's number in a
+    /// fault; what the lines say is looked at before their ids. (MeCab, dic-detail)
+    pub fn add(&mut self, alloc: Global, bytes: &[u8], file: u32) -> Result<u64, SourceFault>
+        ensures added { IfOk result (AddsLexicon file bytes.now self.old self.new) }
+        ensures refused { IfErr result (λ fault. IsRefusal fault
+            (IsLexiconFault file bytes.now self.old fault)) }
+        ensures kept { OnErr result (self.new ≡ self.old) }
+    {
+        let held = self.records.len();
+        let read = append_within(alloc, bytes, file, self.sizes, &mut self.records);
+        if read.is_err() {
+            self.records.truncate(held);
+        }
+        read
+    }
+
+    /// The entries in the byte order of their surfaces, those of one surface in their order. On `Err` memory was refused.
+    pub fn sorted(self) -> Result<SortedLexicon, AllocError>
+        ensures { IfOk result (AreSortedOf self) }
+    {
+        Ok(SortedLexicon {
+            sizes: self.sizes,
+            records: in_order(self.records)?,
+        })
+    }
+}
+
+/// Appends the accepted lines of a lexicon up to the first at fault, then looks at the ids of all that were appended.
+fn append_within(
+    alloc: Global,
+    bytes: &[u8],
+    file: u32,
+    sizes: MatrixSizes,
+    records: &mut Vec<Record>,
+) -> Result<u64, SourceFault>
+    ensures accepted { IfOk result (AddsLexicon file bytes.now (entries_in sizes records.old.items)
+        (entries_in sizes records.new.items)) }
+    ensures refused { IfErr result (λ fault. IsRefusal fault
+        (IsLexiconFault file bytes.now (entries_in sizes records.old.items) fault)) }
+    ensures begins { take (length records.old.items) (rows_of records.new.items)
+        ≡ rows_of records.old.items }
+{
+    let held = records.len();
+    let skipped = read_lexicon(alloc, bytes, file, records)?;
+    match line_outside(&records[held..], sizes) {
+        Some(line) => Err(SourceKind::IdOutside.at(file, line)),
+        None => Ok(skipped),
+    }
+}
+
+/// The line of the first record whose ids lie outside the sizes.
+fn line_outside(records: &[Record], sizes: MatrixSizes) -> Option<u64>
+    ensures { (file : ℕ) → first_outside file sizes (rows_of records.now)
+        ≡ option_map (λ line. record { file = file; line = line; kind = IdOutside }) result }
+{
+    for record in records {
+        let entry = &record.entry;
+        if !sizes.contains(entry.right, entry.left) {
+            return Some(record.line);
+        }
+    }
+    None
+}
+
+/// The records in the byte order of their surfaces, those of one surface in the order given.
+fn in_order(mut records: Vec<Record>) -> Result<Vec<Record>, AllocError>
+    ensures { IfOk result (λ ordered. IsInOrder (rows_of records.items) (rows_of ordered.items)) }
+{
+    records.sort_by(|a, b| a.surface.cmp(&b.surface))?;
+    Ok(records)
+}
