@@ -6,7 +6,7 @@ ghost use Rattle.dict_compile.specs.Compilation.{IsUserCompilation, IsUserCause,
 ghost use Rattle.mj_model.specs.FirstFault.{IsRefusal};
 ghost use Rattle.image_bytes.specs.ImageMeaning.{image_tables};
 ghost use Rattle.mj_model.specs.Tables.{Tables as TablesOf, User};
-ghost use Rattle.matrix_def.specs.Costs.{AreMatrixSizes};
+ghost use Rattle.mj_model.specs.Connection.{AreMatrixSizes};
 ghost use Rattle.dict_compile.specs.Answers.{IsRefusedFor, IsUserRefusedFor, lexicons_of};
 ghost use Rattle.dict_compile.specs.EveryKey.{AnswersKeysOf};
 ghost use Rattle.dict_compile.specs.UserImages.{IsSystemOf};

@@ -4,7 +4,7 @@ ghost use Rattle.std.specs.Prelude.{◌≡◌, IfOk, IfErr};
 ghost use Rattle.mj_model.specs.Lexicon.{rows_of};
 ghost use Rattle.dict_compile.specs.AcceptedRows.{AreLexiconRows};
 ghost use Rattle.image_writer.specs.declared.fault.LexiconFault.TheVariants.{ArrayFull, FeaturesTooLarge};
-ghost use Rattle.matrix_def.specs.Costs.{AreMatrixSizes};
+ghost use Rattle.mj_model.specs.Connection.{AreMatrixSizes};
 ghost use Rattle.dict_compile.specs.Images.{MayLackCells};
 ghost use Rattle.dict_compile.specs.UserImages.{HasTooLarge, IsUserImageOf};
 

@@ -165,7 +165,7 @@ fitting_tables bytes w costs tokens =
       lexicon = groups_fit bytes 0 h.groups w tokens (omega arith);
       unknown = λ i. unknown_by bytes i (ltb i h.categories) w tokens refl;
       connections = λ right left. cost_by (is_pair h.sizes right left) (stored_cost h.sizes (section bytes 1) right left) (cost_within (section bytes 1) (2 * (right * h.sizes.left + left)) costs);
-      no_words = let right = (is_header bytes w).some_right in let left = (is_header bytes w).some_left in pair_from h.sizes 0 0 (omega (arith, right)) (omega (arith, left));
+      no_words = let right = (is_header bytes w).sizes_allowed.right_some in let left = (is_header bytes w).sizes_allowed.left_some in pair_from h.sizes 0 0 (omega (arith, right)) (omega (arith, left));
       surfaces = lexicon_texts bytes w;
       lexicon_apart = lexicon_apart bytes w;
       unknown_apart = λ i. apart_by bytes i (ltb i h.categories);

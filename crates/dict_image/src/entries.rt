@@ -30,7 +30,10 @@ impl<'a> Model for Entries<'a> {
 
     ghost view = { λ it. tokens_from it.tokens.now it.features.now it.next it.end };
 
-    ghost invariant = { λ it. record { order : it.next ≤ it.end; hold : HoldTokens it.tokens.now it.features.now it.end } };
+    ghost invariant = { λ it. record {
+      order : it.next ≤ it.end;
+      hold : HoldTokens it.tokens.now it.features.now it.end;
+    } };
 }
 
 impl<'a> Entries<'a> {

@@ -29,9 +29,14 @@ impl<'a> Model for Prefixes<'a> {
 
     ghost Value = { PrefixesSeen };
 
-    ghost view = { λ it. record { prefixes = map (prefix_in (lexicon_sections it.dict.now)) it.hits.hits; text = it.hits.text; reads = it.hits.reads } };
+    ghost view = { λ it. record {
+      prefixes = map (prefix_in (lexicon_sections it.dict.now)) it.hits.hits;
+      text = it.hits.text;
+      reads = it.hits.reads;
+    } };
 
-    ghost invariant = { λ it. AllByRecursion (λ hit. hit.1 < (header_of it.dict.now).groups) it.hits.hits };
+    ghost invariant = { λ it. AllByRecursion
+        (λ hit. hit.1 < (header_of it.dict.now).groups) it.hits.hits };
 }
 
 impl<'a> Prefixes<'a> {
@@ -57,7 +62,9 @@ impl<'a> Prefixes<'a> {
 impl<'a> Iterator for Prefixes<'a> {
     type Item = (usize, Entries<'a>);
 
-    ghost next_gives = { λ old found new. YieldsFirstBy (λ prefix. (prefix.0, prefix.1)) (λ it. it.prefixes) old found new × (new.text ≡ old.text) };
+    ghost next_gives = { λ old found new.
+        YieldsFirstBy (λ prefix. (prefix.0, prefix.1)) (λ it. it.prefixes) old found new
+        × (new.text ≡ old.text) };
 
     ghost remaining = { item_count (λ it. it.prefixes) };
 

@@ -26,7 +26,11 @@ impl<'a, C: CellRead> Model for Prefixes<'a, C> {
     ghost use Rattle.double_array.specs.Hits.{hits_left};
     ghost use Rattle.double_array.specs.Walking.{IsWalking};
 
-    ghost view = { λ it. record { hits = hits_left (C.cells it.cells.now) it.text.now it.walk; text = it.text.now; reads = it.walk.reads } };
+    ghost view = { λ it. record {
+      hits = hits_left (C.cells it.cells.now) it.text.now it.walk;
+      text = it.text.now;
+      reads = it.walk.reads;
+    } };
 
     ghost invariant = { λ it. IsWalking (C.cells it.cells.now) it.text.now it.walk };
 }
@@ -54,7 +58,9 @@ impl<'a, C: CellRead> Prefixes<'a, C> {
 impl<'a, C: CellRead> Iterator for Prefixes<'a, C> {
     type Item = Hit;
 
-    ghost next_gives = { λ old found new. YieldsFirstBy (λ hit. (hit.length, hit.value)) (λ it. it.hits) old found new × (new.text ≡ old.text) };
+    ghost next_gives = { λ old found new.
+        YieldsFirstBy (λ hit. (hit.length, hit.value)) (λ it. it.hits) old found new
+        × (new.text ≡ old.text) };
 
     ghost remaining = { item_count (λ it. it.hits) };
 

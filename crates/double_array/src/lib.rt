@@ -18,6 +18,7 @@ mod tail;
 mod walk;
 
 pub use cell_read::CellRead;
+pub use cells::CELLS_MAX;
 pub use double_array::DoubleArray;
 pub use fault::DaFault;
 pub use hits::Prefixes;

@@ -1,6 +1,8 @@
 -- The bounds of an image: how many bytes its features have, and how many cells its keys may take.
-use Rattle.std.specs.Prelude.{ℕ, ◌+◌, ◌^◌, not, List, [], ◌∷◌, ◌++◌, length, map, filter, flat_map, sum_by, bytes_eq}
+use Rattle.std.specs.Prelude.{ℕ, ◌+◌, not, List, [], ◌∷◌, ◌++◌, length, map, filter, flat_map, sum_by, bytes_eq}
 use Rattle.std.specs.List.{range_with_len}
+use Rattle.cells.specs.declared.cells.TheConstants.{CELLS_MAX}
+use Rattle.image_bytes.specs.declared.header.TheConstants.{FEATURE_BYTES_END}
 use Rattle.mj_model.specs.Tables.{Tables, Token, Lexeme}
 
 -- the texts of a list, each once
@@ -21,7 +23,7 @@ feature_bytes tokens = sum_by length (each_once (map (λ (t : Token). t.feature)
 
 -- an image has fewer bytes of features than this
 abbrev pub feature_bytes_end : ℕ
-feature_bytes_end = 2 ^ 32
+feature_bytes_end = FEATURE_BYTES_END
 
 -- the most cells that the surfaces of a lexicon may take: 600, and for each surface its length and 600 more
 abbrev pub most_cells : List Lexeme → ℕ
@@ -29,4 +31,4 @@ most_cells lexicon = 600 + sum_by (λ surface. length surface + 600) (each_once 
 
 -- the most cells that an image has
 abbrev pub cells_max : ℕ
-cells_max = 2 ^ 30
+cells_max = CELLS_MAX

@@ -1,11 +1,11 @@
 -- An image's bytes: a header, eight sections without a gap, and in layout 3 a digest. Numbers are little-endian. (The layout is this
 -- project's own.)
-use Rattle.std.specs.Prelude.{ℕ, ◌+◌, ◌*◌, ◌-◌, ◌==◌, if◌then◌else◌, ℤ, List, [], ◌∷◌, take, drop, map, sum, slice_range}
+use Rattle.std.specs.Prelude.{ℕ, ◌+◌, ◌*◌, ◌-◌, ◌==◌, if◌then◌else◌, ℤ, List, take, drop, map, sum, slice_range}
 use Rattle.std.specs.Int.{w16, w32, cast_signed}
 use Rattle.std.specs.List.{range_with_len}
 use Rattle.byteorder.specs.Endian.{little_number}
 use Rattle.image_bytes.specs.declared.header.Header.{Header}
-use Rattle.image_bytes.specs.declared.header.TheConstants.{DIGEST_LENGTH, HEADER_LENGTH}
+use Rattle.image_bytes.specs.declared.header.TheConstants.{DIGEST_LENGTH, HEADER_LENGTH, MAGIC}
 use Rattle.mj_model.specs.Tables.{Kind, System, User}
 
 -- the number in the n bytes from a place on; a byte past the end counts as 0
@@ -21,7 +21,7 @@ signed_4_at bytes at = cast_signed w32 (number_at 4 bytes at)
 
 -- the first 8 bytes of every image: `MJDICT`, CR, LF
 abbrev pub image_magic : List ℕ
-image_magic = 0x4d ∷ 0x4a ∷ 0x44 ∷ 0x49 ∷ 0x43 ∷ 0x54 ∷ 0x0d ∷ 0x0a ∷ []
+image_magic = MAGIC
 
 abbrev pub header_length : ℕ
 header_length = HEADER_LENGTH

@@ -3,7 +3,8 @@ use Rattle.std.specs.Prelude.{◌≡◌, ℕ, ◌*◌, ◌<◌, ◌≤◌, ◌�
 use Rattle.sha2.specs.Sha256.{sha256}
 use Rattle.mj_model.specs.declared.image_fault.ImageFault.{ImageFault}
 use Rattle.mj_model.specs.declared.image_fault.ImageFault.TheVariants.{Truncated, BadMagic, BadLayout, BadSection, BadKey, BadToken, BadText, Digest}
-use Rattle.mj_model.specs.declared.limits.TheConstants.{MATRIX_CELLS_MAX, ENTRIES_MAX, CATEGORIES_MAX}
+use Rattle.mj_model.specs.declared.limits.TheConstants.{ENTRIES_MAX, CATEGORIES_MAX}
+use Rattle.mj_model.specs.Connection.{AreMatrixSizes}
 use Rattle.double_array.specs.CellMap.{Cell}
 use Rattle.image_bytes.specs.declared.header.Header.{Header}
 use Rattle.image_bytes.specs.declared.header.TheConstants.{LAYOUT}
@@ -65,11 +66,7 @@ AreCounts User categories unknown = (categories ≡ 0) × (unknown ≡ 0)
 -- the numbers of a header are within their bounds
 pub record IsHeader (h : Header) : Type 0 where
   pub is_kind : h.kind ≤ 1
-  pub some_right : 1 ≤ h.sizes.right
-  pub few_right : h.sizes.right ≤ 65535
-  pub some_left : 1 ≤ h.sizes.left
-  pub few_left : h.sizes.left ≤ 65535
-  pub few_costs : h.sizes.right * h.sizes.left ≤ MATRIX_CELLS_MAX
+  pub sizes_allowed : AreMatrixSizes h.sizes
   pub counts : AreCounts (kind_of h) h.categories h.unknown
   pub groups_have_tokens : h.groups ≤ h.tokens
   pub few_tokens : h.tokens ≤ ENTRIES_MAX

@@ -17,6 +17,9 @@ pub const HEADER_LENGTH: usize = 104;
 /// How long the digest behind the sections is, in bytes. (FIPS 180-4)
 pub const DIGEST_LENGTH: usize = 32;
 
+/// The features of an image, each once, have fewer bytes than this, so that a place fits 4 bytes.
+pub const FEATURE_BYTES_END: usize = 1 << 32;
+
 /// What the header of an image says behind the magic. Lengths are in bytes, the one of section k at k - 1. (The layout is this project's
 /// own)
 #[derive(Clone, Copy, Debug, Drop)]

@@ -9,7 +9,9 @@ mod numbers;
 mod section;
 
 pub use ends::{section_bytes, section_ends};
-pub use header::{DIGEST_LENGTH, HEADER_LENGTH, Header, LAYOUT, MAGIC, read_header};
+pub use header::{
+    DIGEST_LENGTH, FEATURE_BYTES_END, HEADER_LENGTH, Header, LAYOUT, MAGIC, read_header,
+};
 pub use image_cells::ImageCells;
 pub use numbers::{i16_at, i32_at, u16_at, u32_at, u64_at};
 pub use section::Section;

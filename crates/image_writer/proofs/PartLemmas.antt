@@ -13,7 +13,7 @@ use Rattle.image_writer.specs.Frames.{IsFramed}
 use Rattle.image_writer.specs.declared.lexicon.LexiconBytes.{LexiconBytes}
 use Rattle.image_writer.specs.Entries.{all_rows}
 use Rattle.image_writer.specs.Sections.{AreSections}
-use Rattle.matrix_def.specs.Costs.{AreMatrixSizes}
+use Rattle.mj_model.specs.Connection.{AreMatrixSizes}
 use Rattle.image_writer.specs.Ids.{AreWithin, IsWithin}
 use Rattle.image_writer.proofs.FormedLemmas.{eight_of, at, formed_of, header_with, part_tests}
 use Rattle.image_writer.proofs.RowLemmas.{count_all, each_row, some_row}
@@ -65,11 +65,7 @@ module _ (number : ℕ) (sizes : MatrixSizes) (count : ℕ) (rows : List Row) (u
     is_header : (lengths : List ℕ) → IsHeader (header_with numbers lengths)
     is_header lengths = record {
       is_kind = parts.is_kind;
-      some_right = parts.sizes_fit.right_some;
-      few_right = parts.sizes_fit.right_most;
-      some_left = parts.sizes_fit.left_some;
-      few_left = parts.sizes_fit.left_most;
-      few_costs = parts.sizes_fit.few;
+      sizes_allowed = parts.sizes_fit;
       counts = parts.counts;
       groups_have_tokens = parts.lexicon.few_groups;
       few_tokens = parts.few;

@@ -12,7 +12,7 @@ use Rattle.image_writer.specs.Frames.{IsFramed}
 use Rattle.image_writer.specs.declared.lexicon.LexiconBytes.{LexiconBytes}
 use Rattle.image_writer.specs.Entries.{lexemes_of, tokens_of}
 use Rattle.image_writer.specs.Sections.{AreSections}
-use Rattle.matrix_def.specs.Costs.{AreMatrixSizes}
+use Rattle.mj_model.specs.Connection.{AreMatrixSizes}
 use Rattle.image_writer.specs.Ids.{AreWithin}
 use Rattle.image_writer.specs.UserImages.{IsUserImage}
 use Rattle.image_writer.proofs.FormedLemmas.{at, from_parts}

@@ -7,7 +7,7 @@ ghost use Rattle.mj_model.specs.Lexicon.{rows_of};
 ghost use Rattle.mj_model.specs.declared.limits.TheConstants.{ENTRIES_MAX as EntriesMax};
 ghost use Rattle.image_writer.specs.Entries.{HasKeySurface};
 ghost use Rattle.image_writer.specs.Refusals.{FullOnlyFor, LargeOnlyFor};
-ghost use Rattle.matrix_def.specs.Costs.{AreMatrixSizes};
+ghost use Rattle.mj_model.specs.Connection.{AreMatrixSizes};
 ghost use Rattle.image_writer.specs.Ids.{AreWithin};
 ghost use Rattle.image_writer.specs.UserImages.{IsUserImage};
 

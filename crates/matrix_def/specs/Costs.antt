@@ -1,8 +1,7 @@
 -- A table of connection costs.
-use Rattle.std.specs.Prelude.{◌≡◌, ℕ, ◌+◌, ◌*◌, ◌<◌, ◌≤◌, ℤ, pos, neg_ℤ, ◌≤ℤ◌, IsTrue, if◌then◌else◌, List, length, slice_index_or, Ok}
-use Rattle.mj_model.specs.declared.limits.TheConstants.{MATRIX_CELLS_MAX}
+use Rattle.std.specs.Prelude.{◌≡◌, ℕ, ◌+◌, ◌*◌, ◌≤◌, ℤ, pos, neg_ℤ, ◌≤ℤ◌, IsTrue, if◌then◌else◌, List, length, slice_index_or, Ok}
 use Rattle.mj_model.specs.declared.matrix_sizes.MatrixSizes.{MatrixSizes}
-use Rattle.mj_model.specs.Connection.{Connection, connection_cost, connection_of, is_pair}
+use Rattle.mj_model.specs.Connection.{AreMatrixSizes, Connection, connection_cost, connection_of, is_pair}
 
 -- the sizes, and the costs of one right id after another
 pub record CostTable : Type 0 where
@@ -24,14 +23,6 @@ cost_of m right left = if is_pair m.sizes right left then matrix_cost m right le
 -- a cost of 16 bits with a sign
 abbrev pub IsCost : ℤ → Type 0
 IsCost z = (neg_ℤ (pos 32768) ≤ℤ z) × (z ≤ℤ pos 32767)
-
--- sizes from 1 to 65,535, with at most `MATRIX_CELLS_MAX` pairs of ids
-pub record AreMatrixSizes (sizes : MatrixSizes) : Type 0 where
-  pub right_some : 0 < sizes.right
-  pub right_most : sizes.right ≤ 65535
-  pub left_some : 0 < sizes.left
-  pub left_most : sizes.left ≤ 65535
-  pub few : sizes.right * sizes.left ≤ MATRIX_CELLS_MAX
 
 -- a cost of 16 bits for each pair
 pub record IsMatrix (m : CostTable) : Type 0 where

@@ -1,7 +1,7 @@
 //! The connection costs.
 ghost use Rattle.std.specs.Prelude.{◌≡◌, ◌<◌, ◌+◌, ◌*◌, pos, replicate, slice_set, IsTrue, IfOk};
-ghost use Rattle.mj_model.specs.Connection.{is_pair};
-ghost use Rattle.matrix_def.specs.Costs.{AreMatrixSizes, CostTable, IsMatrix, cell_at, matrix_cost};
+ghost use Rattle.mj_model.specs.Connection.{AreMatrixSizes, is_pair};
+ghost use Rattle.matrix_def.specs.Costs.{CostTable, IsMatrix, cell_at, matrix_cost};
 
 use mj_model::MatrixSizes;
 use std::alloc::{AllocError, Global};

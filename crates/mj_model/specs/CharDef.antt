@@ -8,7 +8,7 @@ use Rattle.std.specs.Option.{option_or, option_map_or}
 use Rattle.std.specs.Str.{is_utf8}
 use Rattle.mj_model.specs.declared.category.Category.{Category}
 use Rattle.mj_model.specs.declared.category.CharInfo.{CharInfo}
-use Rattle.mj_model.specs.declared.limits.TheConstants.{CATEGORIES_MAX}
+use Rattle.mj_model.specs.declared.limits.TheConstants.{CATEGORIES_MAX, CATEGORY_LENGTH_MAX, CATEGORY_NAME_MAX, CODE_POINT_MAX}
 use Rattle.mj_model.specs.declared.source_fault.TheConstants.{CHAR_FILE}
 use Rattle.mj_model.specs.declared.source_fault.SourceFault.{SourceFault}
 use Rattle.mj_model.specs.declared.source_fault.SourceKind.{SourceKind}
@@ -55,9 +55,9 @@ begins_comment word = starts_with (λ a b. a == b) word (hash ∷ [])
 abbrev pub words_before_comment : List ℕ → List (List ℕ)
 words_before_comment line = take_while (λ word. not (begins_comment word)) (words_of line)
 
--- a word that may be the name of a category: UTF-8 of at most 255 bytes
+-- a word that may be the name of a category: UTF-8 of at most `CATEGORY_NAME_MAX` bytes
 abbrev pub is_name : List ℕ → Bool
-is_name word = nat_le (length word) 255 && is_utf8 word
+is_name word = nat_le (length word) CATEGORY_NAME_MAX && is_utf8 word
 
 -- INVOKE or GROUP: 0 or 1
 abbrev pub flag : List ℕ → Option Bool
@@ -65,7 +65,7 @@ flag word = option_map (λ n. n == 1) (natural_in 1 word)
 
 -- LENGTH
 abbrev pub category_length : List ℕ → Option ℕ
-category_length word = natural_in 15 word
+category_length word = natural_in CATEGORY_LENGTH_MAX word
 
 -- INVOKE, GROUP and LENGTH
 abbrev pub category_of : List ℕ → List ℕ → List ℕ → Option Category
@@ -106,7 +106,7 @@ hexadecimal text = if begins_with_hex text then hex_digits (drop (length hex_pre
 
 -- the greatest code point
 abbrev pub code_point_max : ℕ
-code_point_max = 0x10FFFF
+code_point_max = CODE_POINT_MAX
 
 -- a range within Unicode
 abbrev pub range_from : ℕ → ℕ → Option Range
@@ -258,9 +258,9 @@ categories_of source = map (λ (c : NamedCategory). c.category) source.categorie
 
 -- a category that an image may hold
 pub record IsStorable (c : NamedCategory) : Type 0 where
-  pub length_within : c.category.length ≤ 15
+  pub length_within : c.category.length ≤ CATEGORY_LENGTH_MAX
   pub name_some : 1 ≤ length c.name
-  pub name_short : length c.name ≤ 255
+  pub name_short : length c.name ≤ CATEGORY_NAME_MAX
   pub name_is_text : IsUtf8 c.name
 
 -- of this many categories, the first one is in the set, and the set has no others

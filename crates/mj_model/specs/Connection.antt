@@ -1,9 +1,9 @@
 -- Connection costs, as `matrix.def` lists them (MeCab): two sizes, then rows of the right id of the word before, the left id of the
 -- word behind it, and the cost of setting them so.
-use Rattle.std.specs.Prelude.{ℕ, ◌*◌, ℤ, pos, Bool, not, ◌==◌, ◌&&◌, nat_lt, nat_le, if◌then◌else◌, List, [], ◌∷◌, length, filter, filter_map, find, reverse, Option, Some, None, option_and_then, option_map, Result, Ok, Err}
+use Rattle.std.specs.Prelude.{ℕ, ◌*◌, ◌<◌, ◌≤◌, ℤ, pos, Bool, not, ◌==◌, ◌&&◌, nat_lt, nat_le, if◌then◌else◌, List, [], ◌∷◌, length, filter, filter_map, find, reverse, Option, Some, None, option_and_then, option_map, Result, Ok, Err}
 use Rattle.std.specs.List.{slice_split}
 use Rattle.std.specs.Option.{option_map_or}
-use Rattle.mj_model.specs.declared.limits.TheConstants.{MATRIX_CELLS_MAX}
+use Rattle.mj_model.specs.declared.limits.TheConstants.{MATRIX_CELLS_MAX, MATRIX_SIZE_MAX}
 use Rattle.mj_model.specs.declared.matrix_sizes.MatrixSizes.{MatrixSizes}
 use Rattle.mj_model.specs.declared.source_fault.TheConstants.{MATRIX_FILE}
 use Rattle.mj_model.specs.declared.source_fault.SourceFault.{SourceFault}
@@ -28,9 +28,17 @@ pub record Connection : Type 0 where
   pub sizes : MatrixSizes
   pub cells : List Cell
 
--- a size: a number from 1 to 65,535
+-- sizes that a connection table may have
+pub record AreMatrixSizes (sizes : MatrixSizes) : Type 0 where
+  pub right_some : 0 < sizes.right
+  pub right_most : sizes.right ≤ MATRIX_SIZE_MAX
+  pub left_some : 0 < sizes.left
+  pub left_most : sizes.left ≤ MATRIX_SIZE_MAX
+  pub few : sizes.right * sizes.left ≤ MATRIX_CELLS_MAX
+
+-- a size: a number from 1 to `MATRIX_SIZE_MAX`
 abbrev pub size : List ℕ → Option ℕ
-size word = option_and_then (λ n. if nat_lt 0 n then Some n else None) (natural_in 65535 word)
+size word = option_and_then (λ n. if nat_lt 0 n then Some n else None) (natural_in MATRIX_SIZE_MAX word)
 
 -- the words of a header
 abbrev pub sizes_from : List (List ℕ) → Option MatrixSizes

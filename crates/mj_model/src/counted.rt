@@ -54,7 +54,12 @@ impl<T: Read> Read for Counted<T> {
 }
 
 impl<T: Read> TextIn for Counted<T> {
-    ghost told = { λ c. record { left = T.remaining c.inner; reads = c.reads; ends = c.ends; failures = c.failures } };
+    ghost told = { λ c. record {
+      left = T.remaining c.inner;
+      reads = c.reads;
+      ends = c.ends;
+      failures = c.failures;
+    } };
 
     fn read_counted(&mut self, buf: &mut [u8]) -> io::Result<usize> {
         let room = buf.len();
@@ -96,7 +101,11 @@ impl<T: Write> Write for Counted<T> {
 }
 
 impl<T: Write> TextOut for Counted<T> {
-    ghost told = { λ c. record { held = T.contents c.inner; failures = c.failures; unflushed = c.unflushed } };
+    ghost told = { λ c. record {
+      held = T.contents c.inner;
+      failures = c.failures;
+      unflushed = c.unflushed;
+    } };
 
     fn write_counted(&mut self, buf: &[u8]) -> io::Result<usize> {
         let result = self.inner.write(buf);

@@ -27,8 +27,9 @@ pub use format_fault::{FormatFault, FormatKind, FormatPart};
 pub use format_item::FormatItem;
 pub use image_fault::ImageFault;
 pub use limits::{
-    CATEGORIES_MAX, ENTRIES_MAX, GROUPING_DEFAULT, GROUPING_MAX, MATRIX_CELLS_MAX, READS_MAX,
-    SENTENCE_MAX, SURFACE_MAX,
+    CATEGORIES_MAX, CATEGORY_LENGTH_MAX, CATEGORY_NAME_MAX, CODE_POINT_MAX, ENTRIES_MAX,
+    GROUPING_DEFAULT, GROUPING_MAX, MATRIX_CELLS_MAX, MATRIX_SIZE_MAX, READS_MAX, SENTENCE_MAX,
+    SURFACE_MAX,
 };
 pub use matrix_sizes::MatrixSizes;
 pub use named_fault::NamedFault;

@@ -3,6 +3,7 @@ ghost use Rattle.std.specs.Prelude.{◌↔◌, IsTrue};
 ghost use Rattle.image_bytes.specs.ImageSections.{AreCategories};
 ghost use Rattle.dict_image.specs.Checks.{IsPastCategory};
 
+use mj_model::CATEGORY_LENGTH_MAX;
 use simdutf8::is_utf8;
 
 /// Whether the bytes are so many categories and nothing else.
@@ -29,7 +30,7 @@ fn past_category(bytes: &[u8]) -> Option<&[u8]>
     let end = 4 + usize::from(name_length);
     if invoke <= 1
         && group <= 1
-        && length <= 15
+        && length <= CATEGORY_LENGTH_MAX
         && name_length >= 1
         && end <= bytes.len()
         && is_utf8(&bytes[4..end])

@@ -7,10 +7,7 @@ ghost use Rattle.dict_image.specs.Checks.{PassOrTell};
 ghost use Rattle.dict_image.specs.Stages.{header_tests};
 
 use image_bytes::Header;
-use mj_model::{CATEGORIES_MAX, ENTRIES_MAX, ImageFault, MATRIX_CELLS_MAX};
-
-/// The most ids of a side of the connection table.
-const SIZE_MAX: u32 = 65_535;
+use mj_model::{CATEGORIES_MAX, ENTRIES_MAX, ImageFault};
 
 /// The test of the header's numbers.
 pub(crate) fn check_header(header: &Header) -> Result<(), ImageFault>
@@ -36,11 +33,7 @@ fn is_header(header: &Header) -> bool
         ..
     } = *header;
     kind <= 1
-        && sizes.right >= 1
-        && sizes.right <= SIZE_MAX
-        && sizes.left >= 1
-        && sizes.left <= SIZE_MAX
-        && u64::from(sizes.right) * u64::from(sizes.left) <= MATRIX_CELLS_MAX
+        && sizes.are_allowed()
         && are_counts(header)
         && groups <= tokens
         && tokens as usize <= ENTRIES_MAX

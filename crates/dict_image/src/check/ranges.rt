@@ -5,9 +5,7 @@ ghost use Rattle.mj_model.specs.CharDef.{IsInfoOf};
 ghost use Rattle.dict_image.specs.Checks.{AreRangesOf, FirstsRise};
 
 use image_bytes::u32_at;
-
-/// The highest code point of Unicode.
-const CODE_POINT_MAX: u32 = 0x10_FFFF;
+use mj_model::CODE_POINT_MAX;
 
 /// Whether ranges of 8 bytes, the first from code point 0 and each further one behind the one before it, name categories below a
 /// number of at most 18.

@@ -5,12 +5,9 @@ ghost use Rattle.dict_image.specs.Checks.{HoldEachAt, HoldGroupsAt};
 ghost use Rattle.dict_image.specs.Values.{IsRoot, HoldEach, IsScanned};
 
 use crate::check::cell::{Role, Signed, read_cell, role_of};
-use double_array::CellRead;
+use double_array::{CELLS_MAX, CellRead};
 use image_bytes::ImageCells;
 use std::alloc::{AllocError, Global};
-
-/// The most cells of an image.
-const CELLS_MAX: usize = 1 << 30;
 
 /// Where each group's value stands, if the bytes are cells that meet the rules and hold each group once.
 pub(crate) fn value_places(
