@@ -13,13 +13,14 @@ use Rattle.std.proofs.lemmas.Str.{IsUtf8-from_is_utf8}
 use Rattle.mj_model.specs.declared.source_fault.SourceKind.TheVariants.{NoDefault, NoSpace, UndefinedCategory, BadLine}
 use Rattle.mj_model.specs.declared.category.Category.{Category}
 use Rattle.mj_model.specs.declared.category.CharInfo.{CharInfo}
+use Rattle.mj_model.specs.declared.limits.TheConstants.{CATEGORIES_MAX}
 use Rattle.mj_model.specs.Bytes.{is_blank}
 use Rattle.mj_model.specs.CharDef.{IsInfoOf, IsStorable, NamedCategory, CharSource, Mapping, Range, CharLine, Nothing, Defines, Maps, Bad, begins_with_hex, words_before_comment, char_line, line_from, mapping_line, mapping_or, range_of, category_or, category_from, category_of, category_length, flag, named, is_name, defined_by, mapped_by, is_defined, category_number, category_bits, mapping_fault, default_name, space_name, unless_defined, source_from, whole_fault, char_source, first_bad_line, info_of_names, covers, char_info, is_named, source_unless}
 use Rattle.mj_model.specs.Connection.{words_of}
 use Rattle.mj_model.specs.FirstFault.{first_fault, fault_or}
 use Rattle.mj_model.specs.Lines.{numbered_lines}
 use Rattle.mj_model.specs.Numbers.{number}
-use Rattle.char_def.specs.Categories.{CharCategories, IsTableOf, table_info, HasFirstCategories}
+use Rattle.char_def.specs.Categories.{CharCategories, IsCategoryTable, IsTableOf, table_info}
 use Rattle.std.proofs.lemmas.List.{reverse-append}
 use Rattle.std.proofs.lemmas.List.Folds.{Any-from_list_any}
 use Rattle.mj_model.specs.declared.source_fault.SourceFault.{SourceFault}
@@ -257,5 +258,9 @@ table_infos_fit bytes source table h is code =
     subst (λ (i : CharInfo). IsInfoOf (length table.categories) i) (sym (is.infos code))
     (subst (λ (cs : List NamedCategory). IsInfoOf (length cs) (char_info source code)) (sym is.categories) (infos_fit bytes source h code))
 
-pub first_categories : (bytes : List ℕ) (source : CharSource) (table : CharCategories) → char_source bytes ≡ Ok source → IsTableOf source table → HasFirstCategories table
-first_categories bytes source table h is = λ code. (table_infos_fit bytes source table h is code).first_below
+-- what holds of the table
+pub table_formed : (bytes : List ℕ) (source : CharSource) (table : CharCategories) → char_source bytes ≡ Ok source → IsTableOf source table → length table.categories ≤ CATEGORIES_MAX → IsCategoryTable table
+table_formed bytes source table h is few =
+    let infos = table_infos_fit bytes source table h is in
+    let low = (infos 0).first_below in
+    record { some = omega (arith, low); few = few; storable = table_storable bytes source table h is; infos = infos }

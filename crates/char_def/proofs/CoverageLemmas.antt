@@ -51,7 +51,7 @@ info_at before (s ∷ ss) (suc n) code d in' reached behind =
     cond-false (nat_lt code s.first) before (info_from s.info ss code) (le-ltb code s.first (reached 0 (omega arith)))
     ∙ info_at s.info ss n code d (omega arith) (λ k h. reached (suc k) (omega arith)) (λ k low h. behind (suc k) (omega arith) (omega arith))
 
-from_on : (from : ℕ) (steps : List Step) (i : ℕ) (d : Step) → AreRising from steps → i < length steps → from ≤ (get_or steps i d).first
+pub from_on : (from : ℕ) (steps : List Step) (i : ℕ) (d : Step) → AreRising from steps → i < length steps → from ≤ (get_or steps i d).first
 from_on from [] i d rise in' = absurd (omega arith)
 from_on from (s ∷ ss) zero d rise in' = rise.0
 from_on from (s ∷ ss) (suc i) d rise in' = let h : s.first + 1 ≤ (get_or ss i d).first = from_on (s.first + 1) ss i d rise.1 (omega arith) in omega (arith, rise.0)

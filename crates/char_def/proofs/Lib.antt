@@ -7,3 +7,5 @@ pub mod UnkLemmas
 pub mod OutsideLemmas
 pub mod UnkFaults
 pub mod AcceptedChars
+pub mod AcceptedUnk
+pub mod RangeLemmas

@@ -1,15 +1,15 @@
 -- Names of categories, on lines and among the categories.
-use Rattle.std.proofs.Common.{◌≡◌, ℕ, ◌<◌, ◌≤◌, ◌*◌, ◌%◌, ◌^◌, Bool, true, false, ◌&&◌, List, [], ◌∷◌, length, get_or, refl, sym, ◌∙◌, ap, arith, Option, Some}
-use Rattle.std.specs.Prelude.{nat_lt, bit_or, fold}
+use Rattle.std.proofs.Common.{◌≡◌, ℕ, ◌<◌, ◌≤◌, ◌*◌, ◌%◌, ◌^◌, Bool, true, false, ◌&&◌, List, [], ◌∷◌, length, get_or, refl, sym, ◌∙◌, ap, arith}
+use Rattle.std.specs.Prelude.{bit_or, fold}
 use Rattle.std.specs.List.{list_all}
 use Rattle.std.specs.Str.{IsUtf8, is_utf8}
-use Rattle.std.proofs.lemmas.Bool.{le-leb, false_from_ne_true, and_parts, cond-true}
+use Rattle.std.proofs.lemmas.Bool.{le-leb, false_from_ne_true}
 use Rattle.std.proofs.lemmas.List.{get_or-map, length-map}
 use Rattle.std.proofs.lemmas.List.Folds.{list_any_at, list_any_none}
 use Rattle.std.proofs.lemmas.List.Sums.{position_or_len_is}
 use Rattle.std.proofs.lemmas.Nat.{one_shl}
 use Rattle.std.proofs.lemmas.Str.{IsUtf8-from_is_utf8, is_utf8-from_IsUtf8}
-use Rattle.mj_model.specs.CharDef.{NamedCategory, Range, Maps, is_name, is_named, is_defined, category_number, mapping_line, mapping_or, range_of}
+use Rattle.mj_model.specs.CharDef.{NamedCategory, is_name, is_named, is_defined, category_number}
 use Rattle.char_def.specs.declared.definitions.Definition.{Definition}
 use Rattle.char_def.specs.Definitions.{definition_is, definitions_are, HasNumber}
 
@@ -18,21 +18,6 @@ a_name word short utf8 = ap (λ (b : Bool). b && is_utf8 word) (le-leb (length w
 
 pub no_name : (word : List ℕ) → length word ≤ 255 → (IsUtf8 word → ⊥) → is_name word ≡ false
 no_name word short not_text = ap (λ (b : Bool). b && is_utf8 word) (le-leb (length word) 255 short) ∙ false_from_ne_true (is_utf8 word) (λ h. not_text (IsUtf8-from_is_utf8 word h))
-
--- a mapping line with names and a range
-pub a_mapping : (range : List ℕ) (checked names : List (List ℕ)) (r : Range) → checked ≡ names → (nat_lt 0 (length checked) && list_all is_name checked) ≡ true → range_of range ≡ Some r
-    → (first : List ℕ) × (others : List (List ℕ)) × (names ≡ first ∷ others) × (mapping_line range names ≡ Maps (record { range = r; first = first; others = others }))
-a_mapping range checked [] r same ok is =
-    let e : (nat_lt 0 (length {A = List ℕ} []) && list_all is_name []) ≡ true = sym (ap (λ (ws : List (List ℕ)). nat_lt 0 (length ws) && list_all is_name ws) same) ∙ ok in
-    absurd (cc)
-a_mapping range checked (first ∷ others) r same ok is =
-    let e : list_all is_name (first ∷ others) ≡ true = (and_parts (nat_lt 0 (length (first ∷ others))) (list_all is_name (first ∷ others))
-    (sym (ap (λ (ws : List (List ℕ)). nat_lt 0 (length ws) && list_all is_name ws) same) ∙ ok)).1 in (
-      first,
-      others,
-      refl,
-      cond-true (list_all is_name (first ∷ others)) (mapping_or (range_of range) first others) (mapping_line range []) e ∙ ap (λ (found : Option Range). mapping_or found first others) is,
-    )
 
 -- the first definition of a name
 pub has_number : (items : List Definition) (name : List ℕ) (i : ℕ) (d : Definition) → i < length items → ((k : ℕ) (d : Definition) → k < i → is_named name (definition_is (get_or items k d)) ≡ false)

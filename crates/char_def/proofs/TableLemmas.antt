@@ -5,12 +5,45 @@ use Rattle.std.specs.Option.{option_or, option_map_or}
 use Rattle.std.proofs.lemmas.List.{reverse-append, map-append}
 use Rattle.mj_model.specs.declared.source_fault.SourceFault.{SourceFault}
 use Rattle.mj_model.specs.declared.source_fault.SourceKind.TheVariants.{NoDefault, NoSpace}
-use Rattle.mj_model.specs.FirstFault.{IsRefusal, first_fault}
-use Rattle.mj_model.specs.CharDef.{NamedCategory, Mapping, CharSource, covers, info_of_names, char_line, default_name, space_name, first_bad_line, mapping_fault, unless_defined, whole_fault, source_from, source_unless, char_source_from}
+use Rattle.mj_model.specs.FirstFault.{IsRefusal, fault_or, first_fault}
+use Rattle.mj_model.specs.CharDef.{NamedCategory, Mapping, CharSource, CharLine, Nothing, Defines, Maps, Bad, mapped_by, covers, info_of_names, char_line, default_name, space_name, first_bad_line, mapping_fault, unless_defined, whole_fault, source_from, source_unless, char_source_from}
 use Rattle.char_def.specs.declared.mapped.MappedRange.{MappedRange}
 use Rattle.char_def.specs.declared.overlay.Step.{Step}
 use Rattle.char_def.specs.Mapped.{Said, said, said_by, is_said_of, last_said, IsCoverage}
+use Rattle.char_def.specs.CharLines.{all_said, first_undefined, numbered_mappings}
 use Rattle.char_def.specs.Categories.{default_info, info_or, IsTableOf}
+
+-- ---- the mappings, each with the number of its line
+
+undefined_by : (categories : List NamedCategory) (number : ℕ) (line : CharLine) (others : List (ℕ × Mapping))
+    → first_undefined categories (map (λ (m : Mapping). (number, m)) (mapped_by line) ++ others) ≡ fault_or 1 number (mapping_fault categories line) (first_undefined categories others)
+undefined_by categories number Nothing others = refl
+undefined_by categories number (Defines category) others = refl
+undefined_by categories number (Maps mapping) others = refl
+undefined_by categories number (Bad kind) others = refl
+
+undefined_in : (categories : List NamedCategory) (lines : List (ℕ × List ℕ)) → first_undefined categories (numbered_mappings lines) ≡ first_fault 1 (λ line. mapping_fault categories (char_line line)) lines
+undefined_in categories [] = refl
+undefined_in categories (line ∷ lines) =
+    undefined_by categories line.0 (char_line line.1) (numbered_mappings lines) ∙ ap (fault_or 1 line.0 (mapping_fault categories (char_line line.1))) (undefined_in categories lines)
+
+undefined_before : (categories : List NamedCategory) (mappings : List (ℕ × Mapping)) (lines : List (ℕ × List ℕ)) → mappings ≡ numbered_mappings lines
+    → first_fault 1 (λ line. mapping_fault categories (char_line line)) lines ≡ first_undefined categories mappings
+undefined_before categories mappings lines kept = sym (ap (first_undefined categories) kept ∙ undefined_in categories lines)
+
+said_by_line : (categories : List NamedCategory) (number : ℕ) (line : CharLine) (others : List (ℕ × Mapping))
+    → all_said categories (map (λ (m : Mapping). (number, m)) (mapped_by line) ++ others) ≡ map (said categories) (mapped_by line) ++ all_said categories others
+said_by_line categories number Nothing others = refl
+said_by_line categories number (Defines category) others = refl
+said_by_line categories number (Maps mapping) others = refl
+said_by_line categories number (Bad kind) others = refl
+
+said_in : (categories : List NamedCategory) (lines : List (ℕ × List ℕ)) → all_said categories (numbered_mappings lines) ≡ map (said categories) (source_from lines).mappings
+said_in categories [] = refl
+said_in categories (line ∷ lines) =
+    said_by_line categories line.0 (char_line line.1) (numbered_mappings lines)
+    ∙ ap (λ (others : List Said). map (said categories) (mapped_by (char_line line.1)) ++ others) (said_in categories lines)
+    ∙ sym (map-append (said categories) (mapped_by (char_line line.1)) (source_from lines).mappings)
 
 -- ---- the fault of the file
 
@@ -29,13 +62,13 @@ fault_of_mappings lines categories f =
     ∙ ap (λ (o : Option SourceFault). option_or o (option_or (unless_defined categories space_name NoSpace) (first_fault 1 (λ line. mapping_fault categories (char_line line)) lines))) f.default_there
     ∙ ap (λ (o : Option SourceFault). option_or o (first_fault 1 (λ line. mapping_fault categories (char_line line)) lines)) f.space_there
 
-pub mapping_refused : (lines : List (ℕ × List ℕ)) (categories : List NamedCategory) (fault : SourceFault) → first_bad_line [] lines ≡ None → categories ≡ (source_from lines).categories
+pub mapping_refused : (lines : List (ℕ × List ℕ)) (categories : List NamedCategory) (mappings : List (ℕ × Mapping)) (fault : SourceFault) → first_bad_line [] lines ≡ None → categories ≡ (source_from lines).categories
     → unless_defined categories default_name NoDefault ≡ None → unless_defined categories space_name NoSpace ≡ None
-    → IsRefusal fault (first_fault 1 (λ line. mapping_fault categories (char_line line)) lines ≡ Some fault) → IsRefusal fault (char_source_from lines ≡ Err fault)
-mapping_refused lines categories fault fine are d s (inl memory) = inl memory
-mapping_refused lines categories fault fine are d s (inr cause) =
+    → mappings ≡ numbered_mappings lines → IsRefusal fault (first_undefined categories mappings ≡ Some fault) → IsRefusal fault (char_source_from lines ≡ Err fault)
+mapping_refused lines categories mappings fault fine are d s kept (inl memory) = inl memory
+mapping_refused lines categories mappings fault fine are d s kept (inr cause) =
     inr (ap (λ (o : Option SourceFault). source_unless o (source_from lines))
-    (fault_of_mappings lines categories (record { lines_fine = fine; categories_are = are; default_there = d; space_there = s }) ∙ cause))
+    (fault_of_mappings lines categories (record { lines_fine = fine; categories_are = are; default_there = d; space_there = s }) ∙ undefined_before categories mappings lines kept ∙ cause))
 
 -- ---- the categories of a code point
 
@@ -72,13 +105,13 @@ table_of lines categories mapped steps are mappings_are covered = record {
       ∙ ap (λ (cs : List NamedCategory). option_map_or (λ (m : Mapping). info_of_names cs m.first m.others) (find (covers code) (reverse (source_from lines).mappings)) (info_of_names cs default_name [])) are;
 }
 
-pub table_read : (lines : List (ℕ × List ℕ)) (categories : List NamedCategory) (mapped : List MappedRange) (steps : List Step) → first_bad_line [] lines ≡ None → categories ≡ (source_from lines).categories
+pub table_read : (lines : List (ℕ × List ℕ)) (categories : List NamedCategory) (mappings : List (ℕ × Mapping)) (mapped : List MappedRange) (steps : List Step) → first_bad_line [] lines ≡ None → categories ≡ (source_from lines).categories
     → unless_defined categories default_name NoDefault ≡ None → unless_defined categories space_name NoSpace ≡ None
-    → first_fault 1 (λ line. mapping_fault categories (char_line line)) lines ≡ None → map said_by mapped ≡ map (said categories) (source_from lines).mappings → IsCoverage (map said_by mapped) steps
+    → mappings ≡ numbered_mappings lines → first_undefined categories mappings ≡ None → map said_by mapped ≡ all_said categories mappings → IsCoverage (map said_by mapped) steps
     → (source : CharSource) × (char_source_from lines ≡ Ok source) × IsTableOf source (record { categories = categories; steps = steps })
-table_read lines categories mapped steps fine are d s named mappings_are covered = (
+table_read lines categories mappings mapped steps fine are d s kept named all covered = (
   source_from lines,
   ap (λ (o : Option SourceFault). source_unless o (source_from lines))
-      (fault_of_mappings lines categories (record { lines_fine = fine; categories_are = are; default_there = d; space_there = s }) ∙ named),
-  table_of lines categories mapped steps are mappings_are covered,
+      (fault_of_mappings lines categories (record { lines_fine = fine; categories_are = are; default_there = d; space_there = s }) ∙ undefined_before categories mappings lines kept ∙ named),
+  table_of lines categories mapped steps are (all ∙ ap (all_said categories) kept ∙ said_in categories lines) covered,
 )

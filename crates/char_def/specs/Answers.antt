@@ -1,23 +1,21 @@
 -- What the readers of `char.def` and `unk.def` answer.
-use Rattle.std.specs.Prelude.{◌≡◌, ◌⊎◌, ℕ, ◌≤◌, ◌++◌, true, false, List, [], ◌∷◌, map, Option, Some, None, Result, Ok, slice_set, slice_index_or, MatchOption, MatchResult}
+use Rattle.std.specs.Prelude.{◌≡◌, ◌⊎◌, ℕ, ◌≤◌, ◌++◌, true, false, List, [], ◌∷◌, Option, Some, None, Result, Ok, slice_set, slice_index_or, MatchOption, MatchResult}
 use Rattle.std.specs.Borrow.{Bor}
 use Rattle.std.specs.List.{list_all}
 use Rattle.mj_model.specs.declared.category.CharInfo.{CharInfo}
 use Rattle.mj_model.specs.declared.source_fault.SourceFault.{SourceFault}
 use Rattle.mj_model.specs.declared.source_fault.SourceKind.{SourceKind}
 use Rattle.mj_model.specs.declared.source_fault.SourceKind.TheVariants.{Memory}
-use Rattle.mj_model.specs.declared.source_fault.TheConstants.{CHAR_FILE, UNK_FILE}
-use Rattle.mj_model.specs.CharDef.{NamedCategory, CharSource, char_line, char_source, info_of_names, is_defined, is_name, line_fault, mapped_by, mapping_fault, range_from, range_of, source_from, unless_defined}
-use Rattle.mj_model.specs.FirstFault.{first_fault}
+use Rattle.mj_model.specs.declared.source_fault.TheConstants.{UNK_FILE}
+use Rattle.mj_model.specs.CharDef.{CharLine, NamedCategory, CharSource, char_source, info_of_names, is_defined, is_name, line_fault, range_from, range_of, unless_defined}
 use Rattle.mj_model.specs.Lexicon.{Reading, ReadsAs, Row}
-use Rattle.mj_model.specs.Lines.{numbered_lines}
 use Rattle.mj_model.specs.UnkDef.{rows_by_category, unk_outcome}
 use Rattle.lex_source.specs.Steps.{IsRefusedLine}
 use Rattle.char_def.specs.declared.code_range.CodeRange.{CodeRange}
 use Rattle.char_def.specs.declared.overlay.Step.{Step}
 use Rattle.char_def.specs.Categories.{CharCategories, IsTableOf}
 use Rattle.char_def.specs.Definitions.{HasNumber}
-use Rattle.char_def.specs.Mapped.{Said, range_is, said}
+use Rattle.char_def.specs.Mapped.{range_is}
 use Rattle.char_def.specs.Steps.{AreRising}
 
 -- ---- `char.def`
@@ -43,24 +41,8 @@ IsInfoOfNames categories first others found =
     (λ info. (list_all (is_defined categories) (first ∷ others) ≡ true) × (info ≡ info_of_names categories first others))
 
 -- why a line is refused where these categories are defined before it, or that memory was refused
-abbrev pub IsDefinitionRefusal : List NamedCategory → List ℕ → SourceKind → Type 0
-IsDefinitionRefusal before line kind = (kind ≡ Memory) ⊎ (line_fault before (char_line line) ≡ Some kind)
-
--- why a mapping is refused where these are all categories, or that memory was refused
-abbrev pub IsMappingRefusal : List NamedCategory → List ℕ → SourceKind → Type 0
-IsMappingRefusal categories line kind = (kind ≡ Memory) ⊎ (mapping_fault categories (char_line line) ≡ Some kind)
-
--- the first mapping at fault
-abbrev pub first_bad_mapping : List NamedCategory → List ℕ → Option SourceFault
-first_bad_mapping categories bytes = first_fault CHAR_FILE (λ line. mapping_fault categories (char_line line)) (numbered_lines bytes)
-
--- what the mappings of a `char.def` say
-abbrev pub all_said : List NamedCategory → List ℕ → List Said
-all_said categories bytes = map (said categories) (source_from (numbered_lines bytes)).mappings
-
--- what the mapping of a line says, if it is one
-abbrev pub said_in : List NamedCategory → List ℕ → List Said
-said_in categories line = map (said categories) (mapped_by (char_line line))
+abbrev pub IsDefinitionRefusal : List NamedCategory → CharLine → SourceKind → Type 0
+IsDefinitionRefusal before line kind = (kind ≡ Memory) ⊎ (line_fault before line ≡ Some kind)
 
 -- a word that may be a name, if it may
 abbrev pub IsNameIn : List ℕ → Option (Bor (List ℕ)) → Type 0

@@ -1,8 +1,9 @@
 -- Categories and what they are of each code point, as a table holds them.
-use Rattle.std.specs.Prelude.{◌≡◌, ℕ, ◌<◌, false, List, [], length, slice_index_or, Option}
+use Rattle.std.specs.Prelude.{◌≡◌, ℕ, ◌≤◌, false, All, List, [], length, slice_index_or, Option}
 use Rattle.std.specs.Option.{option_map_or}
 use Rattle.mj_model.specs.declared.category.CharInfo.{CharInfo}
-use Rattle.mj_model.specs.CharDef.{NamedCategory, CharSource, char_info, info_of_names, default_name}
+use Rattle.mj_model.specs.declared.limits.TheConstants.{CATEGORIES_MAX}
+use Rattle.mj_model.specs.CharDef.{NamedCategory, CharSource, IsInfoOf, IsStorable, char_info, info_of_names, default_name}
 use Rattle.char_def.specs.declared.overlay.Step.{Step}
 use Rattle.char_def.specs.Steps.{info_by}
 
@@ -22,9 +23,12 @@ info_or otherwise found = option_map_or (λ info. info) found otherwise
 abbrev pub table_info : CharCategories → ℕ → CharInfo
 table_info table code = info_or (default_info table.categories) (info_by table.steps code)
 
--- the first category of each code point is one of the categories
-abbrev pub HasFirstCategories : CharCategories → Type 0
-HasFirstCategories table = (code : ℕ) → (table_info table code).head < length table.categories
+-- what holds of every table: it has a category and no more than may be, an image can hold each, and those of each code point are among them
+pub record IsCategoryTable (table : CharCategories) : Type 0 where
+  pub some : 1 ≤ length table.categories
+  pub few : length table.categories ≤ CATEGORIES_MAX
+  pub storable : All IsStorable table.categories
+  pub infos : (code : ℕ) → IsInfoOf (length table.categories) (table_info table code)
 
 -- a category by its number
 abbrev pub category_at : CharCategories → ℕ → NamedCategory

@@ -5,6 +5,8 @@ pub mod CharLines
 pub mod Mapped
 pub mod Definitions
 pub mod Categories
+pub mod InfoRanges
 pub mod UnkRows
+pub mod UnknownLists
 pub mod Outside
 pub mod Answers

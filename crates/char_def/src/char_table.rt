@@ -4,15 +4,18 @@ ghost use Rattle.char_def.specs.Answers.{AnswersInfo, IsNumberOf, IsTableIn};
 ghost use Rattle.mj_model.specs.declared.limits.TheConstants.{CATEGORIES_MAX as CategoriesMax};
 ghost use Rattle.mj_model.specs.FirstFault.{IsRefusal};
 ghost use Rattle.mj_model.specs.CharDef.{char_source, code_point_max};
-ghost use Rattle.char_def.specs.Categories.{table_info, category_at, HasFirstCategories};
+ghost use Rattle.char_def.specs.Categories.{IsCategoryTable, table_info, category_at};
 ghost use Rattle.char_def.specs.Definitions.{definitions_are};
+ghost use Rattle.char_def.specs.InfoRanges.{AreRangesOf};
 
+use crate::char_lines::{CharLines, read_lines};
 use crate::coverage::coverage;
-use crate::definitions::{Definition, number_of, read_definitions};
-use crate::mappings::read_mappings;
+use crate::definitions::{Definition, number_of};
+use crate::info_range::{InfoRange, push_range};
+use crate::mappings::look_up;
 use crate::overlay::{Step, find_step};
 use mj_model::{CHAR_FILE, Category, CharInfo, SourceFault, SourceKind};
-use std::alloc::Global;
+use std::alloc::{AllocError, Global};
 use std::marker::Model;
 
 /// The categories, and those of each code point. (MeCab, `char.def`)
@@ -26,17 +29,26 @@ pub struct CharTable {
 }
 
 impl Model for CharTable {
-    ghost use Rattle.std.specs.Prelude.{◌≡◌, ◌≤◌, length};
-    ghost use Rattle.mj_model.specs.declared.limits.TheConstants.{CATEGORIES_MAX as CategoriesMax};
-    ghost use Rattle.char_def.specs.Categories.{CharCategories, default_info, HasFirstCategories};
+    ghost use Rattle.std.specs.Prelude.{◌≡◌};
+    ghost use Rattle.char_def.specs.Categories.{CharCategories, IsCategoryTable, default_info};
     ghost use Rattle.char_def.specs.Definitions.{definitions_are};
     ghost use Rattle.char_def.specs.Steps.{AreRising};
 
     ghost Value = { CharCategories };
 
-    ghost view = { λ t. record { categories = definitions_are t.definitions.items; steps = t.steps.items } };
+    ghost view = { λ t. record {
+      categories = definitions_are t.definitions.items;
+      steps = t.steps.items;
+    } };
 
-    ghost invariant = { λ t. record { few : length t.definitions.items ≤ CategoriesMax; default_is : t.default ≡ default_info (definitions_are t.definitions.items); rising : AreRising 0 t.steps.items; heads : HasFirstCategories (record { categories = definitions_are t.definitions.items; steps = t.steps.items }) } };
+    ghost invariant = { λ t. record {
+      default_is : t.default ≡ default_info (definitions_are t.definitions.items);
+      rising : AreRising 0 t.steps.items;
+      formed : IsCategoryTable (record {
+        categories = definitions_are t.definitions.items;
+        steps = t.steps.items;
+      });
+    } };
 }
 
 impl CharTable {
@@ -52,13 +64,27 @@ impl CharTable {
         }
     }
 
-    /// How many categories there are. The first one of each code point is among them.
+    /// How many categories there are, of which those of each code point are some.
     pub fn count(&self) -> usize
         ensures count { result ≡ length self.now.categories }
-        ensures few { result ≤ CategoriesMax }
-        ensures heads { HasFirstCategories self.now }
+        ensures formed { IsCategoryTable self.now }
     {
         self.definitions.len()
+    }
+
+    /// The ranges of code points with the same categories, in their order.
+    pub fn ranges(&self, alloc: Global) -> Result<Vec<InfoRange>, AllocError>
+        ensures { IfOk result (λ ranges. AreRangesOf self.now ranges.items) }
+    {
+        let mut ranges = Vec::with_capacity(alloc, self.steps.len() + 1)?;
+        ranges.push(InfoRange {
+            first: 0,
+            info: self.info(0),
+        })?;
+        for step in &self.steps {
+            push_range(&mut ranges, step.first, step.info.unwrap_or(self.default))?;
+        }
+        Ok(ranges)
     }
 
     /// The number of the category of this name.
@@ -91,10 +117,13 @@ pub fn read_chars(alloc: Global, bytes: &[u8]) -> Result<CharTable, SourceFault>
     ensures accepted { IfOk result (IsTableIn bytes.now) }
     ensures refused { IfErr result (λ fault. IsRefusal fault (char_source bytes.now ≡ Err fault)) }
 {
-    let definitions = read_definitions(alloc, bytes)?;
+    let CharLines {
+        definitions,
+        mappings,
+    } = read_lines(alloc, bytes)?;
     let default = single(&definitions, "DEFAULT", SourceKind::NoDefault)?;
     let _ = single(&definitions, "SPACE", SourceKind::NoSpace)?;
-    let mapped = read_mappings(alloc, bytes, &definitions)?;
+    let mapped = look_up(alloc, mappings, &definitions)?;
     let steps = coverage(alloc, &mapped)?;
     Ok(CharTable {
         definitions,

@@ -4,7 +4,7 @@ ghost use Rattle.std.specs.Char.{is_ascii_hexdigit, digit_value};
 ghost use Rattle.mj_model.specs.CharDef.{hexadecimal as hexadecimal_of, hex_digits as hex_digits_of, begins_with_hex as begins_with_prefix};
 ghost use Rattle.char_def.specs.Hex.{up_to_max, with_hex_digit};
 
-use crate::code_range::CODE_POINT_MAX;
+use mj_model::CODE_POINT_MAX;
 
 /// Whether a word begins with `0x`.
 pub(crate) fn begins_with_hex(word: &[u8]) -> bool

@@ -1,23 +1,17 @@
 //! Lines of `char.def`.
-ghost use Rattle.std.specs.Prelude.{◌≡◌, ◌∷◌, ◌<◌, ◌&&◌, ℕ, List, Some, None, true, false, nat_lt, length, MatchResult, option_map};
+ghost use Rattle.std.specs.Prelude.{◌≡◌, ◌∷◌, ◌<◌, ℕ, List, Some, None, true, false, length, MatchResult, option_map};
 ghost use Rattle.char_def.specs.Answers.{IsNameIn};
 ghost use Rattle.std.specs.List.{list_all};
-ghost use Rattle.mj_model.specs.CharDef.{Bad, is_name, flag as flag_of, category_of, category_from, mapping_line as mapping_of, char_line, words_before_comment};
+ghost use Rattle.mj_model.specs.CharDef.{Bad, Maps, is_name, flag as flag_of, category_of, category_from, mapping_line as mapping_of, char_line, words_before_comment};
 ghost use Rattle.mj_model.specs.Numbers.{natural_in};
-ghost use Rattle.char_def.specs.CharLines.{Says, IsMapping, category_is};
+ghost use Rattle.char_def.specs.CharLines.{category_is, line_is, mapping_is};
 
 use crate::code_range::CodeRange;
 use crate::hexadecimal::begins_with_hex;
 use crate::line_words::LineWords;
 use crate::range::code_range;
 use lex_source::number;
-use mj_model::{Category, SourceKind};
-
-/// The most bytes of a category's name. (This project's own choice)
-const NAME_MAX: usize = 255;
-
-/// The greatest LENGTH of a category. (This project's own choice)
-const LENGTH_MAX: u8 = 15;
+use mj_model::{CATEGORY_LENGTH_MAX, CATEGORY_NAME_MAX, Category, SourceKind};
 
 /// What a line says.
 #[derive(Drop)]
@@ -35,23 +29,26 @@ pub(crate) struct CategoryLine<'a> {
     pub(crate) category: Category,
 }
 
-/// Code points, and the names of their categories.
+/// Code points, and the names of their categories, the first one apart.
 #[derive(Drop)]
 pub(crate) struct MappingLine<'a> {
     pub(crate) range: CodeRange,
-    pub(crate) names: LineWords<'a>,
+    pub(crate) first: &'a [u8],
+    pub(crate) others: LineWords<'a>,
 }
 
 /// What a line says by itself.
 pub(crate) fn read_line(line: &[u8]) -> Result<CharLine<'_>, SourceKind>
-    ensures { MatchResult result (Says line.now) (λ kind. char_line line.now ≡ Bad kind) }
+    ensures { MatchResult result (λ read. char_line line.now ≡ line_is read)
+        (λ kind. char_line line.now ≡ Bad kind) }
 {
     let mut words = LineWords::new(line);
     let Some(first) = words.next() else {
         return Ok(CharLine::Nothing);
     };
     if begins_with_hex(first) {
-        return mapping_line(first, words, behind_first(line));
+        let mapping = mapping_line(first, words, behind_first(line))?;
+        return Ok(CharLine::Mapping(mapping));
     }
     match category_line(first, words) {
         Some(category) => Ok(CharLine::Category(category)),
@@ -64,16 +61,24 @@ fn mapping_line<'a>(
     range: &[u8],
     checked: LineWords<'a>,
     names: LineWords<'a>,
-) -> Result<CharLine<'a>, SourceKind>
+) -> Result<MappingLine<'a>, SourceKind>
     requires { checked ≡ names }
-    ensures { MatchResult result (IsMapping range.now names.entry)
-        (λ kind. mapping_of range.now names.entry ≡ Bad kind) }
+    ensures { MatchResult result (λ mapping. mapping_of range.now names.entry
+        ≡ Maps (mapping_is mapping)) (λ kind. mapping_of range.now names.entry ≡ Bad kind) }
 {
+    let mut others = names;
+    let Some(first) = others.next() else {
+        return Err(SourceKind::BadLine);
+    };
     if !are_names(checked) {
         return Err(SourceKind::BadLine);
     }
     match code_range(range) {
-        Some(range) => Ok(CharLine::Mapping(MappingLine { range, names })),
+        Some(range) => Ok(MappingLine {
+            range,
+            first,
+            others,
+        }),
         None => Err(SourceKind::BadRange),
     }
 }
@@ -88,25 +93,23 @@ fn behind_first(line: &[u8]) -> LineWords<'_>
     words
 }
 
-/// Whether there is a word, and each word may be the name of a category.
+/// Whether each word may be the name of a category.
 fn are_names(words: LineWords) -> bool
-    ensures { result ≡ nat_lt 0 (length words.entry) && list_all is_name words.entry }
+    ensures { result ≡ list_all is_name words.entry }
 {
-    let mut any = false;
     for word in words {
         if category_name(word).is_none() {
             return false;
         }
-        any = true;
     }
-    any
+    true
 }
 
 /// A word as the name of a category.
 fn category_name(word: &[u8]) -> Option<&str>
     ensures { IsNameIn word.now result }
 {
-    if word.len() > NAME_MAX {
+    if word.len() > CATEGORY_NAME_MAX {
         return None;
     }
     match simdutf8::compat::from_utf8(word) {
@@ -134,7 +137,7 @@ fn category(invoke: &[u8], group: &[u8], length: &[u8]) -> Option<Category>
     Some(Category {
         invoke: flag(invoke)?,
         group: flag(group)?,
-        length: natural(length, LENGTH_MAX)?,
+        length: natural(length, CATEGORY_LENGTH_MAX)?,
     })
 }
 

@@ -4,9 +4,10 @@ ghost use Rattle.char_def.specs.Answers.{AnswersRange, AnswersRangeFrom};
 ghost use Rattle.mj_model.specs.CharDef.{high_end as high_end_of};
 ghost use Rattle.char_def.specs.Hex.{up_to_max};
 
-use crate::code_range::{CODE_POINT_MAX, CodeRange};
+use crate::code_range::CodeRange;
 use crate::hexadecimal::hexadecimal;
 use lex_source::split_first;
+use mj_model::CODE_POINT_MAX;
 
 /// `0xHEX` or `0xLOW..0xHIGH`. (MeCab, `char.def`)
 pub(crate) fn code_range(word: &[u8]) -> Option<CodeRange>

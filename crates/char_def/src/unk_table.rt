@@ -3,6 +3,7 @@ ghost use Rattle.std.specs.Prelude.{◌≡◌, ◌<◌, [], length, slice_index_
 ghost use Rattle.mj_model.specs.FirstFault.{IsRefusal};
 ghost use Rattle.mj_model.specs.Lexicon.{rows_of};
 ghost use Rattle.mj_model.specs.UnkDef.{IsUnkDef};
+ghost use Rattle.char_def.specs.UnknownLists.{AreUnknownLists};
 ghost use Rattle.char_def.specs.Outside.{all_lines_outside, IsLeast};
 
 use crate::char_table::CharTable;
@@ -21,14 +22,25 @@ pub struct UnkTable {
 impl Model for UnkTable {
     ghost use Rattle.std.specs.Prelude.{List};
     ghost use Rattle.mj_model.specs.Lexicon.{Row};
+    ghost use Rattle.char_def.specs.UnknownLists.{AreUnknownLists};
     ghost use Rattle.char_def.specs.UnkRows.{lists_are};
 
     ghost Value = { List (List Row) };
 
     ghost view = { λ t. lists_are t.lists.items };
+
+    ghost invariant = { λ t. AreUnknownLists (lists_are t.lists.items) };
 }
 
 impl UnkTable {
+    /// How many categories there are.
+    pub fn count(&self) -> usize
+        ensures count { result ≡ length self.now }
+        ensures formed { AreUnknownLists self.now }
+    {
+        self.lists.len()
+    }
+
     /// The lines of category `i`, in their order. There is at least one.
     pub fn lines(&self, i: usize) -> &[Record]
         requires { i < length self.now }

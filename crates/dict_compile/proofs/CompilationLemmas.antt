@@ -8,26 +8,25 @@ use Rattle.mj_model.specs.declared.source_fault.SourceFault.{SourceFault}
 use Rattle.mj_model.specs.declared.source_fault.SourceKind.TheVariants.{ArrayFull, FeaturesTooLarge}
 use Rattle.mj_model.specs.declared.sources.Sources.{Sources}
 use Rattle.mj_model.specs.CharDef.{NamedCategory}
-use Rattle.dict_compile.specs.Compilation.{IsCompilation, IsCompilationCause, fault_of_image}
-use Rattle.mj_model.specs.Lexicon.{SkipLines, Row, row_of, rows_of}
+use Rattle.dict_compile.specs.Compilation.{IsCompilation, IsCompilationCause}
+use Rattle.mj_model.specs.Lexicon.{SkipLines, Row}
 use Rattle.image_bytes.specs.ImageBounds.{feature_bytes, feature_bytes_end, lexicon_tokens, system_tokens}
 use Rattle.mj_model.specs.Dictionary.{IsInOrder, lexeme_of}
 use Rattle.image_bytes.specs.ImageMeaning.{image_lexicon, image_tables}
 use Rattle.mj_model.specs.SourceTables.{HaveTables, IsSourcesFault, SayTheSame, lexicon_bytes, system_tables}
 use Rattle.mj_model.specs.Tables.{Tables, Lexeme, Token}
 use Rattle.mj_model.specs.UnkDef.{unknown_tokens}
-use Rattle.dict_compile.specs.Parts.{AreParts}
+use Rattle.dict_compile.specs.Parts.{AreParts, FitTogether}
 use Rattle.dict_compile.specs.declared.parts.SourceParts.{SourceParts}
 use Rattle.dict_compile.proofs.ConnectionLemmas.{costs_are}
 use Rattle.mj_model.specs.FirstFault.{IsRefusal}
 use Rattle.image_writer.specs.declared.fault.LexiconFault.{LexiconFault}
 use Rattle.image_writer.specs.declared.fault.LexiconFault.TheVariants as lexicon
-use Rattle.dict_compile.specs.Faults.{fault_told}
+use Rattle.image_writer.specs.Faults.{fault_of_image, source_fault_of}
 use Rattle.image_writer.specs.Entries.{all_rows, lexemes_of, tokens_of}
 use Rattle.image_writer.specs.SystemImages.{tables_with}
 use Rattle.dict_compile.specs.Images.{HaveTooLarge, IsImageOf, MayLackCells}
 use Rattle.dict_compile.specs.declared.compiled.Compiled.{Compiled}
-use Rattle.dict_compile.proofs.PartLemmas.{are_storable}
 use Rattle.dict_compile.proofs.TokenLemmas.{all_tokens_are}
 
 -- ---- tables that say the same
@@ -53,7 +52,7 @@ pub numbered_length : (n : ℕ) (rows : List Row) → length (map lexeme_of (enu
 numbered_length n [] = refl
 numbered_length n (row ∷ rows) = let h = numbered_length (n + 1) rows in omega (arith, h)
 
-module _ (s : Sources) (parts : SourceParts) (h : AreParts s parts) (ordered : List Row) (o : IsInOrder (rows_of parts.records.items) ordered) where
+module _ (s : Sources) (parts : SourceParts) (h : AreParts s parts) (fit : FitTogether parts) (ordered : List Row) (o : IsInOrder parts.lexicon.rows ordered) where
   abbrev tables : Tables
   tables = tables_with parts.matrix parts.chars parts.unknown ordered
 
@@ -74,7 +73,7 @@ module _ (s : Sources) (parts : SourceParts) (h : AreParts s parts) (ordered : L
     connection = h.connection;
     chars = h.chars;
     unknown = parts.unknown;
-    rows = rows_of parts.records.items;
+    rows = parts.lexicon.rows;
     lexicon = lexemes_of ordered;
     is_connection = h.is_connection;
     are_chars = h.are_chars;
@@ -86,9 +85,8 @@ module _ (s : Sources) (parts : SourceParts) (h : AreParts s parts) (ordered : L
 
   pub tokens_are : (t : Tables) → SayTheSame t tables → system_tokens t ≡ tokens_of (all_rows ordered parts.unknown)
   tokens_are t same =
-      let storable = are_storable s parts h in
       let count : length (map (λ (named : NamedCategory). named.category) parts.chars.categories) ≡ length parts.unknown =
-      length-map parts.chars.categories (λ (named : NamedCategory). named.category) ∙ sym storable.unknown.each_category in
+      length-map parts.chars.categories (λ (named : NamedCategory). named.category) ∙ sym fit.categories in
       same_tokens t tables same
       ∙ ap (λ n. lexicon_tokens (lexemes_of ordered) ++ flat_map (unknown_tokens (length ordered) parts.unknown) (range_with_len 0 n)) count
       ∙ all_tokens_are ordered parts.unknown
@@ -98,21 +96,20 @@ same_self t = record { kind = refl; sizes = refl; connection = refl; categories 
 
 -- ---- the compilation
 
-as_many : (parts : SourceParts) (ordered : List Row) (lexicon : List Lexeme) → IsInOrder (rows_of parts.records.items) ordered → lexicon ≡ lexemes_of ordered → length parts.records.items ≡ length lexicon
+as_many : (parts : SourceParts) (ordered : List Row) (lexicon : List Lexeme) → IsInOrder parts.lexicon.rows ordered → lexicon ≡ lexemes_of ordered → length parts.lexicon.rows ≡ length lexicon
 as_many parts ordered lexicon o is =
-    let a = length-map parts.records.items row_of in
-    let b = length_permutation (rows_of parts.records.items) ordered o.same_rows in
+    let b = length_permutation parts.lexicon.rows ordered o.same_rows in
     let c = numbered_length 0 ordered in
     let d = ap length is in
-    omega (arith, a, b, c, d)
+    omega (arith, b, c, d)
 
-pub is_compilation : (s : Sources) (parts : SourceParts) (c : Compiled) → AreParts s parts → IsImageOf parts c → IsCompilation s c.image.items c.entries c.skipped
-is_compilation s parts c h is = record {
-  have = have_tables s parts h is.ordered is.in_order (image_tables c.image.items) is.image.tables;
+pub is_compilation : (s : Sources) (parts : SourceParts) (c : Compiled) → AreParts s parts → FitTogether parts → IsImageOf parts c → IsCompilation s c.image.items c.entries c.skipped
+is_compilation s parts c h fit is = record {
+  have = have_tables s parts h fit is.ordered is.in_order (image_tables c.image.items) is.image.tables;
   compiled = record {
     well_formed = is.image.well_formed;
     layout = is.image.layout;
-    few_features = subst (λ (ts : List Token). feature_bytes ts < feature_bytes_end) (sym (tokens_are s parts h is.ordered is.in_order (image_tables c.image.items) is.image.tables)) is.image.few_features;
+    few_features = subst (λ (ts : List Token). feature_bytes ts < feature_bytes_end) (sym (tokens_are s parts h fit is.ordered is.in_order (image_tables c.image.items) is.image.tables)) is.image.few_features;
     all_entries = is.entries ∙ as_many parts is.ordered (image_lexicon c.image.items) is.in_order is.image.tables.lexicon;
     all_skipped = subst (SkipLines (lexicon_bytes s)) (sym is.skipped) h.skipped;
   };
@@ -121,25 +118,25 @@ is_compilation s parts c h is = record {
 
 -- ---- the refusals
 
-pub too_large : (s : Sources) (parts : SourceParts) → AreParts s parts → HaveTooLarge parts → IsCompilationCause s (fault_of_image FeaturesTooLarge)
-too_large s parts h large =
+pub too_large : (s : Sources) (parts : SourceParts) → AreParts s parts → FitTogether parts → HaveTooLarge parts → IsCompilationCause s (fault_of_image FeaturesTooLarge)
+too_large s parts h fit large =
     let t = tables_with parts.matrix parts.chars parts.unknown large.0 in
     inl (inr (
       t,
-      have_tables s parts h large.0 large.1 t (same_self t),
-      (subst (λ (ts : List Token). feature_bytes_end ≤ feature_bytes ts) (sym (tokens_are s parts h large.0 large.1 t (same_self t))) large.2, refl),
+      have_tables s parts h fit large.0 large.1 t (same_self t),
+      (subst (λ (ts : List Token). feature_bytes_end ≤ feature_bytes ts) (sym (tokens_are s parts h fit large.0 large.1 t (same_self t))) large.2, refl),
     ))
 
-pub may_be_full : (s : Sources) (parts : SourceParts) → AreParts s parts → MayLackCells (rows_of parts.records.items) → IsCompilationCause s (fault_of_image ArrayFull)
-may_be_full s parts h full =
+pub may_be_full : (s : Sources) (parts : SourceParts) → AreParts s parts → FitTogether parts → MayLackCells parts.lexicon.rows → IsCompilationCause s (fault_of_image ArrayFull)
+may_be_full s parts h fit full =
     let t = tables_with parts.matrix parts.chars parts.unknown full.0 in
-    inr (t, have_tables s parts h full.0 full.1 t (same_self t), (full.2, refl))
+    inr (t, have_tables s parts h fit full.0 full.1 t (same_self t), (full.2, refl))
 
-pub refusal : (s : Sources) (parts : SourceParts) (fault : LexiconFault) → AreParts s parts → (fault ≡ lexicon.FeaturesTooLarge → HaveTooLarge parts)
-    → (fault ≡ lexicon.ArrayFull → MayLackCells (rows_of parts.records.items)) → IsRefusal (fault_told fault) (IsCompilationCause s (fault_told fault))
-refusal s parts lexicon.ArrayFull h large full = inr (may_be_full s parts h (full refl))
-refusal s parts lexicon.FeaturesTooLarge h large full = inr (too_large s parts h (large refl))
-refusal s parts lexicon.Memory h large full = inl refl
+pub refusal : (s : Sources) (parts : SourceParts) (fault : LexiconFault) → AreParts s parts → FitTogether parts → (fault ≡ lexicon.FeaturesTooLarge → HaveTooLarge parts)
+    → (fault ≡ lexicon.ArrayFull → MayLackCells parts.lexicon.rows) → IsRefusal (source_fault_of fault) (IsCompilationCause s (source_fault_of fault))
+refusal s parts lexicon.ArrayFull h fit large full = inr (may_be_full s parts h fit (full refl))
+refusal s parts lexicon.FeaturesTooLarge h fit large full = inr (too_large s parts h fit (large refl))
+refusal s parts lexicon.Memory h fit large full = inl refl
 
 pub source_refused : (s : Sources) (fault : SourceFault) → IsRefusal fault (IsSourcesFault s fault) → IsRefusal fault (IsCompilationCause s fault)
 source_refused s fault (inl memory) = inl memory

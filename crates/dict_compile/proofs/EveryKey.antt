@@ -20,7 +20,7 @@ use Rattle.mj_model.specs.Lexicon.{Row}
 use Rattle.mj_model.specs.SourceTables.{HaveTables, lexicon_bytes}
 use Rattle.mj_model.specs.Tables.{Lexeme, Tables}
 use Rattle.dict_compile.specs.EveryKey.{AnswersEveryKey, AnswersKeysOf, AnswersKeysOfSources, has_surface, said_by_row, said_by_token}
-use Rattle.dict_compile.proofs.SortedRows.{order}
+use Rattle.lex_source.proofs.SortedRows.{order}
 use Rattle.dict_compile.proofs.SourceFaults.{lexicons_one, one_value, rows_along, same_read}
 
 -- ---- the entries under a key are those of the rows

@@ -1,17 +1,12 @@
 pub mod KindLemmas
-pub mod SortedRows
 pub mod SourceFaults
-pub mod RowLemmas
 pub mod TokenLemmas
-pub mod PartLemmas
 pub mod CompilationLemmas
 pub mod OrderLemmas
 pub mod FirstFaults
 pub mod UserLemmas
 pub mod EveryKey
 pub mod SkipLemmas
-pub mod FittingLemmas
-pub mod UnknownRows
 pub mod SourceLemmas
 pub mod ConnectionLemmas
 pub mod LexiconLemmas

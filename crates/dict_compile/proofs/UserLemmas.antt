@@ -1,23 +1,22 @@
 -- The user image of what lexicons say is their compilation; lexicons compile, or have one first fault.
 use Rattle.std.proofs.Common.{◌≡◌, ℕ, ◌≤◌, ◌<◌, List, [], length, refl, sym, ap, ◌∙◌, subst, arith, inl, inr}
 use Rattle.std.specs.Prelude.{false, Result, Ok, Err}
-use Rattle.std.proofs.lemmas.List.{length-map}
 use Rattle.std.proofs.lemmas.List.Sorted.{length_permutation}
 use Rattle.mj_model.specs.declared.source_fault.SourceFault.{SourceFault}
 use Rattle.dict_compile.specs.Compilation.{HaveUserTables, IsUserCompilation, IsUserCause, IsUserFault}
-use Rattle.mj_model.specs.Lexicon.{SkipLines, Row, row_of, rows_of}
+use Rattle.mj_model.specs.Lexicon.{SkipLines, Row}
 use Rattle.image_bytes.specs.ImageBounds.{feature_bytes, feature_bytes_end, lexicon_tokens}
 use Rattle.mj_model.specs.declared.matrix_sizes.MatrixSizes.{MatrixSizes}
 use Rattle.mj_model.specs.Dictionary.{AreLexicons, IsInOrder, IsLexiconOf}
 use Rattle.mj_model.specs.FirstFault.{IsRefusal}
 use Rattle.image_bytes.specs.ImageMeaning.{image_lexicon, image_tables}
 use Rattle.mj_model.specs.Tables.{Tables, Lexeme, Token, User}
-use Rattle.dict_compile.specs.declared.lexicons.LexiconRecords.{LexiconRecords}
+use Rattle.dict_compile.specs.declared.lexicons.LexiconsRead.{LexiconsRead}
 use Rattle.image_writer.specs.declared.fault.LexiconFault.{LexiconFault}
 use Rattle.image_writer.specs.declared.fault.LexiconFault.TheVariants as lexicon
 use Rattle.image_writer.specs.Entries.{lexemes_of, tokens_of}
 use Rattle.dict_compile.specs.Answers.{IsToldFor}
-use Rattle.dict_compile.specs.Faults.{fault_told}
+use Rattle.image_writer.specs.Faults.{source_fault_of}
 use Rattle.dict_compile.specs.Images.{MayLackCells}
 use Rattle.dict_compile.specs.UserImages.{HasTooLarge, IsSystemOf, IsUserImageOf}
 use Rattle.dict_compile.specs.declared.compiled.Compiled.{Compiled}
@@ -35,31 +34,30 @@ module _ (sizes : MatrixSizes) (system : Tables) (is : IsSystemOf sizes system) 
   as_read : (rows : List Row) → AreLexicons sizes 3 [] lexicons (Ok rows) → AreLexicons system.sizes 3 [] lexicons (Ok rows)
   as_read rows h = subst (λ (s : MatrixSizes). AreLexicons s 3 [] lexicons (Ok rows)) (sym is.sizes_are) h
 
-  module _ (read : LexiconRecords) (h : AreLexicons sizes 3 [] lexicons (Ok (rows_of read.records.items))) where
-    have_user : (t : Tables) (ordered : List Row) → IsInOrder (rows_of read.records.items) ordered → t.kind ≡ User → t.sizes ≡ sizes → t.lexicon ≡ lexemes_of ordered → HaveUserTables system.sizes lexicons t
-    have_user t ordered o kind kept lexicon = record {
+  module _ (read : LexiconsRead) (kept : read.lexicon.sizes ≡ sizes) (h : AreLexicons sizes 3 [] lexicons (Ok read.lexicon.rows)) where
+    have_user : (t : Tables) (ordered : List Row) → IsInOrder read.lexicon.rows ordered → t.kind ≡ User → t.sizes ≡ sizes → t.lexicon ≡ lexemes_of ordered → HaveUserTables system.sizes lexicons t
+    have_user t ordered o kind same lexicon = record {
       kind = kind;
-      sizes_kept = kept ∙ sym is.sizes_are;
-      rows = rows_of read.records.items;
-      are_rows = as_read (rows_of read.records.items) h;
+      sizes_kept = same ∙ sym is.sizes_are;
+      rows = read.lexicon.rows;
+      are_rows = as_read read.lexicon.rows h;
       is_lexicon = (ordered, o, lexicon);
     }
 
-    pub user_compilation : (c : Compiled) → SkipLines lexicons read.skipped → IsUserImageOf sizes read c → IsUserCompilation system lexicons c.image.items c.entries c.skipped
+    pub user_compilation : (c : Compiled) → SkipLines lexicons read.skipped → IsUserImageOf read c → IsUserCompilation system lexicons c.image.items c.entries c.skipped
     user_compilation c skips i =
         let tokens : lexicon_tokens (image_lexicon c.image.items) ≡ tokens_of i.ordered = ap lexicon_tokens i.image.lexicon ∙ lexicon_tokens_are i.ordered in
-        let a = length-map read.records.items row_of in
-        let b = length_permutation (rows_of read.records.items) i.ordered i.in_order.same_rows in
+        let b = length_permutation read.lexicon.rows i.ordered i.in_order.same_rows in
         let n = numbered_length 0 i.ordered in
         let d = ap length i.image.lexicon in
         record {
           is_system = is.kind;
-          have = have_user (image_tables c.image.items) i.ordered i.in_order i.image.kind i.image.sizes_kept i.image.lexicon;
+          have = have_user (image_tables c.image.items) i.ordered i.in_order i.image.kind (i.image.sizes_kept ∙ kept) i.image.lexicon;
           compiled = record {
             well_formed = i.image.well_formed;
             layout = i.image.layout;
             few_features = subst (λ (ts : List Token). feature_bytes ts < feature_bytes_end) (sym tokens) i.image.few_features;
-            all_entries = i.entries ∙ omega (arith, a, b, n, d);
+            all_entries = i.entries ∙ omega (arith, b, n, d);
             all_skipped = subst (SkipLines lexicons) (sym i.skipped) skips;
           };
         }
@@ -68,12 +66,12 @@ module _ (sizes : MatrixSizes) (system : Tables) (is : IsSystemOf sizes system) 
     user_tables : List Row → Tables
     user_tables ordered = record system { kind = User; lexicon = lexemes_of ordered }
 
-    have_rows : (ordered : List Row) → IsInOrder (rows_of read.records.items) ordered → HaveUserTables system.sizes lexicons (user_tables ordered)
+    have_rows : (ordered : List Row) → IsInOrder read.lexicon.rows ordered → HaveUserTables system.sizes lexicons (user_tables ordered)
     unfolding user_tables
     have_rows ordered o = have_user (user_tables ordered) ordered o refl is.sizes_are refl
 
-    pub user_refusal : (fault : LexiconFault) → (fault ≡ lexicon.FeaturesTooLarge → HasTooLarge (rows_of read.records.items)) → (fault ≡ lexicon.ArrayFull → MayLackCells (rows_of read.records.items))
-        → IsRefusal (fault_told fault) (IsUserCause system lexicons (fault_told fault))
+    pub user_refusal : (fault : LexiconFault) → (fault ≡ lexicon.FeaturesTooLarge → HasTooLarge read.lexicon.rows) → (fault ≡ lexicon.ArrayFull → MayLackCells read.lexicon.rows)
+        → IsRefusal (source_fault_of fault) (IsUserCause system lexicons (source_fault_of fault))
     unfolding user_tables
     user_refusal lexicon.ArrayFull large full = let f = full refl in inr (inr (is.kind, user_tables f.0, have_rows f.0 f.1, (f.2, refl)))
     user_refusal lexicon.FeaturesTooLarge large full =

@@ -1,9 +1,9 @@
 -- What a compilation answers: an image that means the tables of its sources, with the counts of their lines, or the sources' first fault.
 use Rattle.std.specs.Prelude.{◌≡◌, ℕ, ◌<◌, ◌≤◌, ◌⊎◌, List, [], length, Ok, Err}
-use Rattle.mj_model.specs.declared.source_fault.TheConstants.{FIRST_LEXICON_FILE, NO_FILE}
+use Rattle.mj_model.specs.declared.source_fault.TheConstants.{FIRST_LEXICON_FILE}
 use Rattle.mj_model.specs.declared.source_fault.SourceFault.{SourceFault}
-use Rattle.mj_model.specs.declared.source_fault.SourceKind.{SourceKind}
 use Rattle.mj_model.specs.declared.source_fault.SourceKind.TheVariants.{ArrayFull, FeaturesTooLarge}
+use Rattle.image_writer.specs.Faults.{fault_of_image}
 use Rattle.mj_model.specs.declared.sources.Sources.{Sources}
 use Rattle.mj_model.specs.CharDef.{CharSource}
 use Rattle.mj_model.specs.declared.matrix_sizes.MatrixSizes.{MatrixSizes}
@@ -25,10 +25,6 @@ pub record IsCompiled (tokens : List Token) (lexicons : List (List ℕ)) (image 
   pub few_features : feature_bytes tokens < feature_bytes_end
   pub all_entries : entries ≡ length (image_lexicon image)
   pub all_skipped : SkipLines lexicons skipped
-
--- a fault of no file
-abbrev pub fault_of_image : SourceKind → SourceFault
-fault_of_image kind = record { file = NO_FILE; line = 0; kind = kind }
 
 -- the features are too many
 abbrev pub IsFeaturesFault : List Token → SourceFault → Type 0

@@ -5,6 +5,4 @@ pub mod Answers
 pub mod Images
 pub mod UserImages
 pub mod EveryKey
-pub mod AddedLexicon
 pub mod Parts
-pub mod AcceptedRows

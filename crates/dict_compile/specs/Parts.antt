@@ -1,12 +1,13 @@
 -- What the sources of a system dictionary say, file by file.
-use Rattle.std.specs.Prelude.{Ok}
+use Rattle.std.specs.Prelude.{◌≡◌, [], length, Ok}
 use Rattle.mj_model.specs.declared.sources.Sources.{Sources}
 use Rattle.mj_model.specs.CharDef.{CharSource}
-use Rattle.mj_model.specs.Lexicon.{SkipLines, rows_of}
+use Rattle.mj_model.specs.Lexicon.{SkipLines}
 use Rattle.mj_model.specs.Connection.{Connection}
 use Rattle.mj_model.specs.SourceTables.{AreChars, AreRows, AreUnknown, IsConnection, lexicon_bytes}
 use Rattle.matrix_def.specs.Costs.{IsTableOf as IsCostTableOf}
 use Rattle.char_def.specs.Categories.{IsTableOf}
+use Rattle.char_def.specs.Outside.{all_lines_outside}
 use Rattle.dict_compile.specs.declared.parts.SourceParts.{SourceParts}
 
 -- the sources are accepted, and these are what they say
@@ -18,5 +19,11 @@ pub record AreParts (s : Sources) (parts : SourceParts) : Type 0 where
   pub are_chars : AreChars s chars
   pub table : IsTableOf chars parts.chars
   pub unknown : AreUnknown s connection chars parts.unknown
-  pub rows : AreRows s connection (Ok (rows_of parts.records.items))
+  pub rows : AreRows s connection (Ok parts.lexicon.rows)
   pub skipped : SkipLines (lexicon_bytes s) parts.skipped
+
+-- the parts belong together: all ids lie within the sizes of the matrix, and each category has its list of unknown entries
+pub record FitTogether (parts : SourceParts) : Type 0 where
+  pub sizes : parts.lexicon.sizes ≡ parts.matrix.sizes
+  pub categories : length parts.unknown ≡ length parts.chars.categories
+  pub ids : all_lines_outside parts.matrix.sizes parts.unknown ≡ []

@@ -2,9 +2,9 @@
 use Rattle.std.specs.Prelude.{◌≡◌, List, length}
 use Rattle.mj_model.specs.declared.matrix_sizes.MatrixSizes.{MatrixSizes}
 use Rattle.mj_model.specs.Dictionary.{IsInOrder}
-use Rattle.mj_model.specs.Lexicon.{Row, rows_of}
+use Rattle.mj_model.specs.Lexicon.{Row}
 use Rattle.mj_model.specs.Tables.{Tables, System}
-use Rattle.dict_compile.specs.declared.lexicons.LexiconRecords.{LexiconRecords}
+use Rattle.dict_compile.specs.declared.lexicons.LexiconsRead.{LexiconsRead}
 use Rattle.image_writer.specs.Sections.{IsTooLarge}
 use Rattle.image_writer.specs.UserImages.{IsUserImage}
 use Rattle.dict_compile.specs.declared.compiled.Compiled.{Compiled}
@@ -14,12 +14,12 @@ pub record IsSystemOf (sizes : MatrixSizes) (system : Tables) : Type 0 where
   pub kind : system.kind ≡ System
   pub sizes_are : system.sizes ≡ sizes
 
--- a user image of the rows, with their counts
-pub record IsUserImageOf (sizes : MatrixSizes) (read : LexiconRecords) (compiled : Compiled) : Type 0 where
+-- a user image of the entries, with their counts
+pub record IsUserImageOf (read : LexiconsRead) (compiled : Compiled) : Type 0 where
   pub ordered : List Row
-  pub in_order : IsInOrder (rows_of read.records.items) ordered
-  pub image : IsUserImage sizes ordered compiled.image.items
-  pub entries : compiled.entries ≡ length read.records.items
+  pub in_order : IsInOrder read.lexicon.rows ordered
+  pub image : IsUserImage read.lexicon.sizes ordered compiled.image.items
+  pub entries : compiled.entries ≡ length read.lexicon.rows
   pub skipped : compiled.skipped ≡ read.skipped
 
 -- the features of the rows are too many for an image

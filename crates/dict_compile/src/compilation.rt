@@ -9,7 +9,6 @@ ghost use Rattle.dict_compile.specs.Answers.{IsRefusedFor};
 ghost use Rattle.dict_compile.specs.EveryKey.{AnswersKeysOfSources};
 
 use crate::compiled::Compiled;
-use crate::fault::image_fault;
 use crate::parts::read_sources;
 use crate::system_image::system_image;
 use mj_model::{SourceFault, Sources};
@@ -31,8 +30,5 @@ pub fn compile(alloc: Global, sources: &Sources<'_>) -> Result<Compiled, SourceF
         → IsRefusedFor fault result }
 {
     let parts = read_sources(alloc, sources)?;
-    match system_image(alloc, parts) {
-        Ok(compiled) => Ok(compiled),
-        Err(fault) => Err(image_fault(fault)),
-    }
+    Ok(system_image(alloc, parts)?)
 }

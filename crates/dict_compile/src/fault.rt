@@ -1,10 +1,6 @@
 //! Why a user dictionary isn't compiled.
 
-ghost use Rattle.std.specs.Prelude.{◌≡◌};
-ghost use Rattle.dict_compile.specs.Faults.{fault_told};
-
-use image_writer::LexiconFault;
-use mj_model::{NamedFault, SourceFault, SourceKind};
+use mj_model::{NamedFault, SourceFault};
 use thiserror::Error;
 
 /// Why a user dictionary isn't compiled.
@@ -31,17 +27,13 @@ impl NamedFault for CompileUserFault {
     }
 }
 
-/// A lexicon's fault as that of the whole image, which belongs to no file.
-pub(crate) fn image_fault(fault: LexiconFault) -> SourceFault
-    ensures { result ≡ fault_told fault }
-{
-    SourceFault {
-        file: u32::MAX,
-        line: 0,
-        kind: match fault {
-            LexiconFault::ArrayFull => SourceKind::ArrayFull,
-            LexiconFault::FeaturesTooLarge => SourceKind::FeaturesTooLarge,
-            LexiconFault::Memory => SourceKind::Memory,
-        },
+impl From<SourceFault> for CompileUserFault {
+    ghost use Rattle.std.specs.Prelude.{◌≡◌};
+    ghost use Rattle.dict_compile.specs.declared.fault.CompileUserFault.TheVariants.{Source};
+
+    ghost from_gives = { λ fault result. result ≡ Source fault };
+
+    fn from(fault: SourceFault) -> CompileUserFault {
+        CompileUserFault::Source(fault)
     }
 }

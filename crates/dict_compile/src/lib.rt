@@ -6,7 +6,6 @@ mod compiled;
 mod fault;
 mod lexicons;
 mod parts;
-mod sorting;
 mod system_image;
 mod unknown;
 mod user_compilation;

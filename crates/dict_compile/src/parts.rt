@@ -3,13 +3,14 @@
 ghost use Rattle.std.specs.Prelude.{Ok, IfOk, IfErr};
 ghost use Rattle.mj_model.specs.FirstFault.{IsRefusal};
 ghost use Rattle.mj_model.specs.SourceTables.{IsSourcesFault};
-ghost use Rattle.dict_compile.specs.Parts.{AreParts};
+ghost use Rattle.dict_compile.specs.Parts.{AreParts, FitTogether};
 
 use crate::lexicons::read_lexicons;
 use crate::unknown::read_unknown;
 use char_def::{CharTable, UnkTable, read_chars};
+use lex_source::SourceLexicon;
 use matrix_def::{Matrix, read_matrix};
-use mj_model::{Record, SourceFault, Sources};
+use mj_model::{SourceFault, Sources};
 use std::alloc::Global;
 
 /// What the sources of a system dictionary say, file by file.
@@ -18,8 +19,7 @@ pub(crate) struct SourceParts {
     pub(crate) matrix: Matrix,
     pub(crate) chars: CharTable,
     pub(crate) unknown: UnkTable,
-    /// The entries of all lexicons, in source order.
-    pub(crate) records: Vec<Record>,
+    pub(crate) lexicon: SourceLexicon,
     /// How many lines of the lexicons were skipped.
     pub(crate) skipped: u128,
 }
@@ -27,6 +27,7 @@ pub(crate) struct SourceParts {
 /// Reads the sources, up to the first fault.
 pub(crate) fn read_sources(alloc: Global, sources: &Sources<'_>) -> Result<SourceParts, SourceFault>
     ensures accepted { IfOk result (AreParts sources.now) }
+    ensures fitting { IfOk result FitTogether }
     ensures refused { IfErr result (λ fault. IsRefusal fault (IsSourcesFault sources.now fault)) }
 {
     let matrix = read_matrix(alloc, sources.matrix)?;
@@ -38,7 +39,7 @@ pub(crate) fn read_sources(alloc: Global, sources: &Sources<'_>) -> Result<Sourc
         matrix,
         chars,
         unknown,
-        records: lexicons.records,
+        lexicon: lexicons.lexicon,
         skipped: lexicons.skipped,
     })
 }

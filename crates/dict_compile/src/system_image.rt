@@ -1,28 +1,27 @@
 //! The image of what sources say.
 
 ghost use Rattle.std.specs.Prelude.{◌≡◌, IfOk, IfErr};
-ghost use Rattle.mj_model.specs.Lexicon.{rows_of};
 ghost use Rattle.image_writer.specs.declared.fault.LexiconFault.TheVariants.{ArrayFull, FeaturesTooLarge};
-ghost use Rattle.dict_compile.specs.Images.{AreStorable, HaveTooLarge, IsImageOf, MayLackCells};
+ghost use Rattle.dict_compile.specs.Images.{HaveTooLarge, IsImageOf, MayLackCells};
+ghost use Rattle.dict_compile.specs.Parts.{FitTogether};
 
 use crate::compiled::Compiled;
 use crate::parts::SourceParts;
-use crate::sorting::in_order;
 use image_writer::{LexiconFault, write_system};
 use std::alloc::Global;
 
 /// The image of a system dictionary, whose entries are sorted once.
 pub(crate) fn system_image(alloc: Global, parts: SourceParts) -> Result<Compiled, LexiconFault>
-    requires { AreStorable parts }
+    requires { FitTogether parts }
     ensures image { IfOk result (IsImageOf parts) }
 
     // A refusal has its reason.
     ensures large { IfErr result (λ fault. fault ≡ FeaturesTooLarge → HaveTooLarge parts) }
     ensures full { IfErr result (λ fault. fault ≡ ArrayFull
-        → MayLackCells (rows_of parts.records.items)) }
+        → MayLackCells parts.lexicon.rows) }
 {
-    let entries = parts.records.len() as u64;
-    let lexicon = in_order(parts.records)?;
+    let entries = parts.lexicon.len() as u64;
+    let lexicon = parts.lexicon.sorted()?;
     let image = write_system(alloc, &parts.matrix, &parts.chars, &parts.unknown, &lexicon)?;
     Ok(Compiled {
         image,

@@ -1,7 +1,8 @@
 //! The unknown entries of a dictionary's sources.
 
-ghost use Rattle.std.specs.Prelude.{Ok, Err, IfOk, IfErr};
+ghost use Rattle.std.specs.Prelude.{◌≡◌, [], length, Ok, Err, IfOk, IfErr};
 ghost use Rattle.mj_model.specs.FirstFault.{IsRefusal};
+ghost use Rattle.char_def.specs.Outside.{all_lines_outside};
 ghost use Rattle.mj_model.specs.UnkDef.{IsUnkWithin};
 
 use char_def::{CharTable, UnkTable, read_unk};
@@ -17,6 +18,8 @@ pub(crate) fn read_unknown(
 ) -> Result<UnkTable, SourceFault>
     ensures accepted { IfOk result (λ unk. IsUnkWithin sizes chars.now.categories bytes.now
         (Ok unk)) }
+    ensures count { IfOk result (λ unk. length unk ≡ length chars.now.categories) }
+    ensures within { IfOk result (λ unk. all_lines_outside sizes unk ≡ []) }
     ensures refused { IfErr result (λ fault. IsRefusal fault
         (IsUnkWithin sizes chars.now.categories bytes.now (Err fault))) }
 {

@@ -13,7 +13,7 @@ ghost use Rattle.dict_compile.specs.UserImages.{IsSystemOf};
 ghost use Rattle.dict_compile.specs.declared.fault.CompileUserFault.TheVariants.{NotSystem, Source};
 
 use crate::compiled::Compiled;
-use crate::fault::{CompileUserFault, image_fault};
+use crate::fault::CompileUserFault;
 use crate::lexicons::read_lexicons;
 use crate::user_image::user_image;
 use dict_image::Dict;
@@ -44,10 +44,7 @@ pub fn compile_user(
         return Err(CompileUserFault::NotSystem);
     }
     let sizes = system.matrix_sizes();
-    match compile_lexicons(alloc, sizes, lexicons) {
-        Ok(compiled) => Ok(compiled),
-        Err(fault) => Err(CompileUserFault::Source(fault)),
-    }
+    Ok(compile_lexicons(alloc, sizes, lexicons)?)
 }
 
 /// Compiles lexicons for a system dictionary of these sizes.
@@ -66,8 +63,5 @@ fn compile_lexicons(
         → IsUserFault system (lexicons_of lexicons.now) fault → IsRefusedFor fault result }
 {
     let read = read_lexicons(alloc, lexicons, sizes)?;
-    match user_image(alloc, sizes, read) {
-        Ok(compiled) => Ok(compiled),
-        Err(fault) => Err(image_fault(fault)),
-    }
+    Ok(user_image(alloc, read)?)
 }

@@ -3,7 +3,8 @@ use Rattle.std.proofs.Common.{◌≡◌, ℕ, ◌+◌, ◌*◌, ◌/◌, ◌^◌
 use Rattle.std.specs.Prelude.{slice_get}
 use Rattle.std.specs.Int.{w32, cast_signed, cast_unsigned}
 use Rattle.std.proofs.lemmas.Bool.{cases_lt}
-use Rattle.std.proofs.lemmas.Int.{to_z-of_z, ints}
+use Rattle.std.proofs.lemmas.Int.{to_z-of_z}
+use Rattle.std.proofs.Math.Facts.{Fits-of_z}
 use Rattle.std.proofs.lemmas.List.{length-append, ext_get_or}
 use Rattle.std.proofs.lemmas.List.FromFn.{length-map-range_with_len, get_or-map-range_with_len}
 use Rattle.std.proofs.lemmas.Option.{get_or_from_slice_get}
@@ -34,9 +35,6 @@ numbers_more f n bytes x holds is fits =
 
 -- ---- cells
 
-of_z_32 : (z : ℤ) → SFits w32 z → cast_unsigned w32 z < 2 ^ 32
-of_z_32 z fits = omega (arith, ints)
-
 pub cells_more : (cells : List Cell) (n : ℕ) (bytes : List ℕ) (b c : ℤ) → HoldsCells cells n bytes → slice_get cells n ≡ Some (b, c) → SFits w32 b → SFits w32 c → HoldsCells cells (n + 1) (bytes ++ cell_bytes_of (b, c))
 cells_more cells n bytes b c holds at base check =
     let fill = holds.fill in
@@ -50,9 +48,9 @@ cells_more cells n bytes b c holds at base check =
         | inr now ↦
             let e : n ≡ k = omega (arith, now, less) in
             let first : signed_4_at (bytes ++ more) (8 * k) ≡ b =
-            ap (cast_signed w32) (number_behind 4 0 bytes more (8 * k) (omega (arith, fill, e)) ∙ number_back 4 (cast_unsigned w32 b) (little_bytes 4 (cast_unsigned w32 c)) (of_z_32 b base)) ∙ to_z-of_z w32 b base in
+            ap (cast_signed w32) (number_behind 4 0 bytes more (8 * k) (omega (arith, fill, e)) ∙ number_back 4 (cast_unsigned w32 b) (little_bytes 4 (cast_unsigned w32 c)) (Fits-of_z base).fits) ∙ to_z-of_z w32 b base in
             let second : signed_4_at (bytes ++ more) (8 * k + 4) ≡ c =
-            ap (cast_signed w32) (number_behind 4 4 bytes more (8 * k + 4) (omega (arith, fill, e)) ∙ number_back 4 (cast_unsigned w32 c) [] (of_z_32 c check)) ∙ to_z-of_z w32 c check in
+            ap (cast_signed w32) (number_behind 4 4 bytes more (8 * k + 4) (omega (arith, fill, e)) ∙ number_back 4 (cast_unsigned w32 c) [] (Fits-of_z check).fits) ∙ to_z-of_z w32 c check in
             (λ j. (first j, second j)) ∙ sym (get_or_from_slice_get cells n (b, c) free_cell at) ∙ ap (cell_at cells) e
       ];
     }

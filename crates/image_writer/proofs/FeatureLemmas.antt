@@ -1,5 +1,5 @@
 -- Texts that are kept once each: what one more text adds, and how many bytes they have.
-use Rattle.std.proofs.Common.{◌≡◌, ℕ, ◌+◌, ◌^◌, ◌≤◌, Bool, true, false, cond, not, ◌||◌, ◌⊎◌, inl, inr, List, [], ◌∷◌, ◌++◌, length, map, filter, Option, Some, None, is_some, sym, ap, ◌∙◌, refl, arith, subst, append_assoc}
+use Rattle.std.proofs.Common.{◌≡◌, ℕ, ◌+◌, ◌≤◌, Bool, true, false, cond, not, ◌||◌, ◌⊎◌, inl, inr, List, [], ◌∷◌, ◌++◌, length, map, filter, Option, Some, None, is_some, sym, ap, ◌∙◌, refl, arith, subst, append_assoc}
 use Rattle.std.specs.Prelude.{bytes_eq, sum_by}
 use Rattle.std.specs.List.{concat, list_any, enumerate_from}
 use Rattle.std.proofs.lemmas.List.Concat.{concat_is, length-flat_map}
@@ -14,7 +14,7 @@ use Rattle.std.proofs.lemmas.Slice.Eq.{bytes_eq-Decides}
 use denote.Ref.{Bor}
 use Rattle.std.proofs.lemmas.Cmp.{nat_list_eq_equiv}
 use Rattle.std.proofs.lemmas.Option.{same_Some}
-use Rattle.image_bytes.specs.ImageBounds.{each_once, feature_bytes}
+use Rattle.image_bytes.specs.ImageBounds.{each_once, feature_bytes, feature_bytes_end}
 use Rattle.mj_model.specs.Lexicon.{Row}
 use Rattle.mj_model.specs.Tables.{Token}
 use Rattle.mj_model.specs.UnkDef.{token_of}
@@ -162,7 +162,7 @@ text_added texts text old new holds none added =
 
 -- where a new text finds no room, the texts are too large
 pub no_room : (texts : List (List ℕ)) (text : List ℕ) (store : FeatureStore) → HoldsTexts texts store → get_by (λ key. bytes_eq text key.now) store.places ≡ None
-    → 2 ^ 32 ≤ length store.bytes.items + length text → 2 ^ 32 ≤ sum_by length (each_once (texts ++ text ∷ []))
+    → feature_bytes_end ≤ length store.bytes.items + length text → feature_bytes_end ≤ sum_by length (each_once (texts ++ text ∷ []))
 no_room texts text store holds none full =
     let absent : list_any (bytes_eq text) texts ≡ false = sym (holds.known text) ∙ ap is_some none in
     let sum : sum_by length (each_once (texts ++ text ∷ [])) ≡ sum_by length (each_once texts) + length text =
@@ -179,7 +179,7 @@ features_numbered n (row ∷ rows) = ap (λ (texts : List (List ℕ)). row.featu
 pub feature_bytes_of : (rows : List Row) → feature_bytes (tokens_of rows) ≡ sum_by length (each_once (features_of rows))
 feature_bytes_of rows = ap (λ (texts : List (List ℕ)). sum_by length (each_once texts)) (features_numbered 0 rows)
 
-pub too_large : (rows : List Row) → 2 ^ 32 ≤ sum_by length (each_once (features_of rows)) → IsTooLarge rows
+pub too_large : (rows : List Row) → feature_bytes_end ≤ sum_by length (each_once (features_of rows)) → IsTooLarge rows
 too_large rows h = let e = feature_bytes_of rows in omega (arith, e, h)
 
 -- with more rows they stay too large
@@ -187,7 +187,7 @@ pub still_too_large : (rows more : List Row) → IsTooLarge rows → IsTooLarge 
 still_too_large rows more large =
     let e = feature_bytes_of rows in
     let rises = sum_once_rises length (features_of rows) (features_of more) in
-    too_large (rows ++ more) (subst (λ (texts : List (List ℕ)). 2 ^ 32 ≤ sum_by length (each_once texts)) (sym (map-append (λ (row : Row). row.feature) rows more)) (omega (arith, e, large, rises)))
+    too_large (rows ++ more) (subst (λ (texts : List (List ℕ)). feature_bytes_end ≤ sum_by length (each_once texts)) (sym (map-append (λ (row : Row). row.feature) rows more)) (omega (arith, e, large, rises)))
 
 -- ---- the map of places
 

@@ -1,19 +1,18 @@
 -- An image that was put together of well-formed sections is well formed.
-use Rattle.std.proofs.Common.{◌≡◌, ℕ, suc, ◌*◌, ◌≤◌, List, [], ◌∷◌, length, sym, subst, arith}
+use Rattle.std.proofs.Common.{◌≡◌, ℕ, suc, ◌*◌, ◌≤◌, List, [], ◌∷◌, length, sym, ap, ◌∙◌, subst, arith}
 use Rattle.std.specs.Prelude.{slice_index_or}
 use Rattle.mj_model.specs.declared.image_fault.ImageFault.TheVariants.{BadSection, BadKey, BadToken, BadText}
 use Rattle.image_bytes.specs.declared.header.Header.{Header}
 use Rattle.image_bytes.specs.ImageBytes.{header_length, header_of, kind_of, all_tokens, section, section_end, total_length}
-use Rattle.image_bytes.specs.ImageFaults.{Test, unless, unless_each, HasKey, IsHeader, IsWellFormed, PassAll, SystemAlone}
+use Rattle.image_bytes.specs.ImageFaults.{Test, unless, unless_each, HasKey, IsHeader, IsReadLayout, IsWellFormed, PassAll, SystemAlone}
 use Rattle.image_bytes.specs.ImageSections.{AreCategories, AreCosts, AreRanges, FitsSizes, HasFeature, HoldGroups, IsIndex, stored_cells, stored_token}
-use Rattle.image_writer.specs.declared.header.Numbers.{Numbers}
 use Rattle.image_writer.specs.Frames.{IsFramed}
 
 -- section k of some
 abbrev pub at : List (List ℕ) → ℕ → List ℕ
 at sections k = slice_index_or sections k []
 
--- the numbers of a header and its sections, as they are tested
+-- a header and its sections, as they are tested
 abbrev pub part_tests : Header → List (List ℕ) → List Test
 part_tests h s =
     unless (IsHeader h) (BadSection 0)
@@ -29,50 +28,26 @@ part_tests h s =
     ∷ unless_each (all_tokens h) (λ i. HasFeature (at s 7) (stored_token (at s 6) i)) BadText
     ∷ []
 
--- the header of an image with these numbers
-abbrev pub header_with : Numbers → List ℕ → Header
-header_with n lengths = record {
-  layout = 3;
-  kind = n.kind;
-  sizes = n.sizes;
-  categories = n.categories;
-  groups = n.groups;
-  tokens = n.tokens;
-  unknown = n.unknown;
-  lengths = lengths;
-}
-
 abbrev pub eight_of : (ℕ → List ℕ) → List (List ℕ)
 eight_of s = s 0 ∷ s 1 ∷ s 2 ∷ s 3 ∷ s 4 ∷ s 5 ∷ s 6 ∷ s 7 ∷ []
 
-module _ (n : Numbers) (s : List (List ℕ)) (image : List ℕ) (framed : IsFramed n s image) where
-  pub header_is : header_of image ≡ header_with n (header_of image).lengths
-  header_is = λ i. record {
-    layout = framed.layout i;
-    kind = framed.kind i;
-    sizes = framed.sizes i;
-    categories = framed.categories i;
-    groups = framed.groups i;
-    tokens = framed.tokens i;
-    unknown = framed.unknown i;
-    lengths = (header_of image).lengths;
-  }
-
-  pub sections_are : eight_of (λ k. section image (suc k)) ≡ eight_of (at s)
+module _ (h : Header) (s : List (List ℕ)) (image : List ℕ) (framed : IsFramed h s image) where
+  sections_are : eight_of (λ k. section image (suc k)) ≡ eight_of (at s)
   sections_are = λ i.
       framed.sections_are 0 (omega (arith)) i ∷ framed.sections_are 1 (omega (arith)) i ∷ framed.sections_are 2 (omega (arith)) i
       ∷ framed.sections_are 3 (omega (arith)) i ∷ framed.sections_are 4 (omega (arith)) i ∷ framed.sections_are 5 (omega (arith)) i
       ∷ framed.sections_are 6 (omega (arith)) i ∷ framed.sections_are 7 (omega (arith)) i ∷ []
 
-  -- the numbers and the sections of an image are these
-  pub from_parts : (P : Header → List (List ℕ) → Type 0) → P (header_with n (header_of image).lengths) (eight_of (at s)) → P (header_of image) (eight_of (λ k. section image (suc k)))
+  -- the header and the sections of an image are these
+  pub from_parts : (P : Header → List (List ℕ) → Type 0) → P h (eight_of (at s)) → P (header_of image) (eight_of (λ k. section image (suc k)))
   from_parts P p =
-      subst (λ (h : Header). P h (eight_of (λ k. section image (suc k)))) (sym header_is)
-      (subst (λ (ss : List (List ℕ)). P (header_with n (header_of image).lengths) ss) (sym sections_are) p)
+      subst (λ (g : Header). P g (eight_of (λ k. section image (suc k)))) (sym framed.header)
+      (subst (P h) (sym sections_are) p)
 
-  pub formed_of : PassAll (part_tests (header_with n (header_of image).lengths) (eight_of (at s))) → IsWellFormed image
-  formed_of pass =
-      let whole : length image ≡ total_length (header_of image) = framed.whole in
+  pub formed_of : IsReadLayout h.layout → PassAll (part_tests h (eight_of (at s))) → IsWellFormed image
+  formed_of layout pass =
+      let whole : length image ≡ total_length (header_of image) = framed.whole ∙ ap total_length (sym framed.header) in
       let long : header_length ≤ section_end (header_of image) 8 = omega (arith) in
-      let rest = from_parts (λ h ss. PassAll (part_tests h ss)) pass in
-      (omega (arith, whole, long), (framed.magic, (framed.layout, (omega (arith, whole), (omega (arith, whole), (framed.digest, rest))))))
+      let read = ap (λ (g : Header). g.layout) framed.header ∙ layout in
+      let rest = from_parts (λ g ss. PassAll (part_tests g ss)) pass in
+      (omega (arith, whole, long), (framed.magic, (read, (omega (arith, whole), (omega (arith, whole), (framed.digest, rest))))))

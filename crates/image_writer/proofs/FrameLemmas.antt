@@ -1,18 +1,20 @@
 -- What is read from an image that was put together.
 use Rattle.std.proofs.Common.{◌≡◌, ℕ, zero, suc, ◌+◌, ◌-◌, ◌*◌, ◌^◌, ◌<◌, ◌≤◌, List, [], ◌∷◌, ◌++◌, length, take, drop, refl, sym, ap, ◌∙◌, subst, arith, append_assoc, mul-le-mul_left}
-use Rattle.std.specs.Prelude.{flat_map, map, slice_index, slice_index_or, slice_range, sum, sum_by}
-use Rattle.std.specs.List.{AllByRecursion, range_with_len}
-use Rattle.std.proofs.lemmas.List.{drop-append-le, drop_at, length-append, length-map, take_all, take_at}
+use Rattle.std.specs.Prelude.{flat_map, map, slice_index, slice_index_or, slice_range, sum}
+use Rattle.std.proofs.lemmas.List.{drop-append-le, drop_at, ext_get_or, length-append, length-map, take_all, take_at}
+use Rattle.std.proofs.lemmas.List.Folds.{flat_map-map}
+use Rattle.std.proofs.lemmas.List.FromFn.{length-map-range_with_len, get_or-map-range_with_len}
+use Rattle.std.proofs.lemmas.List.Elements.{All-from_recursion}
 use Rattle.std.proofs.lemmas.List.Concat.{length-flat_map}
-use Rattle.std.proofs.lemmas.List.Sums.{sum_by-cons}
+use Rattle.std.proofs.lemmas.List.Sums.{sum-map, sum_by-cons}
 use Rattle.std.proofs.Math.Seq.{drop-append-add}
 use Rattle.byteorder.specs.Endian.{little_bytes, little_number}
 use Rattle.byteorder.specs.Numbers.{length-bytes_low_first}
 use Rattle.std.specs.Borrow.{Bor}
 use Rattle.sha2.specs.Sha256.{sha256}
 use Rattle.image_bytes.specs.ImageBytes.{behind_sections, header_length, header_of, image_magic, number_at, section, section_end, section_start}
-use Rattle.image_writer.specs.declared.header.Numbers.{Numbers}
-use Rattle.image_writer.specs.Frames.{AreShort, AreSmall, IsFramed, header_bytes, length_bytes, number_bytes, number_list}
+use Rattle.image_bytes.specs.declared.header.Header.{Header}
+use Rattle.image_writer.specs.Frames.{AreShort, AreSmall, IsFramed, IsHeaderFor, header_bytes, length_bytes, number_bytes, number_list}
 use Rattle.image_bytes.proofs.ItemLemmas.{item_at, items_length}
 use Rattle.image_bytes.proofs.NumberLemmas.{number_back}
 
@@ -59,141 +61,117 @@ section_in front (s ∷ sections) rest (suc k) less =
     omega (arith, e, l) in
     rw (grouped, at k, at (suc k)) (section_in (front ++ s) sections rest k (omega (arith, less)))
 
-pub sum_of_lengths : (sections : List (List ℕ)) → sum (map length sections) ≡ sum_by length sections
-sum_of_lengths [] = refl
-sum_of_lengths (s ∷ sections) =
-    sum_by-cons (λ n. n) (length s) (map length sections) ∙ ap (λ n. length s + n) (sum_of_lengths sections) ∙ sym (sum_by-cons length s sections)
-
--- a list by its numbers
-pub list_of : (f : ℕ → ℕ) (xs : List ℕ) (a : ℕ) → ((k : ℕ) → k < length xs → f (a + k) ≡ slice_index xs k) → map f (range_with_len a (length xs)) ≡ xs
-list_of f [] a same = refl
-list_of f (x ∷ xs) a same =
-    let first : f a ≡ x = (let e : a ≡ a + 0 = omega (arith) in ap f e ∙ same 0 (omega (arith))) in
-    let rest : map f (range_with_len (a + 1) (length xs)) ≡ xs = list_of f xs (a + 1)
-    (λ k less. let e : a + 1 + k ≡ a + suc k = omega (arith) in ap f e ∙ same (suc k) (omega (arith, less))) in
-    λ i. first i ∷ rest i
-
-pub joined_given : (given : List (Bor (List ℕ))) → joined (map (λ section. section.now) given) ≡ flat_map (λ section. section.now) given
-joined_given [] = refl
-joined_given (section ∷ given) = ap (λ (bytes : List ℕ). section.now ++ bytes) (joined_given given)
-
-pub lengths_given : (given : List (Bor (List ℕ))) → map length (map (λ section. section.now) given) ≡ map (λ section. length section.now) given
-lengths_given [] = refl
-lengths_given (section ∷ given) = ap (λ (lengths : List ℕ). length section.now ∷ lengths) (lengths_given given)
-
--- what holds of all numbers holds of each
-pub each_of : (P : ℕ → Type 0) (xs : List ℕ) (k : ℕ) → AllByRecursion P xs → k < length xs → P (slice_index xs k)
-each_of P [] k all less = absurd (omega (arith, less))
-each_of P (x ∷ xs) zero all less = all.0
-each_of P (x ∷ xs) (suc k) all less = each_of P xs k all.1 (omega (arith, less))
-
 -- ---- a whole image
 
-module _ (n : Numbers) (sections : List (List ℕ)) (eight : length sections ≡ 8) (small : AreSmall (number_list n)) (short : AreShort (map length sections)) where
-  abbrev pub lengths : List ℕ
-  lengths = map length sections
-
+module _ (h : Header) (sections : List (List ℕ)) (eight : length sections ≡ 8) (is_for : IsHeaderFor sections h) (small : AreSmall (number_list h)) (short : AreShort h.lengths) where
   abbrev pub header : List ℕ
-  header = header_bytes n lengths
+  header = header_bytes h
 
   abbrev pub front : List ℕ
-  front = image_magic ++ number_bytes n
+  front = image_magic ++ number_bytes h
 
   front_length : length front ≡ 40
   front_length =
-      let m = items_length (little_bytes 4) 4 (λ x. length-bytes_low_first 0 4 x) (number_list n) in
-      length-append image_magic (number_bytes n) ∙ ap (λ k. 8 + k) m
+      let m = items_length (little_bytes 4) 4 (λ x. length-bytes_low_first 0 4 x) (number_list h) in
+      length-append image_magic (number_bytes h) ∙ ap (λ k. 8 + k) m
+
+  eight_lengths : length h.lengths ≡ 8
+  eight_lengths = ap length is_for.lengths ∙ length-map sections length ∙ eight
 
   pub header_long : length header ≡ 104
   header_long =
-      let c : length lengths ≡ 8 = length-map sections length ∙ eight in
-      let m : length (length_bytes lengths) ≡ 64 = items_length (little_bytes 8) 8 (λ x. length-bytes_low_first 0 8 x) lengths ∙ ap (λ k. 8 * k) c in
-      ap length (sym (append_assoc image_magic (number_bytes n) (length_bytes lengths)))
-      ∙ length-append front (length_bytes lengths)
+      let m : length (length_bytes h.lengths) ≡ 64 = items_length (little_bytes 8) 8 (λ x. length-bytes_low_first 0 8 x) h.lengths ∙ ap (λ k. 8 * k) eight_lengths in
+      ap length (sym (append_assoc image_magic (number_bytes h) (length_bytes h.lengths)))
+      ∙ length-append front (length_bytes h.lengths)
       ∙ ap (λ k. length front + k) m ∙ ap (λ k. k + 64) front_length
 
   module _ (digest image : List ℕ) (is : image ≡ (header ++ joined sections) ++ digest) where
     around : image ≡ header ++ (joined sections ++ digest)
     around = is ∙ append_assoc header (joined sections) digest
 
-    numbers_around : image ≡ image_magic ++ (number_bytes n ++ (length_bytes lengths ++ (joined sections ++ digest)))
-    numbers_around = around ∙ append_assoc image_magic (number_bytes n ++ length_bytes lengths) (joined sections ++ digest)
-        ∙ ap (λ (bytes : List ℕ). image_magic ++ bytes) (append_assoc (number_bytes n) (length_bytes lengths) (joined sections ++ digest))
+    numbers_around : image ≡ image_magic ++ (number_bytes h ++ (length_bytes h.lengths ++ (joined sections ++ digest)))
+    numbers_around = around ∙ append_assoc image_magic (number_bytes h ++ length_bytes h.lengths) (joined sections ++ digest)
+        ∙ ap (λ (bytes : List ℕ). image_magic ++ bytes) (append_assoc (number_bytes h) (length_bytes h.lengths) (joined sections ++ digest))
 
-    lengths_around : image ≡ front ++ (length_bytes lengths ++ (joined sections ++ digest))
-    lengths_around = numbers_around ∙ sym (append_assoc image_magic (number_bytes n) (length_bytes lengths ++ (joined sections ++ digest)))
+    lengths_around : image ≡ front ++ (length_bytes h.lengths ++ (joined sections ++ digest))
+    lengths_around = numbers_around ∙ sym (append_assoc image_magic (number_bytes h) (length_bytes h.lengths ++ (joined sections ++ digest)))
 
-    pub number_is : (k : ℕ) → k < 8 → number_at 4 image (8 + 4 * k) ≡ slice_index (number_list n) k
+    number_is : (k : ℕ) → k < 8 → number_at 4 image (8 + 4 * k) ≡ slice_index (number_list h) k
     number_is k less =
         ap (λ (bytes : List ℕ). number_at 4 bytes (8 + 4 * k)) numbers_around
-        ∙ number_in_list 4 image_magic (number_list n) (length_bytes lengths ++ (joined sections ++ digest)) k (8 + 4 * k) refl less (each_of (λ m. m < 2 ^ 32) (number_list n) k small less)
+        ∙ number_in_list 4 image_magic (number_list h) (length_bytes h.lengths ++ (joined sections ++ digest)) k (8 + 4 * k) refl less (All-from_recursion (λ m. m < 2 ^ 32) (number_list h) small k 0 less)
 
-    pub lengths_are : (header_of image).lengths ≡ lengths
+    lengths_are : (header_of image).lengths ≡ h.lengths
     lengths_are =
-        let c : length lengths ≡ 8 = length-map sections length ∙ eight in
         let f = front_length in
-        ap (λ m. map (λ k. number_at 8 image (40 + 8 * k)) (range_with_len 0 m)) (sym c)
-        ∙ list_of (λ k. number_at 8 image (40 + 8 * k)) lengths 0
-        (λ k less. ap (λ (bytes : List ℕ). number_at 8 bytes (40 + 8 * (0 + k))) lengths_around
-        ∙ number_in_list 8 front lengths (joined sections ++ digest) k (40 + 8 * (0 + k)) (omega (arith, f)) less (each_of (λ m. m < 2 ^ 64) lengths k short less))
+        let e = eight_lengths in
+        ext_get_or 0 (header_of image).lengths h.lengths (length-map-range_with_len (λ k. number_at 8 image (40 + 8 * k)) 0 8 ∙ sym e)
+        (λ k less.
+        let low : k < length h.lengths = omega (arith, e, less) in
+        get_or-map-range_with_len (λ j. number_at 8 image (40 + 8 * j)) 0 8 k k 0 less (omega (arith))
+        ∙ ap (λ (bytes : List ℕ). number_at 8 bytes (40 + 8 * k)) lengths_around
+        ∙ number_in_list 8 front h.lengths (joined sections ++ digest) k (40 + 8 * k) (omega (arith, f)) low (All-from_recursion (λ m. m < 2 ^ 64) h.lengths short k 0 low))
 
-    pub sections_are : (k : ℕ) → k < 8 → section image (suc k) ≡ slice_index_or sections k []
+    header_is : header_of image ≡ h
+    header_is = λ i. record {
+      layout = number_is 0 (omega (arith)) i;
+      kind = number_is 1 (omega (arith)) i;
+      sizes = record { right = number_is 2 (omega (arith)) i; left = number_is 3 (omega (arith)) i };
+      categories = number_is 4 (omega (arith)) i;
+      groups = number_is 5 (omega (arith)) i;
+      tokens = number_is 6 (omega (arith)) i;
+      unknown = number_is 7 (omega (arith)) i;
+      lengths = lengths_are i;
+    }
+
+    -- where a section begins, by the header and by the sections
+    place_is : (k : ℕ) → header_length + sum (take k h.lengths) ≡ start_of header sections k
+    place_is k = ap (λ (ls : List ℕ). header_length + sum (take k ls)) is_for.lengths ∙ ap (λ m. m + sum (take k (map length sections))) (sym header_long)
+
+    sections_are : (k : ℕ) → k < 8 → section image (suc k) ≡ slice_index_or sections k []
     sections_are k less =
-        let h = header_long in
         let before : suc k - 1 ≡ k = omega (arith) in
         let start : section_start (header_of image) (suc k) ≡ start_of header sections k =
-        ap (λ j. header_length + sum (take j (header_of image).lengths)) before
-        ∙ ap (λ (ls : List ℕ). header_length + sum (take k ls)) lengths_are ∙ ap (λ m. m + sum (take k lengths)) (sym h) in
-        let end : section_end (header_of image) (suc k) ≡ start_of header sections (suc k) =
-        ap (λ (ls : List ℕ). header_length + sum (take (suc k) ls)) lengths_are ∙ ap (λ m. m + sum (take (suc k) lengths)) (sym h) in
+        ap (λ j. header_length + sum (take j (header_of image).lengths)) before ∙ ap (λ (g : Header). header_length + sum (take k g.lengths)) header_is ∙ place_is k in
+        let end : section_end (header_of image) (suc k) ≡ start_of header sections (suc k) = ap (λ (g : Header). section_end g (suc k)) header_is ∙ place_is (suc k) in
         ap (slice_range image (section_start (header_of image) (suc k))) end
         ∙ ap (λ a. slice_range image a (start_of header sections (suc k))) start
         ∙ ap (λ (bytes : List ℕ). slice_range bytes (start_of header sections k) (start_of header sections (suc k))) around
         ∙ section_in header sections digest k (omega (arith, less, eight))
 
     -- the header and the sections end where the last section does
-    pub end_is : section_end (header_of image) 8 ≡ length (header ++ joined sections)
+    end_is : section_end h 8 ≡ length (header ++ joined sections)
     end_is =
-        let h = header_long in
-        let c : length lengths ≡ 8 = length-map sections length ∙ eight in
-        let l = length-append header (joined sections) in
-        let j : length (joined sections) ≡ sum (take 8 lengths) = length-flat_map (λ (s : List ℕ). s) sections ∙ sym (sum_of_lengths sections) ∙ ap sum (sym (take_all 8 lengths (omega (arith, c)))) in
-        ap (λ (ls : List ℕ). header_length + sum (take 8 ls)) lengths_are ∙ sym (l ∙ ap (λ m. m + length (joined sections)) h ∙ ap (λ m. 104 + m) j)
+        let c : length (map length sections) ≡ 8 = length-map sections length ∙ eight in
+        let j : length (joined sections) ≡ sum (take 8 (map length sections)) =
+        length-flat_map (λ (s : List ℕ). s) sections ∙ sym (sum-map length sections) ∙ ap sum (sym (take_all 8 (map length sections) (omega (arith, c)))) in
+        place_is 8 ∙ sym (length-append header (joined sections) ∙ ap (λ m. length header + m) j)
 
-    pub framed : digest ≡ sha256 (header ++ joined sections) → length digest ≡ 32 → IsFramed n sections image
+    pub framed : digest ≡ sha256 (header ++ joined sections) → length digest ≡ 32 → IsFramed h sections image
     framed digest_is digest_long =
         let body = header ++ joined sections in
-        let layout : (header_of image).layout ≡ 3 = number_is 0 (omega (arith)) in
-        let e = end_is in
+        let e : section_end (header_of image) 8 ≡ length body = ap (λ (g : Header). section_end g 8) header_is ∙ end_is in
         record {
           magic = ap (take 8) numbers_around;
-          layout = layout;
-          kind = number_is 1 (omega (arith));
-          sizes = λ i. record { right = number_is 2 (omega (arith)) i; left = number_is 3 (omega (arith)) i };
-          categories = number_is 4 (omega (arith));
-          groups = number_is 5 (omega (arith));
-          tokens = number_is 6 (omega (arith));
-          unknown = number_is 7 (omega (arith));
+          header = header_is;
           sections_are = sections_are;
           whole =
               let l = ap length is ∙ length-append body digest in
-              let behind : behind_sections (header_of image).layout ≡ 32 = ap behind_sections layout in
-              omega (arith, l, behind, e, digest_long);
+              let behind : behind_sections h.layout ≡ 32 = ap behind_sections is_for.layout in
+              let end = end_is in
+              omega (arith, l, behind, end, digest_long);
           digest = λ three.
               ap (λ m. drop m image) e ∙ ap (drop (length body)) is ∙ drop_at body digest (length body) refl
               ∙ digest_is ∙ ap sha256 (sym (ap (λ m. take m image) e ∙ ap (take (length body)) is ∙ take_at body digest (length body) refl));
         }
 
 -- an image whose parts were written one behind another
-pub frame_of : (n : Numbers) (given : List (Bor (List ℕ))) (start head all digest image : List ℕ) → length given ≡ 8 → AreSmall (number_list n)
-    → AreShort (map (λ section. length section.now) given) → start ≡ [] → head ≡ start ++ header_bytes n (map (λ section. length section.now) given)
+pub frame_of : (h : Header) (given : List (Bor (List ℕ))) (start head all digest image : List ℕ) → length given ≡ 8 → IsHeaderFor (map (λ section. section.now) given) h
+    → AreSmall (number_list h) → AreShort h.lengths → start ≡ [] → head ≡ start ++ header_bytes h
     → all ≡ head ++ flat_map (λ section. section.now) given → digest ≡ sha256 all → length digest ≡ 32 → image ≡ all ++ digest
-    → IsFramed n (map (λ section. section.now) given) image
-frame_of n given start head all digest image eight small short none header_is all_is digest_is digest_long is =
+    → IsFramed h (map (λ section. section.now) given) image
+frame_of h given start head all digest image eight is_for small short none header_is all_is digest_is digest_long is =
     let sections = map (λ (section : Bor (List ℕ)). section.now) given in
-    let ls : map length sections ≡ map (λ (section : Bor (List ℕ)). length section.now) given = lengths_given given in
-    let whole : all ≡ header_bytes n (map length sections) ++ joined sections =
-    all_is ∙ rw (header_is, none) (ap (λ (lengths : List ℕ). header_bytes n lengths ++ flat_map (λ (section : Bor (List ℕ)). section.now) given) (sym ls))
-    ∙ ap (λ (bytes : List ℕ). header_bytes n (map length sections) ++ bytes) (sym (joined_given given)) in
-    framed n sections (length-map given (λ (section : Bor (List ℕ)). section.now) ∙ eight) small (subst AreShort (sym ls) short) digest image
+    let whole : all ≡ header_bytes h ++ joined sections = all_is ∙ rw (header_is, none) (ap (λ (bytes : List ℕ). header_bytes h ++ bytes) (sym (flat_map-map (λ (section : List ℕ). section) (λ (section : Bor (List ℕ)). section.now) given))) in
+    framed h sections (length-map given (λ (section : Bor (List ℕ)). section.now) ∙ eight) is_for small short digest image
     (is ∙ ap (λ (bytes : List ℕ). bytes ++ digest) whole) (digest_is ∙ ap sha256 whole) digest_long

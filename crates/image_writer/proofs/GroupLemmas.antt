@@ -1,12 +1,14 @@
 -- Entries in the byte order of their surfaces: those of one surface stand side by side.
-use Rattle.std.proofs.Common.{◌≡◌, ◌≢◌, ℕ, zero, suc, ◌+◌, ◌-◌, ◌<◌, ◌≤◌, ◌⊎◌, inl, inr, Bool, true, false, List, [], ◌∷◌, ◌++◌, length, get_or, Some, None, sym, ap, ◌∙◌, refl, arith, subst, true≢false}
+use Rattle.std.proofs.Common.{◌≡◌, ◌≢◌, ℕ, zero, suc, ◌+◌, ◌-◌, ◌<◌, ◌≤◌, ◌⊎◌, inl, inr, true, false, List, [], ◌∷◌, ◌++◌, length, get_or, Some, None, sym, ap, ◌∙◌, refl, arith, subst, true≢false}
 use Rattle.std.specs.Prelude.{IsSortedByKey, bytes_eq}
 use Rattle.std.specs.Cmp.Lexicographic.{slice_cmp}
-use Rattle.std.specs.Ordering.{nat_cmp, is_lt, is_gt, is_eq, ordering_reverse}
+use Rattle.std.specs.Ordering.{nat_cmp, is_lt, is_eq, ordering_reverse}
 use Rattle.std.specs.declared.cmp.Ordering.{Ordering}
 use Rattle.std.specs.declared.cmp.Ordering.TheVariants.{Less, Equal, Greater}
-use Rattle.std.proofs.lemmas.Bool.{cases_lt}
-use Rattle.std.proofs.lemmas.Cmp.{nat_list_cmp_total, tied_itself, upto}
+use Rattle.std.proofs.lemmas.Bool.{cases_Bool, cases_lt}
+use Rattle.std.proofs.lemmas.Cmp.{nat_list_cmp_total}
+use Rattle.std.proofs.lemmas.List.MinMax.{ranks_by}
+use Rattle.std.proofs.lemmas.List.Sorted.{sorted_far}
 use Rattle.std.proofs.lemmas.List.{get_or_append_left, get_or_push, get_or_past, get_or_default, length_push}
 use Rattle.std.proofs.lemmas.Option.{same_Some, none-some}
 use Rattle.std.proofs.lemmas.Slice.Eq.{bytes_eq-Decides}
@@ -17,49 +19,38 @@ use Rattle.mj_model.specs.Lexicon.{Row}
 use Rattle.image_writer.specs.Entries.{surface_at, no_row}
 use Rattle.image_writer.specs.Groups.{AreGroups, BeginsGroup, MapsGroups}
 
+-- two surfaces are one or are not
+pub same_or_not : (xs ys : List ℕ) → (xs ≡ ys) ⊎ (xs ≢ ys)
+same_or_not xs ys = elim (cases_Bool (bytes_eq xs ys)) [
+  | inl e ↦ inl ((bytes_eq-Decides xs ys).0 e)
+  | inr e ↦ inr (λ same. true≢false (sym ((bytes_eq-Decides xs ys).1 same) ∙ e))
+]
+
 -- ---- the order
 
--- neither is above the other, so they are one
-same_from_both : (xs ys : List ℕ) → is_gt (slice_cmp nat_cmp xs ys) ≡ false → is_gt (slice_cmp nat_cmp ys xs) ≡ false → xs ≡ ys
+-- neither is before the other, so they are one
+same_from_both : (xs ys : List ℕ) → is_lt (slice_cmp nat_cmp xs ys) ≡ false → is_lt (slice_cmp nat_cmp ys xs) ≡ false → xs ≡ ys
 same_from_both xs ys a b = (bytes_eq-Decides xs ys).0 (sym (is_eq-slice_cmp xs ys) ∙ equal (slice_cmp nat_cmp xs ys) (slice_cmp nat_cmp ys xs) (nat_list_cmp_total.antisymm xs ys) a b)
   where
-    equal : (o p : Ordering) → o ≡ ordering_reverse p → is_gt o ≡ false → is_gt p ≡ false → is_eq o ≡ true
-    equal Less Less h a b = absurd (cc)
-    equal Less Equal h a b = absurd (cc)
-    equal Less Greater h a b = absurd (true≢false b)
+    equal : (o p : Ordering) → o ≡ ordering_reverse p → is_lt o ≡ false → is_lt p ≡ false → is_eq o ≡ true
+    equal Less p h a b = absurd (true≢false a)
     equal Equal p h a b = refl
-    equal Greater p h a b = absurd (true≢false a)
+    equal Greater Less h a b = absurd (true≢false b)
+    equal Greater Equal h a b = absurd (cc)
+    equal Greater Greater h a b = absurd (cc)
 
-no_greater : (xs ys : List ℕ) → is_lt (slice_cmp nat_cmp ys xs) ≡ false → is_gt (slice_cmp nat_cmp xs ys) ≡ false
-no_greater xs ys h = turn (slice_cmp nat_cmp xs ys) (slice_cmp nat_cmp ys xs) (nat_list_cmp_total.antisymm xs ys) h
-  where
-    turn : (o p : Ordering) → o ≡ ordering_reverse p → is_lt p ≡ false → is_gt o ≡ false
-    turn Less p h a = refl
-    turn Equal p h a = refl
-    turn Greater Less h a = absurd (true≢false a)
-    turn Greater Equal h a = absurd (cc)
-    turn Greater Greater h a = absurd (cc)
-
--- an earlier surface is not above a later one
-rising : (rows : List Row) → IsSortedByKey surface_of (slice_cmp nat_cmp) rows → (i n : ℕ) → i + n < length rows → is_gt (slice_cmp nat_cmp (surface_at rows i) (surface_at rows (i + n))) ≡ false
-rising rows sorted i zero less = ap is_gt (ap (slice_cmp nat_cmp (surface_at rows i)) (ap (surface_at rows) (omega arith)) ∙ tied_itself nat_list_cmp_total (surface_at rows i))
-rising rows sorted i (suc n) less =
-    let next : i + suc n ≡ i + n + 1 = omega arith in
-    subst (λ (j : ℕ). is_gt (slice_cmp nat_cmp (surface_at rows i) (surface_at rows j)) ≡ false) (sym next)
-    (upto nat_list_cmp_total (surface_at rows i) (surface_at rows (i + n)) (surface_at rows (i + n + 1)) (rising rows sorted i n (omega (arith, less)))
-    (no_greater (surface_at rows (i + n)) (surface_at rows (i + n + 1)) (sorted (i + n) no_row (omega arith) (omega (arith, less)))))
-
-pub no_later_above : (rows : List Row) → IsSortedByKey surface_of (slice_cmp nat_cmp) rows → (i j : ℕ) → i ≤ j → j < length rows → is_gt (slice_cmp nat_cmp (surface_at rows i) (surface_at rows j)) ≡ false
-no_later_above rows sorted i j order less =
-    subst (λ (k : ℕ). is_gt (slice_cmp nat_cmp (surface_at rows i) (surface_at rows k)) ≡ false) (let e : i + (j - i) ≡ j = omega (arith, order) in e) (rising rows sorted i (j - i) (omega (arith, order, less)))
+-- a later surface is not before an earlier one
+no_later_before : (rows : List Row) → IsSortedByKey surface_of (slice_cmp nat_cmp) rows → (i j : ℕ) → i ≤ j → j < length rows → is_lt (slice_cmp nat_cmp (surface_at rows j) (surface_at rows i)) ≡ false
+no_later_before rows sorted i j order less =
+    sorted_far (λ (x y : Row). is_lt (slice_cmp nat_cmp x.surface y.surface)) (ranks_by nat_list_cmp_total surface_of) rows sorted i j no_row order less
 
 -- where an entry differs from the one before it, no earlier entry has its surface
 pub new_surface : (rows : List Row) → IsSortedByKey surface_of (slice_cmp nat_cmp) rows → (i j : ℕ) → i < length rows → BeginsGroup rows i → j < i → surface_at rows j ≢ surface_at rows i
 new_surface rows sorted i j less (inl first) before same = absurd (omega (arith, first, before))
 new_surface rows sorted i j less (inr differs) before same =
     differs (same_from_both (surface_at rows i) (surface_at rows (i - 1))
-    (subst (λ (s : List ℕ). is_gt (slice_cmp nat_cmp s (surface_at rows (i - 1))) ≡ false) same (no_later_above rows sorted j (i - 1) (omega (arith, before)) (omega (arith, less))))
-    (no_later_above rows sorted (i - 1) i (omega arith) less))
+    (no_later_before rows sorted (i - 1) i (omega arith) less)
+    (subst (λ (s : List ℕ). is_lt (slice_cmp nat_cmp (surface_at rows (i - 1)) s) ≡ false) same (no_later_before rows sorted j (i - 1) (omega (arith, before)) (omega (arith, less)))))
 
 -- ---- groups
 
@@ -186,7 +177,7 @@ map_begun rows sorted seen starts old new less groups maps begins with =
             let e : g ≡ length starts = omega (arith, long, low, now) in
             ap (λ (s : ℕ). value_of new (surface_at rows s)) (ap (λ (h : ℕ). get_or (starts ++ seen ∷ []) h (seen + 1)) e ∙ last) ∙ with.there ∙ ap Some (sym e)
       ];
-      only = λ key g found. elim (key_cases key (surface_at rows seen)) [
+      only = λ key g found. elim (same_or_not key (surface_at rows seen)) [
         | inl same ↦
             let e : length starts ≡ g = same_Some (length starts) g (sym with.there ∙ ap (value_of new) (sym same) ∙ found) in
             (omega (arith, long, e), same ∙ ap (surface_at rows) (sym (ap (λ (h : ℕ). get_or (starts ++ seen ∷ []) h (seen + 1)) (sym e) ∙ last)))
@@ -195,10 +186,4 @@ map_begun rows sorted seen starts old new less groups maps begins with =
             let low = o.0 in
             (omega (arith, long, low), o.1 ∙ ap (surface_at rows) (sym (was g o.0)))
       ];
-    } where
-      key_cases : (key other : List ℕ) → (key ≡ other) ⊎ (key ≢ other)
-      key_cases key other = by (bytes_eq key other) refl
-        where
-          by : (b : Bool) → bytes_eq key other ≡ b → (key ≡ other) ⊎ (key ≢ other)
-          by true e = inl ((bytes_eq-Decides key other).0 e)
-          by false e = inr (λ same. true≢false (sym ((bytes_eq-Decides key other).1 same) ∙ e))
+    }

@@ -1,5 +1,5 @@
 -- One entry more: whether it begins a group, how many cells its surface may take, and that the entries so far stay in their groups.
-use Rattle.std.proofs.Common.{◌≡◌, ◌≢◌, ℕ, ◌+◌, ◌-◌, ◌^◌, ◌<◌, ◌≤◌, ◌⊎◌, inl, inr, Bool, true, false, cond, not, List, [], ◌∷◌, ◌++◌, length, map, take, drop, get_or, None, sym, ap, ◌∙◌, refl, arith, subst, true≢false}
+use Rattle.std.proofs.Common.{◌≡◌, ◌≢◌, ℕ, ◌+◌, ◌-◌, ◌<◌, ◌≤◌, ◌⊎◌, inl, inr, Bool, true, false, cond, not, List, [], ◌∷◌, ◌++◌, length, map, take, drop, get_or, None, sym, ap, ◌∙◌, refl, arith, subst, true≢false}
 use Rattle.std.specs.Prelude.{IsSortedByKey, sum_by, bytes_eq, string_bytes}
 use Rattle.std.specs.String.{string_eq}
 use Rattle.std.specs.Cmp.Lexicographic.{slice_cmp}
@@ -7,7 +7,7 @@ use Rattle.std.specs.List.{list_any, enumerate_from}
 use Rattle.std.specs.declared.vec.Vec.{Vec}
 use Rattle.std.specs.declared.alloc.Global.{Global}
 use Rattle.std.specs.Ordering.{nat_cmp}
-use Rattle.std.proofs.lemmas.Bool.{cases_lt}
+use Rattle.std.proofs.lemmas.Bool.{cases_lt, false_from_ne_true}
 use Rattle.std.proofs.lemmas.List.{get_or-map, length-map, length-take, get_or-take, take_more, take-append-drop}
 use Rattle.std.proofs.lemmas.List.Folds.{list_any_none}
 use Rattle.std.proofs.lemmas.Slice.Eq.{bytes_eq-Decides}
@@ -21,16 +21,9 @@ use Rattle.image_writer.specs.Entries.{surface_at, no_row, lexemes_of}
 use Rattle.image_writer.specs.Groups.{AreGroups, BeginsGroup, MapsGroups, AreGrouped, most_cells_of}
 use Rattle.image_writer.specs.declared.groups.Groups.{Groups}
 use Rattle.image_writer.proofs.FeatureLemmas.{sum_once_more, sum_once_rises}
-use Rattle.image_writer.proofs.GroupLemmas.{group_begun, group_goes_on, map_begun, map_goes_on, new_surface, no_groups, no_map}
+use Rattle.image_writer.proofs.GroupLemmas.{group_begun, group_goes_on, map_begun, map_goes_on, new_surface, no_groups, no_map, same_or_not}
 
 -- ---- the test for a new group
-
-same_or_not : (xs ys : List ℕ) → (xs ≡ ys) ⊎ (xs ≢ ys)
-same_or_not xs ys = by (bytes_eq xs ys) refl
-  where
-    by : (b : Bool) → bytes_eq xs ys ≡ b → (xs ≡ ys) ⊎ (xs ≢ ys)
-    by true e = inl ((bytes_eq-Decides xs ys).0 e)
-    by false e = inr (λ same. true≢false (sym ((bytes_eq-Decides xs ys).1 same) ∙ e))
 
 pub surface_is : (records : List Record) (i : ℕ) (x : Record) → i < length records → surface_at (rows_of records) i ≡ string_bytes (get_or records i x).surface
 surface_is records i x less = ap (λ (row : Row). row.surface) (get_or-map row_of records i x no_row less)
@@ -38,16 +31,16 @@ surface_is records i x less = ap (λ (row : Row). row.surface) (get_or-map row_o
 pub begins_by_test : (records : List Record) (i : ℕ) (x y : Record) (r : Bool) → i < length records → i ≢ 0 → r ≡ not (string_eq (get_or records i x).surface (get_or records (i - 1) y).surface)
     → (r ≡ true → BeginsGroup (rows_of records) i) × (BeginsGroup (rows_of records) i → r ≡ true)
 begins_by_test records i x y r less some test =
+    let this : List ℕ = string_bytes (get_or records i x).surface in
+    let before : List ℕ = string_bytes (get_or records (i - 1) y).surface in
     let a = surface_is records i x less in
     let b = surface_is records (i - 1) y (omega (arith, less)) in (
-      λ yes. inr (λ same. true≢false (sym yes ∙ test ∙ ap not ((bytes_eq-Decides (string_bytes (get_or records i x).surface) (string_bytes (get_or records (i - 1) y).surface)).1 (sym a ∙ same ∙ b)))),
-      λ begins. by begins (bytes_eq (string_bytes (get_or records i x).surface) (string_bytes (get_or records (i - 1) y).surface)) refl,
-    ) where
-      by : BeginsGroup (rows_of records) i → (t : Bool) → bytes_eq (string_bytes (get_or records i x).surface) (string_bytes (get_or records (i - 1) y).surface) ≡ t → r ≡ true
-      by begins false e = test ∙ ap not e
-      by (inl none) true e = absurd (some none)
-      by (inr differs) true e =
-          absurd (differs (surface_is records i x less ∙ (bytes_eq-Decides (string_bytes (get_or records i x).surface) (string_bytes (get_or records (i - 1) y).surface)).0 e ∙ sym (surface_is records (i - 1) y (omega (arith, less)))))
+      λ yes. inr (λ same. true≢false (sym yes ∙ test ∙ ap not ((bytes_eq-Decides this before).1 (sym a ∙ same ∙ b)))),
+      λ begins. test ∙ ap not (false_from_ne_true (bytes_eq this before) (λ e. elim begins [
+        | inl none ↦ some none
+        | inr differs ↦ differs (a ∙ (bytes_eq-Decides this before).0 e ∙ sym b)
+      ])),
+    )
 
 -- an entry that begins no group follows one of its surface
 pub goes_on : (rows : List Row) (i : ℕ) → (BeginsGroup rows i → ⊥) → (0 < i) × (surface_at rows i ≡ surface_at rows (i - 1))
@@ -88,11 +81,8 @@ most_begun rows sorted i less begins =
         let m = length-map rows surface_of in
         let before : k < i = omega (arith, low, t, m, less) in
         let is : get_or (take i (map surface_of rows)) k d ≡ surface_at rows k = get_or-take i (map surface_of rows) k d before ∙ get_or-map surface_of rows k no_row d (omega (arith, before, less)) in
-        by (bytes_eq (surface_at rows i) (get_or (take i (map surface_of rows)) k d)) refl (λ e. new_surface rows sorted i k less begins before (sym ((bytes_eq-Decides (surface_at rows i) (get_or (take i (map surface_of rows)) k d)).0 e ∙ is)))
-      where
-        by : (b : Bool) → bytes_eq (surface_at rows i) (get_or (take i (map surface_of rows)) k d) ≡ b → (bytes_eq (surface_at rows i) (get_or (take i (map surface_of rows)) k d) ≡ true → ⊥) → bytes_eq (surface_at rows i) (get_or (take i (map surface_of rows)) k d) ≡ false
-        by true e none = absurd (none e)
-        by false e none = e
+        let texts : List (List ℕ) = take i (map surface_of rows) in
+        false_from_ne_true (bytes_eq (surface_at rows i) (get_or texts k d)) (λ e. new_surface rows sorted i k less begins before (sym ((bytes_eq-Decides (surface_at rows i) (get_or texts k d)).0 e ∙ is)))
 
 surfaces_numbered : (n : ℕ) (rows : List Row) → map (λ (e : Lexeme). e.surface) (map lexeme_of (enumerate_from n rows)) ≡ map surface_of rows
 surfaces_numbered n [] = refl
@@ -129,7 +119,7 @@ grouped_on rows i groups less grouped none =
     }
 
 pub grouped_full : (rows : List Row) → IsSortedByKey surface_of (slice_cmp nat_cmp) rows → (i : ℕ) (groups : Groups) (surface : List ℕ) → i < length rows → AreGrouped rows i groups → BeginsGroup rows i
-    → surface ≡ surface_at rows i → 2 ^ 30 < length groups.array + length surface + 600 → cells_max < most_cells (lexemes_of rows)
+    → surface ≡ surface_at rows i → cells_max < length groups.array + length surface + 600 → cells_max < most_cells (lexemes_of rows)
 grouped_full rows sorted i groups surface less grouped begins is full =
     let m = grouped.most in
     let e = most_begun rows sorted i less begins in

@@ -1,20 +1,23 @@
 -- The cells of a map from each group's surface to its number hold each group once, under its key.
-use Rattle.std.proofs.Common.{◌≡◌, ℕ, zero, suc, ◌+◌, ◌*◌, ◌^◌, ◌<◌, ◌≤◌, ℤ, pos, negsuc, inl, inr, List, [], ◌∷◌, ◌++◌, append-nil, length, get_or, Some, sym, ap, ◌∙◌, refl, arith, subst}
+use Rattle.std.proofs.Common.{◌≡◌, ℕ, zero, suc, ◌+◌, ◌*◌, ◌<◌, ◌≤◌, ℤ, pos, negsuc, inl, inr, List, [], ◌∷◌, ◌++◌, append-nil, length, get_or, Some, sym, ap, ◌∙◌, arith, subst}
 use Rattle.std.specs.Prelude.{All, IsUtf8}
 use Rattle.std.proofs.lemmas.Bool.{cases_lt}
-use Rattle.std.proofs.lemmas.List.{get_or_past, length-map}
+use Rattle.std.proofs.lemmas.List.{get_or_past}
 use Rattle.std.proofs.lemmas.Option.{same_Some}
 use Rattle.std.proofs.lemmas.Str.{IsUtf8-string_bytes}
 use Rattle.mj_model.specs.declared.entry.Record.{Record}
 use Rattle.double_array.specs.CellMap.{Cell, free_cell, base, check, walk, codes_of, value_of}
 use Rattle.double_array.specs.CellRules.{AreCells, AreOnKeys, IsBaseAfter, MeetsRules}
+use Rattle.image_bytes.specs.ImageBounds.{cells_max}
 use Rattle.image_bytes.specs.ImageFaults.{HasKey}
 use Rattle.image_bytes.specs.ImageSections.{IsKeyOf, StandsOnce, index_at, key_of, stored_cells}
-use Rattle.mj_model.specs.Lexicon.{Row, row_of, rows_of}
+use Rattle.mj_model.specs.declared.matrix_sizes.MatrixSizes.{MatrixSizes}
+use Rattle.mj_model.specs.Lexicon.{Row, rows_of}
+use Rattle.lex_source.specs.Lexicons.{IsLexiconRow}
 use Rattle.double_array.proofs.CellWalks.{child_of, step_named, walk_append, walk_first, value_parts}
 use Rattle.image_writer.specs.declared.groups.Groups.{Groups}
 use Rattle.image_writer.specs.declared.keys.KeyBytes.{KeyBytes}
-use Rattle.image_writer.specs.Entries.{HasKeySurface, no_row, surface_at}
+use Rattle.image_writer.specs.Entries.{no_row, surface_at}
 use Rattle.image_writer.specs.Groups.{AreGroups, AreGrouped, MapsGroups}
 use Rattle.image_writer.specs.Sections.{AreKeyBytes}
 use Rattle.image_writer.proofs.GroupLemmas.{starts_below}
@@ -113,40 +116,31 @@ module _ (rows : List Row) (seen : ℕ) (starts : List ℕ) (cells : List Cell) 
 
 -- ---- the keys of the groups
 
-key_of_group : (records : List Record) → All HasKeySurface (rows_of records) → (seen : ℕ) (starts : List ℕ) (cells : List Cell) → seen ≡ length records → AreGroups (rows_of records) seen starts
-    → MapsGroups (rows_of records) seen starts cells → (g : ℕ) → g < length starts → IsKeyOf cells g (surface_at (rows_of records) (get_or starts g seen))
-key_of_group records surfaces seen starts cells all groups maps g less =
-    let i : ℕ = get_or starts g seen in
-    let low = starts_below (rows_of records) seen starts groups g less in
-    let within : i < length records = omega (arith, low, all) in
-    let long = length-map records row_of in
-    let s = surfaces i no_row (omega (arith, within, long)) in
-    record {
-      some = s.some;
-      short = s.short;
-      is_text = text i within;
-      value = maps.there g less;
-    } where
-      text : (i : ℕ) → i < length records → IsUtf8 (surface_at (rows_of records) i)
-      text i less = by records i less
-        where
-          by : (rs : List Record) (i : ℕ) → i < length rs → IsUtf8 (surface_at (rows_of rs) i)
-          by [] i less = absurd (omega (arith, less))
-          by (r ∷ rs) zero less = IsUtf8-string_bytes r.surface
-          by (r ∷ rs) (suc i) less = by rs i (omega (arith, less))
+pub texts_of : (records : List Record) (i : ℕ) → i < length (rows_of records) → IsUtf8 (surface_at (rows_of records) i)
+texts_of [] i less = absurd (omega (arith, less))
+texts_of (r ∷ rs) zero less = IsUtf8-string_bytes r.surface
+texts_of (r ∷ rs) (suc i) less = texts_of rs i (omega (arith, less))
 
-pub key_bytes : (records : List Record) → All HasKeySurface (rows_of records) → (groups : Groups) (bytes : KeyBytes) → AreGrouped (rows_of records) (length records) groups
-    → stored_cells bytes.cells.items ≡ groups.array → length bytes.cells.items ≡ 8 * length groups.array → length groups.array ≤ 2 ^ 30 → AreCells groups.array → AreOnKeys groups.array
-    → length bytes.index.items ≡ 4 * (length groups.starts.items + 1) → ((g : ℕ) → g < length groups.starts.items + 1 → index_at bytes.index.items g ≡ get_or groups.starts.items g (length records))
-    → bytes.groups ≡ length groups.starts.items → AreKeyBytes (rows_of records) bytes
-key_bytes records surfaces groups bytes grouped same fill most formed keys index_fill numbers count =
-    let rows : List Row = rows_of records in
-    let n : ℕ = length records in
+key_of_group : (sizes : MatrixSizes) (rows : List Row) → All (IsLexiconRow sizes) rows → ((i : ℕ) → i < length rows → IsUtf8 (surface_at rows i))
+    → (starts : List ℕ) (cells : List Cell) → AreGroups rows (length rows) starts → MapsGroups rows (length rows) starts cells
+    → (g : ℕ) → g < length starts → IsKeyOf cells g (surface_at rows (get_or starts g (length rows)))
+key_of_group sizes rows each texts starts cells groups maps g less =
+    let i : ℕ = get_or starts g (length rows) in
+    let low = starts_below rows (length rows) starts groups g less in
+    let row = each i no_row low in
+    record { some = row.some; short = row.short; is_text = texts i low; value = maps.there g less }
+
+pub key_bytes : (sizes : MatrixSizes) (rows : List Row) → All (IsLexiconRow sizes) rows → ((i : ℕ) → i < length rows → IsUtf8 (surface_at rows i))
+    → (groups : Groups) (bytes : KeyBytes) → AreGrouped rows (length rows) groups
+    → stored_cells bytes.cells.items ≡ groups.array → length bytes.cells.items ≡ 8 * length groups.array → length groups.array ≤ cells_max → AreCells groups.array → AreOnKeys groups.array
+    → length bytes.index.items ≡ 4 * (length groups.starts.items + 1) → ((g : ℕ) → g < length groups.starts.items + 1 → index_at bytes.index.items g ≡ get_or groups.starts.items g (length rows))
+    → bytes.groups ≡ length groups.starts.items → AreKeyBytes rows bytes
+key_bytes sizes rows each texts groups bytes grouped same fill most formed keys index_fill numbers count =
+    let n : ℕ = length rows in
     let starts : List ℕ = groups.starts.items in
-    let long : length rows ≡ n = length-map records row_of in
     let rules = group_rules rows n starts groups.array grouped.map formed.0 formed.1 keys in
     let once = stands_once rows n starts groups.array grouped.map formed.0 formed.1 keys in
-    let key = key_of_group records surfaces n starts groups.array refl grouped.are_groups grouped.map in
+    let key = key_of_group sizes rows each texts starts groups.array grouped.are_groups grouped.map in
     let some : 0 < length groups.array = some_cells formed.0 groups.array formed.1 in
     let index : List ℕ = bytes.index.items in
     let below : (g : ℕ) → g < bytes.groups → g < length starts = λ g less. omega (arith, less, count) in
@@ -170,9 +164,9 @@ key_bytes records surfaces groups bytes grouped same fill most formed keys index
             let b = numbers (suc g) (omega (arith, low)) in
             let r = grouped.are_groups.rising g low in
             omega (arith, a, b, r);
-        last = ap (index_at index) count ∙ numbers (length starts) (omega arith) ∙ get_or_past starts (length starts) n (omega arith) ∙ sym long;
+        last = ap (index_at index) count ∙ numbers (length starts) (omega arith) ∙ get_or_past starts (length starts) n (omega arith);
       };
-      few = let f = grouped.are_groups.few in omega (arith, f, long, count);
+      few = let f = grouped.are_groups.few in omega (arith, f, count);
       entries = record {
         alike = λ g i less from to.
             let low = below g less in

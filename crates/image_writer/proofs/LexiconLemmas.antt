@@ -1,10 +1,10 @@
 -- The entries of all groups, one group behind another, are those of the lexicon.
 use Rattle.std.proofs.Common.{◌≡◌, ℕ, zero, suc, ◌+◌, ◌-◌, ◌<◌, ◌≤◌, List, [], ◌∷◌, ◌++◌, length, map, take, drop, get_or, Some, sym, ap, ◌∙◌, refl, arith, subst, append_assoc}
 use Rattle.std.specs.Prelude.{flat_map, slice_get}
-use Rattle.std.specs.List.{range_with_len, enumerate_from}
+use Rattle.std.specs.List.{range_with_len}
 use Rattle.std.proofs.lemmas.List.{flat_map_more, get_or_append_left, length-append, map-append, take_all, take_more, take-append-drop}
 use Rattle.std.proofs.lemmas.List.Concat.{flat_map-append}
-use Rattle.std.proofs.lemmas.Option.{slice_get-get_or}
+use Rattle.std.proofs.lemmas.Option.{get_or_from_slice_get, slice_get-get_or}
 use Rattle.image_bytes.specs.ImageBounds.{feature_bytes, feature_bytes_end}
 use Rattle.mj_model.specs.Dictionary.{lexeme_of}
 use Rattle.image_bytes.specs.ImageMeaning.{LexiconSections, entries_of_group, entry_under, lexicon_in}
@@ -15,6 +15,7 @@ use Rattle.image_writer.specs.declared.tokens.TokenWriter.{TokenWriter}
 use Rattle.image_writer.specs.Entries.{all_rows, lexemes_of, no_row, tokens_of}
 use Rattle.image_writer.specs.Groups.{AreUnderKeys}
 use Rattle.image_writer.specs.Sections.{AreWritten, HoldTokens, IsTooLarge, features_of}
+use Rattle.image_writer.proofs.RowLemmas.{numbered}
 use Rattle.image_writer.proofs.FeatureLemmas.{feature_bytes_of, size_of, still_too_large}
 
 -- ---- ranges of numbers
@@ -29,13 +30,6 @@ range_join a (suc m) n =
 -- an entry by its number
 abbrev lexeme_at : List Row → ℕ → Lexeme
 lexeme_at rows i = lexeme_of (i, get_or rows i no_row)
-
-numbered : (f : ℕ → Lexeme) (a : ℕ) (rows : List Row) → ((i j : ℕ) → a + i ≡ j → i < length rows → f j ≡ lexeme_of (j, get_or rows i no_row)) → map f (range_with_len a (length rows)) ≡ map lexeme_of (enumerate_from a rows)
-numbered f a [] each = refl
-numbered f a (r ∷ rs) each =
-    let first : f a ≡ lexeme_of (a, r) = each 0 a (omega arith) (omega arith) in
-    let rest = numbered f (a + 1) rs (λ i j at less. each (suc i) j (omega (arith, at)) (omega (arith, less))) in
-    cc
 
 -- ---- the entries of groups
 
@@ -111,7 +105,8 @@ module _ (s : LexiconSections) (rows more : List Row) (groups : ℕ) (hold : Hol
       of_groups groups 0 (omega arith)
       ∙ ap (λ (a : ℕ). map (lexeme_at rows) (range_with_len a (index_at s.groups (0 + groups) - a))) zero_first
       ∙ ap (λ (n : ℕ). map (lexeme_at rows) (range_with_len 0 n)) (omega (arith, last))
-      ∙ numbered (lexeme_at rows) 0 rows (λ i j at less. let e : i ≡ j = omega (arith, at) in ap (λ (k : ℕ). lexeme_of (j, get_or rows k no_row)) (sym e))
+      ∙ numbered (lexeme_at rows) lexeme_of 0 rows
+      (λ k row at. let e : 0 + k ≡ k = omega (arith) in ap (λ (r : Row). lexeme_of (0 + k, r)) (ap (λ (n : ℕ). get_or rows n no_row) e ∙ get_or_from_slice_get rows k row no_row at))
 
 -- ---- features
 

@@ -3,7 +3,6 @@ pub mod CostLemmas
 pub mod IndexLemmas
 pub mod CategoryLemmas
 pub mod RangeLemmas
-pub mod CoverLemmas
 pub mod Results
 pub mod TokenLemmas
 pub mod FeatureLemmas
@@ -19,4 +18,3 @@ pub mod PartLemmas
 pub mod SystemLemmas
 pub mod WholeLemmas
 pub mod UserLemmas
-pub mod SampleLemmas

@@ -3,34 +3,24 @@ use Rattle.std.proofs.Common.{◌≡◌, ℕ, zero, suc, ◌+◌, ◌-◌, ◌<�
 use Rattle.std.specs.Prelude.{pos, if◌then◌else◌, map, nat_lt, slice_get, slice_index_or, sum_by, Some}
 use Rattle.std.specs.List.{range_with_len}
 use Rattle.std.proofs.lemmas.Bool.{ltb-true, ltb-false}
-use Rattle.std.proofs.lemmas.List.Sums.{sum_by-cons}
+use Rattle.std.proofs.lemmas.List.Sums.{sum_by_more}
 use Rattle.std.proofs.lemmas.Option.{slice_get_within}
 use Rattle.mj_model.specs.Connection.{is_pair}
 use Rattle.image_bytes.specs.ImageMeaning.{tokens_in}
 use Rattle.image_bytes.specs.ImageSections.{index_at, stored_cost, token_from}
 use Rattle.mj_model.specs.Lexicon.{Row}
-use Rattle.mj_model.specs.UnkDef.{unknown_tokens}
+use Rattle.mj_model.specs.UnkDef.{token_of, unknown_tokens}
 use Rattle.matrix_def.specs.Costs.{CostTable, matrix_cost}
 use Rattle.image_writer.specs.StoredTables.{AreCostsOf, AreUnknownOf}
 use Rattle.image_writer.specs.Entries.{all_rows}
 use Rattle.image_writer.specs.Sections.{HoldTokens}
-use Rattle.image_writer.proofs.RowLemmas.{get_behind, get_joined, joined, tokens_at, tokens_of_rows}
+use Rattle.image_writer.proofs.RowLemmas.{get_behind, get_joined, joined, numbered, tokens_at}
 
 -- connection costs as functions
 pub same_cost : (m : CostTable) (costs : List ℕ) → AreCostsOf m costs → (right left : ℕ) (b : Bool) → is_pair m.sizes right left ≡ b
     → (if b then stored_cost m.sizes costs right left else pos 0) ≡ (if b then matrix_cost m right left else pos 0)
 same_cost m costs are right left true is = are.costs right left is
 same_cost m costs are right left false is = refl
-
--- the rows of a category behind those of lower ones
-rows_there : (unknown : List (List Row)) (i : ℕ) → i < length unknown → sum_by length (take (suc i) unknown) ≡ sum_by length (take i unknown) + length (slice_index_or unknown i [])
-rows_there [] i less = absurd (omega (arith, less))
-rows_there (rows ∷ unknown) zero less = omega (arith)
-rows_there (rows ∷ unknown) (suc i) less =
-    let rest = rows_there unknown i (omega (arith, less)) in
-    let more : sum_by length (take (suc (suc i)) (rows ∷ unknown)) ≡ length rows + sum_by length (take (suc i) unknown) = sum_by-cons length rows (take (suc i) unknown) in
-    let fewer : sum_by length (take (suc i) (rows ∷ unknown)) ≡ length rows + sum_by length (take i unknown) = sum_by-cons length rows (take i unknown) in
-    omega (arith, rest, more, fewer)
 
 -- the unknown entries of a category
 unknown_at : (rows : List Row) (unknown : List (List Row)) (index tokens features : List ℕ) → AreUnknownOf (length rows) unknown index → HoldTokens (all_rows rows unknown) tokens features
@@ -40,11 +30,12 @@ unknown_at rows unknown index tokens features are hold i less =
     let here = slice_index_or unknown i [] in
     let a : index_at index i ≡ first = are.each i (omega (arith, less)) in
     let b = are.each (suc i) less in
-    let r = rows_there unknown i less in
+    let next : suc i ≡ i + 1 = omega (arith) in
+    let r = ap (λ n. sum_by length (take n unknown)) next ∙ sum_by_more length unknown i [] less in
     let count : index_at index (suc i) - index_at index i ≡ length here = omega (arith, a, b, r) in
     ap (λ n. map (token_from tokens features) (range_with_len (index_at index i) n)) count
     ∙ ap (λ n. map (token_from tokens features) (range_with_len n (length here))) a
-    ∙ tokens_of_rows (token_from tokens features) here first (λ k row is.
+    ∙ numbered (token_from tokens features) token_of first here (λ k row is.
     let within = slice_get_within here k row is in
     let place : first + k ≡ length rows + (sum_by length (take i unknown) + k) = omega (arith) in
     let there : slice_get (all_rows rows unknown) (first + k) ≡ Some row =

@@ -1,12 +1,12 @@
 -- A token that is written behind others is read back, and the others stay.
-use Rattle.std.proofs.Common.{◌≡◌, ℕ, ◌+◌, ◌*◌, ◌^◌, ◌<◌, ◌≤◌, ℤ, List, [], ◌∷◌, ◌++◌, length, Some, ◌⊎◌, inl, inr, sym, ap, ◌∙◌, refl, arith, subst}
+use Rattle.std.proofs.Common.{◌≡◌, ℕ, ◌+◌, ◌*◌, ◌<◌, ◌≤◌, List, [], ◌∷◌, ◌++◌, length, Some, ◌⊎◌, inl, inr, sym, ap, ◌∙◌, refl, arith, subst}
 use Rattle.std.specs.Prelude.{slice_get, IsUtf8}
 use Rattle.std.specs.Int.{w16, cast_signed, cast_unsigned}
 use Rattle.std.proofs.lemmas.Bool.{cases_lt}
-use Rattle.std.proofs.lemmas.Int.{to_z-of_z, ints}
+use Rattle.std.proofs.lemmas.Int.{to_z-of_z}
+use Rattle.std.proofs.Math.Facts.{Fits-of_z}
 use Rattle.std.proofs.lemmas.List.{length_push, length-append, get_or_append_left, get_or_push}
 use Rattle.std.proofs.lemmas.Option.{get_or_from_slice_get, slice_get-get_or, slice_get_past, none-some}
-use mir.Val.{SFits}
 use Rattle.byteorder.specs.Endian.{little_bytes}
 use Rattle.image_bytes.specs.ImageBytes.{number_at, signed_2_at}
 use Rattle.image_bytes.specs.ImageSections.{StoredToken, stored_token, HasFeature, stored_feature, feature_end}
@@ -17,9 +17,6 @@ use Rattle.image_writer.specs.TokenBytes.{FitsBytes, stored_bytes}
 use Rattle.image_bytes.proofs.NumberLemmas.{number_kept, number_behind, number_back, range_kept}
 
 -- ---- one token
-
-of_z_16 : (z : ℤ) → SFits w16 z → cast_unsigned w16 z < 2 ^ 16
-of_z_16 z fits = omega (arith, ints)
 
 -- the token at the front of its bytes
 token_back : (t : StoredToken) → FitsBytes t → stored_token (stored_bytes t) 0 ≡ t
@@ -32,7 +29,7 @@ token_back t fits =
     let f = little_bytes 4 t.feature_length in
     let left : number_at 2 (stored_bytes t) 0 ≡ t.left = number_back 2 t.left (b ++ c ++ d ++ e ++ f) fits.left in
     let right : number_at 2 (stored_bytes t) 2 ≡ t.right = number_back 2 t.right (c ++ d ++ e ++ f) fits.right in
-    let cost : signed_2_at (stored_bytes t) 4 ≡ t.cost = ap (cast_signed w16) (number_back 2 (cast_unsigned w16 t.cost) (d ++ e ++ f) (of_z_16 t.cost fits.cost)) ∙ to_z-of_z w16 t.cost fits.cost in
+    let cost : signed_2_at (stored_bytes t) 4 ≡ t.cost = ap (cast_signed w16) (number_back 2 (cast_unsigned w16 t.cost) (d ++ e ++ f) (Fits-of_z fits.cost).fits) ∙ to_z-of_z w16 t.cost fits.cost in
     let spare : number_at 2 (stored_bytes t) 6 ≡ t.spare = number_back 2 t.spare (e ++ f) (let z = fits.spare in omega (arith, z)) in
     let place : number_at 4 (stored_bytes t) 8 ≡ t.feature_start = number_back 4 t.feature_start f fits.place in
     let long : number_at 4 (stored_bytes t) 12 ≡ t.feature_length = number_back 4 t.feature_length [] fits.long in

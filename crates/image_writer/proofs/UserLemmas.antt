@@ -1,46 +1,44 @@
 -- A whole image of a user dictionary.
-use Rattle.std.proofs.Common.{◌≡◌, ℕ, ◌<◌, ◌≤◌, List, [], length, append-nil, refl, sym, subst, arith}
-use Rattle.mj_model.specs.declared.limits.TheConstants.{ENTRIES_MAX}
+use Rattle.std.proofs.Common.{◌≡◌, ℕ, ◌<◌, List, [], append-nil, refl, ap, subst, arith}
 use Rattle.image_bytes.specs.ImageBounds.{feature_bytes, feature_bytes_end}
 use Rattle.mj_model.specs.declared.matrix_sizes.MatrixSizes.{MatrixSizes}
 use Rattle.image_bytes.specs.ImageBytes.{kind_of}
 use Rattle.image_bytes.specs.ImageMeaning.{lexicon_in}
 use Rattle.mj_model.specs.Lexicon.{Row}
 use Rattle.mj_model.specs.Tables.{User}
-use Rattle.image_writer.specs.declared.header.Numbers.{Numbers}
+use Rattle.image_bytes.specs.declared.header.Header.{Header}
 use Rattle.image_writer.specs.Frames.{IsFramed}
 use Rattle.image_writer.specs.declared.lexicon.LexiconBytes.{LexiconBytes}
 use Rattle.image_writer.specs.Entries.{lexemes_of, tokens_of}
 use Rattle.image_writer.specs.Sections.{AreSections}
 use Rattle.mj_model.specs.Connection.{AreMatrixSizes}
-use Rattle.image_writer.specs.Ids.{AreWithin}
+use Rattle.lex_source.specs.Lexicons.{AreLexiconRows}
 use Rattle.image_writer.specs.UserImages.{IsUserImage}
 use Rattle.image_writer.proofs.FormedLemmas.{at, from_parts}
-use Rattle.image_writer.proofs.PartLemmas.{AreParts, numbers_with, sections_with, well_formed}
+use Rattle.image_writer.proofs.PartLemmas.{AreParts, header_with, sections_with, well_formed}
 
 module _ (sizes : MatrixSizes) (rows : List Row) (bytes : LexiconBytes) where
   -- what the parts say of a user dictionary
   pub record AreUserParts : Type 0 where
     pub sizes_fit : AreMatrixSizes sizes
-    pub few : length rows ≤ ENTRIES_MAX
-    pub ids : AreWithin sizes rows
+    pub entries : AreLexiconRows (record { sizes = sizes; rows = rows })
     pub lexicon : AreSections rows [] bytes
 
-  abbrev pub numbers : Numbers
-  numbers = numbers_with 1 sizes 0 rows [] bytes
+  abbrev pub header : Header
+  header = header_with 1 sizes 0 rows [] [] [] [] [] bytes
 
   abbrev pub sections : List (List ℕ)
   sections = sections_with [] [] [] [] bytes
 
-  module _ (parts : AreUserParts) (image : List ℕ) (framed : IsFramed numbers sections image) where
+  module _ (parts : AreUserParts) (image : List ℕ) (framed : IsFramed header sections image) where
     are_parts : AreParts 1 sizes 0 rows [] [] [] [] [] bytes
     are_parts = record {
       is_kind = omega (arith);
       sizes_fit = parts.sizes_fit;
       counts = (refl, refl);
-      few = parts.few;
+      entries = parts.entries;
       few_unknown = omega (arith);
-      ids = subst (AreWithin sizes) (sym (append-nil rows)) parts.ids;
+      ids = refl;
       costs_formed = refl;
       categories_formed = refl;
       ranges_formed = refl;
@@ -51,10 +49,10 @@ module _ (sizes : MatrixSizes) (rows : List Row) (bytes : LexiconBytes) where
     pub user_image : IsUserImage sizes rows image
     user_image = record {
       well_formed = well_formed 1 sizes 0 rows [] [] [] [] [] bytes are_parts image framed;
-      layout = framed.layout;
-      kind = from_parts numbers sections image framed (λ h ss. kind_of h ≡ User) refl;
-      sizes_kept = framed.sizes;
-      lexicon = from_parts numbers sections image framed
+      layout = ap (λ (h : Header). h.layout) framed.header;
+      kind = from_parts header sections image framed (λ h ss. kind_of h ≡ User) refl;
+      sizes_kept = ap (λ (h : Header). h.sizes) framed.header;
+      lexicon = from_parts header sections image framed
           (λ h ss. lexicon_in h.groups (record { keys = at ss 4; groups = at ss 5; tokens = at ss 6; features = at ss 7 }) ≡ lexemes_of rows) parts.lexicon.means;
       few_features = subst (λ (all : List Row). feature_bytes (tokens_of all) < feature_bytes_end) (append-nil rows) parts.lexicon.few_features;
     }

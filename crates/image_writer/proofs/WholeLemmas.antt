@@ -1,28 +1,27 @@
 -- A whole image of a system dictionary.
 use Rattle.std.proofs.Common.{◌≡◌, ℕ, ◌+◌, ◌≤◌, List, [], length, refl, sym, ap, ◌∙◌, subst, arith}
 use Rattle.std.specs.Prelude.{pos, if◌then◌else◌, map, nat_lt, sum_by}
-use Rattle.mj_model.specs.declared.limits.TheConstants.{CATEGORIES_MAX, ENTRIES_MAX}
+use Rattle.mj_model.specs.declared.limits.TheConstants.{ENTRIES_MAX}
 use Rattle.mj_model.specs.CharDef.{NamedCategory}
 use Rattle.mj_model.specs.Connection.{is_pair}
 use Rattle.image_bytes.specs.declared.header.Header.{Header}
-use Rattle.image_bytes.specs.ImageBytes.{header_of, kind_of}
+use Rattle.image_bytes.specs.ImageBytes.{kind_of}
 use Rattle.image_bytes.specs.ImageMeaning.{lexicon_in, tokens_in}
 use Rattle.image_bytes.specs.ImageSections.{IsIndex, categories_in, stored_cost, stored_info}
 use Rattle.mj_model.specs.Lexicon.{Row}
 use Rattle.mj_model.specs.SourceTables.{SayTheSame}
 use Rattle.mj_model.specs.Tables.{Tables}
 use Rattle.matrix_def.specs.Costs.{CostTable, IsMatrix}
-use Rattle.char_def.specs.Categories.{CharCategories}
-use Rattle.image_writer.specs.declared.header.Numbers.{Numbers}
+use Rattle.lex_source.specs.Lexicons.{AreLexiconRows}
+use Rattle.char_def.specs.Categories.{CharCategories, IsCategoryTable}
+use Rattle.char_def.specs.Outside.{all_lines_outside}
 use Rattle.image_writer.specs.Frames.{IsFramed}
-use Rattle.image_writer.specs.StoredTables.{AreCategoriesOf, AreCostsOf, AreRangesOf, AreUnknownOf}
+use Rattle.image_writer.specs.StoredTables.{AreCategoriesOf, AreCostsOf, HoldRangesOf, AreUnknownOf}
 use Rattle.image_writer.specs.declared.lexicon.LexiconBytes.{LexiconBytes}
-use Rattle.image_writer.specs.Entries.{all_rows}
 use Rattle.image_writer.specs.Sections.{AreSections}
-use Rattle.image_writer.specs.Ids.{AreWithin}
 use Rattle.image_writer.specs.SystemImages.{IsSystemImage, tables_with}
-use Rattle.image_writer.proofs.FormedLemmas.{at, eight_of, from_parts, header_with}
-use Rattle.image_writer.proofs.PartLemmas.{AreParts, numbers_with, sections_with, well_formed}
+use Rattle.image_writer.proofs.FormedLemmas.{at, eight_of, from_parts}
+use Rattle.image_writer.proofs.PartLemmas.{AreParts, header_with, sections_with, well_formed}
 use Rattle.image_writer.proofs.SystemLemmas.{same_cost, same_unknown}
 
 -- the tables that a header and sections mean
@@ -41,31 +40,30 @@ module _ (m : CostTable) (chars : CharCategories) (unknown : List (List Row)) (r
   -- what the parts say of a system dictionary
   pub record AreSystemParts : Type 0 where
     pub matrix : IsMatrix m
-    pub few : length rows ≤ ENTRIES_MAX
+    pub entries : AreLexiconRows (record { sizes = m.sizes; rows = rows })
     pub few_unknown : sum_by length unknown ≤ ENTRIES_MAX
     pub count : length unknown ≡ length chars.categories
-    pub some_categories : 1 ≤ length chars.categories
-    pub few_categories : length chars.categories ≤ CATEGORIES_MAX
-    pub ids : AreWithin m.sizes (all_rows rows unknown)
+    pub chars_formed : IsCategoryTable chars
+    pub ids : all_lines_outside m.sizes unknown ≡ []
     pub costs_are : AreCostsOf m costs
     pub categories_are : AreCategoriesOf chars categories
-    pub ranges_are : AreRangesOf chars ranges
+    pub ranges_are : HoldRangesOf chars ranges
     pub index_are : AreUnknownOf (length rows) unknown index
     pub lexicon : AreSections rows unknown bytes
 
-  abbrev pub numbers : Numbers
-  numbers = numbers_with 0 m.sizes (length chars.categories) rows unknown bytes
+  abbrev pub header : Header
+  header = header_with 0 m.sizes (length chars.categories) rows unknown costs categories ranges index bytes
 
   abbrev pub sections : List (List ℕ)
   sections = sections_with costs categories ranges index bytes
 
-  module _ (parts : AreSystemParts) (image : List ℕ) (framed : IsFramed numbers sections image) where
+  module _ (parts : AreSystemParts) (image : List ℕ) (framed : IsFramed header sections image) where
     are_parts : AreParts 0 m.sizes (length chars.categories) rows unknown costs categories ranges index bytes
     are_parts = record {
       is_kind = omega (arith);
       sizes_fit = parts.matrix.sizes;
-      counts = (parts.some_categories, parts.few_categories);
-      few = parts.few;
+      counts = (parts.chars_formed.some, parts.chars_formed.few);
+      entries = parts.entries;
       few_unknown = parts.few_unknown;
       ids = parts.ids;
       costs_formed = parts.costs_are.formed;
@@ -75,7 +73,7 @@ module _ (m : CostTable) (chars : CharCategories) (unknown : List (List Row)) (r
       lexicon = parts.lexicon;
     }
 
-    same_tables : SayTheSame (tables_in (header_with numbers (header_of image).lengths) (eight_of (at sections))) (tables_with m chars unknown rows)
+    same_tables : SayTheSame (tables_in header (eight_of (at sections))) (tables_with m chars unknown rows)
     same_tables = record {
       kind = refl;
       sizes = refl;
@@ -91,8 +89,8 @@ module _ (m : CostTable) (chars : CharCategories) (unknown : List (List Row)) (r
     pub system_image : IsSystemImage m chars unknown rows image
     system_image = record {
       well_formed = well_formed 0 m.sizes (length chars.categories) rows unknown costs categories ranges index bytes are_parts image framed;
-      layout = framed.layout;
-      tables = from_parts numbers sections image framed (λ h ss. SayTheSame (tables_in h ss) (tables_with m chars unknown rows)) same_tables;
-      categories = from_parts numbers sections image framed (λ h ss. categories_in h.categories (at ss 1) ≡ chars.categories) parts.categories_are.categories;
+      layout = ap (λ (h : Header). h.layout) framed.header;
+      tables = from_parts header sections image framed (λ h ss. SayTheSame (tables_in h ss) (tables_with m chars unknown rows)) same_tables;
+      categories = from_parts header sections image framed (λ h ss. categories_in h.categories (at ss 1) ≡ chars.categories) parts.categories_are.categories;
       few_features = parts.lexicon.few_features;
     }

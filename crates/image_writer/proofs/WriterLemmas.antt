@@ -1,9 +1,9 @@
 -- The tokens of more rows are written.
-use Rattle.std.proofs.Common.{◌≡◌, ℕ, ◌+◌, ◌^◌, ◌<◌, ◌≤◌, List, [], ◌∷◌, ◌++◌, length, take, drop, get_or, sym, ap, ◌∙◌, subst, append_assoc}
+use Rattle.std.proofs.Common.{◌≡◌, ℕ, ◌+◌, ◌<◌, ◌≤◌, List, [], ◌∷◌, ◌++◌, length, take, drop, get_or, sym, ap, ◌∙◌, subst, append_assoc}
 use Rattle.std.specs.Prelude.{IsUtf8, sum_by}
 use Rattle.std.proofs.lemmas.List.{map-append, map_more, take_all, take-append-drop}
 use Rattle.mj_model.specs.declared.entry.Record.{Record}
-use Rattle.image_bytes.specs.ImageBounds.{each_once}
+use Rattle.image_bytes.specs.ImageBounds.{each_once, feature_bytes_end}
 use Rattle.mj_model.specs.Lexicon.{Row, row_of, rows_of}
 use Rattle.image_writer.specs.declared.tokens.TokenWriter.{TokenWriter}
 use Rattle.image_writer.specs.Sections.{AreWritten, HoldTokens, HoldsOneMore, HoldsTexts, IsTooLarge, StandsAt, features_of}
@@ -23,9 +23,9 @@ token_written rows row old new place written more fits text bytes =
       features = subst (λ (texts : List (List ℕ)). HoldsTexts texts new.features) (sym (map-append (λ (r : Row). r.feature) rows (row ∷ []))) more.holds;
     }
 
-pub record_too_large : (rows : List Row) (row : Row) → 2 ^ 32 ≤ sum_by length (each_once (features_of rows ++ row.feature ∷ [])) → IsTooLarge (rows ++ row ∷ [])
+pub record_too_large : (rows : List Row) (row : Row) → feature_bytes_end ≤ sum_by length (each_once (features_of rows ++ row.feature ∷ [])) → IsTooLarge (rows ++ row ∷ [])
 record_too_large rows row large =
-    too_large (rows ++ row ∷ []) (subst (λ (texts : List (List ℕ)). 2 ^ 32 ≤ sum_by length (each_once texts)) (sym (map-append (λ (r : Row). r.feature) rows (row ∷ []))) large)
+    too_large (rows ++ row ∷ []) (subst (λ (texts : List (List ℕ)). feature_bytes_end ≤ sum_by length (each_once texts)) (sym (map-append (λ (r : Row). r.feature) rows (row ∷ []))) large)
 
 -- ---- rows of records
 

@@ -1,7 +1,6 @@
 -- The entries of a dictionary as rows, with their numbers.
-use Rattle.std.specs.Prelude.{ℕ, ◌≤◌, pos, List, [], ◌++◌, length, map, flat_map, slice_index_or}
+use Rattle.std.specs.Prelude.{ℕ, pos, List, [], ◌++◌, map, flat_map, slice_index_or}
 use Rattle.std.specs.List.{enumerate_from}
-use Rattle.mj_model.specs.declared.limits.TheConstants.{SURFACE_MAX}
 use Rattle.mj_model.specs.Dictionary.{lexeme_of}
 use Rattle.mj_model.specs.Lexicon.{Row}
 use Rattle.mj_model.specs.Tables.{Token, Lexeme}
@@ -18,11 +17,6 @@ tokens_of rows = map token_of (enumerate_from 0 rows)
 -- the same with their surfaces
 abbrev pub lexemes_of : List Row → List Lexeme
 lexemes_of rows = map lexeme_of (enumerate_from 0 rows)
-
--- a surface of 1 to `SURFACE_MAX` bytes
-pub record HasKeySurface (row : Row) : Type 0 where
-  pub some : 1 ≤ length row.surface
-  pub short : length row.surface ≤ SURFACE_MAX
 
 abbrev pub no_row : Row
 no_row = record { line = 0; surface = []; left = 0; right = 0; cost = pos 0; feature = [] }

@@ -1,24 +1,25 @@
 -- Images around their sections.
-use Rattle.std.specs.Prelude.{◌≡◌, ℕ, suc, ◌^◌, ◌<◌, List, [], ◌∷◌, ◌++◌, length, flat_map, take, slice_index_or}
+use Rattle.std.specs.Prelude.{◌≡◌, ℕ, suc, ◌^◌, ◌<◌, List, [], ◌∷◌, ◌++◌, length, map, flat_map, take, slice_index_or}
 use Rattle.std.specs.List.{AllByRecursion}
 use Rattle.byteorder.specs.Endian.{little_bytes}
+use Rattle.image_bytes.specs.declared.header.Header.{Header}
+use Rattle.image_bytes.specs.declared.header.TheConstants.{LAYOUT}
 use Rattle.image_bytes.specs.ImageBytes.{header_of, image_magic, section, total_length}
 use Rattle.image_bytes.specs.ImageFaults.{HasDigest}
-use Rattle.image_writer.specs.declared.header.Numbers.{Numbers}
 
--- the numbers of 4 bytes, in their order; the layout is 3
-abbrev pub number_list : Numbers → List ℕ
-number_list n = 3 ∷ n.kind ∷ n.sizes.right ∷ n.sizes.left ∷ n.categories ∷ n.groups ∷ n.tokens ∷ n.unknown ∷ []
+-- the numbers of 4 bytes, in their order
+abbrev pub number_list : Header → List ℕ
+number_list h = h.layout ∷ h.kind ∷ h.sizes.right ∷ h.sizes.left ∷ h.categories ∷ h.groups ∷ h.tokens ∷ h.unknown ∷ []
 
-abbrev pub number_bytes : Numbers → List ℕ
-number_bytes n = flat_map (little_bytes 4) (number_list n)
+abbrev pub number_bytes : Header → List ℕ
+number_bytes h = flat_map (little_bytes 4) (number_list h)
 
 -- the lengths of the sections
 abbrev pub length_bytes : List ℕ → List ℕ
 length_bytes lengths = flat_map (little_bytes 8) lengths
 
-abbrev pub header_bytes : Numbers → List ℕ → List ℕ
-header_bytes n lengths = image_magic ++ (number_bytes n ++ length_bytes lengths)
+abbrev pub header_bytes : Header → List ℕ
+header_bytes h = image_magic ++ (number_bytes h ++ length_bytes h.lengths)
 
 -- numbers of 4 bytes
 abbrev pub AreSmall : List ℕ → Type 0
@@ -28,16 +29,15 @@ AreSmall numbers = AllByRecursion (λ n. n < 2 ^ 32) numbers
 abbrev pub AreShort : List ℕ → Type 0
 AreShort lengths = AllByRecursion (λ n. n < 2 ^ 64) lengths
 
--- an image of layout 3 with these numbers and these sections
-pub record IsFramed (n : Numbers) (sections : List (List ℕ)) (image : List ℕ) : Type 0 where
+-- a header of the layout that is written, with the lengths of these sections
+pub record IsHeaderFor (sections : List (List ℕ)) (h : Header) : Type 0 where
+  pub layout : h.layout ≡ LAYOUT
+  pub lengths : h.lengths ≡ map length sections
+
+-- an image with this header and these sections
+pub record IsFramed (h : Header) (sections : List (List ℕ)) (image : List ℕ) : Type 0 where
   pub magic : take 8 image ≡ image_magic
-  pub layout : (header_of image).layout ≡ 3
-  pub kind : (header_of image).kind ≡ n.kind
-  pub sizes : (header_of image).sizes ≡ n.sizes
-  pub categories : (header_of image).categories ≡ n.categories
-  pub groups : (header_of image).groups ≡ n.groups
-  pub tokens : (header_of image).tokens ≡ n.tokens
-  pub unknown : (header_of image).unknown ≡ n.unknown
+  pub header : header_of image ≡ h
   pub sections_are : (k : ℕ) → k < 8 → section image (suc k) ≡ slice_index_or sections k []
-  pub whole : length image ≡ total_length (header_of image)
+  pub whole : length image ≡ total_length h
   pub digest : HasDigest image

@@ -1,8 +1,6 @@
 pub mod Frames
 pub mod StoredTables
 pub mod Ranges
-pub mod FirstNumbers
-pub mod Covering
 pub mod Faults
 pub mod Entries
 pub mod Groups
@@ -10,8 +8,6 @@ pub mod Places
 pub mod Sections
 pub mod TokenBytes
 pub mod Written
-pub mod Ids
 pub mod SystemImages
 pub mod UserImages
-pub mod Samples
 pub mod Refusals

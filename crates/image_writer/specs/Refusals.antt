@@ -1,5 +1,5 @@
 -- When the parts of an image are refused.
-use Rattle.std.specs.Prelude.{◌≡◌, ℕ, ◌+◌, ◌<◌, ◌≤◌, ◌^◌, List, length, sum_by}
+use Rattle.std.specs.Prelude.{◌≡◌, ℕ, ◌+◌, ◌<◌, ◌≤◌, List, length, sum_by}
 use Rattle.double_array.specs.CellMap.{Cell}
 use Rattle.mj_model.specs.Lexicon.{Row}
 use Rattle.image_bytes.specs.ImageBounds.{cells_max, each_once, feature_bytes_end, most_cells}
@@ -14,7 +14,7 @@ FullOnlyFor rows fault = fault ≡ ArrayFull → cells_max < most_cells (lexemes
 
 -- or where few cells are left for a surface
 abbrev pub FullOnlyNear : List Cell → List ℕ → LexiconFault → Type 0
-FullOnlyNear cells surface fault = fault ≡ ArrayFull → 2 ^ 30 < length cells + length surface + 600
+FullOnlyNear cells surface fault = fault ≡ ArrayFull → cells_max < length cells + length surface + 600
 
 -- the features are too large only where those of these rows are
 abbrev pub LargeOnlyFor : List Row → LexiconFault → Type 0
@@ -26,4 +26,4 @@ LargeOnlyOf texts fault = fault ≡ FeaturesTooLarge → feature_bytes_end ≤ s
 
 -- or where a text comes to bytes that it makes too many
 abbrev pub LargeOnlyWith : List ℕ → List ℕ → LexiconFault → Type 0
-LargeOnlyWith bytes text fault = fault ≡ FeaturesTooLarge → 2 ^ 32 ≤ length bytes + length text
+LargeOnlyWith bytes text fault = fault ≡ FeaturesTooLarge → feature_bytes_end ≤ length bytes + length text

@@ -19,7 +19,7 @@ pub record AreCategoriesOf (t : CharCategories) (bytes : List ℕ) : Type 0 wher
   pub categories : categories_in (length t.categories) bytes ≡ t.categories
 
 -- the categories of each code point
-pub record AreRangesOf (t : CharCategories) (bytes : List ℕ) : Type 0 where
+pub record HoldRangesOf (t : CharCategories) (bytes : List ℕ) : Type 0 where
   pub formed : AreRanges (length t.categories) bytes
   pub infos : (code : ℕ) → code ≤ code_point_max → stored_info bytes code ≡ table_info t code
 

@@ -2,6 +2,7 @@
 use Rattle.std.specs.Prelude.{◌≡◌, ℕ, ◌<◌, List}
 use Rattle.image_bytes.specs.ImageBounds.{feature_bytes, feature_bytes_end}
 use Rattle.mj_model.specs.declared.matrix_sizes.MatrixSizes.{MatrixSizes}
+use Rattle.image_bytes.specs.declared.header.TheConstants.{LAYOUT}
 use Rattle.image_bytes.specs.ImageBytes.{header_of}
 use Rattle.image_bytes.specs.ImageFaults.{IsWellFormed}
 use Rattle.image_bytes.specs.ImageMeaning.{image_lexicon, image_tables}
@@ -12,7 +13,7 @@ use Rattle.image_writer.specs.Entries.{lexemes_of, tokens_of}
 -- a well-formed image of layout 3 of a user dictionary with these sizes and these entries
 pub record IsUserImage (sizes : MatrixSizes) (rows : List Row) (image : List ℕ) : Type 0 where
   pub well_formed : IsWellFormed image
-  pub layout : (header_of image).layout ≡ 3
+  pub layout : (header_of image).layout ≡ LAYOUT
   pub kind : (image_tables image).kind ≡ User
   pub sizes_kept : (image_tables image).sizes ≡ sizes
   pub lexicon : image_lexicon image ≡ lexemes_of rows

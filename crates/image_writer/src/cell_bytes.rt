@@ -1,6 +1,7 @@
 //! The cells of the keys as bytes.
-ghost use Rattle.std.specs.Prelude.{◌≡◌, ◌≤◌, ◌*◌, ◌^◌, length, IfOk, OnOk};
+ghost use Rattle.std.specs.Prelude.{◌≡◌, ◌≤◌, ◌*◌, length, IfOk, OnOk};
 ghost use Rattle.double_array.specs.CellRules.{AreCells, AreOnKeys};
+ghost use Rattle.image_bytes.specs.ImageBounds.{cells_max};
 ghost use Rattle.image_bytes.specs.ImageSections.{stored_cells};
 ghost use Rattle.image_writer.specs.TokenBytes.{cell_bytes_of};
 
@@ -12,7 +13,7 @@ use std::alloc::{AllocError, Global};
 pub(crate) fn write_cells(alloc: Global, array: &DoubleArray) -> Result<Vec<u8>, AllocError>
     ensures cells { IfOk result (λ bytes. stored_cells bytes.items ≡ array.now) }
     ensures fill { IfOk result (λ bytes. length bytes.items ≡ 8 * length array.now) }
-    ensures most { OnOk result (length array.now ≤ 2 ^ 30) }
+    ensures most { OnOk result (length array.now ≤ cells_max) }
     ensures rules { OnOk result (AreCells array.now) }
     ensures keys { OnOk result (AreOnKeys array.now) }
 {

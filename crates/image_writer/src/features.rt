@@ -1,16 +1,15 @@
 //! The features of a lexicon, each once.
-ghost use Rattle.std.specs.Prelude.{◌≡◌, ◌≢◌, ◌<◌, ◌^◌, ◌+◌, None, bytes_eq, ℕ, ◌++◌, ◌∷◌, [], List, length, IfOk, IfErr, OnOk};
+ghost use Rattle.std.specs.Prelude.{◌≡◌, ◌≢◌, ◌<◌, ◌+◌, None, bytes_eq, ℕ, ◌++◌, ◌∷◌, [], List, length, IfOk, IfErr, OnOk};
 ghost use Rattle.std.specs.HashMap.{get_by};
 ghost use Rattle.std.proofs.Props.{props};
+ghost use Rattle.image_bytes.specs.ImageBounds.{feature_bytes_end};
 ghost use Rattle.image_writer.specs.Places.{ArePlacesWithin};
 ghost use Rattle.image_writer.specs.declared.fault.LexiconFault.TheVariants.{ArrayFull, FeaturesTooLarge};
 
 use crate::fault::LexiconFault;
+use image_bytes::FEATURE_BYTES_END;
 use indexmap::IndexMap;
 use std::alloc::Global;
-
-/// An image has fewer bytes of features than this, so that a place fits 4 bytes.
-const FEATURE_BYTES_END: usize = 1 << 32;
 
 /// Features, each once, in the order of their first uses.
 #[derive(Drop)]
@@ -19,7 +18,7 @@ pub(crate) struct FeatureStore<'a> {
     pub bytes: Vec<u8>,
     /// Where each feature begins.
     pub places: IndexMap<&'a str, u32>,
-    ghost few: { length bytes.items < 2 ^ 32 },
+    ghost few: { length bytes.items < feature_bytes_end },
     ghost within: { ArePlacesWithin bytes.items places } by { Prim.hlevel props },
 }
 
@@ -39,7 +38,7 @@ impl<'a> FeatureStore<'a> {
 
     /// Where the feature begins; a new one is added at the end.
     pub(crate) fn place_of(&mut self, feature: &'a str) -> Result<u32, LexiconFault>
-        ensures short { OnOk result (length feature.now < 2 ^ 32) }
+        ensures short { OnOk result (length feature.now < feature_bytes_end) }
         ensures place { (texts : List (List ℕ)) → HoldsTexts texts self.old
             → IfOk result (HoldsOneMore texts feature.now self.old self.new) }
         ensures large { (texts : List (List ℕ)) → HoldsTexts texts self.old
@@ -55,7 +54,7 @@ impl<'a> FeatureStore<'a> {
     /// Adds a feature at the end.
     fn add(&mut self, feature: &'a str) -> Result<u32, LexiconFault>
         requires { get_by (λ key. bytes_eq feature.now key.now) self.old.places ≡ None }
-        ensures short { OnOk result (length feature.now < 2 ^ 32) }
+        ensures short { OnOk result (length feature.now < feature_bytes_end) }
         ensures added { OnOk result (IsAdded feature.now self.old self.new) }
         ensures place { IfOk result (λ place. place ≡ length self.old.bytes.items) }
         ensures large { IfErr result (LargeOnlyWith self.old.bytes.items feature.now) }

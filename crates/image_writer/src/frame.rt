@@ -1,22 +1,24 @@
 //! A whole image.
 ghost use Rattle.std.specs.Prelude.{◌≡◌, ◌++◌, map, flat_map, IfOk, OnOk};
-ghost use Rattle.image_writer.specs.Frames.{IsFramed};
+ghost use Rattle.image_writer.specs.Frames.{IsFramed, IsHeaderFor};
 
-use crate::header::{Numbers, append_header};
+use crate::header::append_header;
+use image_bytes::Header;
 use sha2::{Digest, Sha256};
 use std::alloc::{AllocError, Global};
 
-/// An image of layout 3 with these numbers and these sections. On `Err` memory was refused.
+/// The image of a header and its sections. On `Err` memory was refused.
 pub(crate) fn write_image(
     alloc: Global,
-    numbers: Numbers,
+    header: Header,
     sections: &[&[u8]; 8],
 ) -> Result<Vec<u8>, AllocError>
-    ensures { IfOk result (λ image. IsFramed numbers (map (λ section. section.now) sections.now)
+    requires { IsHeaderFor (map (λ section. section.now) sections.now) header }
+    ensures { IfOk result (λ image. IsFramed header (map (λ section. section.now) sections.now)
         image.items) }
 {
     let mut image = Vec::new(alloc);
-    append_header(numbers, sections, &mut image)?;
+    append_header(header, &mut image)?;
     append_sections(sections, &mut image)?;
     let digest = Sha256::digest(&image);
     image.extend_from_slice(&digest)?;

@@ -1,9 +1,7 @@
 //! Which entries each group has, as bytes.
 ghost use Rattle.std.specs.Prelude.{◌≡◌, ◌<◌, ◌*◌, ◌+◌, ℕ, length, slice_index_or, IfOk};
-ghost use Rattle.byteorder.specs.Endian.{little_bytes};
 ghost use Rattle.image_bytes.specs.ImageSections.{index_at};
 
-use byteorder::{ByteOrder, LittleEndian};
 use std::alloc::{AllocError, Global};
 
 /// Where each group begins, and behind it the number of entries, 4 bytes each.
@@ -18,17 +16,8 @@ pub(crate) fn write_starts(
 {
     let mut bytes = Vec::new(alloc);
     for start in starts {
-        bytes.extend_from_slice(&number_bytes(*start))?;
+        bytes.extend_from_slice(&start.to_le_bytes())?;
     }
-    bytes.extend_from_slice(&number_bytes(entries))?;
+    bytes.extend_from_slice(&entries.to_le_bytes())?;
     Ok(bytes)
-}
-
-/// The 4 bytes of a number.
-fn number_bytes(number: u32) -> [u8; 4]
-    ensures { result ≡ little_bytes 4 number }
-{
-    let mut bytes = [0; 4];
-    LittleEndian::write_u32(&mut bytes, number);
-    bytes
 }

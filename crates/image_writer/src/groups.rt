@@ -1,18 +1,15 @@
 //! The groups of a lexicon: the entries of one surface, side by side.
-ghost use Rattle.std.specs.Prelude.{◌≡◌, ◌≢◌, ◌<◌, ◌≤◌, ◌+◌, ◌-◌, ◌^◌, ◌++◌, ◌∷◌, [], ◌↔◌, length, All, IsSortedByKey, IsTrue, IfOk, IfErr, OnOk};
-ghost use Rattle.std.specs.Cmp.Lexicographic.{slice_cmp};
-ghost use Rattle.std.specs.Ordering.{nat_cmp};
+ghost use Rattle.std.specs.Prelude.{◌≡◌, ◌≢◌, ◌<◌, ◌≤◌, ◌+◌, ◌-◌, ◌^◌, ◌++◌, ◌∷◌, [], ◌↔◌, length, IsTrue, IfOk, IfErr, OnOk};
 ghost use Rattle.double_array.specs.CellMap.{IsMapWith};
-ghost use Rattle.mj_model.specs.Dictionary.{surface_of};
 ghost use Rattle.mj_model.specs.Lexicon.{rows_of};
-ghost use Rattle.mj_model.specs.declared.limits.TheConstants.{ENTRIES_MAX as EntriesMax, SURFACE_MAX as SurfaceMax};
-ghost use Rattle.image_writer.specs.Entries.{HasKeySurface};
+ghost use Rattle.mj_model.specs.declared.limits.TheConstants.{SURFACE_MAX as SurfaceMax};
 ghost use Rattle.image_writer.specs.Groups.{AreGrouped, BeginsGroup};
 ghost use Rattle.image_writer.specs.Refusals.{FullOnlyFor, FullOnlyNear};
 ghost use Rattle.image_writer.specs.declared.fault.LexiconFault.TheVariants.{FeaturesTooLarge};
 
 use crate::fault::LexiconFault;
 use double_array::DoubleArray;
+use lex_source::SortedLexicon;
 use mj_model::Record;
 use std::alloc::Global;
 
@@ -44,31 +41,29 @@ impl Groups {
     }
 }
 
-/// The groups of a lexicon in the byte order of its surfaces.
-pub(crate) fn group_entries(alloc: Global, lexicon: &[Record]) -> Result<Groups, LexiconFault>
-    requires few { length lexicon.now ≤ EntriesMax }
-    requires surfaces { All HasKeySurface (rows_of lexicon.now) }
-    requires sorted { IsSortedByKey surface_of (slice_cmp nat_cmp) (rows_of lexicon.now) }
-    ensures grouped { IfOk result (AreGrouped (rows_of lexicon.now) (length lexicon.now)) }
-    ensures full { IfErr result (FullOnlyFor (rows_of lexicon.now)) }
+/// The groups of a lexicon.
+pub(crate) fn group_entries(alloc: Global, lexicon: &SortedLexicon) -> Result<Groups, LexiconFault>
+    ensures grouped { IfOk result (AreGrouped lexicon.now.rows (length lexicon.now.rows)) }
+    ensures full { IfErr result (FullOnlyFor lexicon.now.rows) }
     ensures no_features { IfErr result (λ fault. fault ≢ FeaturesTooLarge) }
 {
+    let records = lexicon.records();
     let mut groups = Groups {
         array: DoubleArray::new(alloc)?,
         starts: Vec::new(alloc),
     };
-    for i in 0..lexicon.len() {
-        if begins_group(lexicon, i) {
-            groups.begin(lexicon[i].surface.as_bytes(), i as u32)?;
+    for i in 0..records.len() {
+        if begins_group(records, i) {
+            groups.begin(records[i].surface.as_bytes(), i as u32)?;
         }
     }
     Ok(groups)
 }
 
 /// Whether entry `i` is the first one of its surface.
-fn begins_group(lexicon: &[Record], i: usize) -> bool
-    requires { i < length lexicon.now }
-    ensures { IsTrue result ↔ BeginsGroup (rows_of lexicon.now) i }
+fn begins_group(records: &[Record], i: usize) -> bool
+    requires { i < length records.now }
+    ensures { IsTrue result ↔ BeginsGroup (rows_of records.now) i }
 {
-    i == 0 || lexicon[i].surface != lexicon[i - 1].surface
+    i == 0 || records[i].surface != records[i - 1].surface
 }

@@ -1,11 +1,5 @@
 //! The sections of the keys and of the groups.
-ghost use Rattle.std.specs.Prelude.{◌≢◌, ◌<◌, ◌≤◌, length, All, IsSortedByKey, IfOk, IfErr};
-ghost use Rattle.std.specs.Cmp.Lexicographic.{slice_cmp};
-ghost use Rattle.std.specs.Ordering.{nat_cmp};
-ghost use Rattle.mj_model.specs.Dictionary.{surface_of};
-ghost use Rattle.mj_model.specs.Lexicon.{rows_of};
-ghost use Rattle.mj_model.specs.declared.limits.TheConstants.{ENTRIES_MAX as EntriesMax};
-ghost use Rattle.image_writer.specs.Entries.{HasKeySurface};
+ghost use Rattle.std.specs.Prelude.{◌≢◌, IfOk, IfErr};
 ghost use Rattle.image_writer.specs.Refusals.{FullOnlyFor};
 ghost use Rattle.image_writer.specs.Sections.{AreKeyBytes};
 ghost use Rattle.image_writer.specs.declared.fault.LexiconFault.TheVariants.{FeaturesTooLarge};
@@ -14,7 +8,7 @@ use crate::cell_bytes::write_cells;
 use crate::fault::LexiconFault;
 use crate::group_bytes::write_starts;
 use crate::groups::group_entries;
-use mj_model::Record;
+use lex_source::SortedLexicon;
 use std::alloc::Global;
 
 /// The cells of the keys, which entries each group has, and how many groups there are.
@@ -25,19 +19,17 @@ pub(crate) struct KeyBytes {
     pub groups: u32,
 }
 
-/// The keys and groups of a lexicon in the byte order of its surfaces.
-pub(crate) fn write_keys(alloc: Global, lexicon: &[Record]) -> Result<KeyBytes, LexiconFault>
-    requires few { length lexicon.now ≤ EntriesMax }
-    requires surfaces { All HasKeySurface (rows_of lexicon.now) }
-    requires sorted { IsSortedByKey surface_of (slice_cmp nat_cmp) (rows_of lexicon.now) }
-    ensures keys { IfOk result (AreKeyBytes (rows_of lexicon.now)) }
-    ensures full { IfErr result (FullOnlyFor (rows_of lexicon.now)) }
+/// The keys and groups of a lexicon.
+pub(crate) fn write_keys(alloc: Global, lexicon: &SortedLexicon) -> Result<KeyBytes, LexiconFault>
+    ensures keys { IfOk result (AreKeyBytes lexicon.now.rows) }
+    ensures full { IfErr result (FullOnlyFor lexicon.now.rows) }
     ensures no_features { IfErr result (λ fault. fault ≢ FeaturesTooLarge) }
 {
     let groups = group_entries(alloc, lexicon)?;
+    let entries = lexicon.records().len();
     Ok(KeyBytes {
         cells: write_cells(alloc, &groups.array)?,
-        index: write_starts(alloc, &groups.starts, lexicon.len() as u32)?,
+        index: write_starts(alloc, &groups.starts, entries as u32)?,
         groups: groups.starts.len() as u32,
     })
 }

@@ -1,7 +1,7 @@
 //! Small images, and the sections that they are made of.
+mod faults;
 mod frame;
 mod samples;
-mod sources;
 mod system;
 mod tables;
 mod user;

@@ -45,14 +45,14 @@ impl<'a> TokenWriter<'a> {
     }
 
     /// Adds the token of a record.
-    fn add(&mut self, record: &'a Record) -> Result<(), LexiconFault>
+    fn add(&mut self, row: &'a Record) -> Result<(), LexiconFault>
         ensures written { (rows : List Row) → AreWritten rows self.old
-            → OnOk result (AreWritten (rows ++ row_of record.now ∷ []) self.new) }
+            → OnOk result (AreWritten (rows ++ row_of row.now ∷ []) self.new) }
         ensures large { (rows : List Row) → AreWritten rows self.old
-            → IfErr result (LargeOnlyFor (rows ++ row_of record.now ∷ [])) }
+            → IfErr result (LargeOnlyFor (rows ++ row_of row.now ∷ [])) }
         ensures never_full { IfErr result (λ fault. fault ≢ ArrayFull) }
     {
-        let entry = &record.entry;
+        let entry = &row.entry;
         let feature = entry.feature.as_str();
         let place = self.features.place_of(feature)?;
         let length = feature.len() as u32;

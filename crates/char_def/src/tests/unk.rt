@@ -41,15 +41,14 @@ fn unknown_entries(rt: HostRuntime) -> Result<(), Fail> {
     let missing = read(&rt, lines)?.err();
     assert_eq!(rt; missing, Some(MissingCategory(3).at(2, 0)));
     let bytes = with_lines(&rt, lines, "KATAKANA,1,1,1,X\n")?;
-    let table = chars_with(&rt, "")?;
-    let unknown = read_unk(rt.alloc(), &bytes, &table)?;
+    let unknown = read(&rt, &bytes)??;
     let rows = [
         // (line, left id, right id, cost, feature)
         (1, 1, 2, 3, "A"),
         (4, 4, 5, -6, "B,C"),
     ];
-    assert_eq!(rt; table.count(), 6);
-    if table.count() <= 4 {
+    assert_eq!(rt; unknown.count(), 6);
+    if unknown.count() <= 4 {
         return Ok(());
     }
     let kanji = unknown.lines(4);

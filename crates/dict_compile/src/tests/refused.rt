@@ -95,9 +95,9 @@ fn faults_in_two_files(rt: HostRuntime) -> Result<(), Fail> {
         ("matrix, lexicon", "2 2\n0 0", "", "", bad_cost, 0, 2, BadRow),
         ("char.def, unk.def", "2 2", "0x9FFF..0x4E00 KANJI\n", bad_id, "", 1, 13, BadRange),
         ("char.def, lexicon", "2 2", "KANJI 0 0 2\n", "", bad_cost, 1, 13, Twice),
-        ("an undefined category, lexicon", "2 2", "0x3007 OTHER\n", "", bad_cost, 1, 13, UndefinedCategory),
+        ("a category, lexicon", "2 2", "0x3007 OTHER\n", "", bad_cost, 1, 13, UndefinedCategory),
         ("an id of unk.def, lexicon", "2 2", "", bad_id, bad_cost, 2, 7, IdOutside),
-        ("a category of unk.def, lexicon", "2 2", "", "OTHER,1,1,1,X\n", bad_cost, 2, 7, NoSuchCategory),
+        ("a name, lexicon", "2 2", "", "OTHER,1,1,1,X\n", bad_cost, 2, 7, NoSuchCategory),
     ];
     for (what, matrix, further, unknown, lexicon, file, line, kind) in rows {
         let chars = edited(rt.alloc(), sample().chars, "none", further)?;

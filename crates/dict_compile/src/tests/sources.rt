@@ -1,12 +1,12 @@
 //! Lexicons one behind another, and all sources together.
-use crate::lexicons::{LexiconRecords, read_lexicons};
+use crate::lexicons::{LexiconsRead, read_lexicons};
 use crate::parts::read_sources;
 use mj_model::SourceKind::{BadNumber, IdOutside, MissingCategory};
 use mj_model::{MatrixSizes, SourceFault, Sources};
 use std::test::Fail;
 
 /// What two lexicons say within 2 right ids and 3 left ids.
-fn read(rt: &HostRuntime, first: &str, second: &str) -> Result<LexiconRecords, SourceFault> {
+fn read(rt: &HostRuntime, first: &str, second: &str) -> Result<LexiconsRead, SourceFault> {
     let sizes = MatrixSizes { right: 2, left: 3 };
     read_lexicons(rt.alloc(), &[first.as_bytes(), second.as_bytes()], sizes)
 }
@@ -23,8 +23,9 @@ fn accepted_lexicons(rt: HostRuntime) -> Result<(), Fail> {
     ];
     for (what, first, second, count, line, skipped) in rows {
         let read = read(&rt, first, second)?;
-        let last = read.records.last().map(|record| record.line);
-        let told = (read.records.len(), last, read.skipped);
+        let lexicon = read.lexicon.sorted()?;
+        let last = lexicon.records().last().map(|record| record.line);
+        let told = (lexicon.records().len(), last, read.skipped);
         assert_eq!(rt; told, (count, line, skipped), "{what}");
     }
     Ok(())
@@ -53,9 +54,9 @@ fn all_sources(rt: HostRuntime) {
     let rows = [
         // (what, unk.def, lexicon, the fault)
         ("accepted", unknown, "も,2,1,20,X\n,1,1,1,X\n", None),
-        ("an unknown id outside", "DEFAULT,1,2,9,X\nSPACE,3,0,9,X\n", "も,3,1,20,X\n", Some(IdOutside.at(2, 2))),
+        ("an unknown id", "DEFAULT,1,2,9,X\nSPACE,3,0,9,X\n", "も,3,1,20,X\n", Some(IdOutside.at(2, 2))),
         ("no unknown SPACE", "DEFAULT,1,2,9,X\n", "", Some(MissingCategory(1).at(2, 0))),
-        ("an id outside", "DEFAULT,1,1,9,X\nSPACE,0,0,9,X\n", "も,1,3,20,X\n", Some(IdOutside.at(3, 1))),
+        ("an id", "DEFAULT,1,1,9,X\nSPACE,0,0,9,X\n", "も,1,3,20,X\n", Some(IdOutside.at(3, 1))),
     ];
     for (what, unknown, lexicon, expected) in rows {
         let sources = Sources {
@@ -70,7 +71,7 @@ fn all_sources(rt: HostRuntime) {
                 let sizes = MatrixSizes { right: 3, left: 3 };
                 assert_eq!(rt; parts.matrix.sizes(), sizes, "{what}");
                 assert_eq!(rt; parts.chars.count(), 2, "{what}");
-                assert_eq!(rt; (parts.records.len(), parts.skipped), (1, 1), "{what}");
+                assert_eq!(rt; (parts.lexicon.len(), parts.skipped), (1, 1), "{what}");
             }
             Err(fault) => assert_eq!(rt; Some(fault), expected, "{what}"),
         }

@@ -1,9 +1,9 @@
 //! The image of the sample's sources, byte for byte but for the cells of its keys: six categories, numbered from 0, with an unknown
 //! entry each.
 use crate::lexicon::write_lexicon;
-use crate::tests::samples::{SAMPLE, records};
-use crate::tests::sources::write_sources;
+use crate::tests::samples::{SAMPLE, sample_image, sorted};
 use char_def::{read_chars, read_unk};
+use image_bytes::DIGEST_LENGTH;
 use mj_model::{MatrixSizes, sample};
 use sha2::{Digest, Sha256};
 use std::test::Fail;
@@ -46,10 +46,10 @@ const UNKNOWN_TOKEN: &[u8; 16] = b"\x01\0\x01\0\xe8\x03\0\0\x27\0\0\0\x06\0\0\0"
 #[test]
 fn sections_of_the_lexicon(rt: HostRuntime) -> Result<(), Fail> {
     let alloc = rt.alloc();
-    let lexicon = records(alloc, MatrixSizes { right: 2, left: 2 }, &SAMPLE)?;
+    let lexicon = sorted(alloc, MatrixSizes { right: 2, left: 2 }, SAMPLE)?;
     let chars = read_chars(alloc, sample().chars)?;
     let unknown = read_unk(alloc, sample().unk, &chars)?;
-    let sections = write_lexicon(alloc, &lexicon, &unknown, chars.count())?;
+    let sections = write_lexicon(alloc, &lexicon, &unknown)?;
 
     assert_eq!(rt; sections.group_count, 3);
     let groups = b"\0\0\0\0\x01\0\0\0\x02\0\0\0\x03\0\0\0";
@@ -78,7 +78,7 @@ fn sections_of_the_lexicon(rt: HostRuntime) -> Result<(), Fail> {
 #[test]
 fn the_whole_image(rt: HostRuntime) -> Result<(), Fail> {
     let alloc = rt.alloc();
-    let image = write_sources(alloc, sample(), &SAMPLE)?;
+    let image = sample_image(alloc)?;
     let mut end = Vec::new(alloc);
     end.extend_from_slice(TOKENS)?;
     for _ in 0..6 {
@@ -91,7 +91,7 @@ fn the_whole_image(rt: HostRuntime) -> Result<(), Fail> {
     assert!(rt; image.get(80..104) == Some(END_LENGTHS.as_slice()));
     assert!(rt; image.get(104..306) == Some(BEGIN.as_slice()));
 
-    let body = &image[..image.len().saturating_sub(32)];
+    let body = &image[..image.len().saturating_sub(DIGEST_LENGTH)];
     assert!(rt; body.ends_with(&end));
     assert!(rt; image.ends_with(&Sha256::digest(body)));
     Ok(())

@@ -1,16 +1,11 @@
 //! Images of small user dictionaries, byte for byte but for the cells of their keys.
 use crate::lexicon::write_user_lexicon;
-use crate::tests::samples::{Line, records};
+use crate::tests::samples::sorted;
 use crate::write_user;
+use image_bytes::{DIGEST_LENGTH, HEADER_LENGTH};
 use mj_model::MatrixSizes;
 use sha2::{Digest, Sha256};
 use std::test::Fail;
-
-/// How many bytes the header has.
-const HEADER: usize = 104;
-
-/// How many bytes the digest has.
-const DIGEST: usize = 32;
 
 /// The first bytes of a user image: layout 3, kind 1.
 const BEGIN: &[u8; 16] = b"MJDICT\r\n\x03\0\0\0\x01\0\0\0";
@@ -20,7 +15,7 @@ const BEGIN: &[u8; 16] = b"MJDICT\r\n\x03\0\0\0\x01\0\0\0";
 struct Row<'a> {
     what: &'a str,
     sizes: MatrixSizes,
-    lines: &'a [Line<'a>],
+    lines: &'a str,
     /// The sizes, and how many categories, groups, tokens and unknown entries there are.
     numbers: &'a [u8; 24],
     /// The lengths of sections 6 to 8.
@@ -32,16 +27,16 @@ struct Row<'a> {
 
 #[rattlefmt::skip]
 const ROWS: [Row<'static>; 3] = [
-    Row { what: "no lines", sizes: MatrixSizes { right: 1, left: 2 }, lines: &[],
+    Row { what: "no lines", sizes: MatrixSizes { right: 1, left: 2 }, lines: "",
         numbers: b"\x01\0\0\0\x02\0\0\0\0\0\0\0\0\0\0\0\0\0\0\0\0\0\0\0",
         lengths: b"\x04\0\0\0\0\0\0\0\0\0\0\0\0\0\0\0\0\0\0\0\0\0\0\0",
         groups: b"\0\0\0\0", tokens: b"", features: b"" },
-    Row { what: "one line", sizes: MatrixSizes { right: 2, left: 2 }, lines: &[("もも", 1, 1, 1, "X")],
+    Row { what: "one line", sizes: MatrixSizes { right: 2, left: 2 }, lines: "もも,1,1,1,X\n",
         numbers: b"\x02\0\0\0\x02\0\0\0\0\0\0\0\x01\0\0\0\x01\0\0\0\0\0\0\0",
         lengths: b"\x08\0\0\0\0\0\0\0\x10\0\0\0\0\0\0\0\x01\0\0\0\0\0\0\0",
         groups: b"\0\0\0\0\x01\0\0\0", tokens: b"\x01\0\x01\0\x01\0\0\0\0\0\0\0\x01\0\0\0", features: b"X" },
     Row { what: "two lines of a surface, and two of a feature", sizes: MatrixSizes { right: 5, left: 259 },
-        lines: &[("a", 1, 2, -5, "X"), ("a", 3, 4, 6, "YZ"), ("b", 258, 0, -32768, "X")],
+        lines: "a,1,2,-5,X\na,3,4,6,YZ\nb,258,0,-32768,X\n",
         numbers: b"\x05\0\0\0\x03\x01\0\0\0\0\0\0\x02\0\0\0\x03\0\0\0\0\0\0\0",
         lengths: b"\x0c\0\0\0\0\0\0\0\x30\0\0\0\0\0\0\0\x03\0\0\0\0\0\0\0",
         groups: b"\0\0\0\0\x02\0\0\0\x03\0\0\0",
@@ -54,7 +49,7 @@ fn sections_of_lexicons(rt: HostRuntime) -> Result<(), Fail> {
     for row in ROWS {
         #[rattlefmt::skip]
         let Row { what, sizes, lines, numbers, groups, tokens, features, .. } = row;
-        let lexicon = records(rt.alloc(), sizes, lines)?;
+        let lexicon = sorted(rt.alloc(), sizes, lines)?;
         let sections = write_user_lexicon(rt.alloc(), &lexicon)?;
         let count = sections.group_count.to_le_bytes();
         assert!(rt; numbers.get(12..16) == Some(count.as_slice()), "{what}");
@@ -75,13 +70,13 @@ fn user_images(rt: HostRuntime) -> Result<(), Fail> {
     for row in ROWS {
         #[rattlefmt::skip]
         let Row { what, sizes, lines, numbers, lengths, groups, tokens, features } = row;
-        let lexicon = records(rt.alloc(), sizes, lines)?;
-        let image = write_user(rt.alloc(), sizes, &lexicon)?;
+        let lexicon = sorted(rt.alloc(), sizes, lines)?;
+        let image = write_user(rt.alloc(), &lexicon)?;
         let mut end = Vec::new(rt.alloc());
         for section in [groups, tokens, features] {
             end.extend_from_slice(section)?;
         }
-        let around = HEADER + DIGEST + end.len();
+        let around = HEADER_LENGTH + DIGEST_LENGTH + end.len();
         let cells = image.len().saturating_sub(around) as u64;
         assert_eq!(rt; cells % 8, 0, "{what}");
 
@@ -94,7 +89,7 @@ fn user_images(rt: HostRuntime) -> Result<(), Fail> {
         header.extend_from_slice(lengths)?;
         assert!(rt; image.starts_with(&header), "{what}");
 
-        let body = &image[..image.len().saturating_sub(DIGEST)];
+        let body = &image[..image.len().saturating_sub(DIGEST_LENGTH)];
         assert!(rt; body.ends_with(&end), "{what}");
         assert!(rt; image.ends_with(&Sha256::digest(body)), "{what}");
     }

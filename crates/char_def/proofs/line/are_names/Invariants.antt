@@ -1,5 +1,4 @@
-use Rattle.std.proofs.Common.{◌≡◌, ◌||◌, length}
-use Rattle.std.specs.Prelude.{nat_lt}
+use Rattle.std.proofs.Common.{◌≡◌}
 use Rattle.std.specs.List.{list_all}
 use Rattle.mj_model.specs.CharDef.{is_name}
 use Rattle.char_def.proofs.line.are_names.Given as goal
@@ -9,5 +8,4 @@ invariant-loop-word l = record {
   can : (goal.iterator-loop-word).can_next l.word-iterator;
   finite : (goal.iterator-loop-word).is_finite l.word-iterator;
   left : list_all is_name l.fn.words ≡ list_all is_name l.word-iterator;
-  some : nat_lt 0 (length l.fn.words) ≡ l.any || nat_lt 0 (length l.word-iterator);
 }

@@ -5,6 +5,8 @@ use Rattle.std.specs.declared.alloc.Global.{Global}
 use Rattle.std.specs.declared.vec.Vec.{Vec}
 use Rattle.mj_model.specs.declared.entry.Record.{Record}
 use Rattle.mj_model.specs.Lexicon.{rows_of}
+use Rattle.char_def.specs.UnkRows.{lists_are}
+use Rattle.char_def.proofs.AcceptedUnk.{lists_formed}
 use Rattle.char_def.proofs.UnkLemmas.{refused_whole, missing_refused, none_missing}
 use Rattle.char_def.proofs.unk_table.read_unk.Goals as goal
 
@@ -18,6 +20,12 @@ returns-then-missing-len-clause-refused c =
     rw c.at.ensures
     (inr (missing_refused c.args.table.now.categories c.args.bytes.now c.in_ok-lists.lists.items c.first_empty-missing.result c.in_ok-lists.ensures.accepted
     (rw c.deref.ensures.value at c.first_empty-missing.ensures.first) (omega (arith, c.in_ok-lists.lists.ok, c.len.ensures, c.if-missing-len.true))))
+
+pub invariant_of-result : goal.invariant_of-result
+invariant_of-result c =
+    lists_formed c.args.table.now.categories c.args.bytes.now (lists_are c.in_ok-lists.lists.items)
+    (none_missing c.args.table.now.categories c.args.bytes.now c.in_ok-lists.lists.items c.first_empty-missing.result c.in_ok-lists.ensures.accepted
+    (rw c.deref.ensures.value at c.first_empty-missing.ensures.first) (omega (arith, c.in_ok-lists.lists.ok, c.len.ensures, c.if-missing-len.false)))
 
 pub returns-clause-accepted : goal.returns-clause-accepted
 returns-clause-accepted c =

@@ -1,10 +1,9 @@
 use Rattle.std.proofs.lemmas.Result.{err_from_is_err_and}
 use Rattle.image_bytes.specs.ImageMeaning.{image_tables}
-use Rattle.dict_compile.specs.Faults.{fault_told}
+use Rattle.image_writer.specs.Faults.{source_fault_of}
 use Rattle.dict_compile.proofs.CompilationLemmas.{is_compilation, refusal, source_refused}
 use Rattle.dict_compile.proofs.EveryKey.{keys_of_sources}
 use Rattle.dict_compile.proofs.FirstFaults.{not_compiled, told_for}
-use Rattle.dict_compile.proofs.PartLemmas.{are_storable}
 use Rattle.dict_compile.proofs.compilation.compile.Goals as goal
 
 pub returns-in_err-parts-clause-first : goal.returns-in_err-parts-clause-first
@@ -13,29 +12,28 @@ returns-in_err-parts-clause-first c = λ fault h.
     rw (p.1, p.2)
     (told_for c.args.sources.now fault c.in_err-parts.field-0.0 h (source_refused c.args.sources.now c.in_err-parts.field-0.0 c.in_err-parts.ensures.refused))
 
-pub system_image-requires : goal.system_image-requires
-system_image-requires c = are_storable c.args.sources.now c.in_ok-parts.parts c.in_ok-parts.ensures.accepted
+pub returns-clause-compiled : goal.returns-clause-compiled
+returns-clause-compiled c = is_compilation c.args.sources.now c.in_ok-parts.parts c.in_ok-system_image.field-0 c.in_ok-parts.ensures.accepted c.in_ok-parts.ensures.fitting c.in_ok-system_image.ensures.image
 
-pub returns-in-Ok-clause-compiled : goal.returns-in-Ok-clause-compiled
-returns-in-Ok-clause-compiled c = is_compilation c.args.sources.now c.in_ok-parts.parts c.in-Ok.compiled c.in_ok-parts.ensures.accepted c.in-Ok.ensures.image
+pub returns-clause-every_key : goal.returns-clause-every_key
+returns-clause-every_key c =
+    keys_of_sources c.args.sources.now (image_tables c.in_ok-system_image.field-0.image.items)
+    (is_compilation c.args.sources.now c.in_ok-parts.parts c.in_ok-system_image.field-0 c.in_ok-parts.ensures.accepted c.in_ok-parts.ensures.fitting c.in_ok-system_image.ensures.image).have
 
-pub returns-in-Ok-clause-every_key : goal.returns-in-Ok-clause-every_key
-returns-in-Ok-clause-every_key c =
-    keys_of_sources c.args.sources.now (image_tables c.in-Ok.compiled.image.items)
-    (is_compilation c.args.sources.now c.in_ok-parts.parts c.in-Ok.compiled c.in_ok-parts.ensures.accepted c.in-Ok.ensures.image).have
+pub returns-clause-first : goal.returns-clause-first
+returns-clause-first c = λ fault h.
+    not_compiled c.args.sources.now c.in_ok-system_image.field-0.image.items c.in_ok-system_image.field-0.entries c.in_ok-system_image.field-0.skipped fault
+    (is_compilation c.args.sources.now c.in_ok-parts.parts c.in_ok-system_image.field-0 c.in_ok-parts.ensures.accepted c.in_ok-parts.ensures.fitting c.in_ok-system_image.ensures.image) h
 
-pub returns-in-Ok-clause-first : goal.returns-in-Ok-clause-first
-returns-in-Ok-clause-first c = λ fault h.
-    not_compiled c.args.sources.now c.in-Ok.compiled.image.items c.in-Ok.compiled.entries c.in-Ok.compiled.skipped fault
-    (is_compilation c.args.sources.now c.in_ok-parts.parts c.in-Ok.compiled c.in_ok-parts.ensures.accepted c.in-Ok.ensures.image) h
+pub returns-in_err-system_image-clause-refused : goal.returns-in_err-system_image-clause-refused
+returns-in_err-system_image-clause-refused c =
+    let p = err_from_is_err_and c.from_residual-in_err-system_image.result c.from_residual-in_err-system_image.ensures.1 in
+    rw (p.1, p.2)
+    (refusal c.args.sources.now c.in_ok-parts.parts c.in_err-system_image.field-0.0 c.in_ok-parts.ensures.accepted c.in_ok-parts.ensures.fitting c.in_err-system_image.ensures.large c.in_err-system_image.ensures.full)
 
-pub returns-in-Err-clause-refused : goal.returns-in-Err-clause-refused
-returns-in-Err-clause-refused c =
-    rw (c.image_fault.ensures)
-    (refusal c.args.sources.now c.in_ok-parts.parts c.in-Err.fault c.in_ok-parts.ensures.accepted c.in-Err.ensures.large c.in-Err.ensures.full)
-
-pub returns-in-Err-clause-first : goal.returns-in-Err-clause-first
-returns-in-Err-clause-first c = λ fault h.
-    rw (c.image_fault.ensures)
-    (told_for c.args.sources.now fault (fault_told c.in-Err.fault) h
-    (refusal c.args.sources.now c.in_ok-parts.parts c.in-Err.fault c.in_ok-parts.ensures.accepted c.in-Err.ensures.large c.in-Err.ensures.full))
+pub returns-in_err-system_image-clause-first : goal.returns-in_err-system_image-clause-first
+returns-in_err-system_image-clause-first c = λ fault h.
+    let p = err_from_is_err_and c.from_residual-in_err-system_image.result c.from_residual-in_err-system_image.ensures.1 in
+    rw (p.1, p.2)
+    (told_for c.args.sources.now fault (source_fault_of c.in_err-system_image.field-0.0) h
+    (refusal c.args.sources.now c.in_ok-parts.parts c.in_err-system_image.field-0.0 c.in_ok-parts.ensures.accepted c.in_ok-parts.ensures.fitting c.in_err-system_image.ensures.large c.in_err-system_image.ensures.full))

@@ -1,6 +1,5 @@
 use Rattle.std.proofs.lemmas.Result.{err_from_is_err_and}
 use Rattle.std.specs.Prelude.{Ok}
-use Rattle.mj_model.specs.Lexicon.{rows_of}
 use Rattle.dict_compile.proofs.SourceLemmas.{chars_at_fault, unknown_at_fault, unknown_read, lexicons_at_fault, rows_read}
 use Rattle.dict_compile.proofs.parts.read_sources.Goals as goal
 
@@ -41,6 +40,6 @@ returns-clause-accepted c =
       are_chars = chars.1;
       table = chars.2;
       unknown = unknown_read s m sizes c.sizes-sizes.ensures.sizes table c.in_ok-chars.chars chars (Ok c.in_ok-unknown.unknown) c.in_ok-unknown.ensures.accepted;
-      rows = rows_read s m sizes c.sizes-sizes.ensures.sizes table (Ok (rows_of c.in_ok-lexicons.lexicons.records.items)) c.in_ok-lexicons.ensures.accepted;
+      rows = rows_read s m sizes c.sizes-sizes.ensures.sizes table (Ok c.in_ok-lexicons.lexicons.lexicon.rows) c.in_ok-lexicons.ensures.accepted;
       skipped = c.in_ok-lexicons.ensures.skipped;
     }

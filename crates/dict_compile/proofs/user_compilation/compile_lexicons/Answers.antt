@@ -1,8 +1,7 @@
-use Rattle.std.proofs.Common.{map}
+use Rattle.std.proofs.Common.{map, subst, sym}
 use Rattle.std.proofs.lemmas.Result.{err_from_is_err_and}
-use Rattle.mj_model.specs.Lexicon.{rows_of}
-use Rattle.dict_compile.proofs.FittingLemmas.{lexicons_fit}
-use Rattle.dict_compile.specs.Faults.{fault_told}
+use Rattle.mj_model.specs.Connection.{AreMatrixSizes}
+use Rattle.image_writer.specs.Faults.{source_fault_of}
 use Rattle.dict_compile.proofs.UserLemmas.{lexicons_refused, user_compilation, user_not_compiled, user_refusal, user_told_for}
 use Rattle.dict_compile.proofs.user_compilation.compile_lexicons.Goals as goal
 
@@ -19,29 +18,30 @@ returns-in_err-read-clause-refused c = λ system is.
     let p = err_from_is_err_and c.from_residual.result c.from_residual.ensures.1 in
     rw (p.1, p.2) (lexicons_refused c.args.sizes system is lexicons c.in_err-read.field-0.0 c.in_err-read.ensures.refused)
 
-pub user_image-requires-clause-rows : goal.user_image-requires-clause-rows
-user_image-requires-clause-rows c =
-    lexicons_fit c.args.sizes (map (λ lexicon. lexicon.now) c.args.lexicons.now) (rows_of c.in_ok-read.read.records.items) c.in_ok-read.ensures.accepted
+pub user_image-requires : goal.user_image-requires
+user_image-requires c = subst AreMatrixSizes (sym c.in_ok-read.ensures.sizes) c.requires
 
-pub returns-in-Ok-clause-compiled : goal.returns-in-Ok-clause-compiled
-returns-in-Ok-clause-compiled c = λ system is.
-    user_compilation c.args.sizes system is (map (λ lexicon. lexicon.now) c.args.lexicons.now) c.in_ok-read.read c.in_ok-read.ensures.accepted c.in-Ok.compiled
-    c.in_ok-read.ensures.skipped c.in-Ok.ensures.image
+pub returns-clause-compiled : goal.returns-clause-compiled
+returns-clause-compiled c = λ system is.
+    user_compilation c.args.sizes system is (map (λ lexicon. lexicon.now) c.args.lexicons.now) c.in_ok-read.read c.in_ok-read.ensures.sizes c.in_ok-read.ensures.accepted c.in_ok-user_image.field-0
+    c.in_ok-read.ensures.skipped c.in_ok-user_image.ensures.image
 
-pub returns-in-Ok-clause-first : goal.returns-in-Ok-clause-first
-returns-in-Ok-clause-first c = λ system is fault h.
+pub returns-clause-first : goal.returns-clause-first
+returns-clause-first c = λ system is fault h.
     let lexicons = map (λ lexicon. lexicon.now) c.args.lexicons.now in
-    user_not_compiled system lexicons c.in-Ok.compiled.image.items c.in-Ok.compiled.entries c.in-Ok.compiled.skipped fault
-    (user_compilation c.args.sizes system is lexicons c.in_ok-read.read c.in_ok-read.ensures.accepted c.in-Ok.compiled c.in_ok-read.ensures.skipped c.in-Ok.ensures.image) h
+    user_not_compiled system lexicons c.in_ok-user_image.field-0.image.items c.in_ok-user_image.field-0.entries c.in_ok-user_image.field-0.skipped fault
+    (user_compilation c.args.sizes system is lexicons c.in_ok-read.read c.in_ok-read.ensures.sizes c.in_ok-read.ensures.accepted c.in_ok-user_image.field-0 c.in_ok-read.ensures.skipped c.in_ok-user_image.ensures.image) h
 
-pub returns-in-Err-clause-refused : goal.returns-in-Err-clause-refused
-returns-in-Err-clause-refused c = λ system is.
-    rw (c.image_fault.ensures)
-    (user_refusal c.args.sizes system is (map (λ lexicon. lexicon.now) c.args.lexicons.now) c.in_ok-read.read c.in_ok-read.ensures.accepted c.in-Err.fault c.in-Err.ensures.large c.in-Err.ensures.full)
+pub returns-in_err-user_image-clause-refused : goal.returns-in_err-user_image-clause-refused
+returns-in_err-user_image-clause-refused c = λ system is.
+    let p = err_from_is_err_and c.from_residual-in_err-user_image.result c.from_residual-in_err-user_image.ensures.1 in
+    rw (p.1, p.2)
+    (user_refusal c.args.sizes system is (map (λ lexicon. lexicon.now) c.args.lexicons.now) c.in_ok-read.read c.in_ok-read.ensures.sizes c.in_ok-read.ensures.accepted c.in_err-user_image.field-0.0 c.in_err-user_image.ensures.large c.in_err-user_image.ensures.full)
 
-pub returns-in-Err-clause-first : goal.returns-in-Err-clause-first
-returns-in-Err-clause-first c = λ system is fault h.
+pub returns-in_err-user_image-clause-first : goal.returns-in_err-user_image-clause-first
+returns-in_err-user_image-clause-first c = λ system is fault h.
     let lexicons = map (λ lexicon. lexicon.now) c.args.lexicons.now in
-    rw (c.image_fault.ensures)
-    (user_told_for system lexicons fault (fault_told c.in-Err.fault) h
-    (user_refusal c.args.sizes system is lexicons c.in_ok-read.read c.in_ok-read.ensures.accepted c.in-Err.fault c.in-Err.ensures.large c.in-Err.ensures.full))
+    let p = err_from_is_err_and c.from_residual-in_err-user_image.result c.from_residual-in_err-user_image.ensures.1 in
+    rw (p.1, p.2)
+    (user_told_for system lexicons fault (source_fault_of c.in_err-user_image.field-0.0) h
+    (user_refusal c.args.sizes system is lexicons c.in_ok-read.read c.in_ok-read.ensures.sizes c.in_ok-read.ensures.accepted c.in_err-user_image.field-0.0 c.in_err-user_image.ensures.large c.in_err-user_image.ensures.full))

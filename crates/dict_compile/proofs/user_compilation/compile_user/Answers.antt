@@ -1,4 +1,5 @@
-use Rattle.std.proofs.Common.{refl, sym, subst, map}
+use Rattle.std.proofs.Common.{◌∙◌, Err, ap, refl, sym, subst, map}
+use Rattle.std.proofs.lemmas.Result.{err_from_is_err_and}
 use Rattle.dict_compile.specs.Compilation.{IsUserCause}
 use Rattle.mj_model.specs.FirstFault.{IsRefusal}
 use Rattle.dict_compile.proofs.EveryKey.{keys_of_lexicons}
@@ -13,34 +14,37 @@ returns-then-is_user-clause-not_system c = (λ h. a_user (image_tables c.args.sy
 pub returns-then-is_user-clause-first : goal.returns-then-is_user-clause-first
 returns-then-is_user-clause-first c = λ fault h. not_both (image_tables c.args.system.now).kind (a_user (image_tables c.args.system.now).kind (sym c.if-is_user.ensures.kind)) h.0
 
-pub returns-in-Ok-clause-compiled : goal.returns-in-Ok-clause-compiled
-returns-in-Ok-clause-compiled c =
+pub returns-clause-compiled : goal.returns-clause-compiled
+returns-clause-compiled c =
     let system = image_tables c.args.system.now in
-    c.in-Ok.ensures.compiled system
+    c.in_ok-compile_lexicons.ensures.compiled system
     (is_system_of system c.matrix_sizes-sizes.result c.if-is_user.ensures.kind c.matrix_sizes-sizes.ensures.sizes)
 
-pub returns-in-Ok-clause-every_key : goal.returns-in-Ok-clause-every_key
-returns-in-Ok-clause-every_key c =
+pub returns-clause-every_key : goal.returns-clause-every_key
+returns-clause-every_key c =
     let system = image_tables c.args.system.now in
-    keys_of_lexicons system.sizes (map (λ lexicon. lexicon.now) c.args.lexicons.now) (image_tables c.in-Ok.compiled.image.items)
-    (c.in-Ok.ensures.compiled system
+    keys_of_lexicons system.sizes (map (λ lexicon. lexicon.now) c.args.lexicons.now) (image_tables c.in_ok-compile_lexicons.field-0.image.items)
+    (c.in_ok-compile_lexicons.ensures.compiled system
     (is_system_of system c.matrix_sizes-sizes.result c.if-is_user.ensures.kind c.matrix_sizes-sizes.ensures.sizes)).have
 
-pub returns-in-Ok-clause-first : goal.returns-in-Ok-clause-first
-returns-in-Ok-clause-first c =
+pub returns-clause-first : goal.returns-clause-first
+returns-clause-first c =
     let system = image_tables c.args.system.now in
-    c.in-Ok.ensures.first system
+    c.in_ok-compile_lexicons.ensures.first system
     (is_system_of system c.matrix_sizes-sizes.result c.if-is_user.ensures.kind c.matrix_sizes-sizes.ensures.sizes)
 
-pub returns-in-Err-clause-refused : goal.returns-in-Err-clause-refused
-returns-in-Err-clause-refused c = λ fault e.
+pub returns-in_err-compile_lexicons-clause-refused : goal.returns-in_err-compile_lexicons-clause-refused
+returns-in_err-compile_lexicons-clause-refused c = λ fault e.
     let system = image_tables c.args.system.now in
-    subst (λ told. IsRefusal told (IsUserCause system (map (λ lexicon. lexicon.now) c.args.lexicons.now) told)) (same_told e)
-    (c.in-Err.ensures.refused system
+    let p = err_from_is_err_and c.from_residual.result c.from_residual.ensures.1 in
+    subst (λ told. IsRefusal told (IsUserCause system (map (λ lexicon. lexicon.now) c.args.lexicons.now) told)) (same_told (sym (p.1 ∙ ap Err p.2) ∙ e))
+    (c.in_err-compile_lexicons.ensures.refused system
     (is_system_of system c.matrix_sizes-sizes.result c.if-is_user.ensures.kind c.matrix_sizes-sizes.ensures.sizes))
 
-pub returns-in-Err-clause-first : goal.returns-in-Err-clause-first
-returns-in-Err-clause-first c =
+pub returns-in_err-compile_lexicons-clause-first : goal.returns-in_err-compile_lexicons-clause-first
+returns-in_err-compile_lexicons-clause-first c =
     let system = image_tables c.args.system.now in
-    c.in-Err.ensures.first system
-    (is_system_of system c.matrix_sizes-sizes.result c.if-is_user.ensures.kind c.matrix_sizes-sizes.ensures.sizes)
+    let p = err_from_is_err_and c.from_residual.result c.from_residual.ensures.1 in
+    rw (p.1, p.2)
+    (c.in_err-compile_lexicons.ensures.first system
+    (is_system_of system c.matrix_sizes-sizes.result c.if-is_user.ensures.kind c.matrix_sizes-sizes.ensures.sizes))

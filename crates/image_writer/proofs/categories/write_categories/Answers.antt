@@ -9,5 +9,5 @@ pub returns : goal.returns
 returns c =
     let ended = c.loop-i-test.false in
     let count = c.count-i-end.ensures.count in
-    categories_are c.args.chars.now c.loop-i.bytes.items c.requires
+    categories_are c.args.chars.now c.loop-i.bytes.items c.count-i-end.ensures.formed.storable
     (c.loop-i.invariant ∙ ap (flat_map category_bytes) (take_all c.loop-i.i c.args.chars.now.categories (omega (arith, ended, count))))

@@ -11,7 +11,7 @@ loop-start-preserved c =
     let entries = c.args.entries in
     let fits : get_or starts i 0 < 2 ^ 32 = search rules in
     let less = c.loop-start-test.true in
-    let written = c.in_ok-extend_from_slice.ensures.items ∙ ap (λ (bytes : List ℕ). c.loop-start.bytes.items ++ bytes) c.number_bytes.ensures in
+    let written = c.in_ok-extend_from_slice.ensures.items ∙ ap (λ (bytes : List ℕ). c.loop-start.bytes.items ++ bytes) c.to_le_bytes.ensures in
     subst (HoldsNumbers (λ g. get_or starts g entries) (i + 1)) (sym written)
     (numbers_more (λ g. get_or starts g entries) i c.loop-start.bytes.items (get_or starts i 0) c.loop-start.invariant (get_or_default starts i 0 entries less) fits)
 
@@ -23,6 +23,6 @@ returns-clause-numbers c =
     let fits : entries < 2 ^ 32 = search rules in
     let past = c.loop-start-test.false in
     let all : n ≡ length starts = omega arith in
-    let written = c.in_ok-extend_from_slice-2.ensures.items ∙ ap (λ (bytes : List ℕ). c.loop-start.bytes.items ++ bytes) c.number_bytes-2.ensures in
+    let written = c.in_ok-extend_from_slice-2.ensures.items ∙ ap (λ (bytes : List ℕ). c.loop-start.bytes.items ++ bytes) c.to_le_bytes-2.ensures in
     let holds = numbers_more (λ g. get_or starts g entries) n c.loop-start.bytes.items entries c.loop-start.invariant (sym (get_or_past starts n entries past)) fits in
     λ g less. (subst (HoldsNumbers (λ g. get_or starts g entries) (n + 1)) (sym written) holds).each g (omega (arith, less, all))

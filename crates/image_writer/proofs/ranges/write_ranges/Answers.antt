@@ -1,21 +1,24 @@
-use Rattle.std.proofs.Common.{ap, ◌∙◌, sym, subst, ◌++◌, List, ℕ, length, arith}
-use Rattle.mj_model.specs.CharDef.{IsInfoOf}
-use Rattle.image_writer.specs.Covering.{Covers}
+use Rattle.std.proofs.Common.{ap, ◌∙◌, sym, subst, ◌++◌, List, [], ℕ, take}
+use Rattle.std.specs.Prelude.{flat_map}
+use Rattle.std.proofs.lemmas.List.{flat_map_more, take_all, take_more}
+use Rattle.char_def.specs.InfoRanges.{AreRangesOf, no_range, range_by}
 use Rattle.image_writer.specs.Ranges.{range_bytes}
-use Rattle.image_writer.proofs.CoverLemmas.{cover_first, entry_fits}
+use Rattle.image_writer.proofs.RangeLemmas.{few_bits, ranges_held}
 use Rattle.image_writer.proofs.ranges.write_ranges.Goals as goal
 
 pub append_range-requires : goal.append_range-requires
 append_range-requires c =
-    let n = length c.args.chars.now.categories in
-    let formed = subst (IsInfoOf n) (sym c.info-last.ensures.info) (c.requires.formed 0 (omega (arith))) in
-    (entry_fits n c.info-last.result c.requires.few formed).0
+    few_bits c.args.chars.now c.deref-range-items.result.now c.requires (subst (AreRangesOf c.args.chars.now) (sym c.deref-range-items.ensures.value) c.in_ok-ranges.ensures)
+    c.loop-range.range-index c.loop-range-test.true
 
-pub loop-code-init : goal.loop-code-init
-loop-code-init c =
-    let n = length c.args.chars.now.categories in
-    let formed = subst (IsInfoOf n) (sym c.info-last.ensures.info) (c.requires.formed 0 (omega (arith))) in
-    let fits = entry_fits n c.info-last.result c.requires.few formed in
-    subst (Covers c.args.chars.now 1 c.info-last.result)
-    (sym (c.in_ok-append_range.ensures ∙ ap (λ (bytes : List ℕ). bytes ++ range_bytes 0 c.info-last.result) c.new-bytes.ensures.items))
-    (cover_first c.args.chars.now c.info-last.result c.info-last.ensures.info fits.0 fits.1 formed)
+pub loop-range-preserved : goal.loop-range-preserved
+loop-range-preserved c =
+    let ranges = c.deref-range-items.result.now in
+    let i = c.loop-range.range-index in
+    c.in_ok-append_range.ensures ∙ ap (λ (bytes : List ℕ). bytes ++ range_bytes (range_by ranges i)) c.loop-range.invariant
+    ∙ flat_map_more range_bytes [] (take i ranges) (range_by ranges i) ∙ ap (flat_map range_bytes) (sym (take_more ranges i no_range c.loop-range-test.true))
+
+pub returns : goal.returns
+returns c =
+    ranges_held c.args.chars.now c.in_ok-ranges.ranges.items c.requires c.in_ok-ranges.ensures c.loop-range.bytes.items
+    (c.loop-range.invariant ∙ ap (flat_map range_bytes) (take_all c.loop-range.range-index c.deref-range-items.result.now c.loop-range-test.false ∙ c.deref-range-items.ensures.value))

@@ -1,67 +1,59 @@
-use Rattle.std.proofs.Common.{◌≡◌, ◌/◌, ◌-◌, ℕ, List, [], ◌∷◌, length, sym, subst, arith}
-use Rattle.std.specs.Prelude.{sum_by}
+use Rattle.std.proofs.Common.{◌≡◌, ◌≤◌, ℕ, List, [], ◌∷◌, length, ap, sym, ◌∙◌, subst}
+use Rattle.std.specs.Prelude.{map}
 use Rattle.std.proofs.lemmas.List.{length-map}
-use Rattle.mj_model.specs.Lexicon.{row_of, rows_of}
-use Rattle.image_writer.specs.declared.header.Numbers.{Numbers}
+use Rattle.mj_model.specs.declared.limits.TheConstants.{ENTRIES_MAX}
+use Rattle.mj_model.specs.declared.matrix_sizes.MatrixSizes.{MatrixSizes}
+use Rattle.mj_model.specs.Lexicon.{Row, row_of}
+use Rattle.lex_source.specs.Lexicons.{AreLexiconRows}
+use Rattle.image_bytes.specs.declared.header.Header.{Header}
+use Rattle.image_bytes.specs.declared.header.TheConstants.{LAYOUT}
 use Rattle.image_writer.specs.Frames.{IsFramed}
 use Rattle.image_writer.specs.StoredTables.{AreUnknownOf}
-use Rattle.image_writer.proofs.RowLemmas.{count_all}
+use Rattle.image_writer.proofs.PartLemmas.{sections_with}
 use Rattle.image_writer.proofs.WholeLemmas.{system_image}
 use Rattle.image_writer.proofs.system.write_system.Goals as goal
-
-pub overflow_cast-numbers-3 : goal.overflow_cast-numbers-3
-overflow_cast-numbers-3 c =
-    let rows = rows_of c.args.lexicon.now in
-    let few = c.requires.few_unknown in
-    let fill = c.in_ok-sections.ensures.sections.tokens.fill in
-    let count = count_all rows c.args.unknown.now in
-    let long : length rows ≡ length c.args.lexicon.now = length-map c.args.lexicon.now row_of in
-    let len = c.len.ensures in
-    record { fits = omega (arith, few, fill, count, long, len) }
 
 pub returns-clause-image : goal.returns-clause-image
 returns-clause-image c =
     let m = c.args.matrix.now in
     let chars = c.args.chars.now in
     let unknown = c.args.unknown.now in
-    let rows = rows_of c.args.lexicon.now in
-    let sections = c.in_ok-sections.sections in
-    let made = c.in_ok-sections.ensures.sections in
-    let long : length c.args.lexicon.now ≡ length rows = sym (length-map c.args.lexicon.now row_of) in
-    let few = c.requires.few in
-    let few_categories = c.count-count.ensures.few in
-    let count_is = c.count-count.ensures.count in
-    let fill = made.tokens.fill in
-    let count = count_all rows unknown in
-    let len = c.len.ensures in
-    let unknown_is : c.len.result / 16 - length c.args.lexicon.now ≡ sum_by length unknown = omega (arith, fill, count, long, len) in
-    system_image m chars unknown rows c.in_ok-costs.costs.items c.in_ok-categories.categories.items c.in_ok-ranges.ranges.items c.in_ok-index.index.items sections
+    let rows : List Row = c.args.lexicon.now.rows in
+    let made = c.in_ok-lexicon_bytes.lexicon_bytes in
+    let entries = c.records-entries.ensures in
+    let long : length c.records-entries.result.now ≡ length rows = sym (length-map c.records-entries.result.now row_of) ∙ ap length entries.rows in
+    let given : List (List ℕ) = c.as_slice.result.now ∷ c.deref.result.now ∷ c.deref-2.result.now ∷ c.deref-3.result.now
+    ∷ c.deref-4.result.now ∷ c.deref-5.result.now ∷ c.deref-6.result.now ∷ c.deref-7.result.now ∷ [] in
+    let listed : given ≡ sections_with c.in_ok-costs.costs.items c.in_ok-categories.categories.items c.in_ok-ranges.ranges.items c.in_ok-index.index.items made =
+    λ i. c.as_slice.ensures.value i ∷ c.deref.ensures.value i ∷ c.deref-2.ensures.value i ∷ c.deref-3.ensures.value i
+    ∷ c.deref-4.ensures.value i ∷ c.deref-5.ensures.value i ∷ c.deref-6.ensures.value i ∷ c.deref-7.ensures.value i ∷ [] in
+    system_image m chars unknown rows c.in_ok-costs.costs.items c.in_ok-categories.categories.items c.in_ok-ranges.ranges.items c.in_ok-index.index.items made
     (record {
       matrix = c.sizes.ensures.formed;
-      few = omega (arith, long, few);
-      few_unknown = c.requires.few_unknown;
+      entries = subst (λ (sizes : MatrixSizes). AreLexiconRows (record { sizes = sizes; rows = rows })) c.requires.sizes entries.formed.entries;
+      few_unknown = subst (λ n. n ≤ ENTRIES_MAX) c.unknown_count.ensures.count c.unknown_count.ensures.few;
       count = c.requires.categories;
-      some_categories = c.requires.some_categories;
-      few_categories = omega (arith, few_categories, count_is);
+      chars_formed = c.count-count.ensures.formed;
       ids = c.requires.ids;
       costs_are = c.in_ok-costs.ensures;
       categories_are = c.in_ok-categories.ensures;
       ranges_are = c.in_ok-ranges.ensures;
       index_are = subst (λ n. AreUnknownOf n unknown c.in_ok-index.index.items) long c.in_ok-index.ensures;
-      lexicon = made;
+      lexicon = c.in_ok-lexicon_bytes.ensures.sections;
     })
     c.in_ok-write_image.field-0.items
-    (subst (λ (x : Numbers × List (List ℕ)). IsFramed x.0 x.1 c.in_ok-write_image.field-0.items)
+    (subst (λ (x : Header × List (List ℕ)). IsFramed x.0 x.1 c.in_ok-write_image.field-0.items)
     (λ i. (
       record {
+        layout = LAYOUT;
         kind = 0;
         sizes = c.sizes.ensures.sizes i;
-        categories = count_is i;
-        groups = sections.group_count;
+        categories = c.count-count.ensures.count i;
+        groups = made.group_count;
         tokens = long i;
-        unknown = unknown_is i;
+        unknown = c.unknown_count.ensures.count i;
+        lengths = (c.lengths.ensures ∙ ap (map length) listed) i;
       },
-      c.deref.ensures.value i ∷ c.deref-2.ensures.value i ∷ c.deref-3.ensures.value i ∷ c.deref-4.ensures.value i
-          ∷ c.deref-5.ensures.value i ∷ c.deref-6.ensures.value i ∷ c.deref-7.ensures.value i ∷ c.deref-8.ensures.value i ∷ [],
+      listed i,
     ))
     c.in_ok-write_image.ensures)

@@ -1,31 +1,40 @@
-use Rattle.std.proofs.Common.{◌≡◌, ℕ, List, [], ◌∷◌, length, sym, subst, arith}
+use Rattle.std.proofs.Common.{◌≡◌, ℕ, List, [], ◌∷◌, length, ap, sym, ◌∙◌, subst}
+use Rattle.std.specs.Prelude.{map}
 use Rattle.std.proofs.lemmas.List.{length-map}
-use Rattle.mj_model.specs.Lexicon.{row_of, rows_of}
-use Rattle.image_writer.specs.declared.header.Numbers.{Numbers}
+use Rattle.mj_model.specs.declared.matrix_sizes.MatrixSizes.{MatrixSizes}
+use Rattle.mj_model.specs.Lexicon.{Row, row_of}
+use Rattle.image_bytes.specs.declared.header.Header.{Header}
+use Rattle.image_bytes.specs.declared.header.TheConstants.{LAYOUT}
 use Rattle.image_writer.specs.Frames.{IsFramed}
+use Rattle.image_writer.proofs.PartLemmas.{sections_with}
 use Rattle.image_writer.proofs.UserLemmas.{user_image}
 use Rattle.image_writer.proofs.user.write_user.Goals as goal
 
 pub returns-clause-image : goal.returns-clause-image
 returns-clause-image c =
-    let sizes = c.args.sizes in
-    let rows = rows_of c.args.lexicon.now in
-    let sections = c.in_ok-sections.sections in
-    let long : length c.args.lexicon.now ≡ length rows = sym (length-map c.args.lexicon.now row_of) in
-    let few = c.requires.few in
-    user_image sizes rows sections
-    (record { sizes_fit = c.requires.sizes; few = omega (arith, long, few); ids = c.requires.ids; lexicon = c.in_ok-sections.ensures.sections })
+    let sizes : MatrixSizes = c.args.lexicon.now.sizes in
+    let rows : List Row = c.args.lexicon.now.rows in
+    let made = c.in_ok-lexicon_bytes.lexicon_bytes in
+    let entries = c.records.ensures in
+    let long : length c.records.result.now ≡ length rows = sym (length-map c.records.result.now row_of) ∙ ap length entries.rows in
+    let given : List (List ℕ) = c.as_slice.result.now ∷ [] ∷ [] ∷ [] ∷ c.deref.result.now ∷ c.deref-2.result.now ∷ c.deref-3.result.now ∷ c.deref-4.result.now ∷ [] in
+    let listed : given ≡ sections_with [] [] [] [] made =
+    λ i. c.as_slice.ensures i ∷ [] ∷ [] ∷ [] ∷ c.deref.ensures.value i ∷ c.deref-2.ensures.value i ∷ c.deref-3.ensures.value i ∷ c.deref-4.ensures.value i ∷ [] in
+    user_image sizes rows made
+    (record { sizes_fit = c.requires.sizes; entries = entries.formed.entries; lexicon = c.in_ok-lexicon_bytes.ensures.sections })
     c.in_ok-write_image.field-0.items
-    (subst (λ (x : Numbers × List (List ℕ)). IsFramed x.0 x.1 c.in_ok-write_image.field-0.items)
+    (subst (λ (x : Header × List (List ℕ)). IsFramed x.0 x.1 c.in_ok-write_image.field-0.items)
     (λ i. (
       record {
+        layout = LAYOUT;
         kind = 1;
-        sizes = sizes;
+        sizes = c.sizes.ensures i;
         categories = 0;
-        groups = sections.group_count;
+        groups = made.group_count;
         tokens = long i;
         unknown = 0;
+        lengths = (c.lengths.ensures ∙ ap (map length) listed) i;
       },
-      c.as_slice.ensures i ∷ [] ∷ [] ∷ [] ∷ c.deref.ensures.value i ∷ c.deref-2.ensures.value i ∷ c.deref-3.ensures.value i ∷ c.deref-4.ensures.value i ∷ [],
+      listed i,
     ))
     c.in_ok-write_image.ensures)

@@ -1,7 +1,7 @@
-use Rattle.std.proofs.Common.{◌≡◌, ◌≤◌, ◌^◌, [], ◌∷◌, ◌++◌, length, sym, ◌∙◌, arith}
+use Rattle.std.proofs.Common.{◌≡◌, ◌≤◌, [], ◌∷◌, ◌++◌, length, sym, ◌∙◌, arith}
 use Rattle.std.specs.Prelude.{sum_by}
 use Rattle.std.proofs.lemmas.Result.{IfErr-weaker}
-use Rattle.image_bytes.specs.ImageBounds.{each_once}
+use Rattle.image_bytes.specs.ImageBounds.{each_once, feature_bytes_end}
 use Rattle.image_writer.specs.Sections.{HoldsOneMore}
 use Rattle.image_writer.specs.declared.fault.LexiconFault.TheVariants.{FeaturesTooLarge}
 use Rattle.image_writer.proofs.Results.{ok_known}
@@ -26,5 +26,5 @@ returns-in-None-clause-place c = λ texts holds.
 
 pub returns-in-None-clause-large : goal.returns-in-None-clause-large
 returns-in-None-clause-large c = λ texts holds.
-    IfErr-weaker c.add.result _ (λ fault. fault ≡ FeaturesTooLarge → 2 ^ 32 ≤ sum_by length (each_once (texts ++ c.args.feature.now ∷ [])))
+    IfErr-weaker c.add.result _ (λ fault. fault ≡ FeaturesTooLarge → feature_bytes_end ≤ sum_by length (each_once (texts ++ c.args.feature.now ∷ [])))
     (λ fault full e. no_room texts c.args.feature.now c.args.self.now holds (sym c.get.ensures.value ∙ (sym c.copied.ensures ∙ c.in-None.is)) (full e)) c.add.ensures.large

@@ -1,9 +1,9 @@
-use Rattle.std.proofs.Common.{◌+◌, List, ◌++◌, take, sym, ◌∙◌, subst}
+use Rattle.std.proofs.Common.{◌+◌, List, ◌++◌, take, sym, subst}
 use Rattle.std.proofs.lemmas.List.{append-nil}
-use Rattle.std.proofs.lemmas.Result.{err_from_is_err_and}
 use Rattle.mj_model.specs.Lexicon.{Row, rows_of}
 use Rattle.image_writer.specs.Sections.{AreWritten, IsTooLarge}
 use Rattle.image_writer.proofs.WriterLemmas.{records_more, records_all, front_too_large}
+use Rattle.image_writer.proofs.Results.{passed_on}
 use Rattle.image_writer.proofs.tokens.TokenWriter.add_all.Goals as goal
 
 pub loop-record-init : goal.loop-record-init
@@ -20,10 +20,10 @@ pub returns-in_err-add-clause-large : goal.returns-in_err-add-clause-large
 returns-in_err-add-clause-large c = λ rows written.
     let i = c.loop-record.record-index in
     let records = c.args.records.now in
-    let p = err_from_is_err_and c.from_residual.result c.from_residual.ensures.1 in
-    rw (p.1) (λ same. front_too_large rows records (i + 1)
+    passed_on c.from_residual.result _ c.from_residual.ensures.1
+    (λ same. front_too_large rows records (i + 1)
     (subst IsTooLarge (records_more rows records i c.record-item.result c.loop-record-test.true c.record-item.is)
-    (c.in_err-add.ensures.large (rows ++ rows_of (take i records)) (c.loop-record.invariant rows written) (sym p.2 ∙ same))))
+    (c.in_err-add.ensures.large (rows ++ rows_of (take i records)) (c.loop-record.invariant rows written) same)))
 
 pub returns-clause-written : goal.returns-clause-written
 returns-clause-written c = λ rows written.

@@ -1,8 +1,0 @@
-use Rattle.std.proofs.Common.{sym, ◌∙◌}
-use Rattle.dict_compile.proofs.LexiconLemmas.{outside_more}
-use Rattle.dict_compile.proofs.lexicons.line_outside.Goals as goal
-
-pub loop-record-preserved : goal.loop-record-preserved
-loop-record-preserved c =
-    outside_more c.args.sizes c.args.records.now c.loop-record.record-index c.record-item.result c.loop-record-test.true c.record-item.is
-    (sym c.contains.ensures ∙ c.if-not-contains.false) c.loop-record.invariant
