@@ -27,10 +27,7 @@ fn grow(cells: &mut Cells, n: usize) -> Result<(), AllocError> {
 
 /// Four cells. What is refused once is asked again.
 fn four_cells(alloc: Global) -> Result<Cells, AllocError> {
-    match Cells::new(alloc, 4) {
-        Ok(cells) => Ok(cells),
-        Err(_) => Cells::new(alloc, 4),
-    }
+    Cells::new(alloc, 4).or_else(|_| Cells::new(alloc, 4))
 }
 
 #[test]

@@ -137,8 +137,6 @@ fn make_room(pool: &mut CellPool, key_length: usize, left: usize) -> Result<(), 
     if wanted > CELLS_MAX {
         return Err(DaFault::Full);
     }
-    match pool.grow(wanted) {
-        Ok(()) => Ok(()),
-        Err(_) => Err(DaFault::Memory),
-    }
+    pool.grow(wanted)?;
+    Ok(())
 }

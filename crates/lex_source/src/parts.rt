@@ -27,10 +27,10 @@ pub(crate) fn split_line(line: &[u8]) -> Result<Option<LineParts<'_>>, SourceKin
     let Ok(text) = simdutf8::compat::from_utf8(line) else {
         return Err(SourceKind::NotUtf8);
     };
-    match line_parts(text) {
-        Some(parts) => Ok(Some(parts)),
-        None => Err(SourceKind::TooFewFields),
-    }
+    let Some(parts) = line_parts(text) else {
+        return Err(SourceKind::TooFewFields);
+    };
+    Ok(Some(parts))
 }
 
 /// The parts of a line, or None where no comma ends its fourth field.

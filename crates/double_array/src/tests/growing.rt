@@ -36,10 +36,7 @@ fn has_first_keys(array: &DoubleArray, n: usize) -> bool {
 
 /// An empty array. What is refused once is asked again.
 fn new_array(alloc: Global) -> Result<DoubleArray, AllocError> {
-    match DoubleArray::new(alloc) {
-        Ok(array) => Ok(array),
-        Err(_) => DoubleArray::new(alloc),
-    }
+    DoubleArray::new(alloc).or_else(|_| DoubleArray::new(alloc))
 }
 
 #[test]

@@ -2,7 +2,7 @@ use Rattle.double_array.proofs.InsertionLemmas.{grown_built}
 use Rattle.std.proofs.Common.{arith, ◌+◌}
 use Rattle.double_array.proofs.insertion.make_room.Goals as goal
 
-pub returns-in-Ok-clause-room : goal.returns-in-Ok-clause-room
-returns-in-Ok-clause-room c =
+pub returns-clause-room : goal.returns-clause-room
+returns-clause-room c =
     let n = c.len-2.result + c.args.key_length + 600 in
-    grown_built c.args.pool.now c.grow.new.self n c.args.key_length c.args.left c.requires.built c.in-Ok.ensures.grown c.in-Ok.ensures.top (omega (arith, c.len-2.ensures.length)) c.if-wanted-gt-CELLS_MAX.false c.requires.left
+    grown_built c.args.pool.now c.grow.new.self n c.args.key_length c.args.left c.requires.built c.in_ok-grow.ensures.grown c.in_ok-grow.ensures.top (omega (arith, c.len-2.ensures.length)) c.if-wanted-gt-CELLS_MAX.false c.requires.left
