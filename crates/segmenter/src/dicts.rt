@@ -89,11 +89,7 @@ fn loaded(alloc: Global, image: Vec<u8>) -> Result<Dict, AllocError>
     requires { IsWellFormed image.items }
     ensures { IfOk result (λ dict. dict ≡ image.items) }
 {
-    let dict = match load(alloc, image) {
-        Ok(dict) => dict,
-        Err(fault) => return Err(want_of_memory(fault)),
-    };
-    Ok(dict)
+    load(alloc, image).map_err(want_of_memory)
 }
 
 /// What a load that was refused memory is refused for.
