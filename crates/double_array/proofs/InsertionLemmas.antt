@@ -1,5 +1,7 @@
 -- An insertion, from its steps.
 use Rattle.std.proofs.Common.{◌≡◌, ◌≢◌, ℕ, suc, ◌+◌, ◌-◌, ◌<◌, ◌≤◌, ◌^◌, ◌+ℤ◌, pos, negsuc, List, length, set, take, get_or, Option, Some, None, inl, inr, sym, ap, ◌∙◌, refl, arith, subst}
+use Rattle.std.specs.Prelude.{Result, Ok, Err}
+use Rattle.std.specs.Result.{OnOk, is_ok}
 use Rattle.std.proofs.lemmas.Bool.{cases_eq, cases_lt}
 use Rattle.std.proofs.lemmas.List.{length-set}
 use Rattle.std.proofs.lemmas.Option.{none-some}
@@ -188,3 +190,10 @@ module _ (old : Pool) (key : List ℕ) (at : Reached) (code : ℕ) (built : IsBu
 
       pub map_before : HasSameMap old.cells cleared.cells
       map_before other = clear.map other ∙ map_same old.cells roomy.cells room.same other
+
+-- what follows of a success does so where its error is told as another
+pub on_passed : {T E D A B P : Type 0} (given : Result T E) (passed : Result T D) → is_ok passed ≡ is_ok given → OnOk given A → OnOk given B → (A → B → P) → OnOk passed P
+on_passed (Ok x) (Ok y) same a b f = f a b
+on_passed (Ok x) (Err d) same a b f = tt
+on_passed (Err e) (Ok y) same a b f = absurd (cc)
+on_passed (Err e) (Err d) same a b f = tt

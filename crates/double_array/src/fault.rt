@@ -1,7 +1,6 @@
 //! Why an insertion is refused.
 
 use mj_model::NamedFault;
-use std::alloc::AllocError;
 use thiserror::Error;
 
 /// Why an insertion is refused. The map is as before.
@@ -25,16 +24,5 @@ impl NamedFault for DaFault {
             DaFault::Full => ("X1", "Full"),
             DaFault::Memory => ("Memory", "Memory"),
         }
-    }
-}
-
-impl From<AllocError> for DaFault {
-    ghost use Rattle.std.specs.Prelude.{◌≡◌};
-    ghost use Rattle.double_array.specs.declared.fault.DaFault.TheVariants.{Memory};
-
-    ghost from_gives = { λ _ fault. fault ≡ Memory };
-
-    fn from(_refused: AllocError) -> DaFault {
-        DaFault::Memory
     }
 }

@@ -137,6 +137,5 @@ fn make_room(pool: &mut CellPool, key_length: usize, left: usize) -> Result<(), 
     if wanted > CELLS_MAX {
         return Err(DaFault::Full);
     }
-    pool.grow(wanted)?;
-    Ok(())
+    pool.grow(wanted).map_err(|_| DaFault::Memory)
 }
