@@ -1,9 +1,10 @@
 //! User dictionaries over the sample.
 
 use super::runs::{run, run_in};
-use super::samples::user;
 use crate::dicts::system_dict;
 use crate::{sample, segment};
+use dict_compile::compile_user;
+use dict_image::load;
 use mj_model::{Counted, RunFault, SourceFault, SourceKind, Sources};
 use out_format::Format;
 use std::alloc::Global;
@@ -121,7 +122,9 @@ fn sources_before_users(rt: HostRuntime) {
 fn segment_over_images(rt: HostRuntime) -> Result<(), Fail> {
     let alloc = rt.alloc();
     let system = system_dict(alloc, &sample())?;
-    let users = [user(alloc, &system, USER)?];
+    let compiled = compile_user(alloc, &system, &[USER.as_bytes()])?;
+    assert_eq!(rt; compiled.entries, 1);
+    let users = [load(alloc, compiled.image)?];
     let words = Format::default_of(alloc)?;
     let costs = Format::parse(alloc, "%m/%f[1]/%pc ", None, "", "%pc\\n")?;
     #[rattlefmt::skip]
