@@ -9,7 +9,7 @@ use std::test::Fail;
 fn node_texts(rt: HostRuntime) -> Result<(), Fail> {
     use FormatKind::{BadEscape, BadIndex, BadItem};
     #[rattlefmt::skip]
-    let rows: [(&str, &str, Option<(usize, FormatKind)>); 28] = [
+    let rows: [(&str, &str, Option<(usize, FormatKind)>); 38] = [
         // (what, the node's text, the byte of its first fault)
         ("no text", "", None),
         ("plain text", "名詞/", None),
@@ -25,6 +25,16 @@ fn node_texts(rt: HostRuntime) -> Result<(), Fail> {
         ("%ph at the end", "%ph", Some((0, BadItem))),
         ("no such item of %p", "%pm", Some((0, BadItem))),
         ("no such item of %ph", "%phc", Some((0, BadItem))),
+        ("MeCab's %h", "%h", Some((0, BadItem))),
+        ("MeCab's %F", "%F", Some((0, BadItem))),
+        ("MeCab's %P", "%P", Some((0, BadItem))),
+        ("MeCab's %pP", "%pP", Some((0, BadItem))),
+        ("MeCab's %pA", "%pA", Some((0, BadItem))),
+        ("MeCab's %pB", "%pB", Some((0, BadItem))),
+        ("MeCab's %pi", "%pi", Some((0, BadItem))),
+        ("MeCab's %pb", "%pb", Some((0, BadItem))),
+        ("MeCab's %pw", "%pw", Some((0, BadItem))),
+        ("MeCab's %pp", "%pp", Some((0, BadItem))),
         ("the leftmost fault", "%q\\q", Some((0, BadItem))),
         ("the leftmost fault, an escape", "\\q%q", Some((0, BadEscape))),
         ("%f without an index", "%f", Some((0, BadIndex))),

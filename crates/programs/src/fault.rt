@@ -1,11 +1,11 @@
 //! What a program tells when it ends early.
 
-ghost use Rattle.std.specs.Prelude.{◌≡◌, String, None, IfSome, string_bytes};
+ghost use Rattle.std.specs.Prelude.{◌≡◌, ◌⊎◌, None, IfSome, true, false};
 ghost use Rattle.std.specs.IoError.{error_kind};
-ghost use Rattle.std.specs.declared.alloc.Global.{Global};
+ghost use Rattle.programs.specs.Faults.{BelongsToNoFile, Names};
 ghost use Rattle.programs.specs.declared.fault.Fault.TheVariants.{File, Memory, Source, Sources, Overlay};
 
-use mj_model::{FormatFault, ImageFault, OverlayFault, RunFault, SourceFault};
+use mj_model::{FormatFault, ImageFault, OverlayFault, RunFault, SourceFault, SourceKind};
 use std::alloc::{AllocError, AllocFailed, Global};
 use std::io::{self, ErrorKind};
 use std::string::String;
@@ -36,34 +36,54 @@ pub enum Fault {
 impl Fault {
     /// The fault of a call on the file or directory at a path that failed.
     pub fn of_file(alloc: Global, path: &str, error: &io::Error) -> Fault
-        ensures path { (told : String Global) → result ≡ File told → string_bytes told ≡ path.now }
+        ensures path { Names File path.now result }
         ensures memory { error_kind error.now ≡ ErrorKind.OutOfMemory → result ≡ Memory }
     {
         if error.kind() == ErrorKind::OutOfMemory {
             return Fault::Memory;
         }
-        String::from_str(alloc, path).map_or(Fault::Memory, Fault::File)
+        let Ok(path) = String::from_str(alloc, path) else {
+            return Fault::Memory;
+        };
+        Fault::File(path)
     }
 
     /// The fault of the source at a path, or of the sources together where it belongs to no file.
     pub fn of_source(alloc: Global, path: Option<&str>, fault: SourceFault) -> Fault
-        ensures source { (told : String Global) → result ≡ Source told fault
-            → IfSome path.entry (λ path. string_bytes told ≡ path.now) }
-        ensures together { path.entry ≡ None → result ≡ Sources fault }
+        ensures source { IfSome path.entry (λ path. (BelongsToNoFile fault.kind → ⊥)
+            → Names (λ told. Source told fault) path.now result) }
+        ensures together { (path.entry ≡ None) ⊎ BelongsToNoFile fault.kind
+            → result ≡ Sources fault }
     {
-        let Some(path) = path else {
+        let (Some(path), true) = (path, belongs_to_a_file(fault.kind)) else {
             return Fault::Sources(fault);
         };
-        String::from_str(alloc, path).map_or(Fault::Memory, |path| Fault::Source(path, fault))
+        let Ok(path) = String::from_str(alloc, path) else {
+            return Fault::Memory;
+        };
+        Fault::Source(path, fault)
     }
 
     /// The fault of the image at a path among those that are laid over one another.
     pub fn of_overlay(alloc: Global, path: &str, fault: OverlayFault) -> Fault
-        ensures { (told : String Global) → result ≡ Overlay told fault
-            → string_bytes told ≡ path.now }
+        ensures { Names (λ told. Overlay told fault) path.now result }
     {
-        String::from_str(alloc, path).map_or(Fault::Memory, |path| Fault::Overlay(path, fault))
+        let Ok(path) = String::from_str(alloc, path) else {
+            return Fault::Memory;
+        };
+        Fault::Overlay(path, fault)
     }
+}
+
+/// Whether a fault of this kind is told with the path of a file.
+pub(crate) fn belongs_to_a_file(kind: SourceKind) -> bool
+    ensures yes { result ≡ true → BelongsToNoFile kind → ⊥ }
+    ensures no { result ≡ false → BelongsToNoFile kind }
+{
+    !matches!(
+        kind,
+        SourceKind::ArrayFull | SourceKind::FeaturesTooLarge | SourceKind::Memory
+    )
 }
 
 impl From<AllocError> for Fault {

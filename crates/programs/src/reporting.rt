@@ -1,6 +1,6 @@
 //! The line that a program ends with on standard error, and the exit status.
 
-use crate::fault::Fault;
+use crate::fault::{Fault, belongs_to_a_file};
 use mj_model::{FormatFault, ImageFault, RunFault, SourceFault, SourceKind};
 use std::io::{self, Write};
 
@@ -32,7 +32,7 @@ fn write_line<W: Write>(program: &str, fault: &Fault, err: &mut W) -> io::Result
     }
 }
 
-/// The line of a source's fault. Want of memory is told without a path.
+/// The line of a source's fault. The path is left out where the fault belongs to no file.
 fn write_source<W: Write>(
     program: &str,
     path: &str,
@@ -40,9 +40,10 @@ fn write_source<W: Write>(
     err: &mut W,
 ) -> io::Result<()> {
     let SourceFault { line, kind, .. } = fault;
-    match kind {
-        SourceKind::Memory => writeln!(err, "{program}: {kind}"),
-        _ => writeln!(err, "{program}: {path}:{line}: {kind}"),
+    if belongs_to_a_file(*kind) {
+        writeln!(err, "{program}: {path}:{line}: {kind}")
+    } else {
+        writeln!(err, "{program}: {kind}")
     }
 }
 

@@ -1,11 +1,11 @@
 //! The source files of a dictionary.
 
-ghost use Rattle.std.specs.Prelude.{◌≡◌, ◌-◌, ◌≤◌};
-ghost use Rattle.mj_model.specs.declared.source_fault.TheConstants.{CHAR_FILE as CharFile, FIRST_LEXICON_FILE as FirstLexiconFile, MATRIX_FILE as MatrixFile, UNK_FILE as UnkFile};
+ghost use Rattle.std.specs.Prelude.{◌≡◌, ◌⊎◌, ◌-◌, ◌≤◌, ◌<◌, None};
+ghost use Rattle.mj_model.specs.declared.source_fault.TheConstants.{CHAR_FILE as CharFile, FIRST_LEXICON_FILE as FirstLexiconFile, MATRIX_FILE as MatrixFile, NO_FILE as NoFile, UNK_FILE as UnkFile};
 ghost use Rattle.programs.specs.Paths.{IsLexiconPath, IsPathOf};
 
 use crate::whole_file::WholeFile;
-use mj_model::{CHAR_FILE, FIRST_LEXICON_FILE, MATRIX_FILE, UNK_FILE};
+use mj_model::{CHAR_FILE, FIRST_LEXICON_FILE, MATRIX_FILE, NO_FILE, UNK_FILE};
 
 /// The source files of a system dictionary. The lexicons stand in the order in which they are read.
 #[derive(Debug, Drop)]
@@ -22,8 +22,9 @@ impl SourceFiles {
         ensures matrix { number ≡ MatrixFile → IsPathOf self.now.matrix result }
         ensures chars { number ≡ CharFile → IsPathOf self.now.chars result }
         ensures unk { number ≡ UnkFile → IsPathOf self.now.unk result }
-        ensures lexicon { FirstLexiconFile ≤ number
+        ensures lexicon { FirstLexiconFile ≤ number → number < NoFile
             → IsLexiconPath self.now.lexicons.items (number - FirstLexiconFile) result }
+        ensures no_file { number ≡ NoFile → result ≡ None }
     {
         match number {
             MATRIX_FILE => Some(self.matrix.path.as_str()),
@@ -36,9 +37,13 @@ impl SourceFiles {
 
 /// The path of the lexicon with a number, counted from `FIRST_LEXICON_FILE`; None where there is none.
 pub fn lexicon_path(lexicons: &[WholeFile], number: u32) -> Option<&str>
-    ensures { FirstLexiconFile ≤ number
+    ensures lexicon { FirstLexiconFile ≤ number → number < NoFile
         → IsLexiconPath lexicons.now (number - FirstLexiconFile) result }
+    ensures no_lexicon { (number < FirstLexiconFile) ⊎ (number ≡ NoFile) → result ≡ None }
 {
+    if number == NO_FILE {
+        return None;
+    }
     let lexicon = number.checked_sub(FIRST_LEXICON_FILE)?;
     Some(lexicons.get(lexicon as usize)?.path.as_str())
 }

@@ -1,5 +1,5 @@
 -- How a run ends behind what it read and wrote so far.
-use Rattle.std.proofs.Common.{◌≡◌, ℕ, ◌+◌, ◌<◌, true, false, List, [], ◌∷◌, ◌++◌, length, refl, sym, ap, ◌∙◌, subst, arith, append_assoc, append-nil, length-append, inl, inr}
+use Rattle.std.proofs.Common.{◌≡◌, ℕ, ◌+◌, ◌<◌, ◌≤◌, true, false, List, [], ◌∷◌, ◌++◌, length, refl, sym, ap, ◌∙◌, subst, arith, append_assoc, append-nil, length-append, inl, inr}
 use Rattle.std.specs.Prelude.{Option, None, Result, Ok, Err, IfOk, IfErr, OnOk, nat_lt}
 use Rattle.std.proofs.lemmas.Bool.{lt-ltb, le-ltb}
 use Rattle.std.specs.Io.KnownBytes.{Appends, Consumes}
@@ -16,7 +16,7 @@ use Rattle.segmenter.specs.declared.line_fault.LineError.TheVariants.{Bad, Memor
 use Rattle.segmenter.specs.LineErrors.{run_fault}
 use Rattle.segmenter.specs.Progress.{AllPrint, IsCause}
 use Rattle.segmenter.specs.Steps.{Stepped, StepStopped, last_line, IsLastCause}
-use Rattle.segmenter.specs.Runs.{Told, IsStarved, IsBad, EndsSo, Ran, both_told, lines_read}
+use Rattle.segmenter.specs.Runs.{Told, NoFailure, IsStarved, IsBad, EndsSo, Ran, both_told, has_ended, lines_read}
 use Rattle.mj_model.specs.declared.source_fault.SourceFault.{SourceFault}
 use Rattle.segmenter.proofs.PieceLemmas.{open_line-append}
 use Rattle.segmenter.proofs.RunWork.{Running, bad_behind, print_on, whole_on, text_lines-parts}
@@ -46,14 +46,40 @@ module _ (Tells : List ℕ → Result (List ℕ) LineFault → Type 0) (bound : 
   -- how a run ends, with what it read and wrote
   abbrev pub RanSo : Option (List ℕ) → Option (List ℕ) → Option (List ℕ) → Option (List ℕ) → Told → Told → Result ℕ RunFault → Type 0
   RanSo left0 left1 held0 held1 before after result =
-      (bytes : List ℕ) × (written : List ℕ) × Consumes left0 left1 bytes × Appends held0 held1 written × EndsSo Tells bound bytes written before after result
+      (bytes : List ℕ) × (written : List ℕ) × Consumes left0 left1 bytes × Appends held0 held1 written
+      × (after.reads ≤ before.reads + bound) × EndsSo Tells bound bytes written before after result
 
   module _ (left0 left1 left2 held0 held1 held2 : Option (List ℕ)) (before now after : Told) (turn : ℕ) (pending out : List ℕ) (lines sent : ℕ)
-      (r : Running Tells left0 left1 held0 held1 before now turn pending out lines sent) where
+      (r : Running Tells left0 left1 held0 held1 before now turn pending out lines sent)
+      (few : turn < bound) (reads : after.reads ≡ now.reads + 1) (no_read : after.read_failures ≡ now.read_failures) where
+    few_reads : after.reads ≤ before.reads + bound
+    few_reads = omega (arith, few, reads, r.reads)
+
+    none_failed : after.write_failures ≡ now.write_failures → NoFailure before after
+    none_failed no_write = record { no_read = no_read ∙ r.read_failures; no_write = no_write ∙ r.write_failures }
+
+    -- ---- the lines that were read whole
+
+    -- the input did not end in this turn
+    lines_of_work : (piece : List ℕ) (done more : List (List ℕ)) → after.ends ≡ now.ends → whole_lines (pending ++ piece) ≡ done ++ more
+        → lines_read (has_ended before after) (r.bytes ++ piece) ≡ (whole_lines r.bytes ++ done) ++ more
+    lines_of_work piece done more ends front =
+        let not_ended : has_ended before after ≡ false = ap (λ n. nat_lt before.ends n) (ends ∙ r.ends) ∙ ltb_same before.ends in
+        ap (λ b. lines_read b (r.bytes ++ piece)) not_ended ∙ whole_on r.bytes piece pending r.open_is
+        ∙ ap (λ z. whole_lines r.bytes ++ z) front ∙ sym (append_assoc (whole_lines r.bytes) done more)
+
+    -- it did
+    lines_of_all : after.ends ≡ now.ends + 1 → lines_read (has_ended before after) r.bytes ≡ text_lines r.bytes
+    lines_of_all ends = ap (λ b. lines_read b r.bytes) {x = has_ended before after} {y = true} (lt-ltb before.ends after.ends (omega (arith, ends, r.ends)))
+
+    lines_at_end : (done more : List (List ℕ)) → last_line pending ≡ done ++ more → text_lines r.bytes ≡ (whole_lines r.bytes ++ done) ++ more
+    lines_at_end done more front =
+        last_lines r.bytes pending r.open_is ∙ ap (λ z. whole_lines r.bytes ++ z) front ∙ sym (append_assoc (whole_lines r.bytes) done more)
+
     -- ---- a write failed
 
     cut_run : (bytes written : List ℕ) (done more : List (List ℕ)) (fault : RunFault) (text left : List ℕ)
-        → text_lines bytes ≡ (whole_lines r.bytes ++ done) ++ more → AllPrint Tells (lines + 1) done text → text ≡ written ++ left
+        → lines_read (has_ended before after) bytes ≡ (whole_lines r.bytes ++ done) ++ more → AllPrint Tells (lines + 1) done text → text ≡ written ++ left
         → fault ≡ run.Write (sent + length written) → after.write_failures ≡ now.write_failures + 1
         → EndsSo Tells bound bytes (r.written ++ written) before after (Err fault)
     cut_run bytes written done more fault text left first print front fault_is failure =
@@ -69,7 +95,7 @@ module _ (Tells : List ℕ → Result (List ℕ) LineFault → Type 0) (bound : 
             front = ap (λ t. r.written ++ t) front ∙ sym (append_assoc r.written written left);
             count = omega (arith, r.sent_is, total);
           },
-          omega (arith, failure, r.write_failures),
+          record { no_read = no_read ∙ r.read_failures; one_write = omega (arith, failure, r.write_failures) },
         )
 
     -- ---- a line stopped the work
@@ -80,9 +106,9 @@ module _ (Tells : List ℕ → Result (List ℕ) LineFault → Type 0) (bound : 
     printed_on : (done : List (List ℕ)) (text : List ℕ) → AllPrint Tells (lines + 1) done text → AllPrint Tells 1 (whole_lines r.bytes ++ done) (r.written ++ text)
     printed_on done text print = print_on Tells r.bytes pending r.written text lines r.print r.open_is r.counted done None print
 
-    starved_run : (bytes written : List ℕ) (done more : List (List ℕ)) (line : ℕ) → text_lines bytes ≡ (whole_lines r.bytes ++ done) ++ more
-        → AllPrint Tells (lines + 1) done written → line ≡ lines + length done + 1 → IsStarved Tells bytes (r.written ++ written) line
-    starved_run bytes written done more line first print e =
+    starved_run : (all : List (List ℕ)) (written : List ℕ) (done more : List (List ℕ)) (line : ℕ) → all ≡ (whole_lines r.bytes ++ done) ++ more
+        → AllPrint Tells (lines + 1) done written → line ≡ lines + length done + 1 → IsStarved Tells all (r.written ++ written) line
+    starved_run all written done more line first print e =
         let number = number_is done line e in
         record { lines = whole_lines r.bytes ++ done; more = more; first = first; printed = printed_on done written print; number = omega (arith, number) }
 
@@ -95,34 +121,33 @@ module _ (Tells : List ℕ → Result (List ℕ) LineFault → Type 0) (bound : 
 
     -- a line is told as bad among the lines that were read whole, and so among all
     bad_ends : (bytes written : List ℕ) (fault : LineFault) (line : ℕ) → IsBad Tells (text_lines bytes) written line fault
-        → IsBad Tells (lines_read (nat_lt before.ends after.ends) bytes) written line fault
+        → IsBad Tells (lines_read (has_ended before after) bytes) written line fault → after.write_failures ≡ now.write_failures
         → EndsSo Tells bound bytes written before after (Err (run_fault (Bad fault) line))
-    bad_ends bytes written TooLong line all whole = all
-    bad_ends bytes written NotUtf8 line all whole = whole
+    bad_ends bytes written TooLong line all whole no_write = (all, none_failed no_write)
+    bad_ends bytes written NotUtf8 line all whole no_write = (whole, none_failed no_write)
 
     -- ---- behind the work on the bytes of one read
 
-    work_error : (piece written : List ℕ) (done : List (List ℕ)) (error : LineError) (line : ℕ) → after.ends ≡ now.ends
+    work_error : (piece written : List ℕ) (done : List (List ℕ)) (error : LineError) (line : ℕ) → after.ends ≡ now.ends → after.write_failures ≡ now.write_failures
         → AllPrint Tells (lines + 1) done written → IsCause Tells (pending ++ piece) done error → line ≡ lines + length done + 1
         → EndsSo Tells bound (r.bytes ++ piece) (r.written ++ written) before after (Err (run_fault error line))
-    work_error piece written done Memory line ends print cause e =
-        starved_run (r.bytes ++ piece) written done (cause.0 ++ last_line (open_line (r.bytes ++ piece))) line
-        (first_lines r.bytes piece pending done cause.0 r.open_is cause.1) print e
-    work_error piece written done (Bad fault) line ends print (inl c) e =
+    work_error piece written done Memory line ends no_write print cause e = (
+      starved_run (lines_read (has_ended before after) (r.bytes ++ piece)) written done cause.0 line (lines_of_work piece done cause.0 ends cause.1) print e,
+      none_failed no_write,
+    )
+    work_error piece written done (Bad fault) line ends no_write print (inl c) e =
         let tail = last_line (open_line (r.bytes ++ piece)) in
-        let not_ended : nat_lt before.ends after.ends ≡ false = ap (λ n. nat_lt before.ends n) (ends ∙ r.ends) ∙ ltb_same before.ends in
-        let whole = whole_on r.bytes piece pending r.open_is ∙ ap (λ z. whole_lines r.bytes ++ z) c.2 ∙ sym (append_assoc (whole_lines r.bytes) done (c.0 ∷ c.1)) in
         bad_ends (r.bytes ++ piece) (r.written ++ written) fault line
         (bad_run (text_lines (r.bytes ++ piece)) written done (c.1 ++ tail) c.0 fault line (first_lines r.bytes piece pending done (c.0 ∷ c.1) r.open_is c.2) print c.3 e)
-        (subst (λ b. IsBad Tells (lines_read b (r.bytes ++ piece)) (r.written ++ written) line fault) (sym not_ended)
-        (bad_run (whole_lines (r.bytes ++ piece)) written done c.1 c.0 fault line whole print c.3 e))
-    work_error piece written done (Bad fault) line ends print (inr c) e =
+        (bad_run (lines_read (has_ended before after) (r.bytes ++ piece)) written done c.1 c.0 fault line (lines_of_work piece done (c.0 ∷ c.1) ends c.2) print c.3 e)
+        no_write
+    work_error piece written done (Bad fault) line ends no_write print (inr c) e =
         let open_is = open_line-append r.bytes piece ∙ ap (λ o. open_line (o ++ piece)) (sym r.open_is) in
         let parts = text_lines-parts (r.bytes ++ piece)
         ∙ ap (λ z. z ++ last_line (open_line (r.bytes ++ piece))) (whole_on r.bytes piece pending r.open_is ∙ ap (λ z. whole_lines r.bytes ++ z) c.0)
         ∙ ap (λ z. (whole_lines r.bytes ++ done) ++ z) (ap last_line open_is ∙ last_there (open_line (pending ++ piece)) (omega (arith, c.3))) in
         subst (λ f. EndsSo Tells bound (r.bytes ++ piece) (r.written ++ written) before after (Err (run_fault (Bad f) line))) (sym c.1)
-        (bad_run (text_lines (r.bytes ++ piece)) written done [] (open_line (pending ++ piece)) TooLong line parts print c.2 e)
+        (bad_run (text_lines (r.bytes ++ piece)) written done [] (open_line (pending ++ piece)) TooLong line parts print c.2 e, none_failed no_write)
 
     pub ran_work : (piece : List ℕ) (fault : RunFault) → Consumes left1 left2 piece → after.ends ≡ now.ends
         → StepStopped Tells (IsCause Tells (pending ++ piece)) lines (whole_lines (pending ++ piece))
@@ -133,33 +158,35 @@ module _ (Tells : List ℕ → Result (List ℕ) LineFault → Type 0) (bound : 
       r.written ++ s.written,
       Consumes-trans left0 left1 left2 r.bytes piece r.read took,
       Appends-trans held0 held1 held2 r.written s.written r.wrote s.wrote,
-      cut_run (r.bytes ++ piece) s.written s.cut.done (s.cut.more ++ last_line (open_line (r.bytes ++ piece))) fault s.cut.text s.cut.left
-          (first_lines r.bytes piece pending s.cut.done s.cut.more r.open_is s.cut.first) s.cut.print s.cut.front s.fault_is s.failure,
+      few_reads,
+      cut_run (r.bytes ++ piece) s.written s.cut.done s.cut.more fault s.cut.text s.cut.left
+          (lines_of_work piece s.cut.done s.cut.more ends s.cut.first) s.cut.print s.cut.front s.fault_is s.failure,
     )
     ran_work piece fault took ends (inr s) = (
       r.bytes ++ piece,
       r.written ++ s.written,
       Consumes-trans left0 left1 left2 r.bytes piece r.read took,
       Appends-trans held0 held1 held2 r.written s.written r.wrote s.wrote,
+      few_reads,
       subst (λ f. EndsSo Tells bound (r.bytes ++ piece) (r.written ++ s.written) before after (Err f)) (sym s.fault_is)
-          (work_error piece s.written s.done s.error (lines + length s.done + 1) ends s.print s.cause refl),
+          (work_error piece s.written s.done s.error (lines + length s.done + 1) ends s.no_failure s.print s.cause refl),
     )
 
     -- ---- at the end of the input
 
-    finish_error : (written : List ℕ) (done : List (List ℕ)) (error : LineError) (line : ℕ) → after.ends ≡ now.ends + 1
+    finish_error : (written : List ℕ) (done : List (List ℕ)) (error : LineError) (line : ℕ) → after.ends ≡ now.ends + 1 → after.write_failures ≡ now.write_failures
         → AllPrint Tells (lines + 1) done written → IsLastCause Tells pending done error → line ≡ lines + length done + 1
         → EndsSo Tells bound r.bytes (r.written ++ written) before after (Err (run_fault error line))
-    finish_error written done Memory line ends print cause e =
-        starved_run r.bytes written done (last_line pending) line
-        (last_lines r.bytes pending r.open_is ∙ ap (λ z. z ++ last_line pending) (sym (append-nil (whole_lines r.bytes)) ∙ ap (λ d. whole_lines r.bytes ++ d) (sym cause.none_before))) print e
-    finish_error written done (Bad fault) line ends print cause e =
-        let ended : nat_lt before.ends after.ends ≡ true = lt-ltb before.ends after.ends (omega (arith, ends, r.ends)) in
-        let parts = last_lines r.bytes pending r.open_is ∙ ap (λ z. whole_lines r.bytes ++ z) cause.there
-        ∙ ap (λ z. z ++ pending ∷ []) (sym (append-nil (whole_lines r.bytes)) ∙ ap (λ d. whole_lines r.bytes ++ d) (sym cause.none_before)) in
+    finish_error written done Memory line ends no_write print cause e =
+        let first = lines_of_all ends ∙ lines_at_end done (last_line pending) (ap (λ d. d ++ last_line pending) (sym cause.none_before)) in (
+          starved_run (lines_read (has_ended before after) r.bytes) written done (last_line pending) line first print e,
+          none_failed no_write,
+        )
+    finish_error written done (Bad fault) line ends no_write print cause e =
+        let parts = lines_at_end done (pending ∷ []) (cause.there ∙ ap (λ d. d ++ pending ∷ []) (sym cause.none_before)) in
         let all = bad_run (text_lines r.bytes) written done [] pending fault line parts print cause.tells e in
         bad_ends r.bytes (r.written ++ written) fault line all
-        (subst (λ b. IsBad Tells (lines_read b r.bytes) (r.written ++ written) line fault) (sym ended) all)
+        (subst (λ ls. IsBad Tells ls (r.written ++ written) line fault) (sym (lines_of_all ends)) all) no_write
 
     pub ran_to_fault : (fault : RunFault) → Consumes left1 left2 [] → after.ends ≡ now.ends + 1
         → StepStopped Tells (IsLastCause Tells pending) lines (last_line pending)
@@ -170,17 +197,18 @@ module _ (Tells : List ℕ → Result (List ℕ) LineFault → Type 0) (bound : 
       r.written ++ s.written,
       subst (λ bs. Consumes left0 left2 bs) (append-nil r.bytes) (Consumes-trans left0 left1 left2 r.bytes [] r.read took),
       Appends-trans held0 held1 held2 r.written s.written r.wrote s.wrote,
+      few_reads,
       cut_run r.bytes s.written s.cut.done s.cut.more fault s.cut.text s.cut.left
-          (last_lines r.bytes pending r.open_is ∙ ap (λ z. whole_lines r.bytes ++ z) s.cut.first ∙ sym (append_assoc (whole_lines r.bytes) s.cut.done s.cut.more))
-          s.cut.print s.cut.front s.fault_is s.failure,
+          (lines_of_all ends ∙ lines_at_end s.cut.done s.cut.more s.cut.first) s.cut.print s.cut.front s.fault_is s.failure,
     )
     ran_to_fault fault took ends (inr s) = (
       r.bytes,
       r.written ++ s.written,
       subst (λ bs. Consumes left0 left2 bs) (append-nil r.bytes) (Consumes-trans left0 left1 left2 r.bytes [] r.read took),
       Appends-trans held0 held1 held2 r.written s.written r.wrote s.wrote,
+      few_reads,
       subst (λ f. EndsSo Tells bound r.bytes (r.written ++ s.written) before after (Err f)) (sym s.fault_is)
-          (finish_error s.written s.done s.error (lines + length s.done + 1) ends s.print s.cause refl),
+          (finish_error s.written s.done s.error (lines + length s.done + 1) ends s.no_failure s.print s.cause refl),
     )
 
     pub ran_to_the_end : (count sent_after : ℕ) → Consumes left1 left2 [] → after.ends ≡ now.ends + 1
@@ -195,12 +223,16 @@ module _ (Tells : List ℕ → Result (List ℕ) LineFault → Type 0) (bound : 
           r.written ++ s.text,
           subst (λ bs. Consumes left0 left2 bs) (append-nil r.bytes) (Consumes-trans left0 left1 left2 r.bytes [] r.read took),
           Appends-trans held0 held1 held2 r.written s.text r.wrote s.wrote,
-          record {
-            printed = subst (λ ls. AllPrint Tells 1 ls (r.written ++ s.text)) (sym all) (printed_on (last_line pending) s.text s.print);
-            counted = omega (arith, s.counted, r.counted, total);
-            ended = ends ∙ ap (λ n. n + 1) r.ends;
-            flushed = flushed;
-          },
+          few_reads,
+          (
+            record {
+              printed = subst (λ ls. AllPrint Tells 1 ls (r.written ++ s.text)) (sym all) (printed_on (last_line pending) s.text s.print);
+              counted = omega (arith, s.counted, r.counted, total);
+              ended = ends ∙ ap (λ n. n + 1) r.ends;
+              flushed = flushed;
+            },
+            none_failed s.no_failure,
+          ),
         )
 
     pub ran_finish : (result : Result ℕ RunFault) (sent_after : ℕ) → Consumes left1 left2 [] → after.ends ≡ now.ends + 1

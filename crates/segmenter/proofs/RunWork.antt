@@ -5,6 +5,7 @@ use Rattle.std.specs.Prelude.{Option, Some, None, Result, Err}
 use Rattle.std.specs.List.{slice_split, onto_first}
 use Rattle.std.specs.Io.KnownBytes.{Appends, Consumes}
 use Rattle.std.proofs.KnownBytes.{Appends-trans, Consumes-trans}
+use Rattle.mj_model.specs.declared.limits.TheConstants.{SENTENCE_MAX}
 use Rattle.mj_model.specs.Bytes.{is_line_feed}
 use Rattle.mj_model.specs.Lines.{without_last_empty}
 use Rattle.mj_model.specs.Output.{Output, BadLine, text_lines}
@@ -82,6 +83,7 @@ module _ (Tells : List ℕ → Result (List ℕ) LineFault → Type 0) where
     pub wrote : Appends held0 held1 written
     pub print : AllPrint Tells 1 (whole_lines bytes) written
     pub open_is : pending ≡ open_line bytes
+    pub short : length pending ≤ SENTENCE_MAX
     pub counted : lines ≡ length (whole_lines bytes)
     pub sent_is : sent ≡ length written
     pub nothing_waits : out ≡ []
@@ -102,10 +104,10 @@ module _ (Tells : List ℕ → Result (List ℕ) LineFault → Type 0) where
       → Running left0 left1 held0 held1 before now turn pending out lines sent
       → Consumes left1 left2 piece → length piece ≤ 2 ^ 16
       → Stepped Tells lines (whole_lines (pending ++ piece)) lines_after (record { held_before = held1; held_after = held2; failures_before = now.write_failures; failures_after = after.write_failures }) sent sent_after
-      → pending_after ≡ open_line (pending ++ piece) → out_after ≡ [] → lines_after ≤ lines + length piece → sent_after ≤ sent + 2 ^ 64
+      → pending_after ≡ open_line (pending ++ piece) → length pending_after ≤ SENTENCE_MAX → out_after ≡ [] → lines_after ≤ lines + length piece → sent_after ≤ sent + 2 ^ 64
       → after.reads ≡ now.reads + 1 → after.ends ≡ now.ends → after.read_failures ≡ now.read_failures
       → Running left0 left2 held0 held2 before after (turn + 1) pending_after out_after lines_after sent_after
-  running_more left0 left1 left2 held0 held1 held2 before now after turn pending out piece lines sent pending_after out_after lines_after sent_after f0 f1 r took small s open_is waits few_lines few_bytes reads ends failures =
+  running_more left0 left1 left2 held0 held1 held2 before now after turn pending out piece lines sent pending_after out_after lines_after sent_after f0 f1 r took small s open_is short waits few_lines few_bytes reads ends failures =
       let whole = whole_on r.bytes piece pending r.open_is in
       let wc = ap length whole ∙ length-append (whole_lines r.bytes) (whole_lines (pending ++ piece)) in
       let tl = length-append r.written s.text in
@@ -117,6 +119,7 @@ module _ (Tells : List ℕ → Result (List ℕ) LineFault → Type 0) where
         print = subst (λ ws. AllPrint Tells 1 ws (r.written ++ s.text)) (sym whole)
             (print_on r.bytes pending r.written s.text lines r.print r.open_is r.counted (whole_lines (pending ++ piece)) None s.print);
         open_is = open_is ∙ ap (λ o. open_line (o ++ piece)) r.open_is ∙ sym (open_line-append r.bytes piece);
+        short = short;
         counted = omega (arith, s.counted, r.counted, wc);
         sent_is = omega (arith, s.sent, r.sent_is, tl);
         nothing_waits = waits;

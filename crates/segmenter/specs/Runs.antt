@@ -1,25 +1,21 @@
 -- How a run over a text ends: what it read, what it wrote, and why it stopped.
-use Rattle.std.specs.Prelude.{◌≡◌, ℕ, ◌+◌, Bool, false, nat_lt, if◌then◌else◌, List, ◌++◌, length, Some, Result, Ok, Err, OnOk}
+use Rattle.std.specs.Prelude.{◌≡◌, ℕ, ◌+◌, ◌≤◌, Bool, false, nat_lt, if◌then◌else◌, List, ◌++◌, length, Some, Result, Ok, Err, OnOk}
 use Rattle.std.specs.Io.KnownBytes.{Consumes, Appends, IsAtEnd}
 use Rattle.mj_model.specs.Counts.{ReaderTold, WriterTold}
-use Rattle.mj_model.specs.declared.limits.TheConstants.{READS_MAX}
+use Rattle.mj_model.specs.declared.limits.TheConstants.{READS_MAX, SENTENCE_MAX}
 use Rattle.mj_model.specs.declared.run_fault.RunFault.{RunFault}
 use Rattle.mj_model.specs.declared.run_fault.RunFault.TheVariants as run
 use Rattle.mj_model.specs.declared.sources.Sources.{Sources}
 use Rattle.mj_model.specs.Output.{Output, text_lines}
 use Rattle.dict_compile.specs.SourceOverlays.{HaveOverlay}
 use Rattle.mj_model.specs.Tables.{Overlay}
-use Rattle.mj_model.specs.TextLines.{whole_lines}
+use Rattle.mj_model.specs.TextLines.{whole_lines, open_line}
 use Rattle.paths.specs.PathLaws.{CoversTexts}
 use Rattle.out_format.specs.Formats.{Format}
 use Rattle.segmenter.specs.declared.line_fault.LineFault.{LineFault}
 use Rattle.segmenter.specs.declared.line_fault.LineFault.TheVariants.{TooLong, NotUtf8}
 use Rattle.segmenter.specs.PrintedLines.{Tells}
 use Rattle.segmenter.specs.Progress.{AllPrint}
-
--- the lines that were read whole: those up to the last LF, at the end of the input also the one behind it
-abbrev pub lines_read : Bool → List ℕ → List (List ℕ)
-lines_read ended bytes = if ended then text_lines bytes else whole_lines bytes
 
 -- the counts of a reader and a writer before or after a run
 pub record Told : Type 0 where
@@ -39,6 +35,29 @@ both_told reader writer = record {
   unflushed = writer.unflushed;
 }
 
+-- no call failed
+pub record NoFailure (before after : Told) : Type 0 where
+  pub no_read : after.read_failures ≡ before.read_failures
+  pub no_write : after.write_failures ≡ before.write_failures
+
+-- one read failed, and no other call
+pub record OneReadFailed (before after : Told) : Type 0 where
+  pub one_read : after.read_failures ≡ before.read_failures + 1
+  pub no_write : after.write_failures ≡ before.write_failures
+
+-- one write or flush failed, and no other call
+pub record OneWriteFailed (before after : Told) : Type 0 where
+  pub no_read : after.read_failures ≡ before.read_failures
+  pub one_write : after.write_failures ≡ before.write_failures + 1
+
+-- a read met the end of the input
+abbrev pub has_ended : Told → Told → Bool
+has_ended before after = nat_lt before.ends after.ends
+
+-- the lines that were read whole: those up to the last LF, at the end of the input also the one behind it
+abbrev pub lines_read : Bool → List ℕ → List (List ℕ)
+lines_read ended bytes = if ended then text_lines bytes else whole_lines bytes
+
 -- all lines printed, and what they print is written and flushed
 pub record IsDone (Tells : List ℕ → Result (List ℕ) LineFault → Type 0)
     (bytes written : List ℕ) (before after : Told) (lines : ℕ) : Type 0 where
@@ -47,30 +66,32 @@ pub record IsDone (Tells : List ℕ → Result (List ℕ) LineFault → Type 0)
   pub ended : after.ends ≡ before.ends + 1
   pub flushed : after.unflushed ≡ false
 
--- the lines that were read whole printed; the next one has this number
+-- no read met the end; the lines that were read whole printed; the next one has this number, and is not too long yet
 pub record StoppedBehind (Tells : List ℕ → Result (List ℕ) LineFault → Type 0)
-    (bytes written : List ℕ) (line : ℕ) : Type 0 where
+    (bytes written : List ℕ) (before after : Told) (line : ℕ) : Type 0 where
+  pub no_end : after.ends ≡ before.ends
   pub printed : AllPrint Tells 1 (whole_lines bytes) written
   pub number : line ≡ length (whole_lines bytes) + 1
+  pub short : length (open_line bytes) ≤ SENTENCE_MAX
 
--- what was written is a front of what the first lines print
+-- what was written is a front of what the first of some lines print
 pub record IsCut (Tells : List ℕ → Result (List ℕ) LineFault → Type 0)
-    (bytes written : List ℕ) (sent : ℕ) : Type 0 where
+    (all : List (List ℕ)) (written : List ℕ) (sent : ℕ) : Type 0 where
   pub lines : List (List ℕ)
   pub more : List (List ℕ)
   pub text : List ℕ
   pub left : List ℕ
-  pub first : text_lines bytes ≡ lines ++ more
+  pub first : all ≡ lines ++ more
   pub printed : AllPrint Tells 1 lines text
   pub front : text ≡ written ++ left
   pub count : sent ≡ length written
 
--- the first lines printed, and what they print is written; the next one has this number
+-- the first of some lines printed, and what they print is written; the next one has this number
 pub record IsStarved (Tells : List ℕ → Result (List ℕ) LineFault → Type 0)
-    (bytes written : List ℕ) (line : ℕ) : Type 0 where
+    (all : List (List ℕ)) (written : List ℕ) (line : ℕ) : Type 0 where
   pub lines : List (List ℕ)
   pub more : List (List ℕ)
-  pub first : text_lines bytes ≡ lines ++ more
+  pub first : all ≡ lines ++ more
   pub printed : AllPrint Tells 1 lines written
   pub number : line ≡ length lines + 1
 
@@ -80,33 +101,37 @@ IsBad Tells lines written number fault = Output Tells 1 lines written (Some (rec
 
 -- a run that read and wrote these bytes ends so
 abbrev pub EndsSo : (List ℕ → Result (List ℕ) LineFault → Type 0) → ℕ → List ℕ → List ℕ → Told → Told → Result ℕ RunFault → Type 0
-EndsSo Tells bound bytes written before after (Ok lines) = IsDone Tells bytes written before after lines
+EndsSo Tells bound bytes written before after (Ok lines) =
+    IsDone Tells bytes written before after lines × NoFailure before after
 EndsSo Tells bound bytes written before after (Err (run.Source fault)) = ⊥
 EndsSo Tells bound bytes written before after (Err (run.UserSource i fault)) = ⊥
 EndsSo Tells bound bytes written before after (Err (run.Read line)) =
-    StoppedBehind Tells bytes written line × (after.read_failures ≡ before.read_failures + 1)
+    StoppedBehind Tells bytes written before after line × OneReadFailed before after
 EndsSo Tells bound bytes written before after (Err (run.Write sent)) =
-    IsCut Tells bytes written sent × (after.write_failures ≡ before.write_failures + 1)
+    IsCut Tells (lines_read (has_ended before after) bytes) written sent × OneWriteFailed before after
 EndsSo Tells bound bytes written before after (Err (run.NotUtf8 line)) =
-    IsBad Tells (lines_read (nat_lt before.ends after.ends) bytes) written line NotUtf8
-EndsSo Tells bound bytes written before after (Err (run.TooLong line)) = IsBad Tells (text_lines bytes) written line TooLong
+    IsBad Tells (lines_read (has_ended before after) bytes) written line NotUtf8 × NoFailure before after
+EndsSo Tells bound bytes written before after (Err (run.TooLong line)) =
+    IsBad Tells (text_lines bytes) written line TooLong × NoFailure before after
 EndsSo Tells bound bytes written before after (Err (run.InputTooLong line)) =
-    StoppedBehind Tells bytes written line × (after.reads ≡ before.reads + bound) × (after.ends ≡ before.ends)
-EndsSo Tells bound bytes written before after (Err (run.Memory line)) = IsStarved Tells bytes written line
+    StoppedBehind Tells bytes written before after line × (after.reads ≡ before.reads + bound) × NoFailure before after
+EndsSo Tells bound bytes written before after (Err (run.Memory line)) =
+    IsStarved Tells (lines_read (has_ended before after) bytes) written line × NoFailure before after
 
--- a run read and wrote some bytes, by what the reader and the writer tell, and ended so behind them
+-- a run read some bytes in at most `bound` reads and wrote some, by what the reader and the writer tell, and ended so behind them
 abbrev pub ReadsAndWrites : (List ℕ → Result (List ℕ) LineFault → Type 0) → ℕ → ReaderTold → ReaderTold → WriterTold → WriterTold → Result ℕ RunFault → Type 0
 ReadsAndWrites Tells bound from to before after result =
     (bytes : List ℕ) × (written : List ℕ) × Consumes from.left to.left bytes × Appends before.held after.held written
-    × EndsSo Tells bound bytes written (both_told from before) (both_told to after) result
+    × (to.reads ≤ from.reads + bound) × EndsSo Tells bound bytes written (both_told from before) (both_told to after) result
 
--- a run: what it read, what it wrote, how it ended behind them, and that where it succeeded the reader is at its end
+-- a run: what it read, in how many reads at most, what it wrote, how it ended behind them, and that where it succeeded the reader is at its end
 pub record Ran (Tells : List ℕ → Result (List ℕ) LineFault → Type 0) (bound : ℕ) (from to : ReaderTold) (before after : WriterTold)
     (result : Result ℕ RunFault) : Type 0 where
   pub bytes : List ℕ
   pub written : List ℕ
   pub read : Consumes from.left to.left bytes
   pub wrote : Appends before.held after.held written
+  pub few_reads : to.reads ≤ from.reads + bound
   pub ends : EndsSo Tells bound bytes written (both_told from before) (both_told to after) result
   pub to_the_end : OnOk result (IsAtEnd to.left)
 

@@ -60,6 +60,7 @@ pub record LineStopped (Tells : List ℕ → Result (List ℕ) LineFault → Typ
   pub error : LineError
   pub fault_is : fault ≡ run_fault error (before + length done + 1)
   pub cause : Cause done error
+  pub no_failure : step.failures_after ≡ step.failures_before
 
 abbrev pub StepStopped : (List ℕ → Result (List ℕ) LineFault → Type 0)
     → (List (List ℕ) → LineError → Type 0) → ℕ → List (List ℕ) → Step → ℕ → RunFault → Type 0

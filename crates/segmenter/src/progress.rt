@@ -109,6 +109,7 @@ impl Progress {
         ensures counted { self.new.lines ≤ self.old.lines + length piece.now }
         ensures open { OnOk result
             (self.new.pending.items ≡ open_line (self.old.pending.items ++ piece.now)) }
+        ensures short { OnOk result (length self.new.pending.items ≤ SENTENCE_MAX) }
         ensures stopped { IfErr result (λ error.
             Stopped (P.tells printer.now) self.old.lines self.old.out.items
             (self.old.pending.items ++ piece.now) error self.new.lines self.new.out.items) }

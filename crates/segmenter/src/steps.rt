@@ -3,6 +3,7 @@
 ghost use Rattle.std.specs.Prelude.{◌≡◌, ℕ, ◌+◌, ◌≤◌, ◌<◌, ◌^◌, ◌++◌, length, take, [], false, OnOk, OnErr, IfOk, IfErr};
 ghost use Rattle.std.specs.Io.KnownBytes.{Appends};
 ghost use Rattle.mj_model.specs.Counts.{CanRise};
+ghost use Rattle.mj_model.specs.declared.limits.TheConstants.{SENTENCE_MAX};
 ghost use Rattle.mj_model.specs.TextLines.{whole_lines, open_line};
 ghost use Rattle.mj_model.specs.declared.run_fault.RunFault.TheVariants.{Write};
 ghost use Rattle.segmenter.specs.Progress.{HasNoFeed, IsCause};
@@ -60,6 +61,7 @@ pub fn work<P: LinePrinter, W: TextOut>(
         sent.old sent.new) }
     ensures open { OnOk result
         (progress.new.pending.items ≡ open_line (progress.old.pending.items ++ piece.now)) }
+    ensures short { OnOk result (length progress.new.pending.items ≤ SENTENCE_MAX) }
     ensures nothing_waits { OnOk result (progress.new.out.items ≡ []) }
     ensures few_bytes { OnOk result (sent.new ≤ sent.old + 2 ^ 64) }
     ensures few_lines { progress.new.lines ≤ progress.old.lines + length piece.now }

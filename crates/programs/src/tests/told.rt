@@ -80,3 +80,28 @@ fn told_faults(rt: HostRuntime) -> Result<(), Fail> {
     }
     Ok(())
 }
+
+#[test]
+fn faults_of_no_file(rt: HostRuntime) -> Result<(), Fail> {
+    #[rattlefmt::skip]
+    let rows = [
+        // (fault, line, status)
+        (SourceKind::ArrayFull,        "jseg: I2 ArrayFull\n",        1),
+        (SourceKind::FeaturesTooLarge, "jseg: I3 FeaturesTooLarge\n", 1),
+        (SourceKind::Memory,           "jseg: Memory\n",              4),
+    ];
+    for (kind, line, status) in rows {
+        let path = String::from_str(rt.alloc(), "unk.def")?;
+        let with_path = Fault::Source(path, kind.at(NO_FILE, 0));
+        for fault in [
+            with_path,
+            source(rt.alloc(), 0, kind),
+            whole(rt.alloc(), kind),
+        ] {
+            let mut told = Vec::new(rt.alloc());
+            assert!(rt; report("jseg", &fault, &mut told) == status, "{line}");
+            assert!(rt; told.as_slice() == line.as_bytes(), "{line}");
+        }
+    }
+    Ok(())
+}

@@ -26,7 +26,7 @@ loop-turn-preserved g c =
     c.loop-turn.progress.pending.items c.loop-turn.progress.out.items (take taken c.read_counted.new.buf) c.loop-turn.progress.lines c.loop-turn.sent
     c.work.new.progress.pending.items c.work.new.progress.out.items c.work.new.progress.lines c.work.new.sent 0 0
     c.loop-turn.invariant c.in-Ok.ensures.bytes.0 (omega (arith, kept, same, len, small)) c.in_ok-work.ensures.worked c.in_ok-work.ensures.open
-    c.in_ok-work.ensures.nothing_waits c.in_ok-work.ensures.few_lines c.in_ok-work.ensures.few_bytes c.in-Ok.ensures.reads
+    c.in_ok-work.ensures.short c.in_ok-work.ensures.nothing_waits c.in_ok-work.ensures.few_lines c.in_ok-work.ensures.few_bytes c.in-Ok.ensures.reads
     (omega (arith, ends, none)) (omega (arith, failures))
 
 pub returns-in_err-work-clause-run : goal.returns-in_err-work-clause-run
@@ -35,16 +35,19 @@ returns-in_err-work-clause-run g c =
     let taken = c.in-Ok.n in
     let none = no_failure taken (nat_lt 0 (length c.loop-turn.buffer)) c.in-Ok.n-test.1 in
     let ends = c.in-Ok.ensures.ends in
+    let failures = c.in-Ok.ensures.failures in
     rw (p.1, p.2)
     (ran_work (g.P.LinePrinter.tells c.args.printer.now) c.args.bound _ _ _ _ _ _ _ _
     (both_told (g.R.TextIn.told c.read_counted.new.self) (g.W.TextOut.told c.work.new.writer))
     c.loop-turn._turn
     c.loop-turn.progress.pending.items c.loop-turn.progress.out.items c.loop-turn.progress.lines c.loop-turn.sent c.loop-turn.invariant
+    c.loop-turn-test.true c.in-Ok.ensures.reads (omega (arith, failures))
     (take taken c.read_counted.new.buf) c.in_err-work.field-0.0 c.in-Ok.ensures.bytes.0 (omega (arith, ends, none)) c.in_err-work.ensures.stopped)
 
 pub returns-in-Ok-eq0-clause-run : goal.returns-in-Ok-eq0-clause-run
 returns-in-Ok-eq0-clause-run g c =
     let ends = c.in-Ok-eq0.ensures.ends in
+    let failures = c.in-Ok-eq0.ensures.failures in
     let kept = c.loop-turn.auto.buffer in
     let some = c.requires.buffer.0 in
     let none = c.in-Ok-eq0.field-0-test in
@@ -54,4 +57,5 @@ returns-in-Ok-eq0-clause-run g c =
     (both_told (g.R.TextIn.told c.read_counted.new.self) (g.W.TextOut.told c.finish.new.writer))
     c.loop-turn._turn
     c.loop-turn.progress.pending.items c.loop-turn.progress.out.items c.loop-turn.progress.lines c.loop-turn.sent c.loop-turn.invariant
+    c.loop-turn-test.true c.in-Ok-eq0.ensures.reads (omega (arith, failures))
     c.finish.result c.finish.new.sent took (omega (arith, ends, one)) c.finish.ensures.finished c.finish.ensures.flushed c.finish.ensures.stopped
