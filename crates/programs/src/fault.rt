@@ -87,18 +87,33 @@ pub(crate) fn belongs_to_a_file(kind: SourceKind) -> bool
 }
 
 impl From<AllocError> for Fault {
+    ghost use Rattle.std.specs.Prelude.{◌≡◌};
+    ghost use Rattle.programs.specs.declared.fault.Fault.TheVariants.{Memory};
+
+    ghost from_gives = { λ _ fault. fault ≡ Memory };
+
     fn from(_refused: AllocError) -> Fault {
         Fault::Memory
     }
 }
 
 impl<T: Drop> From<AllocFailed<T>> for Fault {
+    ghost use Rattle.std.specs.Prelude.{◌≡◌};
+    ghost use Rattle.programs.specs.declared.fault.Fault.TheVariants.{Memory};
+
+    ghost from_gives = { λ _ fault. fault ≡ Memory };
+
     fn from(_refused: AllocFailed<T>) -> Fault {
         Fault::Memory
     }
 }
 
 impl From<FormatFault> for Fault {
+    ghost use Rattle.std.specs.Prelude.{◌≡◌};
+    ghost use Rattle.programs.specs.declared.fault.Fault.TheVariants.{Format};
+
+    ghost from_gives = { λ refused fault. fault ≡ Format refused };
+
     fn from(fault: FormatFault) -> Fault {
         Fault::Format(fault)
     }
