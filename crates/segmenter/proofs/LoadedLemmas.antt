@@ -4,7 +4,6 @@ use Rattle.std.specs.Prelude.{false, Result, Ok, Err, IfOk, MatchResult, OnOk}
 use Rattle.std.specs.Result.{IsErrAnd, is_err}
 use Rattle.mj_model.specs.declared.image_fault.ImageFault.{ImageFault}
 use Rattle.mj_model.specs.declared.image_fault.ImageFault.TheVariants as image
-use Rattle.mj_model.specs.declared.source_fault.SourceKind.TheVariants.{Memory}
 use Rattle.image_bytes.specs.ImageFaults.{IsImageFault, IsWellFormed}
 use Rattle.image_bytes.proofs.ImageFaultLaws.{no_fault}
 
