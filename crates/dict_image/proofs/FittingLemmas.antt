@@ -14,15 +14,20 @@ use Rattle.mj_model.specs.Bounds.{IsWithin}
 use Rattle.mj_model.specs.declared.matrix_sizes.MatrixSizes.{MatrixSizes}
 use Rattle.mj_model.specs.Connection.{is_pair}
 use Rattle.image_bytes.specs.ImageBytes.{kind_of, number_at, signed_2_at, header_of, all_tokens, section}
-use Rattle.image_bytes.specs.ImageMeaning.{image_unknown, tokens_in, entry_under, image_tables, lexicon_sections, entries_of_group}
-use Rattle.image_bytes.specs.ImageSections.{AreRanges, IsIndex, StoredRange, range_at, stored_info, no_info, token_from, stored_token, stored_cost, index_at, key_of, stored_cells}
+use Rattle.image_bytes.specs.ImageMeaning.{image_info, image_unknown, info_in, tokens_in, entry_under, image_tables, key_in, lexicon_sections, entries_of_group}
+use Rattle.image_bytes.specs.declared.layout.InfoForm.{InfoForm}
+use Rattle.image_bytes.specs.declared.layout.InfoForm.TheVariants as info
+use Rattle.image_bytes.specs.ImageFaults.{AreInfos}
+use Rattle.image_bytes.specs.Layouts.{info_form, key_form}
+use Rattle.image_bytes.specs.OlderSections.{AreEntries, entry_at, own_entries}
+use Rattle.image_bytes.specs.ImageSections.{AreRanges, IsIndex, StoredRange, range_at, stored_info, no_info, token_from, stored_token, stored_cost, index_at}
 use Rattle.mj_model.specs.Tables.{System, Token, Lexeme, HasApartTokens}
 use Rattle.mj_model.proofs.Basics.{all_append, both_parts}
 use Rattle.dict_image.specs.Fitting.{AreBytes, AreFitting, IsFitting}
 use Rattle.dict_image.specs.Held.{IsImage}
 use Rattle.dict_image.specs.Ranges.{range_count}
 use Rattle.dict_image.proofs.CategoryLemmas.{count_of_image}
-use Rattle.dict_image.proofs.FormedLemmas.{few_categories, groups_are, is_header, ranges_are, system_of_categories, token_fits, unknown_are}
+use Rattle.dict_image.proofs.FormedLemmas.{few_categories, groups_are, infos_are, is_header, system_of_categories, token_fits, unknown_are}
 use Rattle.dict_image.proofs.RangeLemmas.{in_order}
 use Rattle.dict_image.proofs.TokenLemmas.{index_within, some_tokens}
 use Rattle.dict_image.proofs.NumberLemmas.{lexicon_apart, lexicon_texts, list_apart}
@@ -92,7 +97,7 @@ groups_fit bytes first (suc n) w are within =
     let h = header_of bytes in
     let these = list_fits bytes (section bytes 6) h.groups 0 h.tokens first w are (groups_are bytes w) (omega arith) (omega (arith, within)) in
     all_append (λ (e : Lexeme). IsFitting h.sizes e.token) (entries_of_group (lexicon_sections bytes) first) (flat_map (entries_of_group (lexicon_sections bytes)) (range_with_len (first + 1) n))
-    (named h.sizes (key_of (stored_cells (section bytes 5)) first) (tokens_in (section bytes 7) (section bytes 8) (section bytes 6) first) these) (groups_fit bytes (first + 1) n w are (omega (arith, within)))
+    (named h.sizes (key_in (key_form h.layout) (section bytes 5) first) (tokens_in (section bytes 7) (section bytes 8) (section bytes 6) first) these) (groups_fit bytes (first + 1) n w are (omega (arith, within)))
 
 unknown_by : (bytes : List ℕ) (i : ℕ) (b : Bool) → IsImage bytes → AreBytes (section bytes 7) → ltb i (header_of bytes).categories ≡ b
     → AllByRecursion (IsFitting (header_of bytes).sizes) (cond b (tokens_in (section bytes 7) (section bytes 8) (section bytes 4) i) [])
@@ -142,6 +147,19 @@ first_below categories ranges code few are =
     let found : IsFound ranges code (range_count ranges) = subst (IsFound ranges code) e (found_in ranges code (range_count ranges - 1) are.from_zero) in
     subst (λ (o : Option StoredRange). (option_map_or (λ (range : StoredRange). range.info) o no_info).head < categories) (sym found.2) (are.infos found.0 found.1).first_below
 
+first_listed : (categories : ℕ) (entries : List ℕ) (code : ℕ) (b : Bool) → AreEntries categories entries → ltb code own_entries ≡ b → (entry_at entries (cond b code 0)).head < categories
+first_listed categories entries code true are test = (are.infos code (ltb-true code own_entries test)).first_below
+first_listed categories entries code false are test = (are.infos 0 (omega arith)).first_below
+
+first_in : (form : InfoForm) (categories : ℕ) (infos : List ℕ) (code : ℕ) → categories ≤ 256 → AreInfos form categories infos → (info_in form infos code).head < categories
+first_in info.Listed categories infos code few are = first_listed categories infos code (ltb code own_entries) are refl
+first_in info.Ranges categories infos code few are = first_below categories infos code few are
+
+-- the first category of a code point is one of the categories
+pub first_of_image : (bytes : List ℕ) (code : ℕ) → IsImage bytes → kind_of (header_of bytes) ≡ System → (image_info bytes code).head < (header_of bytes).categories
+first_of_image bytes code w system =
+    first_in (info_form (header_of bytes).layout) (header_of bytes).categories (section bytes 3) code (few_categories bytes w) (infos_are bytes system w)
+
 -- ---- categories
 
 apart_by : (bytes : List ℕ) (i : ℕ) (b : Bool) → HasApartTokens (cond b (tokens_in (section bytes 7) (section bytes 8) (section bytes 4) i) [])
@@ -160,7 +178,6 @@ some_unknown bytes i w less =
 pub fitting_tables : (bytes : List ℕ) → IsImage bytes → AreBytes (section bytes 1) → AreBytes (section bytes 7) → AreFitting (image_tables bytes)
 fitting_tables bytes w costs tokens =
     let h = header_of bytes in
-    let first = λ (system : kind_of h ≡ System) (code : ℕ). first_below h.categories (section bytes 3) code (few_categories bytes w) (ranges_are bytes system w) in
     record {
       lexicon = groups_fit bytes 0 h.groups w tokens (omega arith);
       unknown = λ i. unknown_by bytes i (ltb i h.categories) w tokens refl;
@@ -169,6 +186,6 @@ fitting_tables bytes w costs tokens =
       surfaces = lexicon_texts bytes w;
       lexicon_apart = lexicon_apart bytes w;
       unknown_apart = λ i. apart_by bytes i (ltb i h.categories);
-      firsts = λ system code. let less = first system code in let count = count_of_image bytes in omega (arith, less, count);
-      covered = λ system code. some_unknown bytes (stored_info (section bytes 3) code).head w (first system code);
+      firsts = λ system code. let less = first_of_image bytes code w system in let count = count_of_image bytes in omega (arith, less, count);
+      covered = λ system code. some_unknown bytes (image_info bytes code).head w (first_of_image bytes code w system);
     }

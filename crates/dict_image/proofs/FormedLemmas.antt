@@ -1,12 +1,20 @@
 -- What a well-formed image gives, test by test.
-use Rattle.std.proofs.Common.{◌≡◌, ℕ, ◌*◌, ◌<◌, ◌≤◌, List, length, refl, arith, subst}
+use Rattle.std.proofs.Common.{◌≡◌, ℕ, ◌*◌, ◌<◌, ◌≤◌, List, [], ◌∷◌, ◌++◌, length, refl, arith, subst}
+use Rattle.std.specs.Prelude.{IsUtf8}
 use Rattle.double_array.specs.CellRules.{AreCells}
 use Rattle.image_bytes.specs.ImageBytes.{header_of, kind_of, all_tokens, section, section_end, total_length}
-use Rattle.image_bytes.specs.ImageFaults.{IsWellFormed, IsHeader, AreCounts, SystemAlone}
-use Rattle.image_bytes.specs.ImageSections.{AreCosts, AreCategories, AreRanges, IsIndex, stored_cells, stored_token, FitsSizes}
+use Rattle.image_bytes.specs.declared.layout.KeyForm.{KeyForm}
+use Rattle.image_bytes.specs.declared.layout.KeyForm.TheVariants as key
+use Rattle.image_bytes.specs.ImageFaults.{Test, PassAll, IsWellFormed, IsHeader, AreCounts, AreInfos, SystemAlone, key_tests, token_tests}
+use Rattle.image_bytes.specs.ImageMeaning.{group_in, key_in, lexicon_sections}
+use Rattle.image_bytes.specs.ImageSections.{AreCosts, AreCategories, IsIndex, stored_cells, stored_token, FitsSizes}
+use Rattle.image_bytes.specs.Layouts.{info_form, key_form}
 use Rattle.mj_model.specs.Tables.{Kind, System, User}
 use Rattle.dict_image.specs.Held.{IsImage, HoldTokens}
-use Rattle.dict_image.proofs.LexiconLemmas.{AreKeys}
+use Rattle.dict_image.specs.Groups.{AreGroups}
+use Rattle.dict_image.proofs.CellKeys.{AreKeys, groups_of_cells, text_of_cells}
+use Rattle.dict_image.proofs.LexiconLemmas.{HasGroups}
+use Rattle.dict_image.proofs.ListedOrder.{groups_of_list, text_of_list}
 
 pub is_formed : (bytes : List ℕ) → IsImage bytes → IsWellFormed bytes
 unfolding IsImage
@@ -37,9 +45,9 @@ pub categories_are : (bytes : List ℕ) → kind_of (header_of bytes) ≡ System
 unfolding IsImage
 categories_are bytes is w = system_rule (kind_of (header_of bytes)) (AreCategories (header_of bytes).categories) (section bytes 2) is w.1.1.1.1.1.1.1.1.0
 
-pub ranges_are : (bytes : List ℕ) → kind_of (header_of bytes) ≡ System → IsImage bytes → AreRanges (header_of bytes).categories (section bytes 3)
+pub infos_are : (bytes : List ℕ) → kind_of (header_of bytes) ≡ System → IsImage bytes → AreInfos (info_form (header_of bytes).layout) (header_of bytes).categories (section bytes 3)
 unfolding IsImage
-ranges_are bytes is w = system_rule (kind_of (header_of bytes)) (AreRanges (header_of bytes).categories) (section bytes 3) is w.1.1.1.1.1.1.1.1.1.0
+infos_are bytes is w = system_rule (kind_of (header_of bytes)) (AreInfos (info_form (header_of bytes).layout) (header_of bytes).categories) (section bytes 3) is w.1.1.1.1.1.1.1.1.1.0
 
 pub unknown_are : (bytes : List ℕ) → kind_of (header_of bytes) ≡ System → IsImage bytes → IsIndex (header_of bytes).categories (header_of bytes).tokens (all_tokens (header_of bytes)) (section bytes 4)
 unfolding IsImage
@@ -64,26 +72,48 @@ few_categories bytes w = few_by (kind_of (header_of bytes)) (header_of bytes).ca
 
 -- ---- sections of every dictionary
 
-pub keys_are : (bytes : List ℕ) → IsImage bytes → AreKeys (header_of bytes).groups (stored_cells (section bytes 5))
+pass_parts : (xs ys : List Test) → PassAll (xs ++ ys) → PassAll xs × PassAll ys
+pass_parts [] ys p = (tt, p)
+pass_parts (x ∷ xs) ys p = let q = pass_parts xs ys p.1 in ((p.0, q.0), q.1)
+
+lexicon_passes : (bytes : List ℕ) → IsImage bytes
+    → PassAll (key_tests (key_form (header_of bytes).layout) (header_of bytes).groups (section bytes 5)) × PassAll (token_tests (header_of bytes) (section bytes 6) (section bytes 7) (section bytes 8))
 unfolding IsImage
-keys_are bytes w =
-    let held = w.1.1.1.1.1.1.1.1.1.1.1.0 in
-    record { rules = held.rules; once = held.once; keys = w.1.1.1.1.1.1.1.1.1.1.1.1.0 }
+lexicon_passes bytes w =
+    pass_parts (key_tests (key_form (header_of bytes).layout) (header_of bytes).groups (section bytes 5)) (token_tests (header_of bytes) (section bytes 6) (section bytes 7) (section bytes 8)) w.1.1.1.1.1.1.1.1.1.1.1
+
+keys_of_cells : (groups : ℕ) (keys : List ℕ) → PassAll (key_tests key.Cells groups keys) → AreKeys groups (stored_cells keys)
+keys_of_cells groups keys p = record { rules = p.0.rules; once = p.0.once; keys = p.1.0 }
+
+groups_by : (form : KeyForm) (groups : ℕ) (keys : List ℕ) → PassAll (key_tests form groups keys) → AreGroups groups (key_in form keys) (group_in form groups keys)
+groups_by key.Listed groups keys p = groups_of_list groups keys p.0
+groups_by key.Cells groups keys p = groups_of_cells groups (stored_cells keys) (keys_of_cells groups keys p)
+
+texts_by : (form : KeyForm) (groups : ℕ) (keys : List ℕ) → PassAll (key_tests form groups keys) → (g : ℕ) → g < groups → IsUtf8 (key_in form keys g)
+texts_by key.Listed groups keys p g less = text_of_list groups keys p.0 g less
+texts_by key.Cells groups keys p g less = text_of_cells groups (stored_cells keys) g (keys_of_cells groups keys p) less
+
+-- the groups with their keys, which are text
+pub keys_are : (bytes : List ℕ) → IsImage bytes → HasGroups (header_of bytes).groups (lexicon_sections bytes)
+keys_are bytes w = groups_by (key_form (header_of bytes).layout) (header_of bytes).groups (section bytes 5) (lexicon_passes bytes w).0
+
+pub texts_are : (bytes : List ℕ) → IsImage bytes → (g : ℕ) → g < (header_of bytes).groups → IsUtf8 (key_in (key_form (header_of bytes).layout) (section bytes 5) g)
+texts_are bytes w g less = texts_by (key_form (header_of bytes).layout) (header_of bytes).groups (section bytes 5) (lexicon_passes bytes w).0 g less
 
 pub groups_are : (bytes : List ℕ) → IsImage bytes → IsIndex (header_of bytes).groups 0 (header_of bytes).tokens (section bytes 6)
-unfolding IsImage
-groups_are bytes w = w.1.1.1.1.1.1.1.1.1.1.1.1.1.0
+groups_are bytes w = (lexicon_passes bytes w).1.0
 
 -- so many of the tokens, or fewer
 pub tokens_are : (bytes : List ℕ) (count : ℕ) → IsImage bytes → count ≤ all_tokens (header_of bytes) → HoldTokens (section bytes 7) (section bytes 8) count
-unfolding IsImage
 tokens_are bytes count w few =
-    let room : length (section bytes 7) ≡ 16 * all_tokens (header_of bytes) = w.1.1.1.1.1.1.1.1.1.1.1.1.1.1.0 in
-    record { room = omega (arith, room, few); each = λ i less. w.1.1.1.1.1.1.1.1.1.1.1.1.1.1.1.1.0 i (omega (arith, less, few)) }
+    let p = (lexicon_passes bytes w).1 in
+    let room : length (section bytes 7) ≡ 16 * all_tokens (header_of bytes) = p.1.0 in
+    record { room = omega (arith, room, few); each = λ i less. p.1.1.1.0 i (omega (arith, less, few)) }
 
 pub token_fits : (bytes : List ℕ) (i : ℕ) → IsImage bytes → i < all_tokens (header_of bytes) → FitsSizes (header_of bytes).sizes (stored_token (section bytes 7) i)
-unfolding IsImage
-token_fits bytes i w less = w.1.1.1.1.1.1.1.1.1.1.1.1.1.1.1.0 i less
+token_fits bytes i w less = (lexicon_passes bytes w).1.1.1.0 i less
 
-pub cells_are : (bytes : List ℕ) → IsImage bytes → AreCells (stored_cells (section bytes 5))
-cells_are bytes w = ((header_of bytes).groups, (keys_are bytes w).rules)
+pub cells_are : (bytes : List ℕ) → IsImage bytes → key_form (header_of bytes).layout ≡ key.Cells → AreCells (stored_cells (section bytes 5))
+cells_are bytes w form =
+    let p = subst (λ (f : KeyForm). PassAll (key_tests f (header_of bytes).groups (section bytes 5))) form (lexicon_passes bytes w).0 in
+    ((header_of bytes).groups, p.0.rules)

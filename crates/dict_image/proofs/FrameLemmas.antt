@@ -1,30 +1,42 @@
--- The length and the digest of an image of layout 3.
-use Rattle.std.proofs.Common.{◌≡◌, ℕ, ◌+◌, ◌^◌, ◌<◌, ◌≤◌, List, take, drop, ap, arith, subst}
+-- The length and the digest of an image.
+use Rattle.std.proofs.Common.{◌≡◌, ℕ, ◌+◌, ◌^◌, ◌<◌, ◌≤◌, Bool, true, false, cond, eqb, eqb-true, List, take, drop, refl, ap, ◌∙◌, arith, subst}
 use Rattle.sha2.specs.Sha256.{sha256}
 use Rattle.image_bytes.specs.declared.header.Header.{Header}
-use Rattle.image_bytes.specs.ImageBytes.{behind_sections, section_end, total_length}
+use Rattle.image_bytes.specs.ImageBytes.{section_end, total_length}
+use Rattle.image_bytes.specs.Layouts.{behind_sections}
 
-total_is : (h : Header) → h.layout ≡ 3 → total_length h ≡ section_end h 8 + 32
-total_is h three = ap (λ (layout : ℕ). section_end h 8 + behind_sections layout) three
-
-pub too_far : (h : Header) (n : ℕ) → h.layout ≡ 3 → 2 ^ 64 ≤ section_end h 8 → n < 2 ^ 64 → total_length h ≤ n → ⊥
-too_far h n three far fits within = let t = total_is h three in omega (arith, t, far, fits, within)
+pub too_far : (h : Header) (n : ℕ) → 2 ^ 64 ≤ section_end h 8 → n < 2 ^ 64 → total_length h ≤ n → ⊥
+too_far h n far fits within = omega (arith, far, fits, within)
 
 pub end_within : (h : Header) (n : ℕ) → total_length h ≤ n → section_end h 8 ≤ n
 end_within h n within = omega (arith, within)
 
-module _ (h : Header) (n end : ℕ) (three : h.layout ≡ 3) (at : end ≡ section_end h 8) where
-  pub too_short : n < end + 32 → total_length h ≤ n → ⊥
-  too_short few within = let t = total_is h three in omega (arith, t, at, few, within)
+module _ (h : Header) (n end behind : ℕ) (at : end ≡ section_end h 8) (much : behind ≡ behind_sections h.layout) where
+  pub too_short : n < end + behind → total_length h ≤ n → ⊥
+  too_short few within = omega (arith, at, much, few, within)
 
-  pub enough : end + 32 ≤ n → total_length h ≤ n
-  enough some = let t = total_is h three in omega (arith, t, at, some)
+  pub enough : end + behind ≤ n → total_length h ≤ n
+  enough some = omega (arith, at, much, some)
 
-  pub too_long : end + 32 < n → n ≤ total_length h → ⊥
-  too_long many within = let t = total_is h three in omega (arith, t, at, many, within)
+  pub too_long : end + behind < n → n ≤ total_length h → ⊥
+  too_long many within = omega (arith, at, much, many, within)
 
-  pub no_more : n ≤ end + 32 → n ≤ total_length h
-  no_more few = let t = total_is h three in omega (arith, t, at, few)
+  pub no_more : n ≤ end + behind → n ≤ total_length h
+  no_more few = omega (arith, at, much, few)
+
+  -- without bytes behind the sections the layout is not 3
+  pub no_digest : behind ≤ 0 → h.layout ≡ 3 → ⊥
+  no_digest none three =
+      let some : behind ≡ 32 = much ∙ ap behind_sections three in
+      omega (arith, none, some)
+
+by_test : (layout : ℕ) (b : Bool) → eqb layout 3 ≡ b → 0 < cond b 32 0 → layout ≡ 3
+by_test layout true test some = eqb-true layout 3 test
+by_test layout false test some = absurd (omega (arith, some))
+
+-- with bytes behind the sections it is
+pub has_digest : (h : Header) (behind : ℕ) → behind ≡ behind_sections h.layout → 0 < behind → h.layout ≡ 3
+has_digest h behind much some = by_test h.layout (eqb h.layout 3) refl (subst (λ (n : ℕ). 0 < n) much some)
 
 pub digest_at : (bytes : List ℕ) (end last : ℕ) → end ≡ last → drop end bytes ≡ sha256 (take end bytes) → drop last bytes ≡ sha256 (take last bytes)
 digest_at bytes end last at is = subst (λ (i : ℕ). drop i bytes ≡ sha256 (take i bytes)) at is

@@ -1,7 +1,13 @@
+pub mod ListedOrder
+pub mod StartLemmas
+pub mod KeyTableLemmas
+pub mod ListedHitLemmas
+pub mod CellKeys
 pub mod LexiconLemmas
 pub mod PrefixLemmas
 pub mod TokenLemmas
 pub mod RangeLemmas
+pub mod InfoLemmas
 pub mod FormedLemmas
 pub mod CategoryLemmas
 pub mod ProgressLemmas
@@ -13,5 +19,9 @@ pub mod CellLemmas
 pub mod ValueLemmas
 pub mod GroupCount
 pub mod KeyLemmas
+pub mod StretchLemmas
+pub mod KeyFrontLemmas
 pub mod FrameLemmas
 pub mod StageLemmas
+pub mod StandLemmas
+pub mod KindLemmas

@@ -4,15 +4,13 @@ use Rattle.std.specs.Prelude.{IsUtf8}
 use Rattle.std.specs.List.{AllByRecursion, flat_map, range_with_len}
 use Rattle.std.proofs.lemmas.List.{map-append}
 use Rattle.image_bytes.specs.ImageBytes.{header_of, section}
-use Rattle.image_bytes.specs.ImageMeaning.{LexiconSections, entries_of_group, entry_under, image_tables, lexicon_sections, tokens_in}
-use Rattle.image_bytes.specs.ImageSections.{IsIndex, index_at, key_of, stored_cells, token_from}
+use Rattle.image_bytes.specs.ImageMeaning.{LexiconSections, entries_of_group, entry_under, image_tables, key_in, lexicon_sections, tokens_in}
+use Rattle.image_bytes.specs.ImageSections.{IsIndex, index_at, token_from}
 use Rattle.mj_model.specs.Lists.{AreApart, StandsIn}
 use Rattle.mj_model.specs.Tables.{HasApartTokens, HasText, Lexeme, Token}
 use Rattle.mj_model.proofs.Basics.{all_append}
-use Rattle.image_bytes.proofs.ImageKeys.{key_is}
 use Rattle.dict_image.specs.Held.{IsImage}
-use Rattle.dict_image.proofs.FormedLemmas.{groups_are, keys_are}
-use Rattle.dict_image.proofs.LexiconLemmas.{AreKeys}
+use Rattle.dict_image.proofs.FormedLemmas.{groups_are, texts_are}
 
 -- ---- numbers that follow one another
 
@@ -85,7 +83,7 @@ numbers_in s lists low high a (suc n) is within =
     let one : a + 1 ≡ suc a = omega arith in
     let all : a + 1 + n ≡ a + suc n = omega arith in
     let first : map number_of (map token_of these) ≡ range_with_len start (next - start) =
-    ap (map number_of) (tokens_named (key_of (stored_cells s.keys) a) tokens) ∙ numbers_are s.tokens s.features start (next - start) in
+    ap (map number_of) (tokens_named (key_in s.form s.keys a) tokens) ∙ numbers_are s.tokens s.features start (next - start) in
     let behind : map number_of (map token_of rest) ≡ range_with_len next (end - next) =
     numbers_in s lists low high (a + 1) n is (omega (arith, within)) ∙ ap (λ (b : ℕ). range_with_len (index_at s.groups b) (index_at s.groups (a + 1 + n) - index_at s.groups b)) one ∙ ap (λ (b : ℕ). range_with_len next (index_at s.groups b - next)) all in
     let up = is.rising a (omega (arith, within)) in
@@ -110,17 +108,16 @@ named_texts : (surface : List ℕ) (ts : List Token) → IsUtf8 surface → AllB
 named_texts surface [] utf8 = tt
 named_texts surface (t ∷ ts) utf8 = (utf8, named_texts surface ts utf8)
 
-text_of_key : (groups : ℕ) (s : LexiconSections) (group : ℕ) → AreKeys groups (stored_cells s.keys) → group < groups → IsUtf8 (key_of (stored_cells s.keys) group)
-text_of_key groups s group are less =
-    let k = are.keys group less in
-    subst IsUtf8 (sym (key_is groups (stored_cells s.keys) group k.0 are.rules (are.once group less) k.1)) k.1.is_text
+-- the key of each group is text
+abbrev pub HasTexts : ℕ → LexiconSections → Type 0
+HasTexts groups s = (g : ℕ) → g < groups → IsUtf8 (key_in s.form s.keys g)
 
-texts_in : (groups : ℕ) (s : LexiconSections) (a n : ℕ) → AreKeys groups (stored_cells s.keys) → a + n ≤ groups → AllByRecursion HasText (flat_map (entries_of_group s) (range_with_len a n))
+texts_in : (groups : ℕ) (s : LexiconSections) (a n : ℕ) → HasTexts groups s → a + n ≤ groups → AllByRecursion HasText (flat_map (entries_of_group s) (range_with_len a n))
 texts_in groups s a zero are within = tt
 texts_in groups s a (suc n) are within =
     all_append HasText (entries_of_group s a) (flat_map (entries_of_group s) (range_with_len (a + 1) n))
-    (named_texts (key_of (stored_cells s.keys) a) (tokens_in s.tokens s.features s.groups a) (text_of_key groups s a are (omega (arith, within)))) (texts_in groups s (a + 1) n are (omega (arith, within)))
+    (named_texts (key_in s.form s.keys a) (tokens_in s.tokens s.features s.groups a) (are a (omega (arith, within)))) (texts_in groups s (a + 1) n are (omega (arith, within)))
 
 -- the surfaces of the lexicon are text
 pub lexicon_texts : (bytes : List ℕ) → IsImage bytes → AllByRecursion HasText (image_tables bytes).lexicon
-lexicon_texts bytes w = texts_in (header_of bytes).groups (lexicon_sections bytes) 0 (header_of bytes).groups (keys_are bytes w) (omega arith)
+lexicon_texts bytes w = texts_in (header_of bytes).groups (lexicon_sections bytes) 0 (header_of bytes).groups (texts_are bytes w) (omega arith)

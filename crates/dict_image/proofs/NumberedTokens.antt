@@ -8,8 +8,8 @@ use Rattle.std.proofs.lemmas.List.{map-append}
 use Rattle.std.proofs.lemmas.List.Concat.{flat_map-append}
 use Rattle.image_bytes.specs.ImageBytes.{header_of, section, all_tokens, kind_of}
 use Rattle.image_bytes.specs.ImageFaults.{AreCounts}
-use Rattle.image_bytes.specs.ImageMeaning.{LexiconSections, entries_of_group, image_tables, image_token, image_unknown, lexicon_sections, tokens_in}
-use Rattle.image_bytes.specs.ImageSections.{IsIndex, index_at, key_of, stored_cells, token_from}
+use Rattle.image_bytes.specs.ImageMeaning.{LexiconSections, entries_of_group, image_tables, image_token, image_unknown, key_in, lexicon_sections, tokens_in}
+use Rattle.image_bytes.specs.ImageSections.{IsIndex, index_at, token_from}
 use Rattle.mj_model.specs.Lists.{up_to}
 use Rattle.mj_model.specs.Tables.{Lexeme, Token, Kind, System, User}
 use Rattle.dict_image.specs.Held.{IsImage}
@@ -63,7 +63,7 @@ groups_tokens s [] = refl
 groups_tokens s (group ∷ groups) =
     let tokens = tokens_in s.tokens s.features s.groups group in
     map-append (λ (e : Lexeme). e.token) (entries_of_group s group) (flat_map (entries_of_group s) groups)
-    ∙ ap (λ (ts : List Token). ts ++ map (λ (e : Lexeme). e.token) (flat_map (entries_of_group s) groups)) (tokens_named (key_of (stored_cells s.keys) group) tokens)
+    ∙ ap (λ (ts : List Token). ts ++ map (λ (e : Lexeme). e.token) (flat_map (entries_of_group s) groups)) (tokens_named (key_in s.form s.keys group) tokens)
     ∙ ap (λ (ts : List Token). tokens ++ ts) (groups_tokens s groups)
 
 -- the lexicon's tokens are those from number 0 on

@@ -1,14 +1,13 @@
 -- The last range that begins at or before a code point.
-use Rattle.std.proofs.Common.{◌≡◌, ℕ, zero, suc, ◌+◌, ◌-◌, ◌<◌, ◌≤◌, Bool, true, false, cond, leb, List, [], ◌∷◌, ◌++◌, map, reverse, length, Option, Some, sym, ap, ◌∙◌, arith, subst}
+use Rattle.std.proofs.Common.{◌≡◌, ℕ, zero, suc, ◌+◌, ◌-◌, ◌<◌, ◌≤◌, Bool, true, false, cond, leb, List, [], ◌∷◌, ◌++◌, map, reverse, length, Option, Some, ap, ◌∙◌, arith}
 use Rattle.std.specs.List.{find, range_with_len}
 use Rattle.std.specs.Option.{option_map_or}
 use Rattle.std.proofs.lemmas.Bool.{le-leb, lt-leb}
 use Rattle.std.proofs.lemmas.List.{reverse-append}
 use Rattle.std.proofs.lemmas.Nat.{le-div}
 use Rattle.std.proofs.lemmas.List.FromFn.{map-range_with_len_more}
-use Rattle.mj_model.specs.declared.category.CharInfo.{CharInfo}
 use Rattle.image_bytes.specs.ImageSections.{AreRanges, StoredRange, range_at, stored_info, no_info}
-use Rattle.dict_image.specs.Ranges.{AreInOrder, IsLastUpTo, IsOfRange, range_count}
+use Rattle.dict_image.specs.Ranges.{AreInOrder, IsLastUpTo, range_count}
 
 -- a later range begins no earlier
 begins_after : (ranges : List ℕ) (i n : ℕ) → AreInOrder ranges → i + n < range_count ranges → (range_at ranges i).first ≤ (range_at ranges (i + n)).first
@@ -71,6 +70,3 @@ in_order categories ranges few are =
       rising = are.rising;
       short = λ i less. let f = (are.infos i less).first_below in omega (arith, f, few);
     }
-
-pub first_of_range : (categories : ℕ) (ranges : List ℕ) (info : CharInfo) → AreRanges categories ranges → IsOfRange ranges info → info.head < categories
-first_of_range categories ranges info are of = subst (λ (i : CharInfo). i.head < categories) (sym of.same) (are.infos of.number of.within).first_below

@@ -4,7 +4,7 @@ use Rattle.mj_model.specs.declared.image_fault.ImageFault.{ImageFault}
 use Rattle.image_bytes.specs.declared.header.Header.{Header}
 use Rattle.image_bytes.specs.ImageBytes.{header_of}
 use Rattle.image_bytes.specs.ImageFaults.{Test, PassAll, IsFirstTold, IsWellFormed, IsImageFault}
-use Rattle.dict_image.specs.Stages.{front_tests, end_tests, system_tests, token_tests, section_tests}
+use Rattle.image_bytes.specs.ImageFaults.{front_tests, end_tests, system_tests, token_tests, section_tests}
 
 pub pass_both : (xs ys : List Test) → PassAll xs → PassAll ys → PassAll (xs ++ ys)
 pass_both [] ys p q = q

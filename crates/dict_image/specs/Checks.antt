@@ -1,21 +1,27 @@
 -- What the tests of an image answer.
-use Rattle.std.specs.Prelude.{◌≡◌, ◌⊎◌, ℕ, suc, ◌/◌, ◌<◌, ◌≤◌, List, length, map, drop, Option, Some, Result, MatchOption, MatchResult}
+use Rattle.std.specs.Prelude.{◌≡◌, ◌⊎◌, ℕ, suc, ◌/◌, ◌<◌, ◌≤◌, List, length, Option, Result, MatchOption, MatchResult}
 use Rattle.std.specs.Borrow.{Bor}
 use Rattle.mj_model.specs.declared.image_fault.ImageFault.{ImageFault}
 use Rattle.mj_model.specs.declared.image_fault.ImageFault.TheVariants.{Memory}
-use Rattle.double_array.specs.CellMap.{Cell, walk}
+use Rattle.double_array.specs.CellMap.{Cell}
 use Rattle.double_array.specs.CellRules.{IsBaseAfter, IsUsed}
 use Rattle.image_bytes.specs.declared.header.Header.{Header}
 use Rattle.image_bytes.specs.Headers.{AreEnds}
-use Rattle.image_bytes.specs.ImageBytes.{header_of, section_end}
-use Rattle.image_bytes.specs.ImageFaults.{Test, PassAll, IsFirstTold, IsLeastWithout}
+use Rattle.image_bytes.specs.ImageBytes.{header_of, section, section_end}
+use Rattle.image_bytes.specs.ImageFaults.{Test, PassAll, IsFirstTold, IsLeastWithout, front_tests, end_tests, key_tests, section_tests}
+use Rattle.image_bytes.specs.declared.layout.KeyForm.{KeyForm}
+use Rattle.image_bytes.specs.declared.layout.KeyForm.TheVariants as key
+use Rattle.image_bytes.specs.Layouts.{key_form}
+use Rattle.dict_image.specs.declared.keys.Keys.{Keys}
+use Rattle.dict_image.specs.KeyPlaces.{AreKeysOf, AreStarts}
 use Rattle.image_bytes.specs.ImageSections.{HoldGroups, index_at, range_at, stored_cells}
 use Rattle.dict_image.specs.declared.check.cell.Role.{Role}
 use Rattle.dict_image.specs.declared.check.cell.Signed.{Signed}
 use Rattle.dict_image.specs.Cells.{IsAllowed, IsBaseRole, IsChildAt, IsRole, number}
 use Rattle.dict_image.specs.CheckedCategories.{BeginsWithCategory, after_category}
 use Rattle.dict_image.specs.CheckedRanges.{IsRangeOf}
-use Rattle.dict_image.specs.Stages.{front_tests, end_tests}
+use Rattle.image_bytes.specs.OlderSections.{entry_at, own_entries}
+use Rattle.mj_model.specs.CharDef.{IsInfoOf}
 use Rattle.dict_image.specs.Values.{HoldEach, ArePlaces}
 
 -- ---- tests
@@ -24,9 +30,13 @@ use Rattle.dict_image.specs.Values.{HoldEach, ArePlaces}
 abbrev pub PassOrTell : {X : Type 0} → List Test → Result X ImageFault → Type 0
 PassOrTell tests answer = MatchResult answer (λ _. PassAll tests) (IsFirstTold tests)
 
--- or memory was refused
+-- memory was refused, or the first test that is not passed tells this fault
+abbrev pub StarvesOrTells : List Test → ImageFault → Type 0
+StarvesOrTells tests fault = (fault ≡ Memory) ⊎ IsFirstTold tests fault
+
+-- all tests are passed, or there is such a fault
 abbrev pub PassTellOrStarve : {X : Type 0} → List Test → Result X ImageFault → Type 0
-PassTellOrStarve tests answer = MatchResult answer (λ _. PassAll tests) (λ fault. (fault ≡ Memory) ⊎ IsFirstTold tests fault)
+PassTellOrStarve tests answer = MatchResult answer (λ _. PassAll tests) (StarvesOrTells tests)
 
 -- the header of bytes that pass the tests of their front
 abbrev pub TellsFront : List ℕ → Result Header ImageFault → Type 0
@@ -59,11 +69,31 @@ FirstsRise ranges = (i : ℕ) → suc i < length ranges / 8 → (range_at ranges
 abbrev pub AreRangesOf : ℕ → List ℕ → Type 0
 AreRangesOf categories ranges = (i : ℕ) → i < length ranges / 8 → IsRangeOf categories (range_at ranges i)
 
+-- each of the entries has categories below a number
+abbrev pub AreEntriesOf : ℕ → List ℕ → Type 0
+AreEntriesOf categories entries = (i : ℕ) → i < own_entries → IsInfoOf categories (entry_at entries i)
+
 -- the numbers of an index rise
 abbrev pub NumbersRise : ℕ → List ℕ → Type 0
 NumbersRise lists index = (i : ℕ) → i < lists → index_at index i < index_at index (suc i)
 
 -- ---- section 5
+
+-- so many listed keys that pass their tests begin at these places
+abbrev pub PassAt : ℕ → List ℕ → List ℕ → Type 0
+PassAt groups bytes starts = PassAll (key_tests key.Listed groups bytes) × AreStarts groups bytes starts
+
+-- how keys are looked for, or their first fault
+abbrev pub TellsKeys : KeyForm → ℕ → List ℕ → Result Keys ImageFault → Type 0
+TellsKeys form groups bytes answer =
+    MatchResult answer (λ keys. PassAll (key_tests form groups bytes) × AreKeysOf form groups bytes keys)
+    (StarvesOrTells (key_tests form groups bytes))
+
+-- how keys are looked for in an image that passes these tests, or the first fault
+abbrev pub TellsSections : Header → List ℕ → Result Keys ImageFault → Type 0
+TellsSections h bytes answer =
+    MatchResult answer (λ keys. PassAll (section_tests h bytes) × AreKeysOf (key_form h.layout) h.groups (section bytes 5) keys)
+    (StarvesOrTells (section_tests h bytes))
 
 -- what cell t is, if it is allowed
 abbrev pub IsRoleOf : ℕ → List Cell → ℕ → Option Role → Type 0
@@ -78,12 +108,6 @@ abbrev pub IsRoleAfter : ℕ → ℕ → Signed → Option Role → Type 0
 IsRoleAfter groups code base role =
     MatchOption role (IsBaseAfter groups code (number base) → ⊥)
     (λ r. IsBaseAfter groups code (number base) × IsBaseRole groups (number base) r)
-
--- where in the room the key begins that leads to a state, if one does that is no longer than the room
-abbrev pub IsKeyStart : List Cell → ℕ → List ℕ → Option ℕ → Type 0
-IsKeyStart cells state room found =
-    MatchOption found ((key : List ℕ) → length key ≤ length room → walk cells 0 (map suc key) ≡ Some state → ⊥)
-    (λ start. (start ≤ length room) × (walk cells 0 (map suc (drop start room)) ≡ Some state))
 
 -- the cells hold each group once, and these are the places of their values
 abbrev pub HoldEachAt : ℕ → List Cell → List ℕ → Type 0

@@ -2,7 +2,13 @@ pub mod Seen
 pub mod Held
 pub mod Tokens
 pub mod Ranges
+pub mod Infos
 pub mod Categories
+pub mod KeyPlaces
+pub mod Groups
+pub mod KeyTables
+pub mod ListedHits
+pub mod KeyHits
 pub mod Prefixes
 pub mod Fitting
 pub mod Numbered
@@ -10,6 +16,8 @@ pub mod CheckedRanges
 pub mod CheckedCategories
 pub mod Cells
 pub mod Values
-pub mod Keys
-pub mod Stages
+pub mod KeyFronts
+pub mod Ways
+pub mod Stretches
+pub mod Stands
 pub mod Checks

@@ -1,5 +1,6 @@
 -- The surfaces of a lexicon that begin a text.
 use Rattle.std.specs.Prelude.{ℕ, nat_lt, Bool, List, length, map, filter, take}
+use Rattle.image_bytes.specs.declared.layout.KeyForm.{KeyForm}
 use Rattle.image_bytes.specs.ImageMeaning.{LexiconSections, entries_under, tokens_in}
 use Rattle.mj_model.specs.Lists.{up_to}
 use Rattle.mj_model.specs.Tables.{Token, Lexeme}
@@ -16,12 +17,13 @@ prefix_at text lexicon n = (n, entries_under (take n text) lexicon)
 abbrev pub prefixes_in : List ℕ → List Lexeme → List (ℕ × List Token)
 prefixes_in text lexicon = filter has_entries (map (prefix_at text lexicon) (up_to (length text)))
 
--- a hit in the cells: its length in bytes, and the tokens of the group that is its value
+-- a hit of a key: its length in bytes, and the tokens of its group
 abbrev pub prefix_in : LexiconSections → ℕ × ℕ → ℕ × List Token
 prefix_in s hit = (hit.0, tokens_in s.tokens s.features s.groups hit.1)
 
--- what contracts see of the iterator over them: those that are left, the text, and the cells read so far
+-- what contracts see of the iterator over them: those that are left, the text, the cells read so far, and how the image holds keys
 pub record PrefixesSeen : Type 0 where
   pub prefixes : List (ℕ × List Token)
   pub text : List ℕ
   pub reads : ℕ
+  pub form : KeyForm

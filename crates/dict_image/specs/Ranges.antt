@@ -1,6 +1,5 @@
 -- Ranges of code points in their order.
 use Rattle.std.specs.Prelude.{◌≡◌, ℕ, suc, ◌/◌, ◌<◌, ◌≤◌, List, length}
-use Rattle.mj_model.specs.declared.category.CharInfo.{CharInfo}
 use Rattle.image_bytes.specs.ImageSections.{range_at}
 
 -- how many ranges there are
@@ -19,9 +18,3 @@ pub record IsLastUpTo (ranges : List ℕ) (code i : ℕ) : Type 0 where
   pub within : i < range_count ranges
   pub begun : (range_at ranges i).first ≤ code
   pub next : suc i < range_count ranges → code < (range_at ranges (suc i)).first
-
--- the categories of one of the ranges
-pub record IsOfRange (ranges : List ℕ) (info : CharInfo) : Type 0 where
-  pub number : ℕ
-  pub within : number < range_count ranges
-  pub same : info ≡ (range_at ranges number).info

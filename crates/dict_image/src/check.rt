@@ -4,18 +4,22 @@ ghost use Rattle.image_bytes.specs.ImageBytes.{header_of, section_end};
 ghost use Rattle.image_bytes.specs.ImageFaults.{IsImageFault};
 ghost use Rattle.mj_model.specs.declared.image_fault.ImageFault.TheVariants.{Memory};
 ghost use Rattle.image_bytes.specs.Headers.{AreEnds};
-ghost use Rattle.dict_image.specs.Checks.{PassTellOrStarve};
+ghost use Rattle.dict_image.specs.Checks.{TellsSections};
 ghost use Rattle.dict_image.specs.Held.{IsDict};
-ghost use Rattle.dict_image.specs.Stages.{section_tests};
 
 mod categories;
 mod cell;
+mod characters;
 mod frame;
 mod header;
 mod index;
+mod infos;
+mod key_front;
 mod keys;
 mod lexicon;
+mod listed;
 mod ranges;
+mod stand;
 mod system;
 mod tokens;
 mod values;
@@ -24,59 +28,60 @@ use crate::check::frame::{check_ends, check_front};
 use crate::check::header::check_header;
 use crate::check::lexicon::{check_keys, check_tokens};
 use crate::check::system::check_system;
+use crate::keys::Keys;
 use image_bytes::{Header, Section, section_bytes};
 use mj_model::ImageFault;
 use std::alloc::Global;
 
-/// Where the parts of a well-formed image lie: its header, and where the header and sections 1 to 8 end.
-#[derive(Clone, Copy, Drop)]
+/// Where the parts of a well-formed image lie: its header, where the header and sections 1 to 8 end, and how its keys are looked for.
+#[derive(Drop)]
 pub(crate) struct Outline {
     pub header: Header,
     pub ends: [usize; 9],
+    pub keys: Keys,
 }
 
 /// The outline of a well-formed image, or the first fault of its tests in their order.
 ///
-/// It takes memory for a number of 4 bytes a group and for the bytes of one key.
+/// It takes memory for a note on each group and each cell, for the states of one key, and for a number of 8 bytes for each place of the
+/// features where a character would have to begin and none does. For listed keys it takes a number of 8 bytes a group, which is kept.
 pub(crate) fn check_image(alloc: Global, bytes: &[u8]) -> Result<Outline, ImageFault>
-    ensures accepted { IfOk result (λ outline. IsDict bytes.now outline.header outline.ends) }
+    ensures accepted { IfOk result
+        (λ outline. IsDict bytes.now outline.header outline.ends outline.keys) }
     ensures refused { IfErr result (λ fault. (fault ≡ Memory) ⊎ IsImageFault bytes.now fault) }
 {
     let header = check_front(bytes)?;
     let ends = check_ends(bytes, &header)?;
-    check_sections(alloc, bytes, &header, &ends)?;
-    Ok(Outline { header, ends })
+    let keys = check_sections(alloc, bytes, &header, &ends)?;
+    Ok(Outline { header, ends, keys })
 }
 
-/// The tests of the header's numbers and of each section.
+/// The tests of the header's numbers and of each section, and how the keys are looked for.
 fn check_sections(
     alloc: Global,
     bytes: &[u8],
     header: &Header,
     ends: &[usize; 9],
-) -> Result<(), ImageFault>
+) -> Result<Keys, ImageFault>
     requires ends { AreEnds ends.now (header_of bytes.now) }
     requires within { section_end (header_of bytes.now) 8 ≤ length bytes.now }
-    ensures { PassTellOrStarve (section_tests header.now bytes.now) result }
+    ensures { TellsSections header.now bytes.now result }
 {
     check_header(header)?;
     check_system(
         header,
         section_bytes(bytes, ends, Section::Costs),
         section_bytes(bytes, ends, Section::Categories),
-        section_bytes(bytes, ends, Section::Ranges),
+        section_bytes(bytes, ends, Section::Infos),
         section_bytes(bytes, ends, Section::UnknownIndex),
     )?;
-    check_keys(
-        alloc,
-        header.groups,
-        section_bytes(bytes, ends, Section::Cells),
-    )?;
+    let keys = check_keys(alloc, header, section_bytes(bytes, ends, Section::Keys))?;
     check_tokens(
+        alloc,
         header,
         section_bytes(bytes, ends, Section::Groups),
         section_bytes(bytes, ends, Section::Tokens),
         section_bytes(bytes, ends, Section::Features),
     )?;
-    Ok(())
+    Ok(keys)
 }

@@ -1,21 +1,27 @@
 //! A dictionary: the bytes of a well-formed image.
 ghost use Rattle.std.specs.Prelude.{◌≡◌, ℕ, ◌<◌, List};
-ghost use Rattle.double_array.specs.CellMap.{prefixes_of, value_of};
 ghost use Rattle.image_bytes.specs.ImageBytes.{all_tokens, header_of, section as section_of};
 ghost use Rattle.image_bytes.specs.ImageFaults.{IsWellFormed};
-ghost use Rattle.image_bytes.specs.ImageMeaning.{image_tables, image_token, tokens_in};
+ghost use Rattle.image_bytes.specs.ImageMeaning.{group_in, image_tables, image_token, tokens_in};
 ghost use Rattle.image_bytes.specs.ImageSections.{stored_cells};
 ghost use Rattle.mj_model.specs.Overlays.{is_user};
 ghost use Rattle.image_bytes.specs.Sections.{number_of};
 ghost use Rattle.dict_image.specs.Fitting.{AreFitting};
+ghost use Rattle.image_bytes.specs.Layouts.{key_form};
+ghost use Rattle.dict_image.specs.Groups.{hits_in};
 ghost use Rattle.dict_image.specs.Held.{IsDict, IsImage};
+ghost use Rattle.dict_image.specs.KeyHits.{hits_form, hits_seen};
+ghost use Rattle.dict_image.specs.KeyTables.{IsTableOf};
 ghost use Rattle.dict_image.specs.Seen.{token_seen};
 
 use crate::check::Outline;
 use crate::entries::Entries;
 use crate::entry_ref::{EntryRef, token_at};
-use double_array::{CellRead, Prefixes as Hits, get, prefixes};
-use image_bytes::Section::{Cells, Features, Groups, Tokens};
+use crate::key_hits::KeyHits;
+use crate::keys::{KeyTable, Keys};
+use crate::listed_keys::ListedKeys;
+use double_array::{CellRead, get, prefixes};
+use image_bytes::Section::{Features, Groups, Tokens};
 use image_bytes::{Header, ImageCells, Section, section_bytes};
 use mj_model::MatrixSizes;
 use std::marker::Model;
@@ -27,6 +33,7 @@ pub struct Dict {
     header: Header,
     /// Where the header and sections 1 to 8 end.
     ends: [usize; 9],
+    keys: Keys,
 }
 
 impl Model for Dict {
@@ -38,20 +45,21 @@ impl Model for Dict {
 
     ghost view = { λ d. d.bytes.items };
 
-    ghost invariant = { λ d. IsDict d.bytes.items d.header d.ends };
+    ghost invariant = { λ d. IsDict d.bytes.items d.header d.ends d.keys };
 }
 
 impl Dict {
     /// The dictionary of a well-formed image with its outline. It takes no memory.
     pub(crate) fn over(bytes: Vec<u8>, outline: Outline) -> Dict
-        requires { IsDict bytes.items outline.header outline.ends }
+        requires { IsDict bytes.items outline.header outline.ends outline.keys }
         ensures { result ≡ bytes.items }
     {
-        let Outline { header, ends } = outline;
+        let Outline { header, ends, keys } = outline;
         Dict {
             bytes,
             header,
             ends,
+            keys,
         }
     }
 
@@ -97,23 +105,44 @@ impl Dict {
         section_bytes(&self.bytes, &self.ends, section)
     }
 
-    /// The group of a key.
-    pub(crate) fn group_of(&self, key: &[u8]) -> Option<u32>
-        ensures group { result ≡ value_of (stored_cells (section_of self.now 5)) key.now }
+    /// The keys, to look one up.
+    fn key_table(&self) -> KeyTable<'_>
+        ensures table { IsTableOf (key_form (header_of self.now).layout) (header_of self.now).groups
+            (section_of self.now 5) result }
         ensures formed { IsImage self.now }
     {
-        let _ = &self.bytes;
-        get(self, key)
+        match &self.keys {
+            Keys::Listed(starts) => {
+                KeyTable::Listed(ListedKeys::new(self.section(Section::Keys), starts))
+            }
+            Keys::Cells => KeyTable::Cells,
+        }
+    }
+
+    /// The group of a key.
+    pub(crate) fn group_of(&self, key: &[u8]) -> Option<u32>
+        ensures group { result ≡ group_in (key_form (header_of self.now).layout)
+            (header_of self.now).groups (section_of self.now 5) key.now }
+        ensures formed { IsImage self.now }
+    {
+        match self.key_table() {
+            KeyTable::Listed(keys) => keys.number_of(key),
+            KeyTable::Cells => get(self, key),
+        }
     }
 
     /// The keys that begin a text, with their groups.
-    pub(crate) fn hits<'a>(&'a self, text: &'a [u8]) -> Hits<'a, Dict>
-        ensures hits { result.hits ≡ prefixes_of (stored_cells (section_of self.now 5)) text.now }
-        ensures text { result.text ≡ text.now }
+    pub(crate) fn hits<'a>(&'a self, text: &'a [u8]) -> KeyHits<'a>
+        ensures hits { (hits_seen result).hits ≡ hits_in (key_form (header_of self.now).layout)
+            (header_of self.now).groups (section_of self.now 5) text.now }
+        ensures text { (hits_seen result).text ≡ text.now }
+        ensures form { hits_form result ≡ key_form (header_of self.now).layout }
         ensures formed { IsImage self.now }
     {
-        let _ = &self.bytes;
-        prefixes(self, text)
+        match self.key_table() {
+            KeyTable::Listed(keys) => KeyHits::Listed(keys.hits(text)),
+            KeyTable::Cells => KeyHits::Cells(prefixes(self, text)),
+        }
     }
 
     /// The entries of a group.
@@ -136,12 +165,12 @@ impl CellRead for Dict {
     ghost cells = { λ bytes. stored_cells (section_of bytes 5) };
 
     fn len(&self) -> usize {
-        self.section(Cells).len() / 8
+        self.section(Section::Keys).len() / 8
     }
 
     fn cell(&self, i: usize) -> (i32, i32) {
         ImageCells {
-            bytes: self.section(Cells),
+            bytes: self.section(Section::Keys),
         }
         .cell(i)
     }

@@ -1,6 +1,8 @@
 //! Lookup in the lexicon.
 ghost use Rattle.std.specs.Prelude.{◌≡◌};
+ghost use Rattle.image_bytes.specs.ImageBytes.{header_of};
 ghost use Rattle.image_bytes.specs.ImageMeaning.{entries_under, image_tables};
+ghost use Rattle.image_bytes.specs.Layouts.{key_form};
 ghost use Rattle.dict_image.specs.Prefixes.{prefixes_in};
 
 use crate::dict::Dict;
@@ -22,6 +24,7 @@ impl Dict {
     pub fn prefixes<'a>(&'a self, text: &'a str) -> Prefixes<'a>
         ensures prefixes { result.prefixes ≡ prefixes_in text.now (image_tables self.now).lexicon }
         ensures text { result.text ≡ text.now }
+        ensures form { result.form ≡ key_form (header_of self.now).layout }
     {
         Prefixes::new(self, text.as_bytes())
     }

@@ -1,7 +1,7 @@
 //! The section of the categories of code points.
-ghost use Rattle.std.specs.Prelude.{◌≡◌, ◌+◌, ◌*◌, ◌/◌, ◌<◌};
-ghost use Rattle.image_bytes.specs.ImageSections.{stored_info};
-ghost use Rattle.dict_image.specs.Ranges.{AreInOrder, IsLastUpTo, IsOfRange};
+ghost use Rattle.std.specs.Prelude.{◌≡◌, ◌+◌, ◌*◌, ◌/◌, ◌^◌, ◌<◌};
+ghost use Rattle.image_bytes.specs.ImageSections.{info_of_entry, stored_info};
+ghost use Rattle.dict_image.specs.Ranges.{AreInOrder, IsLastUpTo};
 
 use image_bytes::u32_at;
 use mj_model::CharInfo;
@@ -9,11 +9,17 @@ use mj_model::CharInfo;
 /// The categories of a code point, by a binary search.
 pub(crate) fn info_at(ranges: &[u8], code: u32) -> CharInfo
     requires { AreInOrder ranges.now }
-    ensures info { result ≡ stored_info ranges.now code }
-    ensures of_range { IsOfRange ranges.now result }
+    ensures { result ≡ stored_info ranges.now code }
 {
     let i = last_up_to(ranges, code);
-    let entry = u32_at(ranges, 8 * i + 4);
+    info_of(u32_at(ranges, 8 * i + 4))
+}
+
+/// The categories in an entry: bits 0 to 17 are their set, those above the first of them.
+pub(crate) fn info_of(entry: u32) -> CharInfo
+    requires { entry / 2 ^ 18 < 256 }
+    ensures { result ≡ info_of_entry entry }
+{
     CharInfo {
         bits: entry % (1 << 18),
         head: (entry >> 18) as u8,

@@ -9,8 +9,8 @@ use crate::categories::{category_of, from_category, name_of};
 use crate::costs::cost_at;
 use crate::dict::Dict;
 use crate::entries::Entries;
-use crate::ranges::info_at;
-use image_bytes::Section::{Categories, Costs, Features, Ranges, Tokens, UnknownIndex};
+use crate::infos::info_by;
+use image_bytes::Section::{Categories, Costs, Features, Infos, Tokens, UnknownIndex};
 use mj_model::{Category, CharInfo};
 
 impl Dict {
@@ -29,13 +29,13 @@ impl Dict {
         )
     }
 
-    /// The categories of a character, in the time of a binary search.
+    /// The categories of a character, in the time of a binary search at most.
     pub fn info(&self, c: char) -> CharInfo
         requires { (image_tables self.now).kind ≡ System }
         ensures info { result ≡ (image_tables self.now).info c }
         ensures first { result.head < length (image_tables self.now).categories }
     {
-        info_at(self.section(Ranges), c as u32)
+        info_by(self.header().info_form(), self.section(Infos), c as u32)
     }
 
     /// How many categories there are.

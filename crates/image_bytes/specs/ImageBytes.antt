@@ -5,7 +5,8 @@ use Rattle.std.specs.Int.{w16, w32, cast_signed}
 use Rattle.std.specs.List.{range_with_len}
 use Rattle.byteorder.specs.Endian.{little_number}
 use Rattle.image_bytes.specs.declared.header.Header.{Header}
-use Rattle.image_bytes.specs.declared.header.TheConstants.{DIGEST_LENGTH, HEADER_LENGTH, MAGIC}
+use Rattle.image_bytes.specs.declared.header.TheConstants.{HEADER_LENGTH, MAGIC}
+use Rattle.image_bytes.specs.Layouts.{behind_sections}
 use Rattle.mj_model.specs.Tables.{Kind, System, User}
 
 -- the number in the n bytes from a place on; a byte past the end counts as 0
@@ -25,9 +26,6 @@ image_magic = MAGIC
 
 abbrev pub header_length : ℕ
 header_length = HEADER_LENGTH
-
-abbrev pub digest_length : ℕ
-digest_length = DIGEST_LENGTH
 
 -- the header: the layout; 0 for a system dictionary, 1 for a user's; the sizes of the connection table; how many categories, groups (distinct
 -- surfaces), tokens of the lexicon and unknown tokens there are; the lengths of sections 1 to 8 in bytes
@@ -61,10 +59,6 @@ section_end h k = header_length + sum (take k h.lengths)
 -- the bytes of section k
 abbrev pub section : List ℕ → ℕ → List ℕ
 section bytes k = slice_range bytes (section_start (header_of bytes) k) (section_end (header_of bytes) k)
-
--- how many bytes stand behind the sections
-abbrev pub behind_sections : ℕ → ℕ
-behind_sections layout = if layout == 3 then digest_length else 0
 
 -- how many bytes the header demands in all
 abbrev pub total_length : Header → ℕ

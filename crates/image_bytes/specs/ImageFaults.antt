@@ -1,5 +1,5 @@
 -- When bytes are a well-formed image, and the first fault of those that are none.
-use Rattle.std.specs.Prelude.{◌≡◌, ℕ, ◌*◌, ◌<◌, ◌≤◌, ◌⊎◌, List, [], ◌∷◌, length, take, drop}
+use Rattle.std.specs.Prelude.{◌≡◌, ℕ, ◌*◌, ◌<◌, ◌≤◌, ◌⊎◌, List, [], ◌∷◌, ◌++◌, length, take, drop}
 use Rattle.sha2.specs.Sha256.{sha256}
 use Rattle.mj_model.specs.declared.image_fault.ImageFault.{ImageFault}
 use Rattle.mj_model.specs.declared.image_fault.ImageFault.TheVariants.{Truncated, BadMagic, BadLayout, BadSection, BadKey, BadToken, BadText, Digest}
@@ -7,9 +7,14 @@ use Rattle.mj_model.specs.declared.limits.TheConstants.{ENTRIES_MAX, CATEGORIES_
 use Rattle.mj_model.specs.Connection.{AreMatrixSizes}
 use Rattle.double_array.specs.CellMap.{Cell}
 use Rattle.image_bytes.specs.declared.header.Header.{Header}
-use Rattle.image_bytes.specs.declared.header.TheConstants.{LAYOUT}
+use Rattle.image_bytes.specs.declared.layout.InfoForm.{InfoForm}
+use Rattle.image_bytes.specs.declared.layout.InfoForm.TheVariants as info
+use Rattle.image_bytes.specs.declared.layout.KeyForm.{KeyForm}
+use Rattle.image_bytes.specs.declared.layout.KeyForm.TheVariants as key
 use Rattle.image_bytes.specs.ImageBytes.{header_of, header_length, image_magic, kind_of, all_tokens, section, section_end, total_length}
 use Rattle.image_bytes.specs.ImageSections.{AreCosts, AreCategories, AreRanges, IsIndex, HoldGroups, IsKeyOf, stored_cells, stored_token, FitsSizes, HasFeature}
+use Rattle.image_bytes.specs.Layouts.{IsReadLayout, info_form, key_form}
+use Rattle.image_bytes.specs.OlderSections.{AreEntries, IsListedKey, keys_from}
 use Rattle.mj_model.specs.Tables.{Kind, System, User}
 
 -- ---- tests in order
@@ -48,10 +53,6 @@ IsFirstTold (test ∷ tests) fault = test.Tells fault ⊎ (test.Passes × IsFirs
 
 -- ---- the tests of image bytes
 
--- a layout that is read
-abbrev pub IsReadLayout : ℕ → Type 0
-IsReadLayout layout = layout ≡ LAYOUT
-
 -- in layout 3 the SHA-256 of all bytes before it stands behind the sections (FIPS 180-4)
 abbrev pub HasDigest : List ℕ → Type 0
 HasDigest bytes =
@@ -81,27 +82,68 @@ SystemAlone User Rule bytes = bytes ≡ []
 abbrev pub HasKey : List Cell → ℕ → Type 0
 HasKey cells group = (key : List ℕ) × IsKeyOf cells group key
 
--- what image bytes are tested for, in this order; in a fault, section 0 is the header, and 9 what stands behind the last section
-abbrev pub image_tests : Header → List ℕ → List Test
-image_tests h bytes =
+-- the categories of code points are those of so many
+abbrev pub AreInfos : InfoForm → ℕ → List ℕ → Type 0
+AreInfos info.Listed categories infos = AreEntries categories infos
+AreInfos info.Ranges categories infos = AreRanges categories infos
+
+-- the index of the unknown tokens
+abbrev pub IsUnknownIndex : Header → List ℕ → Type 0
+IsUnknownIndex h index = IsIndex h.categories h.tokens (all_tokens h) index
+
+-- the magic and the layout
+abbrev pub front_tests : Header → List ℕ → List Test
+front_tests h bytes =
     unless (header_length ≤ length bytes) Truncated
     ∷ unless (take 8 bytes ≡ image_magic) BadMagic
     ∷ unless (IsReadLayout h.layout) (BadLayout h.layout)
-    ∷ unless (total_length h ≤ length bytes) Truncated
+    ∷ []
+
+-- the length and the digest; section 9 is what stands behind the sections
+abbrev pub end_tests : Header → List ℕ → List Test
+end_tests h bytes =
+    unless (total_length h ≤ length bytes) Truncated
     ∷ unless (length bytes ≤ total_length h) (BadSection 9)
     ∷ unless (HasDigest bytes) Digest
-    ∷ unless (IsHeader h) (BadSection 0)
-    ∷ unless (SystemAlone (kind_of h) (AreCosts h.sizes) (section bytes 1)) (BadSection 1)
-    ∷ unless (SystemAlone (kind_of h) (AreCategories h.categories) (section bytes 2)) (BadSection 2)
-    ∷ unless (SystemAlone (kind_of h) (AreRanges h.categories) (section bytes 3)) (BadSection 3)
-    ∷ unless (SystemAlone (kind_of h) (IsIndex h.categories h.tokens (all_tokens h)) (section bytes 4)) (BadSection 4)
-    ∷ unless (HoldGroups h.groups (section bytes 5)) (BadSection 5)
-    ∷ unless_each h.groups (HasKey (stored_cells (section bytes 5))) BadKey
-    ∷ unless (IsIndex h.groups 0 h.tokens (section bytes 6)) (BadSection 6)
-    ∷ unless (length (section bytes 7) ≡ 16 * all_tokens h) (BadSection 7)
-    ∷ unless_each (all_tokens h) (λ i. FitsSizes h.sizes (stored_token (section bytes 7) i)) BadToken
-    ∷ unless_each (all_tokens h) (λ i. HasFeature (section bytes 8) (stored_token (section bytes 7) i)) BadText
     ∷ []
+
+-- the numbers of the header, which is section 0
+abbrev pub header_tests : Header → List Test
+header_tests h = unless (IsHeader h) (BadSection 0) ∷ []
+
+-- sections 1 to 4
+abbrev pub system_tests : Header → List ℕ → List ℕ → List ℕ → List ℕ → List Test
+system_tests h costs categories infos index =
+    unless (SystemAlone (kind_of h) (AreCosts h.sizes) costs) (BadSection 1)
+    ∷ unless (SystemAlone (kind_of h) (AreCategories h.categories) categories) (BadSection 2)
+    ∷ unless (SystemAlone (kind_of h) (AreInfos (info_form h.layout) h.categories) infos) (BadSection 3)
+    ∷ unless (SystemAlone (kind_of h) (IsUnknownIndex h) index) (BadSection 4)
+    ∷ []
+
+-- section 5: of listed keys each one, and then that nothing stands behind them; of cells all of them, and then each group's key
+abbrev pub key_tests : KeyForm → ℕ → List ℕ → List Test
+key_tests key.Listed groups keys = unless_each groups (IsListedKey keys) BadKey ∷ unless (keys_from groups keys ≡ []) (BadSection 5) ∷ []
+key_tests key.Cells groups keys = unless (HoldGroups groups keys) (BadSection 5) ∷ unless_each groups (HasKey (stored_cells keys)) BadKey ∷ []
+
+-- sections 6 to 8
+abbrev pub token_tests : Header → List ℕ → List ℕ → List ℕ → List Test
+token_tests h groups tokens features =
+    unless (IsIndex h.groups 0 h.tokens groups) (BadSection 6)
+    ∷ unless (length tokens ≡ 16 * all_tokens h) (BadSection 7)
+    ∷ unless_each (all_tokens h) (λ i. FitsSizes h.sizes (stored_token tokens i)) BadToken
+    ∷ unless_each (all_tokens h) (λ i. HasFeature features (stored_token tokens i)) BadText
+    ∷ []
+
+-- the numbers of the header, and the sections
+abbrev pub section_tests : Header → List ℕ → List Test
+section_tests h bytes =
+    header_tests h
+    ++ (system_tests h (section bytes 1) (section bytes 2) (section bytes 3) (section bytes 4)
+    ++ (key_tests (key_form h.layout) h.groups (section bytes 5) ++ token_tests h (section bytes 6) (section bytes 7) (section bytes 8)))
+
+-- what image bytes are tested for, in this order
+abbrev pub image_tests : Header → List ℕ → List Test
+image_tests h bytes = front_tests h bytes ++ (end_tests h bytes ++ section_tests h bytes)
 
 -- the bytes are a well-formed image
 abbrev pub IsWellFormed : List ℕ → Type 0
@@ -111,9 +153,10 @@ IsWellFormed bytes = PassAll (image_tests (header_of bytes) bytes)
 abbrev pub IsImageFault : List ℕ → ImageFault → Type 0
 IsImageFault bytes fault = IsFirstTold (image_tests (header_of bytes) bytes) fault
 
--- well-formed bytes have no fault, and no bytes have two first faults
+-- well-formed bytes have no fault, no bytes have two first faults, and bytes that are not well formed cannot be without one
 pub record HasOneFault (bytes : List ℕ) : Type 0 where
   pub none_where_well_formed : (fault : ImageFault) → IsWellFormed bytes → IsImageFault bytes fault → ⊥
+  pub one_where_not : (IsWellFormed bytes → ⊥) → ((fault : ImageFault) → IsImageFault bytes fault → ⊥) → ⊥
   pub at_most_one : (fault other : ImageFault) → IsImageFault bytes fault → IsImageFault bytes other → fault ≡ other
 
 abbrev pub ImagesHaveOneFault : Type 0

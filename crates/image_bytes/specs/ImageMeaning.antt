@@ -1,9 +1,17 @@
 -- The tables that the bytes of a well-formed image mean.
-use Rattle.std.specs.Prelude.{ℕ, suc, ◌-◌, nat_lt, ℤ, pos, List, [], map, flat_map, if◌then◌else◌, bytes_eq, filter}
+use Rattle.std.specs.Prelude.{ℕ, suc, ◌-◌, nat_lt, ℤ, pos, List, [], map, flat_map, if◌then◌else◌, bytes_eq, filter, Option}
 use Rattle.std.specs.List.{range_with_len}
+use Rattle.double_array.specs.CellMap.{value_of}
+use Rattle.mj_model.specs.declared.category.CharInfo.{CharInfo}
 use Rattle.mj_model.specs.CharDef.{NamedCategory}
 use Rattle.mj_model.specs.Connection.{is_pair}
 use Rattle.image_bytes.specs.ImageBytes.{header_of, kind_of, section}
+use Rattle.image_bytes.specs.declared.layout.InfoForm.{InfoForm}
+use Rattle.image_bytes.specs.declared.layout.InfoForm.TheVariants as info
+use Rattle.image_bytes.specs.declared.layout.KeyForm.{KeyForm}
+use Rattle.image_bytes.specs.declared.layout.KeyForm.TheVariants as key
+use Rattle.image_bytes.specs.Layouts.{info_form, key_form}
+use Rattle.image_bytes.specs.OlderSections.{listed_info, listed_key, listed_number}
 use Rattle.image_bytes.specs.ImageSections.{categories_in, index_at, key_of, stored_cells, stored_cost, stored_info, token_from}
 use Rattle.mj_model.specs.Tables.{Tables, Token, Lexeme}
 
@@ -16,16 +24,32 @@ tokens_in tokens features index i = map (token_from tokens features) (range_with
 abbrev pub entry_under : List ℕ → Token → Lexeme
 entry_under surface token = record { surface = surface; token = token }
 
--- the sections of a lexicon: keys, groups, tokens, features
+-- the sections of a lexicon: how it holds keys; the keys, groups, tokens, features
 pub record LexiconSections : Type 0 where
+  pub form : KeyForm
   pub keys : List ℕ
   pub groups : List ℕ
   pub tokens : List ℕ
   pub features : List ℕ
 
+-- the key of a group
+abbrev pub key_in : KeyForm → List ℕ → ℕ → List ℕ
+key_in key.Listed keys group = listed_key keys group
+key_in key.Cells keys group = key_of (stored_cells keys) group
+
+-- the group of a key among so many, if it has one
+abbrev pub group_in : KeyForm → ℕ → List ℕ → List ℕ → Option ℕ
+group_in key.Listed groups keys surface = listed_number groups keys surface
+group_in key.Cells groups keys surface = value_of (stored_cells keys) surface
+
+-- the categories of a code point
+abbrev pub info_in : InfoForm → List ℕ → ℕ → CharInfo
+info_in info.Listed infos code = listed_info infos code
+info_in info.Ranges infos code = stored_info infos code
+
 -- the entries of a group, under its key
 abbrev pub entries_of_group : LexiconSections → ℕ → List Lexeme
-entries_of_group s group = map (entry_under (key_of (stored_cells s.keys) group)) (tokens_in s.tokens s.features s.groups group)
+entries_of_group s group = map (entry_under (key_in s.form s.keys group)) (tokens_in s.tokens s.features s.groups group)
 
 -- the entries of so many groups, one group behind another
 abbrev pub lexicon_in : ℕ → LexiconSections → List Lexeme
@@ -34,7 +58,17 @@ lexicon_in groups s = flat_map (entries_of_group s) (range_with_len 0 groups)
 -- ---- of an image
 
 abbrev pub lexicon_sections : List ℕ → LexiconSections
-lexicon_sections bytes = record { keys = section bytes 5; groups = section bytes 6; tokens = section bytes 7; features = section bytes 8 }
+lexicon_sections bytes = record {
+  form = key_form (header_of bytes).layout;
+  keys = section bytes 5;
+  groups = section bytes 6;
+  tokens = section bytes 7;
+  features = section bytes 8;
+}
+
+-- the categories of a code point in an image
+abbrev pub image_info : List ℕ → ℕ → CharInfo
+image_info bytes code = info_in (info_form (header_of bytes).layout) (section bytes 3) code
 
 -- token i of an image
 abbrev pub image_token : List ℕ → ℕ → Token
@@ -64,7 +98,7 @@ image_tables bytes = record {
   sizes = (header_of bytes).sizes;
   connection = image_cost bytes;
   categories = map (λ (c : NamedCategory). c.category) (image_categories bytes);
-  info = stored_info (section bytes 3);
+  info = image_info bytes;
   unknown = image_unknown bytes;
   lexicon = image_lexicon bytes;
 }

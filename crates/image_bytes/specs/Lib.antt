@@ -1,5 +1,7 @@
+pub mod Layouts
 pub mod ImageBytes
 pub mod ImageSections
+pub mod OlderSections
 pub mod ImageFaults
 pub mod ImageMeaning
 pub mod ImageBounds

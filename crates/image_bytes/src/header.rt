@@ -8,9 +8,6 @@ use mj_model::MatrixSizes;
 /// The first 8 bytes of every image.
 pub const MAGIC: [u8; 8] = *b"MJDICT\r\n";
 
-/// The layout that is written and read.
-pub const LAYOUT: u32 = 3;
-
 /// How long a header is, in bytes.
 pub const HEADER_LENGTH: usize = 104;
 

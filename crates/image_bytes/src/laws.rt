@@ -2,9 +2,10 @@
 
 ghost use Rattle.std.specs.Prelude.{◌≡◌, ◌^◌, ◌∷◌, []};
 ghost use Rattle.image_bytes.specs.declared.header.TheConstants as image;
+ghost use Rattle.image_bytes.specs.declared.layout.TheConstants as layout;
 ghost use Rattle.image_bytes.specs.ImageFaults.{ImagesHaveOneFault};
 
-/// Well-formed image bytes have no fault, and all others at most one first fault.
+/// Well-formed image bytes have no fault, and all others exactly one first fault.
 pub fn one_image_fault()
     ensures { ImagesHaveOneFault }
 {}
@@ -12,7 +13,8 @@ pub fn one_image_fault()
 /// The constants of an image, as numbers: a definition that names one means this number.
 pub fn constants()
     ensures magic { image.MAGIC ≡ 77 ∷ 74 ∷ 68 ∷ 73 ∷ 67 ∷ 84 ∷ 13 ∷ 10 ∷ [] }
-    ensures layout { image.LAYOUT ≡ 3 }
+    ensures layout { layout.LAYOUT ≡ 3 }
+    ensures entries { layout.OWN_ENTRIES ≡ 65535 }
     ensures header { image.HEADER_LENGTH ≡ 104 }
     ensures digest { image.DIGEST_LENGTH ≡ 32 }
     ensures features { image.FEATURE_BYTES_END ≡ 2 ^ 32 }

@@ -8,12 +8,12 @@ pub enum Section {
     /// Connection costs, 2 bytes each.
     Costs,
     Categories,
-    /// Ranges of code points with their categories.
-    Ranges,
+    /// The categories of code points.
+    Infos,
     /// The first unknown token of each category.
     UnknownIndex,
-    /// Cells of 8 bytes, which give each surface its group.
-    Cells,
+    /// The surfaces, each with its group.
+    Keys,
     /// The first token of each group.
     Groups,
     /// Tokens of 16 bytes.
@@ -32,9 +32,9 @@ impl Section {
         match self {
             Section::Costs => 1,
             Section::Categories => 2,
-            Section::Ranges => 3,
+            Section::Infos => 3,
             Section::UnknownIndex => 4,
-            Section::Cells => 5,
+            Section::Keys => 5,
             Section::Groups => 6,
             Section::Tokens => 7,
             Section::Features => 8,

@@ -1,11 +1,10 @@
 -- An image that was put together of well-formed sections is well formed.
-use Rattle.std.proofs.Common.{◌≡◌, ℕ, suc, ◌*◌, ◌≤◌, List, [], ◌∷◌, length, sym, ap, ◌∙◌, subst, arith}
+use Rattle.std.proofs.Common.{◌≡◌, ℕ, suc, ◌≤◌, List, [], ◌∷◌, ◌++◌, length, sym, ap, ◌∙◌, subst, arith}
 use Rattle.std.specs.Prelude.{slice_index_or}
-use Rattle.mj_model.specs.declared.image_fault.ImageFault.TheVariants.{BadSection, BadKey, BadToken, BadText}
 use Rattle.image_bytes.specs.declared.header.Header.{Header}
-use Rattle.image_bytes.specs.ImageBytes.{header_length, header_of, kind_of, all_tokens, section, section_end, total_length}
-use Rattle.image_bytes.specs.ImageFaults.{Test, unless, unless_each, HasKey, IsHeader, IsReadLayout, IsWellFormed, PassAll, SystemAlone}
-use Rattle.image_bytes.specs.ImageSections.{AreCategories, AreCosts, AreRanges, FitsSizes, HasFeature, HoldGroups, IsIndex, stored_cells, stored_token}
+use Rattle.image_bytes.specs.ImageBytes.{header_length, header_of, section, section_end, total_length}
+use Rattle.image_bytes.specs.ImageFaults.{Test, IsWellFormed, PassAll, header_tests, key_tests, system_tests, token_tests}
+use Rattle.image_bytes.specs.Layouts.{IsReadLayout, key_form}
 use Rattle.image_writer.specs.Frames.{IsFramed}
 
 -- section k of some
@@ -15,18 +14,8 @@ at sections k = slice_index_or sections k []
 -- a header and its sections, as they are tested
 abbrev pub part_tests : Header → List (List ℕ) → List Test
 part_tests h s =
-    unless (IsHeader h) (BadSection 0)
-    ∷ unless (SystemAlone (kind_of h) (AreCosts h.sizes) (at s 0)) (BadSection 1)
-    ∷ unless (SystemAlone (kind_of h) (AreCategories h.categories) (at s 1)) (BadSection 2)
-    ∷ unless (SystemAlone (kind_of h) (AreRanges h.categories) (at s 2)) (BadSection 3)
-    ∷ unless (SystemAlone (kind_of h) (IsIndex h.categories h.tokens (all_tokens h)) (at s 3)) (BadSection 4)
-    ∷ unless (HoldGroups h.groups (at s 4)) (BadSection 5)
-    ∷ unless_each h.groups (HasKey (stored_cells (at s 4))) BadKey
-    ∷ unless (IsIndex h.groups 0 h.tokens (at s 5)) (BadSection 6)
-    ∷ unless (length (at s 6) ≡ 16 * all_tokens h) (BadSection 7)
-    ∷ unless_each (all_tokens h) (λ i. FitsSizes h.sizes (stored_token (at s 6) i)) BadToken
-    ∷ unless_each (all_tokens h) (λ i. HasFeature (at s 7) (stored_token (at s 6) i)) BadText
-    ∷ []
+    header_tests h
+    ++ (system_tests h (at s 0) (at s 1) (at s 2) (at s 3) ++ (key_tests (key_form h.layout) h.groups (at s 4) ++ token_tests h (at s 5) (at s 6) (at s 7)))
 
 abbrev pub eight_of : (ℕ → List ℕ) → List (List ℕ)
 eight_of s = s 0 ∷ s 1 ∷ s 2 ∷ s 3 ∷ s 4 ∷ s 5 ∷ s 6 ∷ s 7 ∷ []
@@ -48,6 +37,6 @@ module _ (h : Header) (s : List (List ℕ)) (image : List ℕ) (framed : IsFrame
   formed_of layout pass =
       let whole : length image ≡ total_length (header_of image) = framed.whole ∙ ap total_length (sym framed.header) in
       let long : header_length ≤ section_end (header_of image) 8 = omega (arith) in
-      let read = ap (λ (g : Header). g.layout) framed.header ∙ layout in
+      let read = subst (λ (g : Header). IsReadLayout g.layout) (sym framed.header) layout in
       let rest = from_parts (λ g ss. PassAll (part_tests g ss)) pass in
       (omega (arith, whole, long), (framed.magic, (read, (omega (arith, whole), (omega (arith, whole), (framed.digest, rest))))))

@@ -12,7 +12,8 @@ use Rattle.byteorder.specs.Endian.{little_bytes, little_number}
 use Rattle.byteorder.specs.Numbers.{length-bytes_low_first}
 use Rattle.std.specs.Borrow.{Bor}
 use Rattle.sha2.specs.Sha256.{sha256}
-use Rattle.image_bytes.specs.ImageBytes.{behind_sections, header_length, header_of, image_magic, number_at, section, section_end, section_start}
+use Rattle.image_bytes.specs.ImageBytes.{header_length, header_of, image_magic, number_at, section, section_end, section_start}
+use Rattle.image_bytes.specs.Layouts.{behind_sections}
 use Rattle.image_bytes.specs.declared.header.Header.{Header}
 use Rattle.image_writer.specs.Frames.{AreShort, AreSmall, IsFramed, IsHeaderFor, header_bytes, length_bytes, number_bytes, number_list}
 use Rattle.image_bytes.proofs.ItemLemmas.{item_at, items_length}

@@ -7,8 +7,10 @@ use Rattle.std.proofs.lemmas.List.Concat.{flat_map-append}
 use Rattle.std.proofs.lemmas.Option.{get_or_from_slice_get, slice_get-get_or}
 use Rattle.image_bytes.specs.ImageBounds.{feature_bytes, feature_bytes_end}
 use Rattle.mj_model.specs.Dictionary.{lexeme_of}
-use Rattle.image_bytes.specs.ImageMeaning.{LexiconSections, entries_of_group, entry_under, lexicon_in}
-use Rattle.image_bytes.specs.ImageSections.{IsIndex, index_at, key_of, stored_cells, token_from}
+use Rattle.image_bytes.specs.ImageMeaning.{LexiconSections, entries_of_group, entry_under, key_in, lexicon_in}
+use Rattle.image_bytes.specs.declared.layout.KeyForm.{KeyForm}
+use Rattle.image_bytes.specs.declared.layout.KeyForm.TheVariants.{Cells}
+use Rattle.image_bytes.specs.ImageSections.{IsIndex, index_at, token_from}
 use Rattle.mj_model.specs.Lexicon.{Row}
 use Rattle.mj_model.specs.Tables.{Lexeme}
 use Rattle.image_writer.specs.declared.tokens.TokenWriter.{TokenWriter}
@@ -41,7 +43,7 @@ under_key key tokens features f a (suc n) each =
     let rest = under_key key tokens features f (a + 1) n (λ i low high. each i (omega (arith, low)) (omega (arith, high))) in
     cc
 
-module _ (s : LexiconSections) (rows more : List Row) (groups : ℕ) (hold : HoldTokens (rows ++ more) s.tokens s.features) (index : IsIndex groups 0 (length rows) s.groups) (under : AreUnderKeys rows groups s.keys s.groups) where
+module _ (s : LexiconSections) (rows more : List Row) (groups : ℕ) (cells : s.form ≡ Cells) (hold : HoldTokens (rows ++ more) s.tokens s.features) (index : IsIndex groups 0 (length rows) s.groups) (under : AreUnderKeys rows groups s.keys s.groups) where
   -- the starts don't fall
   no_fall : (n g : ℕ) → g + n ≤ groups → index_at s.groups g ≤ index_at s.groups (g + n)
   no_fall zero g le = ap-le (index_at s.groups) g (g + 0) (omega arith)
@@ -65,13 +67,13 @@ module _ (s : LexiconSections) (rows more : List Row) (groups : ℕ) (hold : Hol
   of_group g less =
       let rises = index.rising g less in
       let within = start_within (suc g) (omega (arith, less)) in
-      under_key (key_of (stored_cells s.keys) g) s.tokens s.features (lexeme_at rows) (index_at s.groups g) (index_at s.groups (suc g) - index_at s.groups g)
+      under_key (key_in s.form s.keys g) s.tokens s.features (lexeme_at rows) (index_at s.groups g) (index_at s.groups (suc g) - index_at s.groups g)
       (λ i low high.
       let i_within : i < length rows = omega (arith, low, high, rises, within) in
       let row : Row = get_or rows i no_row in
       let long = length-append rows more in
       let found : slice_get (rows ++ more) i ≡ Some row = slice_get-get_or (rows ++ more) i no_row (omega (arith, i_within, long)) ∙ ap Some (get_or_append_left rows more no_row i i_within) in
-      let surface : key_of (stored_cells s.keys) g ≡ row.surface = sym (under.alike g i less low (omega (arith, low, high, rises))) in
+      let surface : key_in s.form s.keys g ≡ row.surface = ap (λ (form : KeyForm). key_in form s.keys g) cells ∙ sym (under.alike g i less low (omega (arith, low, high, rises))) in
       let token = (hold.each i row found).token in
       (λ j. record { surface = surface j; token = token j }))
 

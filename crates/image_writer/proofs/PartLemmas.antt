@@ -1,11 +1,11 @@
 -- An image is well formed where its parts are, whatever its kind.
-use Rattle.std.proofs.Common.{◌≡◌, ℕ, ◌+◌, ◌*◌, ◌<◌, ◌≤◌, List, [], ◌∷◌, length, refl, ap, ◌∙◌, arith}
+use Rattle.std.proofs.Common.{◌≡◌, ℕ, ◌+◌, ◌*◌, ◌<◌, ◌≤◌, List, [], ◌∷◌, length, ap, ◌∙◌, arith}
 use Rattle.std.specs.Prelude.{map, slice_index_or, sum_by}
 use Rattle.std.proofs.lemmas.Option.{slice_get-get_or}
 use Rattle.mj_model.specs.declared.limits.TheConstants.{ENTRIES_MAX}
 use Rattle.mj_model.specs.declared.matrix_sizes.MatrixSizes.{MatrixSizes}
 use Rattle.image_bytes.specs.declared.header.Header.{Header}
-use Rattle.image_bytes.specs.declared.header.TheConstants.{LAYOUT}
+use Rattle.image_bytes.specs.declared.layout.TheConstants.{LAYOUT}
 use Rattle.image_bytes.specs.ImageBytes.{kind_of}
 use Rattle.image_bytes.specs.ImageFaults.{AreCounts, IsHeader, IsWellFormed, PassAll, SystemAlone}
 use Rattle.image_bytes.specs.ImageSections.{AreCategories, AreCosts, AreRanges, FitsSizes, IsIndex, stored_token}
@@ -120,4 +120,4 @@ module _ (number : ℕ) (sizes : MatrixSizes) (count : ℕ) (rows : List Row) (u
     )
 
     pub well_formed : (image : List ℕ) → IsFramed header sections image → IsWellFormed image
-    well_formed image framed = formed_of header sections image framed refl pass
+    well_formed image framed = formed_of header sections image framed (omega arith, omega arith) pass

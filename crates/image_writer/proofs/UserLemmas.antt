@@ -4,6 +4,7 @@ use Rattle.image_bytes.specs.ImageBounds.{feature_bytes, feature_bytes_end}
 use Rattle.mj_model.specs.declared.matrix_sizes.MatrixSizes.{MatrixSizes}
 use Rattle.image_bytes.specs.ImageBytes.{kind_of}
 use Rattle.image_bytes.specs.ImageMeaning.{lexicon_in}
+use Rattle.image_bytes.specs.Layouts.{key_form}
 use Rattle.mj_model.specs.Lexicon.{Row}
 use Rattle.mj_model.specs.Tables.{User}
 use Rattle.image_bytes.specs.declared.header.Header.{Header}
@@ -53,6 +54,6 @@ module _ (sizes : MatrixSizes) (rows : List Row) (bytes : LexiconBytes) where
       kind = from_parts header sections image framed (λ h ss. kind_of h ≡ User) refl;
       sizes_kept = ap (λ (h : Header). h.sizes) framed.header;
       lexicon = from_parts header sections image framed
-          (λ h ss. lexicon_in h.groups (record { keys = at ss 4; groups = at ss 5; tokens = at ss 6; features = at ss 7 }) ≡ lexemes_of rows) parts.lexicon.means;
+          (λ h ss. lexicon_in h.groups (record { form = key_form h.layout; keys = at ss 4; groups = at ss 5; tokens = at ss 6; features = at ss 7 }) ≡ lexemes_of rows) parts.lexicon.means;
       few_features = subst (λ (all : List Row). feature_bytes (tokens_of all) < feature_bytes_end) (append-nil rows) parts.lexicon.few_features;
     }

@@ -6,8 +6,9 @@ use Rattle.mj_model.specs.CharDef.{NamedCategory}
 use Rattle.mj_model.specs.Connection.{is_pair}
 use Rattle.image_bytes.specs.declared.header.Header.{Header}
 use Rattle.image_bytes.specs.ImageBytes.{kind_of}
-use Rattle.image_bytes.specs.ImageMeaning.{lexicon_in, tokens_in}
-use Rattle.image_bytes.specs.ImageSections.{IsIndex, categories_in, stored_cost, stored_info}
+use Rattle.image_bytes.specs.ImageMeaning.{info_in, lexicon_in, tokens_in}
+use Rattle.image_bytes.specs.Layouts.{info_form, key_form}
+use Rattle.image_bytes.specs.ImageSections.{IsIndex, categories_in, stored_cost}
 use Rattle.mj_model.specs.Lexicon.{Row}
 use Rattle.mj_model.specs.SourceTables.{SayTheSame}
 use Rattle.mj_model.specs.Tables.{Tables}
@@ -31,9 +32,9 @@ tables_in h s = record {
   sizes = h.sizes;
   connection = λ right left. if is_pair h.sizes right left then stored_cost h.sizes (at s 0) right left else pos 0;
   categories = map (λ (c : NamedCategory). c.category) (categories_in h.categories (at s 1));
-  info = stored_info (at s 2);
+  info = info_in (info_form h.layout) (at s 2);
   unknown = λ i. if nat_lt i h.categories then tokens_in (at s 6) (at s 7) (at s 3) i else [];
-  lexicon = lexicon_in h.groups (record { keys = at s 4; groups = at s 5; tokens = at s 6; features = at s 7 });
+  lexicon = lexicon_in h.groups (record { form = key_form h.layout; keys = at s 4; groups = at s 5; tokens = at s 6; features = at s 7 });
 }
 
 module _ (m : CostTable) (chars : CharCategories) (unknown : List (List Row)) (rows : List Row) (costs categories ranges index : List ℕ) (bytes : LexiconBytes) where

@@ -2,6 +2,7 @@
 use Rattle.std.specs.Prelude.{◌≡◌, ℕ, ◌+◌, ◌*◌, ◌<◌, ◌≤◌, List, [], ◌∷◌, ◌++◌, length, map, bytes_eq, cond, slice_get, slice_range, Some, is_some}
 use Rattle.std.specs.List.{concat, list_any}
 use Rattle.std.specs.HashMap.{get_by}
+use Rattle.image_bytes.specs.declared.layout.KeyForm.TheVariants.{Cells}
 use Rattle.image_bytes.specs.ImageBounds.{each_once, feature_bytes, feature_bytes_end}
 use Rattle.image_bytes.specs.ImageFaults.{HasKey}
 use Rattle.image_bytes.specs.ImageMeaning.{LexiconSections, lexicon_in}
@@ -16,7 +17,7 @@ use Rattle.image_writer.specs.Groups.{AreUnderKeys}
 use Rattle.image_writer.specs.Entries.{all_rows, lexemes_of, tokens_of}
 
 abbrev pub sections_of : LexiconBytes → LexiconSections
-sections_of bytes = record { keys = bytes.keys.items; groups = bytes.groups.items; tokens = bytes.tokens.items; features = bytes.features.items }
+sections_of bytes = record { form = Cells; keys = bytes.keys.items; groups = bytes.groups.items; tokens = bytes.tokens.items; features = bytes.features.items }
 
 -- cells that hold each group once, each with a key
 pub record HoldKeys (groups : ℕ) (cells : List ℕ) : Type 0 where

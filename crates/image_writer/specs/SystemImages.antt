@@ -3,7 +3,7 @@ use Rattle.std.specs.Prelude.{◌≡◌, ℕ, ◌<◌, pos, List, length, map, i
 use Rattle.mj_model.specs.CharDef.{NamedCategory}
 use Rattle.image_bytes.specs.ImageBounds.{feature_bytes, feature_bytes_end}
 use Rattle.mj_model.specs.Connection.{is_pair}
-use Rattle.image_bytes.specs.declared.header.TheConstants.{LAYOUT}
+use Rattle.image_bytes.specs.declared.layout.TheConstants.{LAYOUT}
 use Rattle.image_bytes.specs.ImageBytes.{header_of}
 use Rattle.image_bytes.specs.ImageFaults.{IsWellFormed}
 use Rattle.image_bytes.specs.ImageMeaning.{image_categories, image_tables}

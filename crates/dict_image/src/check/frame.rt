@@ -4,7 +4,7 @@ ghost use Rattle.sha2.specs.Sha256.{sha256};
 ghost use Rattle.image_bytes.specs.ImageBytes.{header_of, image_magic};
 ghost use Rattle.dict_image.specs.Checks.{TellsEnds, TellsFront};
 
-use image_bytes::{DIGEST_LENGTH, HEADER_LENGTH, Header, LAYOUT, MAGIC, read_header, section_ends};
+use image_bytes::{HEADER_LENGTH, Header, MAGIC, read_header, section_ends};
 use mj_model::ImageFault;
 use sha2::{Digest, Sha256};
 
@@ -19,7 +19,7 @@ pub(crate) fn check_front(bytes: &[u8]) -> Result<Header, ImageFault>
         return Err(ImageFault::BadMagic);
     }
     let header = read_header(bytes);
-    if header.layout != LAYOUT {
+    if !header.is_read() {
         return Err(ImageFault::BadLayout(header.layout));
     }
     Ok(header)
@@ -34,8 +34,7 @@ fn has_magic(bytes: &[u8]) -> bool
 
 /// The tests of the length and the digest, and where the sections end.
 pub(crate) fn check_ends(bytes: &[u8], header: &Header) -> Result<[usize; 9], ImageFault>
-    requires layout { header.now.layout ≡ 3 }
-    requires header { header.now ≡ header_of bytes.now }
+    requires { header.now ≡ header_of bytes.now }
     ensures { TellsEnds bytes.now result }
 {
     let length = bytes.len();
@@ -43,13 +42,14 @@ pub(crate) fn check_ends(bytes: &[u8], header: &Header) -> Result<[usize; 9], Im
         return Err(ImageFault::Truncated);
     };
     let end = ends[8];
-    if length < end || length - end < DIGEST_LENGTH {
+    let behind = header.behind_sections();
+    if length < end || length - end < behind {
         return Err(ImageFault::Truncated);
     }
-    if length - end > DIGEST_LENGTH {
+    if length - end > behind {
         return Err(ImageFault::BadSection(9));
     }
-    if !is_digest_from(bytes, end) {
+    if behind > 0 && !is_digest_from(bytes, end) {
         return Err(ImageFault::Digest);
     }
     Ok(ends)

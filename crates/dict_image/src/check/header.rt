@@ -4,7 +4,7 @@ ghost use Rattle.image_bytes.specs.ImageBytes.{kind_of};
 ghost use Rattle.image_bytes.specs.ImageFaults.{AreCounts, IsHeader};
 ghost use Rattle.mj_model.specs.Tables.{System, User};
 ghost use Rattle.dict_image.specs.Checks.{PassOrTell};
-ghost use Rattle.dict_image.specs.Stages.{header_tests};
+ghost use Rattle.image_bytes.specs.ImageFaults.{header_tests};
 
 use image_bytes::Header;
 use mj_model::{CATEGORIES_MAX, ENTRIES_MAX, ImageFault};

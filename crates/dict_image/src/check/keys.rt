@@ -1,24 +1,27 @@
-//! The keys of an image's groups, each found from the cell of the group's value.
-ghost use Rattle.std.specs.Prelude.{◌≡◌, ◌≢◌, ℕ, ◌↔◌, pos, negsuc, length, IsTrue, IfOk};
-ghost use Rattle.double_array.specs.CellMap.{base as base_of, check as check_of};
+//! The keys of an image's groups, each found from the cell of the group's value. No cell is walked
+//! twice: what is known of the bytes that lead to it is noted.
+ghost use Rattle.std.specs.Prelude.{◌≡◌, ℕ, ◌↔◌, pos, negsuc, suc, Some, IsTrue, IfOk, MatchOption};
+ghost use Rattle.double_array.specs.CellMap.{base as base_of, check as check_of, step};
 ghost use Rattle.double_array.specs.CellRules.{AreCells};
 ghost use Rattle.image_bytes.specs.ImageFaults.{HasKey};
 ghost use Rattle.image_bytes.specs.ImageSections.{StandsOnce, stored_cells};
-ghost use Rattle.dict_image.specs.Checks.{IsKeyStart, IsLeastOrNone};
-ghost use Rattle.dict_image.specs.Keys.{IsState, IsStepBack};
+ghost use Rattle.dict_image.specs.Checks.{IsLeastOrNone};
+ghost use Rattle.dict_image.specs.KeyFronts.{AreFronts, IsFrontIfNear, IsTooFar};
 ghost use Rattle.dict_image.specs.Values.{HoldEach, ArePlaces};
+ghost use Rattle.dict_image.specs.Ways.{IsState, IsWayBack};
 
 use crate::check::cell::{Signed, read_cell};
+use crate::check::key_front::KeyFront;
+use double_array::CellRead;
 use image_bytes::ImageCells;
 use mj_model::SURFACE_MAX;
-use simdutf8::is_utf8;
 use std::alloc::{AllocError, Global};
 
-/// A state, and the byte of the step from it to another one.
+/// A cell, and what is known of the bytes that lead to it.
 #[derive(Clone, Copy)]
-struct StepBack {
-    state: usize,
-    byte: u8,
+struct KnownCell {
+    cell: usize,
+    front: KeyFront,
 }
 
 /// The first group without a key.
@@ -32,82 +35,133 @@ pub(crate) fn first_without_key(
     requires places { ArePlaces groups (stored_cells cells.now.bytes.now) places.now }
     ensures { IfOk result (IsLeastOrNone groups (HasKey (stored_cells cells.now.bytes.now))) }
 {
-    let mut room = key_room(alloc)?;
-    Ok(without_key(groups, cells, places, &mut room))
-}
-
-/// Room for the bytes of any key.
-fn key_room(alloc: Global) -> Result<Vec<u8>, AllocError>
-    ensures { IfOk result (λ room. length room.items ≡ SURFACE_MAX) }
-{
-    vec![in alloc; 0; SURFACE_MAX]
-}
-
-/// The first group without a key, by the room for the bytes of one.
-fn without_key(groups: u32, cells: &ImageCells<'_>, places: &[u32], room: &mut [u8]) -> Option<u32>
-    requires each { HoldEach groups (stored_cells cells.now.bytes.now) }
-    requires places { ArePlaces groups (stored_cells cells.now.bytes.now) places.now }
-    requires room { length room.old ≡ SURFACE_MAX }
-    ensures { IsLeastOrNone groups (HasKey (stored_cells cells.now.bytes.now)) result }
-{
+    let mut fronts = front_of_root(alloc, cells)?;
+    let mut way = Vec::new(alloc);
     for group in 0..groups {
-        if !has_key(cells, group, places[group as usize] as usize, room) {
-            return Some(group);
+        let place = places[group as usize] as usize;
+        if !has_key(cells, group, place, &mut fronts, &mut way)? {
+            return Ok(Some(group));
         }
     }
-    None
+    Ok(None)
+}
+
+/// Room for a note on each cell, with that on cell 0.
+fn front_of_root(alloc: Global, cells: &ImageCells<'_>) -> Result<Vec<Option<KeyFront>>, AllocError>
+    requires cells { AreCells (stored_cells cells.now.bytes.now) }
+    ensures { IfOk result (λ fronts. AreFronts (stored_cells cells.now.bytes.now) fronts.items) }
+{
+    let mut fronts = Vec::from_elem(alloc, None, cells.len())?;
+    fronts[0] = Some(KeyFront::empty());
+    Ok(fronts)
 }
 
 /// Whether a group, whose value stands in this cell, has a key.
-fn has_key(cells: &ImageCells<'_>, group: u32, place: usize, room: &mut [u8]) -> bool
+fn has_key(
+    cells: &ImageCells<'_>,
+    group: u32,
+    place: usize,
+    fronts: &mut [Option<KeyFront>],
+    way: &mut Vec<usize>,
+) -> Result<bool, AllocError>
     requires cells { AreCells (stored_cells cells.now.bytes.now) }
     requires once { StandsOnce (stored_cells cells.now.bytes.now) group }
     requires holds { base_of (stored_cells cells.now.bytes.now) place ≡ negsuc group }
-    requires room { length room.old ≡ SURFACE_MAX }
-    ensures { IsTrue result ↔ HasKey (stored_cells cells.now.bytes.now) group }
+    requires fronts { AreFronts (stored_cells cells.now.bytes.now) fronts.old }
+    ensures fronts { AreFronts (stored_cells cells.now.bytes.now) fronts.new }
+    ensures has { IfOk result (λ has. IsTrue has ↔ HasKey (stored_cells cells.now.bytes.now) group) }
 {
     let state = state_before(cells, place);
-    match key_to(cells, state, room) {
-        Some(start) => start < room.len() && is_utf8(&room[start..]),
-        None => false,
+    match front_of(cells, state, fronts, way)? {
+        Some(front) => Ok(front.is_key()),
+        None => Ok(false),
     }
 }
 
-/// The bytes of the steps from cell 0 to a state, written at the end of the room: where they begin there, or None where there are
-/// more of them than the room holds.
-fn key_to(cells: &ImageCells<'_>, state: usize, room: &mut [u8]) -> Option<usize>
+/// What is known of the bytes that lead to a state, or None where none do or they are too many. `way`
+/// is room for the states on the way back to a known cell.
+fn front_of(
+    cells: &ImageCells<'_>,
+    state: usize,
+    fronts: &mut [Option<KeyFront>],
+    way: &mut Vec<usize>,
+) -> Result<Option<KeyFront>, AllocError>
     requires cells { AreCells (stored_cells cells.now.bytes.now) }
     requires state { IsState (stored_cells cells.now.bytes.now) state }
-    ensures length { length room.new ≡ length room.old }
-    ensures key { IsKeyStart (stored_cells cells.now.bytes.now) state room.new result }
+    requires fronts { AreFronts (stored_cells cells.now.bytes.now) fronts.old }
+    ensures fronts { AreFronts (stored_cells cells.now.bytes.now) fronts.new }
+    ensures front { IfOk result (IsFrontIfNear (stored_cells cells.now.bytes.now) state) }
 {
-    let mut start = room.len();
-    let mut at = state;
-    while at != 0 {
-        if start == 0 {
-            return None;
+    match way_back(cells, state, fronts, way)? {
+        Some(known) => Ok(note_way(cells, known, fronts, way)),
+        None => Ok(None),
+    }
+}
+
+/// The first known cell on the way back from a state, and the states passed on that way; or None where
+/// there are more of them than a key has bytes.
+fn way_back(
+    cells: &ImageCells<'_>,
+    state: usize,
+    fronts: &[Option<KeyFront>],
+    way: &mut Vec<usize>,
+) -> Result<Option<KnownCell>, AllocError>
+    requires cells { AreCells (stored_cells cells.now.bytes.now) }
+    requires state { IsState (stored_cells cells.now.bytes.now) state }
+    requires fronts { AreFronts (stored_cells cells.now.bytes.now) fronts.now }
+    ensures { IfOk result (λ found. MatchOption found
+        (IsTooFar (stored_cells cells.now.bytes.now) state)
+        (IsWayBack (stored_cells cells.now.bytes.now) state way.new.items)) }
+{
+    way.clear();
+    let mut cell = state;
+    loop {
+        if let Some(front) = fronts[cell] {
+            return Ok(Some(KnownCell { cell, front }));
         }
-        let back = step_back(cells, at);
-        start -= 1;
-        room[start] = back.byte;
-        at = back.state;
+        if way.len() == SURFACE_MAX {
+            return Ok(None);
+        }
+        way.push(cell)?;
+        cell = state_before(cells, cell);
     }
-    Some(start)
 }
 
-/// The step that leads to a state other than 0.
-fn step_back(cells: &ImageCells<'_>, state: usize) -> StepBack
+/// Notes what is known of each state on the way, the last one first, and answers it of the first; or
+/// None where the bytes that lead there are too many.
+fn note_way(
+    cells: &ImageCells<'_>,
+    known: KnownCell,
+    fronts: &mut [Option<KeyFront>],
+    way: &mut Vec<usize>,
+) -> Option<KeyFront>
     requires cells { AreCells (stored_cells cells.now.bytes.now) }
-    requires state { IsState (stored_cells cells.now.bytes.now) state }
-    requires not_root { state ≢ 0 }
-    ensures { IsStepBack (stored_cells cells.now.bytes.now) state result }
+    requires fronts { AreFronts (stored_cells cells.now.bytes.now) fronts.old }
+    requires way { (state : ℕ)
+        × IsWayBack (stored_cells cells.now.bytes.now) state way.old.items known }
+    ensures fronts { AreFronts (stored_cells cells.now.bytes.now) fronts.new }
+    ensures front { (state : ℕ)
+        → IsWayBack (stored_cells cells.now.bytes.now) state way.old.items known
+        → IsFrontIfNear (stored_cells cells.now.bytes.now) state result }
 {
-    let from = state_before(cells, state);
-    let base = base_at(cells, from);
-    StepBack {
-        state: from,
-        byte: (state - base - 1) as u8,
+    let mut cell = known.cell;
+    let mut front = known.front;
+    while let Some(next) = way.pop() {
+        front = front.after(byte_between(cells, cell, next))?;
+        fronts[next] = Some(front);
+        cell = next;
     }
+    Some(front)
+}
+
+/// The byte of the step to a state from the one that is its check.
+fn byte_between(cells: &ImageCells<'_>, from: usize, to: usize) -> u8
+    requires cells { AreCells (stored_cells cells.now.bytes.now) }
+    requires to { IsState (stored_cells cells.now.bytes.now) to }
+    requires named { check_of (stored_cells cells.now.bytes.now) to ≡ pos from }
+    ensures { step (stored_cells cells.now.bytes.now) from (suc result) ≡ Some to }
+{
+    (to - base_at(cells, from) - 1) as u8
 }
 
 /// The state from which a step leads to a used cell.

@@ -48,7 +48,7 @@ fn are_within(categories: u32, ranges: &[u8]) -> bool
 }
 
 /// Whether the first category of an entry is in its set, and the set has only categories below a number of at most 18.
-fn is_info(categories: u32, entry: u32) -> bool
+pub(crate) fn is_info(categories: u32, entry: u32) -> bool
     requires { categories ≤ 18 }
     ensures { IsTrue result ↔ IsInfoOf categories (info_of_entry entry) }
 {

@@ -1,15 +1,15 @@
 //! Sections 1 to 4, which a user dictionary leaves empty.
 ghost use Rattle.std.specs.Prelude.{◌↔◌, IsTrue};
 ghost use Rattle.image_bytes.specs.ImageBytes.{kind_of};
-ghost use Rattle.image_bytes.specs.ImageFaults.{IsHeader, SystemAlone};
-ghost use Rattle.image_bytes.specs.ImageSections.{AreCosts, AreCategories, AreRanges};
+ghost use Rattle.image_bytes.specs.ImageFaults.{AreInfos, IsHeader, IsUnknownIndex, SystemAlone, system_tests};
+ghost use Rattle.image_bytes.specs.ImageSections.{AreCosts, AreCategories};
 ghost use Rattle.dict_image.specs.Checks.{PassOrTell};
-ghost use Rattle.dict_image.specs.Stages.{system_tests, IsUnknownIndex};
+ghost use Rattle.image_bytes.specs.Layouts.{info_form};
 
 use crate::check::categories::are_categories;
 use crate::check::header::is_user;
 use crate::check::index::is_index;
-use crate::check::ranges::are_ranges;
+use crate::check::infos::are_infos;
 use image_bytes::Header;
 use mj_model::ImageFault;
 
@@ -18,11 +18,11 @@ pub(crate) fn check_system(
     header: &Header,
     costs: &[u8],
     categories: &[u8],
-    ranges: &[u8],
+    infos: &[u8],
     index: &[u8],
 ) -> Result<(), ImageFault>
     requires { IsHeader header.now }
-    ensures { PassOrTell (system_tests header.now costs.now categories.now ranges.now index.now)
+    ensures { PassOrTell (system_tests header.now costs.now categories.now infos.now index.now)
         result }
 {
     if !has_costs(header, costs) {
@@ -31,7 +31,7 @@ pub(crate) fn check_system(
     if !has_categories(header, categories) {
         return Err(ImageFault::BadSection(2));
     }
-    if !has_ranges(header, ranges) {
+    if !has_infos(header, infos) {
         return Err(ImageFault::BadSection(3));
     }
     if !has_index(header, index) {
@@ -65,16 +65,16 @@ fn has_categories(header: &Header, categories: &[u8]) -> bool
     }
 }
 
-/// Whether section 3 has ranges of code points.
-fn has_ranges(header: &Header, ranges: &[u8]) -> bool
+/// Whether section 3 has the categories of code points.
+fn has_infos(header: &Header, infos: &[u8]) -> bool
     requires { IsHeader header.now }
-    ensures { IsTrue result
-        ↔ SystemAlone (kind_of header.now) (AreRanges header.now.categories) ranges.now }
+    ensures { IsTrue result ↔ SystemAlone (kind_of header.now)
+        (AreInfos (info_form header.now.layout) header.now.categories) infos.now }
 {
     if is_user(header) {
-        ranges.is_empty()
+        infos.is_empty()
     } else {
-        are_ranges(header.categories, ranges)
+        are_infos(header.info_form(), header.categories, infos)
     }
 }
 

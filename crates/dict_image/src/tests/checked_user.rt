@@ -6,23 +6,18 @@ use mj_model::ImageFault::{
 };
 use std::test::Fail;
 
-/// Layout 1, which is not read here.
-const FIRST_LAYOUT: [u8; 137] =
-    *b"MJDICT\r\n\x01\0\0\0\x01\0\0\0\x02\0\0\0\x02\0\0\0\0\0\0\0\x01\0\0\0\x01\0\0\0\0\0\0\0\
-    \0\0\0\0\0\0\0\0\0\0\0\0\0\0\0\0\0\0\0\0\0\0\0\0\0\0\0\0\0\0\0\0\
-    \x08\0\0\0\0\0\0\0\x08\0\0\0\0\0\0\0\x10\0\0\0\0\0\0\0\x01\0\0\0\0\0\0\0\
-    \x06\0\xe3\x82\x82\xe3\x82\x82\0\0\0\0\x01\0\0\0\x01\0\x01\0\x01\0\0\0\0\0\0\0\x01\0\0\0X";
-
 #[test]
 fn changes_before_the_digest(rt: HostRuntime) -> Result<(), Fail> {
     let body = one_surface(rt.alloc())?;
     assert_eq!(rt; body.len(), 929);
     #[rattlefmt::skip]
-    let rows: [(&str, &[Change<'_>], _); 21] = [
+    let rows: [(&str, &[Change<'_>], _); 23] = [
         // (what, bytes from a place on, the fault)
         ("no change", &[], None),
         ("magic", &[(0, b"m")], Some(BadMagic)),
-        ("layout 1", &[(8, b"\x01")], Some(BadLayout(1))),
+        ("layout 0", &[(8, b"\0")], Some(BadLayout(0))),
+        ("layout 1, with 32 bytes behind it", &[(8, b"\x01")], Some(BadSection(9))),
+        ("layout 2, with 32 bytes behind it", &[(8, b"\x02")], Some(BadSection(9))),
         ("layout 4", &[(8, b"\x04")], Some(BadLayout(4))),
         ("section 1 has 2^64 - 1 bytes", &[(40, &[0xff; 8])], Some(Truncated)),
         ("kind 2", &[(12, b"\x02")], Some(BadSection(0))),
@@ -87,6 +82,5 @@ fn other_lengths(rt: HostRuntime) -> Result<(), Fail> {
     }
     bytes.push(0)?;
     assert_eq!(rt; check_image(alloc, &bytes).err(), Some(BadSection(9)));
-    assert_eq!(rt; check_image(alloc, &FIRST_LAYOUT).err(), Some(BadLayout(1)));
     Ok(())
 }

@@ -2,6 +2,13 @@
 use sha2::{Digest, Sha256};
 use std::alloc::{AllocError, Global};
 
+/// The user image of layout 1 with the one surface `もも`: 137 bytes, and the feature `X`.
+pub(crate) const LAYOUT_1: [u8; 137] =
+    *b"MJDICT\r\n\x01\0\0\0\x01\0\0\0\x02\0\0\0\x02\0\0\0\0\0\0\0\x01\0\0\0\x01\0\0\0\0\0\0\0\
+    \0\0\0\0\0\0\0\0\0\0\0\0\0\0\0\0\0\0\0\0\0\0\0\0\0\0\0\0\0\0\0\0\
+    \x08\0\0\0\0\0\0\0\x08\0\0\0\0\0\0\0\x10\0\0\0\0\0\0\0\x01\0\0\0\0\0\0\0\
+    \x06\0\xe3\x82\x82\xe3\x82\x82\0\0\0\0\x01\0\0\0\x01\0\x01\0\x01\0\0\0\0\0\0\0\x01\0\0\0X";
+
 /// Bytes that replace those from a place on.
 pub(crate) type Change<'a> = (usize, &'a [u8]);
 
@@ -53,9 +60,40 @@ pub(crate) fn sealed(alloc: Global, bytes: &[u8]) -> Result<Vec<u8>, AllocError>
     Ok(new)
 }
 
-/// The user image of the one surface `a`, without its digest: 929 bytes. Cell 0 is (1, -2), cell 1 is (-1, 99), cell 99 is (1, 0), and
-/// the other ones of 100 are free.
+/// The user image of layout 2 with the one surface `a`: 929 bytes, and the feature `X`.
+pub(crate) fn layout_2(alloc: Global) -> Result<Vec<u8>, AllocError> {
+    changed(alloc, &one_surface(alloc)?, &[(8, b"\x02")])
+}
+
+/// The user image of layout 3 with the one surface `a`, without its digest: 929 bytes, and the feature `X`.
 pub(crate) fn one_surface(alloc: Global) -> Result<Vec<u8>, AllocError> {
+    one_surface_with(alloc, &[(0, 1)], b"X")
+}
+
+/// The user image of layout 3 with the one surface `a`, without its digest, with a token for each pair of where its feature begins and its length.
+pub(crate) fn one_surface_with(
+    alloc: Global,
+    places: &[(u8, u8)],
+    features: &[u8],
+) -> Result<Vec<u8>, AllocError> {
+    let count = u32::try_from(places.len()).unwrap_or(u32::MAX);
+    let mut groups = Vec::new(alloc);
+    groups.extend_from_slice(&[0; 4])?;
+    groups.extend_from_slice(&count.to_le_bytes())?;
+    let mut tokens = Vec::new(alloc);
+    for (start, length) in places {
+        tokens.extend_from_slice(b"\x01\0\x01\0\x01\0\0\0")?;
+        tokens.extend_from_slice(&[*start, 0, 0, 0, *length, 0, 0, 0])?;
+    }
+    let cells = cells_of_a(alloc)?;
+    #[rattlefmt::skip]
+    let sections = [b"".as_slice(), b"", b"", b"", &cells, &groups, &tokens, features];
+    image(alloc, [3, 1, 2, 2, 0, 1, count, 0], sections)
+}
+
+/// The cells of the one key `a`, of value 0. Cell 0 is (1, -2), cell 1 is (-1, 99), cell 99 is (1, 0), and the other ones of 100 are
+/// free.
+fn cells_of_a(alloc: Global) -> Result<Vec<u8>, AllocError> {
     let mut cells = Vec::new(alloc);
     for number in 0..100_u8 {
         let (base, check): (i32, i32) = match number {
@@ -67,8 +105,5 @@ pub(crate) fn one_surface(alloc: Global) -> Result<Vec<u8>, AllocError> {
         cells.extend_from_slice(&base.to_le_bytes())?;
         cells.extend_from_slice(&check.to_le_bytes())?;
     }
-    let groups = b"\0\0\0\0\x01\0\0\0";
-    let tokens = b"\x01\0\x01\0\x01\0\0\0\0\0\0\0\x01\0\0\0";
-    let sections = [b"".as_slice(), b"", b"", b"", &cells, groups, tokens, b"X"];
-    image(alloc, [3, 1, 2, 2, 0, 1, 1, 0], sections)
+    Ok(cells)
 }

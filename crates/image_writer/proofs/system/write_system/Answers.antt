@@ -6,7 +6,7 @@ use Rattle.mj_model.specs.declared.matrix_sizes.MatrixSizes.{MatrixSizes}
 use Rattle.mj_model.specs.Lexicon.{Row, row_of}
 use Rattle.lex_source.specs.Lexicons.{AreLexiconRows}
 use Rattle.image_bytes.specs.declared.header.Header.{Header}
-use Rattle.image_bytes.specs.declared.header.TheConstants.{LAYOUT}
+use Rattle.image_bytes.specs.declared.layout.TheConstants.{LAYOUT}
 use Rattle.image_writer.specs.Frames.{IsFramed}
 use Rattle.image_writer.specs.StoredTables.{AreUnknownOf}
 use Rattle.image_writer.proofs.PartLemmas.{sections_with}

@@ -1,10 +1,19 @@
-use Rattle.std.proofs.Common.{subst}
-use Rattle.dict_image.specs.Held.{IsImage}
+use Rattle.std.proofs.Common.{◌∙◌}
+use Rattle.image_bytes.specs.ImageBytes.{header_of, section}
+use Rattle.image_bytes.specs.Layouts.{key_form}
 use Rattle.dict_image.proofs.FormedLemmas.{cells_are}
+use Rattle.dict_image.proofs.KeyTableLemmas.{hits_of_cells, hits_of_list}
 use Rattle.dict_image.proofs.dict.Dict.hits.Goals as goal
 
 pub prefixes-requires : goal.prefixes-requires
-prefixes-requires c = cells_are c.args.self.now (subst IsImage c.self.view_is c.self.invariant.formed)
+prefixes-requires c = cells_are c.args.self.now c.in-Cells.ensures.formed c.in-Cells.ensures.table
 
-pub returns-clause-formed : goal.returns-clause-formed
-returns-clause-formed c = subst IsImage c.self.view_is c.self.invariant.formed
+pub returns-in-Listed-clause-hits : goal.returns-in-Listed-clause-hits
+returns-in-Listed-clause-hits c =
+    let h = header_of c.args.self.now in
+    c.hits.ensures.hits ∙ hits_of_list (key_form h.layout) h.groups (section c.args.self.now 5) c.args.text.now c.in-Listed.keys c.in-Listed.ensures.table.0 c.in-Listed.ensures.table.1
+
+pub returns-in-Cells-clause-hits : goal.returns-in-Cells-clause-hits
+returns-in-Cells-clause-hits c =
+    let h = header_of c.args.self.now in
+    c.prefixes.ensures.hits ∙ hits_of_cells (key_form h.layout) h.groups (section c.args.self.now 5) c.args.text.now c.in-Cells.ensures.table

@@ -1,0 +1,11 @@
+-- The keys of a dictionary, to look one up.
+use Rattle.std.specs.Prelude.{◌≡◌, ℕ, List}
+use Rattle.image_bytes.specs.declared.layout.KeyForm.{KeyForm}
+use Rattle.image_bytes.specs.declared.layout.KeyForm.TheVariants as key
+use Rattle.dict_image.specs.declared.keys.KeyTable.{KeyTable}
+use Rattle.dict_image.specs.declared.keys.KeyTable.TheVariants as table
+
+-- they are those of a section of this form
+abbrev pub IsTableOf : KeyForm → ℕ → List ℕ → KeyTable → Type 0
+IsTableOf form groups bytes (table.Listed list) = (form ≡ key.Listed) × (list ≡ record { bytes = bytes; count = groups })
+IsTableOf form groups bytes table.Cells = form ≡ key.Cells

@@ -1,0 +1,108 @@
+//! Listed keys, looked up in the image's own bytes.
+ghost use Rattle.std.specs.Prelude.{◌≡◌, ◌^◌, ◌<◌, ◌≤◌, length};
+ghost use Rattle.image_bytes.specs.OlderSections.{BeginWithKey, front_key, listed_key, listed_number};
+ghost use Rattle.dict_image.specs.KeyPlaces.{AreStarts, IsFirstNotBelow};
+ghost use Rattle.dict_image.specs.ListedHits.{IsBegun};
+
+use image_bytes::u16_at;
+use std::marker::Model;
+
+/// Keys in rising byte order, each behind its length in 2 bytes, and the places where these lengths stand.
+#[derive(Drop)]
+pub(crate) struct ListedKeys<'a> {
+    bytes: &'a [u8],
+    starts: &'a [usize],
+}
+
+impl<'a> Model for ListedKeys<'a> {
+    ghost use Rattle.std.specs.Prelude.{◌≤◌, ◌^◌, length};
+    ghost use Rattle.dict_image.specs.KeyPlaces.{AreStarts, KeyList};
+
+    ghost Value = { KeyList };
+
+    ghost view = { λ list. record { bytes = list.bytes.now; count = length list.starts.now } };
+
+    ghost invariant = { λ list. AreStarts (length list.starts.now) list.bytes.now list.starts.now
+        × (length list.starts.now ≤ 2 ^ 32) };
+}
+
+impl<'a> ListedKeys<'a> {
+    pub(crate) fn new(bytes: &'a [u8], starts: &'a [usize]) -> ListedKeys<'a>
+        requires starts { AreStarts (length starts.now) bytes.now starts.now }
+        requires few { length starts.now ≤ 2 ^ 32 }
+        ensures { result ≡ record { bytes = bytes.now; count = length starts.now } }
+    {
+        ListedKeys { bytes, starts }
+    }
+
+    /// Key `i`.
+    pub(crate) fn key(&self, i: usize) -> &'a [u8]
+        requires { i < self.now.count }
+        ensures { result.now ≡ listed_key self.now.bytes i }
+    {
+        key_in_front(&self.bytes[self.starts[i]..])
+    }
+
+    /// The number of the first key that does not stand below a text, by a binary search.
+    pub(crate) fn first_not_below(&self, text: &[u8]) -> usize
+        ensures { IsFirstNotBelow self.now text.now result }
+    {
+        let mut low = 0;
+        let mut high = self.starts.len();
+        while low < high {
+            let middle = low + (high - low) / 2;
+            if self.key(middle).cmp(text).is_lt() {
+                low = middle + 1;
+            } else {
+                high = middle;
+            }
+        }
+        low
+    }
+
+    /// Whether bytes are a key, or may begin one.
+    pub(crate) fn look_for(&self, front: &[u8]) -> Begun
+        ensures { IsBegun self.now front.now result }
+    {
+        let at = self.first_not_below(front);
+        if at == self.starts.len() || !self.key(at).starts_with(front) {
+            return Begun::Nothing;
+        }
+        if self.key(at).len() == front.len() {
+            Begun::Key(at as u32)
+        } else {
+            Begun::Longer
+        }
+    }
+
+    /// The number of a key.
+    pub(crate) fn number_of(&self, key: &[u8]) -> Option<u32>
+        ensures { result ≡ listed_number self.now.count self.now.bytes key.now }
+    {
+        let at = self.first_not_below(key);
+        if at < self.starts.len() && self.key(at) == key {
+            Some(at as u32)
+        } else {
+            None
+        }
+    }
+}
+
+/// What listed keys say of some bytes.
+pub(crate) enum Begun {
+    /// They are the key of this number.
+    Key(u32),
+    /// They are no key. Longer keys may begin with them.
+    Longer,
+    /// No key begins with them.
+    Nothing,
+}
+
+/// The key that stands in front, behind its length.
+fn key_in_front(bytes: &[u8]) -> &[u8]
+    requires { BeginWithKey bytes.now }
+    ensures { result.now ≡ front_key bytes.now }
+{
+    let length = u16_at(bytes, 0) as usize;
+    &bytes[2..2 + length]
+}

@@ -1,0 +1,296 @@
+//! A second reader of user images, slow and simple, to compare the loader with.
+//!
+//! It makes the tests of the format in their order, each from the whole bytes. Of system images it knows the header and section 1
+//! alone: a user image whose kind is changed has no costs, so that it goes no further.
+use mj_model::ImageFault::{
+    self, BadKey, BadLayout, BadMagic, BadSection, BadText, BadToken, Truncated,
+};
+use std::alloc::{AllocError, Global};
+use std::str::from_utf8;
+
+/// The first fault of a user image of layout 1 or 2, and None of a well-formed one. Of the digest of layout 3 it knows nothing.
+pub(crate) fn first_fault(alloc: Global, bytes: &[u8]) -> Result<Option<ImageFault>, AllocError> {
+    let found = frame_fault(bytes)
+        .or_else(|| header_fault(bytes))
+        .or_else(|| system_fault(bytes));
+    if found.is_some() {
+        return Ok(found);
+    }
+    let keys = if number_at(bytes, 8, 4) == 1 {
+        listed_fault(bytes)
+    } else {
+        cells_fault(alloc, bytes)?
+    };
+    Ok(
+        keys.or_else(|| groups_fault(bytes))
+            .or_else(|| tokens_fault(bytes)),
+    )
+}
+
+/// The little-endian number in so many bytes from a place on.
+fn number_at(bytes: &[u8], at: usize, size: usize) -> u64 {
+    let mut number = 0_u64;
+    let mut weight = 1_u64;
+    for byte in bytes.iter().skip(at).take(size) {
+        number = number.wrapping_add(weight.wrapping_mul(u64::from(*byte)));
+        weight = weight.wrapping_mul(256);
+    }
+    number
+}
+
+/// The number in 4 bytes.
+fn u32_at(bytes: &[u8], at: usize) -> u32 {
+    u32::try_from(number_at(bytes, at, 4)).unwrap_or(u32::MAX)
+}
+
+/// The number with a sign in 4 bytes.
+fn signed_at(bytes: &[u8], at: usize) -> i64 {
+    let number = i64::from(u32_at(bytes, at));
+    if number < 1 << 31 {
+        number
+    } else {
+        number.wrapping_sub(1 << 32)
+    }
+}
+
+/// Where the header and the first so many sections end.
+fn end_of(bytes: &[u8], sections: usize) -> Option<u64> {
+    let mut end = 104_u64;
+    for at in [40, 48, 56, 64, 72, 80, 88, 96].iter().take(sections) {
+        end = end.checked_add(number_at(bytes, *at, 8))?;
+    }
+    Some(end)
+}
+
+/// The bytes of section k, none where they lie outside.
+fn section(bytes: &[u8], k: usize) -> &[u8] {
+    let start = end_of(bytes, k.saturating_sub(1)).unwrap_or(0);
+    let end = end_of(bytes, k).unwrap_or(0);
+    bytes.get(start as usize..end as usize).unwrap_or(b"")
+}
+
+/// The length of the header, the magic, the layout and the length of all.
+pub(crate) fn frame_fault(bytes: &[u8]) -> Option<ImageFault> {
+    if bytes.len() < 104 {
+        return Some(Truncated);
+    }
+    if !bytes.starts_with(b"\x4d\x4a\x44\x49\x43\x54\x0d\x0a") {
+        return Some(BadMagic);
+    }
+    let layout = u32_at(bytes, 8);
+    if layout < 1 || layout > 3 {
+        return Some(BadLayout(layout));
+    }
+    let digest = if layout == 3 { 32 } else { 0 };
+    let total = end_of(bytes, 8).and_then(|end| end.checked_add(digest));
+    let length = bytes.len() as u64;
+    match total {
+        Some(total) if total == length => None,
+        Some(total) if total < length => Some(BadSection(9)),
+        _ => Some(Truncated),
+    }
+}
+
+/// The numbers of the header.
+fn header_fault(bytes: &[u8]) -> Option<ImageFault> {
+    let kind = number_at(bytes, 12, 4);
+    let right = number_at(bytes, 16, 4);
+    let left = number_at(bytes, 20, 4);
+    let categories = number_at(bytes, 24, 4);
+    let groups = number_at(bytes, 28, 4);
+    let tokens = number_at(bytes, 32, 4);
+    let unknown = number_at(bytes, 36, 4);
+    let sizes = 1 <= right
+        && right <= 65_535
+        && 1 <= left
+        && left <= 65_535
+        && right.wrapping_mul(left) <= 1 << 30;
+    let counts = match kind {
+        0 => 1 <= categories && categories <= 18,
+        1 => categories == 0 && unknown == 0,
+        _ => false,
+    };
+    let few = groups <= tokens && tokens <= 1 << 28 && unknown <= 1 << 28;
+    if sizes && counts && few {
+        None
+    } else {
+        Some(BadSection(0))
+    }
+}
+
+/// Sections 1 to 4, which a user image leaves empty. A system image has costs.
+fn system_fault(bytes: &[u8]) -> Option<ImageFault> {
+    let pairs = number_at(bytes, 16, 4).wrapping_mul(number_at(bytes, 20, 4));
+    let costs = if number_at(bytes, 12, 4) == 0 {
+        pairs.wrapping_mul(2)
+    } else {
+        0
+    };
+    if number_at(bytes, 40, 8) != costs {
+        return Some(BadSection(1));
+    }
+    for (at, k) in [(48, 2), (56, 3), (64, 4)] {
+        if number_at(bytes, at, 8) != 0 {
+            return Some(BadSection(k));
+        }
+    }
+    None
+}
+
+/// Section 5 of layout 1: each key, and then the section's end.
+fn listed_fault(bytes: &[u8]) -> Option<ImageFault> {
+    let mut rest = section(bytes, 5);
+    let mut before = b"".as_slice();
+    for group in 0..u32_at(bytes, 28) {
+        let end = (number_at(rest, 0, 2) as usize).saturating_add(2);
+        let key = rest.get(2..end).unwrap_or(b"");
+        if from_utf8(key).is_err() || !before.cmp(key).is_lt() {
+            return Some(BadKey(group));
+        }
+        before = key;
+        rest = rest.get(end..).unwrap_or(b"");
+    }
+    if rest.is_empty() {
+        None
+    } else {
+        Some(BadSection(5))
+    }
+}
+
+/// Base and check of a cell of layout 2, none of a number that is no cell's.
+fn cell(cells: &[u8], number: i64) -> Option<(i64, i64)> {
+    let at = usize::try_from(number).ok()?.checked_mul(8)?;
+    if at >= cells.len() {
+        return None;
+    }
+    Some((signed_at(cells, at), signed_at(cells, at.saturating_add(4))))
+}
+
+/// Whether a cell behind the root is free or a child of its check, with a value below the number of groups.
+fn is_cell(cells: &[u8], groups: i64, number: i64) -> bool {
+    let Some((base, check)) = cell(cells, number) else {
+        return false;
+    };
+    if (base, check) == (0, -1) {
+        return true;
+    }
+    let Some((parent, _)) = cell(cells, check) else {
+        return false;
+    };
+    let code = number.wrapping_sub(parent);
+    match code {
+        0 => parent >= 1 && base < 0 && base.wrapping_neg() <= groups,
+        1..=256 => parent >= 1 && base >= 1,
+        _ => false,
+    }
+}
+
+/// How many cells hold a value, and one of them.
+fn value_cells(cells: &[u8], value: i64) -> (usize, i64) {
+    let mut count = 0_usize;
+    let mut place = 0;
+    for number in 1..(cells.len() / 8) as i64 {
+        if cell(cells, number).map(|found| found.0) == Some((-1_i64).wrapping_sub(value)) {
+            count = count.saturating_add(1);
+            place = number;
+        }
+    }
+    (count, place)
+}
+
+/// Whether the root and all other cells are allowed.
+fn are_cells(cells: &[u8], groups: i64) -> bool {
+    let root = cell(cells, 0);
+    let has_root = root.is_some_and(|(base, check)| base >= 0 && check == -2);
+    has_root
+        && cells.len() % 8 == 0
+        && cells.len() / 8 <= 1 << 30
+        && (1..(cells.len() / 8) as i64).all(|number| is_cell(cells, groups, number))
+}
+
+/// The key of the value in a cell, its last byte first. None where the checks don't lead to the root.
+fn key_back(alloc: Global, cells: &[u8], place: i64) -> Result<Option<Vec<u8>>, AllocError> {
+    let mut key = Vec::new(alloc);
+    let mut state = cell(cells, place).map_or(-1, |found| found.1);
+    for _ in 0..cells.len() {
+        if state == 0 {
+            return Ok(Some(key));
+        }
+        let check = cell(cells, state).map_or(-1, |found| found.1);
+        let base = cell(cells, check).map_or(0, |found| found.0);
+        let byte = state.wrapping_sub(base).wrapping_sub(1);
+        key.push(u8::try_from(byte).unwrap_or(0xff))?;
+        state = check;
+    }
+    Ok(None)
+}
+
+/// Whether the value in a cell has a key: some bytes of UTF-8, but not too many.
+fn has_key(alloc: Global, cells: &[u8], place: i64) -> Result<bool, AllocError> {
+    let Some(mut key) = key_back(alloc, cells, place)? else {
+        return Ok(false);
+    };
+    key.reverse();
+    Ok(!key.is_empty() && key.len() <= 65_535 && from_utf8(&key).is_ok())
+}
+
+/// Section 5 of layout 2: the cells, each value in one of them, and then the keys.
+fn cells_fault(alloc: Global, bytes: &[u8]) -> Result<Option<ImageFault>, AllocError> {
+    let cells = section(bytes, 5);
+    let groups = u32_at(bytes, 28);
+    let stands_once = |value: u32| value_cells(cells, i64::from(value)).0 == 1;
+    if !are_cells(cells, i64::from(groups)) || !(0..groups).all(stands_once) {
+        return Ok(Some(BadSection(5)));
+    }
+    for value in 0..groups {
+        if !has_key(alloc, cells, value_cells(cells, i64::from(value)).1)? {
+            return Ok(Some(BadKey(value)));
+        }
+    }
+    Ok(None)
+}
+
+/// Section 6: it rises from 0 to the number of tokens.
+fn groups_fault(bytes: &[u8]) -> Option<ImageFault> {
+    let index = section(bytes, 6);
+    let groups = u32_at(bytes, 28) as usize;
+    let at = |i: usize| number_at(index, i.saturating_mul(4), 4);
+    let fills = index.len() == groups.saturating_add(1).saturating_mul(4);
+    let rises = (0..groups).all(|i| at(i) < at(i.saturating_add(1)));
+    if fills && rises && at(0) == 0 && at(groups) == number_at(bytes, 32, 4) {
+        None
+    } else {
+        Some(BadSection(6))
+    }
+}
+
+/// Sections 7 and 8: the tokens, and then their features.
+fn tokens_fault(bytes: &[u8]) -> Option<ImageFault> {
+    let tokens = section(bytes, 7);
+    let count = u32_at(bytes, 32).saturating_add(u32_at(bytes, 36));
+    if tokens.len() != (count as usize).saturating_mul(16) {
+        return Some(BadSection(7));
+    }
+    if let Some(token) = (0..count).find(|token| !fits_sizes(bytes, *token)) {
+        return Some(BadToken(token));
+    }
+    if let Some(token) = (0..count).find(|token| !has_feature(bytes, *token)) {
+        return Some(BadText(token));
+    }
+    None
+}
+
+/// Whether the ids of a token lie below the sizes, and its spare bytes are 0.
+fn fits_sizes(bytes: &[u8], token: u32) -> bool {
+    let at = (token as usize).saturating_mul(16);
+    let id = |by: usize| number_at(section(bytes, 7), at.saturating_add(by), 2);
+    id(0) < number_at(bytes, 20, 4) && id(2) < number_at(bytes, 16, 4) && id(6) == 0
+}
+
+/// Whether the feature of a token lies in section 8, and is UTF-8.
+fn has_feature(bytes: &[u8], token: u32) -> bool {
+    let at = (token as usize).saturating_mul(16);
+    let number = |by: usize| u32_at(section(bytes, 7), at.saturating_add(by)) as usize;
+    let feature = section(bytes, 8).get(number(8)..number(8).saturating_add(number(12)));
+    feature.is_some_and(|text| from_utf8(text).is_ok())
+}

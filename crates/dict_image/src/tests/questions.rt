@@ -1,0 +1,81 @@
+//! Questions to dictionaries.
+use crate::{Dict, EntryRef};
+use mj_model::CharInfo;
+
+/// An entry: its number, left id, right id, cost and feature.
+pub(crate) type Expected = (u32, u16, u16, i16, &'static str);
+
+/// Whether these are the entries of a key, and there are no others.
+pub(crate) fn are_entries(dict: &Dict, key: &str, expected: &[Expected]) -> bool {
+    let mut entries = dict.entries(key);
+    for (token, left, right, cost, feature) in expected {
+        let entry = EntryRef {
+            left: *left,
+            right: *right,
+            cost: *cost,
+            feature,
+            token: *token,
+        };
+        if entries.next() != Some(entry) {
+            return false;
+        }
+    }
+    entries.next().is_none()
+}
+
+/// Whether these are the lengths of the keys that begin a text, each key with a first entry of this number, and there are no others.
+/// At most this many cells are read for them.
+pub(crate) fn are_prefixes(dict: &Dict, text: &str, expected: &[(usize, u32)], reads: u64) -> bool {
+    let mut prefixes = dict.prefixes(text);
+    for (length, token) in expected {
+        let Some((found, mut entries)) = prefixes.next() else {
+            return false;
+        };
+        if found != *length || entries.next().map(|entry| entry.token) != Some(*token) {
+            return false;
+        }
+    }
+    prefixes.next().is_none() && prefixes.reads() <= reads
+}
+
+/// Whether a dictionary answers all that can be asked of it, and reads no cell of listed keys, and few of others.
+pub(crate) fn answers_within(dict: &Dict, is_listed: bool) -> bool {
+    ["", "a", "ab", "も", "ももa", "\0"].iter().all(|text| reads_few(dict, text, is_listed)
+        && has_few_entries(dict, text))
+        && dict.known_token(0).is_some()
+        && dict.known_token(1).is_none()
+        && dict.unknown_token(0).is_none()
+}
+
+/// Whether a key has at most one entry.
+fn has_few_entries(dict: &Dict, key: &str) -> bool {
+    let mut entries = dict.entries(key);
+    entries.next();
+    entries.next().is_none()
+}
+
+/// Whether few cells are read for the keys that begin a text: two for each byte and one at most, and none of listed keys.
+fn reads_few(dict: &Dict, text: &str, is_listed: bool) -> bool {
+    let most = if is_listed {
+        0
+    } else {
+        text.len().saturating_mul(2).saturating_add(1)
+    };
+    let mut prefixes = dict.prefixes(text);
+    let mut last = 0;
+    for (length, mut entries) in prefixes.by_ref() {
+        if length <= last || length > text.len() || entries.next().is_none() {
+            return false;
+        }
+        last = length;
+    }
+    prefixes.reads() <= most as u64
+}
+
+/// The categories of a character, which a user dictionary does not tell.
+pub(crate) fn info_of(dict: &Dict, c: char) -> Option<CharInfo> {
+    if dict.is_user() {
+        return None;
+    }
+    Some(dict.info(c))
+}

@@ -1,0 +1,70 @@
+-- What sections 3 and 5 of older layouts say.
+use Rattle.std.specs.Prelude.{◌≡◌, ℕ, zero, suc, ◌+◌, ◌*◌, ◌<◌, ◌≤◌, if◌then◌else◌, nat_lt, find, List, drop, length, slice_range, bytes_eq, IsUtf8, Option}
+use Rattle.std.specs.Cmp.Lexicographic.{slice_cmp}
+use Rattle.std.specs.List.{range_with_len}
+use Rattle.std.specs.declared.cmp.Ordering.TheVariants.{Less}
+use Rattle.std.specs.Ordering.{nat_cmp}
+use Rattle.mj_model.specs.CharDef.{IsInfoOf}
+use Rattle.mj_model.specs.declared.category.CharInfo.{CharInfo}
+use Rattle.image_bytes.specs.declared.layout.TheConstants.{OWN_ENTRIES}
+use Rattle.image_bytes.specs.ImageBytes.{number_at}
+use Rattle.image_bytes.specs.ImageSections.{info_of_entry}
+
+-- ---- section 3 of layouts 1 and 2
+
+-- how many code points have an entry of their own: those up to U+FFFE
+abbrev pub own_entries : ℕ
+own_entries = OWN_ENTRIES
+
+-- the code points from U+FFFF on have the entry of U+0000
+abbrev pub entry_number : ℕ → ℕ
+entry_number code = if nat_lt code own_entries then code else 0
+
+abbrev pub entry_at : List ℕ → ℕ → CharInfo
+entry_at entries i = info_of_entry (number_at 4 entries (4 * i))
+
+-- the categories of a code point
+abbrev pub listed_info : List ℕ → ℕ → CharInfo
+listed_info entries code = entry_at entries (entry_number code)
+
+-- an entry of 4 bytes for each of those code points, of categories below a number
+pub record AreEntries (categories : ℕ) (entries : List ℕ) : Type 0 where
+  pub fill : length entries ≡ 4 * own_entries
+  pub infos : (i : ℕ) → i < own_entries → IsInfoOf categories (entry_at entries i)
+
+-- ---- section 5 of layout 1: the surfaces in rising byte order, each behind its length in 2 bytes
+
+abbrev pub front_length : List ℕ → ℕ
+front_length keys = number_at 2 keys 0
+
+-- the key at the front of the bytes, and what stands behind it
+abbrev pub front_key : List ℕ → List ℕ
+front_key keys = slice_range keys 2 (2 + front_length keys)
+
+abbrev pub behind_key : List ℕ → List ℕ
+behind_key keys = drop (2 + front_length keys) keys
+
+-- the bytes from key i on
+abbrev pub keys_from : ℕ → List ℕ → List ℕ
+keys_from zero keys = keys
+keys_from (suc i) keys = behind_key (keys_from i keys)
+
+-- key i
+abbrev pub listed_key : List ℕ → ℕ → List ℕ
+listed_key keys i = front_key (keys_from i keys)
+
+-- a key with its length begins the bytes; it has at least 1 byte, and is UTF-8
+pub record BeginWithKey (keys : List ℕ) : Type 0 where
+  pub length_within : 2 ≤ length keys
+  pub within : 2 + front_length keys ≤ length keys
+  pub some : 1 ≤ front_length keys
+  pub is_text : IsUtf8 (front_key keys)
+
+-- key i lies in the section, and stands above the one before it
+pub record IsListedKey (keys : List ℕ) (i : ℕ) : Type 0 where
+  pub here : BeginWithKey (keys_from i keys)
+  pub above : (j : ℕ) → i ≡ suc j → slice_cmp nat_cmp (listed_key keys j) (listed_key keys i) ≡ Less
+
+-- the number of a key among the first so many
+abbrev pub listed_number : ℕ → List ℕ → List ℕ → Option ℕ
+listed_number groups keys key = find (λ i. bytes_eq (listed_key keys i) key) (range_with_len 0 groups)
