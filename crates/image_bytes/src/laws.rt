@@ -5,7 +5,7 @@ ghost use Rattle.image_bytes.specs.declared.header.TheConstants as image;
 ghost use Rattle.image_bytes.specs.declared.layout.TheConstants as layout;
 ghost use Rattle.image_bytes.specs.ImageFaults.{ImagesHaveOneFault};
 
-/// Well-formed image bytes have no fault, and all others exactly one first fault.
+/// Well-formed image bytes have no fault, no bytes have two first faults, and bytes that are not well formed cannot be without one.
 pub fn one_image_fault()
     ensures { ImagesHaveOneFault }
 {}
