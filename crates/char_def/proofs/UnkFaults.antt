@@ -13,10 +13,9 @@ use Rattle.mj_model.specs.Dictionary.{first_outside}
 use Rattle.mj_model.specs.FirstFault.{IsRefusal}
 use Rattle.mj_model.specs.Lists.{StandsIn}
 use Rattle.mj_model.specs.Lexicon.{Row, Accepted, Refused, row_from, Reading, ReadsAs}
-use Rattle.mj_model.specs.UnkDef.{accept_defined, unk_outcome, rows_named, rows_by_category, first_without_rows, unknown_from, IsUnkDef, rows_or, unless_outside, unknown_within, IsUnkWithin}
+use Rattle.mj_model.specs.UnkDef.{accept_defined, unk_outcome, rows_named, rows_by_category, first_without_rows, unknown_from, IsUnkDef, rows_or, unless_outside, IsUnkWithin}
 use Rattle.mj_model.proofs.AcceptedRows.{IsRowOf, OnRow, OnAccepted, row_is, LinesRise, AreReadRows, rows_read}
 use Rattle.mj_model.proofs.Members.{in_map, map_in, in_filter, filter_in, in_flat_map, flat_map_in, each_holds, none_stands, holds_in}
-use Rattle.mj_model.proofs.ReadingLemmas.{readings_are_one}
 use Rattle.char_def.specs.Outside.{is_outside, lines_outside, all_lines_outside, IsLeast}
 use Rattle.char_def.proofs.AcceptedChars.{number_within}
 
@@ -182,10 +181,5 @@ none_told sizes categories bytes unknown h none =
     let here = ap (all_lines_outside sizes) (sym r.rows_are) ∙ none in
     let empty = none_stands (lines_outside sizes rows) (λ n i. subst (λ (ns : List ℕ). StandsIn ns n) here (to_categories sizes categories rows n u.each i)) in
     (Ok r.reading, r.reads, sym (ap (unless_outside sizes rows) (sym r.none_missing) ∙ ap (λ (o : Option SourceFault). rows_or o unknown) (none_is sizes rows empty)))
-
--- an `unk.def` is read in one way
-pub unk_is_one : (sizes : MatrixSizes) (categories : List NamedCategory) (bytes : List ℕ) (unknown other : Result (List (List Row)) SourceFault) → IsUnkWithin sizes categories bytes unknown → IsUnkWithin sizes categories bytes other → other ≡ unknown
-unk_is_one sizes categories bytes unknown other h k =
-    k.2 ∙ ap (unknown_within sizes categories) (readings_are_one (unk_outcome categories) 2 0 bytes h.0 k.0 h.1 k.1) ∙ sym h.2
 
 -- ---- an accepted file has no line outside

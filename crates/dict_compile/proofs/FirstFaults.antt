@@ -11,9 +11,9 @@ use Rattle.mj_model.specs.Dictionary.{IsLexiconOf}
 use Rattle.mj_model.specs.FirstFault.{IsRefusal}
 use Rattle.image_bytes.specs.ImageMeaning.{image_tables}
 use Rattle.mj_model.specs.Lexicon.{Row}
-use Rattle.mj_model.specs.SourceTables.{HaveTables, SayTheSame, lexicon_bytes, system_tables}
+use Rattle.mj_model.specs.SourceTables.{HaveTables, SayOneThing, SayTheSame, lexicon_bytes, system_tables}
 use Rattle.mj_model.specs.Tables.{Tables, Lexeme}
-use Rattle.char_def.proofs.UnkFaults.{unk_is_one}
+use Rattle.mj_model.proofs.UnkReading.{unk_is_one}
 use Rattle.dict_compile.specs.Answers.{IsToldFor}
 use Rattle.dict_compile.proofs.CompilationLemmas.{same_tokens, same_trans}
 use Rattle.dict_compile.proofs.OrderLemmas.{one_lexicon}
@@ -36,7 +36,7 @@ equal_parts : (c d : Connection) (a b : CharSource) (u v : List (List Row)) (x y
 equal_parts c d a b u v x y e f g h = λ i. system_tables (e i) (f i) (g i) (h i)
 
 -- two records of tables that the sources have say the same
-pub tables_are_one : (s : Sources) (t u : Tables) → HaveTables s t → HaveTables s u → SayTheSame t u
+pub tables_are_one : SayOneThing
 tables_are_one s t u h k =
     let c : k.connection ≡ h.connection = one_value _ k.is_connection h.is_connection in
     let a : k.chars ≡ h.chars = one_value _ k.are_chars h.are_chars in

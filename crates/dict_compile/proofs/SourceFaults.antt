@@ -13,7 +13,7 @@ use Rattle.mj_model.specs.SourceTables.{HaveTables, IsSourcesFault, lexicon_byte
 use Rattle.mj_model.specs.Tables.{Tables}
 use Rattle.mj_model.specs.UnkDef.{IsUnkWithin}
 use Rattle.mj_model.proofs.ReadingLemmas.{readings_are_one}
-use Rattle.char_def.proofs.UnkFaults.{unk_is_one}
+use Rattle.mj_model.proofs.UnkReading.{unk_is_one}
 
 -- ---- one answer of a reader
 

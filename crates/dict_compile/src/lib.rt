@@ -4,6 +4,7 @@
 mod compilation;
 mod compiled;
 mod fault;
+pub mod laws;
 mod lexicons;
 mod parts;
 mod system_image;

@@ -42,6 +42,18 @@ more_fields line (field ∷ next ∷ more) (f ∷ fs) rest are front few =
     let p = some_rest line field f are.0 front.0 are.1 front.1 in
     more_fields front.0 (next ∷ more) fs rest (subst (λ n. AreFields n (next ∷ more)) p.1 are.2) front.2 (omega (arith, few))
 
+-- all fields of a line are the same
+pub fields_are_one : (line : List ℕ) (fs gs : List (List ℕ)) → AreFields line fs → AreFields line gs → gs ≡ fs
+fields_are_one line [] gs h k = absurd h
+fields_are_one line (f ∷ fs) [] h k = absurd k
+fields_are_one line (f ∷ []) (g ∷ []) h k = ap (λ (x : List ℕ). x ∷ []) (one_first line g f None None k h).0
+fields_are_one line (f ∷ []) (g ∷ next ∷ more) h k = absurd (no_rest line f g k.0 h k.1)
+fields_are_one line (f ∷ next ∷ more) (g ∷ []) h k = absurd (no_rest line g f h.0 k h.1)
+fields_are_one line (f ∷ next ∷ more) (g ∷ other ∷ others) h k =
+    let p = some_rest line f g h.0 k.0 h.1 k.1 in
+    let q = fields_are_one h.0 (next ∷ more) (other ∷ others) h.2 (subst (λ n. AreFields n (other ∷ others)) (sym p.1) k.2) in
+    λ i. sym p.0 i ∷ q i
+
 -- ---- the outcome of a line
 
 abbrev four : Parts → List (List ℕ)

@@ -65,6 +65,10 @@ pub record HaveTables (s : Sources) (t : Tables) : Type 0 where
   pub is_lexicon : IsLexiconOf rows lexicon
   pub tables : SayTheSame t (system_tables connection chars unknown lexicon)
 
+-- sources say one thing: all tables that they say, say the same
+abbrev pub SayOneThing : Type 0
+SayOneThing = (s : Sources) (t u : Tables) → HaveTables s t → HaveTables s u → SayTheSame t u
+
 abbrev pub IsMatrixFault : Sources → SourceFault → Type 0
 IsMatrixFault s fault = connection_of s.matrix.now ≡ Err fault
 

@@ -77,3 +77,9 @@ tokens_from number (rows ∷ unknown) = map token_of (enumerate_from number rows
 -- the unknown entries of a category, in a dictionary with this many entries of a lexicon; their numbers follow those of the lexicon
 abbrev pub unknown_tokens : ℕ → List (List Row) → ℕ → List Token
 unknown_tokens entries unknown i = slice_index_or (tokens_from entries unknown) i []
+
+-- each `unk.def` has exactly one reading, whatever the sizes and the categories
+abbrev pub HasOneUnkDef : Type 0
+HasOneUnkDef = (sizes : MatrixSizes) (categories : List NamedCategory) (bytes : List ℕ)
+    → (unknown : Result (List (List Row)) SourceFault) × IsUnkWithin sizes categories bytes unknown
+    × ((other : Result (List (List Row)) SourceFault) → IsUnkWithin sizes categories bytes other → other ≡ unknown)

@@ -3,6 +3,7 @@
 ghost use Rattle.std.specs.Prelude.{◌≡◌, ◌^◌, ◌-◌};
 ghost use Rattle.mj_model.specs.Fields.{HasOneFirstField};
 ghost use Rattle.mj_model.specs.Lexicon.{HasOneReading};
+ghost use Rattle.mj_model.specs.UnkDef.{HasOneUnkDef};
 ghost use Rattle.mj_model.specs.declared.limits.TheConstants as limits;
 ghost use Rattle.mj_model.specs.declared.source_fault.TheConstants as files;
 
@@ -14,6 +15,11 @@ pub fn field_split_is_unique()
 /// Each lexicon has exactly one reading.
 pub fn one_reading()
     ensures { HasOneReading }
+{}
+
+/// Each `unk.def` has exactly one reading, whatever the sizes of the matrix and the categories.
+pub fn one_unk_reading()
+    ensures { HasOneUnkDef }
 {}
 
 /// The limits, as numbers: a definition that names one means this number.

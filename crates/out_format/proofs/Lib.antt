@@ -6,4 +6,5 @@ pub mod NamedFormats
 pub mod ShownLemmas
 pub mod FollowLemmas
 pub mod OneFormat
+pub mod OneText
 pub mod AFormat

@@ -108,3 +108,8 @@ pub record ShowsPath (o : Overlay) (f : Format) (line : List ℕ) (path : List W
   pub of_words : ShowsWords o f line 0 (pos 0) path words
   pub behind : ShowsPieces (λ i text. text ≡ line_item line (cost_over o path) i) f.eos eos
   pub is : shown ≡ bos ++ (words ++ eos)
+
+-- each path of a line shows exactly one text in a format
+abbrev pub HasOneText : Type 0
+HasOneText = (o : Overlay) (f : Format) (line : List ℕ) (path : List Word) → (shown : List ℕ) × ShowsPath o f line path shown
+    × ((other : List ℕ) → ShowsPath o f line path other → other ≡ shown)
