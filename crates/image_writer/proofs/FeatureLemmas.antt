@@ -3,13 +3,15 @@ use Rattle.std.proofs.Common.{◌≡◌, ℕ, ◌+◌, ◌≤◌, Bool, true, fa
 use Rattle.std.specs.Prelude.{bytes_eq, sum_by}
 use Rattle.std.specs.List.{concat, list_any, enumerate_from}
 use Rattle.std.proofs.lemmas.List.Concat.{concat_is, length-flat_map}
-use Rattle.std.specs.HashMap.{HashMap, get_by, UpdatesBy, IsUnchanged}
+use Rattle.std.specs.BTreeMap.{IsUnchanged, UpdatesBy, is_at}
+use Rattle.std.specs.Cmp.Lexicographic.{slice_cmp}
+use Rattle.std.specs.Ordering.{nat_cmp}
 use Rattle.std.specs.Map.{lookup}
 use Rattle.std.proofs.lemmas.List.{append-nil, length-append, map-append}
 use Rattle.std.proofs.lemmas.List.Elements.{filter-append}
 use Rattle.std.proofs.lemmas.List.Folds.{list_any-append}
 use Rattle.std.proofs.lemmas.List.Sums.{sum_by_push}
-use Rattle.std.proofs.lemmas.Map.Text.{hash_map_updates_str}
+use Rattle.std.proofs.lemmas.Map.Text.{btree_map_updates_str}
 use Rattle.std.proofs.lemmas.Slice.Eq.{bytes_eq-Decides}
 use denote.Ref.{Bor}
 use Rattle.std.proofs.lemmas.Cmp.{nat_list_eq_equiv}
@@ -20,7 +22,7 @@ use Rattle.mj_model.specs.Tables.{Token}
 use Rattle.mj_model.specs.UnkDef.{token_of}
 use Rattle.image_writer.specs.declared.features.FeatureStore.{FeatureStore}
 use Rattle.image_writer.specs.Entries.{tokens_of}
-use Rattle.image_writer.specs.Places.{ArePlacesWithin}
+use Rattle.image_writer.specs.Places.{ArePlacesWithin, Places, place_in}
 use Rattle.image_writer.specs.Sections.{HoldsTexts, HoldsOneMore, IsAdded, StandsAt, features_of, IsTooLarge}
 use Rattle.image_bytes.proofs.NumberLemmas.{range_kept, range_behind}
 
@@ -100,7 +102,7 @@ or_same false false h = refl
 -- ---- the store
 
 pub text_there : (texts : List (List ℕ)) (text : List ℕ) (store : FeatureStore) (place : ℕ) → HoldsTexts texts store
-    → get_by (λ key. bytes_eq text key.now) store.places ≡ Some place → HoldsOneMore texts text store store place
+    → place_in store.places text ≡ Some place → HoldsOneMore texts text store store place
 text_there texts text store place holds found =
     let there : list_any (bytes_eq text) texts ≡ true = sym (holds.known text) ∙ ap is_some found in
     record {
@@ -136,7 +138,7 @@ place_cases : (b : Bool) (n : ℕ) (o : Option ℕ) (p : ℕ) → cond b (Some n
 place_cases true n o p h = inl (refl, same_Some n p h)
 place_cases false n o p h = inr h
 
-pub text_added : (texts : List (List ℕ)) (text : List ℕ) (old new : FeatureStore) → HoldsTexts texts old → get_by (λ key. bytes_eq text key.now) old.places ≡ None
+pub text_added : (texts : List (List ℕ)) (text : List ℕ) (old new : FeatureStore) → HoldsTexts texts old → place_in old.places text ≡ None
     → IsAdded text old new → HoldsOneMore texts text old new (length old.bytes.items)
 text_added texts text old new holds none added =
     let absent : list_any (bytes_eq text) texts ≡ false = sym (holds.known text) ∙ ap is_some none in
@@ -144,11 +146,11 @@ text_added texts text old new holds none added =
       holds = record {
         bytes = added.bytes ∙ ap (λ (bytes : List ℕ). bytes ++ text) holds.bytes ∙ concat_more (each_once texts) text
             ∙ ap concat (sym (each_once_more texts text ∙ ap (once_with (each_once texts) text) absent));
-        known = λ q. ap is_some (added.places q ∙ ap (λ (b : Bool). cond b (Some (length old.bytes.items)) (get_by (λ key. bytes_eq q key.now) old.places)) (bytes_eq_turned text q))
-            ∙ or_cond (list_any (bytes_eq q) texts) (bytes_eq q text) (get_by (λ key. bytes_eq q key.now) old.places) (length old.bytes.items) (holds.known q)
+        known = λ q. ap is_some (added.places q ∙ ap (λ (b : Bool). cond b (Some (length old.bytes.items)) (place_in old.places q)) (bytes_eq_turned text q))
+            ∙ or_cond (list_any (bytes_eq q) texts) (bytes_eq q text) (place_in old.places q) (length old.bytes.items) (holds.known q)
             ∙ sym (any_more q text texts);
         places = λ q place at. subst (λ (bytes : List ℕ). StandsAt bytes q place) (sym added.bytes)
-            (elim (place_cases (bytes_eq text q) (length old.bytes.items) (get_by (λ key. bytes_eq q key.now) old.places) place (sym (added.places q) ∙ at)) [
+            (elim (place_cases (bytes_eq text q) (length old.bytes.items) (place_in old.places q) place (sym (added.places q) ∙ at)) [
               | inl new_one ↦
                   subst (λ (t : List ℕ). StandsAt (old.bytes.items ++ text) t place) ((bytes_eq-Decides text q).0 new_one.0)
                   (subst (StandsAt (old.bytes.items ++ text) text) new_one.1 (stands_behind old.bytes.items text))
@@ -161,7 +163,7 @@ text_added texts text old new holds none added =
     }
 
 -- where a new text finds no room, the texts are too large
-pub no_room : (texts : List (List ℕ)) (text : List ℕ) (store : FeatureStore) → HoldsTexts texts store → get_by (λ key. bytes_eq text key.now) store.places ≡ None
+pub no_room : (texts : List (List ℕ)) (text : List ℕ) (store : FeatureStore) → HoldsTexts texts store → place_in store.places text ≡ None
     → feature_bytes_end ≤ length store.bytes.items + length text → feature_bytes_end ≤ sum_by length (each_once (texts ++ text ∷ []))
 no_room texts text store holds none full =
     let absent : list_any (bytes_eq text) texts ≡ false = sym (holds.known text) ∙ ap is_some none in
@@ -192,23 +194,23 @@ still_too_large rows more large =
 -- ---- the map of places
 
 -- the place of a text after an insertion
-pub place_after : {S : Type 0} (text : Bor (List ℕ)) (old new : HashMap (Bor (List ℕ)) ℕ S) (place at : ℕ) → place ≡ at → UpdatesBy (λ x y. bytes_eq x.now y.now) (λ key. bytes_eq text.now key.now) old new (Some place)
-    → (q : List ℕ) → get_by (λ key. bytes_eq q key.now) new ≡ cond (bytes_eq text.now q) (Some at) (get_by (λ key. bytes_eq q key.now) old)
+pub place_after : (text : Bor (List ℕ)) (old new : Places) (place at : ℕ) → place ≡ at → UpdatesBy (λ x y. slice_cmp nat_cmp x.now y.now) (λ key. slice_cmp nat_cmp text.now key.now) old new (Some place)
+    → (q : List ℕ) → place_in new q ≡ cond (bytes_eq text.now q) (Some at) (place_in old q)
 place_after text old new place at same updates q =
-    hash_map_updates_str text.now old new (Some place) updates q ∙ ap (λ (n : ℕ). cond (bytes_eq text.now q) (Some n) (get_by (λ key. bytes_eq q key.now) old)) same
+    btree_map_updates_str text.now old new (Some place) updates q ∙ ap (λ (n : ℕ). cond (bytes_eq text.now q) (Some n) (place_in old q)) same
 
-pub within_after : {S : Type 0} (bytes text : List ℕ) (old new : HashMap (Bor (List ℕ)) ℕ S) → ArePlacesWithin bytes old
-    → ((q : List ℕ) → get_by (λ key. bytes_eq q key.now) new ≡ cond (bytes_eq text q) (Some (length bytes)) (get_by (λ key. bytes_eq q key.now) old))
+pub within_after : (bytes text : List ℕ) (old new : Places) → ArePlacesWithin bytes old
+    → ((q : List ℕ) → place_in new q ≡ cond (bytes_eq text q) (Some (length bytes)) (place_in old q))
     → ArePlacesWithin (bytes ++ text) new
 within_after bytes text old new within after q place at =
     let long = length-append bytes text in
-    elim (place_cases (bytes_eq text q) (length bytes) (get_by (λ key. bytes_eq q key.now) old) place (sym (after q) ∙ at)) [
+    elim (place_cases (bytes_eq text q) (length bytes) (place_in old q) place (sym (after q) ∙ at)) [
       | inl new_one ↦ let same : length text ≡ length q = ap length ((bytes_eq-Decides text q).0 new_one.0) in let p = new_one.1 in omega (arith, long, same, p)
       | inr old_one ↦ let w = within q place old_one in omega (arith, long, w)
     ]
 
-pub still_within : {S : Type 0} (bytes more : List ℕ) (old new : HashMap (Bor (List ℕ)) ℕ S) → ArePlacesWithin bytes old → IsUnchanged old new → ArePlacesWithin (bytes ++ more) new
+pub still_within : (bytes more : List ℕ) (old new : Places) → ArePlacesWithin bytes old → IsUnchanged old new → ArePlacesWithin (bytes ++ more) new
 still_within bytes more old new within unchanged q place at =
     let long = length-append bytes more in
-    let w = within q place (ap (lookup (λ key. bytes_eq q key.now)) (sym unchanged) ∙ at) in
+    let w = within q place (ap (lookup (is_at (λ key. slice_cmp nat_cmp q key.now))) (sym unchanged) ∙ at) in
     omega (arith, long, w)

@@ -1,7 +1,6 @@
 -- What the sections of a lexicon hold.
 use Rattle.std.specs.Prelude.{◌≡◌, ℕ, ◌+◌, ◌*◌, ◌<◌, ◌≤◌, List, [], ◌∷◌, ◌++◌, length, map, bytes_eq, cond, slice_get, slice_range, Some, is_some}
 use Rattle.std.specs.List.{concat, list_any}
-use Rattle.std.specs.HashMap.{get_by}
 use Rattle.image_bytes.specs.declared.layout.KeyForm.TheVariants.{Cells}
 use Rattle.image_bytes.specs.ImageBounds.{each_once, feature_bytes, feature_bytes_end}
 use Rattle.image_bytes.specs.ImageFaults.{HasKey}
@@ -14,6 +13,7 @@ use Rattle.image_writer.specs.declared.keys.KeyBytes.{KeyBytes}
 use Rattle.image_writer.specs.declared.lexicon.LexiconBytes.{LexiconBytes}
 use Rattle.image_writer.specs.declared.tokens.TokenWriter.{TokenWriter}
 use Rattle.image_writer.specs.Groups.{AreUnderKeys}
+use Rattle.image_writer.specs.Places.{place_in}
 use Rattle.image_writer.specs.Entries.{all_rows, lexemes_of, tokens_of}
 
 abbrev pub sections_of : LexiconBytes → LexiconSections
@@ -70,8 +70,8 @@ pub record StandsAt (bytes text : List ℕ) (place : ℕ) : Type 0 where
 -- the store has each of the texts once, in the order of their first uses, and knows their places
 pub record HoldsTexts (texts : List (List ℕ)) (store : FeatureStore) : Type 0 where
   pub bytes : store.bytes.items ≡ concat (each_once texts)
-  pub known : (text : List ℕ) → is_some (get_by (λ key. bytes_eq text key.now) store.places) ≡ list_any (bytes_eq text) texts
-  pub places : (text : List ℕ) (place : ℕ) → get_by (λ key. bytes_eq text key.now) store.places ≡ Some place → StandsAt store.bytes.items text place
+  pub known : (text : List ℕ) → is_some (place_in store.places text) ≡ list_any (bytes_eq text) texts
+  pub places : (text : List ℕ) (place : ℕ) → place_in store.places text ≡ Some place → StandsAt store.bytes.items text place
 
 -- a store has one more text, at this place, and keeps the bytes before
 pub record HoldsOneMore (texts : List (List ℕ)) (text : List ℕ) (old new : FeatureStore) (place : ℕ) : Type 0 where
@@ -83,7 +83,7 @@ pub record HoldsOneMore (texts : List (List ℕ)) (text : List ℕ) (old new : F
 -- a store after a new text
 pub record IsAdded (text : List ℕ) (old new : FeatureStore) : Type 0 where
   pub bytes : new.bytes.items ≡ old.bytes.items ++ text
-  pub places : (q : List ℕ) → get_by (λ key. bytes_eq q key.now) new.places ≡ cond (bytes_eq text q) (Some (length old.bytes.items)) (get_by (λ key. bytes_eq q key.now) old.places)
+  pub places : (q : List ℕ) → place_in new.places q ≡ cond (bytes_eq text q) (Some (length old.bytes.items)) (place_in old.places q)
 
 -- the tokens of these rows are written
 pub record AreWritten (rows : List Row) (writer : TokenWriter) : Type 0 where

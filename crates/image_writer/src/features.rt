@@ -1,23 +1,22 @@
 //! The features of a lexicon, each once.
-ghost use Rattle.std.specs.Prelude.{◌≡◌, ◌≢◌, ◌<◌, ◌+◌, None, bytes_eq, ℕ, ◌++◌, ◌∷◌, [], List, length, IfOk, IfErr, OnOk};
-ghost use Rattle.std.specs.HashMap.{get_by};
+ghost use Rattle.std.specs.Prelude.{◌≡◌, ◌≢◌, ◌<◌, ◌+◌, None, ℕ, ◌++◌, ◌∷◌, [], List, length, IfOk, IfErr, OnOk};
 ghost use Rattle.std.proofs.Props.{props};
 ghost use Rattle.image_bytes.specs.ImageBounds.{feature_bytes_end};
-ghost use Rattle.image_writer.specs.Places.{ArePlacesWithin};
+ghost use Rattle.image_writer.specs.Places.{ArePlacesWithin, place_in};
 ghost use Rattle.image_writer.specs.declared.fault.LexiconFault.TheVariants.{ArrayFull, FeaturesTooLarge};
 
 use crate::fault::LexiconFault;
 use image_bytes::FEATURE_BYTES_END;
-use indexmap::IndexMap;
 use std::alloc::Global;
+use std::collections::BTreeMap;
 
 /// Features, each once, in the order of their first uses.
 #[derive(Drop)]
 pub(crate) struct FeatureStore<'a> {
     /// The features, one behind another.
     pub bytes: Vec<u8>,
-    /// Where each feature begins.
-    pub places: IndexMap<&'a str, u32>,
+    /// Where each feature begins. A tree, since no features can be chosen that make it slow.
+    pub places: BTreeMap<&'a str, u32>,
     ghost few: { length bytes.items < feature_bytes_end },
     ghost within: { ArePlacesWithin bytes.items places } by { Prim.hlevel props },
 }
@@ -32,7 +31,7 @@ impl<'a> FeatureStore<'a> {
     {
         FeatureStore {
             bytes: Vec::new(alloc),
-            places: IndexMap::new(alloc),
+            places: BTreeMap::new(alloc),
         }
     }
 
@@ -53,7 +52,7 @@ impl<'a> FeatureStore<'a> {
 
     /// Adds a feature at the end.
     fn add(&mut self, feature: &'a str) -> Result<u32, LexiconFault>
-        requires { get_by (λ key. bytes_eq feature.now key.now) self.old.places ≡ None }
+        requires { place_in self.old.places feature.now ≡ None }
         ensures short { OnOk result (length feature.now < feature_bytes_end) }
         ensures added { OnOk result (IsAdded feature.now self.old self.new) }
         ensures place { IfOk result (λ place. place ≡ length self.old.bytes.items) }
