@@ -1,21 +1,22 @@
 //! The dictionaries that words are looked up in.
 
-ghost use Rattle.std.specs.Prelude.{◌≡◌, ◌+◌, ◌<◌, ◌≤◌, ◌^◌, ◌++◌, [], length, map, take, drop, vec_len, chars, IsTrue, IsOk, IfOk, OnOk, OnErr, IfErr, Some, None, slice_index_or};
+ghost use Rattle.std.specs.Prelude.{◌≡◌, ◌+◌, ◌<◌, ◌≤◌, ◌++◌, [], map, take, drop, vec_len, chars, IsTrue, IsOk, IfOk, OnOk, OnErr, IfErr, Some, None, slice_index_or};
 ghost use Rattle.paths.specs.Blanks.{skip};
 ghost use Rattle.mj_model.specs.Connection.{is_pair};
 ghost use Rattle.image_bytes.specs.ImageMeaning.{image_tables};
-ghost use Rattle.paths.specs.KnownWords.{known_from};
 ghost use Rattle.mj_model.specs.Printed.{feature_of};
 ghost use Rattle.mj_model.specs.Tables.{lexicons};
-ghost use Rattle.paths.specs.Words.{is_place, unknown, words, words_from};
+ghost use Rattle.paths.specs.Words.{is_place, words, words_from};
 ghost use Rattle.word_lookup.specs.Fitting.{IsOverlay};
 ghost use Rattle.word_lookup.specs.Props.{IsOverlay-prop};
+ghost use Rattle.word_lookup.specs.WordsHere.{all_known_here, unknown_here};
 
 use crate::known::append_known;
 use crate::overlay::check_users;
 use crate::run::run_up_to;
 use crate::spans::spans_from;
 use crate::unknown_entries::UnknownEntries;
+use crate::word_start::WordStart;
 use dict_image::{Dict, EntryRef};
 use mj_model::{CharInfo, GROUPING_DEFAULT, Origin, OverlayFault, Word};
 use std::alloc::{AllocError, Global};
@@ -120,50 +121,44 @@ impl<'a> Dictionaries<'a> {
         ensures kept { take (vec_len out.old) out.new.items ≡ out.old.items }
     {
         let count = out.len();
-        let rest = behind(text, start);
-        self.append_known(rest, place, start, out)?;
+        let at = WordStart {
+            place,
+            start,
+            rest: behind(text, start),
+        };
+        self.append_known(at, out)?;
         let none_known = out.len() == count;
-        self.append_unknown(rest, place, start, none_known, out)
+        self.append_unknown(at, none_known, out)
     }
 
-    /// Appends the known words of a place of which this is the rest of the text: those of the system, then those of each user.
-    fn append_known(
-        &self,
-        rest: &str,
-        place: usize,
-        start: usize,
-        out: &mut Vec<Word>,
-    ) -> Result<(), AllocError>
-        requires { start + length rest.now < 2 ^ 64 }
-        ensures appended { OnOk result (out.new.items
-            ≡ out.old.items ++ known_from place start rest.now 0 (lexicons (overlay_of self.now))) }
+    /// Appends the known words that begin here: those of the system, then those of each user.
+    fn append_known(&self, at: WordStart<'_>, out: &mut Vec<Word>) -> Result<(), AllocError>
+        ensures appended { OnOk result (out.new.items ≡ out.old.items
+            ++ all_known_here at.entry (overlay_of self.now)) }
         ensures kept { take (vec_len out.old) out.new.items ≡ out.old.items }
     {
-        append_known(self.system, 0, rest, place, start, out)?;
+        append_known(self.system, 0, at, out)?;
         for (i, user) in self.users.iter().enumerate() {
-            append_known(user, i + 1, rest, place, start, out)?;
+            append_known(user, i + 1, at, out)?;
         }
         Ok(())
     }
 
-    /// Appends the unknown words of a place of which this is the rest of the text.
+    /// Appends the unknown words that begin here.
     fn append_unknown(
         &self,
-        rest: &str,
-        place: usize,
-        start: usize,
+        at: WordStart<'_>,
         none_known: bool,
         out: &mut Vec<Word>,
     ) -> Result<(), AllocError>
-        requires { start + length rest.now < 2 ^ 64 }
-        ensures appended { OnOk result (out.new.items
-            ≡ out.old.items ++ unknown (overlay_of self.now) none_known place start (chars rest.now)) }
+        ensures appended { OnOk result (out.new.items ≡ out.old.items
+            ++ unknown_here at.entry (overlay_of self.now) none_known) }
         ensures kept { take (vec_len out.old) out.new.items ≡ out.old.items }
     {
-        let Some(first) = rest.chars().next() else {
+        let Some(first) = at.rest.chars().next() else {
             return Ok(());
         };
-        let following = behind(rest, first.len_utf8());
+        let following = behind(at.rest, first.len_utf8());
         let info = self.system.info(first);
         let spans = spans_from(
             self.system,
@@ -177,7 +172,7 @@ impl<'a> Dictionaries<'a> {
             system: self.system,
             category: usize::from(info.first()),
         };
-        entries.append_spans(spans, rest, place, start, out)
+        entries.append_spans(spans, at, out)
     }
 
     /// The feature of a word's entry; empty where no entry of these dictionaries has its number.

@@ -4,6 +4,7 @@ ghost use Rattle.std.specs.Prelude.{◌≡◌, ◌++◌, map, take, vec_len, OnO
 ghost use Rattle.dict_image.specs.Seen.{token_seen};
 ghost use Rattle.word_lookup.specs.EntryWords.{entry_word, origin_in};
 
+use crate::word_start::WordStart;
 use dict_image::{Entries, EntryRef};
 use mj_model::{Origin, Word};
 use std::alloc::AllocError;
@@ -29,32 +30,31 @@ impl EntryList {
     }
 }
 
-/// Appends the words of entries, whose surfaces stand from `start` to `end`. On `Err` some may stand behind what was there before.
+/// Appends the words of entries, whose surfaces begin here and end at `end`. On `Err` some may stand behind what was there before.
 pub fn append_entries(
     entries: Entries<'_>,
     list: EntryList,
-    place: usize,
-    start: usize,
+    at: WordStart<'_>,
     end: usize,
     out: &mut Vec<Word>,
 ) -> Result<(), AllocError>
     ensures appended { OnOk result (out.new.items
-        ≡ out.old.items ++ map (entry_word list place start end) entries.entry) }
+        ≡ out.old.items ++ map (entry_word list at.entry.place at.entry.start end) entries.entry) }
     ensures kept { take (vec_len out.old) out.new.items ≡ out.old.items }
 {
     for entry in entries {
-        out.push(word_of(entry, list, place, start, end))?;
+        out.push(word_of(entry, list, at, end))?;
     }
     Ok(())
 }
 
 /// The word of an entry.
-fn word_of(entry: EntryRef<'_>, list: EntryList, place: usize, start: usize, end: usize) -> Word
-    ensures { result ≡ entry_word list place start end (token_seen entry.entry) }
+fn word_of(entry: EntryRef<'_>, list: EntryList, at: WordStart<'_>, end: usize) -> Word
+    ensures { result ≡ entry_word list at.entry.place at.entry.start end (token_seen entry.entry) }
 {
     Word {
-        place,
-        start,
+        place: at.place,
+        start: at.start,
         end,
         left: entry.left,
         right: entry.right,

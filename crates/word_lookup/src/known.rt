@@ -1,32 +1,30 @@
 //! Known words.
 
-ghost use Rattle.std.specs.Prelude.{◌≡◌, ◌+◌, ◌<◌, ◌^◌, ◌++◌, length, take, vec_len, OnOk};
+ghost use Rattle.std.specs.Prelude.{◌≡◌, ◌++◌, take, vec_len, OnOk};
 ghost use Rattle.image_bytes.specs.ImageMeaning.{image_tables};
-ghost use Rattle.paths.specs.KnownWords.{known_in};
+ghost use Rattle.word_lookup.specs.WordsHere.{known_here};
 
 use crate::entry_words::{EntryList, append_entries};
+use crate::word_start::WordStart;
 use dict_image::Dict;
 use mj_model::Word;
 use std::alloc::AllocError;
 
-/// Appends the words of a dictionary whose surfaces begin `rest`, which stands at `start`; shorter ones first. On `Err` some may
-/// stand behind what was there before.
+/// Appends the words of a dictionary whose surfaces begin here; shorter ones first. On `Err` some may stand behind what was there
+/// before.
 pub fn append_known(
     dict: &Dict,
     number: usize,
-    rest: &str,
-    place: usize,
-    start: usize,
+    at: WordStart<'_>,
     out: &mut Vec<Word>,
 ) -> Result<(), AllocError>
-    requires { start + length rest.now < 2 ^ 64 }
-    ensures appended { OnOk result (out.new.items
-        ≡ out.old.items ++ known_in place start rest.now number (image_tables dict.now).lexicon) }
+    ensures appended { OnOk result (out.new.items ≡ out.old.items
+        ++ known_here at.entry number (image_tables dict.now).lexicon) }
     ensures kept { take (vec_len out.old) out.new.items ≡ out.old.items }
 {
     let list = EntryList::Lexicon(number);
-    for (length, entries) in dict.prefixes(rest) {
-        append_entries(entries, list, place, start, start + length, out)?;
+    for (length, entries) in dict.prefixes(at.rest) {
+        append_entries(entries, list, at, at.start + length, out)?;
     }
     Ok(())
 }

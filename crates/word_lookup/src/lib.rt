@@ -8,6 +8,7 @@ mod overlay;
 mod run;
 mod spans;
 mod unknown_entries;
+mod word_start;
 
 pub use dictionaries::Dictionaries;
 pub use mj_model::{Origin, Word};

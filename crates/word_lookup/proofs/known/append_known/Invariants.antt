@@ -11,6 +11,6 @@ abbrev pub invariant-loop-length : goal.invariant-loop-length
 invariant-loop-length l = record {
   can : (goal.iterator-loop-length).can_next l.length-iterator;
   finite : (goal.iterator-loop-length).is_finite l.length-iterator;
-  appended : AreAppended l.fn.out.items l.out.items (flat_map (prefix_words l.number l.place l.start) (prefixes_in l.rest (image_tables l.dict).lexicon)) (flat_map (prefix_words l.number l.place l.start) l.length-iterator.prefixes);
-  within : AllByRecursion (IsWithin (length l.rest)) l.length-iterator.prefixes;
+  appended : AreAppended l.fn.out.items l.out.items (flat_map (prefix_words l.number l.at.place l.at.start) (prefixes_in l.at.rest.now (image_tables l.dict).lexicon)) (flat_map (prefix_words l.number l.at.place l.at.start) l.length-iterator.prefixes);
+  within : AllByRecursion (IsWithin (length l.at.rest.now)) l.length-iterator.prefixes;
 }

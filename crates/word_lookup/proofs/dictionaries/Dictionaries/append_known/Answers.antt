@@ -16,7 +16,7 @@ pub loop-i-preserved : goal.loop-i-preserved
 unfolding overlay_of
 loop-i-preserved c =
     more_appended _ _ _ _ _ _ _ c.loop-i.invariant
-    (users_left c.args.place c.args.start c.args.rest.now image_tables c.args.self.now.users.now c.loop-i.i c.user-item.result (search rules) c.user-item.is) c.in_ok-append_known-2.ensures.appended
+    (users_left c.args.at.place c.args.at.start c.args.at.rest.now image_tables c.args.self.now.users.now c.loop-i.i c.user-item.result (search rules) c.user-item.is) c.in_ok-append_known-2.ensures.appended
 
 pub returns-in_err-append_known-2-clause-kept : goal.returns-in_err-append_known-2-clause-kept
 unfolding overlay_of
@@ -27,4 +27,4 @@ pub returns-clause-appended : goal.returns-clause-appended
 unfolding overlay_of
 returns-clause-appended c =
     let users = c.args.self.now.users.now in
-    all_appended _ _ _ _ c.loop-i.invariant (ap (λ (us : _). known_from c.args.place c.args.start c.args.rest.now (c.loop-i.i + 1) (lexicons_of (map image_tables us))) (drop_all c.loop-i.i users (omega arith)))
+    all_appended _ _ _ _ c.loop-i.invariant (ap (λ (us : _). known_from c.args.at.place c.args.at.start c.args.at.rest.now (c.loop-i.i + 1) (lexicons_of (map image_tables us))) (drop_all c.loop-i.i users (omega arith)))

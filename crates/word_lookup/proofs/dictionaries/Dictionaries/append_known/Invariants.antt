@@ -9,5 +9,5 @@ use Rattle.word_lookup.proofs.dictionaries.Dictionaries.append_known.Given as go
 -- the words of the system and of the users so far were appended
 abbrev pub invariant-loop-i : goal.invariant-loop-i
 invariant-loop-i l =
-    AreAppended l.fn.out.items l.out.items (known_from l.place l.start l.rest 0 (lexicons (overlay_of l.self)))
-    (known_from l.place l.start l.rest (l.i + 1) (lexicons_of (map image_tables (drop l.i l.self.users.now))))
+    AreAppended l.fn.out.items l.out.items (known_from l.at.place l.at.start l.at.rest.now 0 (lexicons (overlay_of l.self)))
+    (known_from l.at.place l.at.start l.at.rest.now (l.i + 1) (lexicons_of (map image_tables (drop l.i l.self.users.now))))

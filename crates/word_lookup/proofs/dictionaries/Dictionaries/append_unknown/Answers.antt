@@ -9,19 +9,19 @@ use Rattle.word_lookup.proofs.dictionaries.Dictionaries.append_unknown.Goals as 
 
 pub behind-following-requires : goal.behind-following-requires
 unfolding overlay_of
-behind-following-requires c = (first_taken c.args.rest.now _ _ c.in-Some.first c.len_utf8.result c.utf8.rest c.chars.ensures.rest c.in-Some.ensures.steps.0 c.len_utf8.ensures.value).place
+behind-following-requires c = (first_taken c.args.at.rest.now _ _ c.in-Some.first c.len_utf8.result c.args.at.is_text c.chars.ensures.rest c.in-Some.ensures.steps.0 c.len_utf8.ensures.value).place
 
 pub append_spans-requires-clause-bytes : goal.append_spans-requires-clause-bytes
 unfolding overlay_of
 append_spans-requires-clause-bytes c =
-    let f = first_taken c.args.rest.now _ _ c.in-Some.first c.len_utf8.result c.utf8.rest c.chars.ensures.rest c.in-Some.ensures.steps.0 c.len_utf8.ensures.value in
+    let f = first_taken c.args.at.rest.now _ _ c.in-Some.first c.len_utf8.result c.args.at.is_text c.chars.ensures.rest c.in-Some.ensures.steps.0 c.len_utf8.ensures.value in
     let e = ap (λ (xs : List ℕ). c.in-Some.first ∷ chars xs) c.behind-following.ensures ∙ sym f.split in
     subst (λ (cs : List ℕ). IfSome c.spans_from-spans.result.grouped (HasBytes cs)) e c.spans_from-spans.ensures.bytes
 
 pub append_spans-requires-clause-within : goal.append_spans-requires-clause-within
 unfolding overlay_of
 append_spans-requires-clause-within c =
-    let f = first_taken c.args.rest.now _ _ c.in-Some.first c.len_utf8.result c.utf8.rest c.chars.ensures.rest c.in-Some.ensures.steps.0 c.len_utf8.ensures.value in
+    let f = first_taken c.args.at.rest.now _ _ c.in-Some.first c.len_utf8.result c.args.at.is_text c.chars.ensures.rest c.in-Some.ensures.steps.0 c.len_utf8.ensures.value in
     let e = ap (λ (xs : List ℕ). length (c.in-Some.first ∷ chars xs)) c.behind-following.ensures in
     let g = ap length f.split in
     omega (arith, e, g, c.spans_from-spans.ensures.within)
@@ -30,11 +30,11 @@ pub returns-clause-appended : goal.returns-clause-appended
 unfolding overlay_of
 returns-clause-appended c =
     let o = overlay_of c.args.self.now in
-    let f = first_taken c.args.rest.now _ _ c.in-Some.first c.len_utf8.result c.utf8.rest c.chars.ensures.rest c.in-Some.ensures.steps.0 c.len_utf8.ensures.value in
-    let e : chars c.args.rest.now ≡ c.in-Some.first ∷ chars c.behind-following.result.now = f.split ∙ ap (λ (xs : List ℕ). c.in-Some.first ∷ chars xs) (sym c.behind-following.ensures) in
+    let f = first_taken c.args.at.rest.now _ _ c.in-Some.first c.len_utf8.result c.args.at.is_text c.chars.ensures.rest c.in-Some.ensures.steps.0 c.len_utf8.ensures.value in
+    let e : chars c.args.at.rest.now ≡ c.in-Some.first ∷ chars c.behind-following.result.now = f.split ∙ ap (λ (xs : List ℕ). c.in-Some.first ∷ chars xs) (sym c.behind-following.ensures) in
     let head : c.from.result ≡ (o.system.info c.in-Some.first).head = search rules in
     let P : List Word → Type 0 = λ ws. OnOk c.append_spans.result (c.append_spans.new.out.items ≡ c.args.out.now.items ++ ws) in
-    let are = unknown_are o c.args.none_known c.args.place c.args.start c.in-Some.first c.from.result (chars c.args.rest.now) (chars c.behind-following.result.now) _ _ e head refl c.spans_from-spans.ensures.spans in
+    let are = unknown_are o c.args.none_known c.args.at.place c.args.at.start c.in-Some.first c.from.result (chars c.args.at.rest.now) (chars c.behind-following.result.now) _ _ e head refl c.spans_from-spans.ensures.spans in
     subst P are c.append_spans.ensures.appended
 
 pub spans_from-spans-requires-clause-system : goal.spans_from-spans-requires-clause-system
@@ -44,7 +44,7 @@ spans_from-spans-requires-clause-system c = is_system c.args.self.now
 pub returns-in_default-clause-appended : goal.returns-in_default-clause-appended
 unfolding overlay_of
 returns-in_default-clause-appended c =
-    none_there (overlay_of c.args.self.now) c.args.none_known c.args.place c.args.start c.args.rest.now _ c.args.out.now.items c.utf8.rest c.chars.ensures.rest c.in_default.ensures.steps.0.0
+    none_there (overlay_of c.args.self.now) c.args.none_known c.args.at.place c.args.at.start c.args.at.rest.now _ c.args.out.now.items c.args.at.is_text c.chars.ensures.rest c.in_default.ensures.steps.0.0
 
 pub info-info-requires : goal.info-info-requires
 unfolding overlay_of

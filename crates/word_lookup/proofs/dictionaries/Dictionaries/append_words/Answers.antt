@@ -9,9 +9,9 @@ use Rattle.word_lookup.proofs.AppendLemmas.{front_kept}
 use Rattle.word_lookup.proofs.PlaceLemmas.{skip_within, place_behind_blanks, known_then_unknown}
 use Rattle.word_lookup.proofs.dictionaries.Dictionaries.append_words.Goals as goal
 
-pub behind-rest-requires : goal.behind-rest-requires
+pub behind-requires : goal.behind-requires
 unfolding overlay_of
-behind-rest-requires c =
+behind-requires c =
     let o = overlay_of c.args.self.now in
     let w = skip_within o c.args.text.now c.args.place c.requires.there in
     place_behind_blanks o c.args.text.now c.args.place c.args.start c.requires.there c.requires.behind_blanks (omega (arith, w, c.requires.behind_blanks))
@@ -22,11 +22,11 @@ returns-clause-appended c =
     let o = overlay_of c.args.self.now in
     let text = c.args.text.now in
     let P : List Word → Type 0 = λ ws. OnOk c.append_unknown.result (c.append_unknown.new.out.items ≡ ws) in
-    let k : known o text c.args.place ≡ known_from c.args.place c.args.start c.behind-rest.result.now 0 (lexicons o) =
+    let k : known o text c.args.place ≡ known_from c.args.place c.args.start c.behind.result.now 0 (lexicons o) =
     ap (λ (s : ℕ). known_from c.args.place s (drop s text) 0 (lexicons o)) (sym c.requires.behind_blanks)
-    ∙ ap (λ (bytes : List ℕ). known_from c.args.place c.args.start bytes 0 (lexicons o)) (sym c.behind-rest.ensures) in
-    let all = known_then_unknown o c.args.place c.args.start c.behind-rest.result.now (chars_from text c.args.start) (known o text c.args.place) _ c.args.out.now.items c.append_known.new.out.items c.len.result c.len-count.result
-    k c.in_ok-append_known.ensures.appended (search rules) (search rules) (ap chars c.behind-rest.ensures) in
+    ∙ ap (λ (bytes : List ℕ). known_from c.args.place c.args.start bytes 0 (lexicons o)) (sym c.behind.ensures) in
+    let all = known_then_unknown o c.args.place c.args.start c.behind.result.now (chars_from text c.args.start) (known o text c.args.place) _ c.args.out.now.items c.append_known.new.out.items c.len.result c.len-count.result
+    k c.in_ok-append_known.ensures.appended (search rules) (search rules) (ap chars c.behind.ensures) in
     subst P all c.append_unknown.ensures.appended
 
 pub returns-clause-kept : goal.returns-clause-kept

@@ -14,28 +14,28 @@ use Rattle.word_lookup.proofs.unknown_entries.UnknownEntries.append_lengths.Goal
 
 pub overflow_add-end : goal.overflow_add-end
 overflow_add-end c =
-    let cs = chars c.args.rest.now in
-    let t = YieldsList-turn (YieldsList-from_take c.args.longest (YieldsList-from_chars c.args.rest.now c.utf8.rest cc) cc) c.loop-c.yielded _ c.loop-c.yielded_by _ _ c.in-Some.c c.in-Some.is c.next.ensures.steps in
+    let cs = chars c.args.at.rest.now in
+    let t = YieldsList-turn (YieldsList-from_take c.args.longest (YieldsList-from_chars c.args.at.rest.now c.args.at.is_text cc) cc) c.loop-c.yielded _ c.loop-c.yielded_by _ _ c.in-Some.c c.in-Some.is c.next.ensures.steps in
     let len = length-take c.args.longest cs in
-    let more = one_character_more cs c.args.start c.args.longest (length c.loop-c.yielded) c.in-Some.c c.loop-c.end t.0 (omega (arith, t.0, len)) c.requires.within t.1 c.loop-c.invariant.end_is in
-    let all = chars_within c.args.rest.now (length c.loop-c.yielded + 1) c.utf8.rest in
-    omega (arith, more, all, c.requires.fits, c.len_utf8-end.ensures.value)
+    let more = one_character_more cs c.args.at.start c.args.longest (length c.loop-c.yielded) c.in-Some.c c.loop-c.end t.0 (omega (arith, t.0, len)) c.requires.within t.1 c.loop-c.invariant.end_is in
+    let all = chars_within c.args.at.rest.now (length c.loop-c.yielded + 1) c.args.at.is_text in
+    omega (arith, more, all, c.args.at.fits, c.len_utf8-end.ensures.value)
 
 pub loop-c-preserved : goal.loop-c-preserved
 loop-c-preserved c =
-    let cs = chars c.args.rest.now in
+    let cs = chars c.args.at.rest.now in
     let ts = (image_tables c.args.self.system.now).unknown c.args.self.category in
-    let t = YieldsList-turn (YieldsList-from_take c.args.longest (YieldsList-from_chars c.args.rest.now c.utf8.rest cc) cc) c.loop-c.yielded _ c.loop-c.yielded_by _ _ c.in-Some.c c.in-Some.is c.next.ensures.steps in
+    let t = YieldsList-turn (YieldsList-from_take c.args.longest (YieldsList-from_chars c.args.at.rest.now c.args.at.is_text cc) cc) c.loop-c.yielded _ c.loop-c.yielded_by _ _ c.in-Some.c c.in-Some.is c.next.ensures.steps in
     let len = length-take c.args.longest cs in
     let n = length c.loop-c.yielded in
-    let more = one_character_more cs c.args.start c.args.longest n c.in-Some.c c.loop-c.end t.0 (omega (arith, t.0, len)) c.requires.within t.1 c.loop-c.invariant.end_is in
+    let more = one_character_more cs c.args.at.start c.args.longest n c.in-Some.c c.loop-c.end t.0 (omega (arith, t.0, len)) c.requires.within t.1 c.loop-c.invariant.end_is in
     let value = c.len_utf8-end.ensures.value in
     let long = length_push c.loop-c.yielded c.in-Some.c in
-    let at : c.loop-c.end + c.len_utf8-end.result ≡ c.args.start + bytes_of (n + 1) cs = omega (arith, more, value) in
+    let at : c.loop-c.end + c.len_utf8-end.result ≡ c.args.at.start + bytes_of (n + 1) cs = omega (arith, more, value) in
     record {
-      words = one_span_more c.args.place c.args.start cs ts n (c.loop-c.end + c.len_utf8-end.result) c.args.out.now.items _ _ at c.loop-c.invariant.words c.in_ok-append_words.ensures.appended
-          ∙ ap (λ (k : ℕ). c.args.out.now.items ++ words_of_spans c.args.place c.args.start cs ts (up_to k)) (sym long);
-      end_is = at ∙ ap (λ (k : ℕ). c.args.start + bytes_of k cs) (sym long);
+      words = one_span_more c.args.at.place c.args.at.start cs ts n (c.loop-c.end + c.len_utf8-end.result) c.args.out.now.items _ _ at c.loop-c.invariant.words c.in_ok-append_words.ensures.appended
+          ∙ ap (λ (k : ℕ). c.args.out.now.items ++ words_of_spans c.args.at.place c.args.at.start cs ts (up_to k)) (sym long);
+      end_is = at ∙ ap (λ (k : ℕ). c.args.at.start + bytes_of k cs) (sym long);
     }
 
 pub returns-in_err-append_words-clause-kept : goal.returns-in_err-append_words-clause-kept
@@ -44,9 +44,9 @@ returns-in_err-append_words-clause-kept c =
 
 pub returns-clause-appended : goal.returns-clause-appended
 returns-clause-appended c =
-    let cs = chars c.args.rest.now in
-    let t = YieldsList-end (YieldsList-from_take c.args.longest (YieldsList-from_chars c.args.rest.now c.utf8.rest cc) cc) c.loop-c.yielded _ c.loop-c.yielded_by _ _ c.in-None.is c.next.ensures.steps in
+    let cs = chars c.args.at.rest.now in
+    let t = YieldsList-end (YieldsList-from_take c.args.longest (YieldsList-from_chars c.args.at.rest.now c.args.at.is_text cc) cc) c.loop-c.yielded _ c.loop-c.yielded_by _ _ c.in-None.is c.next.ensures.steps in
     let len = length-take c.args.longest cs in
     let low = c.requires.within in
     let e : length c.loop-c.yielded ≡ c.args.longest = omega (arith, t.1, len, low) in
-    c.loop-c.invariant.words ∙ ap (λ (k : ℕ). c.args.out.now.items ++ words_of_spans c.args.place c.args.start cs ((image_tables c.args.self.system.now).unknown c.args.self.category) (up_to k)) e
+    c.loop-c.invariant.words ∙ ap (λ (k : ℕ). c.args.out.now.items ++ words_of_spans c.args.at.place c.args.at.start cs ((image_tables c.args.self.system.now).unknown c.args.self.category) (up_to k)) e

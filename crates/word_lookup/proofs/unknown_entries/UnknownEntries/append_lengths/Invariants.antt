@@ -9,6 +9,6 @@ use Rattle.word_lookup.proofs.unknown_entries.UnknownEntries.append_lengths.Give
 -- the words of the lengths so far were appended, and the last of them ends here
 abbrev pub invariant-loop-c : goal.invariant-loop-c
 invariant-loop-c l = record {
-  words : l.out.items ≡ l.initial.out.items ++ words_of_spans l.place l.start (chars l.rest) ((image_tables l.self.system.now).unknown l.self.category) (up_to (length l.yielded));
-  end_is : l.end ≡ l.start + bytes_of (length l.yielded) (chars l.rest);
+  words : l.out.items ≡ l.initial.out.items ++ words_of_spans l.at.place l.at.start (chars l.at.rest.now) ((image_tables l.self.system.now).unknown l.self.category) (up_to (length l.yielded));
+  end_is : l.end ≡ l.at.start + bytes_of (length l.yielded) (chars l.at.rest.now);
 }
