@@ -2,5 +2,6 @@
 
 mod chars;
 mod ranges;
+mod refused;
 mod samples;
 mod unk;

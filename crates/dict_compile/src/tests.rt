@@ -4,4 +4,5 @@ mod lexicons;
 mod refused;
 mod samples;
 mod sources;
+mod starved;
 mod user;

@@ -1,4 +1,6 @@
 //! Rows of lexicons, fields and numbers.
+mod refused;
+
 use crate::{
     FilledLines, SourceLexicon, Words, append_field, context_id, cost, field, lines, number,
     read_lexicon,

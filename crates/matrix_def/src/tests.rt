@@ -1,4 +1,6 @@
 //! Rows of connection costs.
+mod refused;
+
 use crate::read_matrix;
 use mj_model::MatrixSizes;
 use mj_model::SourceKind::{BadHeader, BadRow, PairOutside, TooLarge};
