@@ -2,8 +2,8 @@
 
 /// What an item of a format shows of a word and its line. (MeCab, format.html)
 ///
-/// `%ps`, `%pe` and `%t`, and that `%f` shows nothing where its field is missing or begins with `*`, are this project's own
-/// choice. Offsets and lengths are in bytes.
+/// A field that begins with `*` shows nothing, as MeCab has it; that a missing one shows nothing too, where MeCab's run ends, is this
+/// project's own choice. Offsets and lengths are in bytes.
 #[derive(Clone, Copy, Debug, PartialEq, Eq, Drop)]
 pub enum FormatItem {
     /// `%m`
