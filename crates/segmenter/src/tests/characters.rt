@@ -48,18 +48,17 @@ fn blanks(rt: HostRuntime) -> Result<(), Fail> {
 #[test]
 fn categories(rt: HostRuntime) -> Result<(), Fail> {
     let rows = [
-        // (what, a further line of char.def, character, set of categories, first category)
-        ("a letter", "", 'z', 4, 2),
-        ("a blank", "", ' ', 2, 1),
-        ("two categories", "0x30FC KATAKANA HIRAGANA\n", 'ー', 40, 3),
-        ("not mapped", "", '𠮷', 1, 0),
-        ("mapped", "0x20000..0x2A6DF KANJI\n", '𠮷', 16, 4),
+        // (what, a further line of char.def, character, (set of categories, first one))
+        ("a letter", "", 'z', (4, 2)),
+        ("a blank", "", ' ', (2, 1)),
+        ("two categories", "0x30FC KATAKANA HIRAGANA\n", 'ー', (40, 3)),
+        ("not mapped", "", '𠮷', (1, 0)),
+        ("mapped", "0x20000..0x2A6DF KANJI\n", '𠮷', (16, 4)),
     ];
-    for (what, line, c, bits, first) in rows {
+    for (what, line, c, categories) in rows {
         let system = system(rt.alloc(), line, sample().lexicons)?;
         let info = Dictionaries::new(&system, &[])?.info(c);
-        assert_eq!(rt; info.bits, bits, "{what}");
-        assert_eq!(rt; info.first(), first, "{what}");
+        assert_eq!(rt; (info.bits, info.first()), categories, "{what}");
     }
     Ok(())
 }

@@ -16,16 +16,32 @@ fn printed(alloc: Global, format: &Format, text: &str) -> Outcome {
     run_in(alloc, format, &sample(), &[], text.as_bytes())
 }
 
+/// The costs of each word.
+const COSTS: &str = "%m/%f[0]/%c/%pn/%pc\\s";
+
+const COSTS_OF_SUMOMO: &str = "すもも/名詞/100/110/110 もも/名詞/30/37/147 152\n";
+
+/// Where each word stands, with its blanks.
+const PLACES: &str = "%M|%ps|%pe|%pl|%pL|%pS;";
+
+const SPACED: &str = " すもも  もも \n";
+
+const PLACES_OF_SPACED: &str = " すもも|1|10|9|10| ;  もも|12|18|6|8|  ;19\n";
+
+const MARK: &str = "0x30FC KATAKANA HIRAGANA\n";
+
+const IDS: &str = "1,1,10;1,1,7;EOS\n";
+
 #[test]
 fn formats(rt: HostRuntime) -> Result<(), Fail> {
     let escapes = "\\0\\a\\b\\t\\n\\v\\f\\r\\s\\\\";
     #[rattlefmt::skip]
     let rows = [
         // (what, a line of char.def, node, unk, bos, eos, text, output)
-        ("cost_format", "", "%m/%f[0]/%c/%pn/%pc\\s", None, "", "%pc\\n", "すもももも\n", "すもも/名詞/100/110/110 もも/名詞/30/37/147 152\n"),
-        ("blanks_in_wakati", "", "%M|%ps|%pe|%pl|%pL|%pS;", None, "", "%L\\n", " すもも  もも \n", " すもも|1|10|9|10| ;  もも|12|18|6|8|  ;19\n"),
-        ("chain_over_prolonged_mark", "0x30FC KATAKANA HIRAGANA\n", "%m:%t:%pc", None, "", "\\n", "アーす", "アーす:3:1010\n"),
-        ("ids and connections", "", "%phl,%phr,%pC;", None, "", "EOS\\n", "すもももも\n", "1,1,10;1,1,7;EOS\n"),
+        ("cost_format", "", COSTS, None, "", "%pc\\n", "すもももも\n", COSTS_OF_SUMOMO),
+        ("blanks_in_wakati", "", PLACES, None, "", "%L\\n", SPACED, PLACES_OF_SPACED),
+        ("chain_over_prolonged_mark", MARK, "%m:%t:%pc", None, "", "\\n", "アーす", "アーす:3:1010\n"),
+        ("ids and connections", "", "%phl,%phr,%pC;", None, "", "EOS\\n", "すもももも\n", IDS),
         ("before and behind", "", "%m/", None, "[%S]", "%L|%pc\\n", "すもも", "[すもも]すもも/9|115\n"),
         ("known and unknown", "", "%m:%s\\s", None, "", "EOS\\n", "もz", "も:0 z:1 EOS\n"),
         ("a part for unknown words", "", "%m,", Some("<%m>%H"), "", "", "もz", "も,<z>未知"),

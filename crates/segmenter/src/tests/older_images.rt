@@ -97,20 +97,24 @@ const LETTERS_26: &str = "zzzzzzzzzzzzzzzzzzzzzzzzzz";
 #[test]
 fn texts_of_the_sample(rt: HostRuntime) -> Result<(), Fail> {
     let alloc = rt.alloc();
+    let two = "すもも\t名詞,すもも\nもも\t名詞,もも\nEOS\n";
+    let high = "\u{fffe}\u{ffff}\u{10ffff}";
+    let as_one = "\u{fffe}\u{ffff}\u{10ffff}\t未知\nEOS\n";
+    let then_25 = "z\t未知\nzzzzzzzzzzzzzzzzzzzzzzzzz\t未知\nEOS\n";
     #[rattlefmt::skip]
     let rows = [
         // (what, text, output in the default format)
-        ("sumomo",                    "すもももも\n",              "すもも\t名詞,すもも\nもも\t名詞,もも\nEOS\n"),
-        ("empty input",               "",                          ""),
-        ("empty line",                "\n",                        "EOS\n"),
-        ("last line without LF",      "も",                        "も\t助詞,も\nEOS\n"),
-        ("only_blanks",               "   \n",                     "EOS\n"),
-        ("blanks_in_wakati",          " すもも  もも \n",          "すもも\t名詞,すもも\nもも\t名詞,もも\nEOS\n"),
-        ("tokyo_tie",                 "東京都\n",                  "東京\t未知\n都\t未知\nEOS\n"),
-        ("katakana_group_and_length", "アイ\n",                    "アイ\t未知\nEOS\n"),
-        ("25 letters",                LETTERS_25,                  "zzzzzzzzzzzzzzzzzzzzzzzzz\t未知\nEOS\n"),
-        ("26 letters",                LETTERS_26,                  "z\t未知\nzzzzzzzzzzzzzzzzzzzzzzzzz\t未知\nEOS\n"),
-        ("U+FFFE, U+FFFF, U+10FFFF",  "\u{fffe}\u{ffff}\u{10ffff}", "\u{fffe}\u{ffff}\u{10ffff}\t未知\nEOS\n"),
+        ("sumomo",                    "すもももも\n",     two),
+        ("empty input",               "",                 ""),
+        ("empty line",                "\n",               "EOS\n"),
+        ("last line without LF",      "も",               "も\t助詞,も\nEOS\n"),
+        ("only_blanks",               "   \n",            "EOS\n"),
+        ("blanks_in_wakati",          " すもも  もも \n", two),
+        ("tokyo_tie",                 "東京都\n",         "東京\t未知\n都\t未知\nEOS\n"),
+        ("katakana_group_and_length", "アイ\n",           "アイ\t未知\nEOS\n"),
+        ("25 letters",                LETTERS_25,         "zzzzzzzzzzzzzzzzzzzzzzzzz\t未知\nEOS\n"),
+        ("26 letters",                LETTERS_26,         then_25),
+        ("U+FFFE, U+FFFF, U+10FFFF",  high,               as_one),
     ];
     let lexicons = sample().lexicons;
     let dicts = [
@@ -130,10 +134,11 @@ fn texts_of_the_sample(rt: HostRuntime) -> Result<(), Fail> {
 fn texts_of_further_lines(rt: HostRuntime) -> Result<(), Fail> {
     let alloc = rt.alloc();
     let with_blank: &[&str] = &["すもも", "も", "も ", "もも"];
+    let mark = "0x30FC KATAKANA HIRAGANA\n";
     #[rattlefmt::skip]
     let rows = [
-        // (what, a line of char.def, the lexicon, its surfaces, text, output in the default format)
-        ("chain_over_prolonged_mark", "0x30FC KATAKANA HIRAGANA\n", LEXICON, SURFACES, "アーす\n", "アーす\t未知\nEOS\n"),
+        // (what, a line of char.def, lexicon, surfaces, text, output in the default format)
+        ("chain_over_prolonged_mark", mark, LEXICON, SURFACES, "アーす\n", "アーす\t未知\nEOS\n"),
         ("ends_later", "", WITH_BLANK, with_blank, "も ", "も \tZ\nEOS\n"),
     ];
     let formats = formats(alloc)?;

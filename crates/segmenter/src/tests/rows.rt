@@ -4,10 +4,29 @@ use super::runs::run;
 use super::samples::chars_with;
 use crate::sample;
 use mj_model::{RunFault, SourceFault, SourceKind, Sources};
+use std::alloc::Global;
+use std::process::Abort;
 use std::test::Fail;
 
+/// Asks for the answer and the output of a run over these sources.
+fn expect_output(
+    rt: &(impl Abort + Alloc<A = Global>),
+    what: &str,
+    sources: &Sources<'_>,
+    text: &str,
+    answer: Result<u64, RunFault>,
+    output: &str,
+) {
+    let outcome = run(rt.alloc(), sources, &[], text.as_bytes());
+    assert!(rt; outcome.answer == answer, "{what}");
+    assert!(rt; outcome.written.as_slice() == output.as_bytes(), "{what}");
+}
+
 #[test]
-fn sample_lines(rt: HostRuntime) -> Result<(), Fail> {
+fn sample_lines(rt: HostRuntime) {
+    let wide = "\u{3000}すもも\u{3000}\n";
+    let wide_words = "\u{3000}\t未知\nすもも\t名詞,すもも\n\u{3000}\t未知\nEOS\n";
+    let with_x = "すもも\t名詞,すもも\nも\t助詞,も\nx\t未知\nEOS\n";
     #[rattlefmt::skip]
     let rows = [
         // (what, text, answer, output)
@@ -19,20 +38,17 @@ fn sample_lines(rt: HostRuntime) -> Result<(), Fail> {
         ("blanks between words", " すもも  もも \n", Ok(1), "すもも\t名詞,すもも\nもも\t名詞,もも\nEOS\n"),
         ("two lines", "も\nもも", Ok(2), "も\t助詞,も\nEOS\nもも\t名詞,もも\nEOS\n"),
         ("an unknown word on line 2", "も\nx\n", Ok(2), "も\t助詞,も\nEOS\nx\t未知\nEOS\n"),
-        ("an unknown word behind known ones", "すもももx\n", Ok(1), "すもも\t名詞,すもも\nも\t助詞,も\nx\t未知\nEOS\n"),
-        ("an ideographic space is a character", "\u{3000}すもも\u{3000}\n", Ok(1), "\u{3000}\t未知\nすもも\t名詞,すもも\n\u{3000}\t未知\nEOS\n"),
+        ("an unknown word behind known ones", "すもももx\n", Ok(1), with_x),
+        ("an ideographic space is a character", wide, Ok(1), wide_words),
         ("tokyo_tie", "東京都\n", Ok(1), "東京\t未知\n都\t未知\nEOS\n"),
     ];
     for (what, text, answer, output) in rows {
-        let outcome = run(rt.alloc(), &sample(), &[], text.as_bytes());
-        assert!(rt; outcome.answer == answer, "{what}");
-        assert!(rt; outcome.written.as_slice() == output.as_bytes(), "{what}");
+        expect_output(&rt, what, &sample(), text, answer, output);
     }
-    Ok(())
 }
 
 #[test]
-fn lexicons(rt: HostRuntime) -> Result<(), Fail> {
+fn lexicons(rt: HostRuntime) {
     #[rattlefmt::skip]
     let rows = [
         // (what, lexicon, text, output)
@@ -48,11 +64,8 @@ fn lexicons(rt: HostRuntime) -> Result<(), Fail> {
             lexicons: &[lexicon.as_bytes()],
             ..sample()
         };
-        let outcome = run(rt.alloc(), &sources, &[], text.as_bytes());
-        assert!(rt; outcome.answer == Ok(1), "{what}");
-        assert!(rt; outcome.written.as_slice() == output.as_bytes(), "{what}");
+        expect_output(&rt, what, &sources, text, Ok(1), output);
     }
-    Ok(())
 }
 
 #[test]
@@ -69,15 +82,13 @@ fn blanks_of_other_kinds(rt: HostRuntime) -> Result<(), Fail> {
             chars: &chars,
             ..sample()
         };
-        let outcome = run(rt.alloc(), &sources, &[], text.as_bytes());
-        assert!(rt; outcome.answer == Ok(1), "{what}");
-        assert!(rt; outcome.written.as_slice() == output.as_bytes(), "{what}");
+        expect_output(&rt, what, &sources, text, Ok(1), output);
     }
     Ok(())
 }
 
 #[test]
-fn accepted_costs(rt: HostRuntime) -> Result<(), Fail> {
+fn accepted_costs(rt: HostRuntime) {
     let rows = [
         // (what, matrix, lexicon)
         ("least cost", "2 2\n", "も,1,1,-32768,X\n"),
@@ -90,27 +101,20 @@ fn accepted_costs(rt: HostRuntime) -> Result<(), Fail> {
             lexicons: &[lexicon.as_bytes()],
             ..sample()
         };
-        let outcome = run(rt.alloc(), &sources, &[], "も\n".as_bytes());
-        assert!(rt; outcome.answer == Ok(1), "{what}");
-        assert!(rt;
-            outcome.written.as_slice() == "も\tX\nEOS\n".as_bytes(),
-            "{what}"
-        );
+        expect_output(&rt, what, &sources, "も\n", Ok(1), "も\tX\nEOS\n");
     }
-    Ok(())
 }
 
 #[test]
-fn lexicons_in_the_order_given(rt: HostRuntime) -> Result<(), Fail> {
+fn lexicons_in_the_order_given(rt: HostRuntime) {
     let first = "も,1,1,20,A\n";
     let second = "も,1,1,20,B\nもも,1,1,30,C\n";
     let sources = Sources {
         lexicons: &[first.as_bytes(), second.as_bytes()],
         ..sample()
     };
-    let outcome = run(rt.alloc(), &sources, &[], "も\nもも\n".as_bytes());
-    assert!(rt; outcome.answer == Ok(2));
-    assert!(rt; outcome.written.as_slice() == "も\tA\nEOS\nもも\tC\nEOS\n".as_bytes());
+    let output = "も\tA\nEOS\nもも\tC\nEOS\n";
+    expect_output(&rt, "accepted", &sources, "も\nもも\n", Ok(2), output);
     let bad = "も,1,1,20\n";
     let sources = Sources {
         lexicons: &[first.as_bytes(), bad.as_bytes()],
@@ -123,5 +127,4 @@ fn lexicons_in_the_order_given(rt: HostRuntime) -> Result<(), Fail> {
     };
     let outcome = run(rt.alloc(), &sources, &[], b"");
     assert!(rt; outcome.is_refusal(RunFault::Source(fault)));
-    Ok(())
 }

@@ -5,10 +5,11 @@ use super::expected_words::are_words;
 use super::samples::{letters, system};
 use crate::sample;
 use std::alloc::Global;
+use std::process::Abort;
 use std::test::Fail;
 use word_lookup::Dictionaries;
 
-/// Whether these are the words at a place, by the sample with a further line of `char.def` and with these lexicons.
+/// Whether these are the words at a place, by these lexicons and a further line of `char.def`.
 fn has_words(
     alloc: Global,
     line: &str,
@@ -22,65 +23,80 @@ fn has_words(
     Ok(are_words(alloc, dictionaries, text, place, expected)?)
 }
 
+/// What is asked, a further line of `char.def`, a text, a place, and the words there.
+type Row = (
+    &'static str,
+    &'static str,
+    &'static str,
+    usize,
+    &'static [Expected],
+);
+
+/// Asks for the words of the sample's lexicon.
+fn expect_words(rt: &(impl Abort + Alloc<A = Global>), rows: &[Row]) -> Result<(), Fail> {
+    for (what, line, text, place, expected) in rows {
+        let lexicons = sample().lexicons;
+        let holds = has_words(rt.alloc(), line, lexicons, text, *place, expected)?;
+        assert!(rt; holds, "{what}");
+    }
+    Ok(())
+}
+
 #[test]
 fn words_of_the_sample(rt: HostRuntime) -> Result<(), Fail> {
+    let mark = "0x30FC KATAKANA HIRAGANA\n";
+    let kanji = "0x20000..0x2A6DF KANJI\n";
     #[rattlefmt::skip]
-    let rows: [(&str, &str, &str, usize, &[Expected]); 9] = [
-        // (what, a further line of char.def, text, place, words)
+    let rows: [Row; 9] = [
         ("sumomo", "", "すもももも", 0, &[Known(0, 9, 100, "名詞,すもも")]),
-        ("behind the first character", "", "すもももも", 3, &[Known(3, 6, 20, "助詞,も"), Known(3, 9, 30, "名詞,もも")]),
+        ("behind す", "", "すもももも", 3, &[Known(3, 6, 20, "助詞,も"), Known(3, 9, 30, "名詞,もも")]),
         ("katakana_group_and_length", "", "アイ", 0, &[Unknown(0, 6), Unknown(0, 3)]),
-        ("chain_over_prolonged_mark", "0x30FC KATAKANA HIRAGANA\n", "アーす", 0, &[Unknown(0, 9), Unknown(0, 3), Unknown(0, 6)]),
+        ("prolonged mark", mark, "アーす", 0, &[Unknown(0, 9), Unknown(0, 3), Unknown(0, 6)]),
         ("tokyo_tie", "", "東京都", 0, &[Unknown(0, 3), Unknown(0, 6)]),
         ("the end of the text", "", "も", 3, &[]),
         ("beyond_the_basic_plane", "", "𠮷野", 0, &[Unknown(0, 4)]),
         ("not the entry of U+0000", "0x0000 KANJI\n", "𠮷野", 0, &[Unknown(0, 4)]),
-        ("mapped beyond the basic plane", "0x20000..0x2A6DF KANJI\n", "𠮷野", 0, &[Unknown(0, 4), Unknown(0, 7)]),
+        ("mapped beyond the basic plane", kanji, "𠮷野", 0, &[Unknown(0, 4), Unknown(0, 7)]),
     ];
-    for (what, line, text, place, expected) in rows {
-        let lexicons = sample().lexicons;
-        let holds = has_words(rt.alloc(), line, lexicons, text, place, expected)?;
-        assert!(rt; holds, "{what}");
-    }
-    Ok(())
+    expect_words(&rt, &rows)
 }
 
 #[test]
 fn words_beside_blanks(rt: HostRuntime) -> Result<(), Fail> {
+    let spaced = " すもも  もも ";
+    let wide = "\u{3000}すもも\u{3000}";
+    let mapped = "0x3000 SPACE\n";
     #[rattlefmt::skip]
-    let rows: [(&str, &str, &str, usize, &[Expected]); 8] = [
-        // (what, a further line of char.def, text, place, words)
-        ("a blank before the first word", "", " すもも  もも ", 0, &[Known(1, 10, 100, "名詞,すもも")]),
-        ("blanks between words", "", " すもも  もも ", 10, &[Known(12, 15, 20, "助詞,も"), Known(12, 18, 30, "名詞,もも")]),
-        ("a blank behind the last word", "", " すもも  もも ", 18, &[]),
+    let rows: [Row; 8] = [
+        ("a blank before the first word", "", spaced, 0, &[Known(1, 10, 100, "名詞,すもも")]),
+        ("between", "", spaced, 10, &[Known(12, 15, 20, "助詞,も"), Known(12, 18, 30, "名詞,もも")]),
+        ("a blank behind the last word", "", spaced, 18, &[]),
         ("only_blanks", "", "   ", 0, &[]),
-        ("a wide blank", "0x3000 SPACE\n", "\u{3000}すもも\u{3000}", 0, &[Known(3, 12, 100, "名詞,すもも")]),
-        ("a wide blank behind", "0x3000 SPACE\n", "\u{3000}すもも\u{3000}", 12, &[]),
-        ("a wide blank that is not mapped", "", "\u{3000}すもも\u{3000}", 0, &[Unknown(0, 3)]),
+        ("a wide blank", mapped, wide, 0, &[Known(3, 12, 100, "名詞,すもも")]),
+        ("a wide blank behind", mapped, wide, 12, &[]),
+        ("a wide blank that is not mapped", "", wide, 0, &[Unknown(0, 3)]),
         ("blanks over a letter", "0x0009 SPACE ALPHA\n", "\tzも", 0, &[Known(2, 5, 20, "助詞,も")]),
     ];
-    for (what, line, text, place, expected) in rows {
-        let lexicons = sample().lexicons;
-        let holds = has_words(rt.alloc(), line, lexicons, text, place, expected)?;
-        assert!(rt; holds, "{what}");
-    }
-    Ok(())
+    expect_words(&rt, &rows)
 }
 
 #[test]
 fn words_of_lexicons(rt: HostRuntime) -> Result<(), Fail> {
+    let tie = "a,1,1,10,X\nb,1,1,10,X\nab,1,1,27,X\n";
+    let twice = "a,1,1,10,X\na,1,1,10,Y\n";
+    let blank = "も,1,1,20,助詞,も\nも ,1,1,500,Z\n";
     #[rattlefmt::skip]
-    let rows: [(&str, &str, &str, &[Expected]); 5] = [
-        // (what, lexicon, text, words at its beginning)
-        ("tie_later_place", "a,1,1,10,X\nb,1,1,10,X\nab,1,1,27,X\n", "ab", &[Known(0, 1, 10, "X"), Known(0, 2, 27, "X"), Unknown(0, 2)]),
-        ("same_surface_twice", "a,1,1,10,X\na,1,1,10,Y\n", "a", &[Known(0, 1, 10, "X"), Known(0, 1, 10, "Y"), Unknown(0, 1)]),
-        ("ends_later", "も,1,1,20,助詞,も\nも ,1,1,500,Z\n", "も ", &[Known(0, 3, 20, "助詞,も"), Known(0, 4, 500, "Z")]),
-        ("quoted_fields", "\"a,b\",1,1,10,X\n", "a,b", &[Known(0, 3, 10, "X"), Unknown(0, 1)]),
-        ("empty_lexicon", "", "も", &[Unknown(0, 3)]),
+    let rows: [(&str, &str, &[Expected]); 5] = [
+        // (lexicon, text, words at its beginning)
+        (tie, "ab", &[Known(0, 1, 10, "X"), Known(0, 2, 27, "X"), Unknown(0, 2)]),
+        (twice, "a", &[Known(0, 1, 10, "X"), Known(0, 1, 10, "Y"), Unknown(0, 1)]),
+        (blank, "も ", &[Known(0, 3, 20, "助詞,も"), Known(0, 4, 500, "Z")]),
+        ("\"a,b\",1,1,10,X\n", "a,b", &[Known(0, 3, 10, "X"), Unknown(0, 1)]),
+        ("", "も", &[Unknown(0, 3)]),
     ];
-    for (what, lexicon, text, expected) in rows {
+    for (lexicon, text, expected) in rows {
         let holds = has_words(rt.alloc(), "", &[lexicon.as_bytes()], text, 0, expected)?;
-        assert!(rt; holds, "{what}");
+        assert!(rt; holds, "{lexicon}");
     }
     Ok(())
 }
