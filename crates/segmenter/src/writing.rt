@@ -12,6 +12,7 @@ pub fn write_bytes<W: TextOut>(writer: &mut W, bytes: &[u8]) -> Result<(), usize
     ensures written { OnOk result
         (Appends (W.told writer.old).held (W.told writer.new).held bytes.now) }
     ensures no_failure { OnOk result ((W.told writer.new).failures ≡ (W.told writer.old).failures) }
+    ensures no_flush { (W.told writer.new).flushes ≡ (W.told writer.old).flushes }
     ensures within { IfErr result (λ sent. sent ≤ length bytes.now) }
     ensures cut { IfErr result (λ sent.
         Appends (W.told writer.old).held (W.told writer.new).held (take sent bytes.now)) }
