@@ -5,6 +5,7 @@ pub mod WritingLemmas
 pub mod StepLemmas
 pub mod RunWork
 pub mod RunEnds
+pub mod GoodRuns
 pub mod UserDicts
 pub mod OverlayLemmas
 pub mod EarlyEnds

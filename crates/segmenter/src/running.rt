@@ -2,11 +2,12 @@
 
 ghost use Rattle.std.specs.Prelude.{◌≡◌, ℕ, ◌<◌, ◌≤◌, ◌⊎◌, Err};
 ghost use Rattle.mj_model.specs.Counts.{MayBeRead, MayBeWritten};
-ghost use Rattle.mj_model.specs.declared.limits.TheConstants.{GROUPING_MAX};
+ghost use Rattle.mj_model.specs.declared.limits.TheConstants.{GROUPING_MAX, READS_MAX as ReadsMax};
 ghost use Rattle.mj_model.specs.declared.run_fault.RunFault.TheVariants.{Source, UserSource};
 ghost use Rattle.mj_model.specs.declared.source_fault.SourceFault.{SourceFault as FaultOf};
 ghost use Rattle.dict_compile.specs.Compilation.{IsCompilationCause, IsCompilationFault};
 ghost use Rattle.dict_compile.specs.SourceOverlays.{IsUsersCause, IsUsersFault};
+ghost use Rattle.segmenter.specs.GoodRuns.{IsOkOrMemory, NothingFails};
 ghost use Rattle.segmenter.specs.Runs.{IsEarly, RanOver};
 ghost use Rattle.segmenter.specs.SourceDicts.{IsRefusedFor, users_of};
 
@@ -45,11 +46,15 @@ pub fn run_sources<R: TextIn, W: TextOut>(
     ensures user_refused { (i : ℕ) (fault : FaultOf)
         → IsUsersFault sources.now (users_of users.now) i fault
         → IsRefusedFor (UserSource i fault) result }
-    // Either it ended before its first read, with nothing read or written, or it ran over what the sources and the users' lexicons
-    // say, which covers every text: what was read, what was written, how the run ended, and where the reader is.
-    ensures run { (IsEarly result × (reader.new ≡ reader.old) × (writer.new ≡ writer.old))
-        ⊎ RanOver sources.now (users_of users.now) grouping format.now
+    // A fault of the sources or of a user's lexicons and Memory(0) come before the first read: nothing was read or written.
+    ensures early { IsEarly result → (reader.new ≡ reader.old) × (writer.new ≡ writer.old) }
+    // Every other run went over what the sources and the users' lexicons say, which covers every text: what was read, what was
+    // written, how the run ended, and where the reader is.
+    ensures run { IsEarly result ⊎ RanOver sources.now (users_of users.now) grouping format.now
         (R.told reader.old) (R.told reader.new) (W.told writer.old) (W.told writer.new) result }
+    // Where no line is bad, no call fails and the end comes within the bound, it is Ok or Memory, unless the run ended early.
+    ensures succeeds { NothingFails ReadsMax (R.told reader.old) (R.told reader.new)
+        (W.told writer.old) (W.told writer.new) → IsOkOrMemory result ⊎ IsEarly result }
 {
     let system = match system_dict(alloc, sources) {
         Ok(system) => system,

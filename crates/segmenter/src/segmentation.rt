@@ -4,6 +4,7 @@ ghost use Rattle.std.specs.Prelude.{◌<◌};
 ghost use Rattle.mj_model.specs.Counts.{MayBeRead, MayBeWritten};
 ghost use Rattle.mj_model.specs.declared.limits.TheConstants.{READS_MAX as ReadsMax};
 ghost use Rattle.paths.specs.PathLaws.{CoversTexts};
+ghost use Rattle.segmenter.specs.GoodRuns.{IsOkOrMemory, NothingFails};
 ghost use Rattle.segmenter.specs.PrintedLines.{Tells};
 ghost use Rattle.segmenter.specs.Runs.{Ran};
 ghost use Rattle.word_lookup.specs.Overlays.{overlay_of};
@@ -33,6 +34,9 @@ pub fn segment<R: TextIn, W: TextOut>(
     // What was read, what was written, how the run ended, and where the reader is.
     ensures run { Ran (Tells (overlay_of dictionaries.now) format.now) ReadsMax
         (R.told reader.old) (R.told reader.new) (W.told writer.old) (W.told writer.new) result }
+    // Where no line is bad, no call fails and the end comes within the bound, it is Ok or Memory.
+    ensures succeeds { NothingFails ReadsMax (R.told reader.old) (R.told reader.new)
+        (W.told writer.old) (W.told writer.new) → IsOkOrMemory result }
 {
     let printer = WordsPrinter {
         alloc,

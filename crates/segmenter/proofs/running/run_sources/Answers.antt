@@ -8,6 +8,7 @@ use Rattle.word_lookup.specs.Overlays.{overlay_of}
 use Rattle.mj_model.specs.declared.run_fault.RunFault.TheVariants.{Source}
 use Rattle.segmenter.specs.SourceDicts.{users_of}
 use Rattle.segmenter.proofs.EarlyEnds.{source_first, source_before_users, source_is_early, source_of_no_user, source_told, users_are_early, users_over, users_tell_no_source, users_told}
+use Rattle.segmenter.proofs.GoodRuns.{not_early}
 use Rattle.segmenter.proofs.OverlayLemmas.{have_overlay, no_overlay_fault, none_and_some, with_grouping}
 use Rattle.segmenter.proofs.RunEnds.{ran_tells_no_source, ran_tells_no_user}
 use Rattle.segmenter.proofs.UserDicts.{none_at_fault}
@@ -27,7 +28,13 @@ returns-in-Err-clause-user_refused g c = λ i fault h.
     source_before_users c.args.sources.now h.0 c.in-Err.fault _ c.early_end.result h.1 (c.early_end.ensures Source refl) c.in-Err.ensures.refused
 
 pub returns-in-Err-clause-run : goal.returns-in-Err-clause-run
-returns-in-Err-clause-run g c = inl (source_is_early c.in-Err.fault c.early_end.result (c.early_end.ensures Source refl), refl, refl)
+returns-in-Err-clause-run g c = inl (source_is_early c.in-Err.fault c.early_end.result (c.early_end.ensures Source refl))
+
+pub returns-in-Err-clause-early : goal.returns-in-Err-clause-early
+returns-in-Err-clause-early g c = λ early. (refl, refl)
+
+pub returns-in-Err-clause-succeeds : goal.returns-in-Err-clause-succeeds
+returns-in-Err-clause-succeeds g c = λ good. inr (source_is_early c.in-Err.fault c.early_end.result (c.early_end.ensures Source refl))
 
 pub user_dicts-requires : goal.user_dicts-requires
 user_dicts-requires g c = c.in-Ok.ensures.dict.2.have.tables.kind
@@ -54,7 +61,15 @@ returns-in_err-users-clause-user_refused g c = λ i fault h.
 pub returns-in_err-users-clause-run : goal.returns-in_err-users-clause-run
 returns-in_err-users-clause-run g c =
     let p = err_from_is_err_and c.from_residual.result c.from_residual.ensures.1 in
-    rw (p.1, p.2) (inl (users_are_early (image_tables c.in-Ok.system) (users_of c.args.users.now) c.in_err-users.field-0.0 c.in_err-users.ensures.refused, refl, refl))
+    rw (p.1, p.2) (inl (users_are_early (image_tables c.in-Ok.system) (users_of c.args.users.now) c.in_err-users.field-0.0 c.in_err-users.ensures.refused))
+
+pub returns-in_err-users-clause-early : goal.returns-in_err-users-clause-early
+returns-in_err-users-clause-early g c = λ early. (refl, refl)
+
+pub returns-in_err-users-clause-succeeds : goal.returns-in_err-users-clause-succeeds
+returns-in_err-users-clause-succeeds g c = λ good.
+    let p = err_from_is_err_and c.from_residual.result c.from_residual.ensures.1 in
+    rw (p.1, p.2) (inr (users_are_early (image_tables c.in-Ok.system) (users_of c.args.users.now) c.in_err-users.field-0.0 c.in_err-users.ensures.refused))
 
 pub unreachable-requires : goal.unreachable-requires
 unreachable-requires g c =
@@ -89,3 +104,9 @@ returns-clause-run g c =
       covered = c.segment.ensures.covered;
       ran = c.segment.ensures.run;
     })
+
+pub returns-clause-early : goal.returns-clause-early
+returns-clause-early g c = λ early. absurd (not_early _ _ _ _ _ _ c.segment.result c.segment.ensures.run early)
+
+pub returns-clause-succeeds : goal.returns-clause-succeeds
+returns-clause-succeeds g c = λ good. inl (c.segment.ensures.succeeds good)

@@ -1,7 +1,13 @@
 use Rattle.paths.proofs.CoveredTexts.{is_covered}
 use Rattle.word_lookup.specs.Overlays.{overlay_of}
 use Rattle.word_lookup.proofs.DictionaryLaws.{covers_all, has_words}
+use Rattle.mj_model.specs.declared.limits.TheConstants.{READS_MAX}
+use Rattle.segmenter.proofs.GoodRuns.{good_run}
 use Rattle.segmenter.proofs.segmentation.segment.Goals as goal
 
 pub returns-clause-covered : goal.returns-clause-covered
 returns-clause-covered g c = is_covered (overlay_of c.args.dictionaries.now) (has_words c.args.dictionaries.now) (covers_all c.args.dictionaries.now)
+
+pub returns-clause-succeeds : goal.returns-clause-succeeds
+returns-clause-succeeds g c = λ good.
+    good_run (overlay_of c.args.dictionaries.now) c.args.format.now READS_MAX _ _ _ _ c.run_over.result c.run_over.ensures.run good
