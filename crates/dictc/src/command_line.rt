@@ -84,11 +84,12 @@ fn lexicons_arg<'a>(alloc: Global) -> Arg<'a> {
 
 /// The choices of `dictc system`.
 fn system_options(alloc: Global, given: &ArgMatches<'_>) -> Result<Options, OptionsFault> {
+    let path = |name| needed_text(alloc, given, name);
     Ok(Options::System {
-        matrix: needed_text(alloc, given, "matrix")?,
-        chars: needed_text(alloc, given, "char")?,
-        unk: needed_text(alloc, given, "unk")?,
-        out: needed_text(alloc, given, "out")?,
+        matrix: path("matrix")?,
+        chars: path("char")?,
+        unk: path("unk")?,
+        out: path("out")?,
         lexicons: texts_of(alloc, given, "lexicons")?,
     })
 }

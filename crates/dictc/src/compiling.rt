@@ -1,6 +1,7 @@
 //! Dictionaries are compiled from the files that the command line names.
 
 use crate::choices::Options;
+use crate::reporting::tell_counts;
 use dict_compile::{CompileUserFault, Compiled, compile, compile_user};
 use mj_model::{OverlayFault, Sources};
 use programs::{
@@ -8,6 +9,12 @@ use programs::{
 };
 use std::alloc::Global;
 use std::string::String;
+
+/// Compiles what the options ask for, and tells what was compiled on standard output.
+pub fn compile_told(rt: &HostRuntime, options: &Options) -> Result<(), Fault> {
+    let compiled = compile_image(rt, options)?;
+    tell_counts(&compiled, &mut rt.stdout())
+}
 
 /// Compiles what the options ask for, and writes its image.
 pub fn compile_image(rt: &HostRuntime, options: &Options) -> Result<Compiled, Fault> {

@@ -21,7 +21,7 @@ pub struct Manner {
 pub fn cut(rt: &HostRuntime, options: &Options) -> Result<(), Fault> {
     let manner = Manner {
         grouping: options.grouping,
-        format: format_of(rt.alloc(), options)?,
+        format: format_of(rt.alloc(), options).map_err(Fault::Format)?,
     };
     match &options.input {
         Input::Images { dic, users } => cut_by_images(rt, dic.as_str(), users, &manner),

@@ -8,12 +8,12 @@ use std::alloc::{AllocError, Global};
 use std::string::String;
 use std::{fs, io, process};
 
-pub(crate) fn words(alloc: Global, given: &[&str]) -> Result<Vec<String>, AllocError> {
-    let mut words = Vec::new(alloc);
-    for word in given {
-        words.push(String::from_str(alloc, word)?)?;
-    }
-    Ok(words)
+/// The words of a command line that stand in a text, with a blank between.
+pub(crate) fn words(alloc: Global, text: &str) -> Result<Vec<String>, AllocError> {
+    text.split(' ')
+        .filter(|word| !word.is_empty())
+        .map(|word| String::from_str(alloc, word))
+        .try_collect(alloc)
 }
 
 pub(crate) fn is_text(got: &Option<String>, wanted: Option<&str>) -> bool {

@@ -6,7 +6,7 @@ ghost use Rattle.programs.specs.Faults.{BelongsToNoFile, Names};
 ghost use Rattle.programs.specs.declared.fault.Fault.TheVariants.{File, Memory, Source, Sources, Overlay};
 
 use mj_model::{FormatFault, ImageFault, OverlayFault, RunFault, SourceFault, SourceKind};
-use std::alloc::{AllocError, AllocFailed, Global};
+use std::alloc::{AllocError, Global};
 use std::io::{self, ErrorKind};
 use std::string::String;
 
@@ -94,27 +94,5 @@ impl From<AllocError> for Fault {
 
     fn from(_refused: AllocError) -> Fault {
         Fault::Memory
-    }
-}
-
-impl<T: Drop> From<AllocFailed<T>> for Fault {
-    ghost use Rattle.std.specs.Prelude.{◌≡◌};
-    ghost use Rattle.programs.specs.declared.fault.Fault.TheVariants.{Memory};
-
-    ghost from_gives = { λ _ fault. fault ≡ Memory };
-
-    fn from(_refused: AllocFailed<T>) -> Fault {
-        Fault::Memory
-    }
-}
-
-impl From<FormatFault> for Fault {
-    ghost use Rattle.std.specs.Prelude.{◌≡◌};
-    ghost use Rattle.programs.specs.declared.fault.Fault.TheVariants.{Format};
-
-    ghost from_gives = { λ refused fault. fault ≡ Format refused };
-
-    fn from(fault: FormatFault) -> Fault {
-        Fault::Format(fault)
     }
 }

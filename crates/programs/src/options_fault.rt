@@ -43,19 +43,31 @@ impl OptionsFault {
         }
     }
 
+    /// The text to print; empty where memory was refused.
+    pub fn text(&self) -> &str {
+        match self {
+            OptionsFault::Help(text) | OptionsFault::Bad(text) => text.as_str(),
+            OptionsFault::Memory => "",
+        }
+    }
+
+    /// The exit status.
+    pub fn status(&self) -> u8 {
+        match self {
+            OptionsFault::Help(_) => 0,
+            OptionsFault::Bad(_) => 2,
+            OptionsFault::Memory => 4,
+        }
+    }
+
     /// Prints it, and answers the exit status.
     pub fn tell(self, rt: &HostRuntime, program: &str) -> u8 {
-        match self {
-            OptionsFault::Help(text) => {
-                let _ = rt.print(text);
-                0
-            }
-            OptionsFault::Bad(text) => {
-                let _ = rt.eprint(text);
-                2
-            }
-            OptionsFault::Memory => report(program, &Fault::Memory, &mut rt.stderr()),
-        }
+        let _ = match &self {
+            OptionsFault::Help(text) => rt.print(text),
+            OptionsFault::Bad(text) => rt.eprint(text),
+            OptionsFault::Memory => return report(program, &Fault::Memory, &mut rt.stderr()),
+        };
+        self.status()
     }
 }
 

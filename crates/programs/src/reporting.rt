@@ -4,14 +4,6 @@ use crate::fault::{Fault, belongs_to_a_file};
 use mj_model::{FormatFault, ImageFault, RunFault, SourceFault, SourceKind};
 use std::io::{self, Write};
 
-/// The exit status of a program's work, whose fault is told on standard error.
-pub fn ended(rt: &HostRuntime, program: &str, work: Result<(), Fault>) -> u8 {
-    match work {
-        Ok(()) => 0,
-        Err(fault) => report(program, &fault, &mut rt.stderr()),
-    }
-}
-
 /// Writes the fault's line and answers the status; a failed write of it is ignored.
 pub fn report<W: Write>(program: &str, fault: &Fault, err: &mut W) -> u8 {
     let _ = write_line(program, fault, err);

@@ -42,7 +42,7 @@ pub fn read_files(rt: &HostRuntime, paths: &[String]) -> Result<Vec<WholeFile>, 
     let mut files = Vec::new(rt.alloc());
     for path in paths {
         let file = WholeFile::read(rt, path.as_str())?;
-        files.push(file)?;
+        files.push(file).map_err(AllocError::from)?;
     }
     Ok(files)
 }

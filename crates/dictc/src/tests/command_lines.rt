@@ -3,18 +3,18 @@
 use super::words;
 use crate::choices::Options;
 use crate::command_line::options;
-use programs::OptionsFault;
 use std::alloc::{AllocError, Global};
 use std::string::String;
 use std::test::Fail;
 
-/// What a command line asks for, with the image to write `o`.
+/// What a command line asks for, with the image to write `o`. Lexicons stand in one text, with a
+/// blank between.
 #[derive(Clone, Copy)]
 enum Asked {
     /// A system dictionary of the definitions `m`, `c` and `u` and of these lexicons.
-    System(&'static [&'static str]),
+    System(&'static str),
     /// A user dictionary for this system, of these lexicons.
-    User(&'static str, &'static [&'static str]),
+    User(&'static str, &'static str),
 }
 
 impl Asked {
@@ -41,13 +41,13 @@ impl Asked {
 fn command_lines(rt: HostRuntime) -> Result<(), Fail> {
     use Asked::{System, User};
     #[rattlefmt::skip]
-    let rows: [(&str, &[&str], Asked); 5] = [
+    let rows = [
         // (what, words, what is asked for)
-        ("a system dictionary", &["system", "--matrix", "m", "--char", "c", "--unk", "u", "--out", "o", "a.csv"], System(&["a.csv"])),
-        ("in another order, with =", &["system", "b.csv", "--out=o", "--unk=u", "a.csv", "--char=c", "--matrix=m"], System(&["b.csv", "a.csv"])),
-        ("a user dictionary", &["user", "--dic", "sys.img", "--out", "o", "a.csv"], User("sys.img", &["a.csv"])),
-        ("the same lexicon twice", &["user", "--dic", "s", "--out", "o", "a", "b", "a"], User("s", &["a", "b", "a"])),
-        ("a lexicon that looks like an option", &["user", "--dic", "s", "--out", "o", "--", "--out"], User("s", &["--out"])),
+        ("a system", "system --matrix m --char c --unk u --out o a.csv", System("a.csv")),
+        ("options with =", "system b --out=o --unk=u a --char=c --matrix=m", System("b a")),
+        ("a user", "user --dic sys.img --out o a.csv", User("sys.img", "a.csv")),
+        ("a lexicon twice", "user --dic s --out o a b a", User("s", "a b a")),
+        ("a lexicon like an option", "user --dic s --out o -- --out", User("s", "--out")),
     ];
     for (what, given, asked) in rows {
         match options(rt.alloc(), words(rt.alloc(), given)?) {
@@ -60,40 +60,36 @@ fn command_lines(rt: HostRuntime) -> Result<(), Fail> {
 
 #[test]
 fn command_lines_that_end_at_once(rt: HostRuntime) -> Result<(), Fail> {
+    const HELP: (u8, &str) = (0, "Usage: dictc");
+    const BAD: (u8, &str) = (2, "error");
     #[rattlefmt::skip]
-    let rows: [(&str, &[&str], u8); 16] = [
-        // (what, words, status)
-        ("help", &["--help"], 0),
-        ("help for a system", &["system", "--help"], 0),
-        ("help for a user", &["user", "--help"], 0),
-        ("nothing asked for", &[], 2),
-        ("another subcommand", &["delete"], 2),
-        ("options alone", &["--out", "o", "a"], 2),
-        ("a system without its options", &["system", "a"], 2),
-        ("no matrix", &["system", "--char", "c", "--unk", "u", "--out", "o", "a"], 2),
-        ("no lexicon", &["system", "--matrix", "m", "--char", "c", "--unk", "u", "--out", "o"], 2),
-        ("a system for a system", &["system", "--matrix", "m", "--char", "c", "--unk", "u", "--dic", "d", "--out", "o", "a"], 2),
-        ("a user for no system", &["user", "--out", "o", "a"], 2),
-        ("a user without an image", &["user", "--dic", "s", "a"], 2),
-        ("a user without a lexicon", &["user", "--dic", "s", "--out", "o"], 2),
-        ("a user with a matrix", &["user", "--dic", "s", "--matrix", "m", "--out", "o", "a"], 2),
-        ("an option twice", &["user", "--dic", "s", "--dic", "s", "--out", "o", "a"], 2),
-        ("no value", &["user", "--dic", "s", "a", "--out"], 2),
+    let rows = [
+        // (what, words, status and what is in the text)
+        ("help", "--help", HELP),
+        ("help for a system", "system --help", HELP),
+        ("help for a user", "user --help", HELP),
+        ("nothing asked for", "", BAD),
+        ("another subcommand", "delete", BAD),
+        ("options alone", "--out o a", BAD),
+        ("a system without its options", "system a", BAD),
+        ("no matrix", "system --char c --unk u --out o a", BAD),
+        ("no lexicon", "system --matrix m --char c --unk u --out o", BAD),
+        ("a system's", "system --matrix m --char c --unk u --dic d --out o a", BAD),
+        ("a user for no system", "user --out o a", BAD),
+        ("a user without an image", "user --dic s a", BAD),
+        ("a user without a lexicon", "user --dic s --out o", BAD),
+        ("a user with a matrix", "user --dic s --matrix m --out o a", BAD),
+        ("an option twice", "user --dic s --dic s --out o a", BAD),
+        ("no value", "user --dic s a --out", BAD),
     ];
-    for (what, given, status) in rows {
-        let got = match options(rt.alloc(), words(rt.alloc(), given)?) {
-            Ok(_choices) => None,
-            Err(OptionsFault::Help(text)) => {
-                assert!(rt; text.as_str().contains("Usage: dictc"), "{what}");
-                Some(0)
+    for (what, given, (status, text)) in rows {
+        match options(rt.alloc(), words(rt.alloc(), given)?) {
+            Ok(_options) => assert!(rt; false, "{what}"),
+            Err(fault) => {
+                assert!(rt; fault.status() == status, "{what}");
+                assert!(rt; fault.text().contains(text), "{what}");
             }
-            Err(OptionsFault::Bad(text)) => {
-                assert!(rt; text.as_str().contains("error"), "{what}");
-                Some(2)
-            }
-            Err(OptionsFault::Memory) => Some(4),
-        };
-        assert!(rt; got == Some(status), "{what}");
+        }
     }
     Ok(())
 }

@@ -1,6 +1,6 @@
 //! Dictionaries that are compiled, and refused ones that leave the images as they were.
 
-use super::{in_directory, new_directory};
+use super::{in_directory, new_directory, words};
 use crate::command_line::options;
 use crate::compiling::compile_image;
 use crate::reporting::tell_counts;
@@ -20,27 +20,24 @@ const LEXICONS: [(&str, &str); 3] = [
 ];
 
 /// What compiles the system dictionary.
-#[rattlefmt::skip]
-const SYSTEM: [&str; 10] =
-    ["system", "--matrix", "matrix.def", "--char", "char.def", "--unk", "unk.def", "--out", "sys.img", "lexicon.csv"];
+const SYSTEM: &str =
+    "system --matrix matrix.def --char char.def --unk unk.def --out sys.img lexicon.csv";
 
 /// What compiles it anew, with a second lexicon that is at fault.
-#[rattlefmt::skip]
-const BAD_SECOND: [&str; 11] =
-    ["system", "--matrix", "matrix.def", "--char", "char.def", "--unk", "unk.def", "--out", "sys.img", "lexicon.csv", "bad.csv"];
+const BAD_SECOND: &str =
+    "system --matrix matrix.def --char char.def --unk unk.def --out sys.img lexicon.csv bad.csv";
 
 /// What compiles a user dictionary for it.
-const USER: [&str; 6] = ["user", "--dic", "sys.img", "--out", "user.img", "user.csv"];
+const USER: &str = "user --dic sys.img --out user.img user.csv";
 
 /// What compiles another one, whose lexicon has a line to skip.
-#[rattlefmt::skip]
-const SKIPPED: [&str; 6] = ["user", "--dic", "sys.img", "--out", "skipped.img", "skipped.csv"];
+const SKIPPED: &str = "user --dic sys.img --out skipped.img skipped.csv";
 
 /// What compiles the user dictionary anew, with a lexicon that is at fault.
-const BAD_USER: [&str; 6] = ["user", "--dic", "sys.img", "--out", "user.img", "bad.csv"];
+const BAD_USER: &str = "user --dic sys.img --out user.img bad.csv";
 
 /// What compiles that lexicon for a user dictionary.
-const FOR_USER: [&str; 6] = ["user", "--dic", "user.img", "--out", "sys.img", "bad.csv"];
+const FOR_USER: &str = "user --dic user.img --out sys.img bad.csv";
 
 /// A new directory with the sample's sources and the users' lexicons.
 fn directory_of_files(rt: &HostRuntime, test: &str) -> Result<String, Fail> {
@@ -67,20 +64,14 @@ fn directory_of_files(rt: &HostRuntime, test: &str) -> Result<String, Fail> {
 }
 
 /// Compiles what a command line asks for. Its words with a dot are names in the directory.
-fn compile_in(
-    rt: &HostRuntime,
-    dir: &str,
-    given: &[&str],
-) -> Result<Result<Compiled, Fault>, Fail> {
-    let mut words = Vec::new(rt.alloc());
-    for word in given {
-        if word.contains('.') {
-            words.push(in_directory(rt, dir, word)?)?;
-        } else {
-            words.push(String::from_str(rt.alloc(), word)?)?;
+fn compile_in(rt: &HostRuntime, dir: &str, given: &str) -> Result<Result<Compiled, Fault>, Fail> {
+    let mut given = words(rt.alloc(), given)?;
+    for word in &mut given {
+        if word.as_str().contains('.') {
+            *word = in_directory(rt, dir, word.as_str())?;
         }
     }
-    let options = options(rt.alloc(), words)?;
+    let options = options(rt.alloc(), given)?;
     Ok(compile_image(rt, &options))
 }
 
@@ -94,11 +85,11 @@ fn bytes_in(rt: &HostRuntime, dir: &str, name: &str) -> Result<Vec<u8>, Fail> {
 fn compiled_dictionaries(rt: HostRuntime) -> Result<(), Fail> {
     let dir = directory_of_files(&rt, "compiled")?;
     #[rattlefmt::skip]
-    let rows: [(&str, &[&str], &str, bool, &str); 3] = [
+    let rows = [
         // (what, words, image, whether it is a user's, line)
-        ("the sample",       &SYSTEM,  "sys.img",     false, "3 entries, 0 skipped\n"),
-        ("a user's",         &USER,    "user.img",    true,  "1 entries, 0 skipped\n"),
-        ("an empty surface", &SKIPPED, "skipped.img", true,  "1 entries, 1 skipped\n"),
+        ("the sample",       SYSTEM,  "sys.img",     false, "3 entries, 0 skipped\n"),
+        ("a user's",         USER,    "user.img",    true,  "1 entries, 0 skipped\n"),
+        ("an empty surface", SKIPPED, "skipped.img", true,  "1 entries, 1 skipped\n"),
     ];
     for (what, given, name, user, line) in rows {
         let compiled = compile_in(&rt, dir.as_str(), given)??;
@@ -122,11 +113,11 @@ fn refused_dictionaries(rt: HostRuntime) -> Result<(), Fail> {
     let system_image = bytes_in(&rt, dir.as_str(), "sys.img")?;
     let user_image = bytes_in(&rt, dir.as_str(), "user.img")?;
     #[rattlefmt::skip]
-    let rows: [(&str, &[&str], &str, Option<u32>); 3] = [
+    let rows = [
         // (what, words, the file that is told, its number where it is a source)
-        ("a bad second lexicon",              &BAD_SECOND, "bad.csv",  Some(4)),
-        ("a bad lexicon of a user",           &BAD_USER,   "bad.csv",  Some(3)),
-        ("for a user's, which is told first", &FOR_USER,   "user.img", None),
+        ("a bad second lexicon",              BAD_SECOND, "bad.csv",  Some(4)),
+        ("a bad lexicon of a user",           BAD_USER,   "bad.csv",  Some(3)),
+        ("for a user's, which is told first", FOR_USER,   "user.img", None),
     ];
     for (what, given, wanted, number) in rows {
         let path = in_directory(&rt, dir.as_str(), wanted)?;

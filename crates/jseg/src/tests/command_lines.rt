@@ -3,15 +3,15 @@
 use super::{is_text, words};
 use crate::choices::Input;
 use crate::command_line::options;
-use programs::OptionsFault;
 use std::alloc::{AllocError, Global};
 use std::string::String;
 use std::test::Fail;
 
-/// What a command line asks for: images, a directory or the sample.
+/// What a command line asks for: images, a directory or the sample. Users' images stand in one
+/// text, with a blank between.
 #[derive(Clone, Copy)]
 enum Asked {
-    Images(&'static str, &'static [&'static str]),
+    Images(&'static str, &'static str),
     Directory(&'static str),
     Sample,
 }
@@ -33,20 +33,20 @@ impl Asked {
 fn command_lines(rt: HostRuntime) -> Result<(), Fail> {
     use Asked::{Directory, Images, Sample};
     #[rattlefmt::skip]
-    let rows: [(&str, &[&str], Asked, u16); 12] = [
+    let rows = [
         // (what, words, what is asked for, grouping)
-        ("the sample", &["--sample"], Sample, 24),
-        ("a directory", &["--sources", "a/b"], Directory("a/b"), 24),
-        ("with =", &["--sources=a"], Directory("a"), 24),
-        ("no grouping", &["--sample", "-M", "0"], Sample, 0),
-        ("grouping first", &["-M", "25", "--sample"], Sample, 25),
-        ("grouping joined", &["-M1000", "--sample"], Sample, 1000),
-        ("both", &["--sources", "a", "-M", "7"], Directory("a"), 7),
-        ("a system", &["-d", "sys.img"], Images("sys.img", &[]), 24),
-        ("a system joined", &["-dsys.img"], Images("sys.img", &[]), 24),
-        ("with a user", &["-d", "sys.img", "-u", "user.img"], Images("sys.img", &["user.img"]), 24),
-        ("with users in their order", &["-u", "b", "-d", "s", "-u", "a", "-u", "b"], Images("s", &["b", "a", "b"]), 24),
-        ("a format and a grouping", &["-d", "s", "-O", "wakati", "-M", "3"], Images("s", &[]), 3),
+        ("the sample",                "--sample",            Sample,                     24),
+        ("a directory",               "--sources a/b",       Directory("a/b"),           24),
+        ("with =",                    "--sources=a",         Directory("a"),             24),
+        ("no grouping",               "--sample -M 0",       Sample,                     0),
+        ("grouping first",            "-M 25 --sample",      Sample,                     25),
+        ("grouping joined",           "--sample -M1000",     Sample,                     1000),
+        ("both",                      "--sources a -M 7",    Directory("a"),             7),
+        ("a system",                  "-d sys.img",          Images("sys.img", ""),      24),
+        ("a system joined",           "-dsys.img",           Images("sys.img", ""),      24),
+        ("with a user",               "-d sys.img -u u.img", Images("sys.img", "u.img"), 24),
+        ("with users in their order", "-u b -d s -u a -u b", Images("s", "b a b"),       24),
+        ("a format and a grouping",   "-d s -O wakati -M 3", Images("s", ""),            3),
     ];
     for (what, given, asked, grouping) in rows {
         match options(rt.alloc(), words(rt.alloc(), given)?) {
@@ -64,76 +64,81 @@ fn command_lines(rt: HostRuntime) -> Result<(), Fail> {
 fn format_options(rt: HostRuntime) -> Result<(), Fail> {
     #[rattlefmt::skip]
     let rows: [(&str, &[&str], [Option<&str>; 5]); 5] = [
-        // (what, words, the name and the four formats)
-        ("none", &["--sample"], [None, None, None, None, None]),
-        ("all", &["--sample", "-F", "a", "-U", "b", "-B", "c", "-E", "d"], [None, Some("a"), Some("b"), Some("c"), Some("d")]),
-        ("empty, and with a hyphen", &["--sample", "-F", "", "-E", "-%pc"], [None, Some(""), None, None, Some("-%pc")]),
-        ("joined", &["--sample", "-F%m\\n"], [None, Some("%m\\n"), None, None, None]),
-        ("a name", &["--sample", "-O", "wakati", "-F", "%q"], [Some("wakati"), Some("%q"), None, None, None]),
+        // (what, words behind --sample, the name and the four formats)
+        ("none", &[], [None; 5]),
+        ("all", &["-F", "a", "-U", "b", "-B", "c", "-E", "d"],
+            [None, Some("a"), Some("b"), Some("c"), Some("d")]),
+        ("empty, and with a hyphen", &["-F", "", "-E", "-%pc"],
+            [None, Some(""), None, None, Some("-%pc")]),
+        ("joined", &["-F%m\\n"], [None, Some("%m\\n"), None, None, None]),
+        ("a name", &["-O", "wakati", "-F", "%q"], [Some("wakati"), Some("%q"), None, None, None]),
     ];
     for (what, given, wanted) in rows {
-        match options(rt.alloc(), words(rt.alloc(), given)?) {
-            Ok(options) => {
-                let got = [
-                    &options.output,
-                    &options.node,
-                    &options.unk,
-                    &options.bos,
-                    &options.eos,
-                ];
-                for (got, wanted) in got.iter().zip(wanted.iter()) {
-                    assert!(rt; is_text(got, *wanted), "{what}");
-                }
-            }
-            Err(_) => assert!(rt; false, "{what}"),
+        let mut words = words(rt.alloc(), "--sample")?;
+        for word in given {
+            words.push(String::from_str(rt.alloc(), word)?)?;
+        }
+        let options = options(rt.alloc(), words)?;
+        let got = [
+            &options.output,
+            &options.node,
+            &options.unk,
+            &options.bos,
+            &options.eos,
+        ];
+        for (got, wanted) in got.iter().zip(wanted.iter()) {
+            assert!(rt; is_text(got, *wanted), "{what}");
         }
     }
     Ok(())
 }
 
 #[test]
-fn command_lines_that_end_at_once(rt: HostRuntime) -> Result<(), Fail> {
-    let rows: [(&str, &[&str], u8); 24] = [
-        // (what, words, status)
-        ("help", &["--help"], 0),
-        ("an image without a name", &["-d"], 2),
-        ("two system images", &["-d", "a", "-d", "b"], 2),
-        ("image and sample", &["-d", "a", "--sample"], 2),
-        ("image and directory", &["-d", "a", "--sources", "b"], 2),
-        ("a user alone", &["-u", "a"], 2),
-        ("a user of the sample", &["--sample", "-u", "a"], 2),
-        ("a user of a directory", &["--sources", "a", "-u", "b"], 2),
-        ("a user without a name", &["-d", "a", "-u"], 2),
-        ("nothing asked for", &[], 2),
-        ("twice", &["--sample", "--sample"], 2),
-        ("two directories", &["--sources", "a", "--sources", "b"], 2),
-        ("directory and sample", &["--sources", "a", "--sample"], 2),
-        ("no directory", &["--sources"], 2),
-        ("unknown option", &["--simple"], 2),
-        ("a word", &["--sample", "text"], 2),
-        ("another name", &["--sample", "-O", "yomi"], 2),
-        ("a format twice", &["--sample", "-F", "a", "-F", "b"], 2),
-        ("grouping alone", &["-M", "3"], 2),
-        ("grouping too large", &["--sample", "-M", "1001"], 2),
-        ("grouping below 0", &["--sample", "-M", "-1"], 2),
-        ("grouping no number", &["--sample", "-M", "x"], 2),
-        ("grouping without a value", &["--sample", "-M"], 2),
-        ("grouping twice", &["--sample", "-M", "1", "-M", "2"], 2),
+fn help(rt: HostRuntime) -> Result<(), Fail> {
+    let Err(fault) = options(rt.alloc(), words(rt.alloc(), "--help")?) else {
+        assert!(rt; false, "it is no choice");
+        return Ok(());
+    };
+    assert!(rt; fault.status() == 0);
+    assert!(rt; fault.text().contains("--sources"));
+    Ok(())
+}
+
+#[test]
+fn wrong_command_lines(rt: HostRuntime) -> Result<(), Fail> {
+    let rows = [
+        // (what, words)
+        ("an image without a name", "-d"),
+        ("two system images", "-d a -d b"),
+        ("image and sample", "-d a --sample"),
+        ("image and directory", "-d a --sources b"),
+        ("a user alone", "-u a"),
+        ("a user of the sample", "--sample -u a"),
+        ("a user of a directory", "--sources a -u b"),
+        ("a user without a name", "-d a -u"),
+        ("nothing asked for", ""),
+        ("twice", "--sample --sample"),
+        ("two directories", "--sources a --sources b"),
+        ("directory and sample", "--sources a --sample"),
+        ("no directory", "--sources"),
+        ("unknown option", "--simple"),
+        ("a word", "--sample text"),
+        ("another name", "--sample -O yomi"),
+        ("a format twice", "--sample -F a -F b"),
+        ("grouping alone", "-M 3"),
+        ("grouping too large", "--sample -M 1001"),
+        ("grouping below 0", "--sample -M -1"),
+        ("grouping no number", "--sample -M x"),
+        ("grouping without a value", "--sample -M"),
+        ("grouping twice", "--sample -M 1 -M 2"),
     ];
-    for (what, given, status) in rows {
-        let got = match options(rt.alloc(), words(rt.alloc(), given)?) {
-            Ok(_choices) => None,
-            Err(OptionsFault::Help(text)) => {
-                assert!(rt; text.as_str().contains("--sources"), "{what}");
-                Some(0)
-            }
-            Err(OptionsFault::Bad(text)) => {
-                assert!(rt; text.as_str().contains("error"), "{what}");
-                Some(2)
-            }
-            Err(OptionsFault::Memory) => Some(4),
+    for (what, given) in rows {
+        let Err(fault) = options(rt.alloc(), words(rt.alloc(), given)?) else {
+            assert!(rt; false, "{what}");
+            return Ok(());
         };
-        assert!(rt; got == Some(status), "{what}");
+        assert!(rt; fault.status() == 2, "{what}");
+        assert!(rt; fault.text().contains("error"), "{what}");
     }
     Ok(())
 }

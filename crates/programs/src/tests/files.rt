@@ -106,10 +106,7 @@ fn files_written_and_read(rt: HostRuntime) -> Result<(), Fail> {
     for (name, bytes, names) in rows {
         let path = format!(in rt.alloc(); "{dir}/{name}")?;
         assert!(rt; write_file(&rt, path.as_str(), bytes).is_ok(), "{name}");
-        let Ok(file) = WholeFile::read(&rt, path.as_str()) else {
-            assert!(rt; false, "{name} is read");
-            return Ok(());
-        };
+        let file = WholeFile::read(&rt, path.as_str())?;
         assert!(rt; file.path == path, "{name}");
         assert!(rt; file.bytes.as_slice() == bytes, "{name}");
         assert!(rt; names_in(&rt, dir.as_str())? == names, "{name}");
@@ -209,12 +206,8 @@ fn files_in_their_order(rt: HostRuntime) -> Result<(), Fail> {
         fs::write(&rt, path.as_str(), name)?;
         paths.push(path)?;
     }
-    let read = read_files(&rt, &paths);
+    let files = read_files(&rt, &paths)?;
     fs::remove_dir_all(&rt, dir.as_str())?;
-    let Ok(files) = read else {
-        assert!(rt; false, "they are read");
-        return Ok(());
-    };
     assert!(rt; files.len() == 3);
     for (file, path) in files.iter().zip(paths.iter()) {
         assert!(rt; file.path == *path, "{path}");

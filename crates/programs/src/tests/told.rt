@@ -35,10 +35,11 @@ fn told_faults(rt: HostRuntime) -> Result<(), Fail> {
     let part = FormatPart::Node;
     let kind = FormatKind::BadItem;
     let at = 16;
+    let missing = MissingCategory(4);
     #[rattlefmt::skip]
     let rows = [
         // (program, fault, line, status)
-        ("jseg", source(alloc, 0, MissingCategory(4)), "jseg: unk.def:0: U2 MissingCategory 4\n", 1),
+        ("jseg", source(alloc, 0, missing), "jseg: unk.def:0: U2 MissingCategory 4\n", 1),
         ("jseg", source(alloc, 7, BadNumber), "jseg: unk.def:7: S3 BadNumber\n", 1),
         ("jseg", source(alloc, 1, SourceKind::Memory), "jseg: Memory\n", 4),
         ("jseg", whole(alloc, SourceKind::ArrayFull), "jseg: I2 ArrayFull\n", 1),
@@ -59,7 +60,7 @@ fn told_faults(rt: HostRuntime) -> Result<(), Fail> {
         ("jseg", Fault::Run(RunFault::Memory(5)), "jseg: Memory\n", 4),
         ("jseg", Fault::File(String::from_str(alloc, "a/x.csv")?), "jseg: a/x.csv: F1 File\n", 3),
         ("jseg", Fault::Memory, "jseg: Memory\n", 4),
-        ("dictc", source(alloc, 0, MissingCategory(4)), "dictc: unk.def:0: U2 MissingCategory 4\n", 1),
+        ("dictc", source(alloc, 0, missing), "dictc: unk.def:0: U2 MissingCategory 4\n", 1),
         ("dictc", source(alloc, 7, BadNumber), "dictc: unk.def:7: S3 BadNumber\n", 1),
         ("dictc", source(alloc, 1, SourceKind::Memory), "dictc: Memory\n", 4),
         ("dictc", whole(alloc, SourceKind::ArrayFull), "dictc: I2 ArrayFull\n", 1),
