@@ -1,15 +1,19 @@
 -- The keys that begin a text, by layout.
+use Rattle.std.specs.Prelude.{ℕ, List, []}
+use Rattle.double_array.specs.CellMap.{Cell}
 use Rattle.double_array.specs.HitsSeen.{HitsSeen}
 use Rattle.image_bytes.specs.declared.layout.KeyForm.{KeyForm}
 use Rattle.image_bytes.specs.declared.layout.KeyForm.TheVariants as key
+use Rattle.image_bytes.specs.ImageSections.{stored_cells}
 use Rattle.dict_image.specs.declared.key_hits.KeyHits.{KeyHits}
 use Rattle.dict_image.specs.declared.key_hits.KeyHits.TheVariants as hits
 
--- what contracts see of them: where keys are listed no cell is read
-abbrev pub hits_seen : KeyHits → HitsSeen
-hits_seen (hits.Listed it) = record { hits = it.hits; text = it.text; reads = 0 }
-hits_seen (hits.Cells it) = it
+-- the cells that are read to find keys: none where keys are listed
+abbrev pub key_cells : KeyForm → List ℕ → List Cell
+key_cells key.Listed keys = []
+key_cells key.Cells keys = stored_cells keys
 
-abbrev pub hits_form : KeyHits → KeyForm
-hits_form (hits.Listed it) = key.Listed
-hits_form (hits.Cells it) = key.Cells
+-- what contracts see of the keys that begin a text
+abbrev pub hits_seen : KeyHits → HitsSeen
+hits_seen (hits.Listed it) = record { hits = it.hits; cells = []; text = it.text; walked = it.walked }
+hits_seen (hits.Cells it) = it

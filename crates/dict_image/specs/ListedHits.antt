@@ -11,6 +11,12 @@ use Rattle.dict_image.specs.KeyPlaces.{KeyList}
 abbrev pub listed_hits_behind : KeyList → List ℕ → ℕ → List (ℕ × ℕ)
 listed_hits_behind list text n = filter_map (hit_in (listed_number list.count list.bytes) text) (range_with_len (n + 1) (length text - n))
 
+-- what contracts see of the iterator over them: the hits that are left, the text, and how many bytes of it were gone over
+pub record ListedHitsSeen : Type 0 where
+  pub hits : List (ℕ × ℕ)
+  pub text : List ℕ
+  pub walked : ℕ
+
 -- what listed keys say of some bytes: they are the key of a number; they are no key; or they begin no key
 abbrev pub IsBegun : KeyList → List ℕ → Begun → Type 0
 IsBegun list front (begun.Key number) = listed_number list.count list.bytes front ≡ Some number

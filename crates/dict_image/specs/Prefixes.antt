@@ -1,6 +1,6 @@
 -- The surfaces of a lexicon that begin a text.
 use Rattle.std.specs.Prelude.{ℕ, nat_lt, Bool, List, length, map, filter, take}
-use Rattle.image_bytes.specs.declared.layout.KeyForm.{KeyForm}
+use Rattle.double_array.specs.CellMap.{Cell}
 use Rattle.image_bytes.specs.ImageMeaning.{LexiconSections, entries_under, tokens_in}
 use Rattle.mj_model.specs.Lists.{up_to}
 use Rattle.mj_model.specs.Tables.{Token, Lexeme}
@@ -21,9 +21,9 @@ prefixes_in text lexicon = filter has_entries (map (prefix_at text lexicon) (up_
 abbrev pub prefix_in : LexiconSections → ℕ × ℕ → ℕ × List Token
 prefix_in s hit = (hit.0, tokens_in s.tokens s.features s.groups hit.1)
 
--- what contracts see of the iterator over them: those that are left, the text, the cells read so far, and how the image holds keys
+-- what contracts see of the iterator over them: those that are left, the cells of the keys, the text, and how many bytes of it were gone over
 pub record PrefixesSeen : Type 0 where
   pub prefixes : List (ℕ × List Token)
+  pub cells : List Cell
   pub text : List ℕ
-  pub reads : ℕ
-  pub form : KeyForm
+  pub walked : ℕ

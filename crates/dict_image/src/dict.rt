@@ -10,7 +10,7 @@ ghost use Rattle.dict_image.specs.Fitting.{AreFitting};
 ghost use Rattle.image_bytes.specs.Layouts.{key_form};
 ghost use Rattle.dict_image.specs.Groups.{hits_in};
 ghost use Rattle.dict_image.specs.Held.{IsDict, IsImage};
-ghost use Rattle.dict_image.specs.KeyHits.{hits_form, hits_seen};
+ghost use Rattle.dict_image.specs.KeyHits.{hits_seen, key_cells};
 ghost use Rattle.dict_image.specs.KeyTables.{IsTableOf};
 ghost use Rattle.dict_image.specs.Seen.{token_seen};
 
@@ -135,8 +135,10 @@ impl Dict {
     pub(crate) fn hits<'a>(&'a self, text: &'a [u8]) -> KeyHits<'a>
         ensures hits { (hits_seen result).hits ≡ hits_in (key_form (header_of self.now).layout)
             (header_of self.now).groups (section_of self.now 5) text.now }
+        ensures cells { (hits_seen result).cells
+            ≡ key_cells (key_form (header_of self.now).layout) (section_of self.now 5) }
         ensures text { (hits_seen result).text ≡ text.now }
-        ensures form { hits_form result ≡ key_form (header_of self.now).layout }
+        ensures walked { (hits_seen result).walked ≡ 0 }
         ensures formed { IsImage self.now }
     {
         match self.key_table() {

@@ -1,12 +1,13 @@
 //! The iterator over the surfaces that begin a text.
-ghost use Rattle.std.specs.Prelude.{◌≡◌, ◌+◌, ◌*◌, ◌<◌, ◌≤◌, length, map};
+ghost use Rattle.std.specs.Prelude.{◌≡◌, ◌+◌, ◌*◌, ◌<◌, ◌≤◌, [], length, map, option_map};
 ghost use Rattle.std.specs.List.{AllByRecursion};
 ghost use Rattle.std.specs.Iterator.{YieldsFirstBy, item_count};
-ghost use Rattle.image_bytes.specs.ImageBytes.{header_of};
+ghost use Rattle.double_array.specs.Reads.{walk_reads};
+ghost use Rattle.double_array.specs.Walking.{walked_to};
+ghost use Rattle.image_bytes.specs.ImageBytes.{header_of, section as section_of};
 ghost use Rattle.image_bytes.specs.ImageMeaning.{image_tables, lexicon_sections};
-ghost use Rattle.image_bytes.specs.declared.layout.KeyForm.TheVariants.{Listed};
 ghost use Rattle.image_bytes.specs.Layouts.{key_form};
-ghost use Rattle.dict_image.specs.KeyHits.{hits_form, hits_seen};
+ghost use Rattle.dict_image.specs.KeyHits.{hits_seen, key_cells};
 ghost use Rattle.dict_image.specs.Prefixes.{prefix_in, prefixes_in};
 
 use crate::dict::Dict;
@@ -16,7 +17,7 @@ use std::marker::Model;
 
 /// The surfaces that begin a text, the shortest first, with their entries.
 ///
-/// Contracts see those that are left, the text, how many cells were read, and how the image holds keys.
+/// Contracts see those that are left, the cells of the keys, the text, and how many bytes of it were gone over.
 #[derive(Drop)]
 pub struct Prefixes<'a> {
     dict: &'a Dict,
@@ -27,7 +28,7 @@ impl<'a> Model for Prefixes<'a> {
     ghost use Rattle.std.specs.Prelude.{◌<◌, map};
     ghost use Rattle.std.specs.List.{AllByRecursion};
     ghost use Rattle.image_bytes.specs.ImageBytes.{header_of};
-    ghost use Rattle.dict_image.specs.KeyHits.{hits_form, hits_seen};
+    ghost use Rattle.dict_image.specs.KeyHits.{hits_seen};
     ghost use Rattle.dict_image.specs.Prefixes.{PrefixesSeen, prefix_in};
     ghost use Rattle.image_bytes.specs.ImageMeaning.{lexicon_sections};
 
@@ -35,9 +36,9 @@ impl<'a> Model for Prefixes<'a> {
 
     ghost view = { λ it. record {
       prefixes = map (prefix_in (lexicon_sections it.dict.now)) (hits_seen it.hits).hits;
+      cells = (hits_seen it.hits).cells;
       text = (hits_seen it.hits).text;
-      reads = (hits_seen it.hits).reads;
-      form = hits_form it.hits;
+      walked = (hits_seen it.hits).walked;
     } };
 
     ghost invariant = { λ it. AllByRecursion
@@ -47,8 +48,10 @@ impl<'a> Model for Prefixes<'a> {
 impl<'a> Prefixes<'a> {
     pub(crate) fn new(dict: &'a Dict, text: &'a [u8]) -> Prefixes<'a>
         ensures prefixes { result.prefixes ≡ prefixes_in text.now (image_tables dict.now).lexicon }
+        ensures cells { result.cells
+            ≡ key_cells (key_form (header_of dict.now).layout) (section_of dict.now 5) }
         ensures text { result.text ≡ text.now }
-        ensures form { result.form ≡ key_form (header_of dict.now).layout }
+        ensures walked { result.walked ≡ 0 }
     {
         Prefixes {
             dict,
@@ -58,9 +61,9 @@ impl<'a> Prefixes<'a> {
 
     /// How many cells were read so far: none where keys are listed.
     pub fn reads(&self) -> u64
-        ensures reads { result ≡ self.now.reads }
+        ensures reads { result ≡ walk_reads self.now.cells self.now.text self.now.walked }
         ensures few { result ≤ 2 * length self.now.text + 1 }
-        ensures none { self.now.form ≡ Listed → result ≡ 0 }
+        ensures none { self.now.cells ≡ [] → result ≡ 0 }
     {
         self.hits.reads()
     }
@@ -71,7 +74,8 @@ impl<'a> Iterator for Prefixes<'a> {
 
     ghost next_gives = { λ old found new.
         YieldsFirstBy (λ prefix. (prefix.0, prefix.1)) (λ it. it.prefixes) old found new
-        × (new.text ≡ old.text) × (new.form ≡ old.form) };
+        × (new.cells ≡ old.cells) × (new.text ≡ old.text)
+        × (new.walked ≡ walked_to old.text (option_map (λ prefix. prefix.0) found)) };
 
     ghost remaining = { item_count (λ it. it.prefixes) };
 
@@ -89,8 +93,10 @@ fn next_prefix<'a>(dict: &'a Dict, hits: &mut KeyHits<'a>) -> Option<(usize, Ent
     ensures prefixes { YieldsFirstBy (λ prefix. (prefix.0, prefix.1))
         (λ it. map (prefix_in (lexicon_sections dict.now)) (hits_seen it).hits)
         hits.old result hits.new }
+    ensures cells { (hits_seen hits.new).cells ≡ (hits_seen hits.old).cells }
     ensures text { (hits_seen hits.new).text ≡ (hits_seen hits.old).text }
-    ensures form { hits_form hits.new ≡ hits_form hits.old }
+    ensures walked { (hits_seen hits.new).walked
+        ≡ walked_to (hits_seen hits.old).text (option_map (λ prefix. prefix.0) result) }
 {
     let hit = hits.next_hit()?;
     Some((hit.length, dict.group(hit.value)))

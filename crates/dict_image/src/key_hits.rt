@@ -1,8 +1,9 @@
 //! The iterator over the keys that begin a text, by layout.
-ghost use Rattle.std.specs.Prelude.{◌≡◌, ◌+◌, ◌*◌, ◌≤◌, length};
+ghost use Rattle.std.specs.Prelude.{◌≡◌, ◌+◌, ◌*◌, ◌≤◌, length, option_map};
 ghost use Rattle.std.specs.Iterator.{YieldsFirstBy};
-ghost use Rattle.image_bytes.specs.declared.layout.KeyForm.TheVariants.{Listed};
-ghost use Rattle.dict_image.specs.KeyHits.{hits_form, hits_seen};
+ghost use Rattle.double_array.specs.Reads.{walk_reads};
+ghost use Rattle.double_array.specs.Walking.{walked_to};
+ghost use Rattle.dict_image.specs.KeyHits.{hits_seen};
 
 use crate::dict::Dict;
 use crate::listed_hits::ListedHits;
@@ -20,8 +21,10 @@ impl<'a> KeyHits<'a> {
     pub(crate) fn next_hit(&mut self) -> Option<Hit>
         ensures hits { YieldsFirstBy (λ hit. (hit.length, hit.value))
             (λ it. (hits_seen it).hits) self.old result self.new }
+        ensures cells { (hits_seen self.new).cells ≡ (hits_seen self.old).cells }
         ensures text { (hits_seen self.new).text ≡ (hits_seen self.old).text }
-        ensures form { hits_form self.new ≡ hits_form self.old }
+        ensures walked { (hits_seen self.new).walked
+            ≡ walked_to (hits_seen self.old).text (option_map (λ hit. hit.length) result) }
     {
         match self {
             KeyHits::Listed(hits) => hits.next(),
@@ -31,9 +34,9 @@ impl<'a> KeyHits<'a> {
 
     /// How many cells were read so far.
     pub(crate) fn reads(&self) -> u64
-        ensures reads { result ≡ (hits_seen self.now).reads }
+        ensures reads { result ≡ walk_reads (hits_seen self.now).cells
+            (hits_seen self.now).text (hits_seen self.now).walked }
         ensures few { result ≤ 2 * length (hits_seen self.now).text + 1 }
-        ensures none { hits_form self.now ≡ Listed → result ≡ 0 }
     {
         match self {
             KeyHits::Listed(_) => 0,

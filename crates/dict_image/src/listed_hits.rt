@@ -1,6 +1,7 @@
 //! The iterator over the listed keys that begin a text.
-ghost use Rattle.std.specs.Prelude.{◌≡◌, ◌≤◌, length};
+ghost use Rattle.std.specs.Prelude.{◌≡◌, ◌≤◌, length, option_map};
 ghost use Rattle.std.specs.Iterator.{YieldsFirstBy, item_count};
+ghost use Rattle.double_array.specs.Walking.{walked_to};
 ghost use Rattle.dict_image.specs.ListedHits.{listed_hits_behind};
 
 use crate::listed_keys::{Begun, ListedKeys};
@@ -18,15 +19,14 @@ pub(crate) struct ListedHits<'a> {
 
 impl<'a> Model for ListedHits<'a> {
     ghost use Rattle.std.specs.Prelude.{◌≤◌, length};
-    ghost use Rattle.double_array.specs.HitsSeen.{HitsSeen};
-    ghost use Rattle.dict_image.specs.ListedHits.{listed_hits_behind};
+    ghost use Rattle.dict_image.specs.ListedHits.{ListedHitsSeen, listed_hits_behind};
 
-    ghost Value = { HitsSeen };
+    ghost Value = { ListedHitsSeen };
 
     ghost view = { λ it. record {
       hits = listed_hits_behind it.keys it.text.now it.passed;
       text = it.text.now;
-      reads = 0;
+      walked = it.passed;
     } };
 
     ghost invariant = { λ it. it.passed ≤ length it.text.now };
@@ -37,6 +37,7 @@ impl<'a> ListedKeys<'a> {
     pub(crate) fn hits(self, text: &'a [u8]) -> ListedHits<'a>
         ensures hits { result.hits ≡ listed_hits_behind self.entry text.now 0 }
         ensures text { result.text ≡ text.now }
+        ensures walked { result.walked ≡ 0 }
     {
         ListedHits {
             keys: self,
@@ -51,7 +52,8 @@ impl<'a> Iterator for ListedHits<'a> {
 
     ghost next_gives = { λ old found new.
         YieldsFirstBy (λ hit. (hit.length, hit.value)) (λ it. it.hits) old found new
-        × (new.text ≡ old.text) };
+        × (new.text ≡ old.text)
+        × (new.walked ≡ walked_to old.text (option_map (λ hit. hit.length) found)) };
 
     ghost remaining = { item_count (λ it. it.hits) };
 
@@ -66,6 +68,7 @@ fn next_listed(keys: &ListedKeys<'_>, text: &[u8], passed: &mut usize) -> Option
     ensures within { passed.new ≤ length text.now }
     ensures hits { YieldsFirstBy (λ hit. (hit.length, hit.value))
         (λ n. listed_hits_behind keys.now text.now n) passed.old result passed.new }
+    ensures walked { passed.new ≡ walked_to text.now (option_map (λ hit. hit.length) result) }
 {
     while *passed < text.len() {
         *passed += 1;

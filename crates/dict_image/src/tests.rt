@@ -11,4 +11,5 @@ mod layout_2;
 mod listed;
 mod older_system;
 mod plain_reader;
+mod plain_walk;
 mod questions;

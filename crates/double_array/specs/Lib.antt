@@ -3,6 +3,7 @@ pub mod CellRules
 pub mod CellMoves
 pub mod Steps
 pub mod HitsSeen
+pub mod Reads
 pub mod Hits
 pub mod Walking
 pub mod Seen

@@ -27,7 +27,9 @@ pub fn get<C: CellRead>(cells: &C, key: &[u8]) -> Option<u32>
 pub fn prefixes<'a, C: CellRead>(cells: &'a C, text: &'a [u8]) -> Prefixes<'a, C>
     requires { AreCells (C.cells cells.now) }
     ensures hits { result.hits ≡ prefixes_of (C.cells cells.now) text.now }
+    ensures cells { result.cells ≡ C.cells cells.now }
     ensures text { result.text ≡ text.now }
+    ensures walked { result.walked ≡ 0 }
 {
     Prefixes::new(cells, text)
 }

@@ -1,7 +1,8 @@
 //! Steps from state to state. One function reads the cells, and counts.
-ghost use Rattle.std.specs.Prelude.{◌≡◌, ◌+◌, ◌≤◌, None, Some, slice_get};
+ghost use Rattle.std.specs.Prelude.{◌≡◌, ◌+◌, ◌<◌, ◌^◌, pos, None, Some, slice_get};
 ghost use Rattle.double_array.specs.CellRules.{AreCells};
 ghost use Rattle.double_array.specs.Hits.{value_here};
+ghost use Rattle.double_array.specs.Reads.{reads_at, step_reads};
 ghost use Rattle.double_array.specs.Steps.{IsAt, IsChildBase, IsStepTo};
 
 use crate::cell_read::CellRead;
@@ -15,20 +16,22 @@ pub(crate) struct Place {
 
 /// The cell of a number, if there is one. A walk reads each cell through this call, which counts it.
 fn read<C: CellRead>(cells: &C, i: usize, reads: &mut u64) -> Option<(i32, i32)>
+    requires { reads.old + 1 < 2 ^ 64 }
     ensures cell { result ≡ slice_get (C.cells cells.now) i }
-    ensures reads { reads.new ≤ reads.old + 1 }
+    ensures reads { reads.new ≡ reads.old + reads_at (C.cells cells.now) (pos i) }
 {
     if i >= cells.len() {
         return None;
     }
-    *reads = reads.saturating_add(1);
+    *reads += 1;
     Some(cells.cell(i))
 }
 
 /// The base of a cell, if it is a child of this state.
 fn child<C: CellRead>(cells: &C, state: usize, i: usize, reads: &mut u64) -> Option<i32>
+    requires { reads.old + 1 < 2 ^ 64 }
     ensures child { IsChildBase (C.cells cells.now) state i result }
-    ensures reads { reads.new ≤ reads.old + 1 }
+    ensures reads { reads.new ≡ reads.old + reads_at (C.cells cells.now) (pos i) }
 {
     let (base, check) = read(cells, i, reads)?;
     if check >= 0 && check as usize == state {
@@ -40,10 +43,11 @@ fn child<C: CellRead>(cells: &C, state: usize, i: usize, reads: &mut u64) -> Opt
 
 /// The state from which all walks begin.
 pub(crate) fn root<C: CellRead>(cells: &C, reads: &mut u64) -> Place
-    requires { AreCells (C.cells cells.now) }
+    requires cells { AreCells (C.cells cells.now) }
+    requires reads { reads.old + 1 < 2 ^ 64 }
     ensures root { result.state ≡ 0 }
     ensures base { IsAt (C.cells cells.now) result }
-    ensures reads { reads.new ≤ reads.old + 1 }
+    ensures reads { reads.new ≡ reads.old + reads_at (C.cells cells.now) (pos 0) }
 {
     match read(cells, 0, reads) {
         Some((base, _)) => Place {
@@ -58,8 +62,10 @@ pub(crate) fn root<C: CellRead>(cells: &C, reads: &mut u64) -> Place
 pub(crate) fn step<C: CellRead>(cells: &C, from: Place, byte: u8, reads: &mut u64) -> Option<Place>
     requires cells { AreCells (C.cells cells.now) }
     requires from { IsAt (C.cells cells.now) from }
+    requires reads { reads.old + 1 < 2 ^ 64 }
     ensures step { IsStepTo (C.cells cells.now) from.state (byte + 1) result }
-    ensures reads { reads.new ≤ reads.old + 1 }
+    ensures reads { reads.new
+        ≡ reads.old + step_reads (C.cells cells.now) from.state (byte + 1) }
 {
     let state = from.base as usize + byte as usize + 1;
     let base = child(cells, from.state, state, reads)?;
@@ -73,8 +79,9 @@ pub(crate) fn step<C: CellRead>(cells: &C, from: Place, byte: u8, reads: &mut u6
 pub(crate) fn value_at<C: CellRead>(cells: &C, from: Place, reads: &mut u64) -> Option<u32>
     requires cells { AreCells (C.cells cells.now) }
     requires from { IsAt (C.cells cells.now) from }
+    requires reads { reads.old + 1 < 2 ^ 64 }
     ensures value { result ≡ value_here (C.cells cells.now) from.state }
-    ensures reads { reads.new ≤ reads.old + 1 }
+    ensures reads { reads.new ≡ reads.old + step_reads (C.cells cells.now) from.state 0 }
 {
     let base = child(cells, from.state, from.base as usize, reads)?;
     Some(-(base + 1) as u32)

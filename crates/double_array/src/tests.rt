@@ -3,7 +3,7 @@ mod access;
 mod growing;
 mod relocated;
 
-use crate::tests::access::{Borrowed, expect_hits, insert, value};
+use crate::tests::access::{Counting, expect_hits, insert, value};
 use crate::{CellRead, DaFault, DoubleArray, Inserted};
 use mj_model::NamedFault;
 use std::test::Fail;
@@ -34,19 +34,18 @@ fn insert_and_walk(rt: HostRuntime) -> Result<(), Fail> {
     ];
     for (key, expected) in rows {
         assert_eq!(rt; value(&array, key), expected, "{key:?}");
-        assert_eq!(rt; value(&Borrowed(&array), key), expected, "{key:?}");
+        assert_eq!(rt; value(&Counting::over(&array), key), expected, "{key:?}");
     }
     let rows = [
-        // (text, the keys that begin it: length and value)
-        (b"abc".as_slice(), [(1, 9), (2, 7)].as_slice()),
-        (b"ab", &[(1, 9), (2, 7)]),
-        (b"ac", &[(1, 9)]),
-        (b"b", &[]),
-        (b"", &[]),
+        // (text, the keys that begin it: length and value, the root and the steps and values asked for)
+        (b"abc".as_slice(), [(1, 9), (2, 7)].as_slice(), 6),
+        (b"ab", &[(1, 9), (2, 7)], 5),
+        (b"ac", &[(1, 9)], 4),
+        (b"b", &[], 2),
+        (b"", &[], 1),
     ];
-    for (text, hits) in rows {
-        expect_hits(&rt, &array, text, hits);
-        expect_hits(&rt, &Borrowed(&array), text, hits);
+    for (text, hits, reads) in rows {
+        expect_hits(&rt, &array, text, hits, reads);
     }
     Ok(())
 }
@@ -57,7 +56,7 @@ fn the_empty_array(rt: HostRuntime) -> Result<(), Fail> {
     assert!(rt; (1..=600).contains(&array.len()));
     assert_eq!(rt; value(&array, b""), None);
     assert_eq!(rt; value(&array, b"\0"), None);
-    expect_hits(&rt, &array, b"a", &[]);
+    expect_hits(&rt, &array, b"a", &[], 2);
     Ok(())
 }
 
@@ -105,6 +104,6 @@ fn a_long_key(rt: HostRuntime) -> Result<(), Fail> {
     assert_eq!(rt; insert(&mut array, &key, 3)?, none);
     assert_eq!(rt; value(&array, &key), Some(3));
     assert_eq!(rt; value(&array, &key[1..]), None);
-    expect_hits(&rt, &array, &key, &[(65_535, 3)]);
+    expect_hits(&rt, &array, &key, &[(65_535, 3)], 131_071);
     Ok(())
 }

@@ -1,9 +1,9 @@
 //! A walk over the bytes of a text, from hit to hit.
-ghost use Rattle.std.specs.Prelude.{◌≡◌, ◌+◌, ◌*◌, ◌≤◌, Some, IfSome};
+ghost use Rattle.std.specs.Prelude.{◌≡◌, ◌+◌, ◌*◌, ◌≤◌, Some, IfSome, IfNone, length, option_map};
 ghost use Rattle.std.specs.Iterator.{YieldsFirstBy};
 ghost use Rattle.double_array.specs.Steps.{IsAt};
 ghost use Rattle.double_array.specs.Hits.{IsStepOfWalk, hits_left};
-ghost use Rattle.double_array.specs.Walking.{IsWalking};
+ghost use Rattle.double_array.specs.Walking.{IsWalkBut, IsWalking, value_reads, walked, walked_to};
 ghost use Rattle.double_array.specs.CellMap.{prefixes_of};
 ghost use Rattle.double_array.specs.CellRules.{AreCells};
 
@@ -31,6 +31,7 @@ pub(crate) fn begin<C: CellRead>(cells: &C, text: &[u8]) -> Walk
     ensures walking { IsWalking (C.cells cells.now) text.now result }
     ensures hits { hits_left (C.cells cells.now) text.now result
         ≡ prefixes_of (C.cells cells.now) text.now }
+    ensures walked { walked text.now result ≡ 0 }
 {
     let mut reads = 0;
     let place = root(cells, &mut reads);
@@ -47,6 +48,8 @@ pub(crate) fn next_hit<C: CellRead>(cells: &C, text: &[u8], walk: &mut Walk) -> 
     ensures walking { IsWalking (C.cells cells.now) text.now walk.new }
     ensures hits { YieldsFirstBy (λ hit. (hit.length, hit.value))
         (hits_left (C.cells cells.now) text.now) walk.old result walk.new }
+    ensures walked { walked text.now walk.new
+        ≡ walked_to text.now (option_map (λ hit. hit.length) result) }
 {
     while let Some(place) = advance(cells, text, walk) {
         if let Some(value) = value_at(cells, place, &mut walk.reads) {
@@ -62,11 +65,13 @@ pub(crate) fn next_hit<C: CellRead>(cells: &C, text: &[u8], walk: &mut Walk) -> 
 /// Goes on by a byte: the place there, or None where the walk ends.
 fn advance<C: CellRead>(cells: &C, text: &[u8], walk: &mut Walk) -> Option<Place>
     requires { IsWalking (C.cells cells.now) text.now walk.old }
-    ensures walking { IsWalking (C.cells cells.now) text.now walk.new }
+    ensures walking { IsWalkBut (value_reads (C.cells cells.now) result)
+        (C.cells cells.now) text.now walk.new }
     ensures hits { IsStepOfWalk (C.cells cells.now) text.now walk.old walk.new result }
-    ensures place { IfSome result (IsAt (C.cells cells.now)) }
+    ensures place { IfSome result (λ place. walk.new.place ≡ Some place) }
     ensures further { IfSome result (λ place. walk.new.length ≡ walk.old.length + 1) }
     ensures room { IfSome result (λ place. walk.new.reads ≤ 2 * walk.new.length) }
+    ensures ended { IfNone result (walked text.now walk.new ≡ length text.now) }
 {
     let place = walk.place?;
     let byte = *text.get(walk.length)?;

@@ -48,10 +48,10 @@ fn entries_of_numbers(rt: HostRuntime) -> Result<(), Fail> {
 fn keys_that_begin_a_text(rt: HostRuntime) -> Result<(), Fail> {
     let dict = load(rt.alloc(), whole_image(rt.alloc())?)?;
     let rows = [
-        // (text, the length of its one prefix, the most cells that are read)
-        ("ab", Some(1), 5),
+        // (text, the length of its one prefix, the cells read: those of the steps on `b` are not there)
+        ("ab", Some(1), 3),
         ("a", Some(1), 3),
-        ("ba", None, 5),
+        ("ba", None, 1),
         ("", None, 1),
     ];
     for (text, length, reads) in rows {
@@ -59,7 +59,7 @@ fn keys_that_begin_a_text(rt: HostRuntime) -> Result<(), Fail> {
         let first = prefixes.next().map(|prefix| prefix.0);
         assert_eq!(rt; (text, first), (text, length));
         assert!(rt; prefixes.next().is_none());
-        assert!(rt; prefixes.reads() <= reads);
+        assert_eq!(rt; prefixes.reads(), reads, "{text}");
     }
     Ok(())
 }

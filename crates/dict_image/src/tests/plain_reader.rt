@@ -28,7 +28,7 @@ pub(crate) fn first_fault(alloc: Global, bytes: &[u8]) -> Result<Option<ImageFau
 }
 
 /// The little-endian number in so many bytes from a place on.
-fn number_at(bytes: &[u8], at: usize, size: usize) -> u64 {
+pub(crate) fn number_at(bytes: &[u8], at: usize, size: usize) -> u64 {
     let mut number = 0_u64;
     let mut weight = 1_u64;
     for byte in bytes.iter().skip(at).take(size) {
@@ -63,7 +63,7 @@ fn end_of(bytes: &[u8], sections: usize) -> Option<u64> {
 }
 
 /// The bytes of section k, none where they lie outside.
-fn section(bytes: &[u8], k: usize) -> &[u8] {
+pub(crate) fn section(bytes: &[u8], k: usize) -> &[u8] {
     let start = end_of(bytes, k.saturating_sub(1)).unwrap_or(0);
     let end = end_of(bytes, k).unwrap_or(0);
     bytes.get(start as usize..end as usize).unwrap_or(b"")
@@ -158,7 +158,7 @@ fn listed_fault(bytes: &[u8]) -> Option<ImageFault> {
 }
 
 /// Base and check of a cell of layout 2, none of a number that is no cell's.
-fn cell(cells: &[u8], number: i64) -> Option<(i64, i64)> {
+pub(crate) fn cell(cells: &[u8], number: i64) -> Option<(i64, i64)> {
     let at = usize::try_from(number).ok()?.checked_mul(8)?;
     if at >= cells.len() {
         return None;

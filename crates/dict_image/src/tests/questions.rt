@@ -1,4 +1,5 @@
 //! Questions to dictionaries.
+use crate::tests::plain_walk::reads_for;
 use crate::{Dict, EntryRef};
 use mj_model::CharInfo;
 
@@ -24,7 +25,7 @@ pub(crate) fn are_entries(dict: &Dict, key: &str, expected: &[Expected]) -> bool
 }
 
 /// Whether these are the lengths of the keys that begin a text, each key with a first entry of this number, and there are no others.
-/// At most this many cells are read for them.
+/// So many cells are read for them.
 pub(crate) fn are_prefixes(dict: &Dict, text: &str, expected: &[(usize, u32)], reads: u64) -> bool {
     let mut prefixes = dict.prefixes(text);
     for (length, token) in expected {
@@ -35,13 +36,16 @@ pub(crate) fn are_prefixes(dict: &Dict, text: &str, expected: &[(usize, u32)], r
             return false;
         }
     }
-    prefixes.next().is_none() && prefixes.reads() <= reads
+    prefixes.next().is_none() && prefixes.reads() == reads
 }
 
-/// Whether a dictionary answers all that can be asked of it, and reads no cell of listed keys, and few of others.
-pub(crate) fn answers_within(dict: &Dict, is_listed: bool) -> bool {
-    ["", "a", "ab", "も", "ももa", "\0"].iter().all(|text| reads_few(dict, text, is_listed)
-        && has_few_entries(dict, text))
+/// Whether the dictionary of an image answers all that can be asked of it, and reads the cells that the plain reader counts.
+pub(crate) fn answers_all(dict: &Dict, image: &[u8]) -> bool {
+    ["", "a", "ab", "も", "ももa", "\0"].iter().all(|text| has_prefixes(
+        dict,
+        text,
+        reads_for(image, text.as_bytes()),
+    ) && has_few_entries(dict, text))
         && dict.known_token(0).is_some()
         && dict.known_token(1).is_none()
         && dict.unknown_token(0).is_none()
@@ -54,13 +58,8 @@ fn has_few_entries(dict: &Dict, key: &str) -> bool {
     entries.next().is_none()
 }
 
-/// Whether few cells are read for the keys that begin a text: two for each byte and one at most, and none of listed keys.
-fn reads_few(dict: &Dict, text: &str, is_listed: bool) -> bool {
-    let most = if is_listed {
-        0
-    } else {
-        text.len().saturating_mul(2).saturating_add(1)
-    };
+/// Whether the keys that begin a text are ever longer ones within it, each with an entry, and so many cells are read for them.
+fn has_prefixes(dict: &Dict, text: &str, reads: u64) -> bool {
     let mut prefixes = dict.prefixes(text);
     let mut last = 0;
     for (length, mut entries) in prefixes.by_ref() {
@@ -69,7 +68,7 @@ fn reads_few(dict: &Dict, text: &str, is_listed: bool) -> bool {
         }
         last = length;
     }
-    prefixes.reads() <= most as u64
+    prefixes.reads() == reads
 }
 
 /// The categories of a character, which a user dictionary does not tell.

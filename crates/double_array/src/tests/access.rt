@@ -1,22 +1,37 @@
 //! Insertion and lookup, as the rows ask for them.
+ghost use Rattle.std.specs.Prelude.{◌≡◌};
 ghost use Rattle.double_array.specs.CellRules.{AreCells};
 
 use crate::{CellRead, DaFault, DoubleArray, Hit, Inserted, get, prefixes};
+use std::cell::Cell;
 use std::process::Abort;
 
-/// The cells of an array, read through another type.
+/// The cells of an array, and how often one of them was read.
 #[derive(Drop)]
-pub struct Borrowed<'a>(pub &'a DoubleArray);
+pub struct Counting<'a> {
+    array: &'a DoubleArray,
+    calls: Cell<u64>,
+}
 
-impl CellRead for Borrowed<'_> {
-    ghost cells = { λ borrowed. borrowed.0.now };
+impl<'a> Counting<'a> {
+    pub fn over(array: &'a DoubleArray) -> Counting<'a>
+        ensures { result.array.now ≡ array.now }
+    {
+        let calls = Cell::new(0);
+        Counting { array, calls }
+    }
+}
+
+impl CellRead for Counting<'_> {
+    ghost cells = { λ counting. counting.array.now };
 
     fn len(&self) -> usize {
-        self.0.len()
+        self.array.len()
     }
 
     fn cell(&self, i: usize) -> (i32, i32) {
-        self.0.cell(i)
+        self.calls.set(self.calls.get().saturating_add(1));
+        self.array.cell(i)
     }
 }
 
@@ -37,19 +52,29 @@ pub fn value<C: CellRead>(cells: &C, key: &[u8]) -> Option<u32>
     get(cells, key)
 }
 
-/// Asks for the keys that begin a text, and for at most two reads for each byte and one more at each moment.
-pub fn expect_hits<C: CellRead>(rt: &impl Abort, cells: &C, text: &[u8], hits: &[(usize, u32)])
-    requires { AreCells (C.cells cells.now) }
+/// Asks for the keys that begin a text, and how many cells are read for them. At each moment the walk tells as many as the cells
+/// themselves.
+pub fn expect_hits(
+    rt: &impl Abort,
+    array: &DoubleArray,
+    text: &[u8],
+    hits: &[(usize, u32)],
+    reads: u64,
+)
+    requires { AreCells array.now }
 {
-    let mut found = prefixes(cells, text);
+    let cells = Counting::over(array);
+    let mut found = prefixes(&cells, text);
+    assert_eq!(rt; found.reads(), cells.calls.get(), "{text:?}");
     for (length, value) in hits {
         let hit = Hit {
             length: *length,
             value: *value,
         };
         assert_eq!(rt; found.next(), Some(hit), "{text:?}");
-        assert!(rt; found.reads() <= 2 * text.len() as u64 + 1, "{text:?}");
+        assert_eq!(rt; found.reads(), cells.calls.get(), "{text:?}");
     }
     assert_eq!(rt; found.next(), None, "{text:?}");
-    assert!(rt; found.reads() <= 2 * text.len() as u64 + 1, "{text:?}");
+    assert_eq!(rt; found.reads(), reads, "{text:?}");
+    assert_eq!(rt; cells.calls.get(), reads, "{text:?}");
 }

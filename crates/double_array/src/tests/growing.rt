@@ -50,7 +50,7 @@ fn byte_after_byte(rt: HostRuntime) -> Result<(), Fail> {
     assert!(rt; has_first_keys(&array, KEYS));
     let _ = array.len();
     assert_eq!(rt; value(&array, b"b"), None);
-    expect_hits(&rt, &array, b"abc", &[(1, 0), (2, 99)]);
+    expect_hits(&rt, &array, b"abc", &[(1, 0), (2, 99)], 6);
     Ok(())
 }
 

@@ -1,4 +1,4 @@
-use Rattle.std.proofs.Common.{◌≡◌, take, Some}
+use Rattle.std.proofs.Common.{◌≡◌, ◌+◌, ◌≤◌, take, Some}
 use Rattle.double_array.specs.CellMap.{walk, codes_of}
 use Rattle.double_array.specs.Steps.{IsAt}
 use Rattle.double_array.proofs.lookup.get.Given as goal
@@ -7,4 +7,5 @@ abbrev pub invariant-loop-byte : goal.invariant-loop-byte
 invariant-loop-byte g l = record {
   led : walk (g.C.CellRead.cells l.cells) 0 (take l.byte-index (codes_of l.key)) ≡ Some l.place.state;
   at : IsAt (g.C.CellRead.cells l.cells) l.place;
+  few : l.reads ≤ l.byte-index + 1;
 }

@@ -1,9 +1,10 @@
-use Rattle.std.proofs.Common.{rules, arith, ap, sym, subst, ◌+◌, ◌∙◌, pos, w32}
+use Rattle.std.proofs.Common.{rules, arith, ℕ, ap, sym, subst, ◌+◌, ◌∙◌, pos, w32}
 use lib.IntN.{nat_abs}
 use mir.Val.{SFits}
 use Rattle.std.proofs.lemmas.Int.{to_z-of_z}
 use Rattle.double_array.specs.Steps.{IsStepTo}
 use Rattle.double_array.proofs.StepLemmas.{no_step, byte_step}
+use Rattle.double_array.proofs.ReadLemmas.{step_reads_at}
 use Rattle.double_array.proofs.steps.step.Goals as goal
 
 pub returns-in_err-base-clause-step : goal.returns-in_err-base-clause-step
@@ -19,3 +20,13 @@ returns-clause-step g c =
     let found = c.in_ok-base.ensures.child in
     let e = byte_step cells c.args.from.state c.args.byte c.args.from.base c.in_ok-base.base c.requires.cells c.requires.from found.0 found.1 in
     (e.0, e.1 ∙ ap (λ z. pos (nat_abs z)) (sym (to_z-of_z w32 c.in_ok-base.base fits)))
+
+pub returns-in_err-base-clause-reads : goal.returns-in_err-base-clause-reads
+returns-in_err-base-clause-reads g c =
+    let cells = g.C.CellRead.cells c.args.cells.now in
+    c.child.ensures.reads ∙ ap (λ (n : ℕ). c.args.reads.now + n) (step_reads_at cells c.args.from.state (c.args.byte + 1) c.args.from.base _ c.requires.from (omega arith))
+
+pub returns-clause-reads : goal.returns-clause-reads
+returns-clause-reads g c =
+    let cells = g.C.CellRead.cells c.args.cells.now in
+    c.child.ensures.reads ∙ ap (λ (n : ℕ). c.args.reads.now + n) (step_reads_at cells c.args.from.state (c.args.byte + 1) c.args.from.base _ c.requires.from (omega arith))

@@ -1,7 +1,8 @@
-use Rattle.std.proofs.Common.{rules, arith, ap, sym, ◌∙◌, w32, Some, ℕ}
+use Rattle.std.proofs.Common.{rules, arith, ap, sym, ◌+◌, ◌∙◌, w32, Some, ℕ}
 use mir.Val.{SFits}
 use Rattle.std.specs.Option.{option_and_then}
 use Rattle.double_array.specs.CellMap.{base, value_in}
+use Rattle.double_array.proofs.ReadLemmas.{step_reads_at}
 use Rattle.double_array.proofs.StepLemmas.{no_step, end_step, told_value, told_value_fits}
 use Rattle.double_array.proofs.steps.value_at.Goals as goal
 
@@ -26,3 +27,13 @@ returns-clause-value g c =
     let found = c.in_ok-base.ensures.child in
     let e = end_step cells c.args.from.state c.args.from.base c.in_ok-base.base c.requires.cells c.requires.from found.0 found.1 in
     ap Some (told_value c.in_ok-base.base e.0 e.1 fits) ∙ sym e.2
+
+pub returns-in_err-base-clause-reads : goal.returns-in_err-base-clause-reads
+returns-in_err-base-clause-reads g c =
+    let cells = g.C.CellRead.cells c.args.cells.now in
+    c.child.ensures.reads ∙ ap (λ (n : ℕ). c.args.reads.now + n) (step_reads_at cells c.args.from.state 0 c.args.from.base c.args.from.base c.requires.from (omega arith))
+
+pub returns-clause-reads : goal.returns-clause-reads
+returns-clause-reads g c =
+    let cells = g.C.CellRead.cells c.args.cells.now in
+    c.child.ensures.reads ∙ ap (λ (n : ℕ). c.args.reads.now + n) (step_reads_at cells c.args.from.state 0 c.args.from.base c.args.from.base c.requires.from (omega arith))

@@ -1,7 +1,7 @@
 use Rattle.std.proofs.Common.{map, subst}
 use Rattle.std.specs.Iterator.{YieldsFirstBy}
 use Rattle.image_bytes.specs.ImageMeaning.{lexicon_sections}
-use Rattle.dict_image.specs.KeyHits.{hits_form, hits_seen}
+use Rattle.dict_image.specs.KeyHits.{hits_seen}
 use Rattle.dict_image.specs.Prefixes.{PrefixesSeen, prefix_in}
 use Rattle.dict_image.proofs.ProgressLemmas.{progress_of}
 use Rattle.dict_image.proofs.hits.PrefixesIterator.next.Goals as goal
@@ -10,6 +10,6 @@ pub returns-clause-goes : goal.returns-clause-goes
 returns-clause-goes c =
     let hits = hits_seen c.next_prefix.new.hits in
     let left : PrefixesSeen =
-    record { prefixes = map (prefix_in (lexicon_sections c.self.inside.dict.now)) hits.hits; text = hits.text; reads = hits.reads; form = hits_form c.next_prefix.new.hits } in
+    record { prefixes = map (prefix_in (lexicon_sections c.self.inside.dict.now)) hits.hits; cells = hits.cells; text = hits.text; walked = hits.walked } in
     progress_of (λ prefix. (prefix.0, prefix.1)) (λ (it : PrefixesSeen). it.prefixes) _ c.args.self.now c.next_prefix.result left tt
     (subst (λ (old : PrefixesSeen). YieldsFirstBy (λ prefix. (prefix.0, prefix.1)) (λ (it : PrefixesSeen). it.prefixes) old c.next_prefix.result left) c.self.view_is c.next_prefix.ensures.prefixes)

@@ -1,0 +1,13 @@
+use Rattle.std.proofs.Common.{List, ap, ◌∙◌}
+use Rattle.double_array.specs.CellMap.{Cell}
+use Rattle.double_array.specs.Reads.{walk_reads}
+use Rattle.double_array.proofs.ReadLemmas.{no_reads}
+use Rattle.dict_image.specs.KeyHits.{hits_seen}
+use Rattle.dict_image.specs.Prefixes.{PrefixesSeen}
+use Rattle.dict_image.proofs.hits.Prefixes.reads.Goals as goal
+
+pub returns-clause-none : goal.returns-clause-none
+returns-clause-none c = λ none.
+    let hits = hits_seen c.self.inside.hits in
+    let cells = ap (λ (it : PrefixesSeen). it.cells) c.self.view_is ∙ none in
+    c.reads.ensures.reads ∙ ap (λ (cs : List Cell). walk_reads cs hits.text hits.walked) cells ∙ no_reads hits.text hits.walked
