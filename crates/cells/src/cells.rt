@@ -76,7 +76,8 @@ impl Cells {
         self.row.put(i, (base, check));
     }
 
-    /// Appends free cells, up to `n` cells in all. Called for one more cell at a time, it takes a block only now and then.
+    /// Appends free cells, up to `n` cells in all. Called for one more cell at a time, it takes a block only now and then. A
+    /// block has at most twice as many places as there are cells.
     pub fn grow(&mut self, n: usize) -> Result<(), AllocError>
         requires more { length self.old ≤ n }
         requires few { n ≤ CELLS_MAX }

@@ -8,7 +8,7 @@ use Rattle.double_array.proofs.CellWalks.{step_named, step_place, IsChild, child
 use Rattle.double_array.proofs.CellMoveLaw.{free_no_check, free_no_base, Renames, renamed_base, all_is_kept, walk_renamed}
 use Rattle.double_array.specs.Pool.{Pool}
 use Rattle.double_array.specs.Family.{HasCode, FitsAt}
-use Rattle.double_array.specs.Built.{values, AreBases, IsBuilt, IsCleared}
+use Rattle.double_array.specs.Built.{values, AreBases, HasUsed, IsBuilt, IsCleared}
 use Rattle.double_array.specs.Moves.{IsFamilyOf}
 use Rattle.double_array.proofs.FamilyLemmas.{relocation, with_code, set_here}
 use Rattle.double_array.proofs.Moving.{based_within, no_self_child}
@@ -27,18 +27,22 @@ on_after cells s front (c ∷ back) key v from whole led there at =
     let f = walk_first cells s c back p.0 on in
     (c, f.0, f.1)
 
--- the root, and every used state, has a child where some cell is used
-pub has_child : (pool : Pool) (s from t q : ℕ) → IsBuilt pool → base pool.cells s ≡ pos from → 2 ≤ from → check pool.cells t ≡ pos q → (c : ℕ) × (u : ℕ) × (step pool.cells s c ≡ Some u)
-has_child pool zero from t q built at some used =
-    let k = built.on_keys t q used in
-    on_after pool.cells 0 [] (codes_of k.key) k.key k.value from refl (walk_none pool.cells 0) k.there at
-has_child pool (suc n) from t q built at some used =
+-- every state but the root has a child
+pub has_child_there : (pool : Pool) (n from : ℕ) → IsBuilt pool → base pool.cells (suc n) ≡ pos from → 2 ≤ from → (c : ℕ) × (u : ℕ) × (step pool.cells (suc n) c ≡ Some u)
+has_child_there pool n from built at some =
     elim (built.rules.others (suc n) (omega arith) (based_within pool.cells (suc n) from at (omega (arith, some)))) [
       | inl free ↦ absurd (free_no_base pool.cells (suc n) from free at (omega (arith, some)))
       | inr u ↦
           let k = built.on_keys (suc n) u.state u.named in
           on_after pool.cells (suc n) k.front k.back k.key k.value from k.codes k.led k.there at
     ]
+
+-- and so has the root where some cell is used
+pub has_child : (pool : Pool) (s from t q : ℕ) → IsBuilt pool → base pool.cells s ≡ pos from → 2 ≤ from → check pool.cells t ≡ pos q → (c : ℕ) × (u : ℕ) × (step pool.cells s c ≡ Some u)
+has_child pool zero from t q built at some used =
+    let k = built.on_keys t q used in
+    on_after pool.cells 0 [] (codes_of k.key) k.key k.value from refl (walk_none pool.cells 0) k.there at
+has_child pool (suc n) from t q built at some used = has_child_there pool n from built at some
 
 pub has_code : (pool : Pool) (s from t q : ℕ) (family : List Bool) → IsBuilt pool → base pool.cells s ≡ pos from → 2 ≤ from → check pool.cells t ≡ pos q → IsFamilyOf pool.cells s from family → (c : ℕ) × HasCode family c
 has_code pool s from t q family built at some used is =
@@ -48,13 +52,19 @@ has_code pool s from t q family built at some used is =
     let same : i.code ≡ h.0 = let a = i.place in let b = step_place pool.cells s i.code h.1 from i.led at in omega (arith, b, place) in
     (h.0, is.complete h.0 (let n = i.near in omega (arith, n, same)) (ap (check pool.cells) (sym place) ∙ step_named pool.cells s h.0 h.1 h.2))
 
-in_use : (pool : Pool) (s from : ℕ) → IsBuilt pool → base pool.cells s ≡ pos from → 2 ≤ from → (s ≡ 0) ⊎ ((q : ℕ) × (check pool.cells s ≡ pos q))
+pub in_use : (pool : Pool) (s from : ℕ) → IsBuilt pool → base pool.cells s ≡ pos from → 2 ≤ from → (s ≡ 0) ⊎ ((q : ℕ) × (check pool.cells s ≡ pos q))
 in_use pool zero from built at some = inl refl
 in_use pool (suc n) from built at some =
     elim (built.rules.others (suc n) (omega arith) (based_within pool.cells (suc n) from at (omega (arith, some)))) [
       | inl free ↦ absurd (free_no_base pool.cells (suc n) from free at (omega (arith, some)))
       | inr u ↦ inr (u.state, u.named)
     ]
+
+-- after a move its children are used
+used_after : (old new : List Cell) (s to : ℕ) → IsMove old new s to → HasUsed new
+used_after old new s to move =
+    let c = move.some_child in
+    (to + c.0, s, ap (λ (x : Cell). x.1) (move.child c.0 c.1 c.2) ∙ step_named old s c.0 c.1 c.2)
 
 -- ---- the state's own children move
 
@@ -88,6 +98,7 @@ module _ (old new : Pool) (s from code to : ℕ) (family : List Bool) (built : I
       on_keys = own_kept.on_keys;
       bases = bases;
       root = root;
+      begun = inl (used_after old.cells new.cells s to move);
       room = let l = move.same_length in omega (arith, l, top, room);
       few = let l = move.same_length in let f = built.few in omega (arith, l, f);
     };
@@ -119,6 +130,7 @@ module _ (old new : Pool) (s from code other other_from to follow : ℕ) (family
       on_keys = other_kept.on_keys;
       bases = bases;
       root = root;
+      begun = inl (used_after old.cells new.cells other to move);
       room = let l = move.same_length in omega (arith, l, top, room);
       few = let l = move.same_length in let f = built.few in omega (arith, l, f);
     };

@@ -1,5 +1,5 @@
 -- The empty array: the root and free cells.
-use Rattle.std.proofs.Common.{◌≡◌, ℕ, zero, suc, ◌<◌, ◌≤◌, pos, negsuc, List, [], ◌∷◌, Some, None, inl, sym, ap, ◌∙◌, arith}
+use Rattle.std.proofs.Common.{◌≡◌, ℕ, zero, suc, ◌<◌, ◌≤◌, pos, negsuc, List, [], ◌∷◌, Some, None, inl, inr, sym, ap, ◌∙◌, arith}
 use Rattle.std.proofs.lemmas.Option.{same_Some}
 use Rattle.double_array.specs.CellMap.{Cell, base, check, walk, codes_of, value_of}
 use Rattle.double_array.specs.CellRules.{MeetsRules}
@@ -39,6 +39,7 @@ empty_is_built pool empty =
       on_keys = λ t s named. absurd (no_cell_is_used pool t s empty named);
       bases = bases_of;
       root = (2, ap (λ (x : Cell). x.0) empty.root, omega arith);
+      begun = inr (ap (λ (x : Cell). x.0) empty.root);
       room = omega (arith, long, top);
       few = omega (arith, long);
     }

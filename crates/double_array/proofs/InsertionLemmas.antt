@@ -15,6 +15,7 @@ use Rattle.double_array.specs.Pool.IsInUse.{is_named}
 use Rattle.double_array.specs.Built.{values, IsBuilt, IsCleared}
 use Rattle.double_array.specs.Tail.{IsReady}
 use Rattle.double_array.specs.Insertion.{IsReached, HasRoom}
+use Rattle.double_array.proofs.RoomLemmas.{begun_same}
 use Rattle.double_array.proofs.SeenLemmas.{at_same}
 use Rattle.double_array.proofs.KeyWalks.{length-codes_of, code_of_byte, code_of_end, codes_end, walk_take_more, no_value_by_stop}
 use Rattle.double_array.proofs.Valued.{walk_same, map_same, keys_same, rules_same, valued_others, valued_rules, value_replaced, keys_valued}
@@ -93,6 +94,7 @@ grown_built old new n long left built grown top n_is few less =
         on_keys = keys_same old.cells new.cells grown.same built.on_keys;
         bases = λ t b at above. let r = built.bases t b (sym (ap (λ (x : Cell). x.0) (grown.same t)) ∙ at) above in (r.0, (let l = r.1 in omega (arith, l, top)));
         root = (built.root.0, ap (λ (x : Cell). x.0) (grown.same 0) ∙ built.root.1, built.root.2);
+        begun = begun_same old.cells new.cells grown.same built.begun;
         room = let r = built.room in omega (arith, r, top, more, n_is);
         few = omega (arith, more, few);
       };
@@ -155,6 +157,7 @@ module _ (old : Pool) (key : List ℕ) (at : Reached) (code end : ℕ) (built : 
         | inr other ↦ let r = built.bases t b (sym (ap (λ (x : Cell). x.0) (rest t other)) ∙ base_is) above in (r.0, (let l = r.1 in omega (arith, l, top_is)))
       ];
       root = (built.root.0, ap (λ (x : Cell). x.0) (rest 0 (λ e. let k : pos built.root.0 ≡ negsuc v = sym built.root.1 ∙ ap (base old.cells) e ∙ holds in absurd (cc))) ∙ built.root.1, built.root.2);
+      begun = inl (end, at.state, ap (λ (x : Cell). x.1) at_end ∙ step_named old.cells at.state 0 end end_step);
       room = let r = built.room in let l = end_long in omega (arith, r, l, top_is);
       few = let f = built.few in let l = end_long in omega (arith, f, l);
     }

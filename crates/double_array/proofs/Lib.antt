@@ -15,5 +15,7 @@ pub mod Valued
 pub mod FamilyLemmas
 pub mod TailLemmas
 pub mod ClearingLemmas
+pub mod MovedLemmas
+pub mod RoomLemmas
 pub mod InsertionLemmas
 pub mod EmptyLemmas

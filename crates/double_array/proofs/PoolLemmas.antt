@@ -13,7 +13,7 @@ use Rattle.mj_model.proofs.Basics.{same_pos}
 use Rattle.double_array.specs.Seen.{hidden, hide, seen}
 use Rattle.double_array.specs.Ring.{HasLinks, IsOnRing, IsRing, AreLinked}
 use Rattle.double_array.specs.Ring.IsOnRing.{first, further}
-use Rattle.double_array.specs.Pool.{IsPool, IsInUse, IsGrown, IsEmpty, IsNew}
+use Rattle.double_array.specs.Pool.{IsLowered, IsPool, IsInUse, IsGrown, IsEmpty, IsNew}
 use Rattle.double_array.specs.Pool.IsInUse.{is_root, is_named}
 use Rattle.double_array.proofs.SeenLemmas.{at_same, at_other, seen_set, seen_at, seen_root, seen_free, length-seen, used_seen}
 use Rattle.double_array.proofs.RingLemmas.{same_neg, on_ring_linked}
@@ -397,3 +397,34 @@ linked_is_free cells i l = seen_free cells i l.before l.above l.before_above l.b
 
 pub no_code : (family : List Bool) (k : ℕ) → get_or family k false ≡ false → slice_get family k ≡ Some true → ⊥
 no_code family k at h = absurd (let e = get_or_from_slice_get family k true false h in let f : true ≡ false = sym e ∙ at in cc)
+
+-- ---- the cell before the top
+
+module _ (cells : List Cell) (top start : ℕ) (x : Cell) (pool : IsPool cells top start) (at : slice_get cells (top - 1) ≡ Some x) (fits : SFits w32 x.1) where
+  last_is : cell_at (seen cells) (top - 1) ≡ hidden x.0 x.1
+  last_is = let l = pool.low in seen_at cells (top - 1) (omega (arith, l)) ∙ ap hide (get_or_from_slice_get cells (top - 1) x free_cell at)
+
+  sign : {b : Bool} → lt_z (to_z w32 (of_z w32 x.1)) (pos 0) ≡ b → lt_z x.1 (pos 0) ≡ b
+  sign h = ap (λ (z : ℤ). lt_z z (pos 0)) (sym (to_z-of_z w32 x.1 fits)) ∙ h
+
+  -- it is free, and so the top may be lower
+  pub pool_lowered : 258 < top → lt_z (to_z w32 (of_z w32 x.1)) (pos 0) ≡ true → IsPool cells (top - 1) start
+  pool_lowered more negative = record {
+    ring = pool.ring;
+    linked = pool.linked;
+    start_free = pool.start_free;
+    beyond = λ i up. elim (cases_eq i (top - 1)) [
+      | inl e ↦ ap (cell_at (seen cells)) e ∙ last_is ∙ ap (hidden x.0) (negative_of x.1 (sign negative)).1
+      | inr other ↦ pool.beyond i (omega (arith, up, other))
+    ];
+    room = let r = pool.room in omega (arith, r);
+    low = omega (arith, more);
+    few = pool.few;
+  }
+
+  -- it is used
+  pub last_used : lt_z (to_z w32 (of_z w32 x.1)) (pos 0) ≡ false → IsLowered (seen cells) top
+  last_used positive =
+      let s = positive_of x.1 (sign positive) in
+      let l = pool.low in
+      inr (top - 1, s.0, omega (arith, l), ap (λ (c : Cell). c.1) (last_is ∙ ap (hidden x.0) s.1))

@@ -143,6 +143,7 @@ module _ (pool new : Pool) (key : List ℕ) (s t value : ℕ) (ready : IsReady p
           (r.0, (let l = r.1 in omega (arith, l, top_is)))
     ];
     root = (ready.root.0, ap (λ (x : Cell). x.0) (end_rest 0 (λ e. let l = ready.based.2 in let p = ready.based.3 in omega (arith, e, l, p))) ∙ ready.root.1, ready.root.2);
+    begun = inl (t, s, ap (λ (x : Cell). x.1) end_at);
     room = let a = ready.room_wanted in let b = ready.room_top in let l = end_long in omega (arith, a, b, l, top_is);
     few = let f = ready.few in let l = end_long in omega (arith, f, l);
   }

@@ -1,6 +1,6 @@
 -- The cells of a double array between two calls.
-use Rattle.std.specs.Prelude.{◌≡◌, ℕ, ◌+◌, ◌-◌, ◌<◌, ◌≤◌, ◌^◌, pos, List, Some, length}
-use Rattle.double_array.specs.CellMap.{free_cell, cell_at, base, walk, HasSameMap}
+use Rattle.std.specs.Prelude.{◌≡◌, ℕ, ◌+◌, ◌-◌, ◌<◌, ◌≤◌, ◌^◌, ◌⊎◌, pos, List, Some, length}
+use Rattle.double_array.specs.CellMap.{Cell, free_cell, cell_at, base, check, walk, HasSameMap}
 use Rattle.double_array.specs.CellRules.{MeetsRules, AreOnKeys}
 use Rattle.double_array.specs.Pool.{Pool}
 
@@ -12,12 +12,17 @@ values = 2 ^ 31 - 1
 abbrev pub AreBases : Pool → Type 0
 AreBases pool = (t b : ℕ) → base pool.cells t ≡ pos b → 0 < b → (2 ≤ b) × (b ≤ pool.top)
 
+-- some cell is used
+abbrev pub HasUsed : List Cell → Type 0
+HasUsed cells = (t : ℕ) × (s : ℕ) × (check cells t ≡ pos s)
+
 -- the cells meet the rules, each used one is a step of a key, and each step from a state leads to a cell of the array
 pub record IsBuilt (pool : Pool) : Type 0 where
   pub rules : MeetsRules values pool.cells
   pub on_keys : AreOnKeys pool.cells
   pub bases : AreBases pool
   pub root : (b : ℕ) × (base pool.cells 0 ≡ pos b) × (2 ≤ b)
+  pub begun : HasUsed pool.cells ⊎ (base pool.cells 0 ≡ pos 2)
   pub room : pool.top + 257 ≤ length pool.cells
   pub few : length pool.cells ≤ 2 ^ 30
 

@@ -11,6 +11,7 @@ pub mod Ring
 pub mod Pool
 pub mod Family
 pub mod Moves
+pub mod Moved
 pub mod Built
 pub mod FaultWords
 pub mod Tail

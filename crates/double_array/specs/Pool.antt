@@ -1,5 +1,5 @@
 -- A pool of cells, the free ones on a ring.
-use Rattle.std.specs.Prelude.{◌≡◌, ℕ, ◌+◌, ◌<◌, ◌≤◌, ◌^◌, pos, negsuc, List, Option, MatchOption, length}
+use Rattle.std.specs.Prelude.{◌≡◌, ℕ, ◌+◌, ◌⊎◌, ◌<◌, ◌≤◌, ◌^◌, pos, negsuc, List, Option, MatchOption, length}
 use Rattle.double_array.specs.CellMap.{Cell, free_cell, cell_at, check}
 use Rattle.double_array.specs.Seen.{seen}
 use Rattle.double_array.specs.Ring.{HasLinks, IsRing, AreLinked}
@@ -40,6 +40,10 @@ IsParent cells i found = MatchOption found ((s : ℕ) → check cells i ≡ pos 
 pub record IsGrown (old new : List Cell) (n : ℕ) : Type 0 where
   pub same : (i : ℕ) → cell_at new i ≡ cell_at old i
   pub long : length new ≡ n
+
+-- the cell before the top is used, or the top is the least one
+abbrev pub IsLowered : List Cell → ℕ → Type 0
+IsLowered cells top = (top ≡ 258) ⊎ ((i : ℕ) × (s : ℕ) × (top ≡ i + 1) × (check cells i ≡ pos s))
 
 -- all cells but the root are free
 pub record IsEmpty (pool : Pool) : Type 0 where

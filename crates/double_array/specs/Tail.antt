@@ -2,7 +2,7 @@
 use Rattle.std.specs.Prelude.{◌≡◌, ℕ, ◌+◌, ◌-◌, ◌≤◌, ◌^◌, ◌⊎◌, ◌++◌, max, pos, List, Some, length, take, slice_set, slice_index}
 use Rattle.double_array.specs.CellMap.{Cell, free_cell, cell_at, base, check, walk, codes_of}
 use Rattle.double_array.specs.CellRules.{MeetsRules, IsOnKey}
-use Rattle.double_array.specs.Pool.{Pool}
+use Rattle.double_array.specs.Pool.{Pool, IsInUse}
 use Rattle.double_array.specs.Built.{values, AreBases}
 
 -- a cell is on the way of some codes
@@ -15,6 +15,10 @@ pub record IsOnWay (cells : List Cell) (codes : List ℕ) (t : ℕ) : Type 0 whe
 -- each used cell is a step of a key of the map, or on the way of some codes
 abbrev pub AreOnKeysOrWay : List Cell → List ℕ → Type 0
 AreOnKeysOrWay cells codes = (t q : ℕ) → check cells t ≡ pos q → IsOnKey cells t ⊎ IsOnWay cells codes t
+
+-- the root and each used cell are as they were
+abbrev pub AreKept : List Cell → List Cell → Type 0
+AreKept old new = (i : ℕ) → IsInUse old i → cell_at new i ≡ cell_at old i
 
 -- the first codes of the key lead to the state, and the wanted cell, where its step on the next code leads, is free
 pub record IsReady (pool : Pool) (key : List ℕ) (used state wanted : ℕ) : Type 0 where

@@ -2,6 +2,7 @@
 ghost use Rattle.std.specs.Prelude.{◌≡◌, ◌≢◌, ℕ, ◌+◌, ◌<◌, ◌≤◌, pos, None, length};
 ghost use Rattle.double_array.specs.CellMap.{base as base_of, check as check_of, step as step_of};
 ghost use Rattle.double_array.specs.Built.{IsBuilt, IsCleared};
+ghost use Rattle.double_array.specs.Moved.{HaveMoved};
 ghost use Rattle.double_array.specs.Moves.{HasFamily, IsFamilyOf};
 
 use crate::pool::{CellPool, WIDTH};
@@ -25,7 +26,8 @@ pub(crate) fn clear_way(pool: &mut CellPool, state: usize, from: usize, code: us
     requires none { step_of pool.old.cells state code ≡ None }
     requires room { pool.old.top + 514 ≤ length pool.old.cells }
     ensures cleared { IsCleared pool.old pool.new state code result.state result.wanted }
-    ensures count { result.moved ≤ 257 }
+    ensures moved { HaveMoved pool.old.cells pool.new.cells result.moved }
+    ensures few { result.moved ≤ 257 }
 {
     let wanted = from + code;
     match pool.parent(wanted) {
@@ -63,7 +65,8 @@ fn move_own(
     requires room { pool.old.top + 514 ≤ length pool.old.cells }
     requires family { IsFamilyOf pool.old.cells state from family.now }
     ensures cleared { IsCleared pool.old pool.new state code result.state result.wanted }
-    ensures count { result.moved ≤ 257 }
+    ensures moved { HaveMoved pool.old.cells pool.new.cells result.moved }
+    ensures few { result.moved ≤ 257 }
 {
     let mut wider = *family;
     wider[code] = true;
@@ -95,7 +98,8 @@ fn move_other(
     requires room { pool.old.top + 514 ≤ length pool.old.cells }
     requires family { HasFamily pool.old.cells other family.now }
     ensures cleared { IsCleared pool.old pool.new state code result.state result.wanted }
-    ensures count { result.moved ≤ 257 }
+    ensures moved { HaveMoved pool.old.cells pool.new.cells result.moved }
+    ensures few { result.moved ≤ 257 }
 {
     let other_from = pool.base(other);
     let to = pool.find_free_base(family);

@@ -2,6 +2,7 @@
 ghost use Rattle.std.specs.Prelude.{◌≡◌, ℕ, ◌+◌, ◌-◌, ◌<◌, ◌≤◌, ◌^◌, List, None, length, IsSome, IfOk, IfErr, OnOk, OnErr};
 ghost use Rattle.double_array.specs.CellMap.{value_of, IsMapWith};
 ghost use Rattle.double_array.specs.CellRules.{AreCells, AreOnKeys};
+ghost use Rattle.double_array.specs.Moved.{HasSpace, HaveMoved};
 ghost use Rattle.mj_model.specs.declared.limits.TheConstants.{SURFACE_MAX as SurfaceMax};
 ghost use Rattle.double_array.specs.declared.fault.DaFault.TheVariants.{Full};
 
@@ -62,7 +63,8 @@ impl DoubleArray {
         // The map is as before, but for the key.
         ensures map { OnOk result (IsMapWith self.old self.new key.now value) }
         ensures old { IfOk result (λ inserted. inserted.old ≡ value_of self.old key.now) }
-        ensures moved { IfOk result (λ inserted. inserted.moved ≤ 257) }
+        ensures moved { IfOk result (λ inserted. HaveMoved self.old self.new inserted.moved) }
+        ensures few { IfOk result (λ inserted. inserted.moved ≤ 257) }
         ensures stays { IfOk result (λ inserted. IsSome inserted.old → inserted.moved ≡ 0) }
 
         // A refusal changes nothing. A key of the map is never refused.
@@ -71,6 +73,8 @@ impl DoubleArray {
         ensures full { IfErr result (λ fault. fault ≡ Full
             → 2 ^ 30 - length key.now - 600 < length self.old) }
 
+        // While there is room after its last used cell the array stays as long as it is.
+        ensures space { HasSpace self.old (length key.now) → length self.new ≡ length self.old }
         ensures growth { length self.new ≤ length self.old + length key.now + 600 }
         ensures most { length self.new ≤ 2 ^ 30 }
 

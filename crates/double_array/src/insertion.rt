@@ -1,8 +1,9 @@
 //! Insertion of a key into a pool of cells.
-ghost use Rattle.std.specs.Prelude.{◌≡◌, ℕ, ◌+◌, ◌<◌, ◌≤◌, ◌^◌, pos, negsuc, None, length, slice_set, IsSome, IfOk, IfErr, OnOk, OnErr};
+ghost use Rattle.std.specs.Prelude.{◌≡◌, ℕ, ◌+◌, ◌<◌, ◌≤◌, ◌^◌, pos, negsuc, None, length, slice_set, false, IsTrue, IsSome, IfOk, IfErr, OnOk, OnErr};
 ghost use Rattle.double_array.specs.CellMap.{base as base_of, check as check_of, step as step_of, value_of, IsMapWith};
 ghost use Rattle.double_array.specs.Built.{IsBuilt, values};
 ghost use Rattle.double_array.specs.Insertion.{IsReached, HasRoom};
+ghost use Rattle.double_array.specs.Moved.{HasSpace, HaveMoved};
 ghost use Rattle.double_array.specs.Pool.{IsInUse};
 ghost use Rattle.double_array.specs.declared.fault.DaFault.TheVariants.{Full};
 
@@ -39,10 +40,14 @@ pub(crate) fn insert_key(pool: &mut CellPool, key: &[u8], value: u32) -> Result<
     ensures built { IsBuilt pool.new }
     ensures map { OnOk result (IsMapWith pool.old.cells pool.new.cells key.now value) }
     ensures old { IfOk result (λ inserted. inserted.old ≡ value_of pool.old.cells key.now) }
-    ensures moved { IfOk result (λ inserted. inserted.moved ≤ 257) }
+    ensures moved { IfOk result
+        (λ inserted. HaveMoved pool.old.cells pool.new.cells inserted.moved) }
+    ensures few { IfOk result (λ inserted. inserted.moved ≤ 257) }
     ensures stays { IfOk result (λ inserted. IsSome inserted.old → inserted.moved ≡ 0) }
     ensures most { length pool.new.cells ≤ length pool.old.cells + length key.now + 600 }
-    ensures kept { OnErr result (pool.new ≡ pool.old) }
+    ensures space { HasSpace pool.old.cells (length key.now)
+        → length pool.new.cells ≡ length pool.old.cells }
+    ensures kept { OnErr result (pool.new.cells ≡ pool.old.cells) }
     ensures absent { OnErr result (value_of pool.old.cells key.now ≡ None) }
     ensures full { IfErr result (λ fault. fault ≡ Full
         → 2 ^ 30 < length pool.old.cells + length key.now + 600) }
@@ -120,17 +125,20 @@ fn replace_value(pool: &mut CellPool, end: usize, value: u32) -> u32
 }
 
 /// Makes room for a family, for one more and for `left` further codes, for a key of this length. The array grows before any
-/// other cell is changed.
+/// other cell is changed, and only where there is no room after its last used cell.
 fn make_room(pool: &mut CellPool, key_length: usize, left: usize) -> Result<(), DaFault>
     requires built { IsBuilt pool.old }
     requires short { key_length ≤ 65535 }
     requires left { left ≤ key_length }
     ensures room { OnOk result (HasRoom pool.old pool.new key_length left) }
-    ensures kept { OnErr result (pool.new ≡ pool.old) }
+    ensures built { IsBuilt pool.new }
+    ensures space { HasSpace pool.old.cells key_length
+        → length pool.new.cells ≡ length pool.old.cells }
+    ensures kept { OnErr result (pool.new.cells ≡ pool.old.cells) }
     ensures full { IfErr result (λ fault. fault ≡ Full
         → 2 ^ 30 < length pool.old.cells + key_length + 600) }
 {
-    if pool.len() >= pool.top() + 2 * WIDTH + left {
+    if has_room(pool, left) {
         return Ok(());
     }
     let wanted = pool.len() + key_length + GROWTH;
@@ -138,4 +146,22 @@ fn make_room(pool: &mut CellPool, key_length: usize, left: usize) -> Result<(), 
         return Err(DaFault::Full);
     }
     pool.grow(wanted).map_err(|_| DaFault::Memory)
+}
+
+/// Whether there is room after the last used cell for a family, for one more and for `left` further codes. The top is lowered
+/// where it stands too high.
+fn has_room(pool: &mut CellPool, left: usize) -> bool
+    requires built { IsBuilt pool.old }
+    requires short { left ≤ 65535 }
+    ensures built { IsBuilt pool.new }
+    ensures cells { pool.new.cells ≡ pool.old.cells }
+    ensures room { IsTrue result → pool.new.top + 514 + left ≤ length pool.new.cells }
+    ensures none { result ≡ false → (long : ℕ) → left ≤ long → HasSpace pool.old.cells long → ⊥ }
+{
+    let behind = 2 * WIDTH + left;
+    if pool.top() + behind <= pool.len() {
+        return true;
+    }
+    pool.lower_top();
+    pool.top() + behind <= pool.len()
 }

@@ -3,7 +3,8 @@ ghost use Rattle.std.specs.Prelude.{◌≡◌, ◌≢◌, ◌+◌, ◌<◌, ◌�
 ghost use Rattle.double_array.specs.CellMap.{free_cell, cell_at, base as base_of, check as check_of};
 ghost use Rattle.double_array.specs.Family.{FitsAt};
 ghost use Rattle.double_array.specs.Ring.{HasLinks, IsRing};
-ghost use Rattle.double_array.specs.Pool.{IsInUse, IsParent, IsGrown, IsEmpty, IsNew};
+ghost use Rattle.double_array.specs.Pool.{IsInUse, IsLowered, IsParent, IsGrown, IsEmpty, IsNew, IsPool};
+ghost use Rattle.double_array.specs.Seen.{seen};
 
 use crate::ring::{LIST, change_base, change_check, link, link_from, next, set_links, take};
 use crate::search::{search_cell, search_family};
@@ -70,6 +71,17 @@ impl CellPool {
         ensures { result ≡ self.now.top }
     {
         self.top
+    }
+
+    /// Lowers the top to where the used cells end, or to 258 if they end before.
+    pub(crate) fn lower_top(&mut self)
+        ensures cells { self.new.cells ≡ self.old.cells }
+        ensures low { self.new.top ≤ self.old.top }
+        ensures least { 258 ≤ self.new.top }
+        ensures last { IsLowered self.new.cells self.new.top }
+        ensures beyond { (i : ℕ) → self.new.top ≤ i → cell_at self.new.cells i ≡ free_cell }
+    {
+        self.top = lowered(&self.cells, self.top, self.start);
     }
 
     /// A cell as it is seen from outside.
@@ -227,6 +239,20 @@ fn start_without(cells: &Cells, start: usize, i: usize) -> usize
     } else {
         start
     }
+}
+
+/// Where the used cells before the top end, or 258 if they end before.
+fn lowered(cells: &Cells, top: usize, start: usize) -> usize
+    requires { IsPool cells.now top start }
+    ensures pool { IsPool cells.now result start }
+    ensures low { result ≤ top }
+    ensures last { IsLowered (seen cells.now) result }
+{
+    let mut top = top;
+    while top > WIDTH + 1 && cells.get(top - 1).1 < 0 {
+        top -= 1;
+    }
+    top
 }
 
 /// The root, which has no child, and free cells on the ring.

@@ -4,6 +4,7 @@ ghost use Rattle.double_array.specs.CellMap.{free_cell, cell_at, base as base_of
 ghost use Rattle.double_array.specs.CellMoves.{IsMove};
 ghost use Rattle.double_array.specs.Family.{HasCode, FitsAt};
 ghost use Rattle.double_array.specs.Built.{IsBuilt, AreBases};
+ghost use Rattle.double_array.specs.Moved.{children};
 ghost use Rattle.double_array.specs.Moves.{IsFamilyOf, IsChildMoved, AreChildrenRenamed, HasChildrenFromBase};
 
 use crate::pool::{CellPool, WIDTH};
@@ -43,7 +44,8 @@ pub(crate) fn relocate(
     ensures bases { AreBases pool.new }
     ensures root { (b : ℕ) × (base_of pool.new.cells 0 ≡ pos b) × (2 ≤ b) }
     ensures top { pool.new.top ≤ pool.old.top + 257 }
-    ensures count { result ≤ 257 }
+    ensures count { result ≡ children pool.old.cells state }
+    ensures few { result ≤ 257 }
 {
     let mut moved = 0;
     for code in 0..WIDTH {

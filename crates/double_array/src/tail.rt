@@ -2,7 +2,7 @@
 ghost use Rattle.std.specs.Prelude.{◌≡◌, ◌+◌, ◌-◌, ◌<◌, ◌≤◌, ◌^◌, max, pos, negsuc, length, slice_set, slice_index};
 ghost use Rattle.double_array.specs.CellMap.{free_cell, cell_at, codes_of, IsMapWith};
 ghost use Rattle.double_array.specs.Built.{IsBuilt, values};
-ghost use Rattle.double_array.specs.Tail.{IsReady, IsStateAdded};
+ghost use Rattle.double_array.specs.Tail.{AreKept, IsReady, IsStateAdded};
 
 use crate::pool::{CellPool, LEAST_BASE};
 
@@ -34,6 +34,7 @@ pub(crate) fn add_tail(
     requires value { value < values }
     ensures map { IsMapWith pool.old.cells pool.new.cells key.now value }
     ensures built { IsBuilt pool.new }
+    ensures kept { AreKept pool.old.cells pool.new.cells }
     ensures long { length pool.new.cells ≡ length pool.old.cells }
 {
     let mut state = state;

@@ -54,6 +54,26 @@ fn byte_after_byte(rt: HostRuntime) -> Result<(), Fail> {
     Ok(())
 }
 
+/// The first key makes the array longer by its length and 600 cells. Then there is room after the last used cell for a key of one byte.
+#[test]
+fn room_is_used_up_first(rt: HostRuntime) -> Result<(), Fail> {
+    let mut array = DoubleArray::new(rt.alloc())?;
+    let first = array.len();
+    let rows = [
+        // (key, by how many cells the array is longer than at first)
+        (b"a".as_slice(), 601),
+        (b"a", 601),
+        (b"b", 601),
+        (b"aa", 601),
+        (b"c", 601),
+    ];
+    for (key, more) in rows {
+        insert(&mut array, key, 1)?;
+        assert_eq!(rt; array.len().saturating_sub(first), more, "{key:?}");
+    }
+    Ok(())
+}
+
 #[test]
 fn refused_growth_keeps_the_keys(rt: HostRuntime) {
     match new_array(rt.alloc()) {

@@ -5,6 +5,8 @@ use Rattle.double_array.proofs.CellMoveLaw.{Renames}
 use Rattle.double_array.specs.Built.{values}
 use Rattle.double_array.specs.Pool.{Pool}
 use Rattle.double_array.proofs.ClearingLemmas.{cleared_by_other, goes_along}
+use Rattle.double_array.specs.Moved.{children}
+use Rattle.double_array.proofs.MovedLemmas.{other_family_moved}
 use Rattle.double_array.proofs.clearing.move_other.Goals as goal
 use Rattle.double_array.proofs.clearing.move_other.Goals.{then-is_child, else-is_child}
 
@@ -32,3 +34,10 @@ returns-clause-cleared c =
     let new = c.relocate-moved.new.pool in
     let top : new.top ≤ c.args.pool.now.top + 257 = subst (λ (p : Pool). new.top ≤ p.top + 257) f.ensures.kept e.top in
     cleared_by_other c.args.pool.now new c.args.state c.args.from c.args.code c.args.other c.base-other_from.result f.result c.if-is_child.follow c.args.family.now r.built r.based r.least r.code r.used r.apart r.room (move c) e.bases e.root top (follows c)
+
+pub returns-clause-moved : goal.returns-clause-moved
+returns-clause-moved c =
+    let r = c.requires in
+    let f = c.find_free_base-to in
+    let count = subst (λ (p : Pool). c.relocate-moved.result ≡ children p.cells c.args.other) f.ensures.kept c.relocate-moved.ensures.count in
+    other_family_moved c.args.pool.now c.relocate-moved.new.pool c.args.other (c.args.from + c.args.code) c.base-other_from.result f.result c.relocate-moved.result c.args.family.now r.built r.used c.base-other_from.ensures f.ensures.least r.family f.ensures.free (move c) count

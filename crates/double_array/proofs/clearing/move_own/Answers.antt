@@ -1,8 +1,10 @@
-use Rattle.std.proofs.Common.{◌+◌, ◌≤◌, sym, subst}
+use Rattle.std.proofs.Common.{◌≡◌, ◌+◌, ◌≤◌, sym, subst}
 use Rattle.double_array.specs.CellMoves.{IsMove}
 use Rattle.double_array.specs.Pool.{Pool}
 use Rattle.double_array.specs.Family.{FitsAt}
 use Rattle.double_array.proofs.ClearingLemmas.{has_code, fits_less, cleared_by_own}
+use Rattle.double_array.specs.Moved.{children}
+use Rattle.double_array.proofs.MovedLemmas.{family_moved}
 use Rattle.double_array.proofs.clearing.move_own.Goals as goal
 
 pub relocate-moved-requires-clause-member : goal.relocate-moved-requires-clause-member
@@ -24,3 +26,16 @@ returns-clause-cleared c =
     let move = subst (λ (p : Pool). IsMove p.cells new.cells c.args.state f.result) f.ensures.kept e.moved in
     let top : new.top ≤ c.args.pool.now.top + 257 = subst (λ (p : Pool). new.top ≤ p.top + 257) f.ensures.kept e.top in
     cleared_by_own c.args.pool.now new c.args.state c.args.from c.args.code f.result c.args.family.now r.built r.based r.least r.code r.none r.family f.ensures.free f.ensures.least f.ensures.top r.room move e.bases e.root top
+
+pub returns-clause-moved : goal.returns-clause-moved
+returns-clause-moved c =
+    let r = c.requires in
+    let f = c.find_free_base-to in
+    let e = c.relocate-moved.ensures in
+    let old = c.args.pool.now in
+    let new = c.relocate-moved.new.pool in
+    let move = subst (λ (p : Pool). IsMove p.cells new.cells c.args.state f.result) f.ensures.kept e.moved in
+    let count = subst (λ (p : Pool). c.relocate-moved.result ≡ children p.cells c.args.state) f.ensures.kept e.count in
+    let member = has_code old c.args.state c.args.from (c.args.from + c.args.code) r.used.0 c.args.family.now r.built r.based r.least r.used.1 r.family in
+    family_moved old.cells new.cells c.args.state c.args.from f.result c.relocate-moved.result member.0 c.args.family.now r.based r.least f.ensures.least r.family member.1
+    (fits_less old.cells c.args.family.now c.args.code f.result f.ensures.free) move count

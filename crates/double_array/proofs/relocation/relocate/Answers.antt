@@ -1,9 +1,10 @@
-use Rattle.std.proofs.Common.{arith, ◌≡◌, ◌+◌, ◌≤◌, sym, subst}
+use Rattle.std.proofs.Common.{arith, ◌≡◌, ℕ, ◌+◌, ◌≤◌, ap, sym, ◌∙◌, subst}
 use Rattle.double_array.specs.Family.{HasCode}
 use Rattle.double_array.specs.Moves.{IsMovedUpTo}
 use Rattle.double_array.specs.Pool.{Pool}
 use Rattle.double_array.proofs.FamilyLemmas.{code_by, relocation}
 use Rattle.double_array.proofs.Moving.{no_self, room_as_it_was, child_named, children_from_base, base_is_positive, state_in_use, moved_more, moved_past, is_move, bases_kept, root_base_kept}
+use Rattle.double_array.proofs.MovedLemmas.{all_children, child_more, children_below, no_child_more}
 use Rattle.double_array.proofs.PoolLemmas.{no_code}
 use Rattle.double_array.proofs.relocation.relocate.Goals as goal
 use Rattle.double_array.proofs.relocation.relocate.Goals.{then-family-code, else-family-code}
@@ -52,7 +53,8 @@ loop-code-preserved c =
                 (moved_more (relocation r.built r.based r.some r.family r.fits) c.loop-code.pool.cells c.loop-code.code k.children w.move_child.new.pool.cells member w.move_child.ensures.moved);
             low = rw w.pool-is (omega (arith, top, k.low));
             top = rw w.pool-is (omega (arith, top, k.top, r.top, c.loop-code-test.true));
-            count = rw w.moved-is (omega (arith, k.count));
+            count = w.moved-is ∙ ap (λ (n : ℕ). n + 1) k.count ∙ sym (child_more c.args.pool.now.cells c.args.state c.args.from c.loop-code.code r.based (r.family.sound c.loop-code.code member));
+            few = rw w.moved-is (omega (arith, k.few));
           }
       | else-family-code w ↦
           let out : HasCode c.args.family.now c.loop-code.code → ⊥ = no_code c.args.family.now c.loop-code.code w.if-family-code.false in
@@ -61,7 +63,8 @@ loop-code-preserved c =
                 (moved_past (relocation r.built r.based r.some r.family r.fits) c.loop-code.pool.cells c.loop-code.code k.children out);
             low = rw w.pool-is k.low;
             top = rw w.pool-is k.top;
-            count = rw w.moved-is (omega (arith, k.count));
+            count = w.moved-is ∙ k.count ∙ sym (no_child_more c.args.pool.now.cells c.args.state c.args.from c.loop-code.code r.based (λ named. out (r.family.complete c.loop-code.code (omega (arith, c.loop-code-test.true)) named)));
+            few = rw w.moved-is (omega (arith, k.few));
           }
     ]
 
@@ -92,3 +95,8 @@ returns-clause-root c =
     let r = c.requires in
     root_base_kept (relocation r.built r.based r.some r.family r.fits) c.loop-code.pool.cells c.set_state_base.new.self.cells (all c) c.set_state_base.ensures.cells (omega (arith, r.least)) (omega (arith, r.top, r.room)) r.member.0 r.member.1
     r.built.root.0 r.built.root.1 r.built.root.2 r.least
+
+pub returns-clause-count : goal.returns-clause-count
+returns-clause-count c =
+    let e : c.loop-code.code ≡ 257 = omega arith in
+    c.loop-code.invariant.count ∙ ap (children_below c.args.pool.now.cells c.args.state) e ∙ all_children c.args.pool.now.cells c.args.state

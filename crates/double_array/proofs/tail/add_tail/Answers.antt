@@ -3,6 +3,7 @@ use Rattle.double_array.specs.CellMap.{codes_of}
 use Rattle.double_array.specs.Tail.{IsReady}
 use Rattle.double_array.proofs.KeyWalks.{code_of_byte}
 use Rattle.double_array.proofs.TailLemmas.{ready_more, map_on, long_on, value_added, built_again, map_then}
+use Rattle.double_array.proofs.MovedLemmas.{kept_more, wanted_inner}
 use Rattle.double_array.proofs.tail.add_tail.Goals as goal
 
 pub loop-i-preserved : goal.loop-i-preserved
@@ -17,6 +18,7 @@ loop-i-preserved c =
     record {
       ready = ready_more c.loop-i.pool new key i c.loop-i.state c.loop-i.wanted c.code_at.result c.add_state-next.result e.from k.ready more near c.code_at.ensures.code e.cells e.least e.next_is e.low e.free e.top;
       map = λ other. map_on c.loop-i.pool new key i c.loop-i.state c.loop-i.wanted c.code_at.result c.add_state-next.result e.from k.ready more near c.code_at.ensures.code e.cells e.least e.next_is e.low e.free e.top other ∙ k.map other;
+      kept = kept_more c.args.pool.now.cells c.loop-i.pool.cells new.cells c.loop-i.wanted _ k.kept k.ready.free (wanted_inner c.loop-i.pool key i c.loop-i.state c.loop-i.wanted k.ready) e.cells;
       long = long_on c.loop-i.pool new key i c.loop-i.state c.loop-i.wanted c.code_at.result c.add_state-next.result e.from k.ready more near c.code_at.ensures.code e.cells e.least e.next_is e.low e.free e.top ∙ k.long;
     }
 
@@ -35,3 +37,7 @@ returns-clause-map c =
 pub returns-clause-built : goal.returns-clause-built
 returns-clause-built c =
     built_again c.loop-i.pool c.add_value.new.pool c.args.key.now c.loop-i.state c.loop-i.wanted c.args.value (last c) c.requires.key c.requires.value c.add_value.ensures.cells c.add_value.ensures.top
+
+pub returns-clause-kept : goal.returns-clause-kept
+returns-clause-kept c =
+    kept_more c.args.pool.now.cells c.loop-i.pool.cells c.add_value.new.pool.cells c.loop-i.wanted _ c.loop-i.invariant.kept (last c).free (wanted_inner c.loop-i.pool c.args.key.now (length c.args.key.now) c.loop-i.state c.loop-i.wanted (last c)) c.add_value.ensures.cells
