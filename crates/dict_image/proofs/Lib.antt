@@ -2,6 +2,7 @@ pub mod ListedOrder
 pub mod StartLemmas
 pub mod KeyTableLemmas
 pub mod ListedHitLemmas
+pub mod FrontLemmas
 pub mod CellKeys
 pub mod LexiconLemmas
 pub mod PrefixLemmas

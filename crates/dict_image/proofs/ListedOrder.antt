@@ -1,17 +1,14 @@
 -- Listed keys rise, so no two of them are the same, and the number of a key is the one number whose key it is.
-use Rattle.std.proofs.Common.{◌≡◌, ◌≢◌, ℕ, zero, suc, ◌+◌, ◌-◌, ◌<◌, ◌≤◌, Bool, true, false, cond, List, [], ◌∷◌, ◌++◌, length, take, Some, None, inl, inr, sym, ap, ◌∙◌, refl, arith, subst}
+use Rattle.std.proofs.Common.{◌≡◌, ◌≢◌, ℕ, zero, suc, ◌+◌, ◌-◌, ◌<◌, ◌≤◌, Bool, true, false, cond, List, [], ◌∷◌, ◌++◌, Some, None, inl, inr, sym, ap, ◌∙◌, refl, arith, subst}
 use Rattle.std.specs.Prelude.{IsUtf8}
 use Rattle.std.specs.Cmp.Lexicographic.{slice_cmp, nat_list_cmp_total}
-use Rattle.std.specs.List.{find, range_with_len, starts_with}
-use Rattle.std.specs.Prelude.{nat_eq}
-use Rattle.std.proofs.Math.Seq.{take-append_seam, take-length}
+use Rattle.std.specs.List.{find, range_with_len}
 use Rattle.std.specs.Ordering.{nat_cmp, is_eq, is_lt, ordering_then}
 use Rattle.std.specs.Str.{bytes_eq}
 use Rattle.std.specs.declared.cmp.Ordering.{Ordering}
 use Rattle.std.specs.declared.cmp.Ordering.TheVariants.{Less, Equal, Greater}
 use Rattle.std.proofs.lemmas.Bool.{cases_eq, cases_order, false_from_ne_true}
 use Rattle.std.specs.Cmp.{nat_cmp_is}
-use Rattle.std.proofs.lemmas.Map.Lookups.{exact_unsigned}
 use Rattle.std.proofs.lemmas.Map.Text.{is_eq-slice_cmp}
 use Rattle.std.proofs.lemmas.Option.{same_Some}
 use Rattle.std.proofs.lemmas.Slice.Eq.{bytes_eq-Decides}
@@ -136,57 +133,9 @@ module _ (groups : ℕ) (keys : List ℕ) (are : (i : ℕ) → i < groups → Is
       no_number (λ (i : ℕ). bytes_eq (listed_key keys i) text) 0 groups
       (λ i within. false_from_ne_true (bytes_eq (listed_key keys i) text) (λ h. other_here at i below others not_here (omega (arith, within)) ((bytes_eq-Decides (listed_key keys i) text).0 h)))
 
--- ---- keys that begin with a text
-
-by_first : (f y : ℕ) (fs ys more : List ℕ) (o : Ordering) → o ≡ nat_cmp y f → ordering_then o (order ys fs) ≢ Less → ordering_then o (order ys (fs ++ more)) ≡ Less
-    → (order ys fs ≢ Less → order ys (fs ++ more) ≡ Less → (rest : List ℕ) × (ys ≡ fs ++ rest)) → (rest : List ℕ) × (y ∷ ys ≡ f ∷ (fs ++ rest))
-by_first f y fs ys more Less is low high rest = absurd (low refl)
-by_first f y fs ys more Greater is low high rest = absurd (cc)
-by_first f y fs ys more Equal is low high rest =
-    let r = rest low high in
-    let same : y ≡ f = exact_unsigned y f (sym is) in
-    (r.0, ap (λ (b : ℕ). b ∷ ys) same ∙ ap (λ (bs : List ℕ). f ∷ bs) r.1)
-
--- what stands between a text and a longer one begins with the text
-pub begins_between : (front xs more : List ℕ) → order xs front ≢ Less → order xs (front ++ more) ≡ Less → (rest : List ℕ) × (xs ≡ front ++ rest)
-begins_between [] xs more low high = (xs, refl)
-begins_between (f ∷ fs) [] more low high = absurd (low refl)
-begins_between (f ∷ fs) (y ∷ ys) more low high = by_first f y fs ys more (nat_cmp y f) refl low high (begins_between fs ys more)
-
 -- a longer text does not stand below
 pub longer_not_below : (front more : List ℕ) → order (front ++ more) front ≢ Less
 longer_not_below [] [] = λ e. absurd (cc)
 longer_not_below [] (b ∷ more) = λ e. absurd (cc)
 longer_not_below (f ∷ fs) more =
     λ e. longer_not_below fs more (subst (λ (o : Ordering). ordering_then o (order (fs ++ more) fs) ≡ Less) (sym (nat_cmp_is f f Equal refl)) e)
-
-module _ (groups : ℕ) (keys : List ℕ) (are : (i : ℕ) → i < groups → IsListedKey keys i) (front : List ℕ) where
-  -- where the first key not below a text does not begin with it, no key does
-  pub begins_nothing : (at : ℕ) → ((i : ℕ) → i < at → order (listed_key keys i) front ≡ Less) → ((i : ℕ) → at ≤ i → i < groups → order (listed_key keys i) front ≢ Less)
-      → (at < groups → (rest : List ℕ) → listed_key keys at ≡ front ++ rest → ⊥) → (more : List ℕ) → listed_number groups keys (front ++ more) ≡ None
-  begins_nothing at below others not_here more =
-      no_number (λ (i : ℕ). bytes_eq (listed_key keys i) (front ++ more)) 0 groups
-      (λ i less. false_from_ne_true (bytes_eq (listed_key keys i) (front ++ more)) (λ h. nothing i (omega (arith, less)) ((bytes_eq-Decides (listed_key keys i) (front ++ more)).0 h)))
-    where
-      nothing : (i : ℕ) → i < groups → listed_key keys i ≡ front ++ more → ⊥
-      nothing i within is = elim (cases_order i at) [
-        | inl same ↦ not_here (subst (λ (k : ℕ). k < groups) same within) more (subst (λ (k : ℕ). listed_key keys k ≡ front ++ more) same is)
-        | inr (inl before) ↦ longer_not_below front more (subst (λ (xs : List ℕ). order xs front ≡ Less) is (below i before))
-        | inr (inr behind) ↦
-            let rises = subst (λ (xs : List ℕ). order (listed_key keys at) xs ≡ Less) is (key_above groups keys are at i behind within) in
-            let r = begins_between front (listed_key keys at) more (others at (omega arith) (omega (arith, behind, within))) rises in
-            not_here (omega (arith, behind, within)) r.0 r.1
-      ]
-
--- ---- texts that begin with another one
-
-pub begins_not : (xs front : List ℕ) → starts_with nat_eq xs front ≡ false → (rest : List ℕ) → xs ≡ front ++ rest → ⊥
-begins_not xs front h rest is =
-    let same : front ≡ take (length front) xs = sym (ap (take (length front)) is ∙ take-append_seam front rest) in
-    let t : starts_with nat_eq xs front ≡ true = (bytes_eq-Decides front (take (length front) xs)).1 same in
-    absurd (cc)
-
-pub begins_whole : (xs front : List ℕ) → starts_with nat_eq xs front ≡ true → length xs ≡ length front → xs ≡ front
-begins_whole xs front h e =
-    let same : front ≡ take (length front) xs = (bytes_eq-Decides front (take (length front) xs)).0 h in
-    sym (same ∙ ap (λ (n : ℕ). take n xs) (sym e) ∙ take-length xs)

@@ -14,6 +14,7 @@ mod keys;
 mod laws;
 mod listed_hits;
 mod listed_keys;
+mod listed_range;
 mod loading;
 mod lookup;
 mod numbered;

@@ -1,35 +1,35 @@
 //! The iterator over the listed keys that begin a text.
-ghost use Rattle.std.specs.Prelude.{◌≡◌, ◌≤◌, length, option_map};
+ghost use Rattle.std.specs.Prelude.{◌≡◌, option_map};
 ghost use Rattle.std.specs.Iterator.{YieldsFirstBy, item_count};
 ghost use Rattle.double_array.specs.Walking.{walked_to};
-ghost use Rattle.dict_image.specs.ListedHits.{listed_hits_behind};
+ghost use Rattle.dict_image.specs.ListedHits.{HaveBegun, listed_hits_behind};
 
-use crate::listed_keys::{Begun, ListedKeys};
+use crate::listed_keys::ListedKeys;
+use crate::listed_range::Begun;
 use double_array::Hit;
 use std::marker::Model;
 
-/// The listed keys that begin a text and are longer than some bytes, the shortest first.
+/// The listed keys that begin a text, the shortest first. Those that begin with the bytes gone over so far are at hand, so that a byte more
+/// costs two binary searches for that byte alone.
 #[derive(Drop)]
 pub(crate) struct ListedHits<'a> {
     keys: ListedKeys<'a>,
     text: &'a [u8],
-    /// No key is left that is at most so many bytes long.
-    passed: usize,
+    begun: Begun,
 }
 
 impl<'a> Model for ListedHits<'a> {
-    ghost use Rattle.std.specs.Prelude.{◌≤◌, length};
-    ghost use Rattle.dict_image.specs.ListedHits.{ListedHitsSeen, listed_hits_behind};
+    ghost use Rattle.dict_image.specs.ListedHits.{HaveBegun, ListedHitsSeen, listed_hits_behind};
 
     ghost Value = { ListedHitsSeen };
 
     ghost view = { λ it. record {
-      hits = listed_hits_behind it.keys it.text.now it.passed;
+      hits = listed_hits_behind it.keys it.text.now it.begun.length;
       text = it.text.now;
-      walked = it.passed;
+      walked = it.begun.length;
     } };
 
-    ghost invariant = { λ it. it.passed ≤ length it.text.now };
+    ghost invariant = { λ it. HaveBegun it.keys it.text.now it.begun };
 }
 
 impl<'a> ListedKeys<'a> {
@@ -39,10 +39,11 @@ impl<'a> ListedKeys<'a> {
         ensures text { result.text ≡ text.now }
         ensures walked { result.walked ≡ 0 }
     {
+        let begun = self.all(text);
         ListedHits {
             keys: self,
             text,
-            passed: 0,
+            begun,
         }
     }
 }
@@ -58,27 +59,27 @@ impl<'a> Iterator for ListedHits<'a> {
     ghost remaining = { item_count (λ it. it.hits) };
 
     fn next(&mut self) -> Option<Hit> {
-        next_listed(&self.keys, self.text, &mut self.passed)
+        next_listed(&self.keys, self.text, &mut self.begun)
     }
 }
 
 /// The next listed key that begins a text.
-fn next_listed(keys: &ListedKeys<'_>, text: &[u8], passed: &mut usize) -> Option<Hit>
-    requires within { passed.old ≤ length text.now }
-    ensures within { passed.new ≤ length text.now }
+fn next_listed(keys: &ListedKeys<'_>, text: &[u8], begun: &mut Begun) -> Option<Hit>
+    requires begun { HaveBegun keys.now text.now begun.old }
+    ensures begun { HaveBegun keys.now text.now begun.new }
     ensures hits { YieldsFirstBy (λ hit. (hit.length, hit.value))
-        (λ n. listed_hits_behind keys.now text.now n) passed.old result passed.new }
-    ensures walked { passed.new ≡ walked_to text.now (option_map (λ hit. hit.length) result) }
+        (λ b. listed_hits_behind keys.now text.now b.length) begun.old result begun.new }
+    ensures walked { begun.new.length
+        ≡ walked_to text.now (option_map (λ hit. hit.length) result) }
 {
-    while *passed < text.len() {
-        *passed += 1;
-        match keys.look_for(&text[..*passed]) {
-            Begun::Key(value) => {
-                let length = *passed;
-                return Some(Hit { length, value });
-            }
-            Begun::Longer => {}
-            Begun::Nothing => *passed = text.len(),
+    while begun.length < text.len() {
+        *begun = keys.narrow(*begun, text);
+        if let Some(value) = keys.whole(*begun, text) {
+            let length = begun.length;
+            return Some(Hit { length, value });
+        }
+        if begun.low == begun.high {
+            begun.length = text.len();
         }
     }
     None

@@ -1,8 +1,7 @@
 //! Listed keys, looked up in the image's own bytes.
-ghost use Rattle.std.specs.Prelude.{◌≡◌, ◌^◌, ◌<◌, ◌≤◌, length};
-ghost use Rattle.image_bytes.specs.OlderSections.{BeginWithKey, front_key, listed_key, listed_number};
+ghost use Rattle.std.specs.Prelude.{◌≡◌, ℕ, ◌^◌, ◌<◌, ◌≤◌, length};
+ghost use Rattle.image_bytes.specs.OlderSections.{BeginWithKey, IsListedKey, front_key, listed_key, listed_number};
 ghost use Rattle.dict_image.specs.KeyPlaces.{AreStarts, IsFirstNotBelow};
-ghost use Rattle.dict_image.specs.ListedHits.{IsBegun};
 
 use image_bytes::u16_at;
 use std::marker::Model;
@@ -35,6 +34,15 @@ impl<'a> ListedKeys<'a> {
         ListedKeys { bytes, starts }
     }
 
+    /// How many keys there are. Each stands above the one before it.
+    pub(crate) fn len(&self) -> usize
+        ensures count { result ≡ self.now.count }
+        ensures few { result ≤ 2 ^ 32 }
+        ensures listed { (i : ℕ) → i < self.now.count → IsListedKey self.now.bytes i }
+    {
+        self.starts.len()
+    }
+
     /// Key `i`.
     pub(crate) fn key(&self, i: usize) -> &'a [u8]
         requires { i < self.now.count }
@@ -60,21 +68,6 @@ impl<'a> ListedKeys<'a> {
         low
     }
 
-    /// Whether bytes are a key, or may begin one.
-    pub(crate) fn look_for(&self, front: &[u8]) -> Begun
-        ensures { IsBegun self.now front.now result }
-    {
-        let at = self.first_not_below(front);
-        if at == self.starts.len() || !self.key(at).starts_with(front) {
-            return Begun::Nothing;
-        }
-        if self.key(at).len() == front.len() {
-            Begun::Key(at as u32)
-        } else {
-            Begun::Longer
-        }
-    }
-
     /// The number of a key.
     pub(crate) fn number_of(&self, key: &[u8]) -> Option<u32>
         ensures { result ≡ listed_number self.now.count self.now.bytes key.now }
@@ -86,16 +79,6 @@ impl<'a> ListedKeys<'a> {
             None
         }
     }
-}
-
-/// What listed keys say of some bytes.
-pub(crate) enum Begun {
-    /// They are the key of this number.
-    Key(u32),
-    /// They are no key. Longer keys may begin with them.
-    Longer,
-    /// No key begins with them.
-    Nothing,
 }
 
 /// The key that stands in front, behind its length.
