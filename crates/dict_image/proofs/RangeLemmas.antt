@@ -7,7 +7,8 @@ use Rattle.std.proofs.lemmas.List.{reverse-append}
 use Rattle.std.proofs.lemmas.Nat.{le-div}
 use Rattle.std.proofs.lemmas.List.FromFn.{map-range_with_len_more}
 use Rattle.image_bytes.specs.ImageSections.{AreRanges, StoredRange, range_at, stored_info, no_info}
-use Rattle.dict_image.specs.Ranges.{AreInOrder, IsLastUpTo, range_count}
+use Rattle.dict_image.specs.Ranges.{AreInOrder, IsLastUpTo}
+use Rattle.image_bytes.specs.ImageSections.{range_count}
 
 -- a later range begins no earlier
 begins_after : (ranges : List ℕ) (i n : ℕ) → AreInOrder ranges → i + n < range_count ranges → (range_at ranges i).first ≤ (range_at ranges (i + n)).first

@@ -1,14 +1,10 @@
 -- The category at the front of some bytes.
-use Rattle.std.specs.Prelude.{◌≡◌, ℕ, ◌+◌, List, ◌++◌, drop}
-use Rattle.image_bytes.specs.ImageBytes.{number_at}
+use Rattle.std.specs.Prelude.{◌≡◌, ℕ, List, ◌++◌}
 use Rattle.mj_model.specs.CharDef.{IsStorable}
 use Rattle.image_bytes.specs.ImageSections.{category_bytes, first_category}
-
--- what stands behind the first category
-abbrev pub after_category : List ℕ → List ℕ
-after_category bytes = drop (4 + number_at 1 bytes 3) bytes
+use Rattle.dict_image.specs.Categories.{behind_first}
 
 -- the bytes begin with those of a category that an image may hold
 pub record BeginsWithCategory (bytes : List ℕ) : Type 0 where
   pub storable : IsStorable (first_category bytes)
-  pub front : bytes ≡ category_bytes (first_category bytes) ++ after_category bytes
+  pub front : bytes ≡ category_bytes (first_category bytes) ++ behind_first bytes

@@ -1,5 +1,5 @@
 -- What the tests of an image answer.
-use Rattle.std.specs.Prelude.{◌≡◌, ◌⊎◌, ℕ, suc, ◌/◌, ◌<◌, ◌≤◌, List, length, Option, Result, MatchOption, MatchResult}
+use Rattle.std.specs.Prelude.{◌≡◌, ◌⊎◌, ℕ, ◌<◌, ◌≤◌, List, length, Option, Result, MatchOption, MatchResult}
 use Rattle.std.specs.Borrow.{Bor}
 use Rattle.mj_model.specs.declared.image_fault.ImageFault.{ImageFault}
 use Rattle.mj_model.specs.declared.image_fault.ImageFault.TheVariants.{Memory}
@@ -14,14 +14,13 @@ use Rattle.image_bytes.specs.declared.layout.KeyForm.TheVariants as key
 use Rattle.image_bytes.specs.Layouts.{key_form}
 use Rattle.dict_image.specs.declared.keys.Keys.{Keys}
 use Rattle.dict_image.specs.KeyPlaces.{AreKeysOf, AreStarts}
-use Rattle.image_bytes.specs.ImageSections.{HoldGroups, index_at, range_at, stored_cells}
+use Rattle.image_bytes.specs.ImageSections.{HoldGroups, range_at, range_count, stored_cells}
 use Rattle.dict_image.specs.declared.check.cell.Role.{Role}
 use Rattle.dict_image.specs.declared.check.cell.Signed.{Signed}
 use Rattle.dict_image.specs.Cells.{IsAllowed, IsBaseRole, IsChildAt, IsRole, number}
-use Rattle.dict_image.specs.CheckedCategories.{BeginsWithCategory, after_category}
+use Rattle.dict_image.specs.CheckedCategories.{BeginsWithCategory}
+use Rattle.dict_image.specs.Categories.{behind_first}
 use Rattle.dict_image.specs.CheckedRanges.{IsRangeOf}
-use Rattle.image_bytes.specs.OlderSections.{entry_at, own_entries}
-use Rattle.mj_model.specs.CharDef.{IsInfoOf}
 use Rattle.dict_image.specs.Values.{HoldEach, ArePlaces}
 
 -- ---- tests
@@ -59,23 +58,11 @@ IsLeastOrNone n Fact found = MatchOption found ((i : ℕ) → i < n → Fact i) 
 -- what stands behind the category with which bytes begin, if they begin with one
 abbrev pub IsPastCategory : List ℕ → Option (Bor (List ℕ)) → Type 0
 IsPastCategory bytes rest =
-    MatchOption rest (BeginsWithCategory bytes → ⊥) (λ more. BeginsWithCategory bytes × (more.now ≡ after_category bytes))
-
--- the first code points of ranges rise
-abbrev pub FirstsRise : List ℕ → Type 0
-FirstsRise ranges = (i : ℕ) → suc i < length ranges / 8 → (range_at ranges i).first < (range_at ranges (suc i)).first
+    MatchOption rest (BeginsWithCategory bytes → ⊥) (λ more. BeginsWithCategory bytes × (more.now ≡ behind_first bytes))
 
 -- each range has categories below a number
 abbrev pub AreRangesOf : ℕ → List ℕ → Type 0
-AreRangesOf categories ranges = (i : ℕ) → i < length ranges / 8 → IsRangeOf categories (range_at ranges i)
-
--- each of the entries has categories below a number
-abbrev pub AreEntriesOf : ℕ → List ℕ → Type 0
-AreEntriesOf categories entries = (i : ℕ) → i < own_entries → IsInfoOf categories (entry_at entries i)
-
--- the numbers of an index rise
-abbrev pub NumbersRise : ℕ → List ℕ → Type 0
-NumbersRise lists index = (i : ℕ) → i < lists → index_at index i < index_at index (suc i)
+AreRangesOf categories ranges = (i : ℕ) → i < range_count ranges → IsRangeOf categories (range_at ranges i)
 
 -- ---- section 5
 

@@ -1,16 +1,12 @@
 -- Ranges of code points in their order.
-use Rattle.std.specs.Prelude.{◌≡◌, ℕ, suc, ◌/◌, ◌<◌, ◌≤◌, List, length}
-use Rattle.image_bytes.specs.ImageSections.{range_at}
-
--- how many ranges there are
-abbrev pub range_count : List ℕ → ℕ
-range_count ranges = length ranges / 8
+use Rattle.std.specs.Prelude.{◌≡◌, ℕ, suc, ◌<◌, ◌≤◌, List}
+use Rattle.image_bytes.specs.ImageSections.{FirstsRise, range_at, range_count}
 
 -- the first range begins at code point 0, each further one behind the one before it, and the first category of each is of a byte
 pub record AreInOrder (ranges : List ℕ) : Type 0 where
   pub some : 1 ≤ range_count ranges
   pub from_zero : (range_at ranges 0).first ≡ 0
-  pub rising : (i : ℕ) → suc i < range_count ranges → (range_at ranges i).first < (range_at ranges (suc i)).first
+  pub rising : FirstsRise ranges
   pub short : (i : ℕ) → i < range_count ranges → (range_at ranges i).info.head < 256
 
 -- the last range that begins at or before a code point

@@ -81,7 +81,7 @@ impl Dict {
         self.header().sizes
     }
 
-    /// The entry of a number.
+    /// The entry of a number. `EntryRef::token` of each entry that `entries`, `prefixes` or `unknown` answers is such a number.
     pub fn token(&self, i: u32) -> EntryRef<'_>
         requires { i < all_tokens (header_of self.now) }
         ensures { token_seen result ≡ image_token self.now i }
@@ -153,7 +153,7 @@ impl Dict {
         ensures { result ≡ tokens_in (section_of self.now 7) (section_of self.now 8)
             (section_of self.now 6) i }
     {
-        Entries::listed(
+        Entries::of_list(
             self.section(Groups),
             self.section(Tokens),
             self.section(Features),
@@ -162,7 +162,7 @@ impl Dict {
     }
 }
 
-/// The cells of the keys, which give each surface its group.
+/// The cells of the keys of layouts 2 and 3, which give each surface its group. Layout 1 lists its keys, and its cells mean nothing.
 impl CellRead for Dict {
     ghost cells = { λ bytes. stored_cells (section_of bytes 5) };
 

@@ -50,7 +50,7 @@ impl<'a> Entries<'a> {
     }
 
     /// The entries of list `i` of an index.
-    pub(crate) fn listed(
+    pub(crate) fn of_list(
         index: &[u8],
         tokens: &'a [u8],
         features: &'a [u8],

@@ -1,10 +1,11 @@
 //! The categories of code points, by layout.
-ghost use Rattle.std.specs.Prelude.{◌≡◌};
+ghost use Rattle.std.specs.Prelude.{◌≡◌, ◌/◌, ◌^◌, ◌<◌};
 ghost use Rattle.image_bytes.specs.ImageMeaning.{info_in};
+ghost use Rattle.image_bytes.specs.ImageSections.{info_of_entry};
 ghost use Rattle.image_bytes.specs.OlderSections.{listed_info};
 ghost use Rattle.dict_image.specs.Infos.{AreReadable, AreWhole};
 
-use crate::ranges::{info_at, info_of};
+use crate::ranges::info_at;
 use image_bytes::{InfoForm, OWN_ENTRIES, u32_at};
 use mj_model::CharInfo;
 
@@ -26,4 +27,15 @@ fn listed_at(entries: &[u8], code: u32) -> CharInfo
 {
     let number = if code < OWN_ENTRIES { code } else { 0 };
     info_of(u32_at(entries, 4 * number as usize))
+}
+
+/// The categories in an entry: bits 0 to 17 are their set, those above the first of them.
+pub(crate) fn info_of(entry: u32) -> CharInfo
+    requires { entry / 2 ^ 18 < 256 }
+    ensures { result ≡ info_of_entry entry }
+{
+    CharInfo {
+        bits: entry % (1 << 18),
+        head: (entry >> 18) as u8,
+    }
 }

@@ -1,8 +1,9 @@
 //! The section of the categories of code points.
-ghost use Rattle.std.specs.Prelude.{◌≡◌, ◌+◌, ◌*◌, ◌/◌, ◌^◌, ◌<◌};
-ghost use Rattle.image_bytes.specs.ImageSections.{info_of_entry, stored_info};
+ghost use Rattle.std.specs.Prelude.{◌≡◌, ◌+◌, ◌*◌, ◌<◌};
+ghost use Rattle.image_bytes.specs.ImageSections.{stored_info};
 ghost use Rattle.dict_image.specs.Ranges.{AreInOrder, IsLastUpTo};
 
+use crate::infos::info_of;
 use image_bytes::u32_at;
 use mj_model::CharInfo;
 
@@ -13,17 +14,6 @@ pub(crate) fn info_at(ranges: &[u8], code: u32) -> CharInfo
 {
     let i = last_up_to(ranges, code);
     info_of(u32_at(ranges, 8 * i + 4))
-}
-
-/// The categories in an entry: bits 0 to 17 are their set, those above the first of them.
-pub(crate) fn info_of(entry: u32) -> CharInfo
-    requires { entry / 2 ^ 18 < 256 }
-    ensures { result ≡ info_of_entry entry }
-{
-    CharInfo {
-        bits: entry % (1 << 18),
-        head: (entry >> 18) as u8,
-    }
 }
 
 /// The number of the last range that begins at or before a code point.

@@ -67,7 +67,7 @@ impl Dict {
         ensures unknown { result ≡ (image_tables self.now).unknown i }
         ensures some { 0 < length result }
     {
-        Entries::listed(
+        Entries::of_list(
             self.section(UnknownIndex),
             self.section(Tokens),
             self.section(Features),

@@ -62,8 +62,12 @@ info_of_entry entry = record { bits = entry % 2 ^ 18; head = entry / 2 ^ 18 }
 abbrev pub range_at : List ℕ → ℕ → StoredRange
 range_at ranges i = record { first = number_at 4 ranges (8 * i); info = info_of_entry (number_at 4 ranges (8 * i + 4)) }
 
+-- how many ranges there are
+abbrev pub range_count : List ℕ → ℕ
+range_count ranges = length ranges / 8
+
 abbrev pub stored_ranges : List ℕ → List StoredRange
-stored_ranges ranges = map (range_at ranges) (range_with_len 0 (length ranges / 8))
+stored_ranges ranges = map (range_at ranges) (range_with_len 0 (range_count ranges))
 
 abbrev pub no_info : CharInfo
 no_info = record { bits = 0; head = 0 }
@@ -73,14 +77,18 @@ abbrev pub stored_info : List ℕ → ℕ → CharInfo
 stored_info ranges code =
     option_map_or (λ (range : StoredRange). range.info) (find (λ range. nat_le range.first code) (reverse (stored_ranges ranges))) no_info
 
+-- the first code points of ranges rise
+abbrev pub FirstsRise : List ℕ → Type 0
+FirstsRise ranges = (i : ℕ) → suc i < range_count ranges → (range_at ranges i).first < (range_at ranges (suc i)).first
+
 -- ranges of 8 bytes: the first begins at code point 0, each further one behind the one before it
 pub record AreRanges (categories : ℕ) (ranges : List ℕ) : Type 0 where
   pub whole : length ranges % 8 ≡ 0
   pub some : 8 ≤ length ranges
   pub from_zero : (range_at ranges 0).first ≡ 0
-  pub rising : (i : ℕ) → suc i < length ranges / 8 → (range_at ranges i).first < (range_at ranges (suc i)).first
-  pub within : (i : ℕ) → i < length ranges / 8 → (range_at ranges i).first ≤ code_point_max
-  pub infos : (i : ℕ) → i < length ranges / 8 → IsInfoOf categories (range_at ranges i).info
+  pub rising : FirstsRise ranges
+  pub within : (i : ℕ) → i < range_count ranges → (range_at ranges i).first ≤ code_point_max
+  pub infos : (i : ℕ) → i < range_count ranges → IsInfoOf categories (range_at ranges i).info
 
 -- ---- sections 4 and 6: which tokens a category and a group have
 
@@ -88,11 +96,15 @@ pub record AreRanges (categories : ℕ) (ranges : List ℕ) : Type 0 where
 abbrev pub index_at : List ℕ → ℕ → ℕ
 index_at index i = number_at 4 index (4 * i)
 
+-- the numbers of an index rise
+abbrev pub NumbersRise : ℕ → List ℕ → Type 0
+NumbersRise lists index = (i : ℕ) → i < lists → index_at index i < index_at index (suc i)
+
 -- an index of n lists, none of them empty, which share out the tokens from the low number up to the high one
 pub record IsIndex (lists low high : ℕ) (index : List ℕ) : Type 0 where
   pub fills : length index ≡ 4 * (lists + 1)
   pub first : index_at index 0 ≡ low
-  pub rising : (i : ℕ) → i < lists → index_at index i < index_at index (suc i)
+  pub rising : NumbersRise lists index
   pub last : index_at index lists ≡ high
 
 -- ---- section 5 of layouts 2 and 3: the cells, which give each key its group

@@ -27,10 +27,18 @@ entry_at entries i = info_of_entry (number_at 4 entries (4 * i))
 abbrev pub listed_info : List ℕ → ℕ → CharInfo
 listed_info entries code = entry_at entries (entry_number code)
 
+-- an entry of 4 bytes for each of those code points
+abbrev pub AreFilled : List ℕ → Type 0
+AreFilled entries = length entries ≡ 4 * own_entries
+
+-- each of the entries has categories below a number
+abbrev pub AreEntriesOf : ℕ → List ℕ → Type 0
+AreEntriesOf categories entries = (i : ℕ) → i < own_entries → IsInfoOf categories (entry_at entries i)
+
 -- an entry of 4 bytes for each of those code points, of categories below a number
 pub record AreEntries (categories : ℕ) (entries : List ℕ) : Type 0 where
-  pub fill : length entries ≡ 4 * own_entries
-  pub infos : (i : ℕ) → i < own_entries → IsInfoOf categories (entry_at entries i)
+  pub fill : AreFilled entries
+  pub infos : AreEntriesOf categories entries
 
 -- ---- section 5 of layout 1: the surfaces in rising byte order, each behind its length in 2 bytes
 
@@ -55,7 +63,6 @@ listed_key keys i = front_key (keys_from i keys)
 
 -- a key with its length begins the bytes; it has at least 1 byte, and is UTF-8
 pub record BeginWithKey (keys : List ℕ) : Type 0 where
-  pub length_within : 2 ≤ length keys
   pub within : 2 + front_length keys ≤ length keys
   pub some : 1 ≤ front_length keys
   pub is_text : IsUtf8 (front_key keys)

@@ -11,7 +11,8 @@ use std::str;
 #[derive(Drop)]
 pub(crate) struct Characters<'a> {
     bytes: &'a [u8],
-    /// Where no character begins, in rising order: from behind each of them up to the next one, or to the end, the bytes are UTF-8.
+    /// Where a character would have to begin and none does, in rising order: from behind each of them up to the next one, or to the end,
+    /// the bytes are UTF-8.
     wrong: Vec<usize>,
 }
 
@@ -60,7 +61,7 @@ impl<'a> Characters<'a> {
         end <= to && self.is_cut(start, to) && self.is_cut(end, to)
     }
 
-    /// The first place from another one on where no character begins, or the end of the bytes.
+    /// The first place from another one on where a character would have to begin and none does, or the end of the bytes.
     fn stretch_end(&self, place: usize) -> usize
         requires { place ≤ length self.now }
         ensures { IsEndOf self.now place result }
@@ -80,7 +81,7 @@ impl<'a> Characters<'a> {
     }
 }
 
-/// The places where no character begins.
+/// The places where a character would have to begin and none does.
 fn wrong_places(alloc: Global, bytes: &[u8]) -> Result<Vec<usize>, AllocError>
     ensures { IfOk result (λ wrong. AreWrong bytes.now wrong.items) }
 {
@@ -93,7 +94,8 @@ fn wrong_places(alloc: Global, bytes: &[u8]) -> Result<Vec<usize>, AllocError>
     Ok(wrong)
 }
 
-/// The first place from another one on where no character begins, if there is one. The bytes behind that character are not looked at.
+/// The first place from another one on where a character would have to begin and none does, if there is one. The bytes behind it are
+/// not looked at.
 fn next_wrong(bytes: &[u8], from: usize) -> Option<usize>
     requires { from ≤ length bytes.now }
     ensures { IsNextWrong bytes.now from result }

@@ -1,7 +1,6 @@
 //! An index: which tokens each of its lists has.
 ghost use Rattle.std.specs.Prelude.{◌≡◌, ◌+◌, ◌*◌, ◌↔◌, length, IsTrue};
-ghost use Rattle.image_bytes.specs.ImageSections.{IsIndex};
-ghost use Rattle.dict_image.specs.Checks.{NumbersRise};
+ghost use Rattle.image_bytes.specs.ImageSections.{IsIndex, NumbersRise};
 
 use image_bytes::u32_at;
 

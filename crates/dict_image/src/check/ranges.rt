@@ -1,16 +1,17 @@
 //! The categories of code points, in ranges.
 ghost use Rattle.std.specs.Prelude.{◌≤◌, ◌↔◌, IsTrue};
-ghost use Rattle.image_bytes.specs.ImageSections.{AreRanges, info_of_entry};
-ghost use Rattle.mj_model.specs.CharDef.{IsInfoOf};
-ghost use Rattle.dict_image.specs.Checks.{AreRangesOf, FirstsRise};
+ghost use Rattle.image_bytes.specs.ImageSections.{AreRanges, FirstsRise};
+ghost use Rattle.mj_model.specs.declared.limits.TheConstants.{CATEGORIES_MAX as CategoriesMax};
+ghost use Rattle.dict_image.specs.Checks.{AreRangesOf};
 
+use crate::check::infos::is_info;
 use image_bytes::u32_at;
 use mj_model::CODE_POINT_MAX;
 
 /// Whether ranges of 8 bytes, the first from code point 0 and each further one behind the one before it, name categories below a
-/// number of at most 18.
+/// number of at most `CATEGORIES_MAX`.
 pub(crate) fn are_ranges(categories: u32, ranges: &[u8]) -> bool
-    requires { categories ≤ 18 }
+    requires { categories ≤ CategoriesMax }
     ensures { IsTrue result ↔ AreRanges categories ranges.now }
 {
     ranges.len() % 8 == 0
@@ -34,7 +35,7 @@ fn is_rising(ranges: &[u8]) -> bool
 
 /// Whether each range begins at a code point, and names categories below a number.
 fn are_within(categories: u32, ranges: &[u8]) -> bool
-    requires { categories ≤ 18 }
+    requires { categories ≤ CategoriesMax }
     ensures { IsTrue result ↔ AreRangesOf categories ranges.now }
 {
     for i in 0..ranges.len() / 8 {
@@ -45,17 +46,4 @@ fn are_within(categories: u32, ranges: &[u8]) -> bool
         }
     }
     true
-}
-
-/// Whether the first category of an entry is in its set, and the set has only categories below a number of at most 18.
-pub(crate) fn is_info(categories: u32, entry: u32) -> bool
-    requires { categories ≤ 18 }
-    ensures { IsTrue result ↔ IsInfoOf categories (info_of_entry entry) }
-{
-    let bits = entry % (1 << 18);
-    let head = entry >> 18;
-    if head >= categories {
-        return false;
-    }
-    bits < 1 << categories && (bits >> head) & 1 == 1
 }

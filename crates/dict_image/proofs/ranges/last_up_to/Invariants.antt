@@ -1,6 +1,6 @@
 use Rattle.std.proofs.Common.{◌-◌, ◌<◌, ◌≤◌}
 use Rattle.image_bytes.specs.ImageSections.{range_at}
-use Rattle.dict_image.specs.Ranges.{range_count}
+use Rattle.image_bytes.specs.ImageSections.{range_count}
 use Rattle.dict_image.proofs.ranges.last_up_to.Given as goal
 
 abbrev pub invariant-loop-high : goal.invariant-loop-high

@@ -9,24 +9,24 @@ use Rattle.dict_image.proofs.FormedLemmas.{system_of_categories, tokens_are, unk
 use Rattle.dict_image.proofs.TokenLemmas.{index_within, list_rises, list_within, same_list, some_tokens}
 use Rattle.dict_image.proofs.dict.Dict.unknown.Goals as goal
 
-pub listed-requires-clause-index : goal.listed-requires-clause-index
-listed-requires-clause-index c =
+pub of_list-requires-clause-index : goal.of_list-requires-clause-index
+of_list-requires-clause-index c =
     let bytes = c.args.self.now in
     let h = header_of bytes in
     let less = below_count bytes c.args.i c.requires in
     let w = c.section.ensures.formed in
     rw (c.section.ensures.section) (list_within h.categories h.tokens (all_tokens h) (section bytes 4) c.args.i (unknown_are bytes (system_of_categories bytes c.args.i w less) w) less)
 
-pub listed-requires-clause-order : goal.listed-requires-clause-order
-listed-requires-clause-order c =
+pub of_list-requires-clause-order : goal.of_list-requires-clause-order
+of_list-requires-clause-order c =
     let bytes = c.args.self.now in
     let h = header_of bytes in
     let less = below_count bytes c.args.i c.requires in
     let w = c.section.ensures.formed in
     rw (c.section.ensures.section) (list_rises h.categories h.tokens (all_tokens h) (section bytes 4) c.args.i (unknown_are bytes (system_of_categories bytes c.args.i w less) w) less)
 
-pub listed-requires-clause-hold : goal.listed-requires-clause-hold
-listed-requires-clause-hold c =
+pub of_list-requires-clause-hold : goal.of_list-requires-clause-hold
+of_list-requires-clause-hold c =
     let bytes = c.args.self.now in
     let h = header_of bytes in
     let less = below_count bytes c.args.i c.requires in
@@ -38,7 +38,7 @@ pub returns-clause-unknown : goal.returns-clause-unknown
 returns-clause-unknown c =
     let bytes = c.args.self.now in
     let tokens = tokens_in (section bytes 7) (section bytes 8) (section bytes 4) c.args.i in
-    let listed : c.listed.result ≡ tokens = c.listed.ensures ∙ same_list _ _ _ _ _ _ c.args.i c.section-2.ensures.section c.section-3.ensures.section c.section.ensures.section in
+    let listed : c.of_list.result ≡ tokens = c.of_list.ensures ∙ same_list _ _ _ _ _ _ c.args.i c.section-2.ensures.section c.section-3.ensures.section c.section.ensures.section in
     listed ∙ sym (ap (λ (b : Bool). cond b tokens []) (lt-ltb c.args.i (header_of bytes).categories (below_count bytes c.args.i c.requires)))
 
 pub returns-clause-some : goal.returns-clause-some
@@ -48,6 +48,6 @@ returns-clause-some c =
     let less = below_count bytes c.args.i c.requires in
     let w = c.section.ensures.formed in
     let tokens = tokens_in (section bytes 7) (section bytes 8) (section bytes 4) c.args.i in
-    let listed : c.listed.result ≡ tokens = c.listed.ensures ∙ same_list _ _ _ _ _ _ c.args.i c.section-2.ensures.section c.section-3.ensures.section c.section.ensures.section in
+    let listed : c.of_list.result ≡ tokens = c.of_list.ensures ∙ same_list _ _ _ _ _ _ c.args.i c.section-2.ensures.section c.section-3.ensures.section c.section.ensures.section in
     let rises = (unknown_are bytes (system_of_categories bytes c.args.i w less) w).rising c.args.i less in
     subst (λ (ts : List Token). 0 < length ts) (sym listed) (some_tokens (section bytes 7) (section bytes 8) (section bytes 4) c.args.i rises)

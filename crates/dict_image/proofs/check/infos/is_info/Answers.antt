@@ -1,6 +1,6 @@
 use Rattle.std.proofs.Common.{◌/◌, ◌%◌, arith, eqb-true, eq-eqb, bit_and, ◌^◌}
 use Rattle.std.proofs.lemmas.Nat.{bit_set_by_shift}
-use Rattle.dict_image.proofs.check.ranges.is_info.Goals as goal
+use Rattle.dict_image.proofs.check.infos.is_info.Goals as goal
 
 pub returns-then-bits-categories : goal.returns-then-bits-categories
 returns-then-bits-categories c =
