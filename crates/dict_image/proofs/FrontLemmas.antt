@@ -58,34 +58,11 @@ code_past key place past = elim (cases_eq place (length key)) [
   | inr other ↦ get_or_past (codes_of key) place 0 (let l = length-codes_of key in omega (arith, l, past, other))
 ]
 
--- ---- a binary search
-
-pub below_up_to : (list : KeyList) (place code low high i middle : ℕ) → CodesRise list place low high → low ≤ i → i ≤ middle → middle < high → code_at list place middle < code → code_at list place i < code
-below_up_to list place code low high i middle rise up le within below = elim (cases_eq i middle) [
-  | inl same ↦ subst (λ (k : ℕ). code_at list place k < code) (sym same) below
-  | inr other ↦ let r = rise i middle up (omega (arith, le, other)) within in omega (arith, r, below)
-]
-
-pub others_from : (list : KeyList) (place code low high i middle : ℕ) → CodesRise list place low high → low ≤ middle → middle ≤ i → i < high → code ≤ code_at list place middle → code ≤ code_at list place i
-others_from list place code low high i middle rise up le within above = elim (cases_eq middle i) [
-  | inl same ↦ subst (λ (k : ℕ). code ≤ code_at list place k) same above
-  | inr other ↦ let r = rise middle i up (omega (arith, le, other)) within in omega (arith, r, above)
-]
-
 -- ---- ranges
 
 none_of : (o : Option ℕ) → ((g : ℕ) → o ≡ Some g → ⊥) → o ≡ None
 none_of None none = refl
 none_of (Some g) none = absurd (none g refl)
-
--- all keys begin with no bytes
-pub all_begin : (list : KeyList) → IsRangeOf list [] 0 list.count
-all_begin list = record {
-  order = omega arith;
-  within = omega arith;
-  inside = λ i low less. (listed_key list.bytes i, refl);
-  all = λ i less begins. (omega arith, less);
-}
 
 -- a key that begins with a front is among those
 among : (list : KeyList) (front more : List ℕ) (low high g : ℕ) → IsRangeOf list front low high → listed_number list.count list.bytes (front ++ more) ≡ Some g → (low ≤ g) × (g < high)

@@ -93,9 +93,6 @@ other_family_moved old new s t from to count family built used at least has fits
     let member = has_code old s from t s family built at some used is in
     family_moved old.cells new.cells s from to count member.0 family at some least is member.1 fits move all
 
-pub none_moved : (cells : List Cell) → HaveMoved cells cells 0
-none_moved cells = inl (refl, λ t s named. named)
-
 -- ---- used cells are kept
 
 kept_apart : (old now : List Cell) (t i : ℕ) → AreKept old now → cell_at now t ≡ free_cell → 2 ≤ t → IsInUse old i → i ≢ t

@@ -1,7 +1,6 @@
 //! A walk over the bytes of a text, from hit to hit.
 ghost use Rattle.std.specs.Prelude.{◌≡◌, ◌+◌, ◌*◌, ◌≤◌, Some, IfSome, IfNone, length, option_map};
 ghost use Rattle.std.specs.Iterator.{YieldsFirstBy};
-ghost use Rattle.double_array.specs.Steps.{IsAt};
 ghost use Rattle.double_array.specs.Hits.{IsStepOfWalk, hits_left};
 ghost use Rattle.double_array.specs.Walking.{IsWalkBut, IsWalking, value_reads, walked, walked_to};
 ghost use Rattle.double_array.specs.CellMap.{prefixes_of};

@@ -1,5 +1,5 @@
 //! The categories of code points, by layout.
-ghost use Rattle.std.specs.Prelude.{◌≡◌, ◌*◌, ◌≤◌, ◌↔◌, length, IsTrue};
+ghost use Rattle.std.specs.Prelude.{◌≤◌, ◌↔◌, IsTrue};
 ghost use Rattle.image_bytes.specs.ImageFaults.{AreInfos};
 ghost use Rattle.image_bytes.specs.ImageSections.{info_of_entry};
 ghost use Rattle.mj_model.specs.CharDef.{IsInfoOf};

@@ -69,7 +69,8 @@ fn has_key(
     requires holds { base_of (stored_cells cells.now.bytes.now) place ≡ negsuc group }
     requires fronts { AreFronts (stored_cells cells.now.bytes.now) fronts.old }
     ensures fronts { AreFronts (stored_cells cells.now.bytes.now) fronts.new }
-    ensures has { IfOk result (λ has. IsTrue has ↔ HasKey (stored_cells cells.now.bytes.now) group) }
+    ensures has { IfOk result
+        (λ has. IsTrue has ↔ HasKey (stored_cells cells.now.bytes.now) group) }
 {
     let state = state_before(cells, place);
     match front_of(cells, state, fronts, way)? {

@@ -66,7 +66,8 @@ fn begun_by(byte: u8) -> Stand
 
 /// Where bytes stand behind a byte that has to be one from the least to the most.
 fn after_tail(byte: u8, least: u8, most: u8, next: Stand) -> Stand
-    ensures { (more : List ℕ) → ByteThen least most (Accepts next) (byte ∷ more) ↔ Accepts result more }
+    ensures { (more : List ℕ)
+        → ByteThen least most (Accepts next) (byte ∷ more) ↔ Accepts result more }
 {
     if least <= byte && byte <= most {
         next
