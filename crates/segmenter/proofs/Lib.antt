@@ -1,4 +1,5 @@
 pub mod PieceLemmas
+pub mod PrintedBehind
 pub mod PieceWork
 pub mod ResultLemmas
 pub mod WritingLemmas

@@ -1,6 +1,7 @@
 -- Work on the bytes of one read: each step prints the line up to the next LF.
-use Rattle.std.proofs.Common.{◌≡◌, ℕ, ◌+◌, ◌<◌, ◌≤◌, suc, true, false, List, [], ◌∷◌, ◌++◌, length, take, drop, get_or, refl, sym, ap, ◌∙◌, subst, arith, append_assoc, append-nil, inl, inr, length-append, length-drop, length-take}
-use Rattle.std.specs.Prelude.{Result, Ok, Err}
+use Rattle.std.proofs.Common.{◌≡◌, ℕ, ◌+◌, ◌*◌, ◌^◌, ◌<◌, ◌≤◌, suc, true, false, List, [], ◌∷◌, ◌++◌, length, take, drop, get_or, refl, sym, ap, ◌∙◌, subst, arith, append_assoc, append-nil, inl, inr, length-drop, length-take}
+use Rattle.std.specs.Prelude.{Result, Ok, Err, OnOk, OnErr, IfErr}
+use Rattle.std.specs.Io.KnownBytes.{Appends}
 use Rattle.std.proofs.lemmas.List.{get_or-take, get_or_default}
 use Rattle.std.proofs.lemmas.List.Elements.{All-append, All-nil}
 use Rattle.std.proofs.lemmas.Bool.{false_from_ne_true}
@@ -13,9 +14,13 @@ use Rattle.segmenter.specs.declared.line_fault.LineFault.{LineFault}
 use Rattle.segmenter.specs.declared.line_fault.LineFault.TheVariants.{TooLong}
 use Rattle.segmenter.specs.declared.line_fault.LineError.{LineError}
 use Rattle.segmenter.specs.declared.line_fault.LineError.TheVariants.{Bad, Memory}
+use Rattle.mj_model.specs.Counts.{WriterTold}
+use Rattle.mj_model.specs.declared.run_fault.RunFault.{RunFault}
 use Rattle.segmenter.specs.LineErrors.{TellsFault}
-use Rattle.segmenter.specs.Progress.{HasNoFeed, AllPrint, Worked, Working, Stopped}
+use Rattle.segmenter.specs.Progress.{HasNoFeed, IsCause}
+use Rattle.segmenter.specs.Steps.{Advanced, IsLineCause, Stepped, StepStopped, WaitingStopped, step_of}
 use Rattle.segmenter.proofs.PieceLemmas.{whole_lines-none, open_line-none, whole_lines-cut, open_line-cut}
+use Rattle.segmenter.proofs.StepLemmas.{IsCutWrite, advanced_on, all_written, cut_stopped, error_stopped, stepped_of, stopped_on, waits_on}
 
 -- ---- where the next LF stands
 
@@ -30,102 +35,147 @@ pub no_feed_at_all : (rest : List ℕ) → Nowhere (Passes (is_byte 10) rest) 0 
 no_feed_at_all rest none k d h =
     false_from_ne_true (is_line_feed (get_or rest k d)) (λ e. none k (omega arith) h (subst (λ (c : ℕ). is_line_feed c ≡ true) (get_or_default rest k d 0 h) e))
 
--- ---- lines that print, with one more
+-- ---- the work before the next line
+
+-- the bytes behind the last LF are too many for a line, or memory was refused
+abbrev pub IsHeldCause : List ℕ → List (List ℕ) → LineError → Type 0
+IsHeldCause held done error = (done ≡ []) × TellsFault (λ fault. (fault ≡ TooLong) × (SENTENCE_MAX < length held)) error
 
 module _ (Tells : List ℕ → Result (List ℕ) LineFault → Type 0) where
-  pub print_more : (number : ℕ) (lines : List (List ℕ)) (text line more : List ℕ) → AllPrint Tells number lines text
-      → Tells line (Ok more) → AllPrint Tells number (lines ++ line ∷ []) (text ++ more)
-  print_more number [] text line more h tells =
-      inr (more, [], tells, (refl, refl), ap (λ (t : List ℕ). t ++ more) h.0 ∙ sym (append-nil more))
-  print_more number (first ∷ lines) text line more (inl h) tells = absurd (cc)
-  print_more number (first ∷ lines) text line more (inr h) tells =
-      inr (
-        h.0,
-        h.1 ++ more,
-        h.2,
-        print_more (number + 1) lines h.1 line more h.3 tells,
-        ap (λ (t : List ℕ). t ++ more) h.4 ∙ append_assoc h.0 h.1 more,
-      )
+  -- the lines so far printed, all bytes are cut as what is held of the open line and the rest will be, and of the rest no more lines can
+  -- end, and no more writes can come, than bytes stand in it
+  pub record Working (before size : ℕ) (bytes held rest : List ℕ) (lines : ℕ) (waits : List ℕ) (t0 t1 : WriterTold) (sent0 sent1 : ℕ) : Type 0 where
+    pub done : List (List ℕ)
+    pub advanced : Advanced Tells before [] done lines waits (step_of t0 t1) sent0 sent1
+    pub whole : whole_lines bytes ≡ done ++ whole_lines (held ++ rest)
+    pub open_is : open_line bytes ≡ open_line (held ++ rest)
+    pub no_feed : HasNoFeed held
+    pub few_lines : lines + length rest ≤ before + size
+    pub few_bytes : sent1 + 2 ^ 64 * length rest ≤ sent0 + 2 ^ 64 * size
+    pub no_flush : t1.flushes ≡ t0.flushes
 
-  pub working_line : (before size : ℕ) (out_before bytes held rest : List ℕ) (after : ℕ) (out_after more : List ℕ) (at : ℕ)
-      → Working Tells before size out_before bytes held rest after out_after
-      → NoneBefore (Passes (is_byte 10) rest) 0 (length rest) at → Passes (is_byte 10) rest at
-      → Tells (held ++ take at rest) (Ok more)
-      → Working Tells before size out_before bytes [] (drop (at + 1) rest) (after + 1) (out_after ++ more)
-  working_line before size out_before bytes held rest after out_after more at w first passes tells =
-      let line = held ++ take at rest in
-      let next = drop (at + 1) rest in
-      let c = get_or rest at 0 in
-      let none : HasNoFeed line = All-append (λ c. is_line_feed c ≡ false) held (take at rest) w.no_feed (no_feed_before rest at (omega (arith, first.high)) first.before) in
-      let parted : rest ≡ take at rest ++ c ∷ next = split_at rest at 0 first.high ∙ ap (λ n. take at rest ++ c ∷ drop n rest) {x = suc at} {y = at + 1} (omega arith) in
-      let joined : held ++ rest ≡ line ++ c ∷ next = ap (λ r. held ++ r) parted ∙ sym (append_assoc held (take at rest) (c ∷ next)) in
-      let lengths = length-drop (at + 1) rest in
+  pub working_start : (lines : ℕ) (piece held waits : List ℕ) (t : WriterTold) (sent : ℕ) → HasNoFeed held → waits ≡ []
+      → Working lines (length piece) (held ++ piece) held piece lines waits t t sent sent
+  working_start lines piece held waits t sent none empty =
       record {
-        done = w.done ++ line ∷ [];
-        worked = record {
-          text = w.worked.text ++ more;
-          print = print_more (before + 1) w.done w.worked.text line more w.worked.print tells;
-          counted = (let more_lines = length-append w.done (line ∷ []) in omega (arith, w.worked.counted, more_lines));
-          appended = ap (λ t. t ++ more) w.worked.appended ∙ append_assoc out_before w.worked.text more;
-        };
-        whole = w.whole ∙ ap (λ z. w.done ++ z) (ap whole_lines joined ∙ whole_lines-cut line c next none passes) ∙ sym (append_assoc w.done (line ∷ []) (whole_lines next));
-        open_is = w.open_is ∙ ap open_line joined ∙ open_line-cut line c next none passes;
-        no_feed = All-nil (λ c. is_line_feed c ≡ false);
-        room = omega (arith, w.room, lengths, first.high);
+        done = [];
+        advanced = waits_on Tells lines [] [] lines waits [] t sent (refl, refl) (omega arith) empty;
+        whole = refl;
+        open_is = refl;
+        no_feed = none;
+        few_lines = omega arith;
+        few_bytes = omega arith;
+        no_flush = refl;
       }
 
-  pub working_stopped : (before size : ℕ) (out_before bytes held rest : List ℕ) (after : ℕ) (out_after : List ℕ) (at : ℕ) (error : LineError)
-      → Working Tells before size out_before bytes held rest after out_after
-      → NoneBefore (Passes (is_byte 10) rest) 0 (length rest) at → Passes (is_byte 10) rest at
-      → TellsFault (λ fault. Tells (held ++ take at rest) (Err fault)) error
-      → Stopped Tells before out_before bytes error after out_after
-  working_stopped before size out_before bytes held rest after out_after at Memory w first passes tells =
-      record { done = w.done; worked = w.worked; cause = (whole_lines (held ++ rest), w.whole) }
-  working_stopped before size out_before bytes held rest after out_after at (Bad fault) w first passes tells =
-      let line = held ++ take at rest in
-      let next = drop (at + 1) rest in
-      let c = get_or rest at 0 in
-      let none : HasNoFeed line = All-append (λ c. is_line_feed c ≡ false) held (take at rest) w.no_feed (no_feed_before rest at (omega (arith, first.high)) first.before) in
-      let parted : rest ≡ take at rest ++ c ∷ next = split_at rest at 0 first.high ∙ ap (λ n. take at rest ++ c ∷ drop n rest) {x = suc at} {y = at + 1} (omega arith) in
-      let joined : held ++ rest ≡ line ++ c ∷ next = ap (λ r. held ++ r) parted ∙ sym (append_assoc held (take at rest) (c ∷ next)) in
-      record {
-        done = w.done;
-        worked = w.worked;
-        cause = inl (line, whole_lines next, w.whole ∙ ap (λ z. w.done ++ z) (ap whole_lines joined ∙ whole_lines-cut line c next none passes), tells);
-      }
+  module _ (before size : ℕ) (bytes held rest : List ℕ) (lines : ℕ) (waits : List ℕ) (t0 t1 t2 : WriterTold) (sent0 sent1 : ℕ)
+      (w : Working before size bytes held rest lines waits t0 t1 sent0 sent1) where
+    -- ---- up to the next LF
 
-  pub working_done : (before size : ℕ) (out_before bytes held rest : List ℕ) (after : ℕ) (out_after : List ℕ)
-      → Working Tells before size out_before bytes held rest after out_after → Nowhere (Passes (is_byte 10) rest) 0 (length rest)
-      → Worked Tells before out_before (whole_lines bytes) after out_after
-  working_done before size out_before bytes held rest after out_after w none =
-      let all = All-append (λ c. is_line_feed c ≡ false) held rest w.no_feed (no_feed_at_all rest none) in
-      subst (λ lines. Worked Tells before out_before lines after out_after)
-      (sym (w.whole ∙ ap (λ z. w.done ++ z) (whole_lines-none (held ++ rest) all) ∙ append-nil w.done)) w.worked
+    module _ (at : ℕ) (first : NoneBefore (Passes (is_byte 10) rest) 0 (length rest) at) (passes : Passes (is_byte 10) rest at) where
+      none : HasNoFeed (held ++ take at rest)
+      none = All-append (λ c. is_line_feed c ≡ false) held (take at rest) w.no_feed (no_feed_before rest at (omega (arith, first.high)) first.before)
 
-  pub working_open : (before size : ℕ) (out_before bytes held rest : List ℕ) (after : ℕ) (out_after : List ℕ)
-      → Working Tells before size out_before bytes held rest after out_after → Nowhere (Passes (is_byte 10) rest) 0 (length rest)
-      → held ++ rest ≡ open_line bytes
-  working_open before size out_before bytes held rest after out_after w none =
-      let all = All-append (λ c. is_line_feed c ≡ false) held rest w.no_feed (no_feed_at_all rest none) in
-      sym (w.open_is ∙ open_line-none (held ++ rest) all)
+      joined : held ++ rest ≡ (held ++ take at rest) ++ get_or rest at 0 ∷ drop (at + 1) rest
+      joined =
+          let parted : rest ≡ take at rest ++ get_or rest at 0 ∷ drop (at + 1) rest =
+          split_at rest at 0 first.high ∙ ap (λ n. take at rest ++ get_or rest at 0 ∷ drop n rest) {x = suc at} {y = at + 1} (omega arith) in
+          ap (λ r. held ++ r) parted ∙ sym (append_assoc held (take at rest) (get_or rest at 0 ∷ drop (at + 1) rest))
 
-  pub working_too_long : (before size : ℕ) (out_before bytes held rest : List ℕ) (after : ℕ) (out_after : List ℕ) (error : LineError)
-      → ((line : List ℕ) → SENTENCE_MAX < length line → Tells line (Err TooLong))
-      → Working Tells before size out_before bytes held rest after out_after → Nowhere (Passes (is_byte 10) rest) 0 (length rest)
-      → TellsFault (λ fault. (fault ≡ TooLong) × (SENTENCE_MAX < length (held ++ rest))) error
-      → Stopped Tells before out_before bytes error after out_after
-  working_too_long before size out_before bytes held rest after out_after Memory long w none tells =
-      record { done = w.done; worked = w.worked; cause = (whole_lines (held ++ rest), w.whole) }
-  working_too_long before size out_before bytes held rest after out_after (Bad fault) long w none tells =
-      let all = All-append (λ c. is_line_feed c ≡ false) held rest w.no_feed (no_feed_at_all rest none) in
-      let is = working_open before size out_before bytes held rest after out_after w none in
-      record {
-        done = w.done;
-        worked = w.worked;
-        cause = inr (
-          w.whole ∙ ap (λ z. w.done ++ z) (whole_lines-none (held ++ rest) all) ∙ append-nil w.done,
-          tells.0,
-          long (open_line bytes) (subst (λ z. SENTENCE_MAX < length z) is tells.1),
-          subst (λ z. SENTENCE_MAX < length z) is tells.1,
-        );
-      }
+      whole_is : whole_lines bytes ≡ w.done ++ (held ++ take at rest) ∷ whole_lines (drop (at + 1) rest)
+      whole_is =
+          w.whole ∙ ap (λ z. w.done ++ z)
+          (ap whole_lines joined ∙ whole_lines-cut (held ++ take at rest) (get_or rest at 0) (drop (at + 1) rest) none passes)
+
+      pub working_line : (lines_after : ℕ) (waits_after : List ℕ) (sent2 : ℕ)
+          → Advanced Tells lines waits ((held ++ take at rest) ∷ []) lines_after waits_after (step_of t1 t2) sent1 sent2
+          → sent2 ≤ sent1 + 2 ^ 64 → lines_after ≤ lines + 1 → t2.flushes ≡ t1.flushes
+          → Working before size bytes [] (drop (at + 1) rest) lines_after waits_after t0 t2 sent0 sent2
+      working_line lines_after waits_after sent2 a few few_lines no_flush =
+          let lengths = length-drop (at + 1) rest in
+          record {
+            done = w.done ++ (held ++ take at rest) ∷ [];
+            advanced = advanced_on Tells before [] w.done lines waits ((held ++ take at rest) ∷ []) lines_after waits_after t0 t1 t2 sent0 sent1 sent2 w.advanced a;
+            whole = whole_is ∙ sym (append_assoc w.done ((held ++ take at rest) ∷ []) (whole_lines (drop (at + 1) rest)));
+            open_is = w.open_is ∙ ap open_line joined ∙ open_line-cut (held ++ take at rest) (get_or rest at 0) (drop (at + 1) rest) none passes;
+            no_feed = All-nil (λ c. is_line_feed c ≡ false);
+            few_lines = omega (arith, w.few_lines, few_lines, lengths, first.high);
+            few_bytes = omega (arith, w.few_bytes, few, lengths, first.high);
+            no_flush = no_flush ∙ w.no_flush;
+          }
+
+      cause_by : (error : LineError) → TellsFault (λ fault. Tells (held ++ take at rest) (Err fault)) error → IsCause Tells bytes w.done error
+      cause_by Memory tells = (whole_lines (held ++ rest), w.whole)
+      cause_by (Bad fault) tells = inl (held ++ take at rest, whole_lines (drop (at + 1) rest), whole_is, tells)
+
+      cause_of : (done : List (List ℕ)) (error : LineError) → IsLineCause Tells (held ++ take at rest) done error → IsCause Tells bytes (w.done ++ done) error
+      cause_of done error c =
+          subst (λ d. IsCause Tells bytes d error) (sym (append-nil w.done) ∙ ap (λ d. w.done ++ d) (sym c.none_before)) (cause_by error c.tells)
+
+      pub working_stopped : (fault : RunFault)
+          → StepStopped Tells (IsLineCause Tells (held ++ take at rest)) lines waits ((held ++ take at rest) ∷ []) (step_of t1 t2) sent1 fault
+          → StepStopped Tells (IsCause Tells bytes) before [] (whole_lines bytes) (step_of t0 t2) sent0 fault
+      working_stopped fault s =
+          stopped_on Tells (IsCause Tells bytes) (IsLineCause Tells (held ++ take at rest)) before [] (whole_lines bytes) w.done lines waits
+          ((held ++ take at rest) ∷ []) (whole_lines (drop (at + 1) rest)) t0 t1 t2 sent0 sent1 fault whole_is cause_of w.advanced s
+
+    -- ---- behind the last LF
+
+    module _ (nowhere : Nowhere (Passes (is_byte 10) rest) 0 (length rest)) where
+      all_held : HasNoFeed (held ++ rest)
+      all_held = All-append (λ c. is_line_feed c ≡ false) held rest w.no_feed (no_feed_at_all rest nowhere)
+
+      whole_done : whole_lines bytes ≡ w.done ++ []
+      whole_done = w.whole ∙ ap (λ z. w.done ++ z) (whole_lines-none (held ++ rest) all_held)
+
+      pub working_open : held ++ rest ≡ open_line bytes
+      working_open = sym (w.open_is ∙ open_line-none (held ++ rest) all_held)
+
+      stepped_by : (waits_after : List ℕ) (sent2 : ℕ) → waits_after ≡ []
+          → Advanced Tells lines waits [] lines waits_after (step_of t1 t2) sent1 sent2
+          → Stepped Tells before (whole_lines bytes) lines (step_of t0 t2) sent0 sent2
+      stepped_by waits_after sent2 empty a =
+          subst (λ ls. Stepped Tells before ls lines (step_of t0 t2) sent0 sent2) (sym whole_done)
+          (stepped_of Tells before (w.done ++ []) lines waits_after t0 t2 sent0 sent2 empty
+          (advanced_on Tells before [] w.done lines waits [] lines waits_after t0 t1 t2 sent0 sent1 sent2 w.advanced a))
+
+      -- what waits is written
+      pub working_done : (result : Result (Unit {0}) RunFault) (waits_after : List ℕ) (sent2 : ℕ)
+          → OnOk result (Appends t1.held t2.held waits) → OnOk result (sent2 ≡ sent1 + length waits) → OnOk result (waits_after ≡ [])
+          → OnOk result (t2.failures ≡ t1.failures)
+          → OnOk result (Stepped Tells before (whole_lines bytes) lines (step_of t0 t2) sent0 sent2)
+      working_done (Ok x) waits_after sent2 wrote sent empty no_failure =
+          stepped_by waits_after sent2 empty
+          (all_written Tells lines waits [] lines waits waits_after [] t1 t2 sent1 sent2 (refl, refl) (omega arith) (sym (append-nil waits)) wrote sent empty no_failure)
+      working_done (Err x) waits_after sent2 wrote sent empty no_failure = tt
+
+      -- or the write failed
+      pub working_cut : (result : Result (Unit {0}) RunFault) → IfErr result (IsCutWrite t1 t2 waits sent1) → OnErr result (t2.failures ≡ t1.failures + 1)
+          → IfErr result (StepStopped Tells (IsCause Tells bytes) before [] (whole_lines bytes) (step_of t0 t2) sent0)
+      working_cut (Ok x) cut failure = tt
+      working_cut (Err fault) cut failure =
+          stopped_on Tells (IsCause Tells bytes) (λ done error. ⊥) before [] (whole_lines bytes) w.done lines waits [] [] t0 t1 t2 sent0 sent1 fault whole_done
+          (λ done error none. absurd none) w.advanced
+          (cut_stopped Tells (λ done error. ⊥) lines waits [] [] [] waits [] t1 t2 sent1 fault refl (refl, refl) (sym (append-nil waits)) cut failure)
+
+      held_by : (error : LineError) → ((line : List ℕ) → SENTENCE_MAX < length line → Tells line (Err TooLong))
+          → TellsFault (λ fault. (fault ≡ TooLong) × (SENTENCE_MAX < length (held ++ rest))) error → IsCause Tells bytes w.done error
+      held_by Memory long tells = (whole_lines (held ++ rest), w.whole)
+      held_by (Bad fault) long tells =
+          let open_long = subst (λ z. SENTENCE_MAX < length z) working_open tells.1 in
+          inr (whole_done ∙ append-nil w.done, tells.0, long (open_line bytes) open_long, open_long)
+
+      held_of : ((line : List ℕ) → SENTENCE_MAX < length line → Tells line (Err TooLong))
+          → (done : List (List ℕ)) (error : LineError) → IsHeldCause (held ++ rest) done error → IsCause Tells bytes (w.done ++ done) error
+      held_of long done error c =
+          subst (λ d. IsCause Tells bytes d error) (sym (append-nil w.done) ∙ ap (λ d. w.done ++ d) (sym c.0)) (held_by error long c.1)
+
+      -- or the bytes behind the last LF stopped the work
+      pub working_held : ((line : List ℕ) → SENTENCE_MAX < length line → Tells line (Err TooLong)) → (error : LineError) (fault : RunFault)
+          → TellsFault (λ fault. (fault ≡ TooLong) × (SENTENCE_MAX < length (held ++ rest))) error
+          → WaitingStopped waits error (lines + 1) (step_of t1 t2) sent1 fault
+          → StepStopped Tells (IsCause Tells bytes) before [] (whole_lines bytes) (step_of t0 t2) sent0 fault
+      working_held long error fault tells s =
+          stopped_on Tells (IsCause Tells bytes) (IsHeldCause (held ++ rest)) before [] (whole_lines bytes) w.done lines waits
+          [] [] t0 t1 t2 sent0 sent1 fault whole_done (held_of long) w.advanced
+          (error_stopped Tells (IsHeldCause (held ++ rest)) lines waits [] error t1 t2 sent1 fault s (refl, tells))

@@ -20,7 +20,8 @@ use Rattle.segmenter.specs.Steps.{Stepped, StepStopped, EndStopped, last_line, I
 use Rattle.segmenter.specs.Runs.{Told, NoFailure, NoFlush, FlushesLast, IsStarved, IsBad, EndsSo, StoppedBehind, WorkedThrough, Ran, both_told, has_ended, lines_read}
 use Rattle.mj_model.specs.declared.source_fault.SourceFault.{SourceFault}
 use Rattle.segmenter.proofs.PieceLemmas.{open_line-append}
-use Rattle.segmenter.proofs.RunWork.{Running, bad_behind, print_on, turn_step, whole_on, text_lines-parts}
+use Rattle.segmenter.proofs.RunWork.{Running, print_on, turn_step, whole_on, text_lines-parts}
+use Rattle.segmenter.proofs.PrintedBehind.{bad_behind}
 
 -- (A ++ (D ++ M)) ++ T is (A ++ D) ++ (M ++ T)
 regroup : {X : Type 0} (us ds ms ts : List X) → (us ++ (ds ++ ms)) ++ ts ≡ (us ++ ds) ++ (ms ++ ts)
@@ -241,7 +242,7 @@ module _ (Tells : List ℕ → Result (List ℕ) LineFault → Type 0) (bound : 
           (bad_run (text_lines (r.bytes ++ piece)) written done [] (open_line (pending ++ piece)) TooLong line parts print c.2 e, none_failed no_write, unflushed no_flush)
 
       pub ran_work : (piece : List ℕ) (fault : RunFault) → Consumes left1 left2 piece → length piece ≤ 2 ^ 16 → after.ends ≡ now.ends → after.flushes ≡ now.flushes
-          → StepStopped Tells (IsCause Tells (pending ++ piece)) lines (whole_lines (pending ++ piece))
+          → StepStopped Tells (IsCause Tells (pending ++ piece)) lines [] (whole_lines (pending ++ piece))
           (turn_step held1 held2 now after) sent fault
           → RanSo left0 left2 held0 held2 before after (Err fault)
       ran_work piece fault took small ends no_flush (inl s) = (
@@ -258,13 +259,13 @@ module _ (Tells : List ℕ → Result (List ℕ) LineFault → Type 0) (bound : 
       )
       ran_work piece fault took small ends no_flush (inr s) = (
         r.bytes ++ piece,
-        r.written ++ s.written,
+        r.written ++ s.text,
         Consumes-trans left0 left1 left2 r.bytes piece r.read took,
-        Appends-trans held0 held1 held2 r.written s.written r.wrote s.wrote,
+        Appends-trans held0 held1 held2 r.written s.text r.wrote s.wrote,
         few_reads,
-        worked_through (r.bytes ++ piece) piece s.written refl small,
-        subst (λ f. EndsSo Tells bound (r.bytes ++ piece) (r.written ++ s.written) before after (Err f)) (sym s.fault_is)
-            (work_error piece s.written s.done s.error (lines + length s.done + 1) ends s.no_failure no_flush s.print s.cause refl),
+        worked_through (r.bytes ++ piece) piece s.text refl small,
+        subst (λ f. EndsSo Tells bound (r.bytes ++ piece) (r.written ++ s.text) before after (Err f)) (sym s.fault_is)
+            (work_error piece s.text s.done s.error (lines + length s.done + 1) ends s.no_failure no_flush s.print s.cause refl),
         not_at_end left2 before after (ends ∙ r.ends),
       )
 
@@ -308,13 +309,13 @@ module _ (Tells : List ℕ → Result (List ℕ) LineFault → Type 0) (bound : 
       )
       ran_to_fault fault took at_end ends (inl (inr s, no_flush)) = (
         r.bytes,
-        r.written ++ s.written,
+        r.written ++ s.text,
         none_more took,
-        Appends-trans held0 held1 held2 r.written s.written r.wrote s.wrote,
+        Appends-trans held0 held1 held2 r.written s.text r.wrote s.wrote,
         few_reads,
-        worked_to_the_end s.written,
-        subst (λ f. EndsSo Tells bound r.bytes (r.written ++ s.written) before after (Err f)) (sym s.fault_is)
-            (finish_error s.written s.done s.error (lines + length s.done + 1) ends s.no_failure no_flush s.print s.cause refl),
+        worked_to_the_end s.text,
+        subst (λ f. EndsSo Tells bound r.bytes (r.written ++ s.text) before after (Err f)) (sym s.fault_is)
+            (finish_error s.text s.done s.error (lines + length s.done + 1) ends s.no_failure no_flush s.print s.cause refl),
         λ ended. at_end,
       )
       ran_to_fault fault took at_end ends (inr s) =

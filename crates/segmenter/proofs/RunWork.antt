@@ -1,7 +1,7 @@
 -- A run over a text, read by read.
-use Rattle.std.proofs.Common.{◌≡◌, ℕ, ◌+◌, ◌*◌, ◌^◌, ◌<◌, ◌≤◌, Bool, true, false, cond, List, [], ◌∷◌, ◌++◌, length, get_or, zero, suc, refl, sym, ap, ◌∙◌, subst, arith, append_assoc, append-nil, length-append, inl, inr}
+use Rattle.std.proofs.Common.{◌≡◌, ℕ, ◌+◌, ◌*◌, ◌^◌, ◌<◌, ◌≤◌, Bool, true, false, cond, List, [], ◌∷◌, ◌++◌, length, get_or, zero, suc, refl, sym, ap, ◌∙◌, subst, arith, length-append}
 use Rattle.std.proofs.lemmas.List.Elements.{All-nil, All-append}
-use Rattle.std.specs.Prelude.{Option, Some, None, Result, Err}
+use Rattle.std.specs.Prelude.{Option, None, Result}
 use Rattle.std.specs.List.{slice_split, onto_first}
 use Rattle.std.specs.Io.KnownBytes.{Appends, Consumes}
 use Rattle.std.proofs.KnownBytes.{Appends-trans, Consumes-trans}
@@ -14,6 +14,7 @@ use Rattle.segmenter.specs.declared.line_fault.LineFault.{LineFault}
 use Rattle.segmenter.specs.Progress.{HasNoFeed, AllPrint}
 use Rattle.segmenter.specs.Steps.{Step, Stepped, last_line}
 use Rattle.segmenter.specs.Runs.{Told}
+use Rattle.segmenter.proofs.PrintedBehind.{print_append}
 use Rattle.segmenter.proofs.PieceLemmas.{IsCons, split_cons, last_behind, whole_lines-append, open_line-append}
 
 -- ---- the lines of a text: the whole ones, and the open one where it isn't empty
@@ -61,32 +62,9 @@ turn_step held1 held2 now after = record {
   flushes_after = after.flushes;
 }
 
--- ---- lines that print, and more behind them
+-- ---- a run at the beginning of a turn
 
 module _ (Tells : List ℕ → Result (List ℕ) LineFault → Type 0) where
-  pub output-append : (n : ℕ) (xs ys : List (List ℕ)) (a b : List ℕ) (bad : Option (BadLine LineFault)) → AllPrint Tells n xs a
-      → Output Tells (n + length xs) ys b bad → Output Tells n (xs ++ ys) (a ++ b) bad
-  output-append n [] ys a b bad h out =
-      subst (λ z. Output Tells n ys (z ++ b) bad) (sym h.0) (subst (λ m. Output Tells m ys b bad) {x = n + 0} {y = n} (omega arith) out)
-  output-append n (x ∷ xs) ys a b bad (inl h) out = absurd (let e = h.3 in cc)
-  output-append n (x ∷ xs) ys a b bad (inr h) out =
-      inr (
-        h.0,
-        h.1 ++ b,
-        h.2,
-        output-append (n + 1) xs ys h.1 b bad h.3 (subst (λ m. Output Tells m ys b bad) {x = n + length (x ∷ xs)} {y = n + 1 + length xs} (omega arith) out),
-        ap (λ (t : List ℕ). t ++ b) h.4 ∙ append_assoc h.0 h.1 b,
-      )
-
-  pub bad_behind : (n : ℕ) (done more : List (List ℕ)) (text bad : List ℕ) (fault : LineFault) (line : ℕ) → AllPrint Tells n done text
-      → Tells bad (Err fault) → line ≡ n + length done → Output Tells n (done ++ bad ∷ more) text (Some (record { number = line; fault = fault }))
-  bad_behind n done more text bad fault line h judged e =
-      subst (λ t. Output Tells n (done ++ bad ∷ more) t (Some (record { number = line; fault = fault }))) (append-nil text)
-      (output-append n done (bad ∷ more) text [] (Some (record { number = line; fault = fault })) h
-      (inl (fault, judged, refl, ap (λ m. Some (record { number = m; fault = fault })) e)))
-
-  -- ---- a run at the beginning of a turn
-
   pub record Running (left0 left1 held0 held1 : Option (List ℕ)) (before now : Told) (turn : ℕ) (pending out : List ℕ) (lines sent : ℕ) : Type 0 where
     pub bytes : List ℕ
     pub written : List ℕ
@@ -99,7 +77,7 @@ module _ (Tells : List ℕ → Result (List ℕ) LineFault → Type 0) where
     pub sent_is : sent ≡ length written
     pub nothing_waits : out ≡ []
     pub few_lines : lines ≤ 2 ^ 16 * turn
-    pub few_bytes : sent ≤ 2 ^ 64 * turn
+    pub few_bytes : sent ≤ 2 ^ 82 * turn
     pub reads : now.reads ≡ before.reads + turn
     pub ends : now.ends ≡ before.ends
     pub read_failures : now.read_failures ≡ before.read_failures
@@ -110,13 +88,13 @@ module _ (Tells : List ℕ → Result (List ℕ) LineFault → Type 0) where
   pub print_on : (bytes pending written text : List ℕ) (lines : ℕ) → AllPrint Tells 1 (whole_lines bytes) written → pending ≡ open_line bytes → lines ≡ length (whole_lines bytes)
       → (ws : List (List ℕ)) (bad : Option (BadLine LineFault)) → Output Tells (lines + 1) ws text bad → Output Tells 1 (whole_lines bytes ++ ws) (written ++ text) bad
   print_on bytes pending written text lines h open_is counted ws bad out =
-      output-append 1 (whole_lines bytes) ws written text bad h (subst (λ m. Output Tells m ws text bad) {x = lines + 1} {y = 1 + length (whole_lines bytes)} (omega (arith, counted)) out)
+      print_append Tells 1 (whole_lines bytes) ws written text bad h (subst (λ m. Output Tells m ws text bad) {x = lines + 1} {y = 1 + length (whole_lines bytes)} (omega (arith, counted)) out)
 
   pub running_more : (left0 left1 left2 held0 held1 held2 : Option (List ℕ)) (before now after : Told) (turn : ℕ) (pending out piece : List ℕ) (lines sent : ℕ) (pending_after out_after : List ℕ) (lines_after sent_after : ℕ)
       → Running left0 left1 held0 held1 before now turn pending out lines sent
       → Consumes left1 left2 piece → length piece ≤ 2 ^ 16
       → Stepped Tells lines (whole_lines (pending ++ piece)) lines_after (turn_step held1 held2 now after) sent sent_after
-      → pending_after ≡ open_line (pending ++ piece) → length pending_after ≤ SENTENCE_MAX → out_after ≡ [] → lines_after ≤ lines + length piece → sent_after ≤ sent + 2 ^ 64
+      → pending_after ≡ open_line (pending ++ piece) → length pending_after ≤ SENTENCE_MAX → out_after ≡ [] → lines_after ≤ lines + length piece → sent_after ≤ sent + 2 ^ 82
       → after.reads ≡ now.reads + 1 → after.ends ≡ now.ends → after.read_failures ≡ now.read_failures → after.flushes ≡ now.flushes
       → Running left0 left2 held0 held2 before after (turn + 1) pending_after out_after lines_after sent_after
   running_more left0 left1 left2 held0 held1 held2 before now after turn pending out piece lines sent pending_after out_after lines_after sent_after r took small s open_is short waits few_lines few_bytes reads ends failures flushes =

@@ -1,5 +1,5 @@
 -- How far the work on a text has come.
-use Rattle.std.specs.Prelude.{◌≡◌, ℕ, ◌+◌, ◌<◌, ◌≤◌, List, ◌∷◌, ◌++◌, length, All, false, None, Result, Ok, Err, ◌⊎◌}
+use Rattle.std.specs.Prelude.{◌≡◌, ℕ, ◌+◌, ◌<◌, List, ◌∷◌, ◌++◌, length, All, false, None, Result, Ok, Err, ◌⊎◌}
 use Rattle.mj_model.specs.declared.limits.TheConstants.{SENTENCE_MAX}
 use Rattle.mj_model.specs.Bytes.{is_line_feed}
 use Rattle.mj_model.specs.Output.{Output}
@@ -35,20 +35,3 @@ IsCause Tells bytes done Memory = (more : List (List ℕ)) × (whole_lines bytes
 IsCause Tells bytes done (Bad fault) =
     ((bad : List ℕ) × (more : List (List ℕ)) × (whole_lines bytes ≡ done ++ bad ∷ more) × Tells bad (Err fault))
     ⊎ ((whole_lines bytes ≡ done) × (fault ≡ TooLong) × Tells (open_line bytes) (Err TooLong) × (SENTENCE_MAX < length (open_line bytes)))
-
--- the work on bytes stopped for an error, behind some lines that printed
-pub record Stopped (Tells : List ℕ → Result (List ℕ) LineFault → Type 0)
-    (before : ℕ) (out_before bytes : List ℕ) (error : LineError) (after : ℕ) (out_after : List ℕ) : Type 0 where
-  pub done : List (List ℕ)
-  pub worked : Worked Tells before out_before done after out_after
-  pub cause : IsCause Tells bytes done error
-
--- the lines so far printed, all bytes are cut as what is held of the open line and the rest will be, and of the bytes that came no more than `size` lines can end
-pub record Working (Tells : List ℕ → Result (List ℕ) LineFault → Type 0)
-    (before size : ℕ) (out_before bytes held rest : List ℕ) (after : ℕ) (out_after : List ℕ) : Type 0 where
-  pub done : List (List ℕ)
-  pub worked : Worked Tells before out_before done after out_after
-  pub whole : whole_lines bytes ≡ done ++ whole_lines (held ++ rest)
-  pub open_is : open_line bytes ≡ open_line (held ++ rest)
-  pub no_feed : HasNoFeed held
-  pub room : after + length rest ≤ before + size

@@ -5,6 +5,7 @@ mod dicts;
 mod early_fault;
 mod line_fault;
 mod line_printer;
+mod piece;
 mod progress;
 mod reading;
 mod running;

@@ -1,16 +1,14 @@
-//! The work on a text between two reads.
+//! What is kept of a text from one read to the next.
 
-ghost use Rattle.std.specs.Prelude.{◌≡◌, ◌+◌, ◌<◌, ◌≤◌, ◌^◌, ◌++◌, length, Ok, Err, OnOk, IfErr, OnErr, [], take, drop};
+ghost use Rattle.std.specs.Prelude.{◌≡◌, ◌+◌, ◌<◌, ◌≤◌, ◌^◌, ◌++◌, length, Err, OnOk, IfErr, OnErr, []};
 ghost use Rattle.mj_model.specs.declared.limits.TheConstants.{SENTENCE_MAX};
-ghost use Rattle.mj_model.specs.TextLines.{whole_lines, open_line};
 ghost use Rattle.segmenter.specs.LineErrors.{TellsFault};
 ghost use Rattle.segmenter.specs.declared.line_fault.LineFault.TheVariants.{TooLong};
-ghost use Rattle.segmenter.specs.Progress.{HasNoFeed, IsPrinted, Worked, Stopped};
+ghost use Rattle.segmenter.specs.Progress.{IsPrinted, Worked};
 ghost use Rattle.segmenter.specs.Steps.{last_line, IsLastCause};
 
 use crate::line_fault::{LineError, LineFault};
 use crate::line_printer::LinePrinter;
-use memchr::memchr;
 use mj_model::SENTENCE_MAX;
 
 /// What is kept from one read of a text to the next.
@@ -43,7 +41,7 @@ fn print_any<P: LinePrinter>(
 }
 
 /// Adds to the bytes of a line that goes on.
-fn hold(pending: &mut Vec<u8>, part: &[u8]) -> Result<(), LineError>
+pub fn hold(pending: &mut Vec<u8>, part: &[u8]) -> Result<(), LineError>
     ensures held { OnOk result (pending.new.items ≡ pending.old.items ++ part.now) }
     ensures short { OnOk result (length pending.new.items ≤ SENTENCE_MAX) }
     ensures long { IfErr result (TellsFault (λ fault.
@@ -56,18 +54,9 @@ fn hold(pending: &mut Vec<u8>, part: &[u8]) -> Result<(), LineError>
     Ok(())
 }
 
-/// The bytes before an LF, and those behind it.
-fn cut(bytes: &[u8], at: usize) -> (&[u8], &[u8])
-    requires { at < length bytes.now }
-    ensures line { result.0.now ≡ take at bytes.now }
-    ensures behind { result.1.now ≡ drop (at + 1) bytes.now }
-{
-    (&bytes[..at], &bytes[at + 1..])
-}
-
 impl Progress {
     /// Prints the line that ends with this part.
-    fn end_line<P: LinePrinter>(
+    pub fn end_line<P: LinePrinter>(
         &mut self,
         printer: &P,
         kept: &mut P::Kept,
@@ -93,34 +82,6 @@ impl Progress {
         }
         self.lines += 1;
         Ok(())
-    }
-
-    /// Works through the bytes of one read: prints the lines that end in them, and keeps the rest.
-    pub fn take_piece<P: LinePrinter>(
-        &mut self,
-        printer: &P,
-        kept: &mut P::Kept,
-        piece: &[u8],
-    ) -> Result<(), LineError>
-        requires count { self.old.lines + length piece.now < 2 ^ 64 }
-        requires open { HasNoFeed self.old.pending.items }
-        ensures worked { OnOk result (Worked (P.tells printer.now) self.old.lines self.old.out.items
-            (whole_lines (self.old.pending.items ++ piece.now)) self.new.lines self.new.out.items) }
-        ensures counted { self.new.lines ≤ self.old.lines + length piece.now }
-        ensures open { OnOk result
-            (self.new.pending.items ≡ open_line (self.old.pending.items ++ piece.now)) }
-        ensures short { OnOk result (length self.new.pending.items ≤ SENTENCE_MAX) }
-        ensures stopped { IfErr result (λ error.
-            Stopped (P.tells printer.now) self.old.lines self.old.out.items
-            (self.old.pending.items ++ piece.now) error self.new.lines self.new.out.items) }
-    {
-        let mut rest = piece;
-        while let Some(at) = memchr(b'\n', rest) {
-            let (line, behind) = cut(rest, at);
-            self.end_line(printer, kept, line)?;
-            rest = behind;
-        }
-        hold(&mut self.pending, rest)
     }
 
     /// Prints the line that lacks its LF, if there is one.

@@ -5,8 +5,9 @@ ghost use Rattle.mj_model.specs.Counts.{MayBeRead, MayBeWritten};
 ghost use Rattle.segmenter.specs.Runs.{Ran};
 
 use crate::line_printer::LinePrinter;
+use crate::piece::work;
 use crate::progress::Progress;
-use crate::steps::{finish, work};
+use crate::steps::finish;
 use mj_model::{RunFault, TextIn, TextOut};
 use std::alloc::{AllocError, Global};
 

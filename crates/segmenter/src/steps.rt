@@ -1,13 +1,10 @@
 //! The steps of a run: work, then write.
 
-ghost use Rattle.std.specs.Prelude.{◌≡◌, ℕ, ◌+◌, ◌≤◌, ◌<◌, ◌^◌, ◌++◌, length, take, [], false, OnOk, OnErr, IfOk, IfErr};
+ghost use Rattle.std.specs.Prelude.{◌≡◌, ℕ, ◌+◌, ◌≤◌, ◌<◌, ◌^◌, length, take, [], false, OnOk, OnErr, IfOk, IfErr};
 ghost use Rattle.std.specs.Io.KnownBytes.{Appends};
 ghost use Rattle.mj_model.specs.Counts.{CanRise};
-ghost use Rattle.mj_model.specs.declared.limits.TheConstants.{SENTENCE_MAX};
-ghost use Rattle.mj_model.specs.TextLines.{whole_lines, open_line};
 ghost use Rattle.mj_model.specs.declared.run_fault.RunFault.TheVariants.{Write};
-ghost use Rattle.segmenter.specs.Progress.{HasNoFeed, IsCause};
-ghost use Rattle.segmenter.specs.Steps.{Stepped, StepStopped, EndStopped, last_line, step_of, IsLastCause};
+ghost use Rattle.segmenter.specs.Steps.{Stepped, EndStopped, WaitingStopped, last_line, step_of, IsLastCause};
 
 use crate::line_fault::LineError;
 use crate::line_printer::LinePrinter;
@@ -16,7 +13,11 @@ use crate::writing::write_bytes;
 use mj_model::{RunFault, TextOut};
 
 /// Writes what is to be written, and forgets it.
-fn write_out<W: TextOut>(writer: &mut W, out: &mut Vec<u8>, sent: &mut u128) -> Result<(), RunFault>
+pub fn write_out<W: TextOut>(
+    writer: &mut W,
+    out: &mut Vec<u8>,
+    sent: &mut u128,
+) -> Result<(), RunFault>
     requires room { sent.old + 2 ^ 64 ≤ 2 ^ 128 }
     requires failures { CanRise (W.told writer.old).failures }
     ensures written { OnOk result
@@ -42,44 +43,25 @@ fn write_out<W: TextOut>(writer: &mut W, out: &mut Vec<u8>, sent: &mut u128) -> 
     }
 }
 
-/// The work on the bytes of one read.
-pub fn work<P: LinePrinter, W: TextOut>(
-    printer: &P,
-    kept: &mut P::Kept,
-    piece: &[u8],
-    progress: &mut Progress,
+/// How a run ends for an error that stopped the work: what waits is written first.
+pub fn stop<W: TextOut>(
     writer: &mut W,
+    progress: &mut Progress,
     sent: &mut u128,
-) -> Result<(), RunFault>
-    requires count { progress.old.lines + length piece.now + 1 < 2 ^ 64 }
-    requires open { HasNoFeed progress.old.pending.items }
-    requires nothing_waits { progress.old.out.items ≡ [] }
+    error: LineError,
+) -> RunFault
+    requires count { progress.old.lines + 1 < 2 ^ 64 }
     requires room { sent.old + 2 ^ 64 ≤ 2 ^ 128 }
     requires failures { CanRise (W.told writer.old).failures }
-    ensures worked { OnOk result (Stepped (P.tells printer.now) progress.old.lines
-        (whole_lines (progress.old.pending.items ++ piece.now)) progress.new.lines
-        (step_of (W.told writer.old) (W.told writer.new))
-        sent.old sent.new) }
-    ensures open { OnOk result
-        (progress.new.pending.items ≡ open_line (progress.old.pending.items ++ piece.now)) }
-    ensures short { OnOk result (length progress.new.pending.items ≤ SENTENCE_MAX) }
-    ensures nothing_waits { OnOk result (progress.new.out.items ≡ []) }
-    ensures few_bytes { OnOk result (sent.new ≤ sent.old + 2 ^ 64) }
-    ensures few_lines { progress.new.lines ≤ progress.old.lines + length piece.now }
+    ensures stopped { WaitingStopped progress.old.out.items error (progress.old.lines + 1)
+        (step_of (W.told writer.old) (W.told writer.new)) sent.old result }
+    ensures same_lines { progress.new.lines ≡ progress.old.lines }
     ensures no_flush { (W.told writer.new).flushes ≡ (W.told writer.old).flushes }
-    ensures stopped { IfErr result (StepStopped (P.tells printer.now)
-        (IsCause (P.tells printer.now) (progress.old.pending.items ++ piece.now)) progress.old.lines
-        (whole_lines (progress.old.pending.items ++ piece.now))
-        (step_of (W.told writer.old) (W.told writer.new))
-        sent.old) }
 {
-    let taken = progress.take_piece(printer, kept, piece);
-    write_out(writer, &mut progress.out, sent)?;
-    let next_line = progress.lines + 1;
-    if let Err(error) = taken {
-        return Err(error.at(next_line));
+    match write_out(writer, &mut progress.out, sent) {
+        Ok(()) => error.at(progress.lines + 1),
+        Err(fault) => fault,
     }
-    Ok(())
 }
 
 /// The end of the input: the line without an LF prints, and all is written and flushed. Answers the number of lines.

@@ -1,5 +1,6 @@
 //! Readers and writers over memory that give and take little at a time, and fail when told to.
 
+use std::alloc::Global;
 use std::io;
 use std::io::{ErrorKind, Read, Write};
 
@@ -60,5 +61,30 @@ impl Write for StepWriter {
             return Err(io::Error::from(self.failure));
         }
         Ok(())
+    }
+}
+
+/// Fails at this read, if any.
+pub fn reader(bytes: &[u8], step: usize, fails_at: Option<u64>) -> StepReader<'_> {
+    StepReader {
+        bytes,
+        step,
+        fails_at,
+        failure: ErrorKind::Other,
+        reads: 0,
+    }
+}
+
+/// Has this much room.
+pub fn writer(alloc: Global, step: usize, room: usize) -> StepWriter {
+    StepWriter {
+        taken: Vec::new(alloc),
+        step,
+        room,
+        silent: false,
+        flush_fails: false,
+        failure: ErrorKind::Other,
+        flushes: 0,
+        longest: 0,
     }
 }

@@ -1,6 +1,6 @@
 //! Runs over devices that fail, give little at a time, or give long lines.
 
-use super::devices::{StepReader, StepWriter};
+use super::devices::{StepReader, StepWriter, reader, writer};
 use crate::dicts::system_dict;
 use crate::reading::run_over;
 use crate::words_printer::{LineMemory, WordsPrinter};
@@ -17,29 +17,6 @@ const SUMOMO: &str = "すもももも\n";
 const SUMOMO_OUTPUT: &str = "すもも\t名詞,すもも\nもも\t名詞,もも\nEOS\n";
 
 const MO_OUTPUT: &str = "も\t助詞,も\nEOS\n";
-
-fn reader(bytes: &[u8], step: usize, fails_at: Option<u64>) -> StepReader<'_> {
-    StepReader {
-        bytes,
-        step,
-        fails_at,
-        failure: ErrorKind::Other,
-        reads: 0,
-    }
-}
-
-fn writer(alloc: Global, step: usize, room: usize) -> StepWriter {
-    StepWriter {
-        taken: Vec::new(alloc),
-        step,
-        room,
-        silent: false,
-        flush_fails: false,
-        failure: ErrorKind::Other,
-        flushes: 0,
-        longest: 0,
-    }
-}
 
 /// How a run ended, and what was counted of its calls.
 #[derive(Debug, PartialEq, Eq, Drop)]
