@@ -1,4 +1,5 @@
-//! Rows of cells, and refused growths. A growth is refused where the tests run under `tools/refuse`.
+//! Rows of cells, and refused growths. A growth is refused where the tests run under `tools/refuse`,
+//! which looks for the line that says so.
 use crate::{CELLS_MAX, Cells};
 use std::alloc::{AllocError, Global};
 use std::test::Fail;
@@ -26,8 +27,14 @@ fn grow(cells: &mut Cells, n: usize) -> Result<(), AllocError> {
 }
 
 /// Four cells. What is refused once is asked again.
-fn four_cells(alloc: Global) -> Result<Cells, AllocError> {
-    Cells::new(alloc, 4).or_else(|_| Cells::new(alloc, 4))
+fn four_cells(rt: &HostRuntime) -> Result<Cells, Fail> {
+    match Cells::new(rt.alloc(), 4) {
+        Ok(cells) => Ok(cells),
+        Err(_refused) => {
+            rt.eprintln("refused")?;
+            Ok(Cells::new(rt.alloc(), 4)?)
+        }
+    }
 }
 
 #[test]
@@ -89,54 +96,49 @@ fn one_more_at_a_time(rt: HostRuntime) -> Result<(), Fail> {
 }
 
 #[test]
-fn refused_cells_are_asked_again(rt: HostRuntime) {
-    match four_cells(rt.alloc()) {
-        Ok(cells) => {
-            for i in 0..4 {
-                assert_eq!(rt; cell(&cells, i), Some((0, -1)), "{i}");
-            }
-        }
-        Err(_) => panic!(rt; "refused twice"),
+fn refused_cells_are_asked_again(rt: HostRuntime) -> Result<(), Fail> {
+    let cells = four_cells(&rt)?;
+    for i in 0..4 {
+        assert_eq!(rt; cell(&cells, i), Some((0, -1)), "{i}");
     }
+    Ok(())
 }
 
 #[test]
-fn refused_growth_keeps_the_cells(rt: HostRuntime) {
-    match four_cells(rt.alloc()) {
-        Ok(mut cells) => {
-            for i in 0..4 {
-                put(&mut cells, i, i as i32 + 1, 7);
-            }
-            for n in [5, 100, 1_000] {
-                let before = cells.len();
-                if grow(&mut cells, n).is_err() {
-                    assert_eq!(rt; cells.len(), before);
-                    for i in 0..4 {
-                        assert_eq!(rt; cell(&cells, i), Some((i as i32 + 1, 7)), "{i}");
-                    }
-                    assert!(rt; grow(&mut cells, n).is_ok());
-                }
-                assert_eq!(rt; cells.len(), n);
-                assert_eq!(rt; cell(&cells, 3), Some((4, 7)));
-                assert_eq!(rt; cell(&cells, n - 1), Some((0, -1)));
-            }
-        }
-        Err(_) => panic!(rt; "refused twice"),
+fn refused_growth_keeps_the_cells(rt: HostRuntime) -> Result<(), Fail> {
+    let mut cells = four_cells(&rt)?;
+    for i in 0..4 {
+        put(&mut cells, i, i as i32 + 1, 7);
     }
+    for n in [5, 100, 1_000] {
+        let before = cells.len();
+        if grow(&mut cells, n).is_err() {
+            rt.eprintln("refused")?;
+            assert_eq!(rt; cells.len(), before);
+            for i in 0..4 {
+                assert_eq!(rt; cell(&cells, i), Some((i as i32 + 1, 7)), "{i}");
+            }
+            assert!(rt; grow(&mut cells, n).is_ok());
+        }
+        assert_eq!(rt; cells.len(), n);
+        assert_eq!(rt; cell(&cells, 3), Some((4, 7)));
+        assert_eq!(rt; cell(&cells, n - 1), Some((0, -1)));
+    }
+    Ok(())
 }
 
 #[test]
-fn blocks_are_given_back(rt: HostRuntime) {
-    match (four_cells(rt.alloc()), four_cells(rt.alloc())) {
-        (Ok(mut cells), Ok(other)) => {
-            for n in [100, 1_000] {
-                let grown = grow(&mut cells, n).is_ok() || grow(&mut cells, n).is_ok();
-                assert!(rt; grown, "refused twice");
-            }
-            assert_eq!(rt; cells.len() + other.len(), 1_004);
+fn blocks_are_given_back(rt: HostRuntime) -> Result<(), Fail> {
+    let mut cells = four_cells(&rt)?;
+    let other = four_cells(&rt)?;
+    for n in [100, 1_000] {
+        if grow(&mut cells, n).is_err() {
+            rt.eprintln("refused")?;
+            assert!(rt; grow(&mut cells, n).is_ok());
         }
-        _ => panic!(rt; "refused twice"),
     }
+    assert_eq!(rt; cells.len() + other.len(), 1_004);
+    Ok(())
 }
 
 /// Takes no block: what a test leaves by itself.

@@ -1,7 +1,6 @@
 //! All pairs of `a` or `b` with a byte, inserted one after another.
 use crate::tests::access::{expect_hits, insert, value};
 use crate::{CellRead, DaFault, DoubleArray, Inserted};
-use std::alloc::{AllocError, Global};
 use std::test::Fail;
 
 const KEYS: usize = 513;
@@ -35,8 +34,14 @@ fn has_first_keys(array: &DoubleArray, n: usize) -> bool {
 }
 
 /// An empty array. What is refused once is asked again.
-fn new_array(alloc: Global) -> Result<DoubleArray, AllocError> {
-    DoubleArray::new(alloc).or_else(|_| DoubleArray::new(alloc))
+fn new_array(rt: &HostRuntime) -> Result<DoubleArray, Fail> {
+    match DoubleArray::new(rt.alloc()) {
+        Ok(array) => Ok(array),
+        Err(_refused) => {
+            rt.eprintln("refused")?;
+            Ok(DoubleArray::new(rt.alloc())?)
+        }
+    }
 }
 
 #[test]
@@ -75,21 +80,16 @@ fn room_is_used_up_first(rt: HostRuntime) -> Result<(), Fail> {
 }
 
 #[test]
-fn refused_growth_keeps_the_keys(rt: HostRuntime) {
-    match new_array(rt.alloc()) {
-        Ok(mut array) => {
-            for n in 0..KEYS {
-                match insert_key(&mut array, n) {
-                    Ok(_) => {}
-                    Err(fault) => {
-                        assert_eq!(rt; fault, DaFault::Memory);
-                        assert!(rt; has_first_keys(&array, n), "{n}");
-                        assert!(rt; insert_key(&mut array, n).is_ok(), "{n}");
-                    }
-                }
-            }
-            assert!(rt; has_first_keys(&array, KEYS));
+fn refused_growth_keeps_the_keys(rt: HostRuntime) -> Result<(), Fail> {
+    let mut array = new_array(&rt)?;
+    for n in 0..KEYS {
+        if let Err(fault) = insert_key(&mut array, n) {
+            rt.eprintln("refused")?;
+            assert_eq!(rt; fault, DaFault::Memory);
+            assert!(rt; has_first_keys(&array, n), "{n}");
+            assert!(rt; insert_key(&mut array, n).is_ok(), "{n}");
         }
-        Err(_) => panic!(rt; "refused twice"),
     }
+    assert!(rt; has_first_keys(&array, KEYS));
+    Ok(())
 }
