@@ -6,6 +6,12 @@ use mj_model::ImageFault::{
 };
 use std::test::Fail;
 
+/// Cell 98 is (2, 0), and cell 2 is its end: (-1, 98). Value 0 stands there too.
+const VALUE_TWICE: &[Change<'_>] = &[
+    (120, b"\xff\xff\xff\xff\x62\0\0\0"),
+    (888, b"\x02\0\0\0\0\0\0\0"),
+];
+
 #[test]
 fn changes_before_the_digest(rt: HostRuntime) -> Result<(), Fail> {
     let body = one_surface(rt.alloc())?;
@@ -29,7 +35,7 @@ fn changes_before_the_digest(rt: HostRuntime) -> Result<(), Fail> {
         ("cell 1 is (0, -1)", &[(112, b"\0\0\0\0\xff\xff\xff\xff")], Some(BadSection(5))),
         ("cell 99 is (1, 99)", &[(900, b"\x63")], Some(BadKey(0))),
         ("cell 0 is (1, 0)", &[(108, b"\0\0\0\0")], Some(BadSection(5))),
-        ("value 0 in cell 2 too", &[(120, b"\xff\xff\xff\xff\x62\0\0\0"), (888, b"\x02\0\0\0\0\0\0\0")], Some(BadSection(5))),
+        ("value 0 in cell 2 too", VALUE_TWICE, Some(BadSection(5))),
         ("cell 1 behind the root", &[(116, b"\0\0\0\0")], Some(BadKey(0))),
         ("group 0 from token 1", &[(904, b"\x01")], Some(BadSection(6))),
         ("left id 2", &[(912, b"\x02")], Some(BadToken(0))),

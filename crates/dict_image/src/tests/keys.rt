@@ -94,38 +94,89 @@ fn user_image(alloc: Global, groups: u32, cells: &[u8]) -> Result<Vec<u8>, Alloc
     )
 }
 
+/// The state to which a step leads from another one: one that is there, or a new one.
+fn step(steps: &mut Vec<Step>, from: u8, byte: u8) -> Result<u8, AllocError> {
+    for (before, label, to) in steps.iter() {
+        if (*before, *label) == (from, byte) {
+            return Ok(*to);
+        }
+    }
+    let to = u8::try_from(steps.len().saturating_add(1)).unwrap_or(u8::MAX);
+    steps.push((from, byte, to))?;
+    Ok(to)
+}
+
+/// The state to which the bytes of a key lead. Steps that are missing are added.
+fn add_key(steps: &mut Vec<Step>, key: &[u8]) -> Result<u8, AllocError> {
+    let mut state = 0;
+    for byte in key {
+        state = step(steps, state, *byte)?;
+    }
+    Ok(state)
+}
+
+/// The image of keys, of which each has the next group.
+fn image_of_keys(alloc: Global, keys: &[&[u8]]) -> Result<Vec<u8>, AllocError> {
+    let mut steps = Vec::new(alloc);
+    let mut values = Vec::new(alloc);
+    let mut group = 0_u8;
+    for key in keys {
+        values.push((add_key(&mut steps, key)?, group))?;
+        group = group.saturating_add(1);
+    }
+    user_image(alloc, u32::from(group), &cells_of(alloc, &steps, &values)?)
+}
+
 #[test]
-fn steps_and_values(rt: HostRuntime) -> Result<(), Fail> {
+fn keys_of_cells(rt: HostRuntime) -> Result<(), Fail> {
+    #[rattlefmt::skip]
+    let rows: [(&str, &[&[u8]], _); 19] = [
+        // (what, the keys in the order of their groups, the group without a key)
+        ("a",                           &[b"a"],                               None),
+        ("ab, a: one stem",             &[b"ab", b"a"],                        None),
+        ("U+007F, U+0080",              &[b"\x7F", b"\xC2\x80"],               None),
+        ("U+07FF, U+0800",              &[b"\xDF\xBF", b"\xE0\xA0\x80"],       None),
+        ("U+D7FF, U+E000",              &[b"\xED\x9F\xBF", b"\xEE\x80\x80"],   None),
+        ("U+10000",                     &[b"\xF0\x90\x80\x80"],               None),
+        ("U+40000",                     &[b"\xF1\x80\x80\x80"],               None),
+        ("U+10FFFF",                    &[b"\xF4\x8F\xBF\xBF"],               None),
+        ("no byte",                     &[b""],                                Some(0)),
+        ("C0 80: U+0000 in two bytes",  &[b"\xC0\x80"],                       Some(0)),
+        ("E0 9F BF: U+07FF in three",   &[b"\xE0\x9F\xBF"],                   Some(0)),
+        ("ED A0 80: a surrogate",       &[b"\xED\xA0\x80"],                   Some(0)),
+        ("F0 8F BF BF: U+FFFF in four", &[b"\xF0\x8F\xBF\xBF"],               Some(0)),
+        ("F4 90 80 80: past U+10FFFF",  &[b"\xF4\x90\x80\x80"],               Some(0)),
+        ("F5 begins no character",      &[b"\xF5\x80\x80\x80"],               Some(0)),
+        ("80 begins no character",      &[b"\x80"],                           Some(0)),
+        ("E3 81 82, E3 81, E3",         &[b"\xE3\x81\x82", b"\xE3\x81", b"\xE3"], Some(1)),
+        ("a, FF a, FF b",               &[b"a", b"\xFFa", b"\xFFb"],           Some(1)),
+        ("E3 a: a tail wanted; a E3",   &[b"a", b"\xE3a", b"a\xE3"],           Some(1)),
+    ];
+    for (what, keys, misfit) in rows {
+        let bytes = image_of_keys(rt.alloc(), keys)?;
+        let expected = misfit.map(|group| BadKey(group));
+        assert_eq!(rt; check_image(rt.alloc(), &bytes).err(), expected, "{what}");
+    }
+    Ok(())
+}
+
+#[test]
+fn states_in_a_ring(rt: HostRuntime) -> Result<(), Fail> {
     let alloc = rt.alloc();
     #[rattlefmt::skip]
-    let rows: [(&str, &[Step], &[Value], _); 21] = [
-        // (what, steps, values, the fault)
-        ("a",                          &[(0, 0x61, 1)], &[(1, 0)], None),
-        ("ab, a: one stem",            &[(0, 0x61, 1), (1, 0x62, 2)], &[(2, 0), (1, 1)], None),
-        ("U+007F, U+0080",             &[(0, 0x7F, 1), (0, 0xC2, 2), (2, 0x80, 3)], &[(1, 0), (3, 1)], None),
-        ("U+07FF, U+0800",             &[(0, 0xDF, 1), (1, 0xBF, 2), (0, 0xE0, 3), (3, 0xA0, 4), (4, 0x80, 5)], &[(2, 0), (5, 1)], None),
-        ("U+D7FF, U+E000",             &[(0, 0xED, 1), (1, 0x9F, 2), (2, 0xBF, 3), (0, 0xEE, 4), (4, 0x80, 5), (5, 0x80, 6)], &[(3, 0), (6, 1)], None),
-        ("U+10000",                    &[(0, 0xF0, 1), (1, 0x90, 2), (2, 0x80, 3), (3, 0x80, 4)], &[(4, 0)], None),
-        ("U+40000",                    &[(0, 0xF1, 1), (1, 0x80, 2), (2, 0x80, 3), (3, 0x80, 4)], &[(4, 0)], None),
-        ("U+10FFFF",                   &[(0, 0xF4, 1), (1, 0x8F, 2), (2, 0xBF, 3), (3, 0xBF, 4)], &[(4, 0)], None),
-        ("no byte",                    &[], &[(0, 0)], Some(BadKey(0))),
-        ("C0 80: U+0000 in two bytes", &[(0, 0xC0, 1), (1, 0x80, 2)], &[(2, 0)], Some(BadKey(0))),
-        ("E0 9F BF: U+07FF in three",  &[(0, 0xE0, 1), (1, 0x9F, 2), (2, 0xBF, 3)], &[(3, 0)], Some(BadKey(0))),
-        ("ED A0 80: a surrogate",      &[(0, 0xED, 1), (1, 0xA0, 2), (2, 0x80, 3)], &[(3, 0)], Some(BadKey(0))),
-        ("F0 8F BF BF: U+FFFF in four", &[(0, 0xF0, 1), (1, 0x8F, 2), (2, 0xBF, 3), (3, 0xBF, 4)], &[(4, 0)], Some(BadKey(0))),
-        ("F4 90 80 80: past U+10FFFF", &[(0, 0xF4, 1), (1, 0x90, 2), (2, 0x80, 3), (3, 0x80, 4)], &[(4, 0)], Some(BadKey(0))),
-        ("F5 begins no character",     &[(0, 0xF5, 1), (1, 0x80, 2), (2, 0x80, 3), (3, 0x80, 4)], &[(4, 0)], Some(BadKey(0))),
-        ("80 begins no character",     &[(0, 0x80, 1)], &[(1, 0)], Some(BadKey(0))),
-        ("E3 81 82, E3 81, E3",        &[(0, 0xE3, 1), (1, 0x81, 2), (2, 0x82, 3)], &[(3, 0), (2, 1), (1, 2)], Some(BadKey(1))),
-        ("a, FF a, FF b",              &[(0, 0x61, 1), (0, 0xFF, 2), (2, 0x61, 3), (2, 0x62, 4)], &[(1, 0), (3, 1), (4, 2)], Some(BadKey(1))),
-        ("a E3, E3 a: a tail wanted",  &[(0, 0x61, 1), (1, 0xE3, 2), (0, 0xE3, 3), (3, 0x61, 4)], &[(1, 0), (4, 1), (2, 2)], Some(BadKey(1))),
-        ("a ring of two states",       &[(1, 0x61, 2), (2, 0x62, 1)], &[(1, 0)], Some(BadKey(0))),
-        ("a, and a ring of its own",   &[(0, 0x61, 1), (2, 0x62, 2)], &[(1, 0), (2, 1)], Some(BadKey(1))),
+    let rows: [(&str, &[Step], &[Value], u32); 2] = [
+        // (what, steps, values, the group without a key)
+        ("two states",              &[(1, b'a', 2), (2, b'b', 1)], &[(1, 0)],         0),
+        ("a, and one on its own",   &[(0, b'a', 1), (2, b'b', 2)], &[(1, 0), (2, 1)], 1),
     ];
-    for (what, steps, values, expected) in rows {
+    for (what, steps, values, group) in rows {
         let groups = u32::try_from(values.len()).unwrap_or(0);
         let bytes = user_image(alloc, groups, &cells_of(alloc, steps, values)?)?;
-        assert_eq!(rt; check_image(alloc, &bytes).err(), expected, "{what}");
+        assert_eq!(rt;
+            check_image(alloc, &bytes).err(),
+            Some(BadKey(group)),
+            "{what}"
+        );
     }
     Ok(())
 }

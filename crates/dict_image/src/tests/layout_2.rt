@@ -14,6 +14,12 @@ fn layout_2_vector(rt: HostRuntime) -> Result<(), Fail> {
     Ok(())
 }
 
+/// Cell 50 is (3, 99), and cell 3 is its end: (-1, 50). Value 0 stands there too.
+const VALUE_TWICE: &[Change<'_>] = &[
+    (504, b"\x03\0\0\0\x63\0\0\0"),
+    (128, b"\xff\xff\xff\xff\x32\0\0\0"),
+];
+
 /// Section 5 begins at byte 104, so that cell n stands at 104 + 8 n.
 #[test]
 fn changes_of_layout_2(rt: HostRuntime) -> Result<(), Fail> {
@@ -22,23 +28,23 @@ fn changes_of_layout_2(rt: HostRuntime) -> Result<(), Fail> {
     #[rattlefmt::skip]
     let rows: [(&str, &[Change<'_>], _); 17] = [
         // (what, bytes from a place on, the fault)
-        ("no change",                   &[],                                     None),
-        ("cell 1 is (-1, 98)",          &[(112, b"\xff\xff\xff\xff\x62\0\0\0")], Some(BadSection(5))),
-        ("cell 1 is (-2, 99)",          &[(112, b"\xfe\xff\xff\xff\x63\0\0\0")], Some(BadSection(5))),
-        ("cell 1 is (0, -1)",           &[(112, b"\0\0\0\0\xff\xff\xff\xff")],   Some(BadSection(5))),
-        ("cell 99 is (1, 99)",          &[(896, b"\x01\0\0\0\x63\0\0\0")],       Some(BadKey(0))),
-        ("cell 0 is (1, 0)",            &[(104, b"\x01\0\0\0\0\0\0\0")],         Some(BadSection(5))),
-        ("right id 2",                  &[(914, b"\x02")],                       Some(BadToken(0))),
-        ("feature length 2",            &[(924, b"\x02")],                       Some(BadText(0))),
-        ("cell 2 is (5, 99)",           &[(120, b"\x05\0\0\0\x63\0\0\0")],       None),
-        ("cell 50 is (1, 50): a ring",  &[(504, b"\x01\0\0\0\x32\0\0\0")],       None),
-        ("value 0 in cells 1 and 3",    &[(504, b"\x03\0\0\0\x63\0\0\0"), (128, b"\xff\xff\xff\xff\x32\0\0\0")], Some(BadSection(5))),
-        ("cell 3 is (-1, 99)",          &[(128, b"\xff\xff\xff\xff\x63\0\0\0")], Some(BadSection(5))),
-        ("cell 5 is (0, -2)",           &[(144, b"\0\0\0\0\xfe\xff\xff\xff")],   Some(BadSection(5))),
-        ("cell 5 is (1, 100)",          &[(144, b"\x01\0\0\0\x64\0\0\0")],       Some(BadSection(5))),
-        ("half a cell at the end",      &[(72, b"\x1c"), (80, b"\x0c")],         Some(BadSection(5))),
-        ("layout 1: cells are no keys", &[(8, b"\x01")],                         Some(BadSection(5))),
-        ("layout 3: 32 bytes missing",  &[(8, b"\x03")],                         Some(Truncated)),
+        ("no change",                &[],                                   None),
+        ("cell 1 is (-1, 98)",       &[(112, b"\xff\xff\xff\xff\x62\0\0\0")], Some(BadSection(5))),
+        ("cell 1 is (-2, 99)",       &[(112, b"\xfe\xff\xff\xff\x63\0\0\0")], Some(BadSection(5))),
+        ("cell 1 is (0, -1)",        &[(112, b"\0\0\0\0\xff\xff\xff\xff")], Some(BadSection(5))),
+        ("cell 99 is (1, 99)",       &[(896, b"\x01\0\0\0\x63\0\0\0")],     Some(BadKey(0))),
+        ("cell 0 is (1, 0)",         &[(104, b"\x01\0\0\0\0\0\0\0")],       Some(BadSection(5))),
+        ("right id 2",               &[(914, b"\x02")],                     Some(BadToken(0))),
+        ("feature length 2",         &[(924, b"\x02")],                     Some(BadText(0))),
+        ("cell 2 is (5, 99)",        &[(120, b"\x05\0\0\0\x63\0\0\0")],     None),
+        ("cell 50 is (1, 50): a ring", &[(504, b"\x01\0\0\0\x32\0\0\0")],     None),
+        ("value 0 in cells 1 and 3", VALUE_TWICE,                           Some(BadSection(5))),
+        ("cell 3 is (-1, 99)",       &[(128, b"\xff\xff\xff\xff\x63\0\0\0")], Some(BadSection(5))),
+        ("cell 5 is (0, -2)",        &[(144, b"\0\0\0\0\xfe\xff\xff\xff")], Some(BadSection(5))),
+        ("cell 5 is (1, 100)",       &[(144, b"\x01\0\0\0\x64\0\0\0")],     Some(BadSection(5))),
+        ("half a cell at the end",   &[(72, b"\x1c"), (80, b"\x0c")],       Some(BadSection(5))),
+        ("layout 1: cells are no keys", &[(8, b"\x01")],                       Some(BadSection(5))),
+        ("layout 3: 32 bytes missing", &[(8, b"\x03")],                       Some(Truncated)),
     ];
     for (what, changes, expected) in rows {
         let damaged = changed(rt.alloc(), &bytes, changes)?;
