@@ -4,19 +4,21 @@ use std::string::String;
 
 /// The dictionary to compile, with the path of each file. Of the lexicons there is one at least.
 #[derive(Debug, PartialEq, Eq, Drop)]
-pub enum Options {
-    /// A system dictionary, of `matrix.def`, `char.def`, `unk.def` and lexicons.
-    System {
+pub struct Options {
+    pub base: Base,
+    pub out: String,
+    pub lexicons: Vec<String>,
+}
+
+/// What the words of the lexicons stand on.
+#[derive(Debug, PartialEq, Eq, Drop)]
+pub enum Base {
+    /// A system dictionary of its own: `matrix.def`, `char.def` and `unk.def`.
+    Definitions {
         matrix: String,
         chars: String,
         unk: String,
-        out: String,
-        lexicons: Vec<String>,
     },
-    /// A user dictionary, for the system dictionary of an image.
-    User {
-        dic: String,
-        out: String,
-        lexicons: Vec<String>,
-    },
+    /// The system dictionary of an image: they make a user dictionary for it.
+    System(String),
 }

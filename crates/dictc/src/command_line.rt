@@ -1,6 +1,6 @@
 //! The command line.
 
-use crate::choices::Options;
+use crate::choices::{Base, Options};
 use clap::{Arg, ArgAction, ArgMatches, Command};
 use programs::{OptionsFault, found, needed_text, texts_of};
 use std::alloc::{AllocError, Global};
@@ -85,10 +85,12 @@ fn lexicons_arg<'a>(alloc: Global) -> Arg<'a> {
 /// The choices of `dictc system`.
 fn system_options(alloc: Global, given: &ArgMatches<'_>) -> Result<Options, OptionsFault> {
     let path = |name| needed_text(alloc, given, name);
-    Ok(Options::System {
-        matrix: path("matrix")?,
-        chars: path("char")?,
-        unk: path("unk")?,
+    Ok(Options {
+        base: Base::Definitions {
+            matrix: path("matrix")?,
+            chars: path("char")?,
+            unk: path("unk")?,
+        },
         out: path("out")?,
         lexicons: texts_of(alloc, given, "lexicons")?,
     })
@@ -96,8 +98,8 @@ fn system_options(alloc: Global, given: &ArgMatches<'_>) -> Result<Options, Opti
 
 /// The choices of `dictc user`.
 fn user_options(alloc: Global, given: &ArgMatches<'_>) -> Result<Options, OptionsFault> {
-    Ok(Options::User {
-        dic: needed_text(alloc, given, "dic")?,
+    Ok(Options {
+        base: Base::System(needed_text(alloc, given, "dic")?),
         out: needed_text(alloc, given, "out")?,
         lexicons: texts_of(alloc, given, "lexicons")?,
     })

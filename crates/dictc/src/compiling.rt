@@ -1,6 +1,6 @@
 //! Dictionaries are compiled from the files that the command line names.
 
-use crate::choices::Options;
+use crate::choices::{Base, Options};
 use crate::reporting::tell_counts;
 use dict_compile::{CompileUserFault, Compiled, compile, compile_user};
 use mj_model::{OverlayFault, Sources};
@@ -18,27 +18,19 @@ pub fn compile_told(rt: &HostRuntime, options: &Options) -> Result<(), Fault> {
 
 /// Compiles what the options ask for, and writes its image.
 pub fn compile_image(rt: &HostRuntime, options: &Options) -> Result<Compiled, Fault> {
-    let (compiled, out) = match options {
-        Options::System {
-            matrix,
-            chars,
-            unk,
-            out,
-            lexicons,
-        } => {
+    let compiled = match &options.base {
+        Base::Definitions { matrix, chars, unk } => {
             let files = SourceFiles {
                 matrix: WholeFile::read(rt, matrix.as_str())?,
                 chars: WholeFile::read(rt, chars.as_str())?,
                 unk: WholeFile::read(rt, unk.as_str())?,
-                lexicons: read_files(rt, lexicons)?,
+                lexicons: read_files(rt, &options.lexicons)?,
             };
-            (compile_sources(rt.alloc(), &files)?, out)
+            compile_sources(rt.alloc(), &files)?
         }
-        Options::User { dic, out, lexicons } => {
-            (compile_user_files(rt, dic.as_str(), lexicons)?, out)
-        }
+        Base::System(dic) => compile_user_files(rt, dic.as_str(), &options.lexicons)?,
     };
-    write_file(rt, out.as_str(), &compiled.image)?;
+    write_file(rt, options.out.as_str(), &compiled.image)?;
     Ok(compiled)
 }
 

@@ -4,15 +4,16 @@
 mod choices;
 mod command_line;
 mod compiling;
+mod inputs;
 mod reporting;
 
-use command_line::options;
 use compiling::compile_told;
+use inputs::options_given;
 use programs::run_program;
 use std::process::ExitCode;
 
 fn main(rt: HostRuntime) -> ExitCode {
-    run_program(&rt, "dictc", options, compile_told)
+    run_program(&rt, "dictc", options_given, compile_told)
 }
 
 #[cfg(test)]

@@ -3,6 +3,7 @@
 mod command_lines;
 mod compilations;
 mod directories;
+mod inputs;
 mod told;
 
 use std::alloc::{AllocError, Global};
@@ -15,6 +16,17 @@ pub(crate) fn words(alloc: Global, text: &str) -> Result<Vec<String>, AllocError
         .filter(|word| !word.is_empty())
         .map(|word| String::from_str(alloc, word))
         .try_collect(alloc)
+}
+
+/// The words of a text. Those with a dot are names in a directory.
+pub(crate) fn words_in(rt: &HostRuntime, dir: &str, text: &str) -> io::Result<Vec<String>> {
+    let mut words = words(rt.alloc(), text)?;
+    for word in &mut words {
+        if word.as_str().contains('.') {
+            *word = in_directory(rt, dir, word.as_str())?;
+        }
+    }
+    Ok(words)
 }
 
 /// A new directory of this test's own.

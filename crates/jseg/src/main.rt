@@ -14,7 +14,7 @@ use programs::run_program;
 use std::process::ExitCode;
 
 fn main(rt: HostRuntime) -> ExitCode {
-    run_program(&rt, "jseg", options, cut)
+    run_program(&rt, "jseg", |rt, words| options(rt.alloc(), words), cut)
 }
 
 #[cfg(test)]

@@ -1,10 +1,12 @@
--- Which faults name a path.
-use Rattle.std.specs.Prelude.{◌≡◌, ◌⊎◌, ℕ, List, String, string_bytes}
+-- What faults tell: which of them name a path, and the code and the name of each.
+use Rattle.std.specs.Prelude.{◌≡◌, ◌⊎◌, ℕ, List, String, string_bytes, codes}
 use Rattle.std.specs.declared.alloc.Global.{Global}
 use Rattle.mj_model.specs.declared.source_fault.SourceKind.{SourceKind}
 use Rattle.mj_model.specs.declared.source_fault.SourceKind.TheVariants as kind
+use Rattle.mj_model.specs.FaultWords.{Words, source_words, format_words, run_words}
+use Rattle.mj_model.specs.ImageFaultWords.{image_words, overlay_words}
 use Rattle.programs.specs.declared.fault.Fault.{Fault}
-use Rattle.programs.specs.declared.fault.Fault.TheVariants.{Memory}
+use Rattle.programs.specs.declared.fault.Fault.TheVariants.{File, Source, Sources, Image, Overlay, Format, Run, Output, Memory}
 
 -- what is wrong with the image as a whole, and want of memory, belong to no file
 abbrev pub BelongsToNoFile : SourceKind → Type 0
@@ -13,3 +15,15 @@ BelongsToNoFile fault = (fault ≡ kind.ArrayFull) ⊎ (fault ≡ kind.FeaturesT
 -- a fault of the file at a path is told by that path; want of memory may stand in its place
 abbrev pub Names : (String Global → Fault) → List ℕ → Fault → Type 0
 Names fault_at path told = (told ≡ Memory) ⊎ ((name : String Global) × (told ≡ fault_at name) × (string_bytes name ≡ path))
+
+-- the code and the name of a fault, as they are printed: those of the carried one where it carries one
+abbrev pub fault_words : Fault → Words
+fault_words (File path) = record { code = codes "F1"; name = codes "File" }
+fault_words (Source path fault) = source_words fault.kind
+fault_words (Sources fault) = source_words fault.kind
+fault_words (Image path fault) = image_words fault
+fault_words (Overlay path fault) = overlay_words fault
+fault_words (Format fault) = format_words fault
+fault_words (Run fault) = run_words fault
+fault_words Output = record { code = codes "F2"; name = codes "Output" }
+fault_words Memory = record { code = codes "Memory"; name = codes "Memory" }

@@ -2,10 +2,15 @@
 
 ghost use Rattle.std.specs.Prelude.{◌≡◌, ◌⊎◌, None, IfSome, true, false};
 ghost use Rattle.std.specs.IoError.{error_kind};
-ghost use Rattle.programs.specs.Faults.{BelongsToNoFile, Names};
-ghost use Rattle.programs.specs.declared.fault.Fault.TheVariants.{File, Memory, Source, Sources, Overlay};
+ghost use Rattle.programs.specs.Faults.{BelongsToNoFile, Names, fault_words};
+ghost use Rattle.programs.specs.declared.fault.Fault.TheVariants.{File, Memory, Source, Sources};
+ghost use Rattle.programs.specs.declared.fault.Fault.TheVariants.{Overlay};
+ghost use Rattle.programs.specs.declared.reading.ReadFault.TheVariants.{Memory as OutOfMemory};
 
-use mj_model::{FormatFault, ImageFault, OverlayFault, RunFault, SourceFault, SourceKind};
+use crate::reading::ReadFault;
+use mj_model::{
+    FormatFault, ImageFault, NamedFault, OverlayFault, RunFault, SourceFault, SourceKind,
+};
 use std::alloc::{AllocError, Global};
 use std::io::{self, ErrorKind};
 use std::string::String;
@@ -48,6 +53,19 @@ impl Fault {
         Fault::File(path)
     }
 
+    /// The fault of the file at a path whose bytes can't be had.
+    pub fn of_reading(alloc: Global, path: &str, fault: ReadFault) -> Fault
+        ensures path { Names File path.now result }
+        ensures memory { fault ≡ OutOfMemory → result ≡ Memory }
+    {
+        let error = match fault {
+            ReadFault::Device(error) => error,
+            ReadFault::Endless => io::Error::from(ErrorKind::FileTooLarge),
+            ReadFault::Memory => io::Error::from(ErrorKind::OutOfMemory),
+        };
+        Fault::of_file(alloc, path, &error)
+    }
+
     /// The fault of the source at a path, or of the sources together where it belongs to no file.
     pub fn of_source(alloc: Global, path: Option<&str>, fault: SourceFault) -> Fault
         ensures source { IfSome path.entry (λ path. (BelongsToNoFile fault.kind → ⊥)
@@ -86,10 +104,24 @@ pub(crate) fn belongs_to_a_file(kind: SourceKind) -> bool
     )
 }
 
-impl From<AllocError> for Fault {
-    ghost use Rattle.std.specs.Prelude.{◌≡◌};
-    ghost use Rattle.programs.specs.declared.fault.Fault.TheVariants.{Memory};
+impl NamedFault for &Fault {
+    ghost words_of = { λ fault. fault_words fault.now };
 
+    fn words(self) -> (&'static str, &'static str) {
+        match self {
+            Fault::File(_) => ("F1", "File"),
+            Fault::Source(_, fault) | Fault::Sources(fault) => fault.words(),
+            Fault::Image(_, fault) => fault.words(),
+            Fault::Overlay(_, fault) => fault.words(),
+            Fault::Format(fault) => fault.words(),
+            Fault::Run(fault) => fault.words(),
+            Fault::Output => ("F2", "Output"),
+            Fault::Memory => ("Memory", "Memory"),
+        }
+    }
+}
+
+impl From<AllocError> for Fault {
     ghost from_gives = { λ _ fault. fault ≡ Memory };
 
     fn from(_refused: AllocError) -> Fault {

@@ -20,7 +20,7 @@ pub enum OptionsFault {
 }
 
 impl OptionsFault {
-    /// The fault of a command line whose words can't be had: memory was refused, or an argument is not UTF-8.
+    /// The fault of words that can't be had: memory was refused, or an argument is not UTF-8.
     pub fn of_words(alloc: Global, program: &str, error: &io::Error) -> OptionsFault {
         if error.kind() == ErrorKind::OutOfMemory {
             return OptionsFault::Memory;
@@ -60,14 +60,18 @@ impl OptionsFault {
         }
     }
 
-    /// Prints it, and answers the exit status.
+    /// Prints it, and answers the exit status: that of `Fault::Output` where help can't be printed.
     pub fn tell(self, rt: &HostRuntime, program: &str) -> u8 {
-        let _ = match &self {
-            OptionsFault::Help(text) => rt.print(text),
-            OptionsFault::Bad(text) => rt.eprint(text),
-            OptionsFault::Memory => return report(program, &Fault::Memory, &mut rt.stderr()),
+        let fault = match &self {
+            OptionsFault::Help(text) if rt.print(text).is_err() => Fault::Output,
+            OptionsFault::Memory => Fault::Memory,
+            OptionsFault::Help(_) => return self.status(),
+            OptionsFault::Bad(text) => {
+                let _ = rt.eprint(text);
+                return self.status();
+            }
         };
-        self.status()
+        report(rt.alloc(), program, &fault, &mut rt.stderr())
     }
 }
 

@@ -1,45 +1,51 @@
 //! The line that a program ends with on standard error, and the exit status.
 
 use crate::fault::{Fault, belongs_to_a_file};
-use mj_model::{FormatFault, ImageFault, RunFault, SourceFault, SourceKind};
-use std::io::{self, Write};
+use crate::one_line::OneLine;
+use mj_model::{FormatFault, ImageFault, NamedFault, RunFault, SourceFault, SourceKind};
+use std::alloc::Global;
+use std::fmt::{self, Display, Formatter};
+use std::io::Write;
 
-/// Writes the fault's line and answers the status; a failed write of it is ignored.
-pub fn report<W: Write>(program: &str, fault: &Fault, err: &mut W) -> u8 {
-    let _ = write_line(program, fault, err);
+/// Writes the fault's line, in one write where memory for it is given, and answers the status.
+///
+/// A failed write of it is ignored.
+pub fn report<W: Write>(alloc: Global, program: &str, fault: &Fault, err: &mut W) -> u8 {
+    let _ = match format!(in alloc; "{program}: {fault}\n") {
+        Ok(line) => err.write_all(line.as_bytes()),
+        Err(_) => writeln!(err, "{program}: {fault}"),
+    };
     status(fault)
 }
 
-fn write_line<W: Write>(program: &str, fault: &Fault, err: &mut W) -> io::Result<()> {
-    match fault {
-        Fault::File(path) => writeln!(err, "{program}: {path}: F1 File"),
-        Fault::Source(path, fault) => write_source(program, path.as_str(), fault, err),
-        Fault::Sources(SourceFault { kind, .. }) => writeln!(err, "{program}: {kind}"),
-        Fault::Image(_, ImageFault::Memory) | Fault::Memory => writeln!(err, "{program}: Memory"),
-        Fault::Image(path, fault) => writeln!(err, "{program}: {path}: {fault}"),
-        Fault::Overlay(path, fault) => writeln!(err, "{program}: {path}: {fault}"),
-        Fault::Format(fault) => writeln!(err, "{program}: {fault}"),
-        Fault::Run(fault) => writeln!(err, "{program}: {fault}"),
-        Fault::Output => writeln!(err, "{program}: F2 Output"),
+/// The line behind the program's name. The path is left out where the fault belongs to no file.
+impl Display for Fault {
+    fn fmt<W: fmt::Write>(&self, f: &mut Formatter<W>) -> fmt::Result {
+        match self {
+            Fault::File(path) => write!(
+                f,
+                "{}: {} {}",
+                OneLine(path.as_str()),
+                self.code(),
+                self.name()
+            ),
+            Fault::Source(path, SourceFault { line, kind, .. }) if belongs_to_a_file(*kind) => {
+                write!(f, "{}:{line}: {kind}", OneLine(path.as_str()))
+            }
+            Fault::Source(_, SourceFault { kind, .. }) | Fault::Sources(SourceFault { kind, .. }) =>
+                { write!(f, "{kind}") }
+            Fault::Image(_, ImageFault::Memory) | Fault::Memory => f.write_str(self.name()),
+            Fault::Image(path, fault) => write!(f, "{}: {fault}", OneLine(path.as_str())),
+            Fault::Overlay(path, fault) => write!(f, "{}: {fault}", OneLine(path.as_str())),
+            Fault::Format(fault) => write!(f, "{fault}"),
+            Fault::Run(fault) => write!(f, "{fault}"),
+            Fault::Output => write!(f, "{} {}", self.code(), self.name()),
+        }
     }
 }
 
-/// The line of a source's fault. The path is left out where the fault belongs to no file.
-fn write_source<W: Write>(
-    program: &str,
-    path: &str,
-    fault: &SourceFault,
-    err: &mut W,
-) -> io::Result<()> {
-    let SourceFault { line, kind, .. } = fault;
-    if belongs_to_a_file(*kind) {
-        writeln!(err, "{program}: {path}:{line}: {kind}")
-    } else {
-        writeln!(err, "{program}: {kind}")
-    }
-}
-
-/// 1 for a refused source, image, overlay or text, 2 for a refused format, 3 for a file or device, 4 for memory.
+/// 1 for a refused source, image, overlay or text, 2 for a refused format, 3 for a file or device,
+/// 4 for memory.
 fn status(fault: &Fault) -> u8 {
     match fault {
         Fault::Source(_, fault) | Fault::Sources(fault) => match fault.kind {

@@ -3,11 +3,12 @@
 ghost use Rattle.std.specs.Prelude.{◌≡◌, IfOk, map, string_bytes};
 
 use crate::fault::Fault;
-use crate::reading::read_whole;
+use crate::reading::{ReadFault, read_whole};
 use mj_model::READS_MAX;
 use std::alloc::{AllocError, Global};
+use std::fs;
+use std::rt::Files;
 use std::string::String;
-use std::{fs, io};
 
 /// A file that was read whole.
 #[derive(Debug, Drop)]
@@ -18,10 +19,10 @@ pub struct WholeFile {
 
 impl WholeFile {
     /// Reads the file at a path, within `READS_MAX` reads.
-    pub fn read(rt: &HostRuntime, path: &str) -> Result<WholeFile, Fault>
+    pub fn read<R: Files + AllocGlobal>(rt: &R, path: &str) -> Result<WholeFile, Fault>
         ensures path { IfOk result (λ file. string_bytes file.path ≡ path.now) }
     {
-        let bytes = bytes_at(rt, path).map_err(|error| Fault::of_file(rt.alloc(), path, &error))?;
+        let bytes = bytes_at(rt, path).map_err(|fault| Fault::of_reading(rt.alloc(), path, fault))?;
         Ok(WholeFile {
             path: String::from_str(rt.alloc(), path)?,
             bytes,
@@ -29,15 +30,15 @@ impl WholeFile {
     }
 }
 
-fn bytes_at(rt: &HostRuntime, path: &str) -> io::Result<Vec<u8>> {
-    let mut file = fs::open(rt, path)?;
+fn bytes_at<R: Files + AllocGlobal>(rt: &R, path: &str) -> Result<Vec<u8>, ReadFault> {
+    let mut file = fs::open(rt, path).map_err(ReadFault::Device)?;
     read_whole(rt.alloc(), &mut file, READS_MAX)
 }
 
 /// Reads the files at paths, one after the other.
-pub fn read_files(rt: &HostRuntime, paths: &[String]) -> Result<Vec<WholeFile>, Fault>
-    ensures paths { IfOk result (λ files.
-        map (λ file. string_bytes file.path) files.items ≡ map (λ path. string_bytes path) paths.now) }
+pub fn read_files<R: Files + AllocGlobal>(rt: &R, paths: &[String]) -> Result<Vec<WholeFile>, Fault>
+    ensures paths { IfOk result (λ files. map (λ file. string_bytes file.path) files.items
+        ≡ map (λ path. string_bytes path) paths.now) }
 {
     let mut files = Vec::new(rt.alloc());
     for path in paths {

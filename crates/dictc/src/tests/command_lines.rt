@@ -1,7 +1,7 @@
 //! Command lines: what is chosen, and what is refused.
 
 use super::words;
-use crate::choices::Options;
+use crate::choices::{Base, Options};
 use crate::command_line::options;
 use std::alloc::{AllocError, Global};
 use std::string::String;
@@ -19,20 +19,21 @@ enum Asked {
 
 impl Asked {
     fn options(self, alloc: Global) -> Result<Options, AllocError> {
-        let out = String::from_str(alloc, "o")?;
-        Ok(match self {
-            Asked::System(lexicons) => Options::System {
-                matrix: String::from_str(alloc, "m")?,
-                chars: String::from_str(alloc, "c")?,
-                unk: String::from_str(alloc, "u")?,
-                out,
-                lexicons: words(alloc, lexicons)?,
-            },
-            Asked::User(dic, lexicons) => Options::User {
-                dic: String::from_str(alloc, dic)?,
-                out,
-                lexicons: words(alloc, lexicons)?,
-            },
+        let (base, lexicons) = match self {
+            Asked::System(lexicons) => {
+                let definitions = Base::Definitions {
+                    matrix: String::from_str(alloc, "m")?,
+                    chars: String::from_str(alloc, "c")?,
+                    unk: String::from_str(alloc, "u")?,
+                };
+                (definitions, lexicons)
+            }
+            Asked::User(dic, lexicons) => (Base::System(String::from_str(alloc, dic)?), lexicons),
+        };
+        Ok(Options {
+            base,
+            out: String::from_str(alloc, "o")?,
+            lexicons: words(alloc, lexicons)?,
         })
     }
 }

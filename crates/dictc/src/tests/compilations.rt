@@ -1,6 +1,6 @@
 //! Dictionaries that are compiled, and refused ones that leave the images as they were.
 
-use super::{in_directory, new_directory, words};
+use super::{in_directory, new_directory, words_in};
 use crate::command_line::options;
 use crate::compiling::compile_image;
 use crate::reporting::tell_counts;
@@ -63,15 +63,9 @@ fn directory_of_files(rt: &HostRuntime, test: &str) -> Result<String, Fail> {
     Ok(dir)
 }
 
-/// Compiles what a command line asks for. Its words with a dot are names in the directory.
+/// Compiles what a command line asks for.
 fn compile_in(rt: &HostRuntime, dir: &str, given: &str) -> Result<Result<Compiled, Fault>, Fail> {
-    let mut given = words(rt.alloc(), given)?;
-    for word in &mut given {
-        if word.as_str().contains('.') {
-            *word = in_directory(rt, dir, word.as_str())?;
-        }
-    }
-    let options = options(rt.alloc(), given)?;
+    let options = options(rt.alloc(), words_in(rt, dir, given)?)?;
     Ok(compile_image(rt, &options))
 }
 

@@ -1,7 +1,7 @@
 //! Files that can't be read, or are no image.
 
 use super::{in_directory, new_directory};
-use crate::choices::Options;
+use crate::choices::{Base, Options};
 use crate::compiling::compile_image;
 use mj_model::ImageFault;
 use programs::Fault;
@@ -12,19 +12,18 @@ use std::{fs, io};
 fn options_in(rt: &HostRuntime, dir: &str, user: bool) -> io::Result<Options> {
     let mut lexicons = Vec::new(rt.alloc());
     lexicons.push(in_directory(rt, dir, "lexicon.csv")?)?;
-    let out = in_directory(rt, dir, "img")?;
-    if user {
-        return Ok(Options::User {
-            dic: in_directory(rt, dir, "sys.img")?,
-            out,
-            lexicons,
-        });
-    }
-    Ok(Options::System {
-        matrix: in_directory(rt, dir, "matrix.def")?,
-        chars: in_directory(rt, dir, "char.def")?,
-        unk: in_directory(rt, dir, "unk.def")?,
-        out,
+    let base = if user {
+        Base::System(in_directory(rt, dir, "sys.img")?)
+    } else {
+        Base::Definitions {
+            matrix: in_directory(rt, dir, "matrix.def")?,
+            chars: in_directory(rt, dir, "char.def")?,
+            unk: in_directory(rt, dir, "unk.def")?,
+        }
+    };
+    Ok(Options {
+        base,
+        out: in_directory(rt, dir, "img")?,
         lexicons,
     })
 }

@@ -1,7 +1,8 @@
 //! What is told of compilations.
 
 use crate::reporting::tell_counts;
-use dict_compile::Compiled;
+use dict_compile::{CompileUserFault, Compiled};
+use mj_model::{NamedFault, SourceKind};
 use programs::Fault;
 use std::alloc::Global;
 use std::io::{self, ErrorKind, Write};
@@ -73,6 +74,25 @@ fn compilations_that_cannot_be_told(rt: HostRuntime) -> Result<(), Fail> {
         let told = tell_counts(&compiled(rt.alloc(), 3, 1), &mut writer);
         let fault = if is_told { None } else { Some(Fault::Output) };
         assert!(rt; told.err() == fault, "{what}");
+    }
+    Ok(())
+}
+
+#[test]
+fn told_faults_of_users(rt: HostRuntime) -> Result<(), Fail> {
+    let source = CompileUserFault::Source(SourceKind::BadNumber.at(3, 7));
+    #[rattlefmt::skip]
+    let rows = [
+        // (fault, code, name, text)
+        (CompileUserFault::NotSystem, "O1", "NotSystem", "O1 NotSystem"),
+        (source,                      "S3", "BadNumber", "file 3, line 7: S3 BadNumber"),
+    ];
+    for (fault, code, name, text) in rows {
+        assert!(rt; fault.code() == code && fault.name() == name, "{text}");
+        assert!(rt;
+            format!(in rt.alloc(); "{fault}")?.as_str() == text,
+            "{text}"
+        );
     }
     Ok(())
 }

@@ -41,7 +41,10 @@ fn images_at_fault(rt: HostRuntime) -> Result<(), Fail> {
     for (fault, line) in rows {
         let mut told = Vec::new(rt.alloc());
         let fault = overlay_fault(rt.alloc(), "s.img", &users, fault);
-        assert!(rt; report("jseg", &fault, &mut told) == 1, "{line}");
+        assert!(rt;
+            report(rt.alloc(), "jseg", &fault, &mut told) == 1,
+            "{line}"
+        );
         assert!(rt; told.as_slice() == line.as_bytes(), "{line}");
     }
     Ok(())

@@ -1,32 +1,15 @@
-//! Files that are read and written, and those that can't be.
+//! Files that are read, and those that can't be.
 
-use crate::{
-    Fault, SourceFiles, WholeFile, dictionary_at, read_files, read_whole, texts, write_file,
-};
+use super::failing_files::FailingFiles;
+use super::{names_in, new_directory};
+use crate::{Fault, SourceFiles, WholeFile, dictionary_at, read_files, texts, write_file};
 use mj_model::ImageFault;
 use std::alloc::{AllocError, Global};
-use std::io::{self, ErrorKind, Read};
-use std::os::unix::fs::symlink;
+use std::cell::Cell;
+use std::io::ErrorKind;
 use std::string::String;
 use std::test::Fail;
-use std::{fs, process};
-
-/// A new directory of this test's own.
-fn new_directory(rt: &HostRuntime, test: &str) -> io::Result<String> {
-    let id = process::id(rt.process());
-    let dir = format!(in rt.alloc(); "/tmp/programs_{test}_{id}")?;
-    fs::create_dir(rt, dir.as_str())?;
-    Ok(dir)
-}
-
-/// How many names a directory has.
-fn names_in(rt: &HostRuntime, dir: &str) -> io::Result<usize> {
-    let mut names = Vec::new(rt.alloc());
-    for entry in fs::read_dir(rt, dir)? {
-        names.push(String::from_str(rt.alloc(), entry?.file_name())?)?;
-    }
-    Ok(names.len())
-}
+use std::{fs, io};
 
 /// Whether a file at this path is what a call told.
 fn is_file_fault(fault: Option<&Fault>, path: &str) -> bool {
@@ -43,94 +26,6 @@ fn is_refused(rt: &HostRuntime, path: &str) -> bool {
     is_file_fault(read.as_ref(), path) && is_file_fault(written.as_ref(), path)
 }
 
-/// A reader that fails.
-#[derive(Drop)]
-struct Failing;
-
-impl Read for Failing {
-    fn read(&mut self, _buf: &mut [u8]) -> io::Result<usize> {
-        Err(io::Error::from(ErrorKind::Interrupted))
-    }
-}
-
-#[test]
-fn readers_of_some_length(rt: HostRuntime) -> Result<(), Fail> {
-    let rows = [
-        // (bytes, reads, whether it ends within them)
-        (0, 1, true),
-        (0, 0, false),
-        (1, 2, true),
-        (1, 1, false),
-        (65_536, 2, true),
-        (65_537, 3, true),
-        (65_537, 2, false),
-        (200_000, 5, true),
-    ];
-    for (length, reads, ends) in rows {
-        let text = vec![in rt.alloc(); 7_u8; length]?;
-        let mut reader = text.as_slice();
-        match read_whole(rt.alloc(), &mut reader, reads) {
-            Ok(bytes) => {
-                assert!(rt; ends, "{length} in {reads}");
-                assert!(rt; bytes.as_slice() == text.as_slice(), "{length} in {reads}");
-            }
-            Err(error) => {
-                assert!(rt; !ends, "{length} in {reads}");
-                assert!(rt;
-                    error.kind() == ErrorKind::FileTooLarge,
-                    "{length} in {reads}"
-                );
-            }
-        }
-    }
-    Ok(())
-}
-
-#[test]
-fn failing_readers(rt: HostRuntime) -> Result<(), Fail> {
-    let read = read_whole(rt.alloc(), &mut Failing, 3);
-    let kind = read.err().map(|error| error.kind());
-    assert!(rt; kind == Some(ErrorKind::Interrupted));
-    Ok(())
-}
-
-#[test]
-fn files_written_and_read(rt: HostRuntime) -> Result<(), Fail> {
-    let dir = new_directory(&rt, "written")?;
-    let rows = [
-        // (name, bytes, how many names the directory has then)
-        ("a", b"first".as_slice(), 1),
-        ("b", b"", 2),
-        ("a", b"in its place", 2),
-    ];
-    for (name, bytes, names) in rows {
-        let path = format!(in rt.alloc(); "{dir}/{name}")?;
-        assert!(rt; write_file(&rt, path.as_str(), bytes).is_ok(), "{name}");
-        let file = WholeFile::read(&rt, path.as_str())?;
-        assert!(rt; file.path == path, "{name}");
-        assert!(rt; file.bytes.as_slice() == bytes, "{name}");
-        assert!(rt; names_in(&rt, dir.as_str())? == names, "{name}");
-    }
-    fs::remove_dir_all(&rt, dir.as_str())?;
-    Ok(())
-}
-
-#[test]
-fn links_are_kept(rt: HostRuntime) -> Result<(), Fail> {
-    let dir = new_directory(&rt, "links")?;
-    let file = format!(in rt.alloc(); "{dir}/file")?;
-    let link = format!(in rt.alloc(); "{dir}/link")?;
-    fs::write(&rt, file.as_str(), "old")?;
-    symlink(&rt, "file", link.as_str())?;
-    assert!(rt; write_file(&rt, link.as_str(), b"new").is_ok());
-    assert!(rt; fs::read(&rt, file.as_str())?.as_slice() == b"new".as_slice());
-    assert!(rt; fs::symlink_metadata(&rt, link.as_str())?.is_symlink());
-    assert!(rt; write_file(&rt, "/dev/null", b"new").is_ok());
-    assert!(rt; names_in(&rt, dir.as_str())? == 2);
-    fs::remove_dir_all(&rt, dir.as_str())?;
-    Ok(())
-}
-
 #[test]
 fn files_that_fail(rt: HostRuntime) -> Result<(), Fail> {
     let dir = new_directory(&rt, "failing")?;
@@ -139,8 +34,6 @@ fn files_that_fail(rt: HostRuntime) -> Result<(), Fail> {
         assert!(rt; is_refused(&rt, path.as_str()), "{path}");
     }
     assert!(rt; is_refused(&rt, ""), "no name");
-    let full = write_file(&rt, "/dev/full", b"text").err();
-    assert!(rt; is_file_fault(full.as_ref(), "/dev/full"), "a full device");
     assert!(rt; names_in(&rt, dir.as_str())? == 0);
     fs::remove_dir_all(&rt, dir.as_str())?;
     Ok(())
@@ -206,8 +99,17 @@ fn files_in_their_order(rt: HostRuntime) -> Result<(), Fail> {
         fs::write(&rt, path.as_str(), name)?;
         paths.push(path)?;
     }
-    let files = read_files(&rt, &paths)?;
+    let runtime = FailingFiles {
+        rt: &rt,
+        room: 0,
+        at_once: 0,
+        syncs: false,
+        renames: false,
+        opened: Cell::new(0),
+    };
+    let files = read_files(&runtime, &paths)?;
     fs::remove_dir_all(&rt, dir.as_str())?;
+    assert!(rt; runtime.opened.get() == 3);
     assert!(rt; files.len() == 3);
     for (file, path) in files.iter().zip(paths.iter()) {
         assert!(rt; file.path == *path, "{path}");

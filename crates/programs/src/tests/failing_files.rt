@@ -1,0 +1,158 @@
+//! The files of the system, among which some calls fail.
+
+use std::alloc::{Allocator, Global};
+use std::cell::Cell;
+use std::fs::{File, Metadata, OpenFile, OpenOptions, Permissions};
+use std::io::{self, ErrorKind, Read, Seek, SeekFrom, Write};
+use std::path::PathBuf;
+use std::rt::Files;
+
+/// The system's files, whose calls are handed on but for those that fail.
+#[derive(Drop)]
+pub(crate) struct FailingFiles<'a> {
+    pub rt: &'a HostRuntime,
+    /// How many bytes a file takes in all, and how many at once.
+    pub room: usize,
+    pub at_once: usize,
+    /// Whether its bytes can be stored.
+    pub syncs: bool,
+    /// Whether it can get another name.
+    pub renames: bool,
+    /// How many files were opened.
+    pub opened: Cell<usize>,
+}
+
+/// A file of these.
+#[derive(Drop)]
+pub(crate) struct FailingFile {
+    file: File,
+    room: usize,
+    at_once: usize,
+    syncs: bool,
+}
+
+fn refused() -> io::Error {
+    io::Error::from(ErrorKind::StorageFull)
+}
+
+impl Read for FailingFile {
+    fn read(&mut self, buf: &mut [u8]) -> io::Result<usize> {
+        self.file.read(buf)
+    }
+}
+
+impl Write for FailingFile {
+    fn write(&mut self, buf: &[u8]) -> io::Result<usize> {
+        let taken = buf.len().min(self.at_once).min(self.room);
+        if taken == 0 {
+            return Err(refused());
+        }
+        self.room -= taken;
+        self.file.write(&buf[..taken])
+    }
+
+    fn flush(&mut self) -> io::Result<()> {
+        self.file.flush()
+    }
+}
+
+impl Seek for FailingFile {
+    fn seek(&mut self, to: SeekFrom) -> io::Result<u64> {
+        self.file.seek(to)
+    }
+}
+
+impl OpenFile for FailingFile {
+    fn metadata(&self) -> io::Result<Metadata> {
+        self.file.metadata()
+    }
+
+    fn set_len(&self, size: u64) -> io::Result<()> {
+        self.file.set_len(size)
+    }
+
+    fn sync_all(&self) -> io::Result<()> {
+        if self.syncs {
+            self.file.sync_all()
+        } else {
+            Err(refused())
+        }
+    }
+
+    fn sync_data(&self) -> io::Result<()> {
+        self.file.sync_data()
+    }
+
+    fn set_permissions(&self, perm: Permissions) -> io::Result<()> {
+        self.file.set_permissions(perm)
+    }
+}
+
+impl Alloc for FailingFiles<'_> {
+    type A = Global;
+
+    fn alloc(&self) -> Global {
+        self.rt.alloc()
+    }
+}
+
+impl Files for FailingFiles<'_> {
+    type File = FailingFile;
+
+    type Dir = <HostRuntime as Files>::Dir;
+
+    fn open_file(&self, how: &OpenOptions, path: &str) -> io::Result<FailingFile> {
+        let file = self.rt.open_file(how, path)?;
+        self.opened.set(self.opened.get().saturating_add(1));
+        Ok(FailingFile {
+            file,
+            room: self.room,
+            at_once: self.at_once,
+            syncs: self.syncs,
+        })
+    }
+
+    fn open_dir(&self, path: &str) -> io::Result<Self::Dir> {
+        self.rt.open_dir(path)
+    }
+
+    fn metadata(&self, path: &str) -> io::Result<Metadata> {
+        self.rt.metadata(path)
+    }
+
+    fn symlink_metadata(&self, path: &str) -> io::Result<Metadata> {
+        self.rt.symlink_metadata(path)
+    }
+
+    fn copy(&self, from: &str, to: &str) -> io::Result<u64> {
+        self.rt.copy(from, to)
+    }
+
+    fn rename(&self, from: &str, to: &str) -> io::Result<()> {
+        if self.renames {
+            self.rt.rename(from, to)
+        } else {
+            Err(refused())
+        }
+    }
+
+    fn remove_file(&self, path: &str) -> io::Result<()> {
+        self.rt.remove_file(path)
+    }
+
+    fn create_dir(&self, path: &str) -> io::Result<()> {
+        self.rt.create_dir(path)
+    }
+
+    fn remove_dir(&self, path: &str) -> io::Result<()> {
+        self.rt.remove_dir(path)
+    }
+
+    fn remove_dir_all<B: Allocator>(&self, alloc: B, path: &str) -> io::Result<()> {
+        self.rt.remove_dir_all(alloc, path)
+    }
+
+    fn canonicalize<B: Allocator>(&self, alloc: B, path: &str) -> io::Result<PathBuf<B>> {
+        self.rt.canonicalize(alloc, path)
+    }
+}
