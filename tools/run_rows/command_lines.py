@@ -1,0 +1,78 @@
+"""Command lines: help, and those that are wrong."""
+from .run import DEFINITIONS, LEXICON, SYSTEM, USER, Has, Path, Run
+
+# (words, what stands in the text)
+HELP = [
+    ("dictc --help", ("system", "user")),
+    ("dictc -h", ("system", "user")),
+    ("dictc system --help", ("--matrix <FILE>", "--char <FILE>", "--unk <FILE>", "--out <IMG>", "<LEX>...")),
+    ("dictc user --help", ("--dic <IMG>", "--out <IMG>", "<LEX>...")),
+    ("jseg --help", ("-d <IMG>", "-u <IMG>", "--sources <DIR>", "--sample", "-M <N>", "-O <NAME>", "-F <", "-U <", "-B <", "-E <")),
+    ("jseg -d none.img --help", ("--sources <DIR>",)),
+]
+
+WRONG = [
+    # (what, words)
+    ("no subcommand", "dictc"),
+    ("another subcommand", "dictc delete"),
+    ("an option of none", "dictc --out new.img a/lexicon.csv"),
+    ("no matrix", f"{SYSTEM.replace('--matrix a/matrix.def', '')} a/lexicon.csv"),
+    ("no categories", f"{SYSTEM.replace('--char a/char.def', '')} a/lexicon.csv"),
+    ("no unknown words", f"{SYSTEM.replace('--unk a/unk.def', '')} a/lexicon.csv"),
+    ("no image to write", f"dictc system {DEFINITIONS} a/lexicon.csv"),
+    ("no lexicon", SYSTEM),
+    ("a system for a system", f"{SYSTEM} --dic sys.img a/lexicon.csv"),
+    ("an option twice", f"{SYSTEM} --out other.img a/lexicon.csv"),
+    ("a value that is missing", f"{SYSTEM} a/lexicon.csv --unk"),
+    ("a user for no system", "dictc user --out new.img user.csv"),
+    ("a user without an image", "dictc user --dic sys.img user.csv"),
+    ("a user without a lexicon", USER),
+    ("a user with a matrix", f"{USER} --matrix a/matrix.def user.csv"),
+    ("no dictionary", "jseg"),
+    ("options alone", "jseg -O wakati -M 3"),
+    ("an image and the sample", "jseg -d sys.img --sample"),
+    ("an image and sources", "jseg -d sys.img --sources a"),
+    ("sources and the sample", "jseg --sources a --sample"),
+    ("a user alone", "jseg -u user.img"),
+    ("a user of the sample", "jseg --sample -u user.img"),
+    ("a user of sources", "jseg --sources a -u user.img"),
+    ("two images", "jseg -d sys.img -d sys.img"),
+    ("sources twice", "jseg --sources a --sources a"),
+    ("the sample twice", "jseg --sample --sample"),
+    ("a format twice", "jseg --sample -F a -F b"),
+    ("another output", "jseg --sample -O yomi"),
+    ("outputs twice", "jseg --sample -O wakati -O wakati"),
+    ("grouping above 1,000", "jseg --sample -M 1001"),
+    ("grouping below 0", "jseg --sample -M -1"),
+    ("grouping of no number", "jseg --sample -M x"),
+    ("grouping twice", "jseg --sample -M 1 -M 1"),
+    ("a word", "jseg --sample text"),
+    ("an unknown option", "jseg --sample --simple"),
+    ("no image's name", "jseg -d"),
+]
+
+# An image that would take the place of a file that is read. Nothing is lost.
+SPARE = {"spare.csv": LEXICON, "link.img": Path("sys.img"), "link": Path("a")}
+INPUTS = [
+    # (words, the path that is told)
+    ("dictc user --dic sys.img --out sys.img user.csv", "sys.img"),
+    ("dictc user --dic sys.img --out user.csv user.csv", "user.csv"),
+    ("dictc user --dic sys.img --out spare.csv user.csv spare.csv", "spare.csv"),
+    ("dictc user --dic sys.img --out ./sys.img user.csv", "./sys.img"),
+    ("dictc user --dic ./a/../sys.img --out sys.img user.csv", "sys.img"),
+    ("dictc user --dic sys.img --out link.img user.csv", "link.img"),
+    ("dictc user --dic link.img --out sys.img user.csv", "sys.img"),
+    ("dictc user --dic none.img --out none.img user.csv", "none.img"),
+    (f"dictc system {DEFINITIONS} --out a/matrix.def a/lexicon.csv", "a/matrix.def"),
+    (f"dictc system {DEFINITIONS} --out a/char.def a/lexicon.csv", "a/char.def"),
+    (f"dictc system {DEFINITIONS} --out a/unk.def a/lexicon.csv", "a/unk.def"),
+    (f"dictc system {DEFINITIONS} --out link/lexicon.csv spare.csv a/lexicon.csv", "link/lexicon.csv"),
+]
+
+ROWS = [
+    *(Run(words, words, out=Has("", ("Usage: ", *texts))) for words, texts in HELP),
+    *(Run(what, words, "も\n", err=Has("error: "), status=2) for what, words in WRONG),
+    Run("an argument that is not UTF-8", "jseg --sample -F \udcff", err="an argument is not UTF-8", status=2),
+    Run("a path that is not UTF-8", f"{SYSTEM} \udcff.csv", err="an argument is not UTF-8", status=2),
+    *(Run(words, words, err=f"--out names a file that is read: {told}", status=2, files=SPARE) for words, told in INPUTS),
+]

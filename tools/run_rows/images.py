@@ -1,0 +1,86 @@
+"""Images that are loaded, and refused ones."""
+import hashlib
+import struct
+
+from .run import USER, Run
+
+HEADER = "4d4a444943540d0a 01000000 01000000 02000000 02000000 00000000 01000000 01000000 00000000"
+TAIL = "00000000 01000000  0100 0100 0100 0000 00000000 01000000  58"
+LENGTHS = struct.pack("<8Q", 0, 0, 0, 0, 8, 8, 16, 1)
+
+# The user image of the line `もも,1,1,1,X` in layout 1: 137 bytes.
+LAYOUT_1 = bytes.fromhex(HEADER) + LENGTHS + bytes.fromhex("0600 e38282e38282" + TAIL)
+
+
+def changed(image, *changes):
+    """An image with other bytes from an offset on."""
+    image = bytearray(image)
+    for offset, data in changes:
+        image[offset : offset + len(data)] = data
+    return bytes(image)
+
+
+def cells(used):
+    """The section of 100 cells, of which these are used."""
+    return b"".join(struct.pack("<2i", *used.get(number, (0, -1))) for number in range(100))
+
+
+# The user image of the line `a,1,1,1,X` in layout 2: 929 bytes.
+LAYOUT_2 = changed(LAYOUT_1[:104], (8, b"\2"), (72, struct.pack("<Q", 800)))
+LAYOUT_2 += cells({0: (1, -2), 1: (-1, 99), 99: (1, 0)}) + bytes.fromhex(TAIL)
+
+
+def with_digest(image):
+    """As layout 3: behind the bytes stands their SHA-256."""
+    image = changed(image, (8, b"\3"))
+    return image + hashlib.sha256(image).digest()
+
+
+LAYOUT_3 = with_digest(LAYOUT_2)
+
+REFUSED = [
+    # (the image, code, name and number)
+    (LAYOUT_1[:136], "L1 Truncated"),
+    (LAYOUT_3[:960], "L1 Truncated"),
+    (b"", "L1 Truncated"),
+    (changed(LAYOUT_1, (0, b"\0")), "L2 BadMagic"),
+    (changed(LAYOUT_1, (8, b"\x09")), "L3 BadLayout 9"),
+    (changed(LAYOUT_1, (12, b"\2")), "L4 BadSection 0"),
+    (changed(LAYOUT_1, (112, b"\1")), "L4 BadSection 6"),
+    (changed(LAYOUT_2, (108, struct.pack("<i", 0))), "L4 BadSection 5"),
+    (LAYOUT_1 + b"\0", "L4 BadSection 9"),
+    (changed(LAYOUT_1, (104, b"\0")), "L5 BadKey 0"),
+    (changed(LAYOUT_2, (104 + 8 * 99, struct.pack("<2i", 1, 99))), "L5 BadKey 0"),
+    (changed(LAYOUT_1, (120, b"\2")), "L6 BadToken 0"),
+    (with_digest(changed(LAYOUT_2, (914, b"\2"))), "L6 BadToken 0"),
+    (changed(LAYOUT_1, (136, b"\x80")), "L7 BadText 0"),
+    (changed(LAYOUT_3, (960, bytes([LAYOUT_3[960] ^ 1]))), "L8 Digest"),
+    (changed(LAYOUT_3, (928, b"Y")), "L8 Digest"),
+]
+
+
+def of_refused(image, fault):
+    """A refused image: the system's and a user's of jseg, and the one that dictc compiles for."""
+    files = {"bad.img": image}
+    told = f"bad.img: {fault}"
+    yield Run(f"{fault}, -d", "jseg -d bad.img", "も\n", err=told, status=1, files=files)
+    yield Run(f"{fault}, -u", "jseg -d sys.img -u user.img -u bad.img", "も\n", err=told, status=1, files=files)
+    yield Run(f"{fault}, --dic", "dictc user --dic bad.img --out new.img user.csv", err=told, status=1, files=files)
+
+
+OTHER_SIZES = {"other.img": changed(LAYOUT_1, (20, b"\3"))}
+OLDER = {"1.img": LAYOUT_1, "2.img": LAYOUT_2, "3.img": LAYOUT_3}
+
+ROWS = [run for row in REFUSED for run in of_refused(*row)] + [
+    Run("layout 1", "jseg -d sys.img -u 1.img", "もも\n", "もも\tX\nEOS\n", files=OLDER),
+    Run("layout 2", "jseg -d sys.img -u 2.img", "a\n", "a\tX\nEOS\n", files=OLDER),
+    Run("layout 3", "jseg -d sys.img -u 3.img", "a\n", "a\tX\nEOS\n", files=OLDER),
+    Run("a user's as the system's", "jseg -d user.img", "も\n", err="user.img: O1 NotSystem", status=1),
+    Run("for a user's", "dictc user --dic user.img --out new.img user.csv", err="user.img: O1 NotSystem", status=1),
+    Run("the system's as a user's", "jseg -d sys.img -u sys.img", "も\n", err="sys.img: O2 NotUser 0", status=1),
+    Run("a second one", "jseg -d sys.img -u user.img -u sys.img", err="sys.img: O2 NotUser 1", status=1),
+    Run("for other sizes", "jseg -d sys.img -u other.img", err="other.img: O3 OtherSizes 0", status=1, files=OTHER_SIZES),
+    Run("O1 before O2", "jseg -d user.img -u sys.img", err="user.img: O1 NotSystem", status=1),
+    Run("O2 before O3", "jseg -d sys.img -u sys.img -u other.img", err="sys.img: O2 NotUser 0", status=1, files=OTHER_SIZES),
+    Run("a lexicon is read before O1", f"{USER.replace('sys', 'user')} none.csv", err="none.csv: F1 File", status=3),
+]

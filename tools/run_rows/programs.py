@@ -1,0 +1,115 @@
+"""The programs in a process of their own, under what a row says."""
+import os
+import resource
+import shlex
+import shutil
+import socket
+import subprocess
+import tempfile
+import tty
+from pathlib import Path
+
+NOBODY = 65534
+SECONDS = 60
+FAILING = Path(__file__).resolve().parent.parent / "fail.c"
+
+
+class Outcome:
+    """What a run printed, its status and the number of its process."""
+
+    def __init__(self, process, out, told):
+        self.out, self.told, self.status, self.pid = out, told, process.returncode, process.pid
+
+
+def limits(under, stdin_closed, stdout_closed):
+    """What is done in the process before the program begins."""
+
+    def begin():
+        if under.taken:
+            Path(under.taken.format(pid=os.getpid())).write_bytes(b"of a killed run")
+        if under.most:
+            resource.setrlimit(resource.RLIMIT_FSIZE, (under.most, under.most))
+        if under.memory:
+            resource.setrlimit(resource.RLIMIT_AS, (under.memory, under.memory))
+        for number in [0] * stdin_closed + [1] * stdout_closed:
+            os.close(number)
+
+    return begin
+
+
+def failing_input(text):
+    """The end of a terminal whose other end wrote a text and went away: behind the text a read fails."""
+    ours, theirs = os.openpty()
+    tty.setraw(theirs)
+    os.write(theirs, text)
+    os.close(theirs)
+    return ours
+
+
+def input_of(kind, text, folder):
+    if kind == "failing":
+        return failing_input(text)
+    return os.open(folder, os.O_RDONLY) if kind == "directory" else subprocess.PIPE
+
+
+def output_of(kind):
+    """Where standard output goes. What is told of it is read where it is kept."""
+    if kind == "unread":
+        reader, writer = os.pipe()
+        os.close(reader)
+        return writer
+    if kind == "file":
+        return os.open(tempfile.gettempdir(), os.O_RDWR | os.O_TMPFILE)
+    return os.open("/dev/full", os.O_WRONLY) if kind == "full" else subprocess.PIPE
+
+
+def messages(reader):
+    """What was written to a socket, a write each."""
+    reader.setblocking(False)
+    found = []
+    while True:
+        try:
+            message = reader.recv(1 << 20)
+        except BlockingIOError:
+            return found
+        if not message:
+            return found
+        found.append(message.decode())
+
+
+class Programs:
+    """The programs, copied to where nobody may run them, and a library whose calls fail."""
+
+    def __init__(self, folder, paths):
+        self.places = {path.name: shutil.copy(path, folder) for path in paths}
+        self.failing = folder / "fail.so"
+        subprocess.run(["gcc", "-std=c11", "-O2", "-shared", "-fPIC", FAILING, "-o", self.failing], check=True)
+        self.user = NOBODY if os.geteuid() == 0 else None
+
+    def run(self, words, text, folder, under):
+        words = shlex.split(words)
+        place = {"LD_PRELOAD": str(self.failing), "FAIL": under.fails} if under.fails else {}
+        stdin, stdout = input_of(under.stdin, text, folder), output_of(under.stdout)
+        reader, writer = socket.socketpair(socket.AF_UNIX, socket.SOCK_SEQPACKET)
+        stderr = os.open("/dev/full", os.O_WRONLY) if under.stderr == "full" else writer
+        process = subprocess.Popen(
+            [self.places[words[0]], *words[1:]],
+            stdin=stdin,
+            stdout=stdout,
+            stderr=stderr,
+            cwd=folder,
+            env=place,
+            user=self.user,
+            group=self.user,
+            extra_groups=None if self.user is None else [],
+            restore_signals=under.killed or not under.most,
+            preexec_fn=limits(under, under.stdin == "closed", under.stdout == "closed"),
+        )
+        out = process.communicate(text if stdin == subprocess.PIPE else None, SECONDS)[0]
+        if under.stdout == "file":
+            out = os.pread(stdout, 1 << 20, 0)
+        writer.close()
+        for end in (stdin, stdout, stderr):
+            if isinstance(end, int) and end >= 0:
+                os.close(end)
+        return Outcome(process, out or b"", messages(reader))

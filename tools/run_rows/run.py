@@ -1,0 +1,54 @@
+"""A run of a program: what it finds, what it is asked, and what it must do."""
+from pathlib import Path
+from typing import NamedTuple
+
+SAMPLE = Path(__file__).resolve().parent.parent.parent / "examples" / "sample"
+MATRIX, CHARS, UNK, LEXICON = ((SAMPLE / name).read_bytes() for name in ("matrix.def", "char.def", "unk.def", "lexicon.csv"))
+
+# What compiles the sources of the folder a, and a user dictionary, to new.img.
+DEFINITIONS = "--matrix a/matrix.def --char a/char.def --unk a/unk.def"
+SYSTEM = f"dictc system {DEFINITIONS} --out new.img"
+USER = "dictc user --dic sys.img --out new.img"
+
+# A file whose bytes no row tells.
+ANY = object()
+
+
+class Has(NamedTuple):
+    """A text that begins so, and has these words."""
+
+    begin: str
+    words: tuple = ()
+
+    def fits(self, text):
+        return text.startswith(self.begin) and all(word in text for word in self.words)
+
+
+class Under(NamedTuple):
+    """What a run meets beside its arguments, its files and its text."""
+
+    stdin: str = "text"  # directory, closed, or failing behind the text
+    stdout: str = "kept"  # full, closed, or unread: a pipe without a reader
+    stderr: str = "kept"  # full
+    most: int = 0  # how many bytes a file may have: a longer one fails. 0: any number
+    killed: bool = False  # a longer one kills the run
+    memory: int = 0  # how many bytes of memory it may take. 0: any number
+    fails: str = ""  # the call of the C library that fails: rename, fsync, write or fchmod
+    taken: str = ""  # a file that is there; {pid} in its name is the number of the process
+
+
+class Run(NamedTuple):
+    """A run in a new folder, in which the folder a has the sample's sources, sys.img is their image, user.img and second.img are images of
+    user dictionaries for it, and user.csv is the lexicon of the first."""
+
+    name: str
+    words: str  # the program and its arguments, as a shell takes them apart
+    text: str = ""  # on standard input
+    out: str = ""  # on standard output
+    err: str = ""  # on standard error: one line, behind the program's name and `: `
+    status: int = 0
+    files: dict = {}  # what else is there: bytes, None for what isn't, a Path for a link, {} for a folder
+    left: dict = {}  # what is changed: bytes, the name of a file that it is equal to, ANY, or None
+    modes: dict = {}  # who may read and write a file, before the run and behind it
+    then: str = ""  # a second command: it gets the text, and its output follows
+    under: Under = Under()
