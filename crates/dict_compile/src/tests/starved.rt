@@ -1,6 +1,6 @@
 //! Refused growths. A growth is refused where the tests run under `tools/refuse`, which looks for the line that says so.
 use crate::tests::samples::are_entries;
-use crate::{Compiled, CompileUserFault, compile, compile_user};
+use crate::{CompileUserFault, Compiled, compile, compile_user};
 use dict_image::{Dict, load};
 use mj_model::SourceKind::Memory;
 use mj_model::{ImageFault, SourceFault, sample};

@@ -51,7 +51,11 @@ fn refused_field(rt: HostRuntime) -> Result<(), Fail> {
                 field(rt.alloc(), line, number)?
             }
         };
-        assert_eq!(rt; found.as_ref().map(|text| text.as_str()), expected, "{number}");
+        assert_eq!(rt;
+            found.as_ref().map(|text| text.as_str()),
+            expected,
+            "{number}"
+        );
     }
     Ok(())
 }
@@ -71,6 +75,9 @@ fn refused_field_keeps_what_stands_before(rt: HostRuntime) -> Result<(), Fail> {
         out.truncate(2);
         assert!(rt; append_field(&mut out, long, 0)?);
     }
-    assert_eq!(rt; out.as_slice(), b"ab0123456789\"0123456789\"0123456789".as_slice());
+    assert_eq!(rt;
+        out.as_slice(),
+        b"ab0123456789\"0123456789\"0123456789".as_slice()
+    );
     Ok(())
 }
