@@ -16,5 +16,6 @@ mod refusals;
 mod rows;
 mod runs;
 mod samples;
+mod starved;
 mod users;
 mod words;
