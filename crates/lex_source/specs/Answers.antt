@@ -1,11 +1,13 @@
 -- What the readers of lines and lexicons answer.
-use Rattle.std.specs.Prelude.{◌≡◌, ◌⊎◌, ℕ, Bool, false, ◌==◌, List, [], ◌++◌, length, slice_get, is_some, unwrap_or, IsTrue, Option, Some, None, Result, Ok, MatchOption, MatchResult}
+use Rattle.std.specs.Prelude.{◌≡◌, ◌⊎◌, ℕ, Bool, false, ◌==◌, List, [], ◌++◌, length, slice_get, is_some, unwrap_or, IsTrue, Option, Some, None, Result, Ok, Err, MatchOption, MatchResult}
 use Rattle.std.specs.Borrow.{Bor}
 use Rattle.std.specs.List.{list_any}
 use Rattle.mj_model.specs.declared.entry.Record.{Record}
+use Rattle.mj_model.specs.declared.source_fault.SourceFault.{SourceFault}
 use Rattle.mj_model.specs.declared.source_fault.SourceKind.{SourceKind}
 use Rattle.mj_model.specs.declared.source_fault.SourceKind.TheVariants.{Memory, BadNumber}
 use Rattle.mj_model.specs.Fields.{AreFields}
+use Rattle.mj_model.specs.FirstFault.{IsRefusal}
 use Rattle.mj_model.specs.Lexicon.{Row, Parts, Outcome, Refused, Accepted, IsOutcome, IsLexicon, lexicon_outcome, row_of, rows_of}
 use Rattle.mj_model.specs.Lines.{is_blank_line}
 use Rattle.lex_source.specs.declared.outcome.LineOutcome.{LineOutcome}
@@ -80,6 +82,12 @@ AppendsLine number line old new counts =
 abbrev pub AppendsLexicon : ℕ → List ℕ → List Record → List Record → ℕ → Type 0
 AppendsLexicon file bytes old new skipped =
     (rows : List Row) × IsLexicon file (length old) bytes (Ok (record { rows = rows; skipped = skipped })) × (rows_of new ≡ rows_of old ++ rows)
+
+-- the records of a lexicon were appended, or it is refused at its first fault
+abbrev pub AnswersLexicon : ℕ → List ℕ → List Record → List Record → Result ℕ SourceFault → Type 0
+AnswersLexicon file bytes old new answer =
+    MatchResult answer (AppendsLexicon file bytes old new)
+    (λ fault. IsRefusal fault (IsLexicon file (length old) bytes (Err fault)))
 
 -- why a line is refused, where so many entries are held
 abbrev pub IsLineRefusal : ℕ → List ℕ → ℕ → SourceKind → Type 0

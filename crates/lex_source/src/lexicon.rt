@@ -2,7 +2,7 @@
 ghost use Rattle.std.specs.Prelude.{◌≡◌, length, take, IfOk, IfErr, OnErr, Ok, Err};
 ghost use Rattle.mj_model.specs.FirstFault.{IsRefusal};
 ghost use Rattle.mj_model.specs.Lexicon.{IsLexicon};
-ghost use Rattle.lex_source.specs.Answers.{AppendsLexicon, AppendsLine, IsLineRefusal};
+ghost use Rattle.lex_source.specs.Answers.{AnswersLexicon, AppendsLexicon, AppendsLine, IsLineRefusal};
 
 use crate::outcome::{LineOutcome, read_line};
 use crate::source_lines::lines;
@@ -37,10 +37,8 @@ fn append_lines(
     file: u32,
     out: &mut Vec<Record>,
 ) -> Result<u64, SourceFault>
-    ensures accepted { IfOk result (AppendsLexicon file bytes.now out.old.items out.new.items) }
-    ensures refused { IfErr result (λ fault. IsRefusal fault
-        (IsLexicon file (length out.old.items) bytes.now (Err fault))) }
     ensures begins { take (length out.old.items) out.new.items ≡ out.old.items }
+    ensures read { AnswersLexicon file bytes.now out.old.items out.new.items result }
 {
     let mut skipped = 0;
     for (number, line) in lines(bytes) {

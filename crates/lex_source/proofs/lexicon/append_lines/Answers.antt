@@ -14,8 +14,8 @@ overflow_add-skipped c =
 pub loop-number-preserved : goal.loop-number-preserved
 loop-number-preserved c = (tt, tt, taken _ _ _ _ _ _ _ _ _ _ c.in-Ok.counts c.loop-number.invariant.2 c.in-Some.ensures.steps c.in-Ok.ensures.taken (c.from-skipped.ensures ∙ counted_is c.in-Ok.counts))
 
-pub returns-in-Err-clause-refused : goal.returns-in-Err-clause-refused
-returns-in-Err-clause-refused c = rw c.at.ensures (refused _ _ c.args.bytes.now _ _ c.args.file c.in-Some.number _ _ c.in-Err.kind c.loop-number.invariant.2 c.in-Some.ensures.steps c.in-Err.ensures.refused)
+pub returns-in-Err-clause-read : goal.returns-in-Err-clause-read
+returns-in-Err-clause-read c = rw c.at.ensures (refused _ _ c.args.bytes.now _ _ c.args.file c.in-Some.number _ _ c.in-Err.kind c.loop-number.invariant.2 c.in-Some.ensures.steps c.in-Err.ensures.refused)
 
-pub returns-clause-accepted : goal.returns-clause-accepted
-returns-clause-accepted c = finished _ _ c.args.bytes.now _ c.args.file c.loop-number.skipped c.loop-number.invariant.2 c.in-None.ensures.steps.0
+pub returns-clause-read : goal.returns-clause-read
+returns-clause-read c = finished _ _ c.args.bytes.now _ c.args.file c.loop-number.skipped c.loop-number.invariant.2 c.in-None.ensures.steps.0
