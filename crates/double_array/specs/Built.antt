@@ -26,6 +26,14 @@ pub record IsBuilt (pool : Pool) : Type 0 where
   pub room : pool.top + 257 ≤ length pool.cells
   pub few : length pool.cells ≤ 2 ^ 30
 
+-- the state has the base from, the code is that of a byte or of a key's end, and there is room for a family to move
+pub record CanClear (pool : Pool) (s from code : ℕ) : Type 0 where
+  pub built : IsBuilt pool
+  pub based : base pool.cells s ≡ pos from
+  pub least : 2 ≤ from
+  pub code_within : code ≤ 256
+  pub room : pool.top + 514 ≤ length pool.cells
+
 -- the cell of a state's step on a code is free: the state has the number now, and the cell is the wanted one
 pub record IsCleared (old new : Pool) (s code now wanted : ℕ) : Type 0 where
   pub built : IsBuilt new

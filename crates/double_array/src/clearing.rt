@@ -1,7 +1,7 @@
 //! A free cell for a step that a state lacks.
 ghost use Rattle.std.specs.Prelude.{◌≡◌, ◌≢◌, ℕ, ◌+◌, ◌<◌, ◌≤◌, pos, None, length};
 ghost use Rattle.double_array.specs.CellMap.{base as base_of, check as check_of, step as step_of};
-ghost use Rattle.double_array.specs.Built.{IsBuilt, IsCleared};
+ghost use Rattle.double_array.specs.Built.{CanClear, IsBuilt, IsCleared};
 ghost use Rattle.double_array.specs.Moved.{HaveMoved};
 ghost use Rattle.double_array.specs.Moves.{HasFamily, IsFamilyOf};
 
@@ -42,7 +42,7 @@ pub(crate) fn clear_way(pool: &mut CellPool, state: usize, from: usize, code: us
             if size_of(&own) <= size_of(&others) {
                 move_own(pool, state, from, code, &own)
             } else {
-                move_other(pool, state, from, code, other, &others)
+                move_other(pool, other, &others, state, from, code)
             }
         }
     }
@@ -56,13 +56,9 @@ fn move_own(
     code: usize,
     family: &[bool; WIDTH],
 ) -> Cleared
-    requires built { IsBuilt pool.old }
-    requires based { base_of pool.old.cells state ≡ pos from }
-    requires least { 2 ≤ from }
-    requires code { code ≤ 256 }
+    requires can { CanClear pool.old state from code }
     requires none { step_of pool.old.cells state code ≡ None }
     requires used { (s : ℕ) × (check_of pool.old.cells (from + code) ≡ pos s) }
-    requires room { pool.old.top + 514 ≤ length pool.old.cells }
     requires family { IsFamilyOf pool.old.cells state from family.now }
     ensures cleared { IsCleared pool.old pool.new state code result.state result.wanted }
     ensures moved { HaveMoved pool.old.cells pool.new.cells result.moved }
@@ -83,19 +79,15 @@ fn move_own(
 /// followed.
 fn move_other(
     pool: &mut CellPool,
+    other: usize,
+    family: &[bool; WIDTH],
     state: usize,
     from: usize,
     code: usize,
-    other: usize,
-    family: &[bool; WIDTH],
 ) -> Cleared
-    requires built { IsBuilt pool.old }
-    requires based { base_of pool.old.cells state ≡ pos from }
-    requires least { 2 ≤ from }
-    requires code { code ≤ 256 }
+    requires can { CanClear pool.old state from code }
     requires used { check_of pool.old.cells (from + code) ≡ pos other }
     requires apart { state ≢ other }
-    requires room { pool.old.top + 514 ≤ length pool.old.cells }
     requires family { HasFamily pool.old.cells other family.now }
     ensures cleared { IsCleared pool.old pool.new state code result.state result.wanted }
     ensures moved { HaveMoved pool.old.cells pool.new.cells result.moved }

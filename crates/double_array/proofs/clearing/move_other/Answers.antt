@@ -13,15 +13,15 @@ use Rattle.double_array.proofs.clearing.move_other.Goals.{then-is_child, else-is
 move : (c : goal.After-relocate-moved) → IsMove c.args.pool.now.cells c.relocate-moved.new.pool.cells c.args.other c.find_free_base-to.result
 move c = subst (λ (p : Pool). IsMove p.cells c.relocate-moved.new.pool.cells c.args.other c.find_free_base-to.result) c.find_free_base-to.ensures.kept c.relocate-moved.ensures.moved
 
-follows : (c : goal.After-relocate-moved) → Renames values c.args.pool.now.cells c.relocate-moved.new.pool.cells c.args.other c.find_free_base-to.result c.requires.built.rules c.requires.built.on_keys (move c) c.args.state c.if-is_child.follow
+follows : (c : goal.After-relocate-moved) → Renames values c.args.pool.now.cells c.relocate-moved.new.pool.cells c.args.other c.find_free_base-to.result c.requires.can.built.rules c.requires.can.built.on_keys (move c) c.args.state c.if-is_child.follow
 follows c =
     let kept = c.find_free_base-to.ensures.kept in
     let same : check c.find_free_base-to.new.self.cells c.args.state ≡ check c.args.pool.now.cells c.args.state = ap (λ (p : Pool). check p.cells c.args.state) kept in
     elim c.if-is_child.branch [
       | then-is_child w ↦
           let named : check c.args.pool.now.cells c.args.state ≡ pos c.args.other = sym same ∙ c.is_child.ensures.0 w.if-is_child.true in
-          subst (Renames values c.args.pool.now.cells c.relocate-moved.new.pool.cells c.args.other c.find_free_base-to.result c.requires.built.rules c.requires.built.on_keys (move c) c.args.state) (sym w.follow-is)
-          (goes_along c.args.pool.now c.relocate-moved.new.pool c.args.state c.args.other c.base-other_from.result c.find_free_base-to.result c.requires.built (move c) c.base-other_from.ensures named)
+          subst (Renames values c.args.pool.now.cells c.relocate-moved.new.pool.cells c.args.other c.find_free_base-to.result c.requires.can.built.rules c.requires.can.built.on_keys (move c) c.args.state) (sym w.follow-is)
+          (goes_along c.args.pool.now c.relocate-moved.new.pool c.args.state c.args.other c.base-other_from.result c.find_free_base-to.result c.requires.can.built (move c) c.base-other_from.ensures named)
       | else-is_child w ↦
           inr ((λ named. let t = c.is_child.ensures.1 (same ∙ named) in let f : true ≡ false = sym t ∙ w.if-is_child.false in absurd (cc)), w.follow-is)
     ]
@@ -33,11 +33,11 @@ returns-clause-cleared c =
     let e = c.relocate-moved.ensures in
     let new = c.relocate-moved.new.pool in
     let top : new.top ≤ c.args.pool.now.top + 257 = subst (λ (p : Pool). new.top ≤ p.top + 257) f.ensures.kept e.top in
-    cleared_by_other c.args.pool.now new c.args.state c.args.from c.args.code c.args.other c.base-other_from.result f.result c.if-is_child.follow c.args.family.now r.built r.based r.least r.code r.used r.apart r.room (move c) e.bases e.root top (follows c)
+    cleared_by_other c.args.pool.now new c.args.state c.args.from c.args.code c.args.other c.base-other_from.result f.result c.if-is_child.follow c.args.family.now r.can.built r.can.based r.can.least r.can.code_within r.used r.apart r.can.room (move c) e.bases e.root top (follows c)
 
 pub returns-clause-moved : goal.returns-clause-moved
 returns-clause-moved c =
     let r = c.requires in
     let f = c.find_free_base-to in
     let count = subst (λ (p : Pool). c.relocate-moved.result ≡ children p.cells c.args.other) f.ensures.kept c.relocate-moved.ensures.count in
-    other_family_moved c.args.pool.now c.relocate-moved.new.pool c.args.other (c.args.from + c.args.code) c.base-other_from.result f.result c.relocate-moved.result c.args.family.now r.built r.used c.base-other_from.ensures f.ensures.least r.family f.ensures.free (move c) count
+    other_family_moved c.args.pool.now c.relocate-moved.new.pool c.args.other (c.args.from + c.args.code) c.base-other_from.result f.result c.relocate-moved.result c.args.family.now r.can.built r.used c.base-other_from.ensures f.ensures.least r.family f.ensures.free (move c) count

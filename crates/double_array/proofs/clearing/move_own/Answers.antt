@@ -10,7 +10,7 @@ use Rattle.double_array.proofs.clearing.move_own.Goals as goal
 pub relocate-moved-requires-clause-member : goal.relocate-moved-requires-clause-member
 relocate-moved-requires-clause-member c =
     let r = c.requires in
-    has_code c.args.pool.now c.args.state c.args.from (c.args.from + c.args.code) r.used.0 c.args.family.now r.built r.based r.least r.used.1 r.family
+    has_code c.args.pool.now c.args.state c.args.from (c.args.from + c.args.code) r.used.0 c.args.family.now r.can.built r.can.based r.can.least r.used.1 r.family
 
 pub relocate-moved-requires-clause-fits : goal.relocate-moved-requires-clause-fits
 relocate-moved-requires-clause-fits c =
@@ -25,7 +25,7 @@ returns-clause-cleared c =
     let new = c.relocate-moved.new.pool in
     let move = subst (λ (p : Pool). IsMove p.cells new.cells c.args.state f.result) f.ensures.kept e.moved in
     let top : new.top ≤ c.args.pool.now.top + 257 = subst (λ (p : Pool). new.top ≤ p.top + 257) f.ensures.kept e.top in
-    cleared_by_own c.args.pool.now new c.args.state c.args.from c.args.code f.result c.args.family.now r.built r.based r.least r.code r.none r.family f.ensures.free f.ensures.least f.ensures.top r.room move e.bases e.root top
+    cleared_by_own c.args.pool.now new c.args.state c.args.from c.args.code f.result c.args.family.now r.can.built r.can.based r.can.least r.can.code_within r.none r.family f.ensures.free f.ensures.least f.ensures.top r.can.room move e.bases e.root top
 
 pub returns-clause-moved : goal.returns-clause-moved
 returns-clause-moved c =
@@ -36,6 +36,6 @@ returns-clause-moved c =
     let new = c.relocate-moved.new.pool in
     let move = subst (λ (p : Pool). IsMove p.cells new.cells c.args.state f.result) f.ensures.kept e.moved in
     let count = subst (λ (p : Pool). c.relocate-moved.result ≡ children p.cells c.args.state) f.ensures.kept e.count in
-    let member = has_code old c.args.state c.args.from (c.args.from + c.args.code) r.used.0 c.args.family.now r.built r.based r.least r.used.1 r.family in
-    family_moved old.cells new.cells c.args.state c.args.from f.result c.relocate-moved.result member.0 c.args.family.now r.based r.least f.ensures.least r.family member.1
+    let member = has_code old c.args.state c.args.from (c.args.from + c.args.code) r.used.0 c.args.family.now r.can.built r.can.based r.can.least r.used.1 r.family in
+    family_moved old.cells new.cells c.args.state c.args.from f.result c.relocate-moved.result member.0 c.args.family.now r.can.based r.can.least f.ensures.least r.family member.1
     (fits_less old.cells c.args.family.now c.args.code f.result f.ensures.free) move count
