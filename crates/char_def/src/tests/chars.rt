@@ -7,47 +7,54 @@ use mj_model::{Category, sample};
 use std::test::Fail;
 
 #[test]
-fn char_def_lines(rt: HostRuntime) -> Result<(), Fail> {
+fn lines_of_a_category(rt: HostRuntime) -> Result<(), Fail> {
     #[rattlefmt::skip]
     let rows = [
-        // (what, lines behind the sample's 12, the fault and its line)
-        ("tabs and a comment", "SYMBOL\t\t0 0 2  # two at most", None),
-        ("a comment alone", "# ideographs", None),
-        ("blanks before a comment", " \t# KANJI 9", None),
-        ("a word behind the fourth", "SYMBOL 1 0 15 more", None),
-        ("signs", "SYMBOL +1 -0 015", None),
-        ("a range and a comment", "0x4e00..0x9FFF KANJI # ideographs", None),
-        ("the last code point of the plane", "0xFFFF KANJI", None),
-        ("the last code point", "0x10ffff KANJI ALPHA KANJI", None),
-        ("leading zeros", "0x00000000000041 ALPHA", None),
-        ("LENGTH above 15", "SYMBOL 0 0 16", Some((BadLine, 13))),
-        ("INVOKE above 1", "SYMBOL 2 0 0", Some((BadLine, 13))),
-        ("too few words", "SYMBOL 0 0", Some((BadLine, 13))),
-        ("a comment in the numbers", "SYMBOL 0 0 #2", Some((BadLine, 13))),
-        ("no name", "0x41", Some((BadLine, 13))),
-        ("no name, no digits", "0xZZ", Some((BadLine, 13))),
-        ("no digit", "0x KANJI", Some((BadRange, 13))),
-        ("a wrong digit", "0x4G KANJI", Some((BadRange, 13))),
-        ("low above high", "0x9FFF..0x4E00 KANJI", Some((BadRange, 13))),
-        ("above Unicode", "0x110000 KANJI", Some((BadRange, 13))),
-        ("above 32 bits", "0x100000041 KANJI", Some((BadRange, 13))),
-        ("high end without 0x", "0x41..42 KANJI", Some((BadRange, 13))),
-        ("one full stop", "0x41.0x42 KANJI", Some((BadRange, 13))),
-        ("three ends", "0x41..0x42..0x43 KANJI", Some((BadRange, 13))),
-        ("a second line of a name", "KANJI 0 0 2", Some((Twice, 13))),
-        ("no such category", "0x3007 OTHER", Some((UndefinedCategory, 13))),
-        ("blanks around the full stops", "0x41 .. 0x42", Some((UndefinedCategory, 13))),
-        ("a bad line behind", "0x3007 OTHER\nSYMBOL", Some((BadLine, 14))),
-        ("defined behind", "0x3007 SYMBOL\nSYMBOL 0 0 0", None),
+        // (a line behind the sample's 12, INVOKE, GROUP, LENGTH)
+        ("SYMBOL\t\t0 0 2  # two at most", false, false, 2),
+        ("SYMBOL 1 0 15 more",            true,  false, 15),
+        ("SYMBOL +1 -0 015",              true,  false, 15),
+        ("SYMBOL 0 1 0\r\n\n",            false, true,  0),
     ];
-    for (what, further, expected) in rows {
+    for (further, invoke, group, length) in rows {
+        let table = chars_with(&rt, further)?;
+        #[rattlefmt::skip]
+        let expected = Category { invoke, group, length };
+        assert!(rt; table.count() == 7, "{further}");
+        assert_eq!(rt; table.name(6), "SYMBOL");
+        assert!(rt; table.category(6) == expected, "{further}");
+    }
+    Ok(())
+}
+
+#[test]
+fn refused_lines(rt: HostRuntime) -> Result<(), Fail> {
+    #[rattlefmt::skip]
+    let rows = [
+        // (what, lines behind the sample's 12, the fault, its line)
+        ("LENGTH above 15", "SYMBOL 0 0 16", BadLine, 13),
+        ("INVOKE above 1", "SYMBOL 2 0 0", BadLine, 13),
+        ("too few words", "SYMBOL 0 0", BadLine, 13),
+        ("a comment in the numbers", "SYMBOL 0 0 #2", BadLine, 13),
+        ("no name", "0x41", BadLine, 13),
+        ("no name, no digits", "0xZZ", BadLine, 13),
+        ("no digit", "0x KANJI", BadRange, 13),
+        ("a wrong digit", "0x4G KANJI", BadRange, 13),
+        ("low above high", "0x9FFF..0x4E00 KANJI", BadRange, 13),
+        ("above Unicode", "0x110000 KANJI", BadRange, 13),
+        ("above 32 bits", "0x100000041 KANJI", BadRange, 13),
+        ("high end without 0x", "0x41..42 KANJI", BadRange, 13),
+        ("one full stop", "0x41.0x42 KANJI", BadRange, 13),
+        ("three ends", "0x41..0x42..0x43 KANJI", BadRange, 13),
+        ("a second line of a name", "KANJI 0 0 2", Twice, 13),
+        ("no such category", "0x3007 OTHER", UndefinedCategory, 13),
+        ("blanks around the full stops", "0x41 .. 0x42", UndefinedCategory, 13),
+        ("a bad line behind", "0x3007 OTHER\nSYMBOL", BadLine, 14),
+    ];
+    for (what, further, kind, line) in rows {
         let bytes = with_lines(&rt, sample().chars, further)?;
         let fault = read_chars(rt.alloc(), &bytes).err();
-        assert_eq!(rt;
-            fault,
-            expected.map(|(kind, line)| kind.at(1, line)),
-            "{what}"
-        );
+        assert_eq!(rt; fault, Some(kind.at(1, line)), "{what}");
     }
     Ok(())
 }
@@ -91,10 +98,17 @@ fn categories(rt: HostRuntime) -> Result<(), Fail> {
 }
 
 #[test]
-fn beyond_the_basic_plane(rt: HostRuntime) -> Result<(), Fail> {
+fn categories_of_code_points(rt: HostRuntime) -> Result<(), Fail> {
     #[rattlefmt::skip]
     let rows = [
         // (what, further lines, code point, set of categories, first category)
+        ("a comment alone", "# 0x41 KANJI", 0x41, 4, 2),
+        ("blanks before a comment", " \t# KANJI 9", 0x41, 4, 2),
+        ("leading zeros", "0x00000000000041 KANJI", 0x41, 16, 4),
+        ("a range and a comment", "0x100..0x1fF KANJI # ideographs", 0x1FF, 16, 4),
+        ("a name twice", "0x10ffff KANJI ALPHA KANJI", 0x10FFFF, 20, 4),
+        ("defined behind", "0x3007 SYMBOL\nSYMBOL 0 0 0", 0x3007, 64, 6),
+        ("the last code point of the plane", "0xFFFF KANJI", 0xFFFF, 16, 4),
         ("not mapped", "", 0x20BB7, 1, 0),
         ("a surrogate", "", 0xD800, 1, 0),
         ("the first code point", "0x0000 KANJI", 0, 16, 4),

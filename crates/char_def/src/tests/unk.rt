@@ -12,24 +12,42 @@ fn read(rt: &HostRuntime, bytes: &[u8]) -> Result<Result<UnkTable, SourceFault>,
 }
 
 #[test]
-fn unk_def_lines(rt: HostRuntime) -> Result<(), Fail> {
+fn lines_of_kanji(rt: HostRuntime) -> Result<(), Fail> {
     #[rattlefmt::skip]
     let rows = [
-        // (what, lines behind the sample's 6, the fault of the first of them)
-        ("a second line of a category",    "KANJI,0,0,-5,Y,Z\n",      None),
-        ("a blank line",                   " \t\n",                   None),
-        ("quotes",                         "\"KANJI\",1,1,1,Y\n",     None),
-        ("too few fields",                 "KANJI,1,1,1\n",           Some(TooFewFields)),
-        ("a bad number",                   "OTHER,1,1,40000,Y\n",     Some(BadNumber)),
-        ("no such category",               "OTHER,1,1,1,Y\n",         Some(NoSuchCategory)),
-        ("an empty name",                  ",1,1,1,Y\n",              Some(NoSuchCategory)),
-        ("an empty name and a bad number", ",x,1,1,Y\n",              Some(BadNumber)),
-        ("the first bad line",             "OTHER,1,1,1,Y\nKANJI\n",  Some(NoSuchCategory)),
+        // (what, a line behind the sample's 6, how many lines KANJI has then, the last one's cost)
+        ("a second line", "KANJI,0,0,-5,Y,Z\n",  2, -5),
+        ("a blank line",  " \t\n",              1, 1_000),
+        ("quotes",        "\"KANJI\",1,1,1,Y\n", 2, 1),
     ];
-    for (what, further, kind) in rows {
+    for (what, further, count, cost) in rows {
+        let bytes = with_lines(&rt, sample().unk, further)?;
+        let unknown = read(&rt, &bytes)??;
+        assert!(rt; unknown.count() == 6, "{what}");
+        let kanji = unknown.lines(4);
+        let last = kanji.last().map(|line| line.entry.cost);
+        assert_eq!(rt; (kanji.len(), last), (count, Some(cost)), "{what}");
+    }
+    Ok(())
+}
+
+#[test]
+fn refused_lines_of_unk_def(rt: HostRuntime) -> Result<(), Fail> {
+    #[rattlefmt::skip]
+    let rows = [
+        // (what, lines behind the sample's 6, the fault, its line)
+        ("too few fields",                 "KANJI,1,1,1\n",           TooFewFields, 7),
+        ("a bad number",                   "OTHER,1,1,40000,Y\n",     BadNumber, 7),
+        ("no such category",               "OTHER,1,1,1,Y\n",         NoSuchCategory, 7),
+        ("an empty name",                  ",1,1,1,Y\n",              NoSuchCategory, 7),
+        ("an empty name and a bad number", ",x,1,1,Y\n",              BadNumber, 7),
+        ("the first bad line",             "OTHER,1,1,1,Y\nKANJI\n",  NoSuchCategory, 7),
+        ("behind a good line",             "KANJI,1,1,1,Y\nKANJI\n",  TooFewFields, 8),
+    ];
+    for (what, further, kind, line) in rows {
         let bytes = with_lines(&rt, sample().unk, further)?;
         let fault = read(&rt, &bytes)?.err();
-        assert_eq!(rt; fault, kind.map(|kind| kind.at(2, 7)), "{what}");
+        assert_eq!(rt; fault, Some(kind.at(2, line)), "{what}");
     }
     Ok(())
 }
