@@ -1,4 +1,5 @@
 //! Images made by hand: their dictionaries, and their changes with the faults that are told.
+mod changes;
 mod checked_system;
 mod checked_user;
 mod damaged;

@@ -1,6 +1,7 @@
 //! A system image with one category and one unknown token, and its changes.
 use crate::check::check_image;
-use crate::tests::images::{Change, changed, image, sealed};
+use crate::tests::changes::{Row, expect_faults};
+use crate::tests::images::{image, sealed};
 use mj_model::ImageFault::{BadSection, BadText, BadToken};
 use std::alloc::{AllocError, Global};
 use std::test::Fail;
@@ -23,8 +24,7 @@ fn one_category(alloc: Global, ranges: &[u8]) -> Result<Vec<u8>, AllocError> {
 fn changes_of_sections(rt: HostRuntime) -> Result<(), Fail> {
     let body = one_category(rt.alloc(), ONE_RANGE)?;
     #[rattlefmt::skip]
-    let rows: [(&str, &[Change<'_>], _); 18] = [
-        // (what, bytes from a place on, the fault)
+    let rows: [Row<'_>; 18] = [
         ("no change",             &[],               None),
         ("no categories",         &[(24, b"\0")],    Some(BadSection(0))),
         ("19 categories",         &[(24, b"\x13")],  Some(BadSection(0))),
@@ -44,11 +44,7 @@ fn changes_of_sections(rt: HostRuntime) -> Result<(), Fail> {
         ("right id 1",            &[(147, b"\x01")], Some(BadToken(0))),
         ("feature not UTF-8",     &[(161, b"\x80")], Some(BadText(0))),
     ];
-    for (what, changes, expected) in rows {
-        let bytes = sealed(rt.alloc(), &changed(rt.alloc(), &body, changes)?)?;
-        assert_eq!(rt; check_image(rt.alloc(), &bytes).err(), expected, "{what}");
-    }
-    Ok(())
+    expect_faults(&rt, &body, true, &rows)
 }
 
 #[test]

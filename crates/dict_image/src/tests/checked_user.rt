@@ -1,5 +1,6 @@
 //! The user image of layout 3 with the one surface `a`, and its changes.
 use crate::check::check_image;
+use crate::tests::changes::{Row, expect_faults};
 use crate::tests::images::{Change, changed, one_surface, sealed};
 use mj_model::ImageFault::{
     BadKey, BadLayout, BadMagic, BadSection, BadText, BadToken, Digest, Truncated,
@@ -17,8 +18,7 @@ fn changes_before_the_digest(rt: HostRuntime) -> Result<(), Fail> {
     let body = one_surface(rt.alloc())?;
     assert_eq!(rt; body.len(), 929);
     #[rattlefmt::skip]
-    let rows: [(&str, &[Change<'_>], _); 23] = [
-        // (what, bytes from a place on, the fault)
+    let rows: [Row<'_>; 23] = [
         ("no change", &[], None),
         ("magic", &[(0, b"m")], Some(BadMagic)),
         ("layout 0", &[(8, b"\0")], Some(BadLayout(0))),
@@ -43,11 +43,7 @@ fn changes_before_the_digest(rt: HostRuntime) -> Result<(), Fail> {
         ("spare bytes", &[(918, b"\x01")], Some(BadToken(0))),
         ("feature length 2", &[(924, b"\x02")], Some(BadText(0))),
     ];
-    for (what, changes, expected) in rows {
-        let bytes = sealed(rt.alloc(), &changed(rt.alloc(), &body, changes)?)?;
-        assert_eq!(rt; check_image(rt.alloc(), &bytes).err(), expected, "{what}");
-    }
-    Ok(())
+    expect_faults(&rt, &body, true, &rows)
 }
 
 #[test]

@@ -1,6 +1,7 @@
 //! The user image of layout 1 with the one surface `もも`, and its changes.
 use crate::load;
-use crate::tests::images::{Change, LAYOUT_1, changed};
+use crate::tests::changes::{Row, expect_faults};
+use crate::tests::images::{LAYOUT_1, changed};
 use crate::tests::questions::are_entries;
 use mj_model::ImageFault::{BadKey, BadLayout, BadMagic, BadSection, BadText, BadToken, Truncated};
 use mj_model::MatrixSizes;
@@ -19,8 +20,7 @@ fn layout_1_vector(rt: HostRuntime) -> Result<(), Fail> {
 #[test]
 fn changes_of_layout_1(rt: HostRuntime) -> Result<(), Fail> {
     #[rattlefmt::skip]
-    let rows: [(&str, &[Change<'_>], _); 29] = [
-        // (what, bytes from a place on, the fault)
+    let rows: [Row<'_>; 29] = [
         ("no change",                        &[],                            None),
         ("byte 0",                           &[(0, b"\0")],                  Some(BadMagic)),
         ("layout 9",                         &[(8, b"\x09")],                Some(BadLayout(9))),
@@ -51,11 +51,7 @@ fn changes_of_layout_1(rt: HostRuntime) -> Result<(), Fail> {
         ("the key cut inside a character",   &[(104, b"\x05")],              Some(BadKey(0))),
         ("a longer key than the section",    &[(104, b"\x07")],              Some(BadKey(0))),
     ];
-    for (what, changes, expected) in rows {
-        let bytes = changed(rt.alloc(), &LAYOUT_1, changes)?;
-        assert_eq!(rt; load(rt.alloc(), bytes).err(), expected, "{what}");
-    }
-    Ok(())
+    expect_faults(&rt, &LAYOUT_1, false, &rows)
 }
 
 #[test]

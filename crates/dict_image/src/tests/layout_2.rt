@@ -1,5 +1,6 @@
 //! The user image of layout 2 with the one surface `a`, and its changes.
 use crate::load;
+use crate::tests::changes::{Row, expect_faults};
 use crate::tests::images::{Change, changed, image, layout_2};
 use crate::tests::questions::are_entries;
 use mj_model::ImageFault::{self, BadKey, BadSection, BadText, BadToken, Truncated};
@@ -26,8 +27,7 @@ fn changes_of_layout_2(rt: HostRuntime) -> Result<(), Fail> {
     let bytes = layout_2(rt.alloc())?;
     assert_eq!(rt; bytes.len(), 929);
     #[rattlefmt::skip]
-    let rows: [(&str, &[Change<'_>], _); 17] = [
-        // (what, bytes from a place on, the fault)
+    let rows: [Row<'_>; 17] = [
         ("no change",                &[],                                   None),
         ("cell 1 is (-1, 98)",       &[(112, b"\xff\xff\xff\xff\x62\0\0\0")], Some(BadSection(5))),
         ("cell 1 is (-2, 99)",       &[(112, b"\xfe\xff\xff\xff\x63\0\0\0")], Some(BadSection(5))),
@@ -46,11 +46,7 @@ fn changes_of_layout_2(rt: HostRuntime) -> Result<(), Fail> {
         ("layout 1: cells are no keys", &[(8, b"\x01")],                       Some(BadSection(5))),
         ("layout 3: 32 bytes missing", &[(8, b"\x03")],                       Some(Truncated)),
     ];
-    for (what, changes, expected) in rows {
-        let damaged = changed(rt.alloc(), &bytes, changes)?;
-        assert_eq!(rt; load(rt.alloc(), damaged).err(), expected, "{what}");
-    }
-    Ok(())
+    expect_faults(&rt, &bytes, false, &rows)
 }
 
 /// A cell of which no key has need, and a ring of one state on no key.

@@ -1,9 +1,10 @@
 //! User images of layout 1 with several keys.
-use crate::load;
 use crate::tests::images::image;
 use crate::tests::questions::{are_entries, are_prefixes};
+use crate::{Dict, load};
 use mj_model::ImageFault::{self, BadKey, BadSection};
 use std::alloc::{AllocError, Global};
+use std::process::Abort;
 use std::test::Fail;
 
 /// The user image of a section 5 that is to list so many keys. Group i has the one token i, whose cost is i.
@@ -47,12 +48,22 @@ fn entries_of_five_keys(rt: HostRuntime) -> Result<(), Fail> {
     Ok(())
 }
 
+/// A text, and the lengths of its prefixes, each with its token.
+type Prefixes = (&'static str, &'static [(usize, u32)]);
+
+/// Asks for the prefixes of each text. No cells are read for them.
+fn expect_prefixes(rt: &impl Abort, dict: &Dict, rows: &[Prefixes]) -> Result<(), Fail> {
+    for (text, expected) in rows {
+        assert!(rt; are_prefixes(dict, text, expected, 0), "{text}");
+    }
+    Ok(())
+}
+
 #[test]
 fn prefixes_of_five_keys(rt: HostRuntime) -> Result<(), Fail> {
     let dict = load(rt.alloc(), with_keys(rt.alloc(), 5, FIVE)?)?;
     #[rattlefmt::skip]
-    let rows: [(&str, &[(usize, u32)]); 8] = [
-        // (text, the lengths of its prefixes, each with its token)
+    let rows: [Prefixes; 8] = [
         ("abcd",   &[(1, 0), (2, 1), (3, 2)]),
         ("ab",     &[(1, 0), (2, 1)]),
         ("ac",     &[(1, 0)]),
@@ -62,10 +73,7 @@ fn prefixes_of_five_keys(rt: HostRuntime) -> Result<(), Fail> {
         ("x",      &[]),
         ("",       &[]),
     ];
-    for (text, expected) in rows {
-        assert!(rt; are_prefixes(&dict, text, expected, 0), "{text}");
-    }
-    Ok(())
+    expect_prefixes(&rt, &dict, &rows)
 }
 
 /// Keys far behind the shorter ones that begin them, and texts that end before a longer key.
@@ -74,8 +82,7 @@ fn keys_between_others(rt: HostRuntime) -> Result<(), Fail> {
     let keys = b"\x01\0a\x03\0aab\x03\0abc\x04\0abcd\x01\0c";
     let dict = load(rt.alloc(), with_keys(rt.alloc(), 5, keys)?)?;
     #[rattlefmt::skip]
-    let rows: [(&str, &[(usize, u32)]); 6] = [
-        // (text, the lengths of its prefixes, each with its token)
+    let rows: [Prefixes; 6] = [
         ("abcd", &[(1, 0), (3, 2), (4, 3)]),
         ("abce", &[(1, 0), (3, 2)]),
         ("aab",  &[(1, 0), (3, 1)]),
@@ -83,10 +90,7 @@ fn keys_between_others(rt: HostRuntime) -> Result<(), Fail> {
         ("c",    &[(1, 4)]),
         ("b",    &[]),
     ];
-    for (text, expected) in rows {
-        assert!(rt; are_prefixes(&dict, text, expected, 0), "{text}");
-    }
-    Ok(())
+    expect_prefixes(&rt, &dict, &rows)
 }
 
 #[test]

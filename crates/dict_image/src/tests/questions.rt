@@ -8,20 +8,16 @@ pub(crate) type Expected = (u32, u16, u16, i16, &'static str);
 
 /// Whether these are the entries of a key, and there are no others.
 pub(crate) fn are_entries(dict: &Dict, key: &str, expected: &[Expected]) -> bool {
-    let mut entries = dict.entries(key);
-    for (token, left, right, cost, feature) in expected {
-        let entry = EntryRef {
-            left: *left,
-            right: *right,
-            cost: *cost,
-            feature,
-            token: *token,
-        };
-        if entries.next() != Some(entry) {
-            return false;
-        }
-    }
-    entries.next().is_none()
+    let entries = dict.entries(key);
+    entries
+        .map(|entry| (
+            entry.token,
+            entry.left,
+            entry.right,
+            entry.cost,
+            entry.feature,
+        ))
+        .eq(expected.iter().copied())
 }
 
 /// Whether these are the lengths of the keys that begin a text, each key with a first entry of this number, and there are no others.
