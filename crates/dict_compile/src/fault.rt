@@ -14,6 +14,17 @@ pub enum CompileUserFault {
     Source(SourceFault),
 }
 
+impl From<SourceFault> for CompileUserFault {
+    ghost use Rattle.std.specs.Prelude.{◌≡◌};
+    ghost use Rattle.dict_compile.specs.declared.fault.CompileUserFault.TheVariants.{Source};
+
+    ghost from_gives = { λ fault result. result ≡ Source fault };
+
+    fn from(fault: SourceFault) -> CompileUserFault {
+        CompileUserFault::Source(fault)
+    }
+}
+
 impl NamedFault for CompileUserFault {
     ghost use Rattle.dict_compile.specs.Faults.{user_words};
 
@@ -24,16 +35,5 @@ impl NamedFault for CompileUserFault {
             CompileUserFault::NotSystem => ("O1", "NotSystem"),
             CompileUserFault::Source(fault) => fault.words(),
         }
-    }
-}
-
-impl From<SourceFault> for CompileUserFault {
-    ghost use Rattle.std.specs.Prelude.{◌≡◌};
-    ghost use Rattle.dict_compile.specs.declared.fault.CompileUserFault.TheVariants.{Source};
-
-    ghost from_gives = { λ fault result. result ≡ Source fault };
-
-    fn from(fault: SourceFault) -> CompileUserFault {
-        CompileUserFault::Source(fault)
     }
 }

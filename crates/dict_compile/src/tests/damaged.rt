@@ -3,11 +3,12 @@ use crate::tests::samples::sample_dict;
 use crate::{compile, compile_user};
 use dict_image::load;
 use mj_model::ImageFault::{
-    BadLayout, BadMagic, BadSection, BadText, BadToken, Digest as BadDigest, Truncated,
+    self, BadLayout, BadMagic, BadSection, BadText, BadToken, Digest as BadDigest, Truncated,
 };
 use mj_model::sample;
 use sha2::{Digest, Sha256};
-use std::alloc::{AllocError, Global};
+use std::alloc::{Alloc, AllocError, Global};
+use std::process::Abort;
 use std::test::Fail;
 
 /// How many bytes the digest has.
@@ -31,6 +32,22 @@ fn sealed_with(alloc: Global, image: &[u8], at: usize, byte: u8) -> Result<Vec<u
     Ok(new)
 }
 
+/// What is changed, a place, the byte that stands there then, and the fault that is told of it.
+type Row = (&'static str, usize, u8, Option<ImageFault>);
+
+/// Loads the image with the change of each row, and with the digest of its bytes then.
+fn expect_faults(
+    rt: &(impl Abort + Alloc<A = Global>),
+    image: &[u8],
+    rows: &[Row],
+) -> Result<(), Fail> {
+    for (what, at, byte, fault) in rows {
+        let changed = sealed_with(rt.alloc(), image, *at, *byte)?;
+        assert_eq!(rt; load(rt.alloc(), changed).err(), *fault, "{what}");
+    }
+    Ok(())
+}
+
 /// The sample's image. Its sections 1 and 2 have 8 and 62 bytes, so that its first range stands at byte 174.
 fn system_image(alloc: Global) -> Result<Vec<u8>, Fail> {
     Ok(compile(alloc, &sample())?.image)
@@ -42,8 +59,7 @@ fn changes_before_the_digest(rt: HostRuntime) -> Result<(), Fail> {
     let first_ranges = b"\0\0\0\0\x01\0\0\0\x20\0\0\0".as_slice();
     assert!(rt; image.get(174..186) == Some(first_ranges));
     #[rattlefmt::skip]
-    let rows = [
-        // (what, place, byte, fault)
+    let rows: [Row; 9] = [
         ("no change",                         0,   b'M', None),
         ("byte 0",                            0,   0,    Some(BadMagic)),
         ("layout 9",                          8,   9,    Some(BadLayout(9))),
@@ -54,11 +70,7 @@ fn changes_before_the_digest(rt: HostRuntime) -> Result<(), Fail> {
         ("two equal first code points",       182, 0,    Some(BadSection(3))),
         ("cell 0 has check -1",               310, 255,  Some(BadSection(5))),
     ];
-    for (what, at, byte, fault) in rows {
-        let changed = sealed_with(rt.alloc(), &image, at, byte)?;
-        assert_eq!(rt; load(rt.alloc(), changed).err(), fault, "{what}");
-    }
-    Ok(())
+    expect_faults(&rt, &image, &rows)
 }
 
 #[test]
@@ -102,22 +114,18 @@ fn other_lengths(rt: HostRuntime) -> Result<(), Fail> {
 fn changes_of_the_token(rt: HostRuntime) -> Result<(), Fail> {
     let system = sample_dict(rt.alloc())?;
     let image = compile_user(rt.alloc(), &system, &[b"a,1,1,1,X\n".as_slice()])?.image;
+    let behind = image.len().saturating_sub(DIGEST);
+    let back = |bytes: usize| behind.saturating_sub(bytes);
     #[rattlefmt::skip]
-    let rows = [
-        // (what, how many bytes before the digest, byte, fault)
-        ("no change",            1,  b'X', None),
-        ("left id 2",            17, 2,    Some(BadToken(0))),
-        ("right id 2",           15, 2,    Some(BadToken(0))),
-        ("cost 2",               13, 2,    None),
-        ("a byte of the zero",   11, 1,    Some(BadToken(0))),
-        ("feature length 2",     5,  2,    Some(BadText(0))),
-        ("feature not UTF-8",    1,  0xff, Some(BadText(0))),
-        ("group 0 from token 1", 25, 1,    Some(BadSection(6))),
+    let rows: [Row; 8] = [
+        ("no change",            back(1),  b'X', None),
+        ("left id 2",            back(17), 2,    Some(BadToken(0))),
+        ("right id 2",           back(15), 2,    Some(BadToken(0))),
+        ("cost 2",               back(13), 2,    None),
+        ("a byte of the zero",   back(11), 1,    Some(BadToken(0))),
+        ("feature length 2",     back(5),  2,    Some(BadText(0))),
+        ("feature not UTF-8",    back(1),  0xff, Some(BadText(0))),
+        ("group 0 from token 1", back(25), 1,    Some(BadSection(6))),
     ];
-    for (what, before, byte, fault) in rows {
-        let at = image.len().saturating_sub(DIGEST).saturating_sub(before);
-        let changed = sealed_with(rt.alloc(), &image, at, byte)?;
-        assert_eq!(rt; load(rt.alloc(), changed).err(), fault, "{what}");
-    }
-    Ok(())
+    expect_faults(&rt, &image, &rows)
 }

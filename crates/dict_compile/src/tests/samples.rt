@@ -26,18 +26,14 @@ pub const NONE: &[Expected] = &[];
 
 /// Whether these are the entries of a key, and there are no others.
 pub fn are_entries(dict: &Dict, key: &str, expected: &[Expected]) -> bool {
-    let mut entries = dict.entries(key);
-    for (token, left, right, cost, feature) in expected {
-        let entry = EntryRef {
-            left: *left,
-            right: *right,
-            cost: *cost,
-            feature,
-            token: *token,
-        };
-        if entries.next() != Some(entry) {
-            return false;
-        }
-    }
-    entries.next().is_none()
+    let entries = dict.entries(key);
+    entries
+        .map(|entry| (
+            entry.token,
+            entry.left,
+            entry.right,
+            entry.cost,
+            entry.feature,
+        ))
+        .eq(expected.iter().copied())
 }
