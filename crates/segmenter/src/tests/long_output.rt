@@ -1,12 +1,13 @@
 //! Output that is longer than what is held before it is written.
 
-use super::devices::writer;
-use super::samples::letters;
+use super::devices::writer as device;
+use super::samples::{letters, system};
 use crate::piece::OUTPUT_MAX;
-use crate::{run_sources, sample};
-use mj_model::{Counted, GROUPING_DEFAULT};
+use crate::{sample, segment};
+use mj_model::Counted;
 use out_format::Format;
 use std::test::Fail;
+use word_lookup::Dictionaries;
 
 #[test]
 fn written_in_pieces(rt: HostRuntime) -> Result<(), Fail> {
@@ -19,23 +20,17 @@ fn written_in_pieces(rt: HostRuntime) -> Result<(), Fail> {
         (100,   131_000,    13_100_100, 1_179_009),
         (3,     OUTPUT_MAX, 3_145_731,  1_048_577),
     ];
+    let dict = system(rt.alloc(), "", sample().lexicons)?;
+    let dictionaries = Dictionaries::new(&dict, &[])?;
     for (lines, count, all, longest) in rows {
         let mut eos = letters(rt.alloc(), count)?;
         eos.push_str("\\n")?;
         let format = Format::parse(rt.alloc(), "", None, "", eos.as_str())?;
         let text = Vec::from_elem(rt.alloc(), b'\n', lines)?;
         let mut reader = Counted::new(text.as_slice());
-        let mut out = writer(rt.alloc(), usize::MAX, usize::MAX);
-        let mut counted = Counted::new(&mut out);
-        let answer = run_sources(
-            rt.alloc(),
-            &sample(),
-            &[],
-            GROUPING_DEFAULT,
-            &format,
-            &mut reader,
-            &mut counted,
-        );
+        let mut out = device(rt.alloc(), usize::MAX, usize::MAX);
+        let mut writer = Counted::new(&mut out);
+        let answer = segment(rt.alloc(), &dictionaries, &format, &mut reader, &mut writer);
         assert!(rt; answer == Ok(lines as u64), "{lines}");
         assert_eq!(rt; out.taken.len(), all, "{lines}");
         assert_eq!(rt; out.longest, longest, "{lines}");
