@@ -11,3 +11,4 @@ pub mod UserDicts
 pub mod OverlayLemmas
 pub mod EarlyEnds
 pub mod LoadedLemmas
+pub mod OneOutput

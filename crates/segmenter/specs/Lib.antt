@@ -1,5 +1,6 @@
 pub mod LineErrors
 pub mod PrintedLines
+pub mod OneOutput
 pub mod Progress
 pub mod Runs
 pub mod GoodRuns

@@ -3,6 +3,7 @@
 
 mod dicts;
 mod early_fault;
+pub mod laws;
 mod line_fault;
 mod line_printer;
 mod piece;
