@@ -10,3 +10,6 @@ pub mod SkipLemmas
 pub mod SourceLemmas
 pub mod ConnectionLemmas
 pub mod LexiconLemmas
+pub mod TextFields
+pub mod AcceptedTexts
+pub mod CoveredSources

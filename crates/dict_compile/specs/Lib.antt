@@ -1,5 +1,6 @@
 pub mod Compilation
 pub mod SourceOverlays
+pub mod CoveredTexts
 pub mod Faults
 pub mod Answers
 pub mod Images

@@ -3,12 +3,13 @@ use Rattle.std.proofs.Common.{◌≡◌, ℕ, zero, suc, ◌+◌, ◌<◌, ◌�
 use Rattle.std.specs.Prelude.{encode_utf8_all, encode_utf8, chars, IsUtf8}
 use Rattle.std.specs.Char.{len_utf8}
 use Rattle.std.specs.List.{prefix_len}
-use Rattle.std.proofs.Math.Utf8.{scalar, scalars}
+use Rattle.std.proofs.Math.Utf8.{scalar, scalars, scalar_cases}
 use Rattle.std.proofs.lemmas.Bool.{and_parts, cases_order}
 use Rattle.std.proofs.lemmas.List.{drop_at, drop-drop, length-append, length-take, take-append-drop}
 use Rattle.std.proofs.lemmas.Str.{length-encode, len_utf8_bounds, encodes-append, encodes-chars, scalars-chars}
 use Rattle.mj_model.specs.declared.category.CharInfo.{CharInfo}
 use Rattle.mj_model.specs.Categories.{shares}
+use Rattle.mj_model.specs.CharDef.{code_point_max}
 use Rattle.paths.specs.Run.{run, bytes_of, alike}
 use Rattle.mj_model.specs.Tables.{Overlay}
 use Rattle.paths.specs.Blanks.{skip, space, chars_from}
@@ -37,11 +38,15 @@ bytes_same n m cs low also same = elim (cases_order n m) [
   | inr (inr more) ↦ let b = bytes_more m n cs more low in absurd (omega (arith, b, same))
 ]
 
-bytes_within : (n : ℕ) (cs : List ℕ) → bytes_of n cs ≤ length (encode_utf8_all cs)
+pub bytes_within : (n : ℕ) (cs : List ℕ) → bytes_of n cs ≤ length (encode_utf8_all cs)
 bytes_within n cs =
     let e = ap length (sym (encodes-append (take n cs) (drop n cs)) ∙ ap encode_utf8_all (take-append-drop n cs)) in
     let f = length-append (encode_utf8_all (take n cs)) (encode_utf8_all (drop n cs)) in
     omega (arith, e, f)
+
+-- a character is a code point
+pub is_code_point : (c : ℕ) → scalar c ≡ true → c ≤ code_point_max
+is_code_point c h = elim (scalar_cases c h) [ inl low ↦ omega (arith, low) | inr high ↦ omega (arith, high.1) ]
 
 -- ---- the first n characters of a text
 

@@ -1,11 +1,14 @@
 -- Paths over the words of a text: behind a path only blanks remain, and its words with their blanks join to the text.
 use Rattle.std.proofs.Common.{◌≡◌, ℕ, ◌+◌, ◌-◌, ◌<◌, ◌≤◌, Bool, true, false, cond, ◌&&◌, ◌||◌, List, [], ◌∷◌, ◌++◌, length, take, drop, map, flat_map, get_or, Contains, inl, inr, refl, sym, ap, ◌∙◌, arith, subst}
 use Rattle.std.specs.Prelude.{pos, nat_lt, ◌==◌, IsUtf8}
-use Rattle.std.proofs.lemmas.Bool.{cases_lt, and_from, lt-ltb}
+use Rattle.std.proofs.Math.Utf8.{scalar, scalars}
+use Rattle.std.proofs.lemmas.Bool.{cases_lt, and_from, and_parts, lt-ltb}
 use Rattle.std.proofs.lemmas.List.{drop-drop, drop-take, take-take, take-append-drop, length-append, length-drop, length-map}
 use Rattle.std.proofs.lemmas.List.Elements.{Contains-get_or}
+use Rattle.std.proofs.lemmas.Str.{scalars-chars}
 use Rattle.mj_model.specs.declared.word.Word.{Word}
 use Rattle.mj_model.specs.declared.word.Origin.TheVariants.{Unknown}
+use Rattle.mj_model.specs.CharDef.{code_point_max}
 use Rattle.mj_model.specs.Tables.{Overlay, category_at}
 use Rattle.paths.specs.Run.{run, bytes_of, alike}
 use Rattle.paths.specs.Blanks.{skip, space, chars_from}
@@ -14,7 +17,7 @@ use Rattle.paths.specs.UnknownSpans.{grouped_span, length_spans, one_if_none, sp
 use Rattle.paths.specs.Words.{is_empty, unknown_word, unknown, is_place, words}
 use Rattle.paths.specs.Paths.{IsChain, IsPath}
 use Rattle.paths.specs.Laws.{HasWords, CoversAll, between, joined_words}
-use Rattle.paths.proofs.CharBytes.{chars_within, chars_there, text_behind_blanks}
+use Rattle.paths.proofs.CharBytes.{chars_within, chars_there, is_code_point, text_behind_blanks}
 use Rattle.paths.proofs.PlaceWords.{in_words, place_there}
 
 -- ---- where something other than blanks follows there is a word
@@ -39,32 +42,35 @@ spans_there o c cs =
     let spans_made = grouped_span category o.grouping whole ++ length_spans category whole (alike info c cs) in
     if_or_true category.invoke (one_if_none true spans_made) (one_or_more spans_made)
 
-unknown_for : (o : Overlay) (place start c : ℕ) (cs ns : List ℕ) → CoversAll o → 0 < length ns → 0 < length (flat_map (λ n. map (unknown_word place start (bytes_of n (c ∷ cs))) (o.system.unknown (o.system.info c).head)) ns)
-unknown_for o place start c cs [] covers there = absurd (omega arith)
-unknown_for o place start c cs (n ∷ ns) covers there =
+unknown_for : (o : Overlay) (place start c : ℕ) (cs ns : List ℕ) → CoversAll o → c ≤ code_point_max → 0 < length ns
+    → 0 < length (flat_map (λ n. map (unknown_word place start (bytes_of n (c ∷ cs))) (o.system.unknown (o.system.info c).head)) ns)
+unknown_for o place start c cs [] covers code there = absurd (omega arith)
+unknown_for o place start c cs (n ∷ ns) covers code there =
     let entries = o.system.unknown (o.system.info c).head in
     let f = λ (m : ℕ). map (unknown_word place start (bytes_of m (c ∷ cs))) entries in
     let a = length-append (f n) (flat_map f ns) in
     let b = length-map entries (unknown_word place start (bytes_of n (c ∷ cs))) in
-    let s = covers c in
+    let s = covers c code in
     omega (arith, a, b, s)
 
-unknown_there : (o : Overlay) (place start : ℕ) (cs : List ℕ) → CoversAll o → 0 < length cs → 0 < length (unknown o true place start cs)
-unknown_there o place start [] covers there = absurd (omega arith)
-unknown_there o place start (c ∷ cs) covers there = unknown_for o place start c cs (spans o true c cs) covers (spans_there o c cs)
+unknown_there : (o : Overlay) (place start : ℕ) (cs : List ℕ) → CoversAll o → scalars cs ≡ true → 0 < length cs → 0 < length (unknown o true place start cs)
+unknown_there o place start [] covers all there = absurd (omega arith)
+unknown_there o place start (c ∷ cs) covers all there =
+    unknown_for o place start c cs (spans o true c cs) covers (is_code_point c (and_parts (scalar c) (scalars cs) all).0) (spans_there o c cs)
 
-some_there : (o : Overlay) (ks : List Word) (place start : ℕ) (cs : List ℕ) → CoversAll o → 0 < length cs → 0 < length (ks ++ unknown o (is_empty ks) place start cs)
-some_there o [] place start cs covers there = unknown_there o place start cs covers there
-some_there o (k ∷ ks) place start cs covers there = omega arith
+some_there : (o : Overlay) (ks : List Word) (place start : ℕ) (cs : List ℕ) → CoversAll o → scalars cs ≡ true → 0 < length cs → 0 < length (ks ++ unknown o (is_empty ks) place start cs)
+some_there o [] place start cs covers all there = unknown_there o place start cs covers all there
+some_there o (k ∷ ks) place start cs covers all there = omega arith
 
 pub words_there : (o : Overlay) (text : List ℕ) (p : ℕ) → CoversAll o → p ≤ length text → IsUtf8 (drop p text) → skip o text p < length text → 0 < length (words o text p)
 words_there o text p covers low u less =
     let start = skip o text p in
     let rest = length-drop start text in
-    let there = chars_there (drop start text) (text_behind_blanks o text p u) (omega (arith, rest, less)) in
+    let behind = text_behind_blanks o text p u in
+    let there = chars_there (drop start text) behind (omega (arith, rest, less)) in
     let is : (is_place text p && nat_lt start (length text)) ≡ true = and_from (is_place text p) (nat_lt start (length text)) (place_there text p low u) (lt-ltb start (length text) less) in
     subst (λ (b : Bool). 0 < length (cond b (known o text p ++ unknown o (is_empty (known o text p)) p start (chars_from text start)) [])) (sym is)
-    (some_there o (known o text p) p start (chars_from text start) covers there)
+    (some_there o (known o text p) p start (chars_from text start) covers (scalars-chars (drop start text) behind) there)
 
 -- ---- only blanks remain
 

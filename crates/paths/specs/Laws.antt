@@ -1,7 +1,8 @@
 -- Laws of the words and paths over an overlay of dictionaries.
-use Rattle.std.specs.Prelude.{◌≡◌, ℕ, ◌-◌, ◌<◌, List, ◌++◌, length, map, flat_map, take, drop, IsUtf8, IsTrue, Contains}
+use Rattle.std.specs.Prelude.{◌≡◌, ℕ, ◌-◌, ◌<◌, ◌≤◌, List, ◌++◌, length, map, flat_map, take, drop, IsUtf8, IsTrue, Contains}
 use Rattle.std.specs.List.{AllByRecursion}
 use Rattle.mj_model.specs.declared.word.Word.{Word}
+use Rattle.mj_model.specs.CharDef.{code_point_max}
 use Rattle.mj_model.specs.Tables.{Overlay, HasApartTokens, HasText, lexicons}
 use Rattle.paths.specs.Blanks.{skip}
 use Rattle.paths.specs.Words.{words, is_place}
@@ -14,9 +15,9 @@ pub record HasWords (o : Overlay) : Type 0 where
   pub known_apart : AllByRecursion (λ lexicon. HasApartTokens (map (λ e. e.token) lexicon)) (lexicons o)
   pub unknown_apart : (i : ℕ) → HasApartTokens (o.system.unknown i)
 
--- the first category of each character has an unknown entry
+-- the first category of each code point has an unknown entry
 abbrev pub CoversAll : Overlay → Type 0
-CoversAll o = (c : ℕ) → 0 < length (o.system.unknown (o.system.info c).head)
+CoversAll o = (c : ℕ) → c ≤ code_point_max → 0 < length (o.system.unknown (o.system.info c).head)
 
 -- the words of a text are as the search asks, and each ends where a character begins or the text ends
 pub record KeepsPlaces (o : Overlay) (text : List ℕ) : Type 0 where

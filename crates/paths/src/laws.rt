@@ -32,8 +32,8 @@ pub fn words_join_to_the_line()
     ensures { WordsJoin }
 {}
 
-/// Dictionaries whose words have text, and that have an unknown entry for each character, cut every text: it has exactly
-/// one best path, and only blanks remain after it.
+/// Dictionaries whose words have text, and that have an unknown entry for each code point, cut every text: it has
+/// exactly one best path, and only blanks remain after it.
 pub fn texts_are_covered()
     ensures { TextsAreCovered }
 {}

@@ -66,7 +66,7 @@ has_words d =
 
 pub covers_all : (d : Dictionaries) → CoversAll (overlay_of d)
 unfolding overlay_of
-covers_all d = (facts d).fits.covered (is_system d)
+covers_all d = λ code within. (facts d).fits.covered (is_system d) code
 
 entries_fit : (d : Dictionaries) → EntriesFit (image_tables d.system.now).sizes (overlay_of d)
 unfolding overlay_of
