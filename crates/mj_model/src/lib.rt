@@ -44,3 +44,6 @@ pub use sources::Sources;
 pub use text_in::TextIn;
 pub use text_out::TextOut;
 pub use word::{Origin, Word};
+
+#[cfg(test)]
+mod tests;
