@@ -4,18 +4,20 @@ use Rattle.mj_model.specs.declared.word.Word.{Word}
 use Rattle.paths.specs.Best.{IsBestPath}
 use Rattle.paths.specs.Cost.{path_cost}
 use Rattle.paths.specs.Searchable.{IsSearchable}
+use Rattle.word_lookup.specs.declared.blank_run.BlankRun.{BlankRun}
 use Rattle.lattice.specs.declared.node.Node.{Node}
 use Rattle.lattice.specs.declared.node.Join.{Join}
 use Rattle.lattice.specs.Lattice.{IsJoinOf, IsLattice, ReachesTo}
 
 -- a text's length in bytes, the words of each place in their order, the connection cost of a right id and the next word's left id,
--- where a character begins or the text ends, and which ids lie within the connection table's sizes
+-- where a character begins or the text ends, which ids lie within the connection table's sizes, and what is a run of its blanks
 pub record SearchedText : Type 1 where
   pub text_length : ℕ
   pub words : ℕ → List Word
   pub connection : ℕ → ℕ → ℤ
   pub is_place : ℕ → Type 0
   pub is_pair : ℕ → ℕ → Type 0
+  pub is_blank_run : BlankRun → Type 0
 
 -- it has what the search asks of a text
 abbrev pub CanBeSearched : SearchedText → Type 0

@@ -1,6 +1,6 @@
 //! The lattice of a text, place by place.
 
-ghost use Rattle.std.specs.Prelude.{◌≡◌, ◌+◌, ◌<◌, ◌^◌, ◌++◌, ◌∷◌, [], slice_set, length, OnOk};
+ghost use Rattle.std.specs.Prelude.{◌≡◌, ◌+◌, ◌<◌, ◌^◌, ◌++◌, ◌∷◌, [], slice_set, length, IfSome, OnOk};
 ghost use Rattle.mj_model.specs.Bounds.{IsWithin};
 ghost use Rattle.lattice.specs.Nodes.{AreLinked, reached};
 ghost use Rattle.lattice.specs.Lattice.{node_of};
@@ -10,12 +10,12 @@ use crate::joining::join;
 use crate::node::{Join, Node};
 use crate::source::WordSource;
 use mj_model::Word;
-use std::alloc::{AllocError, Global};
+use std::alloc::AllocError;
+use word_lookup::BlankRun;
 
 /// Makes the nodes of all words that some chain reaches, and for each place the number of the
 /// latest node that ends there. `words` is room for the words of a place.
 pub fn build<S: WordSource>(
-    alloc: Global,
     source: &S,
     nodes: &mut Vec<Node>,
     heads: &mut Vec<Option<usize>>,
@@ -31,34 +31,37 @@ pub fn build<S: WordSource>(
     nodes.clear();
     heads.clear();
     heads.resize(length + 1, None)?;
+    let mut last = None;
     for place in 0..length {
-        add_place(alloc, source, nodes, heads, words, place)?;
+        add_place(source, nodes, heads, words, place, &mut last)?;
     }
     Ok(())
 }
 
-/// Adds the words of a place, if some chain leads there.
+/// Adds the words of a place, if some chain leads there. `last` is the run of blanks that was looked at last.
 fn add_place<S: WordSource>(
-    alloc: Global,
     source: &S,
     nodes: &mut Vec<Node>,
     heads: &mut [Option<usize>],
     words: &mut Vec<Word>,
     place: usize,
+    last: &mut Option<BlankRun>,
 ) -> Result<(), AllocError>
     requires source { CanBeSearched (S.says source.now) }
     requires place { place < (S.says source.now).text_length }
+    requires last { IfSome last.old (S.says source.now).is_blank_run }
     requires heads { length heads.old ≡ (S.says source.now).text_length + 1 }
     requires lattice { IsLatticeOf (S.says source.now) nodes.old.items place 0 }
     requires links { AreLinked nodes.old.items heads.old }
     ensures lattice { OnOk result (IsLatticeOf (S.says source.now) nodes.new.items (place + 1) 0) }
     ensures links { OnOk result (AreLinked nodes.new.items heads.new) }
+    ensures last { IfSome last.new (S.says source.now).is_blank_run }
 {
     if !is_reached(place, heads[place]) {
         return Ok(());
     }
     words.clear();
-    source.words_at(alloc, place, words)?;
+    source.words_at(place, last, words)?;
     add_words(source, nodes, heads, words, place)?;
     Ok(())
 }

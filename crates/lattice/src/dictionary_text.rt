@@ -5,6 +5,7 @@ ghost use Rattle.mj_model.specs.declared.limits.TheConstants.{SENTENCE_MAX};
 ghost use Rattle.paths.specs.BestOver.{IsBestOver, cost_over};
 ghost use Rattle.mj_model.specs.Connection.{is_pair};
 ghost use Rattle.paths.specs.Words.{is_place, words};
+ghost use Rattle.word_lookup.specs.BlankRuns.{IsBlankRun};
 ghost use Rattle.word_lookup.specs.Overlays.{overlay_of};
 
 use crate::lattice::Lattice;
@@ -12,7 +13,7 @@ use crate::path::Path;
 use crate::source::WordSource;
 use mj_model::Word;
 use std::alloc::{AllocError, Global};
-use word_lookup::Dictionaries;
+use word_lookup::{BlankRun, Dictionaries};
 
 /// A text over dictionaries.
 #[derive(Drop)]
@@ -28,14 +29,20 @@ impl<'a> WordSource for DictionaryText<'a> {
       connection = (overlay_of s.dictionaries.now).system.connection;
       is_place = λ p. IsTrue (is_place s.text.now p);
       is_pair = λ right left. IsTrue (is_pair (overlay_of s.dictionaries.now).system.sizes right left);
+      is_blank_run = IsBlankRun (overlay_of s.dictionaries.now) s.text.now;
     } };
 
     fn length(&self) -> usize {
         self.text.len()
     }
 
-    fn words_at(&self, alloc: Global, place: usize, out: &mut Vec<Word>) -> Result<(), AllocError> {
-        self.dictionaries.words_at(alloc, self.text, place, out)
+    fn words_at(
+        &self,
+        place: usize,
+        last: &mut Option<BlankRun>,
+        out: &mut Vec<Word>,
+    ) -> Result<(), AllocError> {
+        self.dictionaries.words_in_turn(self.text, place, last, out)
     }
 
     fn connection_cost(&self, right: u16, left: u16) -> i16 {

@@ -58,13 +58,7 @@ impl Lattice {
         ensures words_kept { OnErr result (path.new.words.items ≡ path.old.words.items) }
         ensures total_kept { OnErr result (path.new.total ≡ path.old.total) }
     {
-        build(
-            self.alloc,
-            source,
-            &mut self.nodes,
-            &mut self.heads,
-            &mut self.words,
-        )?;
+        build(source, &mut self.nodes, &mut self.heads, &mut self.words)?;
         let total = trace_best(source, &self.nodes, &self.heads, &mut self.best)?;
         mem::swap(&mut path.words, &mut self.best);
         path.total = total;

@@ -5,6 +5,7 @@ pub mod UserLemmas
 pub mod UnknownWords
 pub mod KnownFound
 pub mod PlaceLemmas
+pub mod BlankRunLemmas
 pub mod OverlayLaws
 pub mod DictionaryLaws
 pub mod FeatureLemmas

@@ -4,4 +4,5 @@ pub mod EntryWords
 pub mod UnknownEntries
 pub mod WordsHere
 pub mod Overlays
+pub mod BlankRuns
 pub mod Props

@@ -1,16 +1,18 @@
 //! The dictionaries that words are looked up in.
 
-ghost use Rattle.std.specs.Prelude.{◌≡◌, ◌+◌, ◌<◌, ◌≤◌, ◌++◌, [], map, take, drop, vec_len, chars, IsTrue, IsOk, IfOk, OnOk, OnErr, IfErr, Some, None, slice_index_or};
+ghost use Rattle.std.specs.Prelude.{◌≡◌, ◌+◌, ◌<◌, ◌≤◌, ◌++◌, [], map, take, drop, vec_len, chars, IsTrue, IsOk, IfOk, IfSome, OnOk, OnErr, IfErr, Some, None, slice_index_or};
 ghost use Rattle.paths.specs.Blanks.{skip};
 ghost use Rattle.mj_model.specs.Connection.{is_pair};
 ghost use Rattle.image_bytes.specs.ImageMeaning.{image_tables};
 ghost use Rattle.mj_model.specs.Printed.{feature_of};
 ghost use Rattle.mj_model.specs.Tables.{lexicons};
 ghost use Rattle.paths.specs.Words.{is_place, words, words_from};
+ghost use Rattle.word_lookup.specs.BlankRuns.{IsBlankRun};
 ghost use Rattle.word_lookup.specs.Fitting.{IsOverlay};
 ghost use Rattle.word_lookup.specs.Props.{IsOverlay-prop};
 ghost use Rattle.word_lookup.specs.WordsHere.{all_known_here, unknown_here};
 
+use crate::blank_run::BlankRun;
 use crate::known::append_known;
 use crate::overlay::check_users;
 use crate::run::run_up_to;
@@ -78,6 +80,37 @@ impl<'a> Dictionaries<'a> {
         place + run_up_to(self.system, space, rest, rest.len()).bytes
     }
 
+    /// The same, for places of one text in turn. `last` is the run of blanks that was looked at last, if one was: of a place in it only
+    /// the first character is looked at.
+    fn blanks_in_turn(&self, text: &str, place: usize, last: &mut Option<BlankRun>) -> usize
+        requires place { IsTrue (is_place text.now place) }
+        requires last { IfSome last.old (IsBlankRun (overlay_of self.now) text.now) }
+        ensures behind { result ≡ skip (overlay_of self.now) text.now place }
+        ensures last { IfSome last.new (IsBlankRun (overlay_of self.now) text.now) }
+    {
+        match *last {
+            Some(run) if run.contains(place) => self.blanks_within(run, text, place),
+            _ => {
+                let to = self.blanks(text, place);
+                *last = Some(BlankRun { from: place, to });
+                to
+            }
+        }
+    }
+
+    /// The same of a place in a run of blanks: they go on to its end, or there are none.
+    fn blanks_within(&self, run: BlankRun, text: &str, place: usize) -> usize
+        requires place { IsTrue (is_place text.now place) }
+        requires run { IsBlankRun (overlay_of self.now) text.now run }
+        requires from { run.from ≤ place }
+        requires to { place < run.to }
+        ensures { result ≡ skip (overlay_of self.now) text.now place }
+    {
+        let space = self.system.info(' ');
+        let first = run_up_to(self.system, space, behind(text, place), 1);
+        if first.characters == 0 { place } else { run.to }
+    }
+
     /// Appends the words of a place to `out`: the known ones, of one dictionary after another and shorter ones first, and then the
     /// unknown ones. On `Err` memory was refused, and `out` is as before.
     pub fn words_at(
@@ -94,7 +127,28 @@ impl<'a> Dictionaries<'a> {
         // Where there are none, no memory is taken.
         ensures none { words (overlay_of self.now) text.now place ≡ [] → IsOk result }
     {
-        let start = self.blanks(text, place);
+        self.words_in_turn(text, place, &mut None, out)
+    }
+
+    /// The same, for places of one text in turn: `last` is the run of blanks that was looked at last, and none before the first place.
+    /// Where places rise, a run of blanks is looked at once, however many places in it are asked for.
+    pub fn words_in_turn(
+        &self,
+        text: &str,
+        place: usize,
+        last: &mut Option<BlankRun>,
+        out: &mut Vec<Word>,
+    ) -> Result<(), AllocError>
+        requires place { IsTrue (is_place text.now place) }
+        requires last { IfSome last.old (IsBlankRun (overlay_of self.now) text.now) }
+        ensures appended { OnOk result (out.new.items
+            ≡ out.old.items ++ words (overlay_of self.now) text.now place) }
+        ensures kept { OnErr result (out.new.items ≡ out.old.items) }
+        // Where there are none, no memory is taken.
+        ensures none { words (overlay_of self.now) text.now place ≡ [] → IsOk result }
+        ensures last { IfSome last.new (IsBlankRun (overlay_of self.now) text.now) }
+    {
+        let start = self.blanks_in_turn(text, place, last);
         if start == text.len() {
             return Ok(());
         }

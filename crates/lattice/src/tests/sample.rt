@@ -6,6 +6,7 @@ ghost use Rattle.lattice.specs.Sample.{lies_at, numbered, sample_connection, sam
 use crate::source::WordSource;
 use mj_model::{Origin, Word};
 use std::alloc::{AllocError, Global};
+use word_lookup::BlankRun;
 
 /// A text by its length and its words, which are numbered by their order.
 #[derive(Debug, Drop)]
@@ -21,13 +22,19 @@ impl WordSource for Sample {
       connection = sample_connection;
       is_place = λ p. Unit {0};
       is_pair = λ r l. Unit {0};
+      is_blank_run = λ run. Unit {0};
     } };
 
     fn length(&self) -> usize {
         self.length
     }
 
-    fn words_at(&self, alloc: Global, place: usize, out: &mut Vec<Word>) -> Result<(), AllocError> {
+    fn words_at(
+        &self,
+        place: usize,
+        _last: &mut Option<BlankRun>,
+        out: &mut Vec<Word>,
+    ) -> Result<(), AllocError> {
         let before = out.len();
         for number in 0..self.words.len() {
             if !add_sample(self.length, place, number, &self.words[number], out) {

@@ -10,8 +10,8 @@ returns-then-not-is_reached-clause-lattice g c =
     not_reached (g.S.WordSource.says c.args.source.now).words (g.S.WordSource.says c.args.source.now).connection (g.S.WordSource.says c.args.source.now).text_length c.requires.source.source
     c.args.nodes.now.items heads c.args.place (get_or heads c.args.place None) c.requires.lattice c.requires.links (slice_get-get_or heads c.args.place None within) (sym c.is_reached.ensures ∙ c.if-not-is_reached.true)
 
-pub words_at-requires : goal.words_at-requires
-words_at-requires g c =
+pub words_at-requires-clause-place : goal.words_at-requires-clause-place
+words_at-requires-clause-place g c =
     let heads = c.args.heads.now in
     let within : c.args.place < length heads = omega (arith, c.requires.place, c.requires.heads) in
     reached_place (g.S.WordSource.says c.args.source.now).words (g.S.WordSource.says c.args.source.now).connection (g.S.WordSource.says c.args.source.now).text_length c.requires.source.source

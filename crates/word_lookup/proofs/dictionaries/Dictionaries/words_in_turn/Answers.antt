@@ -7,15 +7,15 @@ use Rattle.std.proofs.lemmas.List.{append-nil}
 use Rattle.word_lookup.proofs.AppendLemmas.{on_err, on_err_of_ok, on_ok_of_err}
 use Rattle.word_lookup.proofs.DictionaryLaws.{covers_all}
 use Rattle.word_lookup.proofs.PlaceLemmas.{no_words, place_within, text_there, skip_within, words_are}
-use Rattle.word_lookup.proofs.dictionaries.Dictionaries.words_at.Goals as goal
+use Rattle.word_lookup.proofs.dictionaries.Dictionaries.words_in_turn.Goals as goal
 
 pub returns-else-is_err-clause-appended : goal.returns-else-is_err-clause-appended
 unfolding overlay_of
 returns-else-is_err-clause-appended c =
     let o = overlay_of c.args.self.now in
-    let w = skip_within o c.args.text.now c.args.place c.requires in
+    let w = skip_within o c.args.text.now c.args.place c.requires.place in
     let P : List Word → Type 0 = λ ws. OnOk c.append_words-appended.result (c.append_words-appended.new.out.items ≡ c.args.out.now.items ++ ws) in
-    let are = words_are o c.args.text.now c.args.place c.blanks-start.result c.requires c.blanks-start.ensures (omega (arith, w, c.blanks-start.ensures)) in
+    let are = words_are o c.args.text.now c.args.place c.blanks_in_turn-start.result c.requires.place c.blanks_in_turn-start.ensures.behind (omega (arith, w, c.blanks_in_turn-start.ensures.behind)) in
     subst P (sym are) c.append_words-appended.ensures.appended
 
 pub returns-then-is_err-clause-none : goal.returns-then-is_err-clause-none
@@ -25,8 +25,8 @@ returns-then-is_err-clause-none c = λ none.
     let o = overlay_of d in
     let text = c.args.text.now in
     let place = c.args.place in
-    let w = skip_within o text place c.requires in
-    let some = words_there o text place (covers_all d) (place_within text place c.requires) (text_there text place c.requires) (omega (arith, w, c.blanks-start.ensures)) in
+    let w = skip_within o text place c.requires.place in
+    let some = words_there o text place (covers_all d) (place_within text place c.requires.place) (text_there text place c.requires.place) (omega (arith, w, c.blanks_in_turn-start.ensures.behind)) in
     let count = ap length none in
     absurd (omega (arith, some, count))
 
@@ -35,8 +35,8 @@ unfolding overlay_of
 returns-then-start-text-clause-appended c =
     let o = overlay_of c.args.self.now in
     let out = c.args.out.now.items in
-    let at = c.blanks-start.ensures in
-    let none = no_words o c.args.text.now c.args.place c.blanks-start.result at (omega (arith, c.if-start-text.true)) in
+    let at = c.blanks_in_turn-start.ensures.behind in
+    let none = no_words o c.args.text.now c.args.place c.blanks_in_turn-start.result at (omega (arith, c.if-start-text.true)) in
     sym (append-nil out) ∙ ap (λ (ws : List Word). out ++ ws) (sym none)
 
 pub returns-then-is_err-clause-appended : goal.returns-then-is_err-clause-appended
