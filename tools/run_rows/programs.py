@@ -78,10 +78,12 @@ def messages(reader):
 
 
 class Programs:
-    """The programs, copied to where nobody may run them, and a library whose calls fail."""
+    """The programs, installed where nobody may run them, and a library whose calls fail."""
 
     def __init__(self, folder, paths):
-        self.places = {path.name: shutil.copy(path, folder) for path in paths}
+        (folder / "bin").mkdir()
+        self.places = {path.name: shutil.copy(path, folder / "bin") for path in paths}
+        self.images = folder / "share" / "kumquatsieve"
         self.failing = folder / "fail.so"
         subprocess.run(["gcc", "-std=c11", "-O2", "-shared", "-fPIC", FAILING, "-o", self.failing], check=True)
         self.user = NOBODY if os.geteuid() == 0 else None

@@ -8,6 +8,8 @@ pub struct Options {
     pub base: Base,
     pub out: String,
     pub lexicons: Vec<String>,
+    /// Whether the program says on standard error what it does.
+    pub verbose: bool,
 }
 
 /// What the words of the lexicons stand on.

@@ -2,7 +2,9 @@
 
 use crate::choices::{Base, Options};
 use clap::{Arg, ArgAction, ArgMatches, Command};
-use programs::{OptionsFault, found, needed_text, texts_of};
+use programs::{
+    OptionsFault, VERSION, explain_arg, explained, found, needed_text, texts_of, verbose_arg,
+};
 use std::alloc::{AllocError, Global};
 use std::string::String;
 
@@ -12,13 +14,19 @@ const SYSTEM: &str = "system";
 /// The name of the subcommand that compiles a user dictionary.
 const USER: &str = "user";
 
+/// What is said where no subcommand is given.
+const NO_SUBCOMMAND: &str = "one of 'dictc system' and 'dictc user' has to be given";
+
 /// Reads the words that follow the program's name.
 pub fn options(alloc: Global, words: Vec<String>) -> Result<Options, OptionsFault> {
     let matches = found(alloc, command(alloc)?, words.as_slice())?;
+    if let Some(answer) = explained(alloc, &matches) {
+        return Err(answer);
+    }
     match matches.subcommand() {
         Some((name, given)) if name == USER => user_options(alloc, given),
         Some((_, given)) => system_options(alloc, given),
-        None => system_options(alloc, &matches),
+        None => Err(OptionsFault::wrong(alloc, NO_SUBCOMMAND)),
     }
 }
 
@@ -27,8 +35,9 @@ fn command<'a>(alloc: Global) -> Result<Command<'a>, AllocError> {
     Command::new(alloc, "dictc")
         .bin_name("dictc")?
         .about("Compiles the sources of a dictionary to an image")
+        .version(VERSION)
         .no_binary_name(true)
-        .subcommand_required(true)
+        .arg(explain_arg(alloc))?
         .subcommand(system_command(alloc)?)?
         .subcommand(user_command(alloc)?)
 }
@@ -41,6 +50,7 @@ fn system_command<'a>(alloc: Global) -> Result<Command<'a>, AllocError> {
         .arg(path_arg(alloc, "char", "FILE", "The character categories: char.def"))?
         .arg(path_arg(alloc, "unk", "FILE", "The unknown words: unk.def"))?
         .arg(out_arg(alloc))?
+        .arg(verbose_arg(alloc))?
         .arg(lexicons_arg(alloc))
 }
 
@@ -55,6 +65,7 @@ fn user_command<'a>(alloc: Global) -> Result<Command<'a>, AllocError> {
             "The image of the system dictionary that it is made for",
         ))?
         .arg(out_arg(alloc))?
+        .arg(verbose_arg(alloc))?
         .arg(lexicons_arg(alloc))
 }
 
@@ -93,6 +104,7 @@ fn system_options(alloc: Global, given: &ArgMatches<'_>) -> Result<Options, Opti
         },
         out: path("out")?,
         lexicons: texts_of(alloc, given, "lexicons")?,
+        verbose: given.get_flag("verbose"),
     })
 }
 
@@ -102,5 +114,6 @@ fn user_options(alloc: Global, given: &ArgMatches<'_>) -> Result<Options, Option
         base: Base::System(needed_text(alloc, given, "dic")?),
         out: needed_text(alloc, given, "out")?,
         lexicons: texts_of(alloc, given, "lexicons")?,
+        verbose: given.get_flag("verbose"),
     })
 }

@@ -2,23 +2,55 @@
 
 use crate::choices::{Base, Options};
 use crate::reporting::tell_counts;
+use crate::shares::say_shares;
 use dict_compile::{CompileUserFault, Compiled, compile, compile_user};
 use mj_model::{OverlayFault, Sources};
 use programs::{
-    Fault, SourceFiles, WholeFile, dictionary_at, lexicon_path, read_files, texts, write_file,
+    Fault, Narrator, SourceFiles, Stage, WholeFile, dictionary_at, lexicon_path, read_files, texts,
+    write_file,
 };
 use std::alloc::Global;
 use std::string::String;
 
 /// Compiles what the options ask for, and tells what was compiled on standard output.
 pub fn compile_told(rt: &HostRuntime, options: &Options) -> Result<(), Fault> {
-    let compiled = compile_image(rt, options)?;
+    let narrator = Narrator::new(rt, "dictc", options.verbose);
+    let compiled = compile_image(rt, options, &narrator)?;
+    say_shares(&narrator, &compiled.image);
     tell_counts(&compiled, &mut rt.stdout())
 }
 
 /// Compiles what the options ask for, and writes its image.
-pub fn compile_image(rt: &HostRuntime, options: &Options) -> Result<Compiled, Fault> {
-    let compiled = match &options.base {
+pub fn compile_image(
+    rt: &HostRuntime,
+    options: &Options,
+    narrator: &Narrator<'_>,
+) -> Result<Compiled, Fault> {
+    let compiled = compile_files(rt, options, narrator);
+    if let Err(fault) = &compiled {
+        narrator.say_why(fault);
+    }
+    let compiled = compiled?;
+    let bytes = compiled.image.len();
+    narrator.say(Stage::Compiled {
+        entries: compiled.entries,
+        bytes,
+    });
+    write_file(rt, options.out.as_str(), &compiled.image)?;
+    narrator.say(Stage::Written {
+        path: options.out.as_str(),
+        bytes,
+    });
+    Ok(compiled)
+}
+
+/// Reads the files that the options name, and compiles them.
+fn compile_files(
+    rt: &HostRuntime,
+    options: &Options,
+    narrator: &Narrator<'_>,
+) -> Result<Compiled, Fault> {
+    match &options.base {
         Base::Definitions { matrix, chars, unk } => {
             let files = SourceFiles {
                 matrix: WholeFile::read(rt, matrix.as_str())?,
@@ -26,17 +58,23 @@ pub fn compile_image(rt: &HostRuntime, options: &Options) -> Result<Compiled, Fa
                 unk: WholeFile::read(rt, unk.as_str())?,
                 lexicons: read_files(rt, &options.lexicons)?,
             };
-            compile_sources(rt.alloc(), &files)?
+            files.say(narrator);
+            compile_sources(rt.alloc(), &files, narrator)
         }
-        Base::System(dic) => compile_user_files(rt, dic.as_str(), &options.lexicons)?,
-    };
-    write_file(rt, options.out.as_str(), &compiled.image)?;
-    Ok(compiled)
+        Base::System(dic) => compile_user_files(rt, dic.as_str(), &options.lexicons, narrator),
+    }
 }
 
 /// Compiles a system dictionary.
-fn compile_sources(alloc: Global, files: &SourceFiles) -> Result<Compiled, Fault> {
+fn compile_sources(
+    alloc: Global,
+    files: &SourceFiles,
+    narrator: &Narrator<'_>,
+) -> Result<Compiled, Fault> {
     let lexicons = texts(alloc, &files.lexicons)?;
+    narrator.say(Stage::Compiling {
+        lexicons: lexicons.len(),
+    });
     let sources = Sources {
         matrix: &files.matrix.bytes,
         chars: &files.chars.bytes,
@@ -47,10 +85,22 @@ fn compile_sources(alloc: Global, files: &SourceFiles) -> Result<Compiled, Fault
 }
 
 /// Compiles a user dictionary for the system dictionary at a path.
-fn compile_user_files(rt: &HostRuntime, dic: &str, lexicons: &[String]) -> Result<Compiled, Fault> {
+fn compile_user_files(
+    rt: &HostRuntime,
+    dic: &str,
+    lexicons: &[String],
+    narrator: &Narrator<'_>,
+) -> Result<Compiled, Fault> {
     let system = dictionary_at(rt, dic)?;
+    narrator.say(Stage::Loaded { path: dic });
     let files = read_files(rt, lexicons)?;
+    for file in &files {
+        narrator.say_source(file);
+    }
     let texts = texts(rt.alloc(), &files)?;
+    narrator.say(Stage::Compiling {
+        lexicons: texts.len(),
+    });
     compile_user(rt.alloc(), &system, &texts).map_err(|fault| match fault {
         CompileUserFault::NotSystem => Fault::of_overlay(rt.alloc(), dic, OverlayFault::NotSystem),
         CompileUserFault::Source(fault) => {

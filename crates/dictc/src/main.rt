@@ -6,6 +6,7 @@ mod command_line;
 mod compiling;
 mod inputs;
 mod reporting;
+mod shares;
 
 use compiling::compile_told;
 use inputs::options_given;

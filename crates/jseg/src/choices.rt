@@ -29,4 +29,6 @@ pub struct Options {
     pub bos: Option<String>,
     /// What is printed behind the last word of a line.
     pub eos: Option<String>,
+    /// Whether the program says on standard error what it does.
+    pub verbose: bool,
 }

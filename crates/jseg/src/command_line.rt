@@ -1,27 +1,40 @@
 //! The command line.
 
 use crate::choices::{Input, Options};
+use crate::mecab_habits::{habit_in, with_habits};
 use clap::{Arg, ArgAction, ArgGroup, ArgMatches, Command, value_parser};
 use mj_model::{GROUPING_DEFAULT, GROUPING_MAX};
-use programs::{OptionsFault, found, text_of, texts_of};
+use programs::{
+    OptionsFault, VERSION, explain_arg, explained, found, text_of, texts_of, verbose_arg,
+};
 use std::alloc::{AllocError, Global};
 use std::string::String;
 
-/// The output formats that have a name.
-const OUTPUTS: [&str; 1] = ["wakati"];
+/// What is said where nothing says by what the text is to be cut.
+const NO_INPUT: &str = "one of -d IMG, --sources DIR and --sample has to be given";
 
 /// Reads the words that follow the program's name.
 pub fn options(alloc: Global, words: Vec<String>) -> Result<Options, OptionsFault> {
     let matches = found(alloc, command(alloc)?, words.as_slice())?;
-    Ok(choices(alloc, &matches)?)
+    if let Some(answer) = explained(alloc, &matches) {
+        return Err(answer);
+    }
+    match habit_in(&matches) {
+        Some(instead) => Err(OptionsFault::wrong(alloc, instead)),
+        None => choices(alloc, &matches),
+    }
 }
 
 /// What the program takes.
 fn command<'a>(alloc: Global) -> Result<Command<'a>, AllocError> {
     let command = Command::new(alloc, "jseg")
         .about("Cuts the Japanese text on standard input into words")
+        .version(VERSION)
+        .override_usage("jseg [OPTIONS] <-d IMG|--sources DIR|--sample> < TEXT")
         .no_binary_name(true);
-    with_formats(alloc, with_dictionaries(alloc, command)?)
+    let command = with_formats(alloc, with_dictionaries(alloc, command)?)?;
+    let command = command.arg(verbose_arg(alloc))?.arg(explain_arg(alloc))?;
+    with_habits(alloc, command)
 }
 
 /// With the options that name dictionaries: an image, a directory or the sample, and users' images with an image.
@@ -52,8 +65,7 @@ fn with_dictionaries<'a>(alloc: Global, command: Command<'a>) -> Result<Command<
     let input = ArgGroup::new(alloc, "input")
         .arg("dic")?
         .arg("sources")?
-        .arg("sample")?
-        .required(true);
+        .arg("sample")?;
     let command = command.arg(dic)?.arg(users)?.arg(sources)?.arg(sample)?;
     command.group(input)
 }
@@ -70,8 +82,7 @@ fn with_formats<'a>(alloc: Global, command: Command<'a>) -> Result<Command<'a>, 
         .short('O')
         .value_name("NAME")
         .action(ArgAction::Set)
-        .value_parser(OUTPUTS.as_slice())
-        .help("An output format by its name: a line of surfaces with a blank behind each");
+        .help("An output format by its name: wakati, a line of surfaces with a blank after each");
     command
         .arg(grouping)?
         .arg(output)?
@@ -87,7 +98,7 @@ fn with_formats<'a>(alloc: Global, command: Command<'a>) -> Result<Command<'a>, 
             alloc,
             "eos",
             'E',
-            "What is printed behind the last word of a line",
+            "What is printed after the last word of a line",
         ))
 }
 
@@ -102,26 +113,30 @@ fn format_arg<'a>(alloc: Global, id: &'a str, letter: char, help: &'a str) -> Ar
 }
 
 /// The choices that were found.
-fn choices(alloc: Global, matches: &ArgMatches<'_>) -> Result<Options, AllocError> {
+fn choices(alloc: Global, matches: &ArgMatches<'_>) -> Result<Options, OptionsFault> {
+    let Some(input) = input(alloc, matches)? else {
+        return Err(OptionsFault::wrong(alloc, NO_INPUT));
+    };
     Ok(Options {
-        input: input(alloc, matches)?,
+        input,
         grouping: matches.get_one("grouping").unwrap_or(GROUPING_DEFAULT),
         output: text_of(alloc, matches, "output")?,
         node: text_of(alloc, matches, "node")?,
         unk: text_of(alloc, matches, "unk")?,
         bos: text_of(alloc, matches, "bos")?,
         eos: text_of(alloc, matches, "eos")?,
+        verbose: matches.get_flag("verbose"),
     })
 }
 
-/// By what the text is cut: an image, a directory, or else the sample.
-fn input(alloc: Global, matches: &ArgMatches<'_>) -> Result<Input, AllocError> {
+/// By what the text is cut: an image, a directory or the sample; None where none is given.
+fn input(alloc: Global, matches: &ArgMatches<'_>) -> Result<Option<Input>, AllocError> {
     if let Some(dic) = text_of(alloc, matches, "dic")? {
         let users = texts_of(alloc, matches, "users")?;
-        return Ok(Input::Images { dic, users });
+        return Ok(Some(Input::Images { dic, users }));
     }
-    match text_of(alloc, matches, "sources")? {
-        Some(dir) => Ok(Input::Sources(dir)),
-        None => Ok(Input::Sample),
+    if let Some(dir) = text_of(alloc, matches, "sources")? {
+        return Ok(Some(Input::Sources(dir)));
     }
+    Ok(matches.get_flag("sample").then_some(Input::Sample))
 }

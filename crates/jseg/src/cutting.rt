@@ -6,22 +6,35 @@ use crate::images::cut_by_images;
 use crate::source_directory::read_directory;
 use mj_model::{Counted, GROUPING_MAX, NO_FILE, RunFault, Sources};
 use out_format::Format;
-use programs::{Fault, texts};
+use programs::{Fault, Narrator, Stage, texts};
 use segmenter::{run_sources, sample};
 use std::io::Write;
 
-/// How words are cut and printed.
+/// How words are cut and printed, and what is said meanwhile.
 #[derive(Drop)]
-pub struct Manner {
+pub struct Manner<'a> {
     pub grouping: u16,
     pub format: Format,
+    pub narrator: Narrator<'a>,
 }
 
-/// Cuts standard input into words.
+/// Cuts standard input into words, and says what is done where that is asked for.
 pub fn cut(rt: &HostRuntime, options: &Options) -> Result<(), Fault> {
+    let narrator = Narrator::new(rt, "jseg", options.verbose);
+    let lines = cut_lines(rt, options, narrator);
+    match &lines {
+        Ok(lines) => narrator.say(Stage::Cut { lines: *lines }),
+        Err(fault) => narrator.say_why(fault),
+    }
+    lines.map(|_lines| ())
+}
+
+/// Cuts it, and answers how many lines it has.
+fn cut_lines(rt: &HostRuntime, options: &Options, narrator: Narrator<'_>) -> Result<u64, Fault> {
     let manner = Manner {
         grouping: options.grouping,
         format: format_of(rt.alloc(), options).map_err(Fault::Format)?,
+        narrator,
     };
     match &options.input {
         Input::Images { dic, users } => cut_by_images(rt, dic.as_str(), users, &manner),
@@ -37,8 +50,9 @@ pub fn cut(rt: &HostRuntime, options: &Options) -> Result<(), Fault> {
 }
 
 /// Cuts it by the sources of a directory.
-fn cut_by_directory(rt: &HostRuntime, dir: &str, manner: &Manner) -> Result<(), Fault> {
+fn cut_by_directory(rt: &HostRuntime, dir: &str, manner: &Manner<'_>) -> Result<u64, Fault> {
     let files = read_directory(rt, dir)?;
+    files.say(&manner.narrator);
     let lexicons = texts(rt.alloc(), &files.lexicons)?;
     let sources = Sources {
         matrix: &files.matrix.bytes,
@@ -53,7 +67,7 @@ fn cut_by_directory(rt: &HostRuntime, dir: &str, manner: &Manner) -> Result<(), 
 }
 
 /// Cuts it by sources, without users' ones. After a fault what was printed before is flushed.
-fn cut_by(rt: &HostRuntime, sources: &Sources<'_>, manner: &Manner) -> Result<(), RunFault> {
+fn cut_by(rt: &HostRuntime, sources: &Sources<'_>, manner: &Manner<'_>) -> Result<u64, RunFault> {
     let mut reader = Counted::new(rt.reader());
     let mut writer = Counted::new(rt.stdout());
     let cut = run_sources(
@@ -68,5 +82,5 @@ fn cut_by(rt: &HostRuntime, sources: &Sources<'_>, manner: &Manner) -> Result<()
     if cut.is_err() {
         let _ = writer.flush();
     }
-    cut.map(|_lines| ())
+    cut
 }

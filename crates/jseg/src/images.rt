@@ -2,7 +2,7 @@
 
 use crate::cutting::Manner;
 use mj_model::{Counted, GROUPING_MAX, OverlayFault};
-use programs::{Fault, dictionaries_at, dictionary_at};
+use programs::{Fault, Stage, dictionaries_at, dictionary_at};
 use segmenter::segment;
 use std::alloc::Global;
 use std::io::Write;
@@ -14,9 +14,10 @@ pub fn cut_by_images(
     rt: &HostRuntime,
     dic: &str,
     users: &[String],
-    manner: &Manner,
-) -> Result<(), Fault> {
+    manner: &Manner<'_>,
+) -> Result<u64, Fault> {
     let system = dictionary_at(rt, dic)?;
+    manner.narrator.say(Stage::Loaded { path: dic });
     let overlays = dictionaries_at(rt, users)?;
     let dictionaries = Dictionaries::new(&system, &overlays)
         .map_err(|fault| overlay_fault(rt.alloc(), dic, users, fault))?
@@ -33,7 +34,7 @@ pub fn cut_by_images(
     if cut.is_err() {
         let _ = writer.flush();
     }
-    cut.map(|_lines| ()).map_err(Fault::Run)
+    cut.map_err(Fault::Run)
 }
 
 /// What is wrong with the images together, with the path of the one at fault.

@@ -6,15 +6,18 @@ mod command_line;
 mod cutting;
 mod formatting;
 mod images;
+mod inputs;
+mod installed;
+mod mecab_habits;
 mod source_directory;
 
-use command_line::options;
 use cutting::cut;
+use inputs::options_given;
 use programs::run_program;
 use std::process::ExitCode;
 
 fn main(rt: HostRuntime) -> ExitCode {
-    run_program(&rt, "jseg", |rt, words| options(rt.alloc(), words), cut)
+    run_program(&rt, "jseg", options_given, cut)
 }
 
 #[cfg(test)]

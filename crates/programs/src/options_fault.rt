@@ -11,7 +11,7 @@ use std::string::String;
 /// Why there are no choices.
 #[derive(Debug, Drop)]
 pub enum OptionsFault {
-    /// Help was asked for: the text to print on standard output, with status 0.
+    /// Help, the version or an explanation was asked for: the text to print on standard output, with status 0.
     Help(String),
     /// The command line is wrong: the text to print on standard error, with status 2.
     Bad(String),
@@ -39,6 +39,14 @@ impl OptionsFault {
         match format!(in alloc; "{error}") {
             Ok(text) if error.use_stderr() => OptionsFault::Bad(text),
             Ok(text) => OptionsFault::Help(text),
+            Err(_) => OptionsFault::Memory,
+        }
+    }
+
+    /// The fault of a command line that is wrong in this way.
+    pub fn wrong(alloc: Global, message: &str) -> OptionsFault {
+        match format!(in alloc; "error: {message}\n\nFor more information, try '--help'.\n") {
+            Ok(text) => OptionsFault::Bad(text),
             Err(_) => OptionsFault::Memory,
         }
     }

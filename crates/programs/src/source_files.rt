@@ -4,6 +4,7 @@ ghost use Rattle.std.specs.Prelude.{◌≡◌, ◌⊎◌, ◌-◌, ◌≤◌, �
 ghost use Rattle.mj_model.specs.declared.source_fault.TheConstants.{CHAR_FILE as CharFile, FIRST_LEXICON_FILE as FirstLexiconFile, MATRIX_FILE as MatrixFile, NO_FILE as NoFile, UNK_FILE as UnkFile};
 ghost use Rattle.programs.specs.Paths.{IsLexiconPath, IsPathOf};
 
+use crate::narrator::Narrator;
 use crate::whole_file::WholeFile;
 use mj_model::{CHAR_FILE, FIRST_LEXICON_FILE, MATRIX_FILE, NO_FILE, UNK_FILE};
 
@@ -31,6 +32,16 @@ impl SourceFiles {
             CHAR_FILE => Some(self.chars.path.as_str()),
             UNK_FILE => Some(self.unk.path.as_str()),
             lexicon => lexicon_path(&self.lexicons, lexicon),
+        }
+    }
+
+    /// Says that each was read.
+    pub fn say(&self, narrator: &Narrator<'_>) {
+        narrator.say_source(&self.matrix);
+        narrator.say_source(&self.chars);
+        narrator.say_source(&self.unk);
+        for lexicon in &self.lexicons {
+            narrator.say_source(lexicon);
         }
     }
 }

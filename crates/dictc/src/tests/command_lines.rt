@@ -13,6 +13,8 @@ use std::test::Fail;
 enum Asked {
     /// A system dictionary of the definitions `m`, `c` and `u` and of these lexicons.
     System(&'static str),
+    /// The same, and what is done is to be said.
+    Told(&'static str),
     /// A user dictionary for this system, of these lexicons.
     User(&'static str, &'static str),
 }
@@ -20,7 +22,7 @@ enum Asked {
 impl Asked {
     fn options(self, alloc: Global) -> Result<Options, AllocError> {
         let (base, lexicons) = match self {
-            Asked::System(lexicons) => {
+            Asked::System(lexicons) | Asked::Told(lexicons) => {
                 let definitions = Base::Definitions {
                     matrix: String::from_str(alloc, "m")?,
                     chars: String::from_str(alloc, "c")?,
@@ -34,18 +36,20 @@ impl Asked {
             base,
             out: String::from_str(alloc, "o")?,
             lexicons: words(alloc, lexicons)?,
+            verbose: matches!(self, Asked::Told(_)),
         })
     }
 }
 
 #[test]
 fn command_lines(rt: HostRuntime) -> Result<(), Fail> {
-    use Asked::{System, User};
+    use Asked::{System, Told, User};
     #[rattlefmt::skip]
     let rows = [
         // (what, words, what is asked for)
         ("a system", "system --matrix m --char c --unk u --out o a.csv", System("a.csv")),
         ("options with =", "system b --out=o --unk=u a --char=c --matrix=m", System("b a")),
+        ("what is done", "system --matrix m --char c --unk u --out o -v a.csv", Told("a.csv")),
         ("a user", "user --dic sys.img --out o a.csv", User("sys.img", "a.csv")),
         ("a lexicon twice", "user --dic s --out o a b a", User("s", "a b a")),
         ("a lexicon like an option", "user --dic s --out o -- --out", User("s", "--out")),
@@ -69,6 +73,13 @@ fn command_lines_that_end_at_once(rt: HostRuntime) -> Result<(), Fail> {
         ("help", "--help", HELP),
         ("help for a system", "system --help", HELP),
         ("help for a user", "user --help", HELP),
+        ("the version", "--version", (0, "layouts read: 1, 2, 3; written: 3")),
+        ("a code", "--explain L4", (0, "L4 BadSection\nMeaning: ")),
+        ("memory", "--explain Memory", (0, "Memory\nMeaning: ")),
+        ("no code", "--explain", BAD),
+        ("a code of none", "--explain l4", (2, "no fault has the code 'l4'")),
+        ("a name that is near", "systen", (2, "'system'")),
+        ("an option that is near", "system --matrx m", (2, "'--matrix'")),
         ("nothing asked for", "", BAD),
         ("another subcommand", "delete", BAD),
         ("options alone", "--out o a", BAD),

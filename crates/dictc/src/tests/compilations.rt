@@ -7,7 +7,7 @@ use crate::reporting::tell_counts;
 use dict_compile::Compiled;
 use dict_image::load;
 use mj_model::{OverlayFault, SourceFault, SourceKind, sample};
-use programs::Fault;
+use programs::{Fault, Narrator};
 use std::fs;
 use std::string::String;
 use std::test::Fail;
@@ -66,7 +66,8 @@ fn directory_of_files(rt: &HostRuntime, test: &str) -> Result<String, Fail> {
 /// Compiles what a command line asks for.
 fn compile_in(rt: &HostRuntime, dir: &str, given: &str) -> Result<Result<Compiled, Fault>, Fail> {
     let options = options(rt.alloc(), words_in(rt, dir, given)?)?;
-    Ok(compile_image(rt, &options))
+    let quiet = Narrator::new(rt, "dictc", false);
+    Ok(compile_image(rt, &options, &quiet))
 }
 
 /// The bytes of a directory's file.

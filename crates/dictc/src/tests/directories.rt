@@ -4,7 +4,7 @@ use super::{in_directory, new_directory};
 use crate::choices::{Base, Options};
 use crate::compiling::compile_image;
 use mj_model::ImageFault;
-use programs::Fault;
+use programs::{Fault, Narrator};
 use std::test::Fail;
 use std::{fs, io};
 
@@ -25,12 +25,14 @@ fn options_in(rt: &HostRuntime, dir: &str, user: bool) -> io::Result<Options> {
         base,
         out: in_directory(rt, dir, "img")?,
         lexicons,
+        verbose: false,
     })
 }
 
 #[test]
 fn files_that_cannot_be_read(rt: HostRuntime) -> Result<(), Fail> {
     let dir = new_directory(&rt, "unreadable")?;
+    let quiet = Narrator::new(&rt, "dictc", false);
     let rows = [
         // (whether for a user, the file that is made before, the one that is told)
         (true, "", "sys.img"),
@@ -45,7 +47,7 @@ fn files_that_cannot_be_read(rt: HostRuntime) -> Result<(), Fail> {
             fs::write(&rt, path.as_str(), "x")?;
         }
         let path = in_directory(&rt, dir.as_str(), wanted)?;
-        match &compile_image(&rt, &options_in(&rt, dir.as_str(), user)?) {
+        match &compile_image(&rt, &options_in(&rt, dir.as_str(), user)?, &quiet) {
             Err(Fault::File(told)) => assert!(rt; *told == path, "{wanted}"),
             _ => assert!(rt; false, "{wanted}"),
         }
@@ -61,9 +63,10 @@ fn files_that_cannot_be_read(rt: HostRuntime) -> Result<(), Fail> {
 #[test]
 fn images_that_are_none(rt: HostRuntime) -> Result<(), Fail> {
     let dir = new_directory(&rt, "images")?;
+    let quiet = Narrator::new(&rt, "dictc", false);
     let path = in_directory(&rt, dir.as_str(), "sys.img")?;
     fs::write(&rt, path.as_str(), "no image")?;
-    let compiled = compile_image(&rt, &options_in(&rt, dir.as_str(), true)?);
+    let compiled = compile_image(&rt, &options_in(&rt, dir.as_str(), true)?, &quiet);
     fs::remove_dir_all(&rt, dir.as_str())?;
     // The image is loaded before the lexicon is read, which isn't there.
     match &compiled {

@@ -104,6 +104,60 @@ fn help(rt: HostRuntime) -> Result<(), Fail> {
     Ok(())
 }
 
+/// What is answered about the program and its faults.
+#[test]
+fn answers(rt: HostRuntime) -> Result<(), Fail> {
+    #[rattlefmt::skip]
+    let rows = [
+        // (words, status, what is in the text)
+        ("--version",        0, "layouts read: 1, 2, 3; written: 3"),
+        ("--explain L4",     0, "L4 BadSection\nMeaning: "),
+        ("--explain=Memory", 0, "Memory\nMeaning: "),
+        ("--explain l4",     2, "no fault has the code 'l4'"),
+        ("--simple",         2, "'--sample'"),
+        ("--soures a",       2, "'--sources'"),
+    ];
+    for (given, status, text) in rows {
+        let Err(fault) = options(rt.alloc(), words(rt.alloc(), given)?) else {
+            assert!(rt; false, "{given}");
+            return Ok(());
+        };
+        assert!(rt; fault.status() == status, "{given}");
+        assert!(rt; fault.text().contains(text), "{given}");
+    }
+    Ok(())
+}
+
+/// What MeCab's users type first, and what they are told to do instead.
+#[test]
+fn mecab_habits(rt: HostRuntime) -> Result<(), Fail> {
+    #[rattlefmt::skip]
+    let rows = [
+        // (words, what is in the text)
+        ("sys.img text",              "jseg -d IMG < FILE"),
+        ("-d sys.img text",           "jseg -d IMG < FILE"),
+        ("-Ochasen",                  "for IPADIC write -F"),
+        ("-d sys.img -Ochasen",       "for IPADIC write -F"),
+        ("-d sys.img -O yomi",        "-F '%pS%f[7]' -U '%M' -E '\\n'"),
+        ("-d sys.img -Osimple",       "for IPADIC write -F"),
+        ("-d sys.img -O dump",        "-O takes wakati alone"),
+        ("-N2",                       "leave it out"),
+        ("-d sys.img -N 2 -b 100000", "leave it out"),
+        ("-d sys.img -b 100000",      "1,048,576"),
+        ("-d sys.img -o out.txt",     "> FILE"),
+        ("-r /dev/null -d sys.img",   "dicrc"),
+    ];
+    for (given, text) in rows {
+        let Err(fault) = options(rt.alloc(), words(rt.alloc(), given)?) else {
+            assert!(rt; false, "{given}");
+            return Ok(());
+        };
+        assert!(rt; fault.status() == 2, "{given}");
+        assert!(rt; fault.text().contains(text), "{given}");
+    }
+    Ok(())
+}
+
 #[test]
 fn wrong_command_lines(rt: HostRuntime) -> Result<(), Fail> {
     let rows = [

@@ -1,6 +1,6 @@
 //! What is told of each fault, and the statuses.
 
-use crate::{Fault, report};
+use crate::{Fault, explanation_of, report};
 use mj_model::OverlayFault::{NotSystem, NotUser, OtherSizes};
 use mj_model::{
     FormatFault, FormatKind, FormatPart, ImageFault, NO_FILE, NamedFault, OverlayFault, RunFault,
@@ -136,8 +136,15 @@ fn told_faults(rt: HostRuntime) -> Result<(), Fail> {
         let fault = told.fault(alloc)?;
         assert!(rt; is_told(alloc, &fault, line, *status)?, "{line}");
         assert!(rt; has_words(alloc, line, &fault)?, "{line}");
+        assert!(rt; is_explained(&fault), "{line}");
     }
     Ok(())
+}
+
+/// Whether a fault has an explanation, by its code and name.
+fn is_explained(fault: &Fault) -> bool {
+    explanation_of(fault.code()).is_some_and(|found| found.code == fault.code()
+        && found.name == fault.name())
 }
 
 /// Faults of sources without a path, and the ones that carry them.

@@ -1,0 +1,75 @@
+//! The steps of a program's work, as `-v` tells them.
+
+use crate::one_line::OneLine;
+use std::fmt::{self, Display, Formatter, Write};
+
+/// A step of a program's work. Sizes are in bytes.
+#[derive(Clone, Copy, Debug)]
+pub enum Stage<'a> {
+    /// A file was read.
+    Read {
+        path: &'a str,
+        bytes: usize,
+    },
+    /// A source that was read begins with a byte order mark, which counts as text.
+    ByteOrderMark {
+        path: &'a str,
+    },
+    /// An image was tested and loaded.
+    Loaded {
+        path: &'a str,
+    },
+    /// The compilation begins, of so many lexicons.
+    Compiling {
+        lexicons: usize,
+    },
+    /// It ended, with so many entries and an image of so many bytes.
+    Compiled {
+        entries: u64,
+        bytes: usize,
+    },
+    /// An image was written.
+    Written {
+        path: &'a str,
+        bytes: usize,
+    },
+    /// A section of an image has so many bytes, and this share of the image in percent.
+    Share {
+        section: &'a str,
+        bytes: u64,
+        percent: u128,
+    },
+    /// The text was cut, of so many lines.
+    Cut {
+        lines: u64,
+    },
+}
+
+impl Display for Stage<'_> {
+    fn fmt<W: Write>(&self, f: &mut Formatter<W>) -> fmt::Result {
+        match *self {
+            Stage::Read { path, bytes } => write!(f, "read {}: {bytes} bytes", OneLine(path)),
+            Stage::ByteOrderMark { path } => {
+                write!(
+                    f,
+                    "{} begins with a byte order mark, which counts as text",
+                    OneLine(path)
+                )
+            }
+            Stage::Loaded { path } => write!(f, "loaded {}", OneLine(path)),
+            Stage::Compiling { lexicons } => write!(f, "compiling {lexicons} lexicons"),
+            Stage::Compiled { entries, bytes } => {
+                write!(f, "compiled {entries} entries to {bytes} bytes")
+            }
+            Stage::Written { path, bytes } => {
+                write!(f, "wrote {}: {bytes} bytes", OneLine(path))
+            }
+            Stage::Share {
+                section,
+                bytes,
+                percent,
+            } => { write!(f, "{section}: {bytes} bytes, {percent} %") }
+            Stage::Cut { lines } => write!(f, "cut {lines} lines"),
+        }
+    }
+}

@@ -1,0 +1,81 @@
+"""What the programs say of themselves and of their work: versions, explanations, `-v`, and what to do in place of MeCab's options."""
+from .codes import codes_of_programs
+from .images import LAYOUT_1
+from .run import ANY, LEXICON, MATRIX, SYSTEM, USER, Has, Run
+from .texts import MO
+
+VERSION = "0.1.0\nimage layouts read: 1, 2, 3; written: 3\n"
+LINE = "3 entries, 0 skipped\n"
+MADE = {"new.img": "sys.img"}
+MARK = b"\xef\xbb\xbf"
+DENIED = 0o000
+
+
+def explained(code):
+    """Both programs explain a code."""
+    for program in ("dictc", "jseg"):
+        words = f"{program} --explain {code.split()[0]}"
+        yield Run(words, words, out=Has(f"{code}\nMeaning: ", ("\nUsual cause: ", "\nWhat to do: ")))
+
+
+# A wrong command line, and the option or name that is near. (words, the near one)
+NEAR = [
+    ("dictc systm", "'system'"),
+    ("dictc system --matrx a/matrix.def", "'--matrix'"),
+    ("dictc user --dict sys.img", "'--dic'"),
+    ("jseg --sourcs a", "'--sources'"),
+    ("jseg --simple", "'--sample'"),
+    ("jseg --explian L4", "'--explain'"),
+]
+
+# What MeCab's users type first, and what they are told. (words, in the line)
+HABITS = [
+    ("jseg sys.img text.txt", "jseg -d IMG < FILE"),
+    ("jseg -d sys.img text.txt", "jseg -d IMG < FILE"),
+    ("jseg --sample text.txt", "jseg -d IMG < FILE"),
+    ("jseg -Ochasen", "-F '%m\\t%f[7]\\t%f[6]\\t%f[0]-%f[1]-%f[2]-%f[3]\\t%f[4]\\t%f[5]\\n'"),
+    ("jseg -d sys.img -O yomi", "-F '%pS%f[7]' -U '%M' -E '\\n'"),
+    ("jseg -d sys.img -O simple", "-F '%m\\t%f[0]-%f[1]-%f[2]-%f[3]\\n'"),
+    ("jseg -d sys.img -O dump", "dicrc"),
+    ("jseg -N 2", "-N is not known"),
+    ("jseg -d sys.img -N2", "-N is not known"),
+    ("jseg -d sys.img -b 1000000", "-b is not needed"),
+    ("jseg -d sys.img -o out.txt", "> FILE"),
+    ("jseg -r mecabrc -d sys.img", "dicrc"),
+]
+COMPILED, SOURCES = {"dic": {}, "dic/sys.dic": b"x"}, {"dic": {}, "dic/matrix.def": MATRIX}
+
+# Why a file can't be read. (words, path, what stands there, why)
+WHY = [
+    ("jseg -d none.img -v", "none.img", None, "it is not there"),
+    ("jseg -v -d sys.img -u none.img", "none.img", None, "it is not there"),
+    ("jseg -d folder -v", "folder", {}, "it is a directory"),
+    ("jseg --sources a -v", "a/unk.def", None, "it is not there"),
+    (f"{SYSTEM} -v none.csv", "none.csv", None, "it is not there"),
+    (f"{SYSTEM} -v folder", "folder", {}, "it is a directory"),
+    ("dictc user -v --dic none.img --out new.img user.csv", "none.img", None, "it is not there"),
+]
+
+SHARES = ["connection costs: 8 bytes", "categories of code points: ", "keys: ", "group index: ", "tokens: ", "features: "]
+
+ROWS = [
+    *(Run(f"{name} {option}", f"{name} {option}", out=f"{name} {VERSION}") for name in ("dictc", "jseg") for option in ("--version", "-V")),
+    *(run for code in sorted(codes_of_programs()) for run in explained("Memory" if code == "Memory" else code)),
+    *(Run(words, words, err=Has("error: no fault has the code"), status=2) for words in ("jseg --explain X9", "dictc --explain l4")),
+    *(Run(words, words, err=Has("error: ", (near,)), status=2) for words, near in NEAR),
+    *(Run(words, words, "も\n", err=Has("error: ", (told,)), status=2) for words, told in HABITS),
+    *(Run(f"MeCab's, {files}", "jseg -d dic", err=Has("error: dic is a dictionary of MeCab"), status=2, files=files) for files in (COMPILED, SOURCES)),
+    *(Run(f"{words}: {why}", words, err=Has("", (f": {path}: {why}\n", f": {path}: F1 File\n")), status=3, files={path: there}) for words, path, there, why in WHY),
+    Run("no permission", "jseg -d sys.img -v", err=Has("", ("sys.img: permission to read it is missing\n",)), status=3, modes={"sys.img": DENIED}),
+    Run("a name that is not UTF-8", "jseg --sources a -v", err=Has("", ("a: a name in this directory is not UTF-8\n",)), status=3, files={"a/\udcff": b""}),
+    *(Run(f"which option: {option}", f"jseg --sample -v {option} %q", err=Has("", (f"the text of {option}\n", "P2 BadItem 0\n")), status=2) for option in ("-F", "-U", "-B", "-E")),
+    Run("a mark before matrix.def", "jseg --sources a -v", err=Has("", ("a/matrix.def begins with a byte order mark", "a/matrix.def:1: M1 BadHeader")), status=1, files={"a/matrix.def": MARK + MATRIX}),
+    Run("a mark before a lexicon", f"{SYSTEM} -v mark.csv", out=LINE, err=Has("", ("mark.csv begins with a byte order mark",)), files={"mark.csv": MARK + LEXICON}, left={"new.img": ANY}),
+    Run("what dictc does", f"{SYSTEM} -v a/lexicon.csv", out=LINE, err=Has("dictc: ", ("read a/matrix.def: ", "compiling 1 lexicons", "compiled 3 entries", "wrote new.img: ", *SHARES)), left=MADE),
+    Run("what dictc does for a user", f"{USER} -v user.csv", out="1 entries, 0 skipped\n", err=Has("dictc: ", ("loaded sys.img", "read user.csv: ", "wrote new.img: ")), left={"new.img": "user.img"}),
+    Run("what jseg does", "jseg -d sys.img -v", "も\n", MO, err=Has("jseg: ", ("loaded sys.img", "cut 1 lines"))),
+    Run("an installed image", "jseg -d installed", "も\n", MO),
+    Run("a file before an installed image", "jseg -d installed", err="installed: L1 Truncated", status=1, files={"installed": LAYOUT_1[:100]}),
+    Run("a folder of its name", "jseg -d installed", "も\n", MO, files={"installed": {}}),
+    Run("a path of its name", "jseg -d ./installed", err="./installed: F1 File", status=3),
+]
