@@ -80,14 +80,14 @@ fn starved_search(rt: HostRuntime) -> Result<(), Fail> {
 
 #[test]
 fn starved_formats(rt: HostRuntime) -> Result<(), Fail> {
-    let dict = dict_with(&rt, sample().lexicons)?;
-    let dictionaries = Dictionaries::new(&dict, &[])?;
-    let text = "すもももも";
-    assert!(rt; text.len() <= SENTENCE_MAX);
     let node = "%m/%f[0]/%c/%pn/%pc\\s";
     let costs = again!(&rt, Format::parse(rt.alloc(), node, None, "", "%pc\\n"));
     let tabs = again!(&rt, Format::default_of(rt.alloc()));
     let wakati = again!(&rt, Format::wakati(rt.alloc()));
+    let dict = dict_with(&rt, sample().lexicons)?;
+    let dictionaries = Dictionaries::new(&dict, &[])?;
+    let text = "すもももも";
+    assert!(rt; text.len() <= SENTENCE_MAX);
     let Ok(path) = best_path(rt.alloc(), &dictionaries, text) else {
         rt.eprintln("refused")?;
         return Ok(());
