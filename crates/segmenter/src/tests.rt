@@ -7,6 +7,7 @@ mod expected_words;
 mod failing;
 mod faults;
 mod formats;
+mod growths;
 mod long_output;
 mod older_images;
 mod older_layouts;
