@@ -37,7 +37,7 @@ back_all P (x ∷ xs) ys h = back_all P xs ys (All-tail P x (xs ++ ys) h)
 
 -- ---- a text is the whole lines of a front, and the lines of what stands behind them
 
-text_lines-behind : (bytes rest : List ℕ) → text_lines (bytes ++ rest) ≡ whole_lines bytes ++ text_lines (open_line bytes ++ rest)
+pub text_lines-behind : (bytes rest : List ℕ) → text_lines (bytes ++ rest) ≡ whole_lines bytes ++ text_lines (open_line bytes ++ rest)
 text_lines-behind bytes rest =
     let all = bytes ++ rest in
     let behind = open_line bytes ++ rest in

@@ -12,3 +12,4 @@ pub mod OverlayLemmas
 pub mod EarlyEnds
 pub mod LoadedLemmas
 pub mod OneOutput
+pub mod JoinedTexts

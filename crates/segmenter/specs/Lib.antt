@@ -1,6 +1,7 @@
 pub mod LineErrors
 pub mod PrintedLines
 pub mod OneOutput
+pub mod JoinedTexts
 pub mod Progress
 pub mod Runs
 pub mod GoodRuns
