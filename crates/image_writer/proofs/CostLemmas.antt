@@ -1,23 +1,18 @@
 -- Costs that were written are read back.
-use Rattle.std.proofs.Common.{◌≡◌, ℕ, ◌+◌, ◌*◌, ℤ, pos, List, ◌++◌, length, take, drop, sym, ap, ◌∙◌, arith}
+use Rattle.std.proofs.Common.{◌≡◌, ℕ, ◌+◌, ◌*◌, ℤ, pos, List, length, drop, refl, ap, ◌∙◌, arith}
 use Rattle.std.specs.Prelude.{flat_map, slice_index_or}
 use Rattle.std.specs.Int.{w16, cast_signed, cast_unsigned}
 use mir.Val.{SFits}
 use Rattle.std.proofs.lemmas.Int.{ints, to_z-of_z}
 use Rattle.std.proofs.Math.Facts.{Fits-of_z}
-use Rattle.std.proofs.lemmas.List.{take_at}
-use Rattle.byteorder.specs.Endian.{little_bytes}
 use Rattle.byteorder.specs.Numbers.{length-bytes_low_first}
 use Rattle.image_bytes.specs.ImageBytes.{number_at}
 use Rattle.image_bytes.specs.ImageSections.{stored_cost}
 use Rattle.matrix_def.specs.Costs.{CostTable, IsCost, IsMatrix, cell_at}
 use Rattle.matrix_def.proofs.RowLemmas.{within_table}
 use Rattle.image_bytes.proofs.NumberLemmas.{number_back}
-use Rattle.image_writer.specs.StoredTables.{AreCostsOf}
+use Rattle.image_writer.specs.StoredTables.{AreCostsOf, cost_bytes, cost_section}
 use Rattle.image_bytes.proofs.ItemLemmas.{items_length, item_at}
-
-abbrev pub cost_bytes : ℤ → List ℕ
-cost_bytes z = little_bytes 2 (cast_unsigned w16 z)
 
 two_bytes : (z : ℤ) → length (cost_bytes z) ≡ 2
 two_bytes z = length-bytes_low_first 0 2 (cast_unsigned w16 z)
@@ -25,7 +20,7 @@ two_bytes z = length-bytes_low_first 0 2 (cast_unsigned w16 z)
 word_fits : (z : ℤ) → IsCost z → SFits w16 z
 word_fits z within = record { sfits = grind (arith, ints, within.0, within.1) }
 
-pub costs_are : (m : CostTable) (bytes : List ℕ) → IsMatrix m → bytes ≡ flat_map cost_bytes m.costs → AreCostsOf m bytes
+costs_are : (m : CostTable) (bytes : List ℕ) → IsMatrix m → bytes ≡ flat_map cost_bytes m.costs → AreCostsOf m bytes
 costs_are m bytes formed is = record {
   formed = ap length is ∙ items_length cost_bytes 2 two_bytes m.costs ∙ ap (λ n. 2 * n) formed.cells;
   costs = λ right left pair.
@@ -37,9 +32,10 @@ costs_are m bytes formed is = record {
       ∙ to_z-of_z w16 z (word_fits z (formed.fits k));
 }
 
--- the same of bytes that were written at the front of others
-pub costs_written : (m : CostTable) (written rest : List ℕ) (len : ℕ) → IsMatrix m → written ≡ flat_map cost_bytes m.costs → len ≡ 2 * length m.costs
-    → AreCostsOf m (take len (written ++ rest))
-costs_written m written rest len formed is all =
-    let long : length written ≡ len = ap length is ∙ items_length cost_bytes 2 two_bytes m.costs ∙ sym all in
-    costs_are m (take len (written ++ rest)) formed (take_at written rest len long ∙ is)
+-- bytes of two for each cost
+pub costs_length : (costs : List ℤ) → length (cost_section costs) ≡ 2 * length costs
+costs_length costs = items_length cost_bytes 2 two_bytes costs
+
+-- the same of a table's own costs
+pub own_costs_are : (m : CostTable) → IsMatrix m → AreCostsOf m (cost_section m.costs)
+own_costs_are m formed = costs_are m (cost_section m.costs) formed refl

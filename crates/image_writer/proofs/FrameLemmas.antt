@@ -1,6 +1,6 @@
 -- What is read from an image that was put together.
 use Rattle.std.proofs.Common.{◌≡◌, ℕ, zero, suc, ◌+◌, ◌-◌, ◌*◌, ◌^◌, ◌<◌, ◌≤◌, List, [], ◌∷◌, ◌++◌, length, take, drop, refl, sym, ap, ◌∙◌, subst, arith, append_assoc, mul-le-mul_left}
-use Rattle.std.specs.Prelude.{flat_map, map, slice_index, slice_index_or, slice_range, sum}
+use Rattle.std.specs.Prelude.{ℤ, flat_map, map, slice_index, slice_index_or, slice_range, sum}
 use Rattle.std.proofs.lemmas.List.{drop-append-le, drop_at, ext_get_or, length-append, length-map, take_all, take_at}
 use Rattle.std.proofs.lemmas.List.Folds.{flat_map-map}
 use Rattle.std.proofs.lemmas.List.FromFn.{length-map-range_with_len, get_or-map-range_with_len}
@@ -16,6 +16,7 @@ use Rattle.image_bytes.specs.ImageBytes.{header_length, header_of, image_magic, 
 use Rattle.image_bytes.specs.Layouts.{behind_sections}
 use Rattle.image_bytes.specs.declared.header.Header.{Header}
 use Rattle.image_writer.specs.Frames.{AreShort, AreSmall, IsFramed, IsHeaderFor, header_bytes, length_bytes, number_bytes, number_list}
+use Rattle.image_writer.specs.StoredTables.{cost_section}
 use Rattle.image_bytes.proofs.ItemLemmas.{item_at, items_length}
 use Rattle.image_bytes.proofs.NumberLemmas.{number_back}
 
@@ -167,12 +168,17 @@ module _ (h : Header) (sections : List (List ℕ)) (eight : length sections ≡ 
         }
 
 -- an image whose parts were written one behind another
-pub frame_of : (h : Header) (given : List (Bor (List ℕ))) (start head all digest image : List ℕ) → length given ≡ 8 → IsHeaderFor (map (λ section. section.now) given) h
-    → AreSmall (number_list h) → AreShort h.lengths → start ≡ [] → head ≡ start ++ header_bytes h
-    → all ≡ head ++ flat_map (λ section. section.now) given → digest ≡ sha256 all → length digest ≡ 32 → image ≡ all ++ digest
-    → IsFramed h (map (λ section. section.now) given) image
-frame_of h given start head all digest image eight is_for small short none header_is all_is digest_is digest_long is =
-    let sections = map (λ (section : Bor (List ℕ)). section.now) given in
-    let whole : all ≡ header_bytes h ++ joined sections = all_is ∙ rw (header_is, none) (ap (λ (bytes : List ℕ). header_bytes h ++ bytes) (sym (flat_map-map (λ (section : List ℕ). section) (λ (section : Bor (List ℕ)). section.now) given))) in
-    framed h sections (length-map given (λ (section : Bor (List ℕ)). section.now) ∙ eight) is_for small short digest image
+pub frame_of : (h : Header) (costs : List ℤ) (given : List (Bor (List ℕ))) (start head some all digest image : List ℕ) → length given ≡ 7
+    → IsHeaderFor (cost_section costs ∷ map (λ section. section.now) given) h
+    → AreSmall (number_list h) → AreShort h.lengths → start ≡ [] → head ≡ start ++ header_bytes h → some ≡ head ++ cost_section costs
+    → all ≡ some ++ flat_map (λ section. section.now) given → digest ≡ sha256 all → length digest ≡ 32 → image ≡ all ++ digest
+    → IsFramed h (cost_section costs ∷ map (λ section. section.now) given) image
+frame_of h costs given start head some all digest image seven is_for small short none header_is some_is all_is digest_is digest_long is =
+    let first : List ℕ = cost_section costs in
+    let others : List (List ℕ) = map (λ (section : Bor (List ℕ)). section.now) given in
+    let same : flat_map (λ (section : Bor (List ℕ)). section.now) given ≡ joined others =
+    sym (flat_map-map (λ (section : List ℕ). section) (λ (section : Bor (List ℕ)). section.now) given) in
+    let whole : all ≡ header_bytes h ++ joined (first ∷ others) =
+    all_is ∙ rw (some_is, header_is, none, same) (append_assoc (header_bytes h) first (joined others)) in
+    framed h (first ∷ others) (ap suc (length-map given (λ (section : Bor (List ℕ)). section.now) ∙ seven)) is_for small short digest image
     (is ∙ ap (λ (bytes : List ℕ). bytes ++ digest) whole) (digest_is ∙ ap sha256 whole) digest_long

@@ -1,12 +1,21 @@
 -- Sections of an image that say what tables say.
-use Rattle.std.specs.Prelude.{◌≡◌, ℕ, ◌+◌, ◌≤◌, IsTrue, List, length, take}
+use Rattle.std.specs.Prelude.{◌≡◌, ℕ, ℤ, ◌+◌, ◌≤◌, IsTrue, List, flat_map, length, take}
+use Rattle.std.specs.Int.{w16, cast_unsigned}
 use Rattle.std.specs.List.{sum_by}
+use Rattle.byteorder.specs.Endian.{little_bytes}
 use Rattle.mj_model.specs.CharDef.{code_point_max}
 use Rattle.mj_model.specs.Connection.{is_pair}
 use Rattle.image_bytes.specs.ImageSections.{AreCategories, AreCosts, AreRanges, IsIndex, categories_in, index_at, stored_cost, stored_info}
 use Rattle.mj_model.specs.Lexicon.{Row}
 use Rattle.matrix_def.specs.Costs.{CostTable, matrix_cost}
 use Rattle.char_def.specs.Categories.{CharCategories, table_info}
+
+-- costs of 2 bytes each, low byte first
+abbrev pub cost_bytes : ℤ → List ℕ
+cost_bytes z = little_bytes 2 (cast_unsigned w16 z)
+
+abbrev pub cost_section : List ℤ → List ℕ
+cost_section costs = flat_map cost_bytes costs
 
 -- the costs of a table
 pub record AreCostsOf (m : CostTable) (bytes : List ℕ) : Type 0 where

@@ -1,17 +1,16 @@
 //! Section 1: connection costs.
-ghost use Rattle.std.specs.Prelude.{◌*◌, IfOk};
-ghost use Rattle.image_writer.specs.StoredTables.{AreCostsOf};
+ghost use Rattle.std.specs.Prelude.{◌≡◌, ◌++◌, OnOk};
+ghost use Rattle.image_writer.specs.StoredTables.{cost_section};
 
 use byteorder::{ByteOrder, LittleEndian};
-use matrix_def::Matrix;
-use std::alloc::{AllocError, Global};
+use std::alloc::AllocError;
 
-/// The costs of a matrix, 2 bytes each, those of one right id after another. On `Err` memory was refused.
-pub(crate) fn write_costs(alloc: Global, matrix: &Matrix) -> Result<Vec<u8>, AllocError>
-    ensures { IfOk result (λ bytes. AreCostsOf matrix.now bytes.items) }
+/// Appends costs, 2 bytes each. On `Err` memory was refused.
+pub(crate) fn append_costs(costs: &[i16], image: &mut Vec<u8>) -> Result<(), AllocError>
+    ensures { OnOk result (image.new.items ≡ image.old.items ++ cost_section costs.now) }
 {
-    let costs = matrix.costs();
-    let mut bytes = Vec::from_elem(alloc, 0, 2 * costs.len())?;
-    LittleEndian::write_i16_into(costs, &mut bytes);
-    Ok(bytes)
+    let front = image.len();
+    image.resize(front + 2 * costs.len(), 0)?;
+    LittleEndian::write_i16_into(costs, &mut image[front..]);
+    Ok(())
 }

@@ -1,31 +1,45 @@
 //! A whole image.
-ghost use Rattle.std.specs.Prelude.{◌≡◌, ◌++◌, map, flat_map, IfOk, OnOk};
+ghost use Rattle.std.specs.Prelude.{◌≡◌, ◌++◌, ◌∷◌, map, flat_map, IfOk, OnOk};
 ghost use Rattle.image_writer.specs.Frames.{IsFramed, IsHeaderFor};
+ghost use Rattle.image_writer.specs.StoredTables.{cost_section};
 
+use crate::costs::append_costs;
 use crate::header::append_header;
-use image_bytes::Header;
+use image_bytes::{DIGEST_LENGTH, HEADER_LENGTH, Header};
 use sha2::{Digest, Sha256};
 use std::alloc::{AllocError, Global};
 
-/// The image of a header and its sections. On `Err` memory was refused.
+/// The image of a header, of connection costs and of the seven sections after them. On `Err` memory was refused.
 pub(crate) fn write_image(
     alloc: Global,
     header: Header,
-    sections: &[&[u8]; 8],
+    costs: &[i16],
+    sections: &[&[u8]; 7],
 ) -> Result<Vec<u8>, AllocError>
-    requires { IsHeaderFor (map (λ section. section.now) sections.now) header }
-    ensures { IfOk result (λ image. IsFramed header (map (λ section. section.now) sections.now)
-        image.items) }
+    requires { IsHeaderFor (cost_section costs.now ∷ map (λ section. section.now) sections.now)
+        header }
+    ensures { IfOk result (λ image. IsFramed header
+        (cost_section costs.now ∷ map (λ section. section.now) sections.now) image.items) }
 {
-    let mut image = Vec::new(alloc);
+    let mut image = Vec::with_capacity(alloc, image_length(&header.lengths))?;
     append_header(header, &mut image)?;
+    append_costs(costs, &mut image)?;
     append_sections(sections, &mut image)?;
     let digest = Sha256::digest(&image);
     image.extend_from_slice(&digest)?;
     Ok(image)
 }
 
-fn append_sections(sections: &[&[u8]; 8], image: &mut Vec<u8>) -> Result<(), AllocError>
+/// How many bytes an image with sections of these lengths has, so that it is never moved while it is written.
+fn image_length(lengths: &[u64; 8]) -> usize {
+    lengths
+        .iter()
+        .fold(HEADER_LENGTH + DIGEST_LENGTH, |sum, length| {
+            sum.saturating_add(*length as usize)
+        })
+}
+
+fn append_sections(sections: &[&[u8]; 7], image: &mut Vec<u8>) -> Result<(), AllocError>
     ensures { OnOk result (image.new.items
         ≡ image.old.items ++ flat_map (λ section. section.now) sections.now) }
 {

@@ -1,17 +1,10 @@
 //! The header of an image.
-ghost use Rattle.std.specs.Prelude.{◌≡◌, ◌++◌, length, map, OnOk};
+ghost use Rattle.std.specs.Prelude.{◌≡◌, ◌++◌, OnOk};
 ghost use Rattle.image_writer.specs.Frames.{AreShort, AreSmall, header_bytes, length_bytes, number_bytes, number_list};
 
 use byteorder::{ByteOrder, LittleEndian};
 use image_bytes::{Header, MAGIC};
 use std::alloc::AllocError;
-
-/// How long the sections are, in bytes.
-pub(crate) fn lengths(sections: &[&[u8]; 8]) -> [u64; 8]
-    ensures { result ≡ map (λ section. length section.now) sections.now }
-{
-    sections.map(|section| section.len() as u64)
-}
 
 /// Appends the bytes of a header.
 pub(crate) fn append_header(header: Header, image: &mut Vec<u8>) -> Result<(), AllocError>

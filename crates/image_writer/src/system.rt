@@ -6,10 +6,8 @@ ghost use Rattle.image_writer.specs.Refusals.{FullOnlyFor, LargeOnlyFor};
 ghost use Rattle.image_writer.specs.SystemImages.{IsSystemImage};
 
 use crate::categories::write_categories;
-use crate::costs::write_costs;
 use crate::fault::LexiconFault;
 use crate::frame::write_image;
-use crate::header::lengths;
 use crate::lexicon::write_lexicon;
 use crate::ranges::write_ranges;
 use crate::unknown_index::{unknown_count, write_unknown_index};
@@ -40,13 +38,12 @@ pub fn write_system(
     let count = chars.count();
     let entries = lexicon.records().len();
     let lexicon_bytes = write_lexicon(alloc, lexicon, unknown)?;
-    let costs = write_costs(alloc, matrix)?;
+    let costs = matrix.costs();
     let categories = write_categories(alloc, chars)?;
     let ranges = write_ranges(alloc, chars)?;
     let index = write_unknown_index(alloc, unknown, entries)?;
     let sections = [
-        costs.as_slice(),
-        &categories,
+        categories.as_slice(),
         &ranges,
         &index,
         &lexicon_bytes.keys,
@@ -62,7 +59,16 @@ pub fn write_system(
         groups: lexicon_bytes.group_count,
         tokens: entries as u32,
         unknown: unknown_count(unknown) as u32,
-        lengths: lengths(&sections),
+        lengths: [
+            2 * costs.len() as u64,
+            categories.len() as u64,
+            ranges.len() as u64,
+            index.len() as u64,
+            lexicon_bytes.keys.len() as u64,
+            lexicon_bytes.groups.len() as u64,
+            lexicon_bytes.tokens.len() as u64,
+            lexicon_bytes.features.len() as u64,
+        ],
     };
-    Ok(write_image(alloc, header, &sections)?)
+    Ok(write_image(alloc, header, costs, &sections)?)
 }

@@ -6,7 +6,6 @@ ghost use Rattle.image_writer.specs.UserImages.{IsUserImage};
 
 use crate::fault::LexiconFault;
 use crate::frame::write_image;
-use crate::header::lengths;
 use crate::lexicon::write_user_lexicon;
 use image_bytes::{Header, LAYOUT};
 use lex_source::SortedLexicon;
@@ -27,7 +26,6 @@ pub fn write_user(alloc: Global, lexicon: &SortedLexicon) -> Result<Vec<u8>, Lex
         b"".as_slice(),
         b"",
         b"",
-        b"",
         &lexicon_bytes.keys,
         &lexicon_bytes.groups,
         &lexicon_bytes.tokens,
@@ -41,7 +39,16 @@ pub fn write_user(alloc: Global, lexicon: &SortedLexicon) -> Result<Vec<u8>, Lex
         groups: lexicon_bytes.group_count,
         tokens: lexicon.records().len() as u32,
         unknown: 0,
-        lengths: lengths(&sections),
+        lengths: [
+            0,
+            0,
+            0,
+            0,
+            lexicon_bytes.keys.len() as u64,
+            lexicon_bytes.groups.len() as u64,
+            lexicon_bytes.tokens.len() as u64,
+            lexicon_bytes.features.len() as u64,
+        ],
     };
-    Ok(write_image(alloc, header, &sections)?)
+    Ok(write_image(alloc, header, &[], &sections)?)
 }

@@ -1,5 +1,5 @@
 //! The section of connection costs.
-use crate::costs::write_costs;
+use crate::costs::append_costs;
 use matrix_def::read_matrix;
 use mj_model::sample;
 use std::test::Fail;
@@ -14,10 +14,9 @@ fn costs_of_a_matrix(rt: HostRuntime) -> Result<(), Fail> {
     ];
     for (what, source, bytes) in rows {
         let matrix = read_matrix(rt.alloc(), source)?;
-        assert!(rt;
-            write_costs(rt.alloc(), &matrix)?.as_slice() == bytes,
-            "{what}"
-        );
+        let mut section = Vec::new(rt.alloc());
+        append_costs(matrix.costs(), &mut section)?;
+        assert!(rt; section.as_slice() == bytes, "{what}");
     }
     Ok(())
 }

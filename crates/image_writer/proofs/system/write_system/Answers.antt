@@ -1,5 +1,5 @@
-use Rattle.std.proofs.Common.{◌≡◌, ◌≤◌, ℕ, List, [], ◌∷◌, length, ap, sym, ◌∙◌, subst}
-use Rattle.std.specs.Prelude.{map}
+use Rattle.std.proofs.Common.{rules, ◌≡◌, ◌≤◌, ℕ, List, [], ◌∷◌, length, refl, ap, sym, ◌∙◌, subst}
+use Rattle.std.specs.Prelude.{ℤ}
 use Rattle.std.proofs.lemmas.List.{length-map}
 use Rattle.mj_model.specs.declared.limits.TheConstants.{ENTRIES_MAX}
 use Rattle.mj_model.specs.declared.matrix_sizes.MatrixSizes.{MatrixSizes}
@@ -8,7 +8,8 @@ use Rattle.lex_source.specs.Lexicons.{AreLexiconRows}
 use Rattle.image_bytes.specs.declared.header.Header.{Header}
 use Rattle.image_bytes.specs.declared.layout.TheConstants.{LAYOUT}
 use Rattle.image_writer.specs.Frames.{IsFramed}
-use Rattle.image_writer.specs.StoredTables.{AreUnknownOf}
+use Rattle.image_writer.specs.StoredTables.{AreCostsOf, AreUnknownOf, cost_section}
+use Rattle.image_writer.proofs.CostLemmas.{costs_length, own_costs_are}
 use Rattle.image_writer.proofs.PartLemmas.{sections_with}
 use Rattle.image_writer.proofs.WholeLemmas.{system_image}
 use Rattle.image_writer.proofs.system.write_system.Goals as goal
@@ -22,20 +23,28 @@ returns-clause-image c =
     let made = c.in_ok-lexicon_bytes.lexicon_bytes in
     let entries = c.records-entries.ensures in
     let long : length c.records-entries.result.now ≡ length rows = sym (length-map c.records-entries.result.now row_of) ∙ ap length entries.rows in
-    let given : List (List ℕ) = c.as_slice.result.now ∷ c.deref.result.now ∷ c.deref-2.result.now ∷ c.deref-3.result.now
-    ∷ c.deref-4.result.now ∷ c.deref-5.result.now ∷ c.deref-6.result.now ∷ c.deref-7.result.now ∷ [] in
-    let listed : given ≡ sections_with c.in_ok-costs.costs.items c.in_ok-categories.categories.items c.in_ok-ranges.ranges.items c.in_ok-index.index.items made =
-    λ i. c.as_slice.ensures.value i ∷ c.deref.ensures.value i ∷ c.deref-2.ensures.value i ∷ c.deref-3.ensures.value i
-    ∷ c.deref-4.ensures.value i ∷ c.deref-5.ensures.value i ∷ c.deref-6.ensures.value i ∷ c.deref-7.ensures.value i ∷ [] in
-    system_image m chars unknown rows c.in_ok-costs.costs.items c.in_ok-categories.categories.items c.in_ok-ranges.ranges.items c.in_ok-index.index.items made
+    let costs = cost_section c.costs-costs.result.now in
+    let given : List (List ℕ) = costs ∷ c.as_slice.result.now ∷ c.deref.result.now ∷ c.deref-2.result.now ∷ c.deref-3.result.now
+    ∷ c.deref-4.result.now ∷ c.deref-5.result.now ∷ c.deref-6.result.now ∷ [] in
+    let listed : given ≡ sections_with costs c.in_ok-categories.categories.items c.in_ok-ranges.ranges.items c.in_ok-index.index.items made =
+    λ i. costs ∷ c.as_slice.ensures.value i ∷ c.deref.ensures.value i ∷ c.deref-2.ensures.value i ∷ c.deref-3.ensures.value i
+    ∷ c.deref-4.ensures.value i ∷ c.deref-5.ensures.value i ∷ c.deref-6.ensures.value i ∷ [] in
+    let categories : c.len.result ≡ length c.in_ok-categories.categories.items = search rules in
+    let ranges : c.len-2.result ≡ length c.in_ok-ranges.ranges.items = search rules in
+    let index : c.len-3.result ≡ length c.in_ok-index.index.items = search rules in
+    let keys : c.len-4.result ≡ length made.keys.items = search rules in
+    let groups : c.len-5.result ≡ length made.groups.items = search rules in
+    let tokens : c.len-6.result ≡ length made.tokens.items = search rules in
+    let features : c.len-7.result ≡ length made.features.items = search rules in
+    system_image m chars unknown rows costs c.in_ok-categories.categories.items c.in_ok-ranges.ranges.items c.in_ok-index.index.items made
     (record {
-      matrix = c.sizes.ensures.formed;
+      matrix = c.costs-costs.ensures.formed;
       entries = subst (λ (sizes : MatrixSizes). AreLexiconRows (record { sizes = sizes; rows = rows })) c.requires.sizes entries.formed.entries;
       few_unknown = subst (λ n. n ≤ ENTRIES_MAX) c.unknown_count.ensures.count c.unknown_count.ensures.few;
       count = c.requires.categories;
       chars_formed = c.count-count.ensures.formed;
       ids = c.requires.ids;
-      costs_are = c.in_ok-costs.ensures;
+      costs_are = subst (λ (costs : List ℤ). AreCostsOf m (cost_section costs)) (sym c.costs-costs.ensures.costs) (own_costs_are m c.costs-costs.ensures.formed);
       categories_are = c.in_ok-categories.ensures;
       ranges_are = c.in_ok-ranges.ensures;
       index_are = subst (λ n. AreUnknownOf n unknown c.in_ok-index.index.items) long c.in_ok-index.ensures;
@@ -52,8 +61,26 @@ returns-clause-image c =
         groups = made.group_count;
         tokens = long i;
         unknown = c.unknown_count.ensures.count i;
-        lengths = (c.lengths.ensures ∙ ap (map length) listed) i;
+        lengths = (sym (costs_length c.costs-costs.result.now)) i ∷ categories i ∷ ranges i ∷ index i ∷ keys i ∷ groups i ∷ tokens i ∷ features i ∷ [];
       },
       listed i,
     ))
     c.in_ok-write_image.ensures)
+
+pub write_image-requires : goal.write_image-requires
+write_image-requires c =
+    let made = c.in_ok-lexicon_bytes.lexicon_bytes in
+    let categories : c.len.result ≡ length c.in_ok-categories.categories.items = search rules in
+    let ranges : c.len-2.result ≡ length c.in_ok-ranges.ranges.items = search rules in
+    let index : c.len-3.result ≡ length c.in_ok-index.index.items = search rules in
+    let keys : c.len-4.result ≡ length made.keys.items = search rules in
+    let groups : c.len-5.result ≡ length made.groups.items = search rules in
+    let tokens : c.len-6.result ≡ length made.tokens.items = search rules in
+    let features : c.len-7.result ≡ length made.features.items = search rules in
+    record {
+      layout = refl;
+      lengths = λ i. (sym (costs_length c.costs-costs.result.now)) i ∷ (categories ∙ ap length (sym c.as_slice.ensures.value)) i
+          ∷ (ranges ∙ ap length (sym c.deref.ensures.value)) i ∷ (index ∙ ap length (sym c.deref-2.ensures.value)) i
+          ∷ (keys ∙ ap length (sym c.deref-3.ensures.value)) i ∷ (groups ∙ ap length (sym c.deref-4.ensures.value)) i
+          ∷ (tokens ∙ ap length (sym c.deref-5.ensures.value)) i ∷ (features ∙ ap length (sym c.deref-6.ensures.value)) i ∷ [];
+    }
