@@ -56,6 +56,7 @@ WHY = [
     ("dictc user -v --dic none.img --out new.img user.csv", "none.img", None, "it is not there"),
 ]
 
+STEPS = ["connection costs of 2 right ids and 2 left ids", "6 categories", "unknown words", "3 entries up to a/lexicon.csv"]
 SHARES = ["connection costs: 8 bytes", "categories of code points: ", "keys: ", "group index: ", "tokens: ", "features: "]
 
 ROWS = [
@@ -71,8 +72,8 @@ ROWS = [
     *(Run(f"which option: {option}", f"jseg --sample -v {option} %q", err=Has("", (f"the text of {option}\n", "P2 BadItem 0\n")), status=2) for option in ("-F", "-U", "-B", "-E")),
     Run("a mark before matrix.def", "jseg --sources a -v", err=Has("", ("a/matrix.def begins with a byte order mark", "a/matrix.def:1: M1 BadHeader")), status=1, files={"a/matrix.def": MARK + MATRIX}),
     Run("a mark before a lexicon", f"{SYSTEM} -v mark.csv", out=LINE, err=Has("", ("mark.csv begins with a byte order mark",)), files={"mark.csv": MARK + LEXICON}, left={"new.img": ANY}),
-    Run("what dictc does", f"{SYSTEM} -v a/lexicon.csv", out=LINE, err=Has("dictc: ", ("read a/matrix.def: ", "compiling 1 lexicons", "compiled 3 entries", "wrote new.img: ", *SHARES)), left=MADE),
-    Run("what dictc does for a user", f"{USER} -v user.csv", out="1 entries, 0 skipped\n", err=Has("dictc: ", ("loaded sys.img", "read user.csv: ", "wrote new.img: ")), left={"new.img": "user.img"}),
+    Run("what dictc does", f"{SYSTEM} -v a/lexicon.csv", out=LINE, err=Has("dictc: ", ("read a/matrix.def: ", "compiling 1 lexicons", *STEPS, "sorted 3 entries", "compiled 3 entries", "wrote new.img: ", *SHARES)), left=MADE),
+    Run("what dictc does for a user", f"{USER} -v user.csv", out="1 entries, 0 skipped\n", err=Has("dictc: ", ("loaded sys.img", "read user.csv: ", "1 entries up to user.csv", "sorted 1 entries", "wrote new.img: ")), left={"new.img": "user.img"}),
     Run("what jseg does", "jseg -d sys.img -v", "も\n", MO, err=Has("jseg: ", ("loaded sys.img", "cut 1 lines"))),
     Run("an installed image", "jseg -d installed", "も\n", MO),
     Run("a file before an installed image", "jseg -d installed", err="installed: L1 Truncated", status=1, files={"installed": LAYOUT_1[:100]}),

@@ -11,6 +11,7 @@ ghost use Rattle.dict_compile.specs.EveryKey.{AnswersKeysOfSources};
 use crate::compiled::Compiled;
 use crate::parts::read_sources;
 use crate::system_image::system_image;
+use crate::watch::{Unwatched, Watch};
 use mj_model::{SourceFault, Sources};
 use std::alloc::Global;
 
@@ -29,6 +30,25 @@ pub fn compile(alloc: Global, sources: &Sources<'_>) -> Result<Compiled, SourceF
     ensures first { (fault : FaultOf) → IsCompilationFault sources.now fault
         → IsRefusedFor fault result }
 {
-    let parts = read_sources(alloc, sources)?;
-    Ok(system_image(alloc, parts)?)
+    compile_watched(alloc, sources, &mut Unwatched {})
+}
+
+/// The same, while somebody watches.
+pub fn compile_watched<W: Watch>(
+    alloc: Global,
+    sources: &Sources<'_>,
+    watch: &mut W,
+) -> Result<Compiled, SourceFault>
+    ensures compiled { IfOk result (λ compiled. IsCompilation sources.now compiled.image.items
+        compiled.entries compiled.skipped) }
+    ensures every_key { IfOk result (λ compiled. AnswersKeysOfSources sources.now
+        (image_tables compiled.image.items)) }
+    ensures refused { IfErr result (λ fault. IsRefusal fault
+        (IsCompilationCause sources.now fault)) }
+    // Sources at fault are refused with their first fault, want of memory and of cells aside.
+    ensures first { (fault : FaultOf) → IsCompilationFault sources.now fault
+        → IsRefusedFor fault result }
+{
+    let parts = read_sources(alloc, sources, watch)?;
+    Ok(system_image(alloc, parts, watch)?)
 }

@@ -7,6 +7,7 @@ ghost use Rattle.mj_model.specs.Lexicon.{SkipLines};
 ghost use Rattle.mj_model.specs.declared.source_fault.TheConstants.{FIRST_LEXICON_FILE as FirstFile};
 ghost use Rattle.dict_compile.specs.Answers.{lexicons_of};
 
+use crate::watch::{Step, Watch};
 use lex_source::SourceLexicon;
 use mj_model::{FIRST_LEXICON_FILE, LAST_LEXICON_FILE, MatrixSizes, SourceFault};
 use std::alloc::Global;
@@ -37,10 +38,11 @@ fn with_more(skipped: u128, more: u64) -> u128
 }
 
 /// Reads the lexicons one after another, up to the first fault.
-pub(crate) fn read_lexicons(
+pub(crate) fn read_lexicons<W: Watch>(
     alloc: Global,
     lexicons: &[&[u8]],
     sizes: MatrixSizes,
+    watch: &mut W,
 ) -> Result<LexiconsRead, SourceFault>
     ensures sizes { IfOk result (λ read. read.lexicon.sizes ≡ sizes) }
     ensures accepted { IfOk result (λ read. AreLexicons sizes FirstFile []
@@ -56,6 +58,9 @@ pub(crate) fn read_lexicons(
         let more = lexicon.add(alloc, bytes, file)?;
         skipped = with_more(skipped, more);
         file = file_behind(file);
+        watch.done(Step::LexiconRead {
+            entries: lexicon.len() as u64,
+        });
     }
     Ok(LexiconsRead { lexicon, skipped })
 }

@@ -11,11 +11,13 @@ mod system_image;
 mod unknown;
 mod user_compilation;
 mod user_image;
+mod watch;
 
-pub use compilation::compile;
+pub use compilation::{compile, compile_watched};
 pub use compiled::Compiled;
 pub use fault::CompileUserFault;
-pub use user_compilation::compile_user;
+pub use user_compilation::{compile_user, compile_user_watched};
+pub use watch::{Step, Watch};
 
 #[cfg(test)]
 mod tests;

@@ -7,6 +7,7 @@ ghost use Rattle.dict_compile.specs.Parts.{AreParts, FitTogether};
 
 use crate::lexicons::read_lexicons;
 use crate::unknown::read_unknown;
+use crate::watch::{Step, Watch};
 use char_def::{CharTable, UnkTable, read_chars};
 use lex_source::SourceLexicon;
 use matrix_def::{Matrix, read_matrix};
@@ -25,16 +26,23 @@ pub(crate) struct SourceParts {
 }
 
 /// Reads the sources, up to the first fault.
-pub(crate) fn read_sources(alloc: Global, sources: &Sources<'_>) -> Result<SourceParts, SourceFault>
+pub(crate) fn read_sources<W: Watch>(
+    alloc: Global,
+    sources: &Sources<'_>,
+    watch: &mut W,
+) -> Result<SourceParts, SourceFault>
     ensures accepted { IfOk result (AreParts sources.now) }
     ensures fitting { IfOk result FitTogether }
     ensures refused { IfErr result (λ fault. IsRefusal fault (IsSourcesFault sources.now fault)) }
 {
     let matrix = read_matrix(alloc, sources.matrix)?;
     let sizes = matrix.sizes();
+    watch.done(Step::MatrixRead(sizes));
     let chars = read_chars(alloc, sources.chars)?;
+    watch.done(Step::CategoriesRead(chars.count()));
     let unknown = read_unknown(alloc, sources.unk, &chars, sizes)?;
-    let lexicons = read_lexicons(alloc, sources.lexicons, sizes)?;
+    watch.done(Step::UnknownRead);
+    let lexicons = read_lexicons(alloc, sources.lexicons, sizes, watch)?;
     Ok(SourceParts {
         matrix,
         chars,

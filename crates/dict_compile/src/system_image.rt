@@ -7,11 +7,16 @@ ghost use Rattle.dict_compile.specs.Parts.{FitTogether};
 
 use crate::compiled::Compiled;
 use crate::parts::SourceParts;
+use crate::watch::{Step, Watch};
 use image_writer::{LexiconFault, write_system};
 use std::alloc::Global;
 
 /// The image of a system dictionary, whose entries are sorted once.
-pub(crate) fn system_image(alloc: Global, parts: SourceParts) -> Result<Compiled, LexiconFault>
+pub(crate) fn system_image<W: Watch>(
+    alloc: Global,
+    parts: SourceParts,
+    watch: &mut W,
+) -> Result<Compiled, LexiconFault>
     requires { FitTogether parts }
     ensures image { IfOk result (IsImageOf parts) }
 
@@ -22,6 +27,7 @@ pub(crate) fn system_image(alloc: Global, parts: SourceParts) -> Result<Compiled
 {
     let entries = parts.lexicon.len() as u64;
     let lexicon = parts.lexicon.sorted()?;
+    watch.done(Step::Sorted { entries });
     let image = write_system(alloc, &parts.matrix, &parts.chars, &parts.unknown, &lexicon)?;
     Ok(Compiled {
         image,

@@ -1,4 +1,4 @@
-//! Small sources with what their images answer, sources that are refused, and images that were changed.
+//! Small sources with what their images answer, sources that are refused, images that were changed, and what is told on the way.
 mod damaged;
 mod lexicons;
 mod refused;
@@ -6,3 +6,4 @@ mod samples;
 mod sources;
 mod starved;
 mod user;
+mod watched;

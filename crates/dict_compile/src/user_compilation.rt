@@ -16,6 +16,7 @@ use crate::compiled::Compiled;
 use crate::fault::CompileUserFault;
 use crate::lexicons::read_lexicons;
 use crate::user_image::user_image;
+use crate::watch::{Unwatched, Watch};
 use dict_image::Dict;
 use mj_model::{MatrixSizes, SourceFault};
 use std::alloc::Global;
@@ -40,18 +41,41 @@ pub fn compile_user(
         → IsUserFault (image_tables system.now) (lexicons_of lexicons.now) fault
         → IsUserRefusedFor fault result }
 {
+    compile_user_watched(alloc, system, lexicons, &mut Unwatched {})
+}
+
+/// The same, while somebody watches.
+pub fn compile_user_watched<W: Watch>(
+    alloc: Global,
+    system: &Dict,
+    lexicons: &[&[u8]],
+    watch: &mut W,
+) -> Result<Compiled, CompileUserFault>
+    ensures compiled { IfOk result (λ compiled. IsUserCompilation (image_tables system.now)
+        (lexicons_of lexicons.now) compiled.image.items compiled.entries compiled.skipped) }
+    ensures every_key { IfOk result (λ compiled. AnswersKeysOf (image_tables system.now).sizes
+        (lexicons_of lexicons.now) (image_tables compiled.image.items)) }
+    ensures not_system { (result ≡ Err NotSystem) ↔ ((image_tables system.now).kind ≡ User) }
+    ensures refused { (fault : FaultOf) → result ≡ Err (Source fault)
+        → IsRefusal fault (IsUserCause (image_tables system.now) (lexicons_of lexicons.now) fault) }
+    // Lexicons at fault are refused with their first fault, want of memory and of cells aside.
+    ensures first { (fault : FaultOf)
+        → IsUserFault (image_tables system.now) (lexicons_of lexicons.now) fault
+        → IsUserRefusedFor fault result }
+{
     if system.is_user() {
         return Err(CompileUserFault::NotSystem);
     }
     let sizes = system.matrix_sizes();
-    Ok(compile_lexicons(alloc, sizes, lexicons)?)
+    Ok(compile_lexicons(alloc, sizes, lexicons, watch)?)
 }
 
 /// Compiles lexicons for a system dictionary of these sizes.
-fn compile_lexicons(
+fn compile_lexicons<W: Watch>(
     alloc: Global,
     sizes: MatrixSizes,
     lexicons: &[&[u8]],
+    watch: &mut W,
 ) -> Result<Compiled, SourceFault>
     requires { AreMatrixSizes sizes }
     ensures compiled { (system : TablesOf) → IsSystemOf sizes system
@@ -62,6 +86,6 @@ fn compile_lexicons(
     ensures first { (system : TablesOf) → IsSystemOf sizes system → (fault : FaultOf)
         → IsUserFault system (lexicons_of lexicons.now) fault → IsRefusedFor fault result }
 {
-    let read = read_lexicons(alloc, lexicons, sizes)?;
-    Ok(user_image(alloc, read)?)
+    let read = read_lexicons(alloc, lexicons, sizes, watch)?;
+    Ok(user_image(alloc, read, watch)?)
 }

@@ -8,11 +8,16 @@ ghost use Rattle.dict_compile.specs.UserImages.{HasTooLarge, IsUserImageOf};
 
 use crate::compiled::Compiled;
 use crate::lexicons::LexiconsRead;
+use crate::watch::{Step, Watch};
 use image_writer::{LexiconFault, write_user};
 use std::alloc::Global;
 
 /// The image of a user dictionary, whose entries are sorted once.
-pub(crate) fn user_image(alloc: Global, read: LexiconsRead) -> Result<Compiled, LexiconFault>
+pub(crate) fn user_image<W: Watch>(
+    alloc: Global,
+    read: LexiconsRead,
+    watch: &mut W,
+) -> Result<Compiled, LexiconFault>
     requires { AreMatrixSizes read.lexicon.sizes }
     ensures image { IfOk result (IsUserImageOf read) }
 
@@ -24,6 +29,7 @@ pub(crate) fn user_image(alloc: Global, read: LexiconsRead) -> Result<Compiled, 
 {
     let entries = read.lexicon.len() as u64;
     let lexicon = read.lexicon.sorted()?;
+    watch.done(Step::Sorted { entries });
     let image = write_user(alloc, &lexicon)?;
     Ok(Compiled {
         image,

@@ -3,7 +3,8 @@
 use crate::choices::{Base, Options};
 use crate::reporting::tell_counts;
 use crate::shares::say_shares;
-use dict_compile::{CompileUserFault, Compiled, compile, compile_user};
+use crate::step_teller::StepTeller;
+use dict_compile::{CompileUserFault, Compiled, compile_user_watched, compile_watched};
 use mj_model::{OverlayFault, Sources};
 use programs::{
     Fault, Narrator, SourceFiles, Stage, WholeFile, dictionary_at, lexicon_path, read_files, texts,
@@ -81,7 +82,12 @@ fn compile_sources(
         unk: &files.unk.bytes,
         lexicons: &lexicons,
     };
-    compile(alloc, &sources).map_err(|fault| Fault::of_source(alloc, files.path(fault.file), fault))
+    let mut teller = StepTeller::new(narrator, &files.lexicons);
+    compile_watched(alloc, &sources, &mut teller).map_err(|fault| Fault::of_source(
+        alloc,
+        files.path(fault.file),
+        fault,
+    ))
 }
 
 /// Compiles a user dictionary for the system dictionary at a path.
@@ -101,7 +107,8 @@ fn compile_user_files(
     narrator.say(Stage::Compiling {
         lexicons: texts.len(),
     });
-    compile_user(rt.alloc(), &system, &texts).map_err(|fault| match fault {
+    let mut teller = StepTeller::new(narrator, &files);
+    compile_user_watched(rt.alloc(), &system, &texts, &mut teller).map_err(|fault| match fault {
         CompileUserFault::NotSystem => Fault::of_overlay(rt.alloc(), dic, OverlayFault::NotSystem),
         CompileUserFault::Source(fault) => {
             Fault::of_source(rt.alloc(), lexicon_path(&files, fault.file), fault)

@@ -7,6 +7,7 @@ mod compiling;
 mod inputs;
 mod reporting;
 mod shares;
+mod step_teller;
 
 use compiling::compile_told;
 use inputs::options_given;

@@ -23,6 +23,26 @@ pub enum Stage<'a> {
     Compiling {
         lexicons: usize,
     },
+    /// The connection costs were read, for so many right ids and left ids.
+    CostsRead {
+        right: u32,
+        left: u32,
+    },
+    /// The categories were read.
+    CategoriesRead {
+        categories: usize,
+    },
+    /// The unknown words of all categories were read.
+    UnknownRead,
+    /// A lexicon was read. With those before it there are so many entries.
+    LexiconRead {
+        path: &'a str,
+        entries: u64,
+    },
+    /// The entries were sorted by their surfaces.
+    Sorted {
+        entries: u64,
+    },
     /// It ended, with so many entries and an image of so many bytes.
     Compiled {
         entries: u64,
@@ -58,6 +78,18 @@ impl Display for Stage<'_> {
             }
             Stage::Loaded { path } => write!(f, "loaded {}", OneLine(path)),
             Stage::Compiling { lexicons } => write!(f, "compiling {lexicons} lexicons"),
+            Stage::CostsRead { right, left } => {
+                write!(
+                    f,
+                    "connection costs of {right} right ids and {left} left ids"
+                )
+            }
+            Stage::CategoriesRead { categories } => write!(f, "{categories} categories"),
+            Stage::UnknownRead => write!(f, "unknown words"),
+            Stage::LexiconRead { path, entries } => {
+                write!(f, "{entries} entries up to {}", OneLine(path))
+            }
+            Stage::Sorted { entries } => write!(f, "sorted {entries} entries"),
             Stage::Compiled { entries, bytes } => {
                 write!(f, "compiled {entries} entries to {bytes} bytes")
             }

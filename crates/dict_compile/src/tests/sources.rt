@@ -1,6 +1,7 @@
 //! Lexicons one behind another, and all sources together.
 use crate::lexicons::{LexiconsRead, read_lexicons};
 use crate::parts::read_sources;
+use crate::watch::Unwatched;
 use mj_model::SourceKind::{BadNumber, IdOutside, MissingCategory};
 use mj_model::{MatrixSizes, SourceFault, Sources};
 use std::test::Fail;
@@ -8,7 +9,8 @@ use std::test::Fail;
 /// What two lexicons say within 2 right ids and 3 left ids.
 fn read(rt: &HostRuntime, first: &str, second: &str) -> Result<LexiconsRead, SourceFault> {
     let sizes = MatrixSizes { right: 2, left: 3 };
-    read_lexicons(rt.alloc(), &[first.as_bytes(), second.as_bytes()], sizes)
+    let lexicons = [first.as_bytes(), second.as_bytes()];
+    read_lexicons(rt.alloc(), &lexicons, sizes, &mut Unwatched {})
 }
 
 #[test]
@@ -65,7 +67,7 @@ fn all_sources(rt: HostRuntime) {
             unk: unknown.as_bytes(),
             lexicons: &[lexicon.as_bytes()],
         };
-        match read_sources(rt.alloc(), &sources) {
+        match read_sources(rt.alloc(), &sources, &mut Unwatched {}) {
             Ok(parts) => {
                 assert!(rt; expected.is_none(), "{what}");
                 let sizes = MatrixSizes { right: 3, left: 3 };

@@ -10,7 +10,7 @@ use Rattle.dict_compile.proofs.SkipLemmas.{skips_none}
 use Rattle.dict_compile.proofs.lexicons.read_lexicons.Goals as goal
 
 pub loop-bytes-init : goal.loop-bytes-init
-loop-bytes-init c = (
+loop-bytes-init g c = (
   ap (λ (l : LexiconRows). l.sizes) c.new-lexicon.ensures,
   λ read h. subst (λ (rows : List Row). AreLexicons c.args.sizes 3 rows (map (λ lexicon. lexicon.now) c.args.lexicons.now) read) (ap (λ (l : LexiconRows). l.rows) c.new-lexicon.ensures) h,
   skips_none,
@@ -18,7 +18,7 @@ loop-bytes-init c = (
 )
 
 pub loop-bytes-preserved : goal.loop-bytes-preserved
-loop-bytes-preserved c =
+loop-bytes-preserved g c =
     let adds = c.in_ok-more.ensures.added in
     let sizes : MatrixSizes = c.args.sizes in (
       adds.sizes ∙ c.loop-bytes.invariant.0,
@@ -30,16 +30,16 @@ loop-bytes-preserved c =
     )
 
 pub returns-in_err-more-clause-refused : goal.returns-in_err-more-clause-refused
-returns-in_err-more-clause-refused c =
+returns-in_err-more-clause-refused g c =
     let p = err_from_is_err_and c.from_residual.result c.from_residual.ensures.1 in
     rw (p.1, p.2)
     (lexicons_fault c.args.sizes c.loop-bytes.file c.args.lexicons.now c.loop-bytes.bytes-index _ c.loop-bytes-test.true c.loop-bytes.lexicon
     c.loop-bytes.invariant.0 c.loop-bytes.invariant.1 c.in_err-more.field-0.0 c.in_err-more.ensures.refused)
 
 pub returns-clause-accepted : goal.returns-clause-accepted
-returns-clause-accepted c =
+returns-clause-accepted g c =
     lexicons_end c.args.sizes c.loop-bytes.file c.args.lexicons.now c.loop-bytes.bytes-index c.loop-bytes.lexicon.rows
     c.loop-bytes-test.false c.loop-bytes.invariant.1
 
 pub returns-clause-skipped : goal.returns-clause-skipped
-returns-clause-skipped c = skips_end c.args.lexicons.now c.loop-bytes.bytes-index c.loop-bytes.skipped c.loop-bytes-test.false c.loop-bytes.invariant.2
+returns-clause-skipped g c = skips_end c.args.lexicons.now c.loop-bytes.bytes-index c.loop-bytes.skipped c.loop-bytes-test.false c.loop-bytes.invariant.2

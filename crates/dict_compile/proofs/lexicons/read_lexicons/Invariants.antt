@@ -7,7 +7,7 @@ use Rattle.dict_compile.proofs.lexicons.read_lexicons.Given as goal
 
 -- as the lexicons that are left read behind the records so far, so all read; and the lexicons so far skip this many lines, less than 2^64 each
 abbrev pub invariant-loop-bytes : goal.invariant-loop-bytes
-invariant-loop-bytes l =
+invariant-loop-bytes g l =
     (l.lexicon.sizes ≡ l.fn.sizes)
     × ((read : Result (List Row) SourceFault)
     → AreLexicons l.fn.sizes l.file l.lexicon.rows (map (λ lexicon. lexicon.now) (drop l.bytes-index l.lexicons)) read

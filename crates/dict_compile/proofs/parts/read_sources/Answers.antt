@@ -4,21 +4,21 @@ use Rattle.dict_compile.proofs.SourceLemmas.{chars_at_fault, unknown_at_fault, u
 use Rattle.dict_compile.proofs.parts.read_sources.Goals as goal
 
 pub returns-in_err-chars-clause-refused : goal.returns-in_err-chars-clause-refused
-returns-in_err-chars-clause-refused c =
+returns-in_err-chars-clause-refused g c =
     let p = err_from_is_err_and c.from_residual-in_err-chars.result c.from_residual-in_err-chars.ensures.1 in
     rw (p.1, p.2)
     (chars_at_fault c.args.sources.now c.in_ok-matrix.matrix (c.sizes-sizes.result) c.sizes-sizes.ensures.sizes
     c.in_ok-matrix.ensures.accepted c.in_err-chars.field-0.0 c.in_err-chars.ensures.refused)
 
 pub returns-in_err-unknown-clause-refused : goal.returns-in_err-unknown-clause-refused
-returns-in_err-unknown-clause-refused c =
+returns-in_err-unknown-clause-refused g c =
     let p = err_from_is_err_and c.from_residual-in_err-unknown.result c.from_residual-in_err-unknown.ensures.1 in
     rw (p.1, p.2)
     (unknown_at_fault c.args.sources.now c.in_ok-matrix.matrix (c.sizes-sizes.result) c.sizes-sizes.ensures.sizes
     c.in_ok-matrix.ensures.accepted c.in_ok-chars.chars c.in_ok-chars.ensures.accepted c.in_err-unknown.field-0.0 c.in_err-unknown.ensures.refused)
 
 pub returns-in_err-lexicons-clause-refused : goal.returns-in_err-lexicons-clause-refused
-returns-in_err-lexicons-clause-refused c =
+returns-in_err-lexicons-clause-refused g c =
     let p = err_from_is_err_and c.from_residual-in_err-lexicons.result c.from_residual-in_err-lexicons.ensures.1 in
     rw (p.1, p.2)
     (lexicons_at_fault c.args.sources.now c.in_ok-matrix.matrix (c.sizes-sizes.result) c.sizes-sizes.ensures.sizes
@@ -26,7 +26,7 @@ returns-in_err-lexicons-clause-refused c =
     c.in_err-lexicons.field-0.0 c.in_err-lexicons.ensures.refused)
 
 pub returns-clause-accepted : goal.returns-clause-accepted
-returns-clause-accepted c =
+returns-clause-accepted g c =
     let s = c.args.sources.now in
     let m = c.in_ok-matrix.matrix in
     let sizes = c.sizes-sizes.result in

@@ -6,35 +6,35 @@ use Rattle.dict_compile.proofs.EveryKey.{keys_of_lexicons}
 use Rattle.dict_compile.proofs.UserLemmas.{is_system_of, same_told}
 use Rattle.image_bytes.specs.ImageMeaning.{image_tables}
 use Rattle.dict_compile.proofs.KindLemmas.{a_user, not_both}
-use Rattle.dict_compile.proofs.user_compilation.compile_user.Goals as goal
+use Rattle.dict_compile.proofs.user_compilation.compile_user_watched.Goals as goal
 
 pub returns-then-is_user-clause-not_system : goal.returns-then-is_user-clause-not_system
-returns-then-is_user-clause-not_system c = (λ h. a_user (image_tables c.args.system.now).kind (sym c.if-is_user.ensures.kind), λ h. refl)
+returns-then-is_user-clause-not_system g c = (λ h. a_user (image_tables c.args.system.now).kind (sym c.if-is_user.ensures.kind), λ h. refl)
 
 pub returns-then-is_user-clause-first : goal.returns-then-is_user-clause-first
-returns-then-is_user-clause-first c = λ fault h. not_both (image_tables c.args.system.now).kind (a_user (image_tables c.args.system.now).kind (sym c.if-is_user.ensures.kind)) h.0
+returns-then-is_user-clause-first g c = λ fault h. not_both (image_tables c.args.system.now).kind (a_user (image_tables c.args.system.now).kind (sym c.if-is_user.ensures.kind)) h.0
 
 pub returns-clause-compiled : goal.returns-clause-compiled
-returns-clause-compiled c =
+returns-clause-compiled g c =
     let system = image_tables c.args.system.now in
     c.in_ok-compile_lexicons.ensures.compiled system
     (is_system_of system c.matrix_sizes-sizes.result c.if-is_user.ensures.kind c.matrix_sizes-sizes.ensures.sizes)
 
 pub returns-clause-every_key : goal.returns-clause-every_key
-returns-clause-every_key c =
+returns-clause-every_key g c =
     let system = image_tables c.args.system.now in
     keys_of_lexicons system.sizes (map (λ lexicon. lexicon.now) c.args.lexicons.now) (image_tables c.in_ok-compile_lexicons.field-0.image.items)
     (c.in_ok-compile_lexicons.ensures.compiled system
     (is_system_of system c.matrix_sizes-sizes.result c.if-is_user.ensures.kind c.matrix_sizes-sizes.ensures.sizes)).have
 
 pub returns-clause-first : goal.returns-clause-first
-returns-clause-first c =
+returns-clause-first g c =
     let system = image_tables c.args.system.now in
     c.in_ok-compile_lexicons.ensures.first system
     (is_system_of system c.matrix_sizes-sizes.result c.if-is_user.ensures.kind c.matrix_sizes-sizes.ensures.sizes)
 
 pub returns-in_err-compile_lexicons-clause-refused : goal.returns-in_err-compile_lexicons-clause-refused
-returns-in_err-compile_lexicons-clause-refused c = λ fault e.
+returns-in_err-compile_lexicons-clause-refused g c = λ fault e.
     let system = image_tables c.args.system.now in
     let p = err_from_is_err_and c.from_residual.result c.from_residual.ensures.1 in
     subst (λ told. IsRefusal told (IsUserCause system (map (λ lexicon. lexicon.now) c.args.lexicons.now) told)) (same_told (sym (p.1 ∙ ap Err p.2) ∙ e))
@@ -42,7 +42,7 @@ returns-in_err-compile_lexicons-clause-refused c = λ fault e.
     (is_system_of system c.matrix_sizes-sizes.result c.if-is_user.ensures.kind c.matrix_sizes-sizes.ensures.sizes))
 
 pub returns-in_err-compile_lexicons-clause-first : goal.returns-in_err-compile_lexicons-clause-first
-returns-in_err-compile_lexicons-clause-first c =
+returns-in_err-compile_lexicons-clause-first g c =
     let system = image_tables c.args.system.now in
     let p = err_from_is_err_and c.from_residual.result c.from_residual.ensures.1 in
     rw (p.1, p.2)
