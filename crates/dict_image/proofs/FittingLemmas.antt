@@ -31,6 +31,7 @@ use Rattle.dict_image.proofs.FormedLemmas.{few_categories, groups_are, infos_are
 use Rattle.dict_image.proofs.RangeLemmas.{in_order}
 use Rattle.dict_image.proofs.TokenLemmas.{index_within, some_tokens}
 use Rattle.dict_image.proofs.NumberLemmas.{lexicon_apart, lexicon_texts, list_apart}
+use Rattle.dict_image.proofs.NumberedTokens.{number_is_place, numbered_count}
 
 -- ---- costs
 
@@ -186,6 +187,8 @@ fitting_tables bytes w costs tokens =
       surfaces = lexicon_texts bytes w;
       lexicon_apart = lexicon_apart bytes w;
       unknown_apart = λ i. apart_by bytes i (ltb i h.categories);
+      numbered = number_is_place bytes w;
+      few = let count = numbered_count bytes w in let known = (is_header bytes w).few_tokens in let unknown = (is_header bytes w).few_unknown in omega (arith, count, known, unknown);
       firsts = λ system code. let less = first_of_image bytes code w system in let count = count_of_image bytes in omega (arith, less, count);
       covered = λ system code. some_unknown bytes (image_info bytes code).head w (first_of_image bytes code w system);
     }

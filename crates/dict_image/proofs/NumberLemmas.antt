@@ -34,13 +34,13 @@ range_apart a (suc n) = (λ h. let low = range_from (a + 1) n a h in omega (arit
 
 -- ---- numbers of tokens
 
-abbrev number_of : Token → ℕ
+abbrev pub number_of : Token → ℕ
 number_of t = t.number
 
 abbrev token_of : Lexeme → Token
 token_of e = e.token
 
-numbers_are : (tokens features : List ℕ) (a n : ℕ) → map number_of (map (token_from tokens features) (range_with_len a n)) ≡ range_with_len a n
+pub numbers_are : (tokens features : List ℕ) (a n : ℕ) → map number_of (map (token_from tokens features) (range_with_len a n)) ≡ range_with_len a n
 numbers_are tokens features a zero = refl
 numbers_are tokens features a (suc n) = ap (λ (xs : List ℕ). a ∷ xs) (numbers_are tokens features (a + 1) n)
 

@@ -1,11 +1,13 @@
 -- The tokens of an index's lists, one list behind another, stand in the order of their numbers. So the one with a number is the token of
 -- that number, where it is among them.
-use Rattle.std.proofs.Common.{◌≡◌, ℕ, zero, suc, ◌+◌, ◌-◌, ◌<◌, ◌≤◌, Bool, true, false, cond, eqb, List, [], ◌∷◌, ◌++◌, map, Option, Some, None, sym, ap, ◌∙◌, refl, arith}
-use Rattle.std.specs.Prelude.{find, ◌==◌}
+use Rattle.std.proofs.Common.{◌≡◌, ℕ, zero, suc, ◌+◌, ◌-◌, ◌<◌, ◌≤◌, Bool, true, false, cond, eqb, List, [], ◌∷◌, ◌++◌, length, map, Option, Some, None, sym, ap, ◌∙◌, refl, arith}
+use Rattle.std.specs.Prelude.{find, ◌==◌, slice_get}
 use Rattle.std.specs.List.{flat_map, range_with_len}
 use Rattle.std.proofs.lemmas.Bool.{eqb-true, eqb-false, lt-ltb}
 use Rattle.std.proofs.lemmas.List.{map-append}
 use Rattle.std.proofs.lemmas.List.Concat.{flat_map-append}
+use Rattle.std.proofs.lemmas.List.FromFn.{get_or-map-range_with_len, length-map-range_with_len}
+use Rattle.std.proofs.lemmas.Option.{same_Some, slice_get-get_or, slice_get_within}
 use Rattle.image_bytes.specs.ImageBytes.{header_of, section, all_tokens, kind_of}
 use Rattle.image_bytes.specs.ImageFaults.{AreCounts}
 use Rattle.image_bytes.specs.ImageMeaning.{LexiconSections, entries_of_group, image_tables, image_token, image_unknown, key_in, lexicon_sections, tokens_in}
@@ -13,7 +15,7 @@ use Rattle.image_bytes.specs.ImageSections.{IsIndex, index_at, token_from}
 use Rattle.mj_model.specs.Lists.{up_to}
 use Rattle.mj_model.specs.Tables.{Lexeme, Token, Kind, System, User}
 use Rattle.dict_image.specs.Held.{IsImage}
-use Rattle.dict_image.specs.Numbered.{unknown_tokens}
+use Rattle.dict_image.specs.Numbered.{numbered_tokens, unknown_tokens}
 use Rattle.dict_image.proofs.CategoryLemmas.{count_of_image}
 use Rattle.dict_image.proofs.FormedLemmas.{groups_are, is_header, unknown_are}
 use Rattle.dict_image.proofs.NumberLemmas.{index_falls_not, range_joined, tokens_named}
@@ -111,6 +113,39 @@ pub unknown_numbered : (bytes : List ℕ) → IsImage bytes → unknown_tokens (
 unknown_numbered bytes w =
     ap (λ (k : ℕ). flat_map (λ k. image_unknown bytes (k - 1)) (up_to k)) (count_of_image bytes)
     ∙ unknown_by bytes (kind_of (header_of bytes)) w refl (is_header bytes w).counts
+
+-- ---- all entries
+
+-- the entries in the order of their numbers
+pub all_numbered : (bytes : List ℕ) → IsImage bytes → numbered_tokens (image_tables bytes) ≡ map (image_token bytes) (range_with_len 0 (all_tokens (header_of bytes)))
+all_numbered bytes w =
+    let h = header_of bytes in
+    let f = image_token bytes in
+    let known : List Token = map f (range_with_len 0 h.tokens) in
+    let e : 0 + h.tokens ≡ h.tokens = omega arith in
+    ap (λ (ts : List Token). ts ++ unknown_tokens (image_tables bytes)) (lexicon_numbered bytes w)
+    ∙ ap (λ (ts : List Token). known ++ ts) (unknown_numbered bytes w)
+    ∙ sym (ap (map f) (range_joined 0 h.tokens h.unknown ∙ ap (λ (b : ℕ). range_with_len 0 h.tokens ++ range_with_len b h.unknown) e) ∙ map-append f (range_with_len 0 h.tokens) (range_with_len h.tokens h.unknown))
+
+pub numbered_count : (bytes : List ℕ) → IsImage bytes → length (numbered_tokens (image_tables bytes)) ≡ all_tokens (header_of bytes)
+numbered_count bytes w = ap length (all_numbered bytes w) ∙ length-map-range_with_len (image_token bytes) 0 (all_tokens (header_of bytes))
+
+-- an entry stands at the place of its number
+pub numbered_at : (bytes : List ℕ) (i : ℕ) → IsImage bytes → i < all_tokens (header_of bytes) → slice_get (numbered_tokens (image_tables bytes)) i ≡ Some (image_token bytes i)
+numbered_at bytes i w less =
+    let n = all_tokens (header_of bytes) in
+    let ts = map (image_token bytes) (range_with_len 0 n) in
+    let long = length-map-range_with_len (image_token bytes) 0 n in
+    ap (λ (all : List Token). slice_get all i) (all_numbered bytes w)
+    ∙ slice_get-get_or ts i (image_token bytes i) (omega (arith, long, less))
+    ∙ ap Some (get_or-map-range_with_len (image_token bytes) 0 n i i (image_token bytes i) less (omega arith))
+
+pub number_is_place : (bytes : List ℕ) → IsImage bytes → (i : ℕ) (e : Token) → slice_get (numbered_tokens (image_tables bytes)) i ≡ Some e → e.number ≡ i
+number_is_place bytes w i e at =
+    let count = numbered_count bytes w in
+    let within = slice_get_within (numbered_tokens (image_tables bytes)) i e at in
+    let same : e ≡ image_token bytes i = same_Some e (image_token bytes i) (sym at ∙ numbered_at bytes i w (omega (arith, count, within))) in
+    ap (λ (t : Token). t.number) same
 
 -- ---- the token with a number
 

@@ -10,8 +10,8 @@ pub mod KeyTables
 pub mod ListedHits
 pub mod KeyHits
 pub mod Prefixes
-pub mod Fitting
 pub mod Numbered
+pub mod Fitting
 pub mod CheckedRanges
 pub mod CheckedCategories
 pub mod Cells

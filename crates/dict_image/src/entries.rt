@@ -1,6 +1,7 @@
 //! The iterator over entries whose tokens stand one behind another.
-ghost use Rattle.std.specs.Prelude.{◌≡◌, ◌+◌, ◌*◌, ◌≤◌, [], suc, length};
+ghost use Rattle.std.specs.Prelude.{◌≡◌, ◌+◌, ◌*◌, ◌≤◌, [], suc, length, map};
 ghost use Rattle.std.specs.Iterator.{YieldsFirstBy, item_count};
+ghost use Rattle.std.specs.List.{range_with_len};
 ghost use Rattle.image_bytes.specs.ImageMeaning.{tokens_in};
 ghost use Rattle.image_bytes.specs.ImageSections.{index_at};
 ghost use Rattle.dict_image.specs.Seen.{token_seen};
@@ -8,6 +9,7 @@ ghost use Rattle.dict_image.specs.Held.{HoldTokens};
 ghost use Rattle.dict_image.specs.Tokens.{tokens_from};
 
 use crate::entry_ref::{EntryRef, token_at};
+use crate::token_row::TokenRow;
 use image_bytes::u32_at;
 use std::marker::Model;
 
@@ -67,6 +69,16 @@ impl<'a> Entries<'a> {
             features,
             next: u32_at(index, at),
             end: u32_at(index, at + 4),
+        }
+    }
+
+    /// The numbers of the entries that are left.
+    pub fn row(&self) -> TokenRow
+        ensures { map (λ t. t.number) self.now ≡ range_with_len result.first result.count }
+    {
+        TokenRow {
+            first: self.next,
+            count: self.end - self.next,
         }
     }
 }

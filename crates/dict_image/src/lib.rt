@@ -8,6 +8,7 @@ mod dict;
 mod entries;
 mod entry_ref;
 mod hits;
+mod ids_and_cost;
 mod infos;
 mod key_hits;
 mod keys;
@@ -20,12 +21,15 @@ mod lookup;
 mod numbered;
 mod ranges;
 mod system;
+mod token_row;
 
 pub use dict::Dict;
 pub use entries::Entries;
 pub use entry_ref::EntryRef;
 pub use hits::Prefixes;
+pub use ids_and_cost::IdsAndCost;
 pub use loading::load;
+pub use token_row::TokenRow;
 
 #[cfg(test)]
 mod tests;
