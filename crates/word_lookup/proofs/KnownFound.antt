@@ -1,19 +1,18 @@
 -- The known words of a place, surface by surface: those of each prefix of the text that is a surface, the shortest first.
-use Rattle.std.proofs.Common.{◌≡◌, ℕ, ◌+◌, ◌<◌, ◌≤◌, Bool, true, false, cond, List, [], ◌∷◌, ◌++◌, length, get_or, take, drop, map, flat_map, sym, ap, ◌∙◌, refl, arith, inl, inr, add-one}
+use Rattle.std.proofs.Common.{◌≡◌, ℕ, ◌+◌, ◌≤◌, Bool, true, false, cond, List, [], ◌∷◌, ◌++◌, length, take, map, flat_map, sym, ap, ◌∙◌, refl, arith, inl, inr}
 use Rattle.std.specs.Prelude.{filter, bytes_eq}
-use Rattle.std.specs.List.{AllByRecursion}
 use Rattle.std.proofs.lemmas.Bool.{lt-ltb}
-use Rattle.std.proofs.lemmas.List.{length-take-le, drop_more}
+use Rattle.std.proofs.lemmas.List.{length-take-le}
 use Rattle.std.proofs.lemmas.Slice.Eq.{bytes_eq-Decides}
 use Rattle.mj_model.specs.declared.word.Word.{Word}
 use Rattle.mj_model.specs.declared.word.Origin.TheVariants.{Known}
 use Rattle.image_bytes.specs.ImageMeaning.{entries_under}
 use Rattle.mj_model.specs.Lists.{up_to, StandsIn}
-use Rattle.paths.specs.KnownWords.{word_of, known_word, entries_of_length, known_in, known_from}
-use Rattle.mj_model.specs.Tables.{Lexeme, Tables, Token, lexicons_of}
-use Rattle.mj_model.proofs.Members.{each_holds, in_filter, in_map, in_up_to}
+use Rattle.paths.specs.KnownWords.{word_of, known_word, entries_of_length, known_in}
+use Rattle.mj_model.specs.Tables.{Lexeme, Token}
+use Rattle.mj_model.proofs.Members.{in_up_to}
 use Rattle.dict_image.specs.Prefixes.{has_entries, prefix_at, prefixes_in}
-use Rattle.word_lookup.specs.declared.entry_words.EntryList.TheVariants.{Lexicon}
+use Rattle.word_lookup.specs.declared.entry_list.EntryList.TheVariants.{Lexicon}
 use Rattle.word_lookup.specs.EntryWords.{entry_word}
 
 -- the words of a surface that begins the text
@@ -60,24 +59,3 @@ found_at dict place start text lexicon (n ∷ ns) within =
 -- the words of a lexicon are those of the surfaces that begin the text
 pub known_by_prefixes : (dict place start : ℕ) (text : List ℕ) (lexicon : List Lexeme) → known_in place start text dict lexicon ≡ flat_map (prefix_words dict place start) (prefixes_in text lexicon)
 known_by_prefixes dict place start text lexicon = found_at dict place start text lexicon (up_to (length text)) (λ n h. (in_up_to (length text) n h).1)
-
--- ---- their lengths
-
-abbrev pub IsWithin : ℕ → ℕ × List Token → Type 0
-IsWithin n prefix = prefix.0 ≤ n
-
-pub prefixes_within : (text : List ℕ) (lexicon : List Lexeme) → AllByRecursion (IsWithin (length text)) (prefixes_in text lexicon)
-prefixes_within text lexicon = each_holds (IsWithin (length text)) (prefixes_in text lexicon) (λ prefix h.
-    let m = in_map (prefix_at text lexicon) (up_to (length text)) prefix (in_filter has_entries (map (prefix_at text lexicon) (up_to (length text))) prefix h).0 in
-    let low = (in_up_to (length text) m.0 m.1).1 in
-    let same : m.0 ≡ prefix.0 = ap (λ (p : ℕ × List Token). p.0) m.2 in
-    omega (arith, low, same))
-
--- ---- one dictionary after another
-
-pub users_left : (place start : ℕ) (text : List ℕ) (view : List ℕ → Tables) (users : List (List ℕ)) (i : ℕ) (user : List ℕ) → i < length users → user ≡ get_or users i user
-    → known_from place start text (i + 1) (lexicons_of (map view (drop i users)))
-    ≡ known_in place start text (i + 1) (view user).lexicon ++ known_from place start text ((i + 1) + 1) (lexicons_of (map view (drop (i + 1) users)))
-users_left place start text view users i user less at =
-    ap (λ (us : List (List ℕ)). known_from place start text (i + 1) (lexicons_of (map view us))) (drop_more users i user less ∙ ap (λ (u : List ℕ). u ∷ drop (i + 1) users) (sym at))
-    ∙ ap (λ (k : ℕ). known_in place start text (i + 1) (view user).lexicon ++ known_from place start text k (lexicons_of (map view (drop (i + 1) users)))) (sym (add-one (i + 1)))

@@ -9,3 +9,7 @@ pub mod BlankRunLemmas
 pub mod OverlayLaws
 pub mod DictionaryLaws
 pub mod FeatureLemmas
+pub mod RowLemmas
+pub mod TableLemmas
+pub mod WordLemmas
+pub mod SurfaceLemmas

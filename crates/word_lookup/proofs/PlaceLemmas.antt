@@ -1,13 +1,12 @@
 -- Places of a text, and the blanks there.
 use Rattle.std.proofs.Common.{◌≡◌, ℕ, ◌+◌, ◌<◌, ◌≤◌, Bool, true, cond, ◌&&◌, List, [], ◌∷◌, ◌++◌, length, drop, get_or, sym, ap, ◌∙◌, refl, arith, subst}
-use Rattle.std.specs.Prelude.{◌==◌, IsTrue, IsUtf8, chars, encode_utf8, min, nat_le, nat_lt}
+use Rattle.std.specs.Prelude.{IsTrue, IsUtf8, chars, encode_utf8, min, nat_le, nat_lt}
 use Rattle.std.specs.Char.{len_utf8}
 use Rattle.std.specs.Str.{IsCharBoundary, is_utf8}
-use Rattle.std.proofs.lemmas.Bool.{and_parts, and_from, and_right, eq-eqb, ne_eqb, leb-true, lt-ltb, le-ltb}
-use Rattle.std.proofs.lemmas.List.{append-nil, nil_from_length, get_or-drop, length-drop, length-append, append_assoc, drop_at}
+use Rattle.std.proofs.lemmas.Bool.{and_parts, and_from, and_right, leb-true, lt-ltb, le-ltb}
+use Rattle.std.proofs.lemmas.List.{nil_from_length, get_or-drop, length-drop, length-append, drop_at}
 use Rattle.std.proofs.lemmas.Str.{IsCharBoundary-start, IsUtf8-from_is_utf8, length-le-encodes, length-encode, encodes-chars, chars_past_char}
 use Rattle.mj_model.specs.declared.category.CharInfo.{CharInfo}
-use Rattle.mj_model.specs.declared.word.Word.{Word}
 use Rattle.paths.specs.Blanks.{skip, space, chars_from}
 use Rattle.paths.specs.KnownWords.{known}
 use Rattle.paths.specs.Run.{run, bytes_of}
@@ -82,23 +81,6 @@ words_are o text p start place at less =
 pub skip_within : (o : Overlay) (text : List ℕ) (p : ℕ) → IsTrue (is_place text p) → skip o text p ≤ length text
 skip_within o text p h = blanks_fit text (drop p text) p (run o.system.info (o.system.info space) (chars (drop p text))) _ h refl refl
 
--- ---- known, then unknown
-
-is_none : (old ks : List Word) → (length (old ++ ks) == length old) ≡ is_empty ks
-is_none old [] = eq-eqb (length (old ++ [])) (length old) (let e = length-append old [] in omega (arith, e))
-is_none old (w ∷ ks) = ne_eqb (length (old ++ w ∷ ks)) (length old) (λ h. let e = length-append old (w ∷ ks) in omega (arith, e, h))
-
-pub known_then_unknown : (o : Overlay) (place start : ℕ) (rest cs : List ℕ) (k ks old mid : List Word) (n count : ℕ) → k ≡ ks → mid ≡ old ++ ks → n ≡ length mid → count ≡ length old → chars rest ≡ cs
-    → mid ++ unknown o (n == count) place start (chars rest) ≡ old ++ (k ++ unknown o (is_empty k) place start cs)
-known_then_unknown o place start rest cs k ks old mid n count e so_far long first is =
-    let none : (n == count) ≡ is_empty k =
-    ap (λ (m : ℕ). m == count) (long ∙ ap length so_far) ∙ ap (λ (m : ℕ). length (old ++ ks) == m) first ∙ is_none old ks ∙ ap is_empty (sym e) in
-    let u = unknown o (is_empty k) place start cs in
-    ap (λ (b : Bool). mid ++ unknown o b place start (chars rest)) none
-    ∙ ap (λ (xs : List ℕ). mid ++ unknown o (is_empty k) place start xs) is
-    ∙ ap (λ (xs : List Word). xs ++ u) (so_far ∙ ap (λ (xs : List Word). old ++ xs) (sym e))
-    ∙ append_assoc old k u
-
 -- ---- the first character
 
 pub record IsFirst (text : List ℕ) (c n : ℕ) : Type 0 where
@@ -133,10 +115,10 @@ unknown_are o none_known place start c i all following ts ns e at t s =
     ∙ ap (λ (xs : List ℕ). unknown o none_known place start xs) (sym e)
 
 -- an empty text has no characters
-pub none_there : (o : Overlay) (none_known : Bool) (place start : ℕ) (text rest : List ℕ) (out : List Word) → IsUtf8 text → rest ≡ text → length rest ≡ 0 → out ≡ out ++ unknown o none_known place start (chars text)
-none_there o none_known place start text rest out u same none =
+pub none_there : (o : Overlay) (none_known : Bool) (place start : ℕ) (text rest : List ℕ) → IsUtf8 text → rest ≡ text → length rest ≡ 0 → [] ≡ unknown o none_known place start (chars text)
+none_there o none_known place start text rest u same none =
     let short = length-le-encodes (chars text) in
     let spelled = ap length (encodes-chars text u) in
     let e = ap length same in
     let empty : chars text ≡ [] = nil_from_length (chars text) (omega (arith, short, spelled, e, none)) in
-    sym (append-nil out) ∙ ap (λ (cs : List ℕ). out ++ unknown o none_known place start cs) (sym empty)
+    ap (λ (cs : List ℕ). unknown o none_known place start cs) (sym empty)

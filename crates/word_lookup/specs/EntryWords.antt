@@ -6,8 +6,8 @@ use Rattle.mj_model.specs.declared.word.Origin.TheVariants.{Known, Unknown}
 use Rattle.mj_model.specs.declared.word.Word.{Word}
 use Rattle.paths.specs.KnownWords.{word_of}
 use Rattle.mj_model.specs.Tables.{Token}
-use Rattle.word_lookup.specs.declared.entry_words.EntryList.{EntryList}
-use Rattle.word_lookup.specs.declared.entry_words.EntryList.TheVariants.{Lexicon, Categories}
+use Rattle.word_lookup.specs.declared.entry_list.EntryList.{EntryList}
+use Rattle.word_lookup.specs.declared.entry_list.EntryList.TheVariants.{Lexicon, Categories}
 
 -- where the entry with a number comes from
 abbrev pub origin_in : EntryList → ℕ → Origin

@@ -1,6 +1,8 @@
 pub mod Fitting
 pub mod Spans
 pub mod EntryWords
+pub mod Surfaces
+pub mod SurfacesHere
 pub mod UnknownEntries
 pub mod WordsHere
 pub mod Overlays

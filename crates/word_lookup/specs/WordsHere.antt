@@ -1,11 +1,15 @@
 -- The words of a place, by where they begin.
-use Rattle.std.specs.Prelude.{ℕ, ◌-◌, Bool, List, map, chars}
+use Rattle.std.specs.Prelude.{ℕ, ◌-◌, Bool, List, [], map, chars, slice_index_or}
 use Rattle.mj_model.specs.declared.word.Word.{Word}
 use Rattle.mj_model.specs.Tables.{Lexeme, Overlay, Token, lexicons}
 use Rattle.paths.specs.KnownWords.{known_from, known_in}
 use Rattle.paths.specs.Words.{unknown, unknown_word}
 use Rattle.word_lookup.specs.declared.word_start.WordStart.{WordStart}
 use Rattle.word_lookup.specs.UnknownEntries.{words_of_spans}
+
+-- the lexicon of the dictionary with this number
+abbrev pub lexicon_of : Overlay → ℕ → List Lexeme
+lexicon_of o dict = slice_index_or (lexicons o) dict []
 
 -- the known words of the dictionary with this number
 abbrev pub known_here : WordStart → ℕ → List Lexeme → List Word

@@ -1,30 +1,52 @@
 //! Known words.
 
-ghost use Rattle.std.specs.Prelude.{◌≡◌, ◌++◌, take, vec_len, OnOk};
-ghost use Rattle.image_bytes.specs.ImageMeaning.{image_tables};
-ghost use Rattle.word_lookup.specs.WordsHere.{known_here};
+ghost use Rattle.std.specs.Prelude.{◌≡◌, ◌≤◌, length, take, vec_len, OnOk};
+ghost use Rattle.word_lookup.specs.Overlays.{overlay_of};
+ghost use Rattle.word_lookup.specs.Surfaces.{GrowsByWords};
+ghost use Rattle.word_lookup.specs.WordsHere.{all_known_here, known_here, lexicon_of};
 
-use crate::entry_words::{EntryList, append_entries};
+use crate::dictionaries::Dictionaries;
+use crate::entry_list::EntryList;
+use crate::surface::Surface;
 use crate::word_start::WordStart;
-use dict_image::Dict;
-use mj_model::Word;
 use std::alloc::AllocError;
 
-/// Appends the words of a dictionary whose surfaces begin here; shorter ones first. On `Err` some may stand behind what was there
-/// before.
-pub fn append_known(
-    dict: &Dict,
-    number: usize,
-    at: WordStart<'_>,
-    out: &mut Vec<Word>,
-) -> Result<(), AllocError>
-    ensures appended { OnOk result (out.new.items ≡ out.old.items
-        ++ known_here at.entry number (image_tables dict.now).lexicon) }
-    ensures kept { take (vec_len out.old) out.new.items ≡ out.old.items }
-{
-    let list = EntryList::Lexicon(number);
-    for (length, entries) in dict.prefixes(at.rest) {
-        append_entries(entries, list, at, at.start + length, out)?;
+impl<'a> Dictionaries<'a> {
+    /// Appends the surfaces of the known words that begin here: those of the system, then those of each user. On `Err` some may stand
+    /// behind what was there before.
+    pub(crate) fn append_known(
+        &self,
+        at: WordStart<'_>,
+        out: &mut Vec<Surface>,
+    ) -> Result<(), AllocError>
+        ensures appended { OnOk result (GrowsByWords (overlay_of self.now)
+            (all_known_here at.entry (overlay_of self.now)) out.old.items out.new.items) }
+        ensures kept { take (vec_len out.old) out.new.items ≡ out.old.items }
+    {
+        for number in 0..self.users.len() + 1 {
+            self.append_known_of(number, at, out)?;
+        }
+        Ok(())
     }
-    Ok(())
+
+    /// Appends those of the dictionary with a number; shorter ones first.
+    fn append_known_of(
+        &self,
+        number: usize,
+        at: WordStart<'_>,
+        out: &mut Vec<Surface>,
+    ) -> Result<(), AllocError>
+        requires { number ≤ length self.now.users.now }
+        ensures appended { OnOk result (GrowsByWords (overlay_of self.now)
+            (known_here at.entry number (lexicon_of (overlay_of self.now) number))
+            out.old.items out.new.items) }
+        ensures kept { take (vec_len out.old) out.new.items ≡ out.old.items }
+    {
+        let list = EntryList::Lexicon(number);
+        let dict = self.numbered(number);
+        for (length, entries) in dict.prefixes(at.rest) {
+            out.push(at.surface(list, entries.row(), at.start + length))?;
+        }
+        Ok(())
+    }
 }

@@ -1,30 +1,34 @@
-use Rattle.std.proofs.Common.{rules, arith, ◌+◌, map, ap, refl}
+use Rattle.std.proofs.Common.{rules, arith, ap, refl}
 use Rattle.std.proofs.lemmas.List.{drop_all}
-use Rattle.image_bytes.specs.ImageMeaning.{image_tables}
 use Rattle.paths.specs.KnownWords.{known_from}
-use Rattle.mj_model.specs.Tables.{lexicons_of}
-use Rattle.word_lookup.proofs.AppendLemmas.{begun_with, more_appended, all_appended, before_kept}
-use Rattle.word_lookup.proofs.KnownFound.{users_left}
+use Rattle.mj_model.specs.Tables.{lexicons}
 use Rattle.word_lookup.specs.Overlays.{overlay_of}
+use Rattle.word_lookup.proofs.SurfaceLemmas.{all_grown, begun, have_front, have_kept, more_grown}
+use Rattle.word_lookup.proofs.TableLemmas.{lexicon_count, lexicons_left}
 use Rattle.word_lookup.proofs.dictionaries.Dictionaries.append_known.Goals as goal
 
-pub loop-i-init : goal.loop-i-init
-unfolding overlay_of
-loop-i-init c = begun_with _ _ _ _ _ refl c.in_ok-append_known.ensures.appended
+pub loop-number-init : goal.loop-number-init
+loop-number-init c = begun _ _ _ _ refl
 
-pub loop-i-preserved : goal.loop-i-preserved
-unfolding overlay_of
-loop-i-preserved c =
-    more_appended _ _ _ _ _ _ _ c.loop-i.invariant
-    (users_left c.args.at.place c.args.at.start c.args.at.rest.now image_tables c.args.self.now.users.now c.loop-i.i c.user-item.result (search rules) c.user-item.is) c.in_ok-append_known-2.ensures.appended
+pub loop-number-preserved : goal.loop-number-preserved
+loop-number-preserved c =
+    let o = overlay_of c.args.self.now in
+    let count = lexicon_count c.args.self.now in
+    let less = c.loop-number-test.true in
+    more_grown o _ _ _ _ _ _ _ c.loop-number.invariant
+    (lexicons_left c.args.at.place c.args.at.start c.args.at.rest.now (lexicons o) c.loop-number.number (omega (arith, count, less)))
+    c.in_ok-append_known_of.ensures.appended
 
-pub returns-in_err-append_known-2-clause-kept : goal.returns-in_err-append_known-2-clause-kept
-unfolding overlay_of
-returns-in_err-append_known-2-clause-kept c =
-    before_kept _ _ _ _ _ _ _ c.loop-i.invariant (search rules) c.append_known-in-loop-i.ensures.kept
+pub returns-in_err-append_known_of-clause-kept : goal.returns-in_err-append_known_of-clause-kept
+returns-in_err-append_known_of-clause-kept c = have_kept _ _ _ _ _ _ _ _ c.loop-number.invariant (search rules) c.append_known_of.ensures.kept
+
+pub returns-clause-kept : goal.returns-clause-kept
+returns-clause-kept c = have_front _ _ _ _ _ _ _ c.loop-number.invariant (search rules) refl
 
 pub returns-clause-appended : goal.returns-clause-appended
-unfolding overlay_of
 returns-clause-appended c =
-    let users = c.args.self.now.users.now in
-    all_appended _ _ _ _ c.loop-i.invariant (ap (λ (us : _). known_from c.args.at.place c.args.at.start c.args.at.rest.now (c.loop-i.i + 1) (lexicons_of (map image_tables us))) (drop_all c.loop-i.i users (omega arith)))
+    let o = overlay_of c.args.self.now in
+    let count = lexicon_count c.args.self.now in
+    let high = c.loop-number-test.false in
+    all_grown _ _ _ _ _ c.loop-number.invariant
+    (ap (known_from c.args.at.place c.args.at.start c.args.at.rest.now c.loop-number.number) (drop_all c.loop-number.number (lexicons o) (omega (arith, count, high))))

@@ -1,10 +1,12 @@
-use Rattle.std.proofs.Common.{arith, rules, ◌≡◌, ◌++◌, ◌∷◌, List, ℕ, length, sym, ap, ◌∙◌, refl, subst}
+use Rattle.std.proofs.Common.{arith, rules, ◌≡◌, ◌∷◌, List, ℕ, length, sym, ap, ◌∙◌, refl, subst}
 use Rattle.std.specs.Prelude.{chars, OnOk, IfSome}
 use Rattle.mj_model.specs.declared.word.Word.{Word}
 use Rattle.word_lookup.specs.Overlays.{overlay_of}
 use Rattle.word_lookup.specs.Spans.{HasBytes}
+use Rattle.word_lookup.specs.Surfaces.{GrowsByWords}
 use Rattle.word_lookup.proofs.DictionaryLaws.{is_system}
 use Rattle.word_lookup.proofs.PlaceLemmas.{first_taken, none_there, unknown_are}
+use Rattle.word_lookup.proofs.SurfaceLemmas.{none_grown}
 use Rattle.word_lookup.proofs.dictionaries.Dictionaries.append_unknown.Goals as goal
 
 pub behind-following-requires : goal.behind-following-requires
@@ -33,7 +35,7 @@ returns-clause-appended c =
     let f = first_taken c.args.at.rest.now _ _ c.in-Some.first c.len_utf8.result c.args.at.is_text c.chars.ensures.rest c.in-Some.ensures.steps.0 c.len_utf8.ensures.value in
     let e : chars c.args.at.rest.now ≡ c.in-Some.first ∷ chars c.behind-following.result.now = f.split ∙ ap (λ (xs : List ℕ). c.in-Some.first ∷ chars xs) (sym c.behind-following.ensures) in
     let head : c.from.result ≡ (o.system.info c.in-Some.first).head = search rules in
-    let P : List Word → Type 0 = λ ws. OnOk c.append_spans.result (c.append_spans.new.out.items ≡ c.args.out.now.items ++ ws) in
+    let P : List Word → Type 0 = λ ws. OnOk c.append_spans.result (GrowsByWords o ws c.args.out.now.items c.append_spans.new.out.items) in
     let are = unknown_are o c.args.none_known c.args.at.place c.args.at.start c.in-Some.first c.from.result (chars c.args.at.rest.now) (chars c.behind-following.result.now) _ _ e head refl c.spans_from-spans.ensures.spans in
     subst P are c.append_spans.ensures.appended
 
@@ -44,8 +46,17 @@ spans_from-spans-requires-clause-system c = is_system c.args.self.now
 pub returns-in_default-clause-appended : goal.returns-in_default-clause-appended
 unfolding overlay_of
 returns-in_default-clause-appended c =
-    none_there (overlay_of c.args.self.now) c.args.none_known c.args.at.place c.args.at.start c.args.at.rest.now _ c.args.out.now.items c.args.at.is_text c.chars.ensures.rest c.in_default.ensures.steps.0.0
+    subst (λ (ws : List Word). GrowsByWords (overlay_of c.args.self.now) ws c.args.out.now.items c.args.out.now.items)
+    (none_there (overlay_of c.args.self.now) c.args.none_known c.args.at.place c.args.at.start c.args.at.rest.now _ c.args.at.is_text c.chars.ensures.rest c.in_default.ensures.steps.0.0)
+    (none_grown (overlay_of c.args.self.now) c.args.out.now.items)
 
 pub info-info-requires : goal.info-info-requires
 unfolding overlay_of
 info-info-requires c = is_system c.args.self.now
+
+pub append_spans-requires-clause-there : goal.append_spans-requires-clause-there
+unfolding overlay_of
+append_spans-requires-clause-there c =
+    let first = c.info-info.ensures.first in
+    let head : c.from.result ≡ c.info-info.result.head = search rules in
+    omega (arith, first, head)

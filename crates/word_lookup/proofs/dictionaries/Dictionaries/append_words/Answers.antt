@@ -1,35 +1,16 @@
-use Rattle.std.proofs.Common.{arith, rules, ◌≡◌, List, ℕ, drop, sym, ap, ◌∙◌, subst}
-use Rattle.std.specs.Prelude.{chars, OnOk}
-use Rattle.mj_model.specs.declared.word.Word.{Word}
-use Rattle.paths.specs.Blanks.{chars_from}
-use Rattle.paths.specs.KnownWords.{known, known_from}
-use Rattle.mj_model.specs.Tables.{lexicons}
+use Rattle.std.proofs.Common.{rules, ◌∙◌}
 use Rattle.word_lookup.specs.Overlays.{overlay_of}
+use Rattle.word_lookup.specs.Surfaces.{IsWhole, surface_words}
 use Rattle.word_lookup.proofs.AppendLemmas.{front_kept}
-use Rattle.word_lookup.proofs.PlaceLemmas.{skip_within, place_behind_blanks, known_then_unknown}
+use Rattle.word_lookup.proofs.WordLemmas.{holds_at, one_surface_more}
 use Rattle.word_lookup.proofs.dictionaries.Dictionaries.append_words.Goals as goal
 
-pub behind-requires : goal.behind-requires
-unfolding overlay_of
-behind-requires c =
-    let o = overlay_of c.args.self.now in
-    let w = skip_within o c.args.text.now c.args.place c.requires.there in
-    place_behind_blanks o c.args.text.now c.args.place c.args.start c.requires.there c.requires.behind_blanks (omega (arith, w, c.requires.behind_blanks))
+pub append_words_of-requires : goal.append_words_of-requires
+append_words_of-requires c = holds_at (IsWhole (surface_words (overlay_of c.args.self.now))) c.args.surfaces.now c.loop-surface.surface-index _ c.requires c.loop-surface-test.true
 
-pub returns-clause-appended : goal.returns-clause-appended
-unfolding overlay_of
-returns-clause-appended c =
-    let o = overlay_of c.args.self.now in
-    let text = c.args.text.now in
-    let P : List Word → Type 0 = λ ws. OnOk c.append_unknown.result (c.append_unknown.new.out.items ≡ ws) in
-    let k : known o text c.args.place ≡ known_from c.args.place c.args.start c.behind.result.now 0 (lexicons o) =
-    ap (λ (s : ℕ). known_from c.args.place s (drop s text) 0 (lexicons o)) (sym c.requires.behind_blanks)
-    ∙ ap (λ (bytes : List ℕ). known_from c.args.place c.args.start bytes 0 (lexicons o)) (sym c.behind.ensures) in
-    let all = known_then_unknown o c.args.place c.args.start c.behind.result.now (chars_from text c.args.start) (known o text c.args.place) _ c.args.out.now.items c.append_known.new.out.items c.len.result c.len-count.result
-    k c.in_ok-append_known.ensures.appended (search rules) (search rules) (ap chars c.behind.ensures) in
-    subst P all c.append_unknown.ensures.appended
+pub returns-in_err-append_words_of-clause-kept : goal.returns-in_err-append_words_of-clause-kept
+returns-in_err-append_words_of-clause-kept c = front_kept _ _ _ _ _ (search rules) (c.append_words_of.ensures.kept ∙ c.loop-surface.invariant)
 
-pub returns-clause-kept : goal.returns-clause-kept
-unfolding overlay_of
-returns-clause-kept c =
-    front_kept _ _ _ _ _ (search rules) (c.append_unknown.ensures.kept ∙ c.in_ok-append_known.ensures.appended)
+pub loop-surface-preserved : goal.loop-surface-preserved
+loop-surface-preserved c =
+    one_surface_more (surface_words (overlay_of c.args.self.now)) _ _ _ c.args.surfaces.now c.loop-surface.surface-index _ c.loop-surface.invariant c.loop-surface-test.true c.in_ok-append_words_of.ensures.appended

@@ -1,22 +1,23 @@
-use Rattle.std.proofs.Common.{arith, ◌≡◌, ◌++◌, List, length, take, ap, sym, ◌∙◌, subst}
+use Rattle.std.proofs.Common.{arith, List, length, take, ap, sym, ◌∙◌, subst}
 use Rattle.std.specs.Prelude.{OnOk}
 use Rattle.mj_model.specs.declared.word.Word.{Word}
 use Rattle.paths.proofs.TextPaths.{words_there}
 use Rattle.word_lookup.specs.Overlays.{overlay_of}
-use Rattle.std.proofs.lemmas.List.{append-nil}
+use Rattle.word_lookup.specs.Surfaces.{GrowsByWords}
 use Rattle.word_lookup.proofs.AppendLemmas.{on_err, on_err_of_ok, on_ok_of_err}
 use Rattle.word_lookup.proofs.DictionaryLaws.{covers_all}
 use Rattle.word_lookup.proofs.PlaceLemmas.{no_words, place_within, text_there, skip_within, words_are}
-use Rattle.word_lookup.proofs.dictionaries.Dictionaries.words_in_turn.Goals as goal
+use Rattle.word_lookup.proofs.SurfaceLemmas.{none_grown}
+use Rattle.word_lookup.proofs.dictionaries.Dictionaries.surfaces_in_turn.Goals as goal
 
 pub returns-else-is_err-clause-appended : goal.returns-else-is_err-clause-appended
 unfolding overlay_of
 returns-else-is_err-clause-appended c =
     let o = overlay_of c.args.self.now in
     let w = skip_within o c.args.text.now c.args.place c.requires.place in
-    let P : List Word → Type 0 = λ ws. OnOk c.append_words-appended.result (c.append_words-appended.new.out.items ≡ c.args.out.now.items ++ ws) in
+    let P : List Word → Type 0 = λ ws. OnOk c.append_surfaces-appended.result (GrowsByWords o ws c.args.out.now.items c.append_surfaces-appended.new.out.items) in
     let are = words_are o c.args.text.now c.args.place c.blanks_in_turn-start.result c.requires.place c.blanks_in_turn-start.ensures.behind (omega (arith, w, c.blanks_in_turn-start.ensures.behind)) in
-    subst P (sym are) c.append_words-appended.ensures.appended
+    subst P (sym are) c.append_surfaces-appended.ensures.appended
 
 pub returns-then-is_err-clause-none : goal.returns-then-is_err-clause-none
 unfolding overlay_of
@@ -37,17 +38,17 @@ returns-then-start-text-clause-appended c =
     let out = c.args.out.now.items in
     let at = c.blanks_in_turn-start.ensures.behind in
     let none = no_words o c.args.text.now c.args.place c.blanks_in_turn-start.result at (omega (arith, c.if-start-text.true)) in
-    sym (append-nil out) ∙ ap (λ (ws : List Word). out ++ ws) (sym none)
+    subst (λ (ws : List Word). GrowsByWords o ws out out) (sym none) (none_grown o out)
 
 pub returns-then-is_err-clause-appended : goal.returns-then-is_err-clause-appended
 unfolding overlay_of
-returns-then-is_err-clause-appended c = on_ok_of_err _ c.append_words-appended.result c.is_err.result c.is_err.ensures.value c.if-is_err.true
+returns-then-is_err-clause-appended c = on_ok_of_err _ c.append_surfaces-appended.result c.is_err.result c.is_err.ensures.value c.if-is_err.true
 
 pub returns-then-is_err-clause-kept : goal.returns-then-is_err-clause-kept
 unfolding overlay_of
 returns-then-is_err-clause-kept c =
-    on_err c.append_words-appended.result (c.truncate.ensures.items ∙ ap (λ (n : _). take n c.append_words-appended.new.out.items) c.len-count.ensures ∙ c.append_words-appended.ensures.kept)
+    on_err c.append_surfaces-appended.result (c.truncate.ensures.items ∙ ap (λ (n : _). take n c.append_surfaces-appended.new.out.items) c.len-count.ensures ∙ c.append_surfaces-appended.ensures.kept)
 
 pub returns-else-is_err-clause-kept : goal.returns-else-is_err-clause-kept
 unfolding overlay_of
-returns-else-is_err-clause-kept c = on_err_of_ok _ c.append_words-appended.result c.is_err.result c.is_err.ensures.value c.if-is_err.false
+returns-else-is_err-clause-kept c = on_err_of_ok _ c.append_surfaces-appended.result c.is_err.result c.is_err.ensures.value c.if-is_err.false

@@ -1,0 +1,60 @@
+//! The blanks of a place.
+
+ghost use Rattle.std.specs.Prelude.{◌≡◌, ◌<◌, ◌≤◌, IsTrue, IfSome};
+ghost use Rattle.paths.specs.Blanks.{skip};
+ghost use Rattle.paths.specs.Words.{is_place};
+ghost use Rattle.word_lookup.specs.BlankRuns.{IsBlankRun};
+ghost use Rattle.word_lookup.specs.Overlays.{overlay_of};
+
+use crate::blank_run::BlankRun;
+use crate::dictionaries::Dictionaries;
+use crate::run::run_up_to;
+use crate::word_start::behind;
+
+impl<'a> Dictionaries<'a> {
+    /// The place behind the blanks of a place, in bytes.
+    pub fn blanks(&self, text: &str, place: usize) -> usize
+        requires { IsTrue (is_place text.now place) }
+        ensures { result ≡ skip (overlay_of self.now) text.now place }
+    {
+        let space = self.system.info(' ');
+        let rest = behind(text, place);
+        place + run_up_to(self.system, space, rest, rest.len()).bytes
+    }
+
+    /// The same, for places of one text in turn. `last` is the run of blanks that was looked at last, if one was: of a place in it only
+    /// the first character is looked at.
+    pub(crate) fn blanks_in_turn(
+        &self,
+        text: &str,
+        place: usize,
+        last: &mut Option<BlankRun>,
+    ) -> usize
+        requires place { IsTrue (is_place text.now place) }
+        requires last { IfSome last.old (IsBlankRun (overlay_of self.now) text.now) }
+        ensures behind { result ≡ skip (overlay_of self.now) text.now place }
+        ensures last { IfSome last.new (IsBlankRun (overlay_of self.now) text.now) }
+    {
+        match *last {
+            Some(run) if run.contains(place) => self.blanks_within(run, text, place),
+            _ => {
+                let to = self.blanks(text, place);
+                *last = Some(BlankRun { from: place, to });
+                to
+            }
+        }
+    }
+
+    /// The same of a place in a run of blanks: they go on to its end, or there are none.
+    fn blanks_within(&self, run: BlankRun, text: &str, place: usize) -> usize
+        requires place { IsTrue (is_place text.now place) }
+        requires run { IsBlankRun (overlay_of self.now) text.now run }
+        requires from { run.from ≤ place }
+        requires to { place < run.to }
+        ensures { result ≡ skip (overlay_of self.now) text.now place }
+    {
+        let space = self.system.info(' ');
+        let first = run_up_to(self.system, space, behind(text, place), 1);
+        if first.characters == 0 { place } else { run.to }
+    }
+}

@@ -1,0 +1,141 @@
+//! The words of a place, one by one.
+
+ghost use Rattle.std.specs.Prelude.{◌≡◌, ◌<◌, ◌++◌, [], Some, length, flat_map, slice_get, take, vec_len, IsTrue, IsOk, IfSome, OnOk, OnErr};
+ghost use Rattle.std.specs.List.{AllByRecursion};
+ghost use Rattle.image_bytes.specs.ImageMeaning.{image_tables};
+ghost use Rattle.dict_image.specs.Fitting.{AreFitting};
+ghost use Rattle.dict_image.specs.Numbered.{numbered_tokens};
+ghost use Rattle.paths.specs.Words.{is_place, words};
+ghost use Rattle.word_lookup.specs.BlankRuns.{IsBlankRun};
+ghost use Rattle.word_lookup.specs.Overlays.{overlay_of};
+ghost use Rattle.word_lookup.specs.Surfaces.{IsWhole, surface_words, tokens_of};
+
+use crate::blank_run::BlankRun;
+use crate::dictionaries::Dictionaries;
+use crate::entry_list::EntryList;
+use crate::surface::Surface;
+use dict_image::Dict;
+use mj_model::Word;
+use std::alloc::{AllocError, Global};
+
+impl<'a> Dictionaries<'a> {
+    /// Word `i` of a surface of these dictionaries, read where its entry lies.
+    pub fn word(&self, surface: &Surface, i: u32) -> Word
+        requires surface { IsWhole (surface_words (overlay_of self.now)) surface.now }
+        requires within { i < surface.now.count }
+        ensures { slice_get (surface_words (overlay_of self.now) surface.now) i ≡ Some result }
+    {
+        let dict = self.listed(surface.list);
+        let token = surface.first + i;
+        surface.word_with(token, dict.ids_and_cost(token))
+    }
+
+    /// The dictionary of a list that has entries.
+    fn listed(&self, list: EntryList) -> &'a Dict
+        requires { 0 < length (tokens_of (overlay_of self.now) list) }
+        ensures tokens { tokens_of (overlay_of self.now) list
+            ≡ numbered_tokens (image_tables result.now) }
+        ensures fits { AreFitting (image_tables result.now) }
+    {
+        match list {
+            EntryList::Lexicon(number) => self.numbered(number),
+            EntryList::Categories => self.system,
+        }
+    }
+
+    /// Appends the words of a place to `out`: the known ones, of one dictionary after another and shorter ones first, and then the
+    /// unknown ones. On `Err` memory was refused, and `out` is as before.
+    pub fn words_at(
+        &self,
+        _alloc: Global,
+        text: &str,
+        place: usize,
+        out: &mut Vec<Word>,
+    ) -> Result<(), AllocError>
+        requires { IsTrue (is_place text.now place) }
+        ensures appended { OnOk result (out.new.items
+            ≡ out.old.items ++ words (overlay_of self.now) text.now place) }
+        ensures kept { OnErr result (out.new.items ≡ out.old.items) }
+        // Where there are none, no memory is taken.
+        ensures none { words (overlay_of self.now) text.now place ≡ [] → IsOk result }
+    {
+        self.words_in_turn(text, place, &mut None, out)
+    }
+
+    /// The same, for places of one text in turn: `last` is the run of blanks that was looked at last, and none before the first place.
+    /// Where places rise, a run of blanks is looked at once, however many places in it are asked for.
+    pub fn words_in_turn(
+        &self,
+        text: &str,
+        place: usize,
+        last: &mut Option<BlankRun>,
+        out: &mut Vec<Word>,
+    ) -> Result<(), AllocError>
+        requires place { IsTrue (is_place text.now place) }
+        requires last { IfSome last.old (IsBlankRun (overlay_of self.now) text.now) }
+        ensures appended { OnOk result (out.new.items
+            ≡ out.old.items ++ words (overlay_of self.now) text.now place) }
+        ensures kept { OnErr result (out.new.items ≡ out.old.items) }
+        // Where there are none, no memory is taken.
+        ensures none { words (overlay_of self.now) text.now place ≡ [] → IsOk result }
+        ensures last { IfSome last.new (IsBlankRun (overlay_of self.now) text.now) }
+    {
+        let mut surfaces = Vec::new(*out.allocator());
+        self.words_by(text, place, last, &mut surfaces, out)
+    }
+
+    /// The same, with room for surfaces, whose memory is used again from place to place.
+    pub fn words_by(
+        &self,
+        text: &str,
+        place: usize,
+        last: &mut Option<BlankRun>,
+        surfaces: &mut Vec<Surface>,
+        out: &mut Vec<Word>,
+    ) -> Result<(), AllocError>
+        requires place { IsTrue (is_place text.now place) }
+        requires last { IfSome last.old (IsBlankRun (overlay_of self.now) text.now) }
+        ensures appended { OnOk result (out.new.items
+            ≡ out.old.items ++ words (overlay_of self.now) text.now place) }
+        ensures kept { OnErr result (out.new.items ≡ out.old.items) }
+        // Where there are none, no memory is taken.
+        ensures none { words (overlay_of self.now) text.now place ≡ [] → IsOk result }
+        ensures last { IfSome last.new (IsBlankRun (overlay_of self.now) text.now) }
+    {
+        surfaces.clear();
+        self.surfaces_in_turn(text, place, last, surfaces)?;
+        let count = out.len();
+        let appended = self.append_words(surfaces, out);
+        if appended.is_err() {
+            out.truncate(count);
+        }
+        appended
+    }
+
+    /// Appends the words of surfaces of these dictionaries. On `Err` some may stand behind what was there before.
+    fn append_words(&self, surfaces: &[Surface], out: &mut Vec<Word>) -> Result<(), AllocError>
+        requires { AllByRecursion (IsWhole (surface_words (overlay_of self.now))) surfaces.now }
+        ensures appended { OnOk result (out.new.items
+            ≡ out.old.items ++ flat_map (surface_words (overlay_of self.now)) surfaces.now) }
+        ensures kept { take (vec_len out.old) out.new.items ≡ out.old.items }
+        ensures none { surfaces.now ≡ [] → IsOk result }
+    {
+        for surface in surfaces {
+            self.append_words_of(surface, out)?;
+        }
+        Ok(())
+    }
+
+    /// The same of one surface.
+    fn append_words_of(&self, surface: &Surface, out: &mut Vec<Word>) -> Result<(), AllocError>
+        requires { IsWhole (surface_words (overlay_of self.now)) surface.now }
+        ensures appended { OnOk result (out.new.items
+            ≡ out.old.items ++ surface_words (overlay_of self.now) surface.now) }
+        ensures kept { take (vec_len out.old) out.new.items ≡ out.old.items }
+    {
+        for i in 0..surface.count {
+            out.push(self.word(surface, i))?;
+        }
+        Ok(())
+    }
+}
