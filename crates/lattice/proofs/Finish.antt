@@ -1,16 +1,21 @@
 -- The lattice of the whole text: the best chain to the greatest place where a node ends is the best path.
-use Rattle.std.proofs.Common.{◌≡◌, ℕ, ◌≤◌, List, [], ◌∷◌, length, reverse, Some, inl, inr, refl, sym, ap, ◌∙◌, subst, arith, slice_get}
+use Rattle.std.proofs.Common.{◌≡◌, ℕ, ◌+◌, ◌<◌, ◌≤◌, List, [], ◌∷◌, length, reverse, Some, None, Option, get_or, inl, inr, refl, sym, ap, ◌∙◌, subst, arith, slice_get}
 use Rattle.std.specs.Prelude.{ℤ}
-use Rattle.std.proofs.lemmas.Option.{slice_get_within}
+use Rattle.std.proofs.lemmas.Bool.{cases_lt}
+use Rattle.std.proofs.lemmas.Option.{slice_get_within, slice_get-get_or}
 use Rattle.mj_model.specs.declared.word.Word.{Word}
 use Rattle.lattice.specs.declared.node.Node.{Node}
+use Rattle.lattice.specs.declared.node.End.{End}
 use Rattle.lattice.specs.declared.node.Join.{Join}
+use Rattle.lattice.specs.Ends.{AreEnds}
+use Rattle.lattice.specs.Nodes.{AreLinked, IsLastHead, IsLatest}
 use Rattle.paths.specs.Best.{IsSource, IsBestPath}
 use Rattle.paths.specs.Cost.{path_cost}
 use Rattle.paths.specs.ChainsBack.{IsChainTo, joined}
-use Rattle.lattice.specs.Lattice.{Traces, IsBelow, IsLattice, IsJoin, NoChain, LinksGoBack, IsLastEnd, ReachesTo}
+use Rattle.lattice.specs.Lattice.{Traces, IsBelow, IsLattice, IsJoin, LinksGoBack, IsLastEnd}
 use Rattle.std.proofs.lemmas.List.{reverse-reverse}
 use Rattle.paths.proofs.ChainsBackLemmas.{best_path_from, cost_reversed}
+use Rattle.lattice.proofs.Choice.{some_bos, some_end}
 use Rattle.lattice.proofs.Links.{below_all, traced_same}
 
 module _ (words : ℕ → List Word) (conn : ℕ → ℕ → ℤ) (len : ℕ) (source : IsSource words conn len) where
@@ -18,36 +23,52 @@ module _ (words : ℕ → List Word) (conn : ℕ → ℕ → ℤ) (len : ℕ) (s
   Lattice nodes p k = IsLattice words conn nodes p k
 
   -- at the end of the text each word that a chain reaches has a node
-  pub all_there : (nodes : List Node) → Lattice nodes len 0 → (w : Word) (ws : List Word) (to : ℕ) → IsChainTo words (w ∷ ws) to → (i : ℕ) × (n : Node) × (slice_get nodes i ≡ Some n) × (n.word ≡ w)
-  all_there nodes l w ws to c =
+  pub all_there : (nodes : List Node) (k : ℕ) → Lattice nodes len k → (w : Word) (ws : List Word) (to : ℕ) → IsChainTo words (w ∷ ws) to → (i : ℕ) × (n : Node) × (slice_get nodes i ≡ Some n) × (n.word ≡ w)
+  all_there nodes k l w ws to c =
       let go = source.are.go_on w.place w c.1 in
       let end = source.are.within w.place w c.1 in
       l.complete w ws (refl, c.1, c.2) (inl (omega (arith, go, end)))
 
+  -- where the last head is, the last node ends
+  pub last_is : (nodes : List Node) (heads : List (Option ℕ)) (k last : ℕ) → IsLattice words conn nodes len k → AreLinked nodes heads → length heads ≡ len + 1 → IsLastHead heads last → IsLastEnd nodes last
+  last_is nodes heads k last l linked long is = record {
+    each = λ i m at. elim (cases_lt last m.word.end) [
+      | inl less ↦
+          let b = l.best i m at in
+          let low = source.are.within m.word.place m.word b.is_word in
+          let within : m.word.end < length heads = omega (arith, low, long) in
+          let here = slice_get-get_or heads m.word.end None within in
+          let none = is.none_later m.word.end (get_or heads m.word.end None) (omega arith) here in
+          absurd (subst (IsLatest nodes m.word.end (length nodes)) none (linked.heads_latest m.word.end (get_or heads m.word.end None) here) i m (slice_get_within nodes i m at) at refl)
+      | inr more ↦ more
+    ];
+    reached = elim is.reached [
+      | inl start ↦ inl start
+      | inr at ↦ let latest = linked.heads_latest last (Some at.0) at.1 in inr (at.0, latest.1.0, latest.1.1, latest.1.2)
+    ];
+  }
+
   -- the last end lies in the text
-  pub last_low : (nodes : List Node) (last : ℕ) → IsLattice words conn nodes len 0 → IsLastEnd nodes (length nodes) last → last ≤ len
-  last_low nodes last l is_last = elim is_last.reached [
+  pub last_low : (nodes : List Node) (k last : ℕ) → IsLattice words conn nodes len k → IsLastEnd nodes last → last ≤ len
+  last_low nodes k last l is_last = elim is_last.reached [
     | inl zero_at ↦ omega (arith, zero_at)
     | inr at ↦ let b = l.best at.0 at.1 at.2 in let w = source.are.within at.1.word.place at.1.word b.is_word in let e = at.3 in omega (arith, w, e)
   ]
 
-  module _ (nodes : List Node) (last : ℕ) (l : IsLattice words conn nodes len 0) (is_last : IsLastEnd nodes (length nodes) last) where
-    pub last_reaches : ReachesTo words conn nodes last
-    last_reaches = record { p = len; k = 0; far = last_low nodes last l is_last; lattice = l }
-
-    -- some chain leads to the last end
-    pub leads_there : NoChain words last → ⊥
-    leads_there none = elim is_last.reached [
-      | inl zero_at ↦ none [] zero_at
-      | inr at ↦ let b = l.best at.0 at.1 at.2 in none (at.1.word ∷ b.chain) (at.3, b.is_word, b.best.chain)
+  module _ (nodes : List Node) (k last : ℕ) (l : IsLattice words conn nodes len k) (is_last : IsLastEnd nodes last) where
+    -- a chain ends at the last end
+    pub leads_there : (ends : List End) → AreEnds nodes last ends → 0 < length ends
+    leads_there ends are = elim is_last.reached [
+      | inl zero_at ↦ some_bos nodes ends last zero_at are
+      | inr at ↦ some_end nodes last at.0 at.1 ends at.2 at.3 are
     ]
 
     -- no chain ends later
     pub greatest : (ws : List Word) (later : ℕ) → IsChainTo words ws later → later ≤ last
     greatest [] later c = omega (arith, c)
     greatest (w ∷ ws) later c =
-        let f = all_there nodes l w ws later c in
-        let b = is_last.each f.0 f.1 (slice_get_within nodes f.0 f.1 f.2) f.2 in
+        let f = all_there nodes k l w ws later c in
+        let b = is_last.each f.0 f.1 f.2 in
         let e : f.1.word.end ≡ w.end = ap (λ (u : Word). u.end) f.3 in
         omega (arith, b, e, c.0)
 

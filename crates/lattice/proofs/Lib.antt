@@ -1,5 +1,6 @@
 pub mod Pushed
-pub mod BestEnd
+pub mod EndsLemmas
+pub mod Least
 pub mod Links
 pub mod Choice
 pub mod Growth

@@ -7,7 +7,7 @@ use Rattle.lattice.specs.declared.node.Node.{Node}
 use Rattle.lattice.specs.Nodes.{IsLatest, AreLinked}
 use Rattle.lattice.specs.Lattice.{Traces, IsBelow}
 use Rattle.std.proofs.lemmas.List.{append_assoc, append-nil, length_push, length-set, get_or-set_same, get_or-set_other}
-use Rattle.lattice.proofs.BestEnd.{link_size}
+use Rattle.lattice.proofs.EndsLemmas.{link_size}
 use Rattle.lattice.proofs.Pushed.{get_push_old, get_push_new, get_push_cases}
 
 -- a new node changes nothing in where links lead

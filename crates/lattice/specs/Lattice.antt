@@ -1,9 +1,9 @@
--- The lattice as the search builds it: its nodes are words with their best chains, complete up to a word of a place.
-use Rattle.std.specs.Prelude.{◌≡◌, ℕ, ℤ, ◌+ℤ◌, ◌<◌, ◌≤◌, List, [], ◌∷◌, slice_get, Option, Some, None, MatchOption, Contains, ◌⊎◌}
+-- The lattice as the search builds it: its nodes are words with their best chains, complete from a word of a place on.
+use Rattle.std.specs.Prelude.{◌≡◌, ℕ, ℤ, ◌+ℤ◌, ◌<◌, ◌≤◌, List, [], ◌∷◌, slice_get, Option, Some, None, Contains, ◌⊎◌}
 use Rattle.mj_model.specs.declared.word.Word.{Word}
 use Rattle.lattice.specs.declared.node.Node.{Node}
 use Rattle.lattice.specs.declared.node.Join.{Join}
-use Rattle.paths.specs.Order.{StandsBefore}
+use Rattle.paths.specs.Order.{IsPreferred}
 use Rattle.paths.specs.ChainsBack.{IsChainTo, joined, IsBestTo}
 
 -- the words of the nodes from a link back, the last word first
@@ -27,15 +27,15 @@ pub record IsBestNode (words : ℕ → List Word) (conn : ℕ → ℕ → ℤ) (
   pub total_is : n.total ≡ joined conn chain n.word.left +ℤ n.word.cost
   pub below : IsBelow n.before i
 
--- w is among the words before the k-th one of place p
+-- w is a word of a place before p, or of place p from the k-th on
 abbrev pub IsDone : (ℕ → List Word) → ℕ → ℕ → Word → Type 0
-IsDone words p k w = (w.place < p) ⊎ ((w.place ≡ p) × ((i : ℕ) × (i < k) × (slice_get (words p) i ≡ Some w)))
+IsDone words p k w = (w.place < p) ⊎ ((w.place ≡ p) × ((i : ℕ) × (k ≤ i) × (slice_get (words p) i ≡ Some w)))
 
--- the nodes are the words before the k-th one of place p that some chain reaches, in their order
+-- the nodes are the words of the places before p, and those of place p from the k-th on, that some chain reaches; a later node is preferred
 pub record IsLattice (words : ℕ → List Word) (conn : ℕ → ℕ → ℤ) (nodes : List Node) (p k : ℕ) : Type 0 where
   pub best : (i : ℕ) (n : Node) → slice_get nodes i ≡ Some n → IsBestNode words conn nodes i n
   pub done : (i : ℕ) (n : Node) → slice_get nodes i ≡ Some n → IsDone words p k n.word
-  pub order : (i j : ℕ) (m n : Node) → i < j → slice_get nodes i ≡ Some m → slice_get nodes j ≡ Some n → m.word.place ≡ n.word.place → StandsBefore (words n.word.place) m.word n.word
+  pub order : (i j : ℕ) (m n : Node) → i < j → slice_get nodes i ≡ Some m → slice_get nodes j ≡ Some n → IsPreferred words n.word m.word
   pub complete : (w : Word) (ws : List Word) → IsChainTo words (w ∷ ws) w.end → IsDone words p k w → (i : ℕ) × (n : Node) × (slice_get nodes i ≡ Some n) × (n.word ≡ w)
 
 -- a word of this left id at the place joins the best chain to it here
@@ -49,17 +49,6 @@ pub record IsJoin (words : ℕ → List Word) (conn : ℕ → ℕ → ℤ) (node
 abbrev pub NoChain : (ℕ → List Word) → ℕ → Type 0
 NoChain words p = (ws : List Word) → IsChainTo words ws p → ⊥
 
--- the best chain to the place where a word of this left id follows, if any chain leads there
-abbrev pub IsJoinOf : (ℕ → List Word) → (ℕ → ℕ → ℤ) → List Node → ℕ → ℕ → Option Join → Type 0
-IsJoinOf words conn nodes p left found = MatchOption found (NoChain words p) (IsJoin words conn nodes p left)
-
--- the nodes are a lattice that goes to the place at least
-pub record ReachesTo (words : ℕ → List Word) (conn : ℕ → ℕ → ℤ) (nodes : List Node) (place : ℕ) : Type 0 where
-  pub p : ℕ
-  pub k : ℕ
-  pub far : place ≤ p
-  pub lattice : IsLattice words conn nodes p k
-
 -- the node of a word after a chain, with the latest node that ends where it ends
 abbrev pub node_of : Word → Join → Option ℕ → Node
 node_of w j head = record { word = w; total = j.cost +ℤ w.cost; before = j.before; earlier = head }
@@ -68,7 +57,7 @@ node_of w j head = record { word = w; total = j.cost +ℤ w.cost; before = j.bef
 abbrev pub LinksGoBack : List Node → Type 0
 LinksGoBack nodes = (i : ℕ) (n : Node) → slice_get nodes i ≡ Some n → IsBelow n.before i
 
--- the greatest place where one of the first `count` nodes ends, or 0
-pub record IsLastEnd (nodes : List Node) (count last : ℕ) : Type 0 where
-  pub each : (k : ℕ) (m : Node) → k < count → slice_get nodes k ≡ Some m → m.word.end ≤ last
+-- the greatest place where a node ends, or 0
+pub record IsLastEnd (nodes : List Node) (last : ℕ) : Type 0 where
+  pub each : (k : ℕ) (m : Node) → slice_get nodes k ≡ Some m → m.word.end ≤ last
   pub reached : (last ≡ 0) ⊎ ((k : ℕ) × (m : Node) × (slice_get nodes k ≡ Some m) × (m.word.end ≡ last))

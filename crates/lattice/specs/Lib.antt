@@ -1,4 +1,5 @@
 pub mod Nodes
+pub mod Ends
 pub mod Lattice
 pub mod Sample
 pub mod SearchedText

@@ -1,13 +1,12 @@
 -- What the search is told of a text, as one record.
-use Rattle.std.specs.Prelude.{ℕ, ℤ, List, Option}
+use Rattle.std.specs.Prelude.{ℕ, ℤ, List, length}
 use Rattle.mj_model.specs.declared.word.Word.{Word}
 use Rattle.paths.specs.Best.{IsBestPath}
 use Rattle.paths.specs.Cost.{path_cost}
 use Rattle.paths.specs.Searchable.{IsSearchable}
 use Rattle.word_lookup.specs.declared.blank_run.BlankRun.{BlankRun}
 use Rattle.lattice.specs.declared.node.Node.{Node}
-use Rattle.lattice.specs.declared.node.Join.{Join}
-use Rattle.lattice.specs.Lattice.{IsJoinOf, IsLattice, ReachesTo}
+use Rattle.lattice.specs.Lattice.{IsLattice}
 
 -- a text's length in bytes, the words of each place in their order, the connection cost of a right id and the next word's left id,
 -- where a character begins or the text ends, which ids lie within the connection table's sizes, and what is a run of its blanks
@@ -31,14 +30,10 @@ IsBestIn t path = IsBestPath t.words t.connection path
 abbrev pub cost_of : SearchedText → List Word → ℤ
 cost_of t path = path_cost t.connection path
 
--- the nodes are its words before the k-th one of place p that some chain reaches, in their order
+-- the nodes are its words of the places before p, and those of place p from the k-th on, that some chain reaches
 abbrev pub IsLatticeOf : SearchedText → List Node → ℕ → ℕ → Type 0
 IsLatticeOf t nodes p k = IsLattice t.words t.connection nodes p k
 
--- the nodes are its lattice, which goes to the place at least
-abbrev pub Reaches : SearchedText → List Node → ℕ → Type 0
-Reaches t nodes place = ReachesTo t.words t.connection nodes place
-
--- the best chain to the place where a word of this left id follows, if any chain leads there
-abbrev pub IsBestJoin : SearchedText → List Node → ℕ → ℕ → Option Join → Type 0
-IsBestJoin t nodes place left found = IsJoinOf t.words t.connection nodes place left found
+-- the nodes are its words of the places before p that some chain reaches
+abbrev pub IsLatticeTo : SearchedText → List Node → ℕ → Type 0
+IsLatticeTo t nodes p = IsLatticeOf t nodes p (length (t.words p))

@@ -1,29 +1,53 @@
 //! The lattice of a text, place by place.
 
-ghost use Rattle.std.specs.Prelude.{◌≡◌, ◌+◌, ◌<◌, ◌^◌, ◌++◌, ◌∷◌, [], slice_set, length, IfSome, OnOk};
+ghost use Rattle.std.specs.Prelude.{◌≡◌, ◌+◌, ◌<◌, ◌^◌, ◌++◌, ◌∷◌, [], slice_set, slice_get, length, IfSome, OnOk, Some};
 ghost use Rattle.mj_model.specs.Bounds.{IsWithin};
+ghost use Rattle.lattice.specs.Ends.{AreEnds, AreLeast};
 ghost use Rattle.lattice.specs.Nodes.{AreLinked, reached};
 ghost use Rattle.lattice.specs.Lattice.{node_of};
-ghost use Rattle.lattice.specs.SearchedText.{CanBeSearched, IsLatticeOf};
+ghost use Rattle.lattice.specs.SearchedText.{CanBeSearched, IsLatticeOf, IsLatticeTo};
 
+use crate::ends::gather;
 use crate::joining::join;
-use crate::node::{Join, Node};
+use crate::joins::Joins;
+use crate::node::{End, Join, Node};
 use crate::source::WordSource;
 use mj_model::Word;
-use std::alloc::AllocError;
-use word_lookup::BlankRun;
+use std::alloc::{AllocError, Global};
+use word_lookup::{BlankRun, Surface};
+
+/// What is kept from place to place and from text to text: room for the words of a place, its ends, and what was searched there.
+#[derive(Debug, Drop)]
+pub struct Room {
+    pub surfaces: Vec<Surface>,
+    pub words: Vec<Word>,
+    pub ends: Vec<End>,
+    pub joins: Joins,
+}
+
+impl Room {
+    /// Takes no memory.
+    pub fn new(alloc: Global) -> Room {
+        Room {
+            surfaces: Vec::new(alloc),
+            words: Vec::new(alloc),
+            ends: Vec::new(alloc),
+            joins: Joins::new(alloc),
+        }
+    }
+}
 
 /// Makes the nodes of all words that some chain reaches, and for each place the number of the
-/// latest node that ends there. `words` is room for the words of a place.
+/// latest node that ends there.
 pub fn build<S: WordSource>(
     source: &S,
     nodes: &mut Vec<Node>,
     heads: &mut Vec<Option<usize>>,
-    words: &mut Vec<Word>,
+    room: &mut Room,
 ) -> Result<(), AllocError>
     requires source { CanBeSearched (S.says source.now) }
     ensures lattice { OnOk result
-        (IsLatticeOf (S.says source.now) nodes.new.items (S.says source.now).text_length 0) }
+        (IsLatticeTo (S.says source.now) nodes.new.items (S.says source.now).text_length) }
     ensures links { OnOk result (AreLinked nodes.new.items heads.new.items) }
     ensures heads { OnOk result (length heads.new.items ≡ (S.says source.now).text_length + 1) }
 {
@@ -33,7 +57,7 @@ pub fn build<S: WordSource>(
     heads.resize(length + 1, None)?;
     let mut last = None;
     for place in 0..length {
-        add_place(source, nodes, heads, words, place, &mut last)?;
+        add_place(source, nodes, heads, room, place, &mut last)?;
     }
     Ok(())
 }
@@ -43,7 +67,7 @@ fn add_place<S: WordSource>(
     source: &S,
     nodes: &mut Vec<Node>,
     heads: &mut [Option<usize>],
-    words: &mut Vec<Word>,
+    room: &mut Room,
     place: usize,
     last: &mut Option<BlankRun>,
 ) -> Result<(), AllocError>
@@ -51,19 +75,28 @@ fn add_place<S: WordSource>(
     requires place { place < (S.says source.now).text_length }
     requires last { IfSome last.old (S.says source.now).is_blank_run }
     requires heads { length heads.old ≡ (S.says source.now).text_length + 1 }
-    requires lattice { IsLatticeOf (S.says source.now) nodes.old.items place 0 }
+    requires lattice { IsLatticeTo (S.says source.now) nodes.old.items place }
     requires links { AreLinked nodes.old.items heads.old }
-    ensures lattice { OnOk result (IsLatticeOf (S.says source.now) nodes.new.items (place + 1) 0) }
+    ensures lattice { OnOk result (IsLatticeTo (S.says source.now) nodes.new.items (place + 1)) }
     ensures links { OnOk result (AreLinked nodes.new.items heads.new) }
     ensures last { IfSome last.new (S.says source.now).is_blank_run }
 {
     if !is_reached(place, heads[place]) {
         return Ok(());
     }
-    words.clear();
-    source.words_at(place, last, words)?;
-    add_words(source, nodes, heads, words, place)?;
-    Ok(())
+    room.words.clear();
+    source.words_at(place, last, &mut room.surfaces, &mut room.words)?;
+    gather(nodes, heads[place], place, &mut room.ends)?;
+    room.joins.clear();
+    add_words(
+        source,
+        nodes,
+        heads,
+        &room.words,
+        place,
+        &room.ends,
+        &mut room.joins,
+    )
 }
 
 /// Whether some chain leads to a place with this head.
@@ -76,31 +109,74 @@ fn is_reached(place: usize, head: Option<usize>) -> bool
     }
 }
 
-/// Adds the words of a place to the nodes, each after the best chain to it.
+/// Adds the words of a place to the nodes, the last one first, each after the best chain to it. `ends` are the ends of the place.
 fn add_words<S: WordSource>(
     source: &S,
     nodes: &mut Vec<Node>,
     heads: &mut [Option<usize>],
     words: &[Word],
     place: usize,
+    ends: &[End],
+    joins: &mut Joins,
 ) -> Result<(), AllocError>
     requires source { CanBeSearched (S.says source.now) }
     requires place { place < (S.says source.now).text_length }
     requires words { words.now ≡ (S.says source.now).words place }
     requires heads { length heads.old ≡ (S.says source.now).text_length + 1 }
-    requires lattice { IsLatticeOf (S.says source.now) nodes.old.items place 0 }
+    requires lattice { IsLatticeTo (S.says source.now) nodes.old.items place }
     requires links { AreLinked nodes.old.items heads.old }
-    ensures lattice { OnOk result (IsLatticeOf (S.says source.now) nodes.new.items (place + 1) 0) }
+    requires some { 0 < length ends.now }
+    requires ends { AreEnds nodes.old.items place ends.now }
+    requires joins { AreLeast (S.says source.now).connection ends.now joins.old.found.items }
+    ensures lattice { OnOk result (IsLatticeTo (S.says source.now) nodes.new.items (place + 1)) }
     ensures links { OnOk result (AreLinked nodes.new.items heads.new) }
 {
-    for word in words {
-        let head = heads[place];
-        let earlier = heads[word.end];
-        match join(source, nodes, head, place, word.left) {
-            Some(found) => add_node(nodes, heads, node_after(&found, word, earlier))?,
-            None => {}
-        }
+    let mut number = words.len();
+    while 0 < number {
+        number -= 1;
+        add_word(
+            source,
+            nodes,
+            heads,
+            &words[number],
+            number,
+            place,
+            ends,
+            joins,
+        )?;
     }
+    Ok(())
+}
+
+/// Adds a word by its number among the words of a place, after the best chain to it.
+fn add_word<S: WordSource>(
+    source: &S,
+    nodes: &mut Vec<Node>,
+    heads: &mut [Option<usize>],
+    word: &Word,
+    number: usize,
+    place: usize,
+    ends: &[End],
+    joins: &mut Joins,
+) -> Result<(), AllocError>
+    requires source { CanBeSearched (S.says source.now) }
+    requires place { place < (S.says source.now).text_length }
+    requires word { slice_get ((S.says source.now).words place) number ≡ Some word.now }
+    requires heads { length heads.old ≡ (S.says source.now).text_length + 1 }
+    requires lattice { IsLatticeOf (S.says source.now) nodes.old.items place (number + 1) }
+    requires links { AreLinked nodes.old.items heads.old }
+    requires some { 0 < length ends.now }
+    requires ends { AreEnds nodes.old.items place ends.now }
+    requires joins { AreLeast (S.says source.now).connection ends.now joins.old.found.items }
+    ensures lattice { OnOk result (IsLatticeOf (S.says source.now) nodes.new.items place number) }
+    ensures links { OnOk result (AreLinked nodes.new.items heads.new) }
+    ensures ends { OnOk result (AreEnds nodes.new.items place ends.now) }
+    ensures joins { OnOk result
+        (AreLeast (S.says source.now).connection ends.now joins.new.found.items) }
+{
+    let found = join(source, ends, joins, word.left)?;
+    let earlier = heads[word.end];
+    add_node(nodes, heads, node_after(&found, word, earlier))?;
     Ok(())
 }
 

@@ -13,7 +13,7 @@ use crate::path::Path;
 use crate::source::WordSource;
 use mj_model::Word;
 use std::alloc::{AllocError, Global};
-use word_lookup::{BlankRun, Dictionaries};
+use word_lookup::{BlankRun, Dictionaries, Surface};
 
 /// A text over dictionaries.
 #[derive(Drop)]
@@ -40,9 +40,11 @@ impl<'a> WordSource for DictionaryText<'a> {
         &self,
         place: usize,
         last: &mut Option<BlankRun>,
+        surfaces: &mut Vec<Surface>,
         out: &mut Vec<Word>,
     ) -> Result<(), AllocError> {
-        self.dictionaries.words_in_turn(self.text, place, last, out)
+        self.dictionaries
+            .words_by(self.text, place, last, surfaces, out)
     }
 
     fn connection_cost(&self, right: u16, left: u16) -> i16 {

@@ -6,7 +6,7 @@ ghost use Rattle.paths.specs.BestOver.{IsBestOver, cost_over};
 ghost use Rattle.lattice.specs.SearchedText.{CanBeSearched, IsBestIn, cost_of};
 ghost use Rattle.word_lookup.specs.Overlays.{overlay_of};
 
-use crate::building::build;
+use crate::building::{Room, build};
 use crate::dictionary_text::DictionaryText;
 use crate::node::Node;
 use crate::path::Path;
@@ -28,8 +28,7 @@ pub struct Lattice {
     nodes: Vec<Node>,
     /// For each place the number of the latest node that ends there.
     heads: Vec<Option<usize>>,
-    /// The words of a place.
-    words: Vec<Word>,
+    room: Room,
     /// The words of the best path.
     best: Vec<Word>,
 }
@@ -41,7 +40,7 @@ impl Lattice {
             alloc,
             nodes: Vec::new(alloc),
             heads: Vec::new(alloc),
-            words: Vec::new(alloc),
+            room: Room::new(alloc),
             best: Vec::new(alloc),
         }
     }
@@ -58,8 +57,14 @@ impl Lattice {
         ensures words_kept { OnErr result (path.new.words.items ≡ path.old.words.items) }
         ensures total_kept { OnErr result (path.new.total ≡ path.old.total) }
     {
-        build(source, &mut self.nodes, &mut self.heads, &mut self.words)?;
-        let total = trace_best(source, &self.nodes, &self.heads, &mut self.best)?;
+        build(source, &mut self.nodes, &mut self.heads, &mut self.room)?;
+        let total = trace_best(
+            source,
+            &self.nodes,
+            &self.heads,
+            &mut self.room.ends,
+            &mut self.best,
+        )?;
         mem::swap(&mut path.words, &mut self.best);
         path.total = total;
         Ok(())

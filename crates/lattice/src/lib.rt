@@ -3,7 +3,9 @@
 
 mod building;
 mod dictionary_text;
+mod ends;
 mod joining;
+mod joins;
 mod lattice;
 mod node;
 mod path;

@@ -18,14 +18,14 @@ pub struct Node {
     pub earlier: Option<usize>,
 }
 
-/// A node that ends at a place, by its number, with its word's place.
+/// The end of a chain to a place: that of a node, by its number, or BOS, which has none.
 ///
-/// `cost` is its total with the connection cost to a word that follows.
+/// `total` is the chain's cost, and `right` the right id at its end.
 #[derive(Clone, Copy, Debug, Drop)]
 pub struct End {
-    pub node: usize,
-    pub place: usize,
-    pub cost: i64,
+    pub total: i64,
+    pub right: u16,
+    pub before: Option<usize>,
 }
 
 /// The best chain to a place, by the number of its last node, or none where the chain is empty.
@@ -34,5 +34,14 @@ pub struct End {
 #[derive(Clone, Copy, Debug, Drop)]
 pub struct Join {
     pub before: Option<usize>,
+    pub cost: i64,
+}
+
+/// One of the ends of a place by its rank among them.
+///
+/// `cost` is its total with the connection cost to a word that follows.
+#[derive(Clone, Copy, Debug, Drop)]
+pub struct Candidate {
+    pub rank: usize,
     pub cost: i64,
 }

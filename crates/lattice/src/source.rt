@@ -5,7 +5,7 @@ ghost use Rattle.lattice.specs.SearchedText.{SearchedText};
 
 use mj_model::Word;
 use std::alloc::AllocError;
-use word_lookup::BlankRun;
+use word_lookup::{BlankRun, Surface};
 
 /// A text over dictionaries: the words of each place, and the cost of each connection.
 pub trait WordSource {
@@ -16,11 +16,13 @@ pub trait WordSource {
     fn length(&self) -> usize
         ensures { result ≡ (says self.now).text_length };
 
-    /// Appends the words of a place to `out`. `last` is the run of blanks that was looked at last, and none before the first place.
+    /// Appends the words of a place to `out`. `last` is the run of blanks that was looked at last, and none before the first place;
+    /// `surfaces` is room for them as surfaces.
     fn words_at(
         &self,
         place: usize,
         last: &mut Option<BlankRun>,
+        surfaces: &mut Vec<Surface>,
         out: &mut Vec<Word>,
     ) -> Result<(), AllocError>
         requires place { (says self.now).is_place place }

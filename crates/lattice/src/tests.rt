@@ -110,3 +110,47 @@ fn long_then_short(rt: HostRuntime) -> Result<(), Fail> {
     }
     Ok(())
 }
+
+/// Asks for the best path of two letters. The first is `count` words of word cost 10, of which number `cheap` costs 9, and the second is one.
+fn best_of_many(
+    rt: &impl Abort,
+    alloc: Global,
+    count: usize,
+    cheap: usize,
+    total: i64,
+) -> Result<(), Fail> {
+    let mut entries = Vec::new(alloc);
+    for number in 0..count {
+        entries.push((0, 1, if number == cheap { 9 } else { 10 }))?;
+    }
+    entries.push((1, 2, 10))?;
+    let sample = sample_of(alloc, 2, &entries)?;
+    let first = if cheap < count { cheap } else { 0 };
+    let mut lattice = Lattice::new(alloc);
+    expect_best(
+        rt,
+        alloc,
+        &mut lattice,
+        &sample,
+        &[first, count],
+        total,
+        "many words",
+    )
+}
+
+#[test]
+fn many_words_of_one_surface(rt: HostRuntime) -> Result<(), Fail> {
+    // (how many words, the number of the cheap one, total)
+    for (count, cheap, total) in [
+        (1, 1, 42),
+        (9, 9, 42),
+        (9, 8, 41),
+        (1000, 1000, 42),
+        (65_600, 65_600, 42),
+        (65_600, 65_590, 41),
+        (65_600, 60, 41),
+    ] {
+        best_of_many(&rt, rt.alloc(), count, cheap, total)?;
+    }
+    Ok(())
+}

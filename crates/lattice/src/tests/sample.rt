@@ -6,7 +6,7 @@ ghost use Rattle.lattice.specs.Sample.{lies_at, numbered, sample_connection, sam
 use crate::source::WordSource;
 use mj_model::{Origin, Word};
 use std::alloc::{AllocError, Global};
-use word_lookup::BlankRun;
+use word_lookup::{BlankRun, Surface};
 
 /// A text by its length and its words, which are numbered by their order.
 #[derive(Debug, Drop)]
@@ -33,6 +33,7 @@ impl WordSource for Sample {
         &self,
         place: usize,
         _last: &mut Option<BlankRun>,
+        _surfaces: &mut Vec<Surface>,
         out: &mut Vec<Word>,
     ) -> Result<(), AllocError> {
         let before = out.len();

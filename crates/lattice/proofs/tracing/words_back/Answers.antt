@@ -5,7 +5,7 @@ use Rattle.mj_model.specs.declared.word.Origin.TheVariants.{Known}
 use Rattle.lattice.specs.declared.node.Node.{Node}
 use Rattle.lattice.specs.Lattice.{IsBelow}
 use Rattle.lattice.proofs.Links.{TracesOn, traces_more, traces_all, size_below, below_up}
-use Rattle.lattice.proofs.BestEnd.{link_size}
+use Rattle.lattice.proofs.EndsLemmas.{link_size}
 use Rattle.lattice.proofs.tracing.words_back.Goals as goal
 
 abbrev no_node : Node

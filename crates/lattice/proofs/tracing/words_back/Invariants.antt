@@ -1,7 +1,7 @@
 use Rattle.std.proofs.Common.{length}
 use Rattle.lattice.specs.Lattice.{IsBelow}
 use Rattle.lattice.proofs.Links.{TracesOn}
-use Rattle.lattice.proofs.BestEnd.{link_size}
+use Rattle.lattice.proofs.EndsLemmas.{link_size}
 use Rattle.lattice.proofs.tracing.words_back.Given as goal
 
 abbrev pub invariant-loop-link : goal.invariant-loop-link

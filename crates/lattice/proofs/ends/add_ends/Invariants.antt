@@ -1,0 +1,10 @@
+use Rattle.std.proofs.Common.{length}
+use Rattle.lattice.specs.Lattice.{IsBelow}
+use Rattle.lattice.proofs.EndsLemmas.{Gathered, link_size}
+use Rattle.lattice.proofs.ends.add_ends.Given as goal
+
+abbrev pub invariant-loop-link : goal.invariant-loop-link
+invariant-loop-link l = record { below : IsBelow l.link (length l.nodes); walk : Gathered l.nodes l.place l.ends.items l.link }
+
+abbrev pub decreases-loop-link : goal.decreases-loop-link
+decreases-loop-link l = link_size l.link
