@@ -9,6 +9,7 @@ pub mod PrefixLemmas
 pub mod TokenLemmas
 pub mod RangeLemmas
 pub mod InfoLemmas
+pub mod InfoTableLemmas
 pub mod FormedLemmas
 pub mod CategoryLemmas
 pub mod ProgressLemmas

@@ -3,6 +3,7 @@ pub mod Held
 pub mod Tokens
 pub mod Ranges
 pub mod Infos
+pub mod InfoTables
 pub mod Categories
 pub mod KeyPlaces
 pub mod Groups

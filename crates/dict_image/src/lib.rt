@@ -9,6 +9,7 @@ mod entries;
 mod entry_ref;
 mod hits;
 mod ids_and_cost;
+mod info_table;
 mod infos;
 mod key_hits;
 mod keys;

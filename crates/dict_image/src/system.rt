@@ -9,7 +9,8 @@ use crate::categories::{category_of, from_category, name_of};
 use crate::costs::cost_at;
 use crate::dict::Dict;
 use crate::entries::Entries;
-use crate::infos::info_by;
+use crate::info_table::{InfoTable, plane_info};
+use crate::infos::listed_at;
 use image_bytes::Section::{Categories, Costs, Features, Infos, Tokens, UnknownIndex};
 use mj_model::{Category, CharInfo};
 
@@ -29,13 +30,16 @@ impl Dict {
         )
     }
 
-    /// The categories of a character, in the time of a binary search at most.
+    /// The categories of a character. Those of one beyond the basic plane take the time of a binary search at most.
     pub fn info(&self, c: char) -> CharInfo
         requires { (image_tables self.now).kind ≡ System }
         ensures info { result ≡ (image_tables self.now).info c }
         ensures first { result.head < length (image_tables self.now).categories }
     {
-        info_by(self.header().info_form(), self.section(Infos), c as u32)
+        match self.info_table() {
+            InfoTable::InSection => listed_at(self.section(Infos), c as u32),
+            InfoTable::OfPlane(entries) => plane_info(entries, self.section(Infos), c as u32),
+        }
     }
 
     /// How many categories there are.
