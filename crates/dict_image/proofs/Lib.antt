@@ -11,6 +11,7 @@ pub mod RangeLemmas
 pub mod InfoLemmas
 pub mod InfoTableLemmas
 pub mod FormedLemmas
+pub mod CostTableLemmas
 pub mod CategoryLemmas
 pub mod ProgressLemmas
 pub mod FittingLemmas

@@ -4,6 +4,7 @@ pub mod Tokens
 pub mod Ranges
 pub mod Infos
 pub mod InfoTables
+pub mod CostTables
 pub mod Categories
 pub mod KeyPlaces
 pub mod Groups

@@ -10,12 +10,14 @@ ghost use Rattle.dict_image.specs.Fitting.{AreFitting};
 ghost use Rattle.image_bytes.specs.Layouts.{info_form, key_form};
 ghost use Rattle.dict_image.specs.Groups.{hits_in};
 ghost use Rattle.dict_image.specs.Held.{IsDict, IsImage};
+ghost use Rattle.dict_image.specs.CostTables.{IsCostTable};
 ghost use Rattle.dict_image.specs.InfoTables.{IsInfoTable};
 ghost use Rattle.dict_image.specs.KeyHits.{hits_seen, key_cells};
 ghost use Rattle.dict_image.specs.KeyTables.{IsTableOf};
 ghost use Rattle.dict_image.specs.Seen.{token_seen};
 
 use crate::check::Outline;
+use crate::cost_table::CostTable;
 use crate::entries::Entries;
 use crate::entry_ref::{EntryRef, token_at};
 use crate::info_table::InfoTable;
@@ -36,6 +38,7 @@ pub struct Dict {
     /// Where the header and sections 1 to 8 end.
     ends: [usize; 9],
     keys: Keys,
+    costs: CostTable,
     infos: InfoTable,
 }
 
@@ -48,20 +51,21 @@ impl Model for Dict {
 
     ghost view = { λ d. d.bytes.items };
 
-    ghost invariant = { λ d. IsDict d.bytes.items d.header d.ends d.keys d.infos };
+    ghost invariant = { λ d. IsDict d.bytes.items d.header d.ends d.keys d.costs d.infos };
 }
 
 impl Dict {
     /// The dictionary of a well-formed image with its outline. It takes no memory.
     pub(crate) fn over(bytes: Vec<u8>, outline: Outline) -> Dict
         requires { IsDict bytes.items outline.header outline.ends outline.keys
-            outline.infos }
+            outline.costs outline.infos }
         ensures { result ≡ bytes.items }
     {
         let Outline {
             header,
             ends,
             keys,
+            costs,
             infos,
         } = outline;
         Dict {
@@ -69,6 +73,7 @@ impl Dict {
             header,
             ends,
             keys,
+            costs,
             infos,
         }
     }
@@ -113,6 +118,14 @@ impl Dict {
         ensures formed { IsImage self.now }
     {
         section_bytes(&self.bytes, &self.ends, section)
+    }
+
+    /// Where connection costs are looked up.
+    pub(crate) fn cost_table(&self) -> &CostTable
+        ensures table { IsCostTable (header_of self.now).sizes (section_of self.now 1) result.now }
+        ensures formed { IsImage self.now }
+    {
+        &self.costs
     }
 
     /// Where the categories of code points are looked up.

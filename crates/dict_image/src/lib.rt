@@ -3,6 +3,7 @@
 
 mod categories;
 mod check;
+mod cost_table;
 mod costs;
 mod dict;
 mod entries;

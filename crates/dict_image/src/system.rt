@@ -6,6 +6,7 @@ ghost use Rattle.mj_model.specs.Tables.{System};
 ghost use Rattle.dict_image.specs.Categories.{category_names};
 
 use crate::categories::{category_of, from_category, name_of};
+use crate::cost_table::{CostTable, cost_in};
 use crate::costs::cost_at;
 use crate::dict::Dict;
 use crate::entries::Entries;
@@ -22,12 +23,12 @@ impl Dict {
         requires pair { IsTrue (is_pair (image_tables self.now).sizes prev_right next_left) }
         ensures { result ≡ (image_tables self.now).connection prev_right next_left }
     {
-        cost_at(
-            self.section(Costs),
-            self.header().sizes,
-            prev_right,
-            next_left,
-        )
+        let sizes = self.header().sizes;
+        let (right, left) = (u32::from(prev_right), u32::from(next_left));
+        match self.cost_table() {
+            CostTable::InSection => cost_at(self.section(Costs), sizes, right, left),
+            CostTable::InRows(rows) => cost_in(rows, sizes, right, left),
+        }
     }
 
     /// The categories of a character. Those of one beyond the basic plane take the time of a binary search at most.
