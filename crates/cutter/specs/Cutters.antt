@@ -1,5 +1,5 @@
 -- What a cutter holds, and what its cuts mean.
-use Rattle.std.specs.Prelude.{◌≡◌, ℕ, ℤ, ◌≤◌, List, ◌∷◌, [], ◌++◌, length, map, Option, Some, None, slice_get}
+use Rattle.std.specs.Prelude.{◌≡◌, ℕ, ℤ, ◌≤◌, List, ◌∷◌, [], ◌++◌, length, map, Option, Some, None, slice_get, IsUtf8}
 use Rattle.std.specs.Option.{IsSomeAnd}
 use Rattle.image_bytes.specs.ImageMeaning.{image_tables}
 use Rattle.mj_model.specs.declared.limits.TheConstants.{GROUPING_DEFAULT, GROUPING_MAX, SENTENCE_MAX}
@@ -7,9 +7,10 @@ use Rattle.mj_model.specs.declared.word.Word.{Word}
 use Rattle.mj_model.specs.Printed.{feature_of}
 use Rattle.mj_model.specs.Tables.{Overlay}
 use Rattle.out_format.specs.Formats.{Format, ReadsFormat}
-use Rattle.out_format.specs.PrintedPaths.{ShowsPath}
+use Rattle.out_format.specs.PrintedPaths.{ShowsPath, first_category}
 use Rattle.out_format.specs.Texts.{default_texts}
 use Rattle.paths.specs.BestOver.{IsBestOver, cost_over}
+use Rattle.paths.specs.Blanks.{chars_from}
 
 -- the images of a system's dictionary and of users' dictionaries, in the order in which they were laid over it
 pub record Images : Type 0 where
@@ -45,9 +46,10 @@ overlay_held held = overlay_in held.images held.grouping
 abbrev pub with_user : Images → List ℕ → Images
 with_user images user = record { system = images.system; users = images.users ++ user ∷ [] }
 
--- the words are the best path of the text, and the total is what it costs
+-- the words are the best path of a text that may be cut, and the total is what it costs
 pub record IsCutOver (o : Overlay) (c : Cut) : Type 0 where
   pub short : length c.text ≤ SENTENCE_MAX
+  pub is_utf8 : IsUtf8 c.text
   pub best : IsBestOver o c.text c.words
   pub total_is : c.total ≡ cost_over o c.words
 
@@ -79,3 +81,7 @@ ShowsCut h c shown = ShowsPath (overlay_held h) h.format c.text c.words shown
 -- an output grows by the feature of the word with a number
 abbrev pub GrowsByFeature : Held → ℕ → List ℕ → List ℕ → Cut → Type 0
 GrowsByFeature h i old new c = IsSomeAnd (slice_get c.words i) (λ (w : Word). new ≡ old ++ feature_of (overlay_held h) w.origin)
+
+-- the word with a number has this category as the first one of its first character
+abbrev pub HasCategory : Held → ℕ → ℕ → Cut → Type 0
+HasCategory h i category c = IsSomeAnd (slice_get c.words i) (λ (w : Word). category ≡ first_category (overlay_held h) (chars_from c.text w.start))

@@ -87,9 +87,13 @@ IsPrintRefusal h cut.Memory = Unit {0}
 IsPrintRefusal h cut.NothingCut = h.cut ≡ None
 IsPrintRefusal h fault = ⊥
 
--- why the feature of the word with a number is not told
+-- why nothing is told of the word with a number: nothing was cut, or what was cut has no such word
+abbrev pub IsWordRefusal : Held → ℕ → CutFault → Type 0
+IsWordRefusal h i cut.NothingCut = h.cut ≡ None
+IsWordRefusal h i (cut.NoWord n) = (n ≡ i) × IsSomeAnd h.cut (λ (c : Cut). slice_get c.words i ≡ None)
+IsWordRefusal h i fault = ⊥
+
+-- why its feature is not appended
 abbrev pub IsFeatureRefusal : Held → ℕ → CutFault → Type 0
 IsFeatureRefusal h i cut.Memory = Unit {0}
-IsFeatureRefusal h i cut.NothingCut = h.cut ≡ None
-IsFeatureRefusal h i (cut.NoWord n) = (n ≡ i) × IsSomeAnd h.cut (λ (c : Cut). slice_get c.words i ≡ None)
-IsFeatureRefusal h i fault = ⊥
+IsFeatureRefusal h i fault = IsWordRefusal h i fault

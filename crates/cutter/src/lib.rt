@@ -1,7 +1,9 @@
 //! Lines cut into words in process, by dictionaries that are owned and may be shared between threads.
 #![tactic(auto)]
 
+mod categories;
 mod cutter;
+mod cutting;
 mod fault;
 mod last_cut;
 mod owned_dictionaries;
