@@ -1,6 +1,6 @@
 //! Lines and texts cut into words, and what is told of them.
 
-ghost use Rattle.std.specs.Prelude.{◌≡◌, ◌≤◌, Some, None, IfOk, IfErr, OnOk, OnErr};
+ghost use Rattle.std.specs.Prelude.{◌≡◌, ◌≤◌, Some, IfOk, IfErr, OnOk, OnErr};
 ghost use Rattle.cutter.specs.Cutters.{GrowsByFeature, HasCategory, IsCutOver, OfCut, ShowsCut, overlay_held};
 ghost use Rattle.cutter.specs.Faults.{IsFeatureRefusal, IsLineRefusal, IsNothingCut, IsOneLine, IsPrintRefusal, IsText, IsTextRefusal, IsWordRefusal};
 ghost use Rattle.cutter.specs.Kept.{cut_lent};
