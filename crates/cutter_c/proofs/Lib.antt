@@ -1,0 +1,3 @@
+pub mod Values
+pub mod CallLemmas
+pub mod HandleLemmas

@@ -1,0 +1,4 @@
+pub mod Codes
+pub mod Owned
+pub mod Handles
+pub mod Calls
