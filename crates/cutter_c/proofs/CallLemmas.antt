@@ -14,6 +14,7 @@ use Rattle.cutter.specs.declared.fault.CutFault.TheVariants as cut
 use Rattle.cutter_c.specs.Codes.{call_code, cut_code, format_code, format_kind_code, image_code, overlay_code, told_code}
 use Rattle.cutter_c.specs.declared.fault.CallFault.{CallFault}
 use Rattle.cutter_c.specs.declared.fault.CallFault.TheVariants as call
+use Rattle.cutter_c.specs.Handles.{TellsCall}
 
 image_not_ok : (f : ImageFault) → image_code f ≡ 0 → ⊥
 image_not_ok image.Truncated e = omega (arith, e)
@@ -70,3 +71,7 @@ when_refused (Err f) code P is h ne = subst P (sym is) h
 pub when_kept : {T : Type 0} (r : Result T CallFault) (code : ℕ) (P : Type 0) → code ≡ told_code r → OnErr r P → code ≢ 0 → P
 when_kept (Ok x) code P is h ne = absurd (ne is)
 when_kept (Err f) code P is h ne = h
+
+pub when_told : {T : Type 0} (r : Result T CallFault) (code : ℕ) (Is : CallFault → Type 0) → code ≡ told_code r → IfErr r Is → code ≢ 0 → TellsCall Is code
+when_told (Ok x) code Is is h ne = absurd (ne is)
+when_told (Err f) code Is is h ne = record { fault = f; is = h; told = is }

@@ -1,8 +1,10 @@
 -- What C's handles hold, and what C is told.
-use Rattle.std.specs.Prelude.{◌≡◌, ℕ, Option, None, Some, option_map}
+use Rattle.std.specs.Prelude.{◌≡◌, ℕ, List, length, Option, None, Some, option_map}
+use Rattle.std.specs.Option.{IsSomeAnd}
 use Rattle.cutter.specs.Cutters.{Held}
 use Rattle.cutter.specs.declared.fault.CutFault.{CutFault}
 use Rattle.cutter_c.specs.Codes.{call_code, cut_code, memory}
+use Rattle.cutter_c.specs.declared.fault.CallFault.{CallFault}
 use Rattle.cutter_c.specs.declared.fault.CallFault.TheVariants as call
 use Rattle.cutter_c.specs.declared.handle.Handle.{Handle}
 
@@ -36,3 +38,13 @@ TellsNotShared None (Some h) code = code ≡ memory
 abbrev pub Moves : Option Held → Option Held → (Held → Held → Type 0) → Type 0
 Moves (Some old) (Some new) Is = Is old new
 Moves old new Is = ⊥
+
+-- the handle's own buffer holds so many bytes, which are so of its cutter
+abbrev pub HoldsOutput : (Held → List ℕ → Type 0) → ℕ → Handle → Type 0
+HoldsOutput Is count handle = IsSomeAnd handle.slot.value (λ s. Is s.cutter s.output.items × (count ≡ length s.output.items))
+
+-- a code tells a fault of a call that is so
+pub record TellsCall (Is : CallFault → Type 0) (code : ℕ) : Type 0 where
+  pub fault : CallFault
+  pub is : Is fault
+  pub told : code ≡ call_code fault
