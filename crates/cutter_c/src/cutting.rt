@@ -1,6 +1,6 @@
 //! Lines and texts cut, with the size of their paths.
 
-ghost use Rattle.std.specs.Prelude.{◌≡◌, length, IfErr, OnOk, OnErr};
+ghost use Rattle.std.specs.Prelude.{◌≡◌, IfErr, OnOk, OnErr};
 ghost use Rattle.cutter.specs.Cutters.{OfCut};
 ghost use Rattle.cutter.specs.Faults.{IsLineRefusal, IsNothingCut, IsTextRefusal};
 ghost use Rattle.cutter_c.specs.Calls.{HasSize, IsCutInto};

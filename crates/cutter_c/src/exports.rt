@@ -1,6 +1,6 @@
 //! What C calls. Each export tells the answer of a call as a code.
 
-ghost use Rattle.std.specs.Prelude.{◌≡◌, ◌≢◌, [], None};
+ghost use Rattle.std.specs.Prelude.{◌≡◌, ◌≢◌, None};
 ghost use Rattle.std.specs.Option.{IsSomeAnd};
 ghost use Rattle.cutter.specs.Cutters.{IsLoaded};
 ghost use Rattle.cutter.specs.Faults.{IsGroupingRefusal, IsImage, IsLineRefusal, IsLoadRefusal, IsTextRefusal};
