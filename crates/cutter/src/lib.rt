@@ -11,3 +11,6 @@ mod text;
 
 pub use cutter::Cutter;
 pub use fault::CutFault;
+
+#[cfg(test)]
+mod tests;

@@ -1,0 +1,10 @@
+//! Lines cut over the sample, and each call refused.
+
+mod faults;
+mod formats;
+mod lines;
+mod refusals;
+mod samples;
+mod sharing;
+mod users;
+mod words;
