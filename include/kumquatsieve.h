@@ -26,7 +26,8 @@ typedef struct kumquatsieve_cutter {
 
 /* A word of the line that was cut last. Its blanks stand from place to start, its surface from start to end, in bytes from the line's
    beginning. left and right are context ids, and cost is the word cost. token is the number of its entry: where known is 1 in
-   dictionary 0, the system's, or 1 and more, the users' in their order; where known is 0 among the unknown words of the system. */
+   dictionary 0, the system's, or 1 and more, the users' in their order; where known is 0 among the unknown words of the system.
+   category is the number of the first category of the surface's first character, in the order of char.def. */
 typedef struct kumquatsieve_word {
     size_t place;
     size_t start;
@@ -37,6 +38,7 @@ typedef struct kumquatsieve_word {
     uint16_t right;
     int16_t cost;
     uint8_t known;
+    uint8_t category;
 } kumquatsieve_word;
 
 /* What a call answers: 0, out of memory, or a fault, whose letter and number are those of `jseg --explain`. After a fault the cutter
@@ -102,6 +104,11 @@ uint32_t kumquatsieve_set_grouping(kumquatsieve_cutter *cutter, uint32_t groupin
 /* Cuts a line, which has no line feed. *count is the number of its words, and *total the cost of the path. */
 uint32_t kumquatsieve_cut(
     kumquatsieve_cutter *cutter, const uint8_t *line, size_t length, size_t *count, int64_t *total
+);
+
+/* The same of a text of several lines, in which a line feed is a character as others are: what MeCab's library does of a sentence. */
+uint32_t kumquatsieve_cut_text(
+    kumquatsieve_cutter *cutter, const uint8_t *text, size_t length, size_t *count, int64_t *total
 );
 
 /* Writes the words of the line that was cut last from number `first` on, as far as there is room. *count is the number of all words

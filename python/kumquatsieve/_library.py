@@ -35,6 +35,7 @@ class Record(ctypes.Structure):
         ("right", ctypes.c_uint16),
         ("cost", ctypes.c_int16),
         ("known", ctypes.c_uint8),
+        ("category", ctypes.c_uint8),
     ]
 
 
