@@ -9,7 +9,9 @@ pub mod PrefixLemmas
 pub mod TokenLemmas
 pub mod RangeLemmas
 pub mod InfoLemmas
+pub mod InfoTableLemmas
 pub mod FormedLemmas
+pub mod CostTableLemmas
 pub mod CategoryLemmas
 pub mod ProgressLemmas
 pub mod FittingLemmas

@@ -2,9 +2,13 @@
 use Rattle.std.specs.Prelude.{◌≡◌, ℕ, ◌*◌, ◌<◌, ◌≤◌, List, length}
 use Rattle.image_bytes.specs.declared.header.Header.{Header}
 use Rattle.image_bytes.specs.Headers.{AreEnds}
-use Rattle.image_bytes.specs.ImageBytes.{header_of, section}
-use Rattle.image_bytes.specs.Layouts.{key_form}
+use Rattle.image_bytes.specs.ImageBytes.{header_of, kind_of, section}
+use Rattle.image_bytes.specs.Layouts.{info_form, key_form}
+use Rattle.dict_image.specs.declared.cost_table.CostTable.{CostTable}
+use Rattle.dict_image.specs.declared.info_table.InfoTable.{InfoTable}
 use Rattle.dict_image.specs.declared.keys.Keys.{Keys}
+use Rattle.dict_image.specs.CostTables.{IsCostTable}
+use Rattle.dict_image.specs.InfoTables.{IsInfoTable}
 use Rattle.dict_image.specs.KeyPlaces.{AreKeysOf}
 use Rattle.image_bytes.specs.ImageFaults.{IsWellFormed}
 use Rattle.image_bytes.specs.ImageSections.{HasFeature, stored_token}
@@ -13,12 +17,15 @@ use Rattle.image_bytes.specs.ImageSections.{HasFeature, stored_token}
 unfoldable pub IsImage : List ℕ → Type 0
 IsImage bytes = IsWellFormed bytes
 
--- a well-formed image, the numbers of its header, where its sections end, and how its keys are looked for
-pub record IsDict (bytes : List ℕ) (header : Header) (ends : List ℕ) (keys : Keys) : Type 0 where
+-- a well-formed image, the numbers of its header, where its sections end, how its keys are looked for, and where connection costs
+-- and the categories of code points are looked up
+pub record IsDict (bytes : List ℕ) (header : Header) (ends : List ℕ) (keys : Keys) (costs : CostTable) (infos : InfoTable) : Type 0 where
   pub formed : IsImage bytes
   pub header_is : header ≡ header_of bytes
   pub ends_are : AreEnds ends (header_of bytes)
   pub keys_are : AreKeysOf (key_form (header_of bytes).layout) (header_of bytes).groups (section bytes 5) keys
+  pub costs_are : IsCostTable (header_of bytes).sizes (section bytes 1) costs
+  pub infos_are : IsInfoTable (kind_of (header_of bytes)) (info_form (header_of bytes).layout) (section bytes 3) infos
 
 -- so many tokens stand in one section, and their features in another
 pub record HoldTokens (tokens features : List ℕ) (count : ℕ) : Type 0 where

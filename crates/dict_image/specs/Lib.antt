@@ -3,6 +3,8 @@ pub mod Held
 pub mod Tokens
 pub mod Ranges
 pub mod Infos
+pub mod InfoTables
+pub mod CostTables
 pub mod Categories
 pub mod KeyPlaces
 pub mod Groups

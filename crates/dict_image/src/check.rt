@@ -11,7 +11,7 @@ mod categories;
 mod cell;
 mod characters;
 mod frame;
-mod header;
+pub(crate) mod header;
 mod index;
 mod infos;
 mod key_front;
@@ -28,32 +28,47 @@ use crate::check::frame::{check_ends, check_front};
 use crate::check::header::check_header;
 use crate::check::lexicon::{check_keys, check_tokens};
 use crate::check::system::check_system;
+use crate::cost_table::{CostTable, cost_table_of};
+use crate::info_table::{InfoTable, info_table_of};
 use crate::keys::Keys;
 use image_bytes::{Header, Section, section_bytes};
 use mj_model::ImageFault;
 use std::alloc::Global;
 
-/// Where the parts of a well-formed image lie: its header, where the header and sections 1 to 8 end, and how its keys are looked for.
+/// Where the parts of a well-formed image lie: its header, where the header and sections 1 to 8 end, how its keys are looked for, and where
+/// connection costs and the categories of code points are looked up.
 #[derive(Drop)]
 pub(crate) struct Outline {
     pub header: Header,
     pub ends: [usize; 9],
     pub keys: Keys,
+    pub costs: CostTable,
+    pub infos: InfoTable,
 }
 
 /// The outline of a well-formed image, or the first fault of its tests in their order.
 ///
 /// It takes memory for a note on each group and each cell, for the states of one key, and for a number of 8 bytes for each place of the
-/// features where a character would have to begin and none does. For listed keys it takes a number of 8 bytes a group, which is kept.
+/// features where a character would have to begin and none does. For listed keys it takes a number of 8 bytes a group, which is kept,
+/// and so is an entry of 4 bytes for each code point of the basic plane where the categories of code points stand in ranges, and a copy of
+/// the connection costs where they are few.
 pub(crate) fn check_image(alloc: Global, bytes: &[u8]) -> Result<Outline, ImageFault>
     ensures accepted { IfOk result
-        (λ outline. IsDict bytes.now outline.header outline.ends outline.keys) }
+        (λ outline. IsDict bytes.now outline.header outline.ends outline.keys outline.costs outline.infos) }
     ensures refused { IfErr result (λ fault. (fault ≡ Memory) ⊎ IsImageFault bytes.now fault) }
 {
     let header = check_front(bytes)?;
     let ends = check_ends(bytes, &header)?;
     let keys = check_sections(alloc, bytes, &header, &ends)?;
-    Ok(Outline { header, ends, keys })
+    let costs = cost_table_of(alloc, &header, section_bytes(bytes, &ends, Section::Costs))?;
+    let infos = info_table_of(alloc, &header, section_bytes(bytes, &ends, Section::Infos))?;
+    Ok(Outline {
+        header,
+        ends,
+        keys,
+        costs,
+        infos,
+    })
 }
 
 /// The tests of the header's numbers and of each section, and how the keys are looked for.

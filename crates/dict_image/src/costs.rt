@@ -6,7 +6,7 @@ use image_bytes::i16_at;
 use mj_model::MatrixSizes;
 
 /// The connection cost of a right id and a left id, in a table of these sizes.
-pub(crate) fn cost_at(costs: &[u8], sizes: MatrixSizes, right: u16, left: u16) -> i16
+pub(crate) fn cost_at(costs: &[u8], sizes: MatrixSizes, right: u32, left: u32) -> i16
     requires costs { AreCosts sizes costs.now }
     requires right { right < sizes.right }
     requires left { left < sizes.left }

@@ -1,22 +1,26 @@
 //! A dictionary: the bytes of a well-formed image.
 ghost use Rattle.std.specs.Prelude.{◌≡◌, ℕ, ◌<◌, List};
-ghost use Rattle.image_bytes.specs.ImageBytes.{all_tokens, header_of, section as section_of};
+ghost use Rattle.image_bytes.specs.ImageBytes.{all_tokens, header_of, kind_of, section as section_of};
 ghost use Rattle.image_bytes.specs.ImageFaults.{IsWellFormed};
 ghost use Rattle.image_bytes.specs.ImageMeaning.{group_in, image_tables, image_token, tokens_in};
 ghost use Rattle.image_bytes.specs.ImageSections.{stored_cells};
 ghost use Rattle.mj_model.specs.Overlays.{is_user};
 ghost use Rattle.image_bytes.specs.Sections.{number_of};
 ghost use Rattle.dict_image.specs.Fitting.{AreFitting};
-ghost use Rattle.image_bytes.specs.Layouts.{key_form};
+ghost use Rattle.image_bytes.specs.Layouts.{info_form, key_form};
 ghost use Rattle.dict_image.specs.Groups.{hits_in};
 ghost use Rattle.dict_image.specs.Held.{IsDict, IsImage};
+ghost use Rattle.dict_image.specs.CostTables.{IsCostTable};
+ghost use Rattle.dict_image.specs.InfoTables.{IsInfoTable};
 ghost use Rattle.dict_image.specs.KeyHits.{hits_seen, key_cells};
 ghost use Rattle.dict_image.specs.KeyTables.{IsTableOf};
 ghost use Rattle.dict_image.specs.Seen.{token_seen};
 
 use crate::check::Outline;
+use crate::cost_table::CostTable;
 use crate::entries::Entries;
 use crate::entry_ref::{EntryRef, token_at};
+use crate::info_table::InfoTable;
 use crate::key_hits::KeyHits;
 use crate::keys::{KeyTable, Keys};
 use crate::listed_keys::ListedKeys;
@@ -34,6 +38,8 @@ pub struct Dict {
     /// Where the header and sections 1 to 8 end.
     ends: [usize; 9],
     keys: Keys,
+    costs: CostTable,
+    infos: InfoTable,
 }
 
 impl Model for Dict {
@@ -45,21 +51,30 @@ impl Model for Dict {
 
     ghost view = { λ d. d.bytes.items };
 
-    ghost invariant = { λ d. IsDict d.bytes.items d.header d.ends d.keys };
+    ghost invariant = { λ d. IsDict d.bytes.items d.header d.ends d.keys d.costs d.infos };
 }
 
 impl Dict {
     /// The dictionary of a well-formed image with its outline. It takes no memory.
     pub(crate) fn over(bytes: Vec<u8>, outline: Outline) -> Dict
-        requires { IsDict bytes.items outline.header outline.ends outline.keys }
+        requires { IsDict bytes.items outline.header outline.ends outline.keys
+            outline.costs outline.infos }
         ensures { result ≡ bytes.items }
     {
-        let Outline { header, ends, keys } = outline;
+        let Outline {
+            header,
+            ends,
+            keys,
+            costs,
+            infos,
+        } = outline;
         Dict {
             bytes,
             header,
             ends,
             keys,
+            costs,
+            infos,
         }
     }
 
@@ -103,6 +118,23 @@ impl Dict {
         ensures formed { IsImage self.now }
     {
         section_bytes(&self.bytes, &self.ends, section)
+    }
+
+    /// Where connection costs are looked up.
+    pub(crate) fn cost_table(&self) -> &CostTable
+        ensures table { IsCostTable (header_of self.now).sizes (section_of self.now 1) result.now }
+        ensures formed { IsImage self.now }
+    {
+        &self.costs
+    }
+
+    /// Where the categories of code points are looked up.
+    pub(crate) fn info_table(&self) -> &InfoTable
+        ensures table { IsInfoTable (kind_of (header_of self.now))
+            (info_form (header_of self.now).layout) (section_of self.now 3) result.now }
+        ensures formed { IsImage self.now }
+    {
+        &self.infos
     }
 
     /// The keys, to look one up.

@@ -1,27 +1,14 @@
-//! The categories of code points, by layout.
+//! The categories of code points by their entries.
 ghost use Rattle.std.specs.Prelude.{◌≡◌, ◌/◌, ◌^◌, ◌<◌};
-ghost use Rattle.image_bytes.specs.ImageMeaning.{info_in};
 ghost use Rattle.image_bytes.specs.ImageSections.{info_of_entry};
 ghost use Rattle.image_bytes.specs.OlderSections.{listed_info};
-ghost use Rattle.dict_image.specs.Infos.{AreReadable, AreWhole};
+ghost use Rattle.dict_image.specs.Infos.{AreWhole};
 
-use crate::ranges::info_at;
-use image_bytes::{InfoForm, OWN_ENTRIES, u32_at};
+use image_bytes::{OWN_ENTRIES, u32_at};
 use mj_model::CharInfo;
 
-/// The categories of a code point.
-pub(crate) fn info_by(form: InfoForm, infos: &[u8], code: u32) -> CharInfo
-    requires { AreReadable form infos.now }
-    ensures { result ≡ info_in form infos.now code }
-{
-    match form {
-        InfoForm::Listed => listed_at(infos, code),
-        InfoForm::Ranges => info_at(infos, code),
-    }
-}
-
 /// The categories of a code point by its entry. Those from U+FFFF on have the entry of U+0000.
-fn listed_at(entries: &[u8], code: u32) -> CharInfo
+pub(crate) fn listed_at(entries: &[u8], code: u32) -> CharInfo
     requires { AreWhole entries.now }
     ensures { result ≡ listed_info entries.now code }
 {

@@ -3,12 +3,14 @@
 
 mod categories;
 mod check;
+mod cost_table;
 mod costs;
 mod dict;
 mod entries;
 mod entry_ref;
 mod hits;
 mod ids_and_cost;
+mod info_table;
 mod infos;
 mod key_hits;
 mod keys;

@@ -6,10 +6,12 @@ ghost use Rattle.mj_model.specs.Tables.{System};
 ghost use Rattle.dict_image.specs.Categories.{category_names};
 
 use crate::categories::{category_of, from_category, name_of};
+use crate::cost_table::{CostTable, cost_in};
 use crate::costs::cost_at;
 use crate::dict::Dict;
 use crate::entries::Entries;
-use crate::infos::info_by;
+use crate::info_table::{InfoTable, plane_info};
+use crate::infos::listed_at;
 use image_bytes::Section::{Categories, Costs, Features, Infos, Tokens, UnknownIndex};
 use mj_model::{Category, CharInfo};
 
@@ -21,21 +23,24 @@ impl Dict {
         requires pair { IsTrue (is_pair (image_tables self.now).sizes prev_right next_left) }
         ensures { result ≡ (image_tables self.now).connection prev_right next_left }
     {
-        cost_at(
-            self.section(Costs),
-            self.header().sizes,
-            prev_right,
-            next_left,
-        )
+        let sizes = self.header().sizes;
+        let (right, left) = (u32::from(prev_right), u32::from(next_left));
+        match self.cost_table() {
+            CostTable::InSection => cost_at(self.section(Costs), sizes, right, left),
+            CostTable::InRows(rows) => cost_in(rows, sizes, right, left),
+        }
     }
 
-    /// The categories of a character, in the time of a binary search at most.
+    /// The categories of a character. Those of one beyond the basic plane take the time of a binary search at most.
     pub fn info(&self, c: char) -> CharInfo
         requires { (image_tables self.now).kind ≡ System }
         ensures info { result ≡ (image_tables self.now).info c }
         ensures first { result.head < length (image_tables self.now).categories }
     {
-        info_by(self.header().info_form(), self.section(Infos), c as u32)
+        match self.info_table() {
+            InfoTable::InSection => listed_at(self.section(Infos), c as u32),
+            InfoTable::OfPlane(entries) => plane_info(entries, self.section(Infos), c as u32),
+        }
     }
 
     /// How many categories there are.

@@ -14,3 +14,4 @@ mod older_system;
 mod plain_reader;
 mod plain_walk;
 mod questions;
+mod ranges;

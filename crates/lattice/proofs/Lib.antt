@@ -4,5 +4,6 @@ pub mod Least
 pub mod Links
 pub mod Choice
 pub mod Growth
+pub mod WordNumbers
 pub mod Finish
 pub mod SampleLemmas

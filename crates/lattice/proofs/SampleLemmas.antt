@@ -1,14 +1,19 @@
 -- The words of a list at each place are words of a text, whatever the list.
-use Rattle.std.proofs.Common.{◌≡◌, ℕ, zero, suc, ◌+◌, ◌<◌, ◌≤◌, ◌^◌, Bool, true, false, cond, List, [], ◌∷◌, ◌++◌, slice_get, Contains, Some, refl, ap, ◌∙◌, subst, arith}
+use Rattle.std.proofs.Common.{◌≡◌, ℕ, zero, suc, ◌+◌, ◌<◌, ◌≤◌, ◌^◌, Bool, true, false, cond, List, [], ◌∷◌, ◌++◌, slice_get, drop, length, flat_map, Contains, Option, Some, refl, sym, ap, ◌∙◌, subst, arith}
+use Rattle.std.specs.List.{AllByRecursion}
+use Rattle.std.specs.Option.{option_map_or}
+use Rattle.std.proofs.lemmas.List.{drop_more}
 use Rattle.std.specs.Prelude.{pos, negsuc, nat_eq, nat_lt, nat_le, int_lt}
 use Rattle.std.proofs.lemmas.Int.{ints}
 use Rattle.std.proofs.lemmas.Bool.{eqb-true, ltb-true, leb-true, and_parts}
-use Rattle.std.proofs.lemmas.Option.{same_Some}
+use Rattle.std.proofs.lemmas.Option.{same_Some, slice_get_within}
 use Rattle.mj_model.specs.declared.word.Word.{Word}
 use Rattle.mj_model.specs.declared.word.Origin.TheVariants.{Known}
 use Rattle.mj_model.specs.Bounds.{IsWithin}
 use Rattle.paths.specs.Searchable.{IsSearchable}
-use Rattle.lattice.specs.Sample.{lies_at, numbered, sample_words, sample_connection}
+use Rattle.word_lookup.specs.declared.surface.Surface.{Surface}
+use Rattle.word_lookup.specs.Surfaces.{AreSurfacesOf, IsWhole, StandsWith}
+use Rattle.lattice.specs.Sample.{lies_at, numbered, sample_connection, sample_surfaces, sample_words, surface_of, words_numbered}
 use Rattle.lattice.proofs.Pushed.{get_from_Contains}
 
 -- a word that lies at the place, with a number of at least k
@@ -97,3 +102,37 @@ sample_is_searchable ws len short = record {
   eos_follows = record { after_bos = tt; after_word = λ p w h. tt };
   word_follows = λ p w h. record { after_bos = tt; after_word = λ q v g. tt };
 }
+
+-- ---- as surfaces
+
+first_dropped : (all ws : List Word) (k : ℕ) (w : Word) → drop k all ≡ w ∷ ws → slice_get all k ≡ Some w
+first_dropped [] ws zero w e = absurd (cc)
+first_dropped [] ws (suc k) w e = absurd (cc)
+first_dropped (v ∷ vs) ws zero w e = ap (λ (us : List Word). slice_get us 0) e
+first_dropped (v ∷ vs) ws (suc k) w e = first_dropped vs ws k w e
+
+others_dropped : (all ws : List Word) (k : ℕ) (w : Word) → drop k all ≡ w ∷ ws → drop (k + 1) all ≡ ws
+others_dropped all ws k w e = ap (drop 1) (sym (drop_more all k w (slice_get_within all k w (first_dropped all ws k w e)))) ∙ ap (drop 1) e
+
+one_sample : (all : List Word) (k : ℕ) (w : Word) → slice_get all k ≡ Some w → words_numbered all (surface_of k w) ≡ numbered k w ∷ []
+one_sample all k w at = ap (λ (o : Option Word). option_map_or (λ (v : Word). numbered k v ∷ []) o []) at
+
+sample_is_whole : (all : List Word) (k : ℕ) (w : Word) → slice_get all k ≡ Some w → IsWhole (words_numbered all) (surface_of k w)
+sample_is_whole all k w at =
+    let e = one_sample all k w at in
+    record { count_is = ap length e; some = omega arith; stand = subst (AllByRecursion (StandsWith (surface_of k w))) (sym e) (record { place = refl; start = refl; end = refl }, tt) }
+
+are_case : (all : List Word) (k : ℕ) (w : Word) (words : List Word) (surfaces : List Surface) (b : Bool) → slice_get all k ≡ Some w → AreSurfacesOf (words_numbered all) words surfaces
+    → AreSurfacesOf (words_numbered all) (cond b (numbered k w ∷ []) [] ++ words) (cond b (surface_of k w ∷ []) [] ++ surfaces)
+are_case all k w words surfaces false at are = are
+are_case all k w words surfaces true at are = record {
+  joined = ap (λ (ws : List Word). ws ++ flat_map (words_numbered all) surfaces) (one_sample all k w at) ∙ ap (λ (ws : List Word). numbered k w ∷ ws) are.joined;
+  whole = (sample_is_whole all k w at, are.whole);
+}
+
+samples_from : (all ws : List Word) (k len p : ℕ) → drop k all ≡ ws → AreSurfacesOf (words_numbered all) (sample_words ws k len p) (sample_surfaces ws k len p)
+samples_from all [] k len p e = record { joined = refl; whole = tt }
+samples_from all (w ∷ ws) k len p e = are_case all k w (sample_words ws (k + 1) len p) (sample_surfaces ws (k + 1) len p) (lies_at len p w) (first_dropped all ws k w e) (samples_from all ws (k + 1) len p (others_dropped all ws k w e))
+
+pub are_samples : (all : List Word) (len p : ℕ) → AreSurfacesOf (words_numbered all) (sample_words all 0 len p) (sample_surfaces all 0 len p)
+are_samples all len p = samples_from all all 0 len p refl

@@ -1,11 +1,11 @@
 //! The lattice of a text, place by place.
 
-ghost use Rattle.std.specs.Prelude.{◌≡◌, ◌+◌, ◌<◌, ◌^◌, ◌++◌, ◌∷◌, [], slice_set, slice_get, length, IfSome, OnOk, Some};
+ghost use Rattle.std.specs.Prelude.{◌≡◌, ◌+◌, ◌<◌, ◌^◌, ◌++◌, ◌∷◌, [], slice_set, length, IfSome, OnOk, Some};
 ghost use Rattle.mj_model.specs.Bounds.{IsWithin};
 ghost use Rattle.lattice.specs.Ends.{AreEnds, AreLeast};
 ghost use Rattle.lattice.specs.Nodes.{AreLinked, reached};
 ghost use Rattle.lattice.specs.Lattice.{node_of};
-ghost use Rattle.lattice.specs.SearchedText.{CanBeSearched, IsLatticeOf, IsLatticeTo};
+ghost use Rattle.lattice.specs.SearchedText.{AreSurfacesAt, CanBeSearched, IsLatticeOf, IsLatticeTo, word_count, words_before};
 
 use crate::ends::gather;
 use crate::joining::join;
@@ -16,11 +16,10 @@ use mj_model::Word;
 use std::alloc::{AllocError, Global};
 use word_lookup::{BlankRun, Surface};
 
-/// What is kept from place to place and from text to text: room for the words of a place, its ends, and what was searched there.
+/// What is kept from place to place and from text to text: room for the surfaces of a place, its ends, and what was searched there.
 #[derive(Debug, Drop)]
 pub struct Room {
     pub surfaces: Vec<Surface>,
-    pub words: Vec<Word>,
     pub ends: Vec<End>,
     pub joins: Joins,
 }
@@ -30,7 +29,6 @@ impl Room {
     pub fn new(alloc: Global) -> Room {
         Room {
             surfaces: Vec::new(alloc),
-            words: Vec::new(alloc),
             ends: Vec::new(alloc),
             joins: Joins::new(alloc),
         }
@@ -84,15 +82,15 @@ fn add_place<S: WordSource>(
     if !is_reached(place, heads[place]) {
         return Ok(());
     }
-    room.words.clear();
-    source.words_at(place, last, &mut room.surfaces, &mut room.words)?;
+    room.surfaces.clear();
+    source.surfaces_at(place, last, &mut room.surfaces)?;
     gather(nodes, heads[place], place, &mut room.ends)?;
     room.joins.clear();
-    add_words(
+    add_surfaces(
         source,
         nodes,
         heads,
-        &room.words,
+        &room.surfaces,
         place,
         &room.ends,
         &mut room.joins,
@@ -109,19 +107,20 @@ fn is_reached(place: usize, head: Option<usize>) -> bool
     }
 }
 
-/// Adds the words of a place to the nodes, the last one first, each after the best chain to it. `ends` are the ends of the place.
-fn add_words<S: WordSource>(
+/// Adds the words of a place to the nodes, the last one first, each after the best chain to it. `surfaces` are those of the place, and
+/// `ends` its ends.
+fn add_surfaces<S: WordSource>(
     source: &S,
     nodes: &mut Vec<Node>,
     heads: &mut [Option<usize>],
-    words: &[Word],
+    surfaces: &[Surface],
     place: usize,
     ends: &[End],
     joins: &mut Joins,
 ) -> Result<(), AllocError>
     requires source { CanBeSearched (S.says source.now) }
     requires place { place < (S.says source.now).text_length }
-    requires words { words.now ≡ (S.says source.now).words place }
+    requires surfaces { AreSurfacesAt (S.says source.now) place surfaces.now }
     requires heads { length heads.old ≡ (S.says source.now).text_length + 1 }
     requires lattice { IsLatticeTo (S.says source.now) nodes.old.items place }
     requires links { AreLinked nodes.old.items heads.old }
@@ -131,29 +130,20 @@ fn add_words<S: WordSource>(
     ensures lattice { OnOk result (IsLatticeTo (S.says source.now) nodes.new.items (place + 1)) }
     ensures links { OnOk result (AreLinked nodes.new.items heads.new) }
 {
-    let mut number = words.len();
+    let mut number = surfaces.len();
     while 0 < number {
         number -= 1;
-        add_word(
-            source,
-            nodes,
-            heads,
-            &words[number],
-            number,
-            place,
-            ends,
-            joins,
-        )?;
+        add_surface(source, nodes, heads, surfaces, number, place, ends, joins)?;
     }
     Ok(())
 }
 
-/// Adds a word by its number among the words of a place, after the best chain to it.
-fn add_word<S: WordSource>(
+/// The same of one surface, by its number among those of the place.
+fn add_surface<S: WordSource>(
     source: &S,
     nodes: &mut Vec<Node>,
     heads: &mut [Option<usize>],
-    word: &Word,
+    surfaces: &[Surface],
     number: usize,
     place: usize,
     ends: &[End],
@@ -161,22 +151,66 @@ fn add_word<S: WordSource>(
 ) -> Result<(), AllocError>
     requires source { CanBeSearched (S.says source.now) }
     requires place { place < (S.says source.now).text_length }
-    requires word { slice_get ((S.says source.now).words place) number ≡ Some word.now }
+    requires surfaces { AreSurfacesAt (S.says source.now) place surfaces.now }
+    requires number { number < length surfaces.now }
     requires heads { length heads.old ≡ (S.says source.now).text_length + 1 }
-    requires lattice { IsLatticeOf (S.says source.now) nodes.old.items place (number + 1) }
+    requires lattice { IsLatticeOf (S.says source.now) nodes.old.items place
+        (words_before (S.says source.now) surfaces.now (number + 1) 0) }
     requires links { AreLinked nodes.old.items heads.old }
     requires some { 0 < length ends.now }
     requires ends { AreEnds nodes.old.items place ends.now }
     requires joins { AreLeast (S.says source.now).connection ends.now joins.old.found.items }
-    ensures lattice { OnOk result (IsLatticeOf (S.says source.now) nodes.new.items place number) }
+    ensures lattice { OnOk result (IsLatticeOf (S.says source.now) nodes.new.items place
+        (words_before (S.says source.now) surfaces.now number 0)) }
     ensures links { OnOk result (AreLinked nodes.new.items heads.new) }
     ensures ends { OnOk result (AreEnds nodes.new.items place ends.now) }
     ensures joins { OnOk result
         (AreLeast (S.says source.now).connection ends.now joins.new.found.items) }
 {
+    let mut i = surfaces[number].count;
+    while 0 < i {
+        i -= 1;
+        add_word(
+            source, nodes, heads, surfaces, number, i, place, ends, joins,
+        )?;
+    }
+    Ok(())
+}
+
+/// Adds word `i` of a surface, after the best chain to it.
+fn add_word<S: WordSource>(
+    source: &S,
+    nodes: &mut Vec<Node>,
+    heads: &mut [Option<usize>],
+    surfaces: &[Surface],
+    number: usize,
+    i: u32,
+    place: usize,
+    ends: &[End],
+    joins: &mut Joins,
+) -> Result<(), AllocError>
+    requires source { CanBeSearched (S.says source.now) }
+    requires place { place < (S.says source.now).text_length }
+    requires surfaces { AreSurfacesAt (S.says source.now) place surfaces.now }
+    requires word { i < word_count surfaces.now number }
+    requires heads { length heads.old ≡ (S.says source.now).text_length + 1 }
+    requires lattice { IsLatticeOf (S.says source.now) nodes.old.items place
+        (words_before (S.says source.now) surfaces.now number i + 1) }
+    requires links { AreLinked nodes.old.items heads.old }
+    requires some { 0 < length ends.now }
+    requires ends { AreEnds nodes.old.items place ends.now }
+    requires joins { AreLeast (S.says source.now).connection ends.now joins.old.found.items }
+    ensures lattice { OnOk result (IsLatticeOf (S.says source.now) nodes.new.items place
+        (words_before (S.says source.now) surfaces.now number i)) }
+    ensures links { OnOk result (AreLinked nodes.new.items heads.new) }
+    ensures ends { OnOk result (AreEnds nodes.new.items place ends.now) }
+    ensures joins { OnOk result
+        (AreLeast (S.says source.now).connection ends.now joins.new.found.items) }
+{
+    let word = source.word(&surfaces[number], i);
     let found = join(source, ends, joins, word.left)?;
     let earlier = heads[word.end];
-    add_node(nodes, heads, node_after(&found, word, earlier))?;
+    add_node(nodes, heads, node_after(&found, &word, earlier))?;
     Ok(())
 }
 

@@ -7,6 +7,7 @@ ghost use Rattle.mj_model.specs.Connection.{is_pair};
 ghost use Rattle.paths.specs.Words.{is_place, words};
 ghost use Rattle.word_lookup.specs.BlankRuns.{IsBlankRun};
 ghost use Rattle.word_lookup.specs.Overlays.{overlay_of};
+ghost use Rattle.word_lookup.specs.Surfaces.{surface_words};
 
 use crate::lattice::Lattice;
 use crate::path::Path;
@@ -26,6 +27,7 @@ impl<'a> WordSource for DictionaryText<'a> {
     ghost says = { λ s. record {
       text_length = length s.text.now;
       words = words (overlay_of s.dictionaries.now) s.text.now;
+      surface_words = surface_words (overlay_of s.dictionaries.now);
       connection = (overlay_of s.dictionaries.now).system.connection;
       is_place = λ p. IsTrue (is_place s.text.now p);
       is_pair = λ right left. IsTrue (is_pair (overlay_of s.dictionaries.now).system.sizes right left);
@@ -36,15 +38,18 @@ impl<'a> WordSource for DictionaryText<'a> {
         self.text.len()
     }
 
-    fn words_at(
+    fn surfaces_at(
         &self,
         place: usize,
         last: &mut Option<BlankRun>,
-        surfaces: &mut Vec<Surface>,
-        out: &mut Vec<Word>,
+        out: &mut Vec<Surface>,
     ) -> Result<(), AllocError> {
         self.dictionaries
-            .words_by(self.text, place, last, surfaces, out)
+            .surfaces_in_turn(self.text, place, last, out)
+    }
+
+    fn word(&self, surface: &Surface, i: u32) -> Word {
+        self.dictionaries.word(surface, i)
     }
 
     fn connection_cost(&self, right: u16, left: u16) -> i16 {

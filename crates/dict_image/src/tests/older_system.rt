@@ -8,11 +8,11 @@ use std::alloc::{AllocError, Global};
 use std::test::Fail;
 
 /// The entry of category 0 alone.
-const ZERO: u32 = 1;
+pub(crate) const ZERO: u32 = 1;
 /// The entry of category 1 alone.
-const ONE: u32 = 1 << 18 | 2;
+pub(crate) const ONE: u32 = 1 << 18 | 2;
 /// The entry of both categories, of which category 1 is the first.
-const BOTH: u32 = 1 << 18 | 3;
+pub(crate) const BOTH: u32 = 1 << 18 | 3;
 
 /// Section 3: these code points have these entries, and all others up to U+FFFE have category 0.
 fn entries_with(alloc: Global, others: &[(u32, u32)]) -> Result<Vec<u8>, AllocError> {
@@ -25,8 +25,12 @@ fn entries_with(alloc: Global, others: &[(u32, u32)]) -> Result<Vec<u8>, AllocEr
     Ok(entries)
 }
 
-/// The system image of a layout with two categories, each with one unknown token, and no keys.
-fn two_categories(alloc: Global, layout: u32, infos: &[u8]) -> Result<Vec<u8>, AllocError> {
+/// The system image of a layout, without a digest, with two categories, each with one unknown token, and no keys.
+pub(crate) fn two_categories(
+    alloc: Global,
+    layout: u32,
+    infos: &[u8],
+) -> Result<Vec<u8>, AllocError> {
     let categories = b"\0\x01\0\x07DEFAULT\x01\0\0\x01A";
     let index = b"\0\0\0\0\x01\0\0\0\x02\0\0\0";
     let root = b"\x01\0\0\0\xfe\xff\xff\xff";

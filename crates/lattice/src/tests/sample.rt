@@ -1,12 +1,12 @@
 //! A source of words for tests: a list.
 
-ghost use Rattle.std.specs.Prelude.{◌≡◌, ◌++◌, IfOk, IsTrue, IsFalse};
-ghost use Rattle.lattice.specs.Sample.{lies_at, numbered, sample_connection, sample_word, sample_words};
+ghost use Rattle.std.specs.Prelude.{◌≡◌, ◌++◌, ◌∷◌, [], IfOk, IsTrue, IsFalse};
+ghost use Rattle.lattice.specs.Sample.{lies_at, numbered, sample_connection, sample_surface, sample_words, surface_of, words_numbered};
 
 use crate::source::WordSource;
 use mj_model::{Origin, Word};
 use std::alloc::{AllocError, Global};
-use word_lookup::{BlankRun, Surface};
+use word_lookup::{BlankRun, EntryList, Surface};
 
 /// A text by its length and its words, which are numbered by their order.
 #[derive(Debug, Drop)]
@@ -19,6 +19,7 @@ impl WordSource for Sample {
     ghost says = { λ s. record {
       text_length = s.length;
       words = sample_words s.words.items 0 s.length;
+      surface_words = words_numbered s.words.items;
       connection = sample_connection;
       is_place = λ p. Unit {0};
       is_pair = λ r l. Unit {0};
@@ -29,12 +30,11 @@ impl WordSource for Sample {
         self.length
     }
 
-    fn words_at(
+    fn surfaces_at(
         &self,
         place: usize,
         _last: &mut Option<BlankRun>,
-        _surfaces: &mut Vec<Surface>,
-        out: &mut Vec<Word>,
+        out: &mut Vec<Surface>,
     ) -> Result<(), AllocError> {
         let before = out.len();
         for number in 0..self.words.len() {
@@ -44,6 +44,11 @@ impl WordSource for Sample {
             }
         }
         Ok(())
+    }
+
+    fn word(&self, surface: &Surface, _i: u32) -> Word {
+        let number = surface.first as usize;
+        by_number(number, &self.words[number])
     }
 
     fn connection_cost(&self, right: u16, left: u16) -> i16 {
@@ -80,13 +85,39 @@ fn by_number(number: usize, word: &Word) -> Word
     }
 }
 
-/// Adds the word if it lies at the place, and answers whether there was memory for it.
-fn add_sample(length: usize, place: usize, number: usize, word: &Word, out: &mut Vec<Word>) -> bool
+/// Adds the surface of the word if it lies at the place, and answers whether there was memory for it.
+fn add_sample(
+    length: usize,
+    place: usize,
+    number: usize,
+    word: &Word,
+    out: &mut Vec<Surface>,
+) -> bool
     ensures added { IsTrue result
-        → out.new.items ≡ out.old.items ++ sample_word number length place word.now }
+        → out.new.items ≡ out.old.items ++ sample_surface number length place word.now }
     ensures kept { IsFalse result → out.new.items ≡ out.old.items }
 {
-    !lies_here(length, place, word) || out.push(by_number(number, word)).is_ok()
+    !lies_here(length, place, word) || add_surface(number, word, out)
+}
+
+/// Adds the surface of a word, and answers whether there was memory for it and a number of 32 bits.
+fn add_surface(number: usize, word: &Word, out: &mut Vec<Surface>) -> bool
+    ensures added { IsTrue result
+        → out.new.items ≡ out.old.items ++ surface_of number word.now ∷ [] }
+    ensures kept { IsFalse result → out.new.items ≡ out.old.items }
+{
+    let Ok(first) = u32::try_from(number) else {
+        return false;
+    };
+    let surface = Surface {
+        list: EntryList::Categories,
+        first,
+        count: 1,
+        place: word.place,
+        start: word.start,
+        end: word.end,
+    };
+    out.push(surface).is_ok()
 }
 
 /// A text of words of left id and right id 1, each by the byte offsets of its beginning and its end and by its word cost.

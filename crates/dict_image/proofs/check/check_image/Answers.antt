@@ -1,9 +1,13 @@
-use Rattle.std.proofs.Common.{inl, inr, subst}
+use Rattle.std.proofs.Common.{◌≡◌, ℕ, List, inl, inr, refl, subst}
 use Rattle.std.proofs.lemmas.Result.{err_from_is_err_and}
 use Rattle.image_bytes.specs.declared.header.Header.{Header}
-use Rattle.image_bytes.specs.ImageBytes.{section}
+use Rattle.image_bytes.specs.ImageBytes.{header_of, section}
+use Rattle.image_bytes.specs.ImageFaults.{PassAll, front_tests, end_tests, section_tests}
 use Rattle.image_bytes.specs.Layouts.{key_form}
 use Rattle.dict_image.specs.KeyPlaces.{AreKeysOf}
+use Rattle.dict_image.specs.Held.{IsImage}
+use Rattle.dict_image.proofs.CostTableLemmas.{cost_table_in, costs_in}
+use Rattle.dict_image.proofs.InfoTableLemmas.{readable_in, table_in}
 use Rattle.dict_image.proofs.FormedLemmas.{from_formed}
 use Rattle.dict_image.proofs.StageLemmas.{end_told, section_told, all_pass}
 use Rattle.dict_image.proofs.check.check_image.Goals as goal
@@ -23,14 +27,43 @@ returns-in_err-keys-clause-refused c =
       | inr first ↦ inr (section_told c.args.bytes.now c.in_ok-header.header fault front.1 front.0 c.in_ok-ends.ensures.0 first)
     ])
 
+-- bytes that pass all tests are an image
+formed_by : (bytes : List ℕ) (h : Header) → PassAll (front_tests (header_of bytes) bytes) × (h ≡ header_of bytes) → PassAll (end_tests (header_of bytes) bytes) → PassAll (section_tests h bytes) → IsImage bytes
+formed_by bytes h front ends rest = from_formed bytes (all_pass bytes h front.1 front.0 ends rest)
+
+pub cost_table_of-requires : goal.cost_table_of-requires
+cost_table_of-requires c =
+    let bytes = c.args.bytes.now in
+    let h = c.in_ok-header.header in
+    costs_in bytes h c.section_bytes.result.now c.in_ok-header.ensures.1 c.section_bytes.ensures (formed_by bytes h c.in_ok-header.ensures c.in_ok-ends.ensures.0 c.in_ok-keys.ensures.0)
+
+pub returns-in_err-costs-clause-refused : goal.returns-in_err-costs-clause-refused
+returns-in_err-costs-clause-refused c =
+    let p = err_from_is_err_and c.from_residual-in_err-costs.result c.from_residual-in_err-costs.ensures.1 in
+    rw (p.1, p.2) (inl refl)
+
+pub info_table_of-requires : goal.info_table_of-requires
+info_table_of-requires c =
+    let bytes = c.args.bytes.now in
+    let h = c.in_ok-header.header in
+    readable_in bytes h c.section_bytes-2.result.now c.in_ok-header.ensures.1 c.section_bytes-2.ensures (formed_by bytes h c.in_ok-header.ensures c.in_ok-ends.ensures.0 c.in_ok-keys.ensures.0)
+
+pub returns-in_err-infos-clause-refused : goal.returns-in_err-infos-clause-refused
+returns-in_err-infos-clause-refused c =
+    let p = err_from_is_err_and c.from_residual-in_err-infos.result c.from_residual-in_err-infos.ensures.1 in
+    rw (p.1, p.2) (inl refl)
+
 pub returns-clause-accepted : goal.returns-clause-accepted
 returns-clause-accepted c =
     let bytes = c.args.bytes.now in
+    let h = c.in_ok-header.header in
     let front = c.in_ok-header.ensures in
     let ends = c.in_ok-ends.ensures in
     record {
-      formed = from_formed bytes (all_pass bytes c.in_ok-header.header front.1 front.0 ends.0 c.in_ok-keys.ensures.0);
+      formed = formed_by bytes h front ends.0 c.in_ok-keys.ensures.0;
       header_is = front.1;
       ends_are = ends.1;
-      keys_are = subst (λ (h : Header). AreKeysOf (key_form h.layout) h.groups (section bytes 5) c.in_ok-keys.keys) front.1 c.in_ok-keys.ensures.1;
+      keys_are = subst (λ (g : Header). AreKeysOf (key_form g.layout) g.groups (section bytes 5) c.in_ok-keys.keys) front.1 c.in_ok-keys.ensures.1;
+      costs_are = cost_table_in bytes h c.section_bytes.result.now c.in_ok-costs.costs front.1 c.section_bytes.ensures c.in_ok-costs.ensures;
+      infos_are = table_in bytes h c.section_bytes-2.result.now c.in_ok-infos.infos front.1 c.section_bytes-2.ensures c.in_ok-infos.ensures;
     }

@@ -7,7 +7,9 @@ use Rattle.dict_image.proofs.FormedLemmas.{is_formed}
 use Rattle.dict_image.proofs.loading.load.Goals as goal
 
 pub over-requires : goal.over-requires
-over-requires c = subst (λ (bytes : List ℕ). IsDict bytes c.in_ok-outline.outline.header c.in_ok-outline.outline.ends c.in_ok-outline.outline.keys) c.deref.ensures.value c.in_ok-outline.ensures.accepted
+over-requires c =
+    let outline = c.in_ok-outline.outline in
+    subst (λ (bytes : List ℕ). IsDict bytes outline.header outline.ends outline.keys outline.costs outline.infos) c.deref.ensures.value c.in_ok-outline.ensures.accepted
 
 pub returns-clause-accepted : goal.returns-clause-accepted
 returns-clause-accepted c = subst IsWellFormed c.deref.ensures.value (is_formed c.deref.result.now c.in_ok-outline.ensures.accepted.formed)

@@ -1,0 +1,55 @@
+-- Faults of the parts as a cutter tells them.
+use Rattle.std.proofs.Common.{◌≡◌, ℕ, List, ◌∷◌, ◌++◌, [], sym, subst, ◌⊎◌, inl, inr}
+use Rattle.std.specs.Prelude.{Result, Ok, Err, IfErr}
+use Rattle.mj_model.specs.declared.image_fault.ImageFault.{ImageFault}
+use Rattle.mj_model.specs.declared.image_fault.ImageFault.TheVariants as image
+use Rattle.image_bytes.specs.ImageFaults.{IsImageFault}
+use Rattle.cutter.specs.declared.fault.CutFault.{CutFault}
+use Rattle.cutter.specs.declared.fault.CutFault.TheVariants as cut
+use Rattle.cutter.specs.Cutters.{Images}
+use Rattle.cutter.specs.Faults.{IsAddRefusal, IsFaultOf, IsImage, IsLoadRefusal, IsUserRefusal}
+use Rattle.cutter.specs.FaultWords.{told_of_image}
+
+-- what holds of want of memory, and of an image's fault that is so, holds of the fault as it is told
+told_if : (Is : ImageFault → Type 0) (P : CutFault → Type 0) (fault : ImageFault) → P cut.Memory → ((f : ImageFault) → Is f → P (cut.Image f)) → Is fault → P (told_of_image fault)
+told_if Is P image.Truncated m k h = k _ h
+told_if Is P image.BadMagic m k h = k _ h
+told_if Is P (image.BadLayout n) m k h = k _ h
+told_if Is P (image.BadSection n) m k h = k _ h
+told_if Is P (image.BadKey n) m k h = k _ h
+told_if Is P (image.BadToken n) m k h = k _ h
+told_if Is P (image.BadText n) m k h = k _ h
+told_if Is P image.Digest m k h = k _ h
+told_if Is P image.Memory m k h = m
+
+told : (Is : ImageFault → Type 0) (P : CutFault → Type 0) (fault : ImageFault) → P cut.Memory → ((f : ImageFault) → Is f → P (cut.Image f)) → (fault ≡ image.Memory) ⊎ Is fault
+    → P (told_of_image fault)
+told Is P fault m k (inl e) = subst (λ (f : ImageFault). P (told_of_image f)) (sym e) m
+told Is P fault m k (inr h) = told_if Is P fault m k h
+
+pub load_refused : (bytes : List ℕ) (fault : ImageFault) → (fault ≡ image.Memory) ⊎ IsImageFault bytes fault → IsLoadRefusal bytes (told_of_image fault)
+unfolding IsFaultOf
+load_refused bytes fault h = told (IsImageFault bytes) (IsLoadRefusal bytes) fault tt (λ f is. is) h
+
+pub user_refused : (images : Images) (bytes : List ℕ) (fault : ImageFault) → (fault ≡ image.Memory) ⊎ IsImageFault bytes fault → IsUserRefusal images bytes (told_of_image fault)
+unfolding IsFaultOf
+user_refused images bytes fault h = told (IsImageFault bytes) (IsUserRefusal images bytes) fault tt (λ f is. is) h
+
+add_fault : (images : Images) (user : List ℕ) (fault : CutFault) → IsImage user → IsAddRefusal images.system (images.users ++ user ∷ []) fault → IsUserRefusal images user fault
+add_fault images user (cut.Image f) formed h = absurd h
+add_fault images user (cut.Overlay f) formed h = (formed, h)
+add_fault images user (cut.Format f) formed h = absurd h
+add_fault images user cut.NotUtf8 formed h = absurd h
+add_fault images user cut.TooLong formed h = absurd h
+add_fault images user (cut.LineFeed n) formed h = absurd h
+add_fault images user cut.NothingCut formed h = absurd h
+add_fault images user cut.Shared formed h = absurd h
+add_fault images user cut.BadGrouping formed h = absurd h
+add_fault images user (cut.NoWord n) formed h = absurd h
+add_fault images user cut.Memory formed h = tt
+
+-- a user's dictionary that is not added is not laid over the others
+pub add_refused : {T : Type 0} (r : Result T CutFault) (images : Images) (user : List ℕ) → IsImage user → IfErr r (IsAddRefusal images.system (images.users ++ user ∷ []))
+    → IfErr r (IsUserRefusal images user)
+add_refused (Ok x) images user formed h = tt
+add_refused (Err fault) images user formed h = add_fault images user fault formed h

@@ -1,0 +1,4 @@
+pub mod FaultLemmas
+pub mod OverlayLemmas
+pub mod ResultLemmas
+pub mod WordLemmas

@@ -1,0 +1,35 @@
+use Rattle.std.proofs.lemmas.Result.{err_from_is_err_and}
+use Rattle.std.proofs.Common.{[], ◌∷◌, ◌++◌}
+use Rattle.cutter.specs.Faults.{IsImage}
+use Rattle.cutter.proofs.FaultLemmas.{add_refused, user_refused}
+use Rattle.cutter.proofs.OverlayLemmas.{none_added, still_fit, user_added}
+use Rattle.cutter.proofs.ResultLemmas.{on_ok}
+use Rattle.cutter.proofs.owned_dictionaries.OwnedDictionaries.add.Goals as goal
+
+pub returns-in_err-user-clause-refused : goal.returns-in_err-user-clause-refused
+returns-in_err-user-clause-refused c =
+    let p = err_from_is_err_and c.from_residual.result c.from_residual.ensures.1 in
+    rw (p.1, p.2) (user_refused c.args.self.now c.args.image.items c.in_err-user.field-0.0 c.in_err-user.ensures.refused)
+
+pub invariant_of-self : goal.invariant_of-self
+invariant_of-self c =
+    still_fit c.add_checked.result c.self.inside.system c.self.inside.users.items c.add_checked.new.users.items (c.self.inside.users.items ++ c.in_ok-user.user ∷ []) c.add_checked.ensures.added
+    c.add_checked.ensures.kept c.add_checked.ensures.accepted c.self.invariant
+
+pub returns-clause-added : goal.returns-clause-added
+returns-clause-added c =
+    user_added c.add_checked.result c.args.self.now c.self.inside.system c.self.inside.users.items c.add_checked.new.users.items c.in_ok-user.user c.args.image.items c.self.view_is
+    c.in_ok-user.ensures.dict c.add_checked.ensures.added
+
+pub returns-clause-accepted : goal.returns-clause-accepted
+unfolding IsImage
+returns-clause-accepted c = on_ok c.add_checked.result (IsImage c.args.image.items) c.in_ok-user.ensures.accepted
+
+pub returns-clause-refused : goal.returns-clause-refused
+unfolding IsImage
+returns-clause-refused c =
+    add_refused c.add_checked.result c.args.self.now c.args.image.items c.in_ok-user.ensures.accepted (rw (← c.self.view_is, ← c.in_ok-user.ensures.dict) c.add_checked.ensures.refused)
+
+pub returns-clause-kept : goal.returns-clause-kept
+returns-clause-kept c =
+    none_added c.add_checked.result c.args.self.now c.self.inside.system c.self.inside.users.items c.add_checked.new.users.items c.self.view_is c.add_checked.ensures.kept

@@ -1,0 +1,37 @@
+use Rattle.std.proofs.lemmas.Result.{err_from_is_err_and}
+use Rattle.std.proofs.Common.{[], ◌∙◌}
+use Rattle.std.specs.Prelude.{None, Some}
+use Rattle.cutter.specs.Faults.{IsImage}
+use Rattle.cutter.proofs.FaultLemmas.{load_refused}
+use Rattle.cutter.proofs.OverlayLemmas.{same_fault}
+use Rattle.cutter.proofs.owned_dictionaries.OwnedDictionaries.load.Goals as goal
+
+pub returns-in_err-system-clause-refused : goal.returns-in_err-system-clause-refused
+returns-in_err-system-clause-refused c =
+    let p = err_from_is_err_and c.from_residual.result c.from_residual.ensures.1 in
+    rw (p.1, p.2) (load_refused c.args.image.items c.in_err-system.field-0.0 c.in_err-system.ensures.refused)
+
+pub returns-in_err-new-clause-refused : goal.returns-in_err-new-clause-refused
+unfolding IsImage
+returns-in_err-new-clause-refused c =
+    let p = err_from_is_err_and c.from_residual-in_err-new.result c.from_residual-in_err-new.ensures.1 in
+    rw (p.1, p.2) (
+      c.in_ok-system.ensures.accepted,
+      same_fault c.in_ok-system.system c.args.image.items c.deref.result.now [] (Some c.in_err-new.field-0.0) c.in_ok-system.ensures.dict (c.deref.ensures.value ∙ c.new-users.ensures.items)
+          c.in_err-new.ensures.refused,
+    )
+
+pub invariant_of-result : goal.invariant_of-result
+invariant_of-result c =
+    same_fault c.in_ok-system.system c.in_ok-system.system c.deref.result.now c.new-users.result.items None (λ i. c.in_ok-system.system) c.deref.ensures.value c.in_ok-new.ensures.accepted
+
+pub returns-clause-loaded : goal.returns-clause-loaded
+returns-clause-loaded c = λ i. record { system = c.in_ok-system.ensures.dict i; users = c.new-users.ensures.items i }
+
+pub returns-clause-accepted : goal.returns-clause-accepted
+unfolding IsImage
+returns-clause-accepted c = c.in_ok-system.ensures.accepted
+
+pub returns-clause-fits : goal.returns-clause-fits
+returns-clause-fits c =
+    same_fault c.in_ok-system.system c.args.image.items c.deref.result.now [] None c.in_ok-system.ensures.dict (c.deref.ensures.value ∙ c.new-users.ensures.items) c.in_ok-new.ensures.accepted

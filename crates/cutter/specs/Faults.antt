@@ -1,0 +1,99 @@
+-- When the calls of a cutter are refused, and with which fault. Want of memory may come in any call that takes some.
+use Rattle.std.specs.Prelude.{◌≡◌, ℕ, ◌<◌, ◌≤◌, List, [], ◌∷◌, ◌++◌, length, Some, None, Err, IsUtf8, slice_get}
+use Rattle.std.specs.Option.{IsSomeAnd}
+use Rattle.memchr.specs.Find.{IsFirstByte}
+use Rattle.image_bytes.specs.ImageFaults.{IsImageFault, IsWellFormed}
+use Rattle.mj_model.specs.Bytes.{is_line_feed}
+use Rattle.mj_model.specs.declared.image_fault.ImageFault.{ImageFault}
+use Rattle.mj_model.specs.declared.limits.TheConstants.{GROUPING_MAX, SENTENCE_MAX}
+use Rattle.out_format.specs.Formats.{FormatTexts, IsFormat}
+use Rattle.word_lookup.specs.Overlays.{fault_of_images}
+use Rattle.cutter.specs.declared.fault.CutFault.{CutFault}
+use Rattle.cutter.specs.declared.fault.CutFault.TheVariants as cut
+use Rattle.cutter.specs.Cutters.{Cut, Held, Images}
+
+-- well-formed images, and the first fault of others, as words that are not taken apart
+unfoldable pub IsImage : List ℕ → Type 0
+IsImage image = IsWellFormed image
+
+unfoldable pub IsFaultOf : List ℕ → ImageFault → Type 0
+IsFaultOf image fault = IsImageFault image fault
+
+-- a text that may be cut: UTF-8 of at most so many bytes
+pub record IsText (bytes : List ℕ) : Type 0 where
+  pub short : length bytes ≤ SENTENCE_MAX
+  pub is_utf8 : IsUtf8 bytes
+
+-- the fault of bytes that are no such text
+abbrev pub IsTextFault : List ℕ → CutFault → Type 0
+IsTextFault bytes cut.TooLong = SENTENCE_MAX < length bytes
+IsTextFault bytes cut.NotUtf8 = (length bytes ≤ SENTENCE_MAX) × (IsUtf8 bytes → ⊥)
+IsTextFault bytes fault = ⊥
+
+-- why a text is not cut
+abbrev pub IsTextRefusal : List ℕ → CutFault → Type 0
+IsTextRefusal bytes cut.Memory = Unit {0}
+IsTextRefusal bytes fault = IsTextFault bytes fault
+
+-- a text is one line: no byte is an LF
+abbrev pub IsOneLine : List ℕ → Type 0
+IsOneLine line = IsFirstByte is_line_feed line None
+
+-- why a line is not cut: where its first LF stands, or else why it is not cut as a text
+abbrev pub IsLineRefusal : List ℕ → CutFault → Type 0
+IsLineRefusal line (cut.LineFeed place) = IsFirstByte is_line_feed line (Some place)
+IsLineRefusal line fault = IsOneLine line × IsTextRefusal line fault
+
+-- why an image is not loaded as a system's: it is none, or one of a user's dictionary
+abbrev pub IsLoadRefusal : List ℕ → CutFault → Type 0
+IsLoadRefusal image cut.Memory = Unit {0}
+IsLoadRefusal image (cut.Image fault) = IsFaultOf image fault
+IsLoadRefusal image (cut.Overlay fault) = IsImage image × (fault_of_images image [] ≡ Some fault)
+IsLoadRefusal image fault = ⊥
+
+-- why a user's image is not laid over others: another cutter shares them, or it is no image, or the first fault of them all
+abbrev pub IsUserRefusal : Images → List ℕ → CutFault → Type 0
+IsUserRefusal images user cut.Memory = Unit {0}
+IsUserRefusal images user cut.Shared = Unit {0}
+IsUserRefusal images user (cut.Image fault) = IsFaultOf user fault
+IsUserRefusal images user (cut.Overlay fault) = IsImage user × (fault_of_images images.system (images.users ++ user ∷ []) ≡ Some fault)
+IsUserRefusal images user fault = ⊥
+
+-- why a user's dictionary is not added to others: the first fault of them all
+abbrev pub IsAddRefusal : List ℕ → List (List ℕ) → CutFault → Type 0
+IsAddRefusal system users cut.Memory = Unit {0}
+IsAddRefusal system users (cut.Overlay fault) = fault_of_images system users ≡ Some fault
+IsAddRefusal system users fault = ⊥
+
+-- why texts are not set as the format
+abbrev pub IsFormatRefused : FormatTexts → CutFault → Type 0
+IsFormatRefused texts cut.Memory = Unit {0}
+IsFormatRefused texts (cut.Format fault) = IsFormat texts (Err fault)
+IsFormatRefused texts fault = ⊥
+
+-- why a number is not set as the grouping
+abbrev pub IsGroupingRefusal : ℕ → CutFault → Type 0
+IsGroupingRefusal grouping cut.BadGrouping = GROUPING_MAX < grouping
+IsGroupingRefusal grouping fault = ⊥
+
+-- nothing was cut, and the fault says so
+pub record IsNothingCut (h : Held) (fault : CutFault) : Type 0 where
+  pub told : fault ≡ cut.NothingCut
+  pub none : h.cut ≡ None
+
+-- why a path is not printed
+abbrev pub IsPrintRefusal : Held → CutFault → Type 0
+IsPrintRefusal h cut.Memory = Unit {0}
+IsPrintRefusal h cut.NothingCut = h.cut ≡ None
+IsPrintRefusal h fault = ⊥
+
+-- why nothing is told of the word with a number: nothing was cut, or what was cut has no such word
+abbrev pub IsWordRefusal : Held → ℕ → CutFault → Type 0
+IsWordRefusal h i cut.NothingCut = h.cut ≡ None
+IsWordRefusal h i (cut.NoWord n) = (n ≡ i) × IsSomeAnd h.cut (λ (c : Cut). slice_get c.words i ≡ None)
+IsWordRefusal h i fault = ⊥
+
+-- why its feature is not appended
+abbrev pub IsFeatureRefusal : Held → ℕ → CutFault → Type 0
+IsFeatureRefusal h i cut.Memory = Unit {0}
+IsFeatureRefusal h i fault = IsWordRefusal h i fault

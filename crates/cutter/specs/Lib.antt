@@ -1,0 +1,4 @@
+pub mod FaultWords
+pub mod Cutters
+pub mod Kept
+pub mod Faults

@@ -1,0 +1,124 @@
+//! Lines and texts cut into words, and what is told of them.
+
+ghost use Rattle.std.specs.Prelude.{◌≡◌, ◌≤◌, Some, IfOk, IfErr, OnOk, OnErr};
+ghost use Rattle.cutter.specs.Cutters.{GrowsByFeature, HasCategory, IsCutOver, OfCut, ShowsCut, overlay_held};
+ghost use Rattle.cutter.specs.Faults.{IsFeatureRefusal, IsLineRefusal, IsNothingCut, IsOneLine, IsPrintRefusal, IsText, IsTextRefusal, IsWordRefusal};
+ghost use Rattle.cutter.specs.Kept.{cut_lent};
+ghost use Rattle.mj_model.specs.Lists.{GrowsBy};
+ghost use Rattle.mj_model.specs.declared.limits.TheConstants.{GROUPING_MAX as GroupingMax};
+
+use crate::categories::category_at;
+use crate::cutter::Cutter;
+use crate::fault::CutFault;
+use crate::text::text_of;
+use lattice::Path;
+use memchr::memchr;
+use mj_model::Word;
+use out_format::print;
+
+impl Cutter {
+    /// Cuts a line, which has no LF, into the words of its best path. A refused line leaves what was cut before it.
+    pub fn cut(&mut self, line: &[u8]) -> Result<(), CutFault>
+        ensures best { OnOk result (OfCut self.new (λ c. c.text ≡ line.now)) }
+        ensures others { self.new ≡ record self.old { cut = self.new.cut } }
+        ensures one_line { OnOk result (IsOneLine line.now) }
+        ensures accepted { OnOk result (IsText line.now) }
+        ensures refused { IfErr result (IsLineRefusal line.now) }
+        ensures kept { OnErr result (self.new ≡ self.old) }
+    {
+        if let Some(place) = memchr(b'\n', line) {
+            return Err(CutFault::LineFeed(place));
+        }
+        self.cut_text(line)
+    }
+
+    /// The same of a text in which an LF is a character as others are.
+    pub fn cut_text(&mut self, text: &[u8]) -> Result<(), CutFault>
+        ensures best { OnOk result (OfCut self.new (λ c. c.text ≡ text.now)) }
+        ensures others { self.new ≡ record self.old { cut = self.new.cut } }
+        ensures accepted { OnOk result (IsText text.now) }
+        ensures refused { IfErr result (IsTextRefusal text.now) }
+        ensures kept { OnErr result (self.new ≡ self.old) }
+    {
+        let text = text_of(text)?;
+        let dictionaries = self.dictionaries.with_grouping(self.grouping);
+        self.last.cut(&dictionaries, text)?;
+        Ok(())
+    }
+
+    /// The text that was cut last.
+    pub fn text(&self) -> Result<&str, CutFault>
+        ensures text { IfOk result (λ text. OfCut self.now (λ c. text.now ≡ c.text)) }
+        ensures none { IfErr result (IsNothingCut self.now) }
+    {
+        Ok(self.last_cut()?.0)
+    }
+
+    /// Its words.
+    pub fn words(&self) -> Result<&[Word], CutFault>
+        ensures words { IfOk result (λ words. OfCut self.now (λ c. words.now ≡ c.words)) }
+        ensures none { IfErr result (IsNothingCut self.now) }
+    {
+        Ok(&self.last_cut()?.1.words)
+    }
+
+    /// What its path costs.
+    pub fn total(&self) -> Result<i64, CutFault>
+        ensures total { IfOk result (λ total. OfCut self.now (λ c. total ≡ c.total)) }
+        ensures none { IfErr result (IsNothingCut self.now) }
+    {
+        Ok(self.last_cut()?.1.total)
+    }
+
+    /// Appends the feature of one of its words, counted from 0.
+    pub fn append_feature(&self, i: usize, out: &mut Vec<u8>) -> Result<(), CutFault>
+        ensures appended { OnOk result
+            (OfCut self.now (GrowsByFeature self.now i out.old.items out.new.items)) }
+        ensures refused { IfErr result (IsFeatureRefusal self.now i) }
+        ensures kept { OnErr result (out.new.items ≡ out.old.items) }
+    {
+        let (_, path) = self.last_cut()?;
+        let Some(word) = path.words.get(i) else {
+            return Err(CutFault::NoWord(i));
+        };
+        let dictionaries = self.dictionaries.with_grouping(self.grouping);
+        out.extend_from_slice(dictionaries.feature(word).as_bytes())?;
+        Ok(())
+    }
+
+    /// The number of the first category of a word's first character, in the order of `char.def`.
+    pub fn category(&self, i: usize) -> Result<u8, CutFault>
+        ensures category { IfOk result (λ category. OfCut self.now (HasCategory self.now i category)) }
+        ensures refused { IfErr result (IsWordRefusal self.now i) }
+    {
+        let (text, path) = self.last_cut()?;
+        let Some(word) = path.words.get(i) else {
+            return Err(CutFault::NoWord(i));
+        };
+        let dictionaries = self.dictionaries.with_grouping(self.grouping);
+        Ok(category_at(&dictionaries, text, word.start))
+    }
+
+    /// Appends the text of its path in the format.
+    pub fn print(&self, out: &mut Vec<u8>) -> Result<(), CutFault>
+        ensures appended { OnOk result
+            (OfCut self.now (λ c. GrowsBy (ShowsCut self.now c) out.old.items out.new.items)) }
+        ensures refused { IfErr result (IsPrintRefusal self.now) }
+        ensures kept { OnErr result (out.new.items ≡ out.old.items) }
+    {
+        let (text, path) = self.last_cut()?;
+        let dictionaries = self.dictionaries.with_grouping(self.grouping);
+        print(self.alloc, &self.format, &dictionaries, text, path, out)?;
+        Ok(())
+    }
+
+    /// What was cut last.
+    fn last_cut(&self) -> Result<(&str, &Path), CutFault>
+        ensures cut { IfOk result (λ lent. (self.now.cut ≡ Some (cut_lent lent))
+            × IsCutOver (overlay_held self.now) (cut_lent lent)) }
+        ensures low { self.now.grouping ≤ GroupingMax }
+        ensures none { IfErr result (IsNothingCut self.now) }
+    {
+        self.last.get().ok_or(CutFault::NothingCut)
+    }
+}

@@ -1,0 +1,128 @@
+//! Why a call of a cutter is refused.
+
+ghost use Rattle.std.specs.Prelude.{◌≡◌};
+
+use mj_model::{FormatFault, ImageFault, NamedFault, OverlayFault};
+use std::alloc::{AllocError, AllocFailed};
+use thiserror::Error;
+
+/// Why a call of a cutter is refused. Places are byte offsets into the line, and words are counted from 0.
+#[derive(Clone, Copy, Debug, PartialEq, Eq, Drop, Error)]
+pub enum CutFault {
+    /// The image of a dictionary is refused, other than for want of memory.
+    #[error("{0}")]
+    Image(ImageFault),
+    /// The dictionary doesn't go over the others.
+    #[error("{0}")]
+    Overlay(OverlayFault),
+    /// The texts are no format, other than for want of memory.
+    #[error("{0}")]
+    Format(FormatFault),
+    /// The text is not UTF-8.
+    #[error("{} {}", self.code(), self.name())]
+    NotUtf8,
+    /// The text has more than `SENTENCE_MAX` bytes.
+    #[error("{} {}", self.code(), self.name())]
+    TooLong,
+    /// The first LF of what was to be one line stands here.
+    #[error("{} {} {}", self.code(), self.name(), .0)]
+    LineFeed(usize),
+    /// Nothing was cut since the cutter was made, or since its dictionaries or its grouping changed.
+    #[error("{} {}", self.code(), self.name())]
+    NothingCut,
+    /// Another cutter shares the dictionaries.
+    #[error("{} {}", self.code(), self.name())]
+    Shared,
+    /// A grouping of more than `GROUPING_MAX` characters.
+    #[error("{} {}", self.code(), self.name())]
+    BadGrouping,
+    /// The path that was cut last has no word of this number.
+    #[error("{} {} {}", self.code(), self.name(), .0)]
+    NoWord(usize),
+    /// Memory was refused.
+    #[error("{}", self.name())]
+    Memory,
+}
+
+impl NamedFault for CutFault {
+    ghost use Rattle.cutter.specs.FaultWords.{cut_words};
+
+    ghost words_of = { cut_words };
+
+    fn words(self) -> (&'static str, &'static str) {
+        match self {
+            CutFault::Image(fault) => fault.words(),
+            CutFault::Overlay(fault) => fault.words(),
+            CutFault::Format(fault) => fault.words(),
+            CutFault::NotUtf8 => ("G3", "NotUtf8"),
+            CutFault::TooLong => ("G4", "TooLong"),
+            CutFault::LineFeed(_) => ("K1", "LineFeed"),
+            CutFault::NothingCut => ("K2", "NothingCut"),
+            CutFault::Shared => ("K3", "Shared"),
+            CutFault::BadGrouping => ("K4", "BadGrouping"),
+            CutFault::NoWord(_) => ("K8", "NoWord"),
+            CutFault::Memory => ("Memory", "Memory"),
+        }
+    }
+}
+
+impl From<ImageFault> for CutFault {
+    ghost use Rattle.std.specs.Prelude.{◌≡◌};
+    ghost use Rattle.cutter.specs.FaultWords.{told_of_image};
+
+    ghost from_gives = { λ fault told. told ≡ told_of_image fault };
+
+    fn from(fault: ImageFault) -> CutFault {
+        match fault {
+            ImageFault::Memory => CutFault::Memory,
+            _ => CutFault::Image(fault),
+        }
+    }
+}
+
+impl From<FormatFault> for CutFault {
+    ghost use Rattle.std.specs.Prelude.{◌≡◌};
+    ghost use Rattle.cutter.specs.FaultWords.{told_of_format};
+
+    ghost from_gives = { λ fault told. told ≡ told_of_format fault };
+
+    fn from(fault: FormatFault) -> CutFault {
+        match fault {
+            FormatFault::Memory => CutFault::Memory,
+            FormatFault::Bad { .. } => CutFault::Format(fault),
+        }
+    }
+}
+
+impl From<OverlayFault> for CutFault {
+    ghost use Rattle.std.specs.Prelude.{◌≡◌};
+    ghost use Rattle.cutter.specs.declared.fault.CutFault.TheVariants.{Overlay};
+
+    ghost from_gives = { λ fault told. told ≡ Overlay fault };
+
+    fn from(fault: OverlayFault) -> CutFault {
+        CutFault::Overlay(fault)
+    }
+}
+
+impl From<AllocError> for CutFault {
+    ghost use Rattle.std.specs.Prelude.{◌≡◌};
+    ghost use Rattle.cutter.specs.declared.fault.CutFault.TheVariants.{Memory};
+
+    ghost from_gives = { λ _ fault. fault ≡ Memory };
+
+    fn from(_refused: AllocError) -> CutFault {
+        CutFault::Memory
+    }
+}
+
+impl<T: Drop> From<AllocFailed<T>> for CutFault {
+    ghost use Rattle.std.specs.Prelude.{◌≡◌};
+    ghost use Rattle.cutter.specs.declared.fault.CutFault.TheVariants.{Memory};
+
+    ghost from_gives = { λ _ fault. fault ≡ Memory };
+
+    fn from(_refused: AllocFailed<T>) -> CutFault {
+        CutFault::Memory
+    }
+}

@@ -1,0 +1,13 @@
+//! Lines cut into words in process, by dictionaries that are owned and may be shared between threads.
+#![tactic(auto)]
+
+mod categories;
+mod cutter;
+mod cutting;
+mod fault;
+mod last_cut;
+mod owned_dictionaries;
+mod text;
+
+pub use cutter::Cutter;
+pub use fault::CutFault;

@@ -1,0 +1,100 @@
+//! A system's dictionary and users' dictionaries that fit it, with their images.
+
+ghost use Rattle.std.specs.Prelude.{◌≡◌, ◌≤◌, ◌∷◌, ◌++◌, [], None, take, vec_len, IfOk, IfErr, OnOk, OnErr};
+ghost use Rattle.cutter.specs.Cutters.{overlay_in, with_user};
+ghost use Rattle.cutter.specs.Faults.{IsAddRefusal, IsImage, IsLoadRefusal, IsUserRefusal};
+ghost use Rattle.mj_model.specs.declared.limits.TheConstants.{GROUPING_MAX};
+ghost use Rattle.word_lookup.specs.Overlays.{fault_of_images, overlay_of};
+
+use crate::fault::CutFault;
+use dict_image::{Dict, load};
+use std::alloc::Global;
+use std::marker::Model;
+use word_lookup::Dictionaries;
+
+/// A system's dictionary and users' dictionaries that go over it.
+#[derive(Drop)]
+pub struct OwnedDictionaries {
+    system: Dict,
+    users: Vec<Dict>,
+}
+
+impl Model for OwnedDictionaries {
+    ghost use Rattle.std.specs.Prelude.{◌≡◌, None};
+    ghost use Rattle.cutter.specs.Cutters.{Images};
+    ghost use Rattle.word_lookup.specs.Overlays.{fault_of_images};
+
+    ghost Value = { Images };
+
+    ghost view = { λ d. record { system = d.system; users = d.users.items } };
+
+    ghost invariant = { λ d. fault_of_images d.system d.users.items ≡ None };
+}
+
+impl OwnedDictionaries {
+    /// The dictionary of a system's image, and no user's.
+    pub fn load(alloc: Global, image: Vec<u8>) -> Result<OwnedDictionaries, CutFault>
+        ensures loaded { IfOk result (λ d. d ≡ record { system = image.items; users = [] }) }
+        ensures accepted { OnOk result (IsImage image.items) }
+        ensures fits { OnOk result (fault_of_images image.items [] ≡ None) }
+        ensures refused { IfErr result (IsLoadRefusal image.items) }
+    {
+        let system = load(alloc, image)?;
+        let users = Vec::new(alloc);
+        Dictionaries::new(&system, &users)?;
+        Ok(OwnedDictionaries { system, users })
+    }
+
+    /// The dictionaries laid over one another. Takes no memory.
+    pub fn with_grouping(&self, grouping: u16) -> Dictionaries<'_>
+        requires { grouping ≤ GROUPING_MAX }
+        ensures { overlay_of result ≡ overlay_in self.now grouping }
+    {
+        let Ok(dictionaries) = Dictionaries::new(&self.system, &self.users) else {
+            unreachable!()
+        };
+        dictionaries.with_grouping(grouping)
+    }
+
+    /// Lays the dictionary of a user's image over the others.
+    pub fn add(&mut self, alloc: Global, image: Vec<u8>) -> Result<(), CutFault>
+        ensures added { OnOk result (self.new ≡ with_user self.old image.items) }
+        ensures accepted { OnOk result (IsImage image.items) }
+        ensures fits { OnOk result
+            (fault_of_images self.old.system (self.old.users ++ image.items ∷ []) ≡ None) }
+        ensures refused { IfErr result (IsUserRefusal self.old image.items) }
+        ensures kept { OnErr result (self.new ≡ self.old) }
+    {
+        let user = load(alloc, image)?;
+        add_checked(&self.system, &mut self.users, user)
+    }
+}
+
+/// Adds a user's dictionary to others, if it goes over them.
+fn add_checked(system: &Dict, users: &mut Vec<Dict>, user: Dict) -> Result<(), CutFault>
+    ensures added { OnOk result (users.new.items ≡ users.old.items ++ user ∷ []) }
+    ensures kept { OnErr result (users.new.items ≡ users.old.items) }
+    ensures accepted { OnOk result
+        (fault_of_images system.now (users.old.items ++ user ∷ []) ≡ None) }
+    ensures refused { IfErr result (IsAddRefusal system.now (users.old.items ++ user ∷ [])) }
+{
+    let count = users.len();
+    let added = add_and_check(system, users, user);
+    if added.is_err() {
+        users.truncate(count);
+    }
+    added
+}
+
+/// Adds a user's dictionary to others, and looks whether they all go over one another.
+fn add_and_check(system: &Dict, users: &mut Vec<Dict>, user: Dict) -> Result<(), CutFault>
+    ensures added { OnOk result (users.new.items ≡ users.old.items ++ user ∷ []) }
+    ensures front { take (vec_len users.old) users.new.items ≡ users.old.items }
+    ensures accepted { OnOk result
+        (fault_of_images system.now (users.old.items ++ user ∷ []) ≡ None) }
+    ensures refused { IfErr result (IsAddRefusal system.now (users.old.items ++ user ∷ [])) }
+{
+    users.push(user)?;
+    Dictionaries::new(system, users)?;
+    Ok(())
+}

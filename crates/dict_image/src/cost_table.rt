@@ -1,0 +1,86 @@
+//! Connection costs in rows.
+ghost use Rattle.std.specs.Prelude.{◌≡◌, ◌+◌, ◌*◌, ◌<◌, Some, length, slice_get, IfOk, OnOk};
+ghost use Rattle.image_bytes.specs.ImageBytes.{kind_of};
+ghost use Rattle.image_bytes.specs.ImageSections.{AreCosts};
+ghost use Rattle.mj_model.specs.Tables.{System};
+ghost use Rattle.dict_image.specs.CostTables.{AreRows, GrowsByRow, IsCostTable};
+
+use crate::check::header::is_user;
+use crate::costs::cost_at;
+use image_bytes::Header;
+use mj_model::MatrixSizes;
+use std::alloc::{AllocError, Global};
+
+/// A matrix of more pairs of ids is not copied.
+const COPIED_MAX: usize = 1 << 23;
+
+/// Where connection costs are looked up.
+#[derive(Drop)]
+pub(crate) enum CostTable {
+    /// In section 1, where those of one left id stand far from one another. A user dictionary has none.
+    InSection,
+    /// In a row for each left id, by right id: the search asks for many right ids before one left id.
+    InRows(Vec<i16>),
+}
+
+/// Where the connection costs of a dictionary are looked up. Those of a system dictionary with at most `COPIED_MAX` pairs take memory: 2
+/// bytes for each pair.
+pub(crate) fn cost_table_of(
+    alloc: Global,
+    header: &Header,
+    costs: &[u8],
+) -> Result<CostTable, AllocError>
+    requires { kind_of header.now ≡ System → AreCosts header.now.sizes costs.now }
+    ensures { IfOk result (λ table. IsCostTable header.now.sizes costs.now table) }
+{
+    let sizes = header.sizes;
+    if is_user(header) || pairs(sizes) > COPIED_MAX {
+        return Ok(CostTable::InSection);
+    }
+    Ok(CostTable::InRows(cost_rows(alloc, costs, sizes)?))
+}
+
+/// How many pairs of ids there are.
+fn pairs(sizes: MatrixSizes) -> usize
+    ensures { result ≡ sizes.left * sizes.right }
+{
+    sizes.left as usize * sizes.right as usize
+}
+
+/// The costs of a matrix, row by left id.
+fn cost_rows(alloc: Global, costs: &[u8], sizes: MatrixSizes) -> Result<Vec<i16>, AllocError>
+    requires { AreCosts sizes costs.now }
+    ensures { IfOk result (λ rows. AreRows sizes costs.now sizes.left rows.items) }
+{
+    let mut rows = Vec::with_capacity(alloc, pairs(sizes))?;
+    for left in 0..sizes.left {
+        append_row(costs, sizes, left, &mut rows)?;
+    }
+    Ok(rows)
+}
+
+/// Appends the costs before a left id.
+fn append_row(
+    costs: &[u8],
+    sizes: MatrixSizes,
+    left: u32,
+    rows: &mut Vec<i16>,
+) -> Result<(), AllocError>
+    requires costs { AreCosts sizes costs.now }
+    requires left { left < sizes.left }
+    ensures { OnOk result
+        (GrowsByRow sizes costs.now left sizes.right rows.old.items rows.new.items) }
+{
+    for right in 0..sizes.right {
+        rows.push(cost_at(costs, sizes, right, left))?;
+    }
+    Ok(())
+}
+
+/// The connection cost of a right id and a left id, by rows.
+pub(crate) fn cost_in(rows: &[i16], sizes: MatrixSizes, right: u32, left: u32) -> i16
+    requires { left * sizes.right + right < length rows.now }
+    ensures { slice_get rows.now (left * sizes.right + right) ≡ Some result }
+{
+    rows[left as usize * sizes.right as usize + right as usize]
+}
