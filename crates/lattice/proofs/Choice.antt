@@ -11,7 +11,6 @@ use Rattle.std.proofs.lemmas.Int.{ints}
 use Rattle.std.proofs.lemmas.Bool.{cases_lt, eqb-true}
 use Rattle.std.proofs.lemmas.Option.{same_Some, slice_get_within, slice_get-get_or}
 use Rattle.mj_model.specs.declared.word.Word.{Word}
-use Rattle.lattice.specs.declared.node.Node.{Node}
 use Rattle.lattice.specs.declared.node.End.{End}
 use Rattle.lattice.specs.declared.node.Join.{Join}
 use Rattle.paths.specs.Order.{IsPreferred}
@@ -19,10 +18,14 @@ use Rattle.mj_model.specs.Bounds.{IsWithin}
 use Rattle.paths.specs.Best.{IsSource}
 use Rattle.paths.specs.ChainsBack.{IsChainTo, last_right, cost_to, joined, HoldsAgainst, IsBestTo}
 use Rattle.lattice.specs.Ends.{AreEnds, HasSmallTotal, IsFollowedBy, IsLeast, StandFor, bos_end, end_cost, end_of}
-use Rattle.lattice.specs.Nodes.{IsLatest, reached}
+use Rattle.word_lookup.specs.declared.surface.Surface.{Surface}
+use Rattle.lattice.specs.declared.node.Backpointer.{Backpointer}
+use Rattle.lattice.specs.declared.node.Run.{Run}
+use Rattle.lattice.specs.Nodes.{AreRuns, IsLatest, Node, node_words, nodes_of, reached}
 use Rattle.lattice.specs.Lattice.{IsDone, IsLattice, IsJoin, NoChain, Traces}
 use Rattle.paths.specs.Searchable.{MayFollow}
 use Rattle.paths.proofs.ChainsBackLemmas.{best_empty, best_among}
+use Rattle.lattice.proofs.RunNodes.{run_node}
 
 -- BOS alone
 only_bos : (r : ℕ) (e : End) → slice_get (bos_end ∷ []) r ≡ Some e → bos_end ≡ e
@@ -206,6 +209,9 @@ some_bos nodes ends place start (inl bos) = let e = ap length bos.1 in omega (ar
 some_bos nodes ends place start (inr (above, h)) = absurd (omega (arith, start, above))
 
 -- so there are at a place that some chain reaches
-pub some_reached : (nodes : List Node) (place bound : ℕ) (head : Option ℕ) (ends : List End) → reached place head ≡ true → IsLatest nodes place bound head → AreEnds nodes place ends → 0 < length ends
-some_reached nodes place bound None ends it_is latest are = some_bos nodes ends place (eqb-true place 0 it_is) are
-some_reached nodes place bound (Some i) ends it_is latest are = some_end nodes place i latest.1.0 ends latest.1.1 latest.1.2 are
+pub some_reached : (f : Surface → List Word) (runs : List Run) (backs : List Backpointer) (place bound : ℕ) (head : Option ℕ) (ends : List End) → AreRuns f runs → length backs ≡ length (node_words f runs)
+    → reached place head ≡ true → IsLatest runs place bound head → AreEnds (nodes_of (node_words f runs) backs) place ends → 0 < length ends
+some_reached f runs backs place bound None ends runs_are all it_is latest are = some_bos (nodes_of (node_words f runs) backs) ends place (eqb-true place 0 it_is) are
+some_reached f runs backs place bound (Some i) ends runs_are all it_is latest are =
+    let node = run_node f runs runs_are backs all i latest.1.0 latest.1.1 in
+    some_end (nodes_of (node_words f runs) backs) place latest.1.0.from node.0 ends node.1 (node.2 ∙ latest.1.2) are

@@ -4,11 +4,13 @@ use Rattle.std.specs.Prelude.{ℤ}
 use Rattle.std.proofs.lemmas.Bool.{cases_lt}
 use Rattle.std.proofs.lemmas.Option.{slice_get_within, slice_get-get_or}
 use Rattle.mj_model.specs.declared.word.Word.{Word}
-use Rattle.lattice.specs.declared.node.Node.{Node}
 use Rattle.lattice.specs.declared.node.End.{End}
 use Rattle.lattice.specs.declared.node.Join.{Join}
 use Rattle.lattice.specs.Ends.{AreEnds}
-use Rattle.lattice.specs.Nodes.{AreLinked, IsLastHead, IsLatest}
+use Rattle.word_lookup.specs.declared.surface.Surface.{Surface}
+use Rattle.lattice.specs.declared.node.Backpointer.{Backpointer}
+use Rattle.lattice.specs.declared.node.Run.{Run}
+use Rattle.lattice.specs.Nodes.{AreLinked, AreRuns, IsLastHead, IsLatest, Node, node_words, nodes_of}
 use Rattle.paths.specs.Best.{IsSource, IsBestPath}
 use Rattle.paths.specs.Cost.{path_cost}
 use Rattle.paths.specs.ChainsBack.{IsChainTo, joined}
@@ -17,6 +19,7 @@ use Rattle.std.proofs.lemmas.List.{reverse-reverse}
 use Rattle.paths.proofs.ChainsBackLemmas.{best_path_from, cost_reversed}
 use Rattle.lattice.proofs.Choice.{some_bos, some_end}
 use Rattle.lattice.proofs.Links.{below_all, traced_same}
+use Rattle.lattice.proofs.RunNodes.{node_run, run_node}
 
 module _ (words : ℕ → List Word) (conn : ℕ → ℕ → ℤ) (len : ℕ) (source : IsSource words conn len) where
   abbrev pub Lattice : List Node → ℕ → ℕ → Type 0
@@ -30,8 +33,9 @@ module _ (words : ℕ → List Word) (conn : ℕ → ℕ → ℤ) (len : ℕ) (s
       l.complete w ws (refl, c.1, c.2) (inl (omega (arith, go, end)))
 
   -- where the last head is, the last node ends
-  pub last_is : (nodes : List Node) (heads : List (Option ℕ)) (k last : ℕ) → IsLattice words conn nodes len k → AreLinked nodes heads → length heads ≡ len + 1 → IsLastHead heads last → IsLastEnd nodes last
-  last_is nodes heads k last l linked long is = record {
+  pub last_is : (f : Surface → List Word) (runs : List Run) (backs : List Backpointer) (heads : List (Option ℕ)) (k last : ℕ) → IsLattice words conn (nodes_of (node_words f runs) backs) len k → AreRuns f runs → length backs ≡ length (node_words f runs)
+      → AreLinked runs heads → length heads ≡ len + 1 → IsLastHead heads last → IsLastEnd (nodes_of (node_words f runs) backs) last
+  last_is f runs backs heads k last l are all linked long is = record {
     each = λ i m at. elim (cases_lt last m.word.end) [
       | inl less ↦
           let b = l.best i m at in
@@ -39,12 +43,16 @@ module _ (words : ℕ → List Word) (conn : ℕ → ℕ → ℤ) (len : ℕ) (s
           let within : m.word.end < length heads = omega (arith, low, long) in
           let here = slice_get-get_or heads m.word.end None within in
           let none = is.none_later m.word.end (get_or heads m.word.end None) (omega arith) here in
-          absurd (subst (IsLatest nodes m.word.end (length nodes)) none (linked.heads_latest m.word.end (get_or heads m.word.end None) here) i m (slice_get_within nodes i m at) at refl)
+          let q = node_run f runs are backs all i m at in
+          absurd (subst (IsLatest runs m.word.end (length runs)) none (linked.heads_latest m.word.end (get_or heads m.word.end None) here) q.0 q.1.run (slice_get_within runs q.0 q.1.run q.1.here) q.1.here (sym q.2))
       | inr more ↦ more
     ];
     reached = elim is.reached [
       | inl start ↦ inl start
-      | inr at ↦ let latest = linked.heads_latest last (Some at.0) at.1 in inr (at.0, latest.1.0, latest.1.1, latest.1.2)
+      | inr at ↦
+          let latest = linked.heads_latest last (Some at.0) at.1 in
+          let node = run_node f runs are backs all at.0 latest.1.0 latest.1.1 in
+          inr (latest.1.0.from, node.0, node.1, node.2 ∙ latest.1.2)
     ];
   }
 

@@ -1,9 +1,10 @@
 pub mod Pushed
+pub mod WordNumbers
+pub mod RunNodes
 pub mod EndsLemmas
 pub mod Least
 pub mod Links
 pub mod Choice
 pub mod Growth
-pub mod WordNumbers
 pub mod Finish
 pub mod SampleLemmas

@@ -1,10 +1,10 @@
--- The links of nodes: the words to which they lead back, and the latest node that ends at a place, also with one more node.
+-- The links of nodes: the words to which they lead back, and the latest run that ends at a place, also with one more node or run.
 use Rattle.std.proofs.Common.{◌≡◌, ℕ, suc, ◌<◌, ◌≤◌, List, [], ◌∷◌, ◌++◌, set, length, Some, None, Option, inl, inr, refl, sym, ap, ◌∙◌, subst, arith, slice_get}
 use Rattle.std.proofs.lemmas.Bool.{cases_eq}
 use Rattle.std.proofs.lemmas.Option.{same_Some, slice_get_within, slice_get-get_or}
 use Rattle.mj_model.specs.declared.word.Word.{Word}
-use Rattle.lattice.specs.declared.node.Node.{Node}
-use Rattle.lattice.specs.Nodes.{IsLatest, AreLinked}
+use Rattle.lattice.specs.declared.node.Run.{Run}
+use Rattle.lattice.specs.Nodes.{IsLatest, AreLinked, Node}
 use Rattle.lattice.specs.Lattice.{Traces, IsBelow}
 use Rattle.std.proofs.lemmas.List.{append_assoc, append-nil, length_push, length-set, get_or-set_same, get_or-set_other}
 use Rattle.lattice.proofs.EndsLemmas.{link_size}
@@ -57,47 +57,47 @@ traces_more nodes from words i n at h ws t = rw append_assoc (h (n.word ∷ ws) 
 pub traces_all : (nodes : List Node) (from : Option ℕ) (words : List Word) → TracesOn nodes from words None → Traces nodes from words
 traces_all nodes from words h = rw append-nil at (h [] tt)
 
--- ---- the latest node that ends at a place, with one more node
+-- ---- the latest run that ends at a place, with one more run
 
--- a link that leads to the latest node below a bound still does
-latest_push : (nodes : List Node) (y : Node) (place before : ℕ) (link : Option ℕ) → before ≤ length nodes → IsLatest nodes place before link → IsLatest (nodes ++ y ∷ []) place before link
-latest_push nodes y place before None le h = λ k m less at. elim (get_push_cases nodes y k m at) [
+-- a link that leads to the latest run below a bound still does
+latest_push : (runs : List Run) (y : Run) (place before : ℕ) (link : Option ℕ) → before ≤ length runs → IsLatest runs place before link → IsLatest (runs ++ y ∷ []) place before link
+latest_push runs y place before None le h = λ k m less at. elim (get_push_cases runs y k m at) [
   | inl old ↦ h k m less old
   | inr new ↦ let e = new.0 in absurd (omega (arith, e))
 ]
-latest_push nodes y place before (Some i) le h = (
+latest_push runs y place before (Some i) le h = (
   h.0,
-  (h.1.0, get_push_old nodes y i h.1.0 h.1.1, h.1.2),
-  λ k m more less at. elim (get_push_cases nodes y k m at) [
+  (h.1.0, get_push_old runs y i h.1.0 h.1.1, h.1.2),
+  λ k m more less at. elim (get_push_cases runs y k m at) [
     | inl old ↦ h.2 k m more less old
     | inr new ↦ let e = new.0 in absurd (omega (arith, e))
   ],
 )
 
--- a place where the new node does not end
-latest_past : (nodes : List Node) (y : Node) (place : ℕ) (link : Option ℕ) → (y.word.end ≡ place → ⊥) → IsLatest nodes place (length nodes) link → IsLatest (nodes ++ y ∷ []) place (length (nodes ++ y ∷ [])) link
-latest_past nodes y place None other h = λ k m less at. elim (get_push_cases nodes y k m at) [
-  | inl old ↦ h k m (slice_get_within nodes k m old) old
-  | inr new ↦ λ e. absurd (other (ap (λ (n : Node). n.word.end) new.1 ∙ e))
+-- a place where the new run does not end
+latest_past : (runs : List Run) (y : Run) (place : ℕ) (link : Option ℕ) → (y.surface.end ≡ place → ⊥) → IsLatest runs place (length runs) link → IsLatest (runs ++ y ∷ []) place (length (runs ++ y ∷ [])) link
+latest_past runs y place None other h = λ k m less at. elim (get_push_cases runs y k m at) [
+  | inl old ↦ h k m (slice_get_within runs k m old) old
+  | inr new ↦ λ e. absurd (other (ap (λ (n : Run). n.surface.end) new.1 ∙ e))
 ]
-latest_past nodes y place (Some i) other h =
-    let more = length_push nodes y in
+latest_past runs y place (Some i) other h =
+    let more = length_push runs y in
     let low = h.0 in (
       omega (arith, more, low),
-      (h.1.0, get_push_old nodes y i h.1.0 h.1.1, h.1.2),
-      λ k m above less at. elim (get_push_cases nodes y k m at) [
-        | inl old ↦ h.2 k m above (slice_get_within nodes k m old) old
-        | inr new ↦ λ e. absurd (other (ap (λ (n : Node). n.word.end) new.1 ∙ e))
+      (h.1.0, get_push_old runs y i h.1.0 h.1.1, h.1.2),
+      λ k m above less at. elim (get_push_cases runs y k m at) [
+        | inl old ↦ h.2 k m above (slice_get_within runs k m old) old
+        | inr new ↦ λ e. absurd (other (ap (λ (n : Run). n.surface.end) new.1 ∙ e))
       ],
     )
 
 -- the place where it ends
-latest_new : (nodes : List Node) (y : Node) → IsLatest (nodes ++ y ∷ []) y.word.end (length (nodes ++ y ∷ [])) (Some (length nodes))
-latest_new nodes y =
-    let more = length_push nodes y in
-    (omega (arith, more), (y, get_push_new nodes y, refl), λ k m above less at. absurd (omega (arith, more)))
+latest_new : (runs : List Run) (y : Run) → IsLatest (runs ++ y ∷ []) y.surface.end (length (runs ++ y ∷ [])) (Some (length runs))
+latest_new runs y =
+    let more = length_push runs y in
+    (omega (arith, more), (y, get_push_new runs y, refl), λ k m above less at. absurd (omega (arith, more)))
 
--- the head of the place where the new node ends
+-- the head of the place where the new run ends
 heads_of : (heads : List (Option ℕ)) (e i : ℕ) (h : Option ℕ) → slice_get (set heads e (Some i)) e ≡ Some h → e < length heads → h ≡ Some i
 heads_of heads e i h at within = same_Some h (Some i) (sym at ∙ slice_get-get_or (set heads e (Some i)) e None (omega (arith, length-set heads e (Some i))) ∙ ap Some (get_or-set_same heads e (Some i) None within))
 
@@ -107,21 +107,21 @@ other_head heads e i place h other at =
     let within : place < length heads = let w = slice_get_within (set heads e (Some i)) place h at in omega (arith, w, length-set heads e (Some i)) in
     slice_get-get_or heads place None within ∙ ap Some (sym (get_or-set_other heads e place (Some i) None other)) ∙ sym (slice_get-get_or (set heads e (Some i)) place None (omega (arith, within, length-set heads e (Some i)))) ∙ at
 
--- a node is added, with the head of its place as its link, and becomes the head
-pub links_on : (nodes : List Node) (heads : List (Option ℕ)) (y : Node) → AreLinked nodes heads → slice_get heads y.word.end ≡ Some y.earlier → AreLinked (nodes ++ y ∷ []) (set heads y.word.end (Some (length nodes)))
-links_on nodes heads y l at = record {
-  links = λ i n here. elim (get_push_cases nodes y i n here) [
-    | inl old ↦ latest_push nodes y n.word.end i n.earlier (let w = slice_get_within nodes i n old in omega (arith, w)) (l.links i n old)
+-- a run is added, with the head of its place as its link, and becomes the head
+pub links_on : (runs : List Run) (heads : List (Option ℕ)) (y : Run) → AreLinked runs heads → slice_get heads y.surface.end ≡ Some y.next → AreLinked (runs ++ y ∷ []) (set heads y.surface.end (Some (length runs)))
+links_on runs heads y l at = record {
+  links = λ i n here. elim (get_push_cases runs y i n here) [
+    | inl old ↦ latest_push runs y n.surface.end i n.next (let w = slice_get_within runs i n old in omega (arith, w)) (l.links i n old)
     | inr new ↦
-        subst (λ (x : Node). IsLatest (nodes ++ y ∷ []) x.word.end i x.earlier) new.1
-        (subst (λ (k : ℕ). IsLatest (nodes ++ y ∷ []) y.word.end k y.earlier) (sym new.0)
-        (latest_push nodes y y.word.end (length nodes) y.earlier (omega arith) (l.heads_latest y.word.end y.earlier at)))
+        subst (λ (x : Run). IsLatest (runs ++ y ∷ []) x.surface.end i x.next) new.1
+        (subst (λ (k : ℕ). IsLatest (runs ++ y ∷ []) y.surface.end k y.next) (sym new.0)
+        (latest_push runs y y.surface.end (length runs) y.next (omega arith) (l.heads_latest y.surface.end y.next at)))
   ];
-  heads_latest = λ place h here. elim (cases_eq place y.word.end) [
+  heads_latest = λ place h here. elim (cases_eq place y.surface.end) [
     | inl same ↦
-        let e = heads_of heads y.word.end (length nodes) h (subst (λ (p : ℕ). slice_get (set heads y.word.end (Some (length nodes))) p ≡ Some h) same here) (slice_get_within heads y.word.end y.earlier at) in
-        subst (λ (o : Option ℕ). IsLatest (nodes ++ y ∷ []) place (length (nodes ++ y ∷ [])) o) (sym e)
-        (subst (λ (p : ℕ). IsLatest (nodes ++ y ∷ []) p (length (nodes ++ y ∷ [])) (Some (length nodes))) (sym same) (latest_new nodes y))
-    | inr other ↦ latest_past nodes y place h (λ e. other (sym e)) (l.heads_latest place h (other_head heads y.word.end (length nodes) place h other here))
+        let e = heads_of heads y.surface.end (length runs) h (subst (λ (p : ℕ). slice_get (set heads y.surface.end (Some (length runs))) p ≡ Some h) same here) (slice_get_within heads y.surface.end y.next at) in
+        subst (λ (o : Option ℕ). IsLatest (runs ++ y ∷ []) place (length (runs ++ y ∷ [])) o) (sym e)
+        (subst (λ (p : ℕ). IsLatest (runs ++ y ∷ []) p (length (runs ++ y ∷ [])) (Some (length runs))) (sym same) (latest_new runs y))
+    | inr other ↦ latest_past runs y place h (λ e. other (sym e)) (l.heads_latest place h (other_head heads y.surface.end (length runs) place h other here))
   ];
 }

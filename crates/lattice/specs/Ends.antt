@@ -1,7 +1,7 @@
 -- The ends of a place, in the order in which they are preferred where costs are equal, and the least of them where a word follows.
 use Rattle.std.specs.Prelude.{◌≡◌, ℕ, ℤ, pos, ◌+ℤ◌, ◌<ℤ◌, ◌≤ℤ◌, ◌<◌, ◌≤◌, ◌^◌, List, [], ◌∷◌, ◌++◌, slice_get, Contains, Some, None, ◌⊎◌}
 use Rattle.mj_model.specs.Bounds.{IsWithin}
-use Rattle.lattice.specs.declared.node.Node.{Node}
+use Rattle.lattice.specs.Nodes.{Node}
 use Rattle.lattice.specs.declared.node.End.{End}
 use Rattle.lattice.specs.declared.node.Join.{Join}
 use Rattle.lattice.specs.declared.node.Candidate.{Candidate}

@@ -1,7 +1,7 @@
 -- The lattice as the search builds it: its nodes are words with their best chains, complete from a word of a place on.
 use Rattle.std.specs.Prelude.{◌≡◌, ℕ, ℤ, ◌+ℤ◌, ◌<◌, ◌≤◌, List, [], ◌∷◌, slice_get, Option, Some, None, Contains, ◌⊎◌}
 use Rattle.mj_model.specs.declared.word.Word.{Word}
-use Rattle.lattice.specs.declared.node.Node.{Node}
+use Rattle.lattice.specs.Nodes.{Node}
 use Rattle.lattice.specs.declared.node.Join.{Join}
 use Rattle.paths.specs.Order.{IsPreferred}
 use Rattle.paths.specs.ChainsBack.{IsChainTo, joined, IsBestTo}
@@ -49,9 +49,9 @@ pub record IsJoin (words : ℕ → List Word) (conn : ℕ → ℕ → ℤ) (node
 abbrev pub NoChain : (ℕ → List Word) → ℕ → Type 0
 NoChain words p = (ws : List Word) → IsChainTo words ws p → ⊥
 
--- the node of a word after a chain, with the latest node that ends where it ends
-abbrev pub node_of : Word → Join → Option ℕ → Node
-node_of w j head = record { word = w; total = j.cost +ℤ w.cost; before = j.before; earlier = head }
+-- the node of a word after a chain
+abbrev pub node_of : Word → Join → Node
+node_of w j = record { word = w; total = j.cost +ℤ w.cost; before = j.before }
 
 -- each node's link goes back
 abbrev pub LinksGoBack : List Node → Type 0

@@ -1,23 +1,68 @@
--- Nodes that end at a place: the links from one to the next.
-use Rattle.std.specs.Prelude.{◌≡◌, ℕ, ◌+◌, ◌<◌, ◌≤◌, ◌⊎◌, List, slice_get, Option, Some, None, Bool, true, length, nat_eq}
-use Rattle.lattice.specs.declared.node.Node.{Node}
+-- Nodes, as they are kept: runs, one for each surface of a place, with links from one to the next that ends where it ends.
+use Rattle.std.specs.Prelude.{◌≡◌, ℕ, zero, suc, ℤ, ◌+◌, ◌<◌, ◌≤◌, ◌⊎◌, List, [], ◌∷◌, slice_get, Option, Some, None, Bool, true, length, nat_eq, take, reverse, flat_map}
+use Rattle.mj_model.specs.declared.word.Word.{Word}
+use Rattle.word_lookup.specs.declared.surface.Surface.{Surface}
+use Rattle.word_lookup.specs.Surfaces.{IsWhole}
+use Rattle.lattice.specs.declared.node.Run.{Run}
+use Rattle.lattice.specs.declared.node.Backpointer.{Backpointer}
 
--- the link leads to the latest node before a number that ends at the place, if any does
-abbrev pub IsLatest : List Node → ℕ → ℕ → Option ℕ → Type 0
-IsLatest nodes place before None = (k : ℕ) (m : Node) → k < before → slice_get nodes k ≡ Some m → m.word.end ≡ place → ⊥
-IsLatest nodes place before (Some i) =
+-- a node: a word, the cost of the best chain up to and with it, and the number of the node before it in that chain
+pub record Node : Type 0 where
+  pub word : Word
+  pub total : ℤ
+  pub before : Option ℕ
+
+-- a number counted from 1, where 0 means none
+abbrev pub link_of : ℕ → Option ℕ
+link_of zero = None
+link_of (suc i) = Some i
+
+-- a node by its word and what is kept of it
+abbrev pub kept_node : Word → Backpointer → Node
+kept_node w b = record { word = w; total = b.total; before = link_of b.before }
+
+-- the nodes of the first of these words
+abbrev pub nodes_of : List Word → List Backpointer → List Node
+nodes_of ws [] = []
+nodes_of [] (b ∷ bs) = []
+nodes_of (w ∷ ws) (b ∷ bs) = kept_node w b ∷ nodes_of ws bs
+
+-- the words of a run, the last one of its surface first
+abbrev pub run_words : (Surface → List Word) → Run → List Word
+run_words words_of run = reverse (words_of run.surface)
+
+-- the words of one run after another
+abbrev pub node_words : (Surface → List Word) → List Run → List Word
+node_words words_of runs = flat_map (run_words words_of) runs
+
+-- the surfaces of runs have the words that they say, and the nodes of each run follow those of the runs before it
+pub record AreRuns (words_of : Surface → List Word) (runs : List Run) : Type 0 where
+  pub whole : (number : ℕ) (run : Run) → slice_get runs number ≡ Some run → IsWhole words_of run.surface
+  pub from : (number : ℕ) (run : Run) → slice_get runs number ≡ Some run → run.from ≡ length (node_words words_of (take number runs))
+
+-- the run with this number has the node
+pub record HasNode (runs : List Run) (number node : ℕ) : Type 0 where
+  pub run : Run
+  pub here : slice_get runs number ≡ Some run
+  pub from : run.from ≤ node
+  pub within : node < run.from + run.surface.count
+
+-- the link leads to the latest run before a number that ends at the place, if any does
+abbrev pub IsLatest : List Run → ℕ → ℕ → Option ℕ → Type 0
+IsLatest runs place before None = (k : ℕ) (m : Run) → k < before → slice_get runs k ≡ Some m → m.surface.end ≡ place → ⊥
+IsLatest runs place before (Some i) =
     (i < before)
-    × ((n : Node) × (slice_get nodes i ≡ Some n) × (n.word.end ≡ place))
-    × ((k : ℕ) (m : Node) → i < k → k < before → slice_get nodes k ≡ Some m → m.word.end ≡ place → ⊥)
+    × ((n : Run) × (slice_get runs i ≡ Some n) × (n.surface.end ≡ place))
+    × ((k : ℕ) (m : Run) → i < k → k < before → slice_get runs k ≡ Some m → m.surface.end ≡ place → ⊥)
 
--- each node's link leads to the latest node before it that ends where it ends
-abbrev pub LinksAreLatest : List Node → Type 0
-LinksAreLatest nodes = (i : ℕ) (n : Node) → slice_get nodes i ≡ Some n → IsLatest nodes n.word.end i n.earlier
+-- each run's link leads to the latest run before it that ends where it ends
+abbrev pub LinksAreLatest : List Run → Type 0
+LinksAreLatest runs = (i : ℕ) (n : Run) → slice_get runs i ≡ Some n → IsLatest runs n.surface.end i n.next
 
--- each node's link, and the link of each place, lead to the latest node that ends there
-pub record AreLinked (nodes : List Node) (heads : List (Option ℕ)) : Type 0 where
-  pub links : LinksAreLatest nodes
-  pub heads_latest : (place : ℕ) (head : Option ℕ) → slice_get heads place ≡ Some head → IsLatest nodes place (length nodes) head
+-- each run's link, and the link of each place, lead to the latest run that ends there
+pub record AreLinked (runs : List Run) (heads : List (Option ℕ)) : Type 0 where
+  pub links : LinksAreLatest runs
+  pub heads_latest : (place : ℕ) (head : Option ℕ) → slice_get heads place ≡ Some head → IsLatest runs place (length runs) head
 
 -- some chain leads to a place with this head
 abbrev pub reached : ℕ → Option ℕ → Bool

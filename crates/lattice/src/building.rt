@@ -1,20 +1,39 @@
 //! The lattice of a text, place by place.
 
-ghost use Rattle.std.specs.Prelude.{◌≡◌, ◌+◌, ◌<◌, ◌^◌, ◌++◌, ◌∷◌, [], slice_set, length, IfSome, OnOk, Some};
-ghost use Rattle.mj_model.specs.Bounds.{IsWithin};
+ghost use Rattle.std.specs.Prelude.{◌≡◌, ◌+◌, ◌<◌, ◌++◌, ◌∷◌, [], slice_set, slice_get, length, IfSome, OnOk, Some};
 ghost use Rattle.lattice.specs.Ends.{AreEnds, AreLeast};
-ghost use Rattle.lattice.specs.Nodes.{AreLinked, reached};
-ghost use Rattle.lattice.specs.Lattice.{node_of};
-ghost use Rattle.lattice.specs.SearchedText.{AreSurfacesAt, CanBeSearched, IsLatticeOf, IsLatticeTo, word_count, words_before};
+ghost use Rattle.lattice.specs.Nodes.{node_words, reached};
+ghost use Rattle.lattice.specs.SearchedText.{AreAllKept, AreKeptIn, AreSurfacesAt, CanBeSearched, IsLatticeAfter, IsLatticeFrom, IsLatticeOf, IsLatticeTo, NextAt, kept_nodes, nodes_in, words_before};
 
 use crate::ends::gather;
 use crate::joining::join;
 use crate::joins::Joins;
-use crate::node::{End, Join, Node};
+use crate::node::{Backpointer, End, Run};
 use crate::source::WordSource;
 use mj_model::Word;
 use std::alloc::{AllocError, Global};
 use word_lookup::{BlankRun, Surface};
+
+/// The nodes of a text, by run.
+#[derive(Debug, Drop)]
+pub struct Nodes {
+    pub runs: Vec<Run>,
+    /// What is kept of the nodes of one run after another.
+    pub backs: Vec<Backpointer>,
+    /// For each place the number of the latest run that ends there.
+    pub heads: Vec<Option<usize>>,
+}
+
+impl Nodes {
+    /// Takes no memory.
+    pub fn new(alloc: Global) -> Nodes {
+        Nodes {
+            runs: Vec::new(alloc),
+            backs: Vec::new(alloc),
+            heads: Vec::new(alloc),
+        }
+    }
+}
 
 /// What is kept from place to place and from text to text: room for the surfaces of a place, its ends, and what was searched there.
 #[derive(Debug, Drop)]
@@ -36,26 +55,26 @@ impl Room {
 }
 
 /// Makes the nodes of all words that some chain reaches, and for each place the number of the
-/// latest node that ends there.
+/// latest run that ends there.
 pub fn build<S: WordSource>(
     source: &S,
-    nodes: &mut Vec<Node>,
-    heads: &mut Vec<Option<usize>>,
+    nodes: &mut Nodes,
     room: &mut Room,
 ) -> Result<(), AllocError>
     requires source { CanBeSearched (S.says source.now) }
-    ensures lattice { OnOk result
-        (IsLatticeTo (S.says source.now) nodes.new.items (S.says source.now).text_length) }
-    ensures links { OnOk result (AreLinked nodes.new.items heads.new.items) }
-    ensures heads { OnOk result (length heads.new.items ≡ (S.says source.now).text_length + 1) }
+    ensures kept { OnOk result (AreKeptIn (S.says source.now) nodes.new) }
+    ensures lattice { OnOk result (IsLatticeTo (S.says source.now)
+        (kept_nodes (S.says source.now) nodes.new)
+        (S.says source.now).text_length) }
 {
     let length = source.length();
-    nodes.clear();
-    heads.clear();
-    heads.resize(length + 1, None)?;
+    nodes.runs.clear();
+    nodes.backs.clear();
+    nodes.heads.clear();
+    nodes.heads.resize(length + 1, None)?;
     let mut last = None;
     for place in 0..length {
-        add_place(source, nodes, heads, room, place, &mut last)?;
+        add_place(source, nodes, room, place, &mut last)?;
     }
     Ok(())
 }
@@ -63,8 +82,7 @@ pub fn build<S: WordSource>(
 /// Adds the words of a place, if some chain leads there. `last` is the run of blanks that was looked at last.
 fn add_place<S: WordSource>(
     source: &S,
-    nodes: &mut Vec<Node>,
-    heads: &mut [Option<usize>],
+    nodes: &mut Nodes,
     room: &mut Room,
     place: usize,
     last: &mut Option<BlankRun>,
@@ -72,24 +90,32 @@ fn add_place<S: WordSource>(
     requires source { CanBeSearched (S.says source.now) }
     requires place { place < (S.says source.now).text_length }
     requires last { IfSome last.old (S.says source.now).is_blank_run }
-    requires heads { length heads.old ≡ (S.says source.now).text_length + 1 }
-    requires lattice { IsLatticeTo (S.says source.now) nodes.old.items place }
-    requires links { AreLinked nodes.old.items heads.old }
-    ensures lattice { OnOk result (IsLatticeTo (S.says source.now) nodes.new.items (place + 1)) }
-    ensures links { OnOk result (AreLinked nodes.new.items heads.new) }
+    requires kept { AreKeptIn (S.says source.now) nodes.old }
+    requires lattice { IsLatticeTo (S.says source.now)
+        (kept_nodes (S.says source.now) nodes.old) place }
+    ensures kept { OnOk result (AreKeptIn (S.says source.now) nodes.new) }
+    ensures lattice { OnOk result (IsLatticeTo (S.says source.now)
+        (kept_nodes (S.says source.now) nodes.new) (place + 1)) }
     ensures last { IfSome last.new (S.says source.now).is_blank_run }
 {
-    if !is_reached(place, heads[place]) {
+    let head = nodes.heads[place];
+    if !is_reached(place, head) {
         return Ok(());
     }
     room.surfaces.clear();
     source.surfaces_at(place, last, &mut room.surfaces)?;
-    gather(nodes, heads[place], place, &mut room.ends)?;
+    gather(
+        source,
+        &nodes.runs,
+        &nodes.backs,
+        head,
+        place,
+        &mut room.ends,
+    )?;
     room.joins.clear();
     add_surfaces(
         source,
         nodes,
-        heads,
         &room.surfaces,
         place,
         &room.ends,
@@ -111,8 +137,7 @@ fn is_reached(place: usize, head: Option<usize>) -> bool
 /// `ends` its ends.
 fn add_surfaces<S: WordSource>(
     source: &S,
-    nodes: &mut Vec<Node>,
-    heads: &mut [Option<usize>],
+    nodes: &mut Nodes,
     surfaces: &[Surface],
     place: usize,
     ends: &[End],
@@ -121,19 +146,20 @@ fn add_surfaces<S: WordSource>(
     requires source { CanBeSearched (S.says source.now) }
     requires place { place < (S.says source.now).text_length }
     requires surfaces { AreSurfacesAt (S.says source.now) place surfaces.now }
-    requires heads { length heads.old ≡ (S.says source.now).text_length + 1 }
-    requires lattice { IsLatticeTo (S.says source.now) nodes.old.items place }
-    requires links { AreLinked nodes.old.items heads.old }
+    requires kept { AreKeptIn (S.says source.now) nodes.old }
+    requires lattice { IsLatticeTo (S.says source.now)
+        (kept_nodes (S.says source.now) nodes.old) place }
     requires some { 0 < length ends.now }
-    requires ends { AreEnds nodes.old.items place ends.now }
+    requires ends { AreEnds (kept_nodes (S.says source.now) nodes.old) place ends.now }
     requires joins { AreLeast (S.says source.now).connection ends.now joins.old.found.items }
-    ensures lattice { OnOk result (IsLatticeTo (S.says source.now) nodes.new.items (place + 1)) }
-    ensures links { OnOk result (AreLinked nodes.new.items heads.new) }
+    ensures kept { OnOk result (AreKeptIn (S.says source.now) nodes.new) }
+    ensures lattice { OnOk result (IsLatticeTo (S.says source.now)
+        (kept_nodes (S.says source.now) nodes.new) (place + 1)) }
 {
     let mut number = surfaces.len();
     while 0 < number {
         number -= 1;
-        add_surface(source, nodes, heads, surfaces, number, place, ends, joins)?;
+        add_surface(source, nodes, surfaces, number, place, ends, joins)?;
     }
     Ok(())
 }
@@ -141,8 +167,7 @@ fn add_surfaces<S: WordSource>(
 /// The same of one surface, by its number among those of the place.
 fn add_surface<S: WordSource>(
     source: &S,
-    nodes: &mut Vec<Node>,
-    heads: &mut [Option<usize>],
+    nodes: &mut Nodes,
     surfaces: &[Surface],
     number: usize,
     place: usize,
@@ -153,38 +178,63 @@ fn add_surface<S: WordSource>(
     requires place { place < (S.says source.now).text_length }
     requires surfaces { AreSurfacesAt (S.says source.now) place surfaces.now }
     requires number { number < length surfaces.now }
-    requires heads { length heads.old ≡ (S.says source.now).text_length + 1 }
-    requires lattice { IsLatticeOf (S.says source.now) nodes.old.items place
-        (words_before (S.says source.now) surfaces.now (number + 1) 0) }
-    requires links { AreLinked nodes.old.items heads.old }
+    requires kept { AreKeptIn (S.says source.now) nodes.old }
+    requires lattice { IsLatticeOf (S.says source.now)
+        (kept_nodes (S.says source.now) nodes.old)
+        place (words_before (S.says source.now) surfaces.now (number + 1) 0) }
     requires some { 0 < length ends.now }
-    requires ends { AreEnds nodes.old.items place ends.now }
+    requires ends { AreEnds (kept_nodes (S.says source.now) nodes.old) place ends.now }
     requires joins { AreLeast (S.says source.now).connection ends.now joins.old.found.items }
-    ensures lattice { OnOk result (IsLatticeOf (S.says source.now) nodes.new.items place
-        (words_before (S.says source.now) surfaces.now number 0)) }
-    ensures links { OnOk result (AreLinked nodes.new.items heads.new) }
-    ensures ends { OnOk result (AreEnds nodes.new.items place ends.now) }
+    ensures kept { OnOk result (AreKeptIn (S.says source.now) nodes.new) }
+    ensures lattice { OnOk result (IsLatticeOf (S.says source.now)
+        (kept_nodes (S.says source.now) nodes.new)
+        place (words_before (S.says source.now) surfaces.now number 0)) }
+    ensures ends { OnOk result
+        (AreEnds (kept_nodes (S.says source.now) nodes.new) place ends.now) }
     ensures joins { OnOk result
         (AreLeast (S.says source.now).connection ends.now joins.new.found.items) }
 {
-    let mut i = surfaces[number].count;
-    while 0 < i {
-        i -= 1;
-        add_word(
-            source, nodes, heads, surfaces, number, i, place, ends, joins,
-        )?;
-    }
+    let surface = surfaces[number];
+    let run = Run {
+        surface,
+        from: nodes.backs.len(),
+        next: nodes.heads[surface.end],
+    };
+    add_run(&mut nodes.runs, &mut nodes.heads, run)?;
+    add_words(
+        source,
+        &nodes.runs,
+        &mut nodes.backs,
+        surfaces,
+        number,
+        place,
+        ends,
+        joins,
+    )?;
     Ok(())
 }
 
-/// Adds word `i` of a surface, after the best chain to it.
-fn add_word<S: WordSource>(
+/// Adds a run, which becomes the head of the place where it ends.
+fn add_run(runs: &mut Vec<Run>, heads: &mut [Option<usize>], run: Run) -> Result<(), AllocError>
+    requires end { run.surface.end < length heads.old }
+    ensures runs { OnOk result (runs.new.items ≡ runs.old.items ++ run ∷ []) }
+    ensures heads { OnOk result
+        (heads.new ≡ slice_set heads.old run.surface.end (Some (length runs.old.items))) }
+{
+    let end = run.surface.end;
+    let number = runs.len();
+    runs.push(run)?;
+    heads[end] = Some(number);
+    Ok(())
+}
+
+/// Adds the nodes of the last run, whose surface has this number: those of its words, the last one first, each after the best chain to it.
+fn add_words<S: WordSource>(
     source: &S,
-    nodes: &mut Vec<Node>,
-    heads: &mut [Option<usize>],
+    runs: &[Run],
+    backs: &mut Vec<Backpointer>,
     surfaces: &[Surface],
     number: usize,
-    i: u32,
     place: usize,
     ends: &[End],
     joins: &mut Joins,
@@ -192,55 +242,61 @@ fn add_word<S: WordSource>(
     requires source { CanBeSearched (S.says source.now) }
     requires place { place < (S.says source.now).text_length }
     requires surfaces { AreSurfacesAt (S.says source.now) place surfaces.now }
-    requires word { i < word_count surfaces.now number }
-    requires heads { length heads.old ≡ (S.says source.now).text_length + 1 }
-    requires lattice { IsLatticeOf (S.says source.now) nodes.old.items place
-        (words_before (S.says source.now) surfaces.now number i + 1) }
-    requires links { AreLinked nodes.old.items heads.old }
+    requires number { number < length surfaces.now }
+    requires next { NextAt (S.says source.now) surfaces.now number runs.now backs.old.items }
+    requires lattice { IsLatticeOf (S.says source.now)
+        (nodes_in (S.says source.now) runs.now backs.old.items)
+        place (words_before (S.says source.now) surfaces.now (number + 1) 0) }
     requires some { 0 < length ends.now }
-    requires ends { AreEnds nodes.old.items place ends.now }
+    requires ends { AreEnds (nodes_in (S.says source.now) runs.now backs.old.items) place ends.now }
     requires joins { AreLeast (S.says source.now).connection ends.now joins.old.found.items }
-    ensures lattice { OnOk result (IsLatticeOf (S.says source.now) nodes.new.items place
-        (words_before (S.says source.now) surfaces.now number i)) }
-    ensures links { OnOk result (AreLinked nodes.new.items heads.new) }
-    ensures ends { OnOk result (AreEnds nodes.new.items place ends.now) }
+    ensures all { OnOk result (AreAllKept (S.says source.now) runs.now backs.new.items) }
+    ensures lattice { OnOk result (IsLatticeOf (S.says source.now)
+        (nodes_in (S.says source.now) runs.now backs.new.items)
+        place (words_before (S.says source.now) surfaces.now number 0)) }
+    ensures ends { OnOk result
+        (AreEnds (nodes_in (S.says source.now) runs.now backs.new.items) place ends.now) }
     ensures joins { OnOk result
         (AreLeast (S.says source.now).connection ends.now joins.new.found.items) }
 {
-    let word = source.word(&surfaces[number], i);
-    let found = join(source, ends, joins, word.left)?;
-    let earlier = heads[word.end];
-    add_node(nodes, heads, node_after(&found, &word, earlier))?;
-    Ok(())
-}
-
-/// Adds a node, which becomes the head of the place where it ends.
-fn add_node(
-    nodes: &mut Vec<Node>,
-    heads: &mut [Option<usize>],
-    node: Node,
-) -> Result<(), AllocError>
-    requires end { node.word.end < length heads.old }
-    ensures nodes { OnOk result (nodes.new.items ≡ nodes.old.items ++ node ∷ []) }
-    ensures heads { OnOk result
-        (heads.new ≡ slice_set heads.old node.word.end (Some (length nodes.old.items))) }
-{
-    let end = node.word.end;
-    let number = nodes.len();
-    nodes.push(node)?;
-    heads[end] = Some(number);
-    Ok(())
-}
-
-/// The node of a word after a chain.
-fn node_after(found: &Join, word: &Word, earlier: Option<usize>) -> Node
-    requires { IsWithin (2 ^ 40) found.now.cost }
-    ensures { result ≡ node_of word.now found.now earlier }
-{
-    Node {
-        word: *word,
-        total: found.cost + i64::from(word.cost),
-        before: found.before,
-        earlier,
+    let surface = &surfaces[number];
+    let mut i = surface.count;
+    while 0 < i {
+        i -= 1;
+        let word = source.word(surface, i);
+        add_word(source, runs, backs, &word, place, ends, joins)?;
     }
+    Ok(())
+}
+
+/// Adds the node of a word, after the best chain to it.
+fn add_word<S: WordSource>(
+    source: &S,
+    runs: &[Run],
+    backs: &mut Vec<Backpointer>,
+    word: &Word,
+    place: usize,
+    ends: &[End],
+    joins: &mut Joins,
+) -> Result<(), AllocError>
+    requires source { CanBeSearched (S.says source.now) }
+    requires place { place < (S.says source.now).text_length }
+    requires next { slice_get (node_words (S.says source.now).surface_words runs.now)
+        (length backs.old.items) ≡ Some word.now }
+    requires lattice { IsLatticeAfter (S.says source.now)
+        (nodes_in (S.says source.now) runs.now backs.old.items) place word.now }
+    requires some { 0 < length ends.now }
+    requires ends { AreEnds (nodes_in (S.says source.now) runs.now backs.old.items) place ends.now }
+    requires joins { AreLeast (S.says source.now).connection ends.now joins.old.found.items }
+    ensures one { OnOk result (length backs.new.items ≡ length backs.old.items + 1) }
+    ensures lattice { OnOk result (IsLatticeFrom (S.says source.now)
+        (nodes_in (S.says source.now) runs.now backs.new.items) place word.now) }
+    ensures ends { OnOk result
+        (AreEnds (nodes_in (S.says source.now) runs.now backs.new.items) place ends.now) }
+    ensures joins { OnOk result
+        (AreLeast (S.says source.now).connection ends.now joins.new.found.items) }
+{
+    let found = join(source, ends, joins, word.left)?;
+    backs.push(Backpointer::after(&found, word))?;
+    Ok(())
 }

@@ -1,10 +1,12 @@
 //! The ends of a place.
 
-ghost use Rattle.std.specs.Prelude.{◌≡◌, [], length, OnOk};
-ghost use Rattle.lattice.specs.Ends.{AreEnds, StandFor, end_of};
-ghost use Rattle.lattice.specs.Nodes.{IsLatest, LinksAreLatest};
+ghost use Rattle.std.specs.Prelude.{◌≡◌, ◌+◌, ◌<◌, [], length, Contains, OnOk, Some};
+ghost use Rattle.lattice.specs.Ends.{AreEnds, StandFor};
+ghost use Rattle.lattice.specs.Nodes.{AreRuns, IsLatest, LinksAreLatest};
+ghost use Rattle.lattice.specs.SearchedText.{AreAllKept, nodes_in};
 
-use crate::node::{BOUNDARY_ID, End, Node};
+use crate::node::{BOUNDARY_ID, Backpointer, End, Run};
+use crate::source::WordSource;
 use std::alloc::AllocError;
 
 /// The empty chain.
@@ -15,52 +17,88 @@ const BOS: End = End {
 };
 
 /// Fills `ends` with the ends of a place, in the order in which they are preferred where costs are equal. `head` leads to the latest of
-/// the nodes that end there.
-pub fn gather(
-    nodes: &[Node],
+/// the runs that end there.
+pub fn gather<S: WordSource>(
+    source: &S,
+    runs: &[Run],
+    backs: &[Backpointer],
     head: Option<usize>,
     place: usize,
     ends: &mut Vec<End>,
 ) -> Result<(), AllocError>
-    requires links { LinksAreLatest nodes.now }
-    requires head { IsLatest nodes.now place (length nodes.now) head }
-    ensures { OnOk result (AreEnds nodes.now place ends.new.items) }
+    requires runs { AreRuns (S.says source.now).surface_words runs.now }
+    requires all { AreAllKept (S.says source.now) runs.now backs.now }
+    requires links { LinksAreLatest runs.now }
+    requires head { IsLatest runs.now place (length runs.now) head }
+    ensures { OnOk result
+        (AreEnds (nodes_in (S.says source.now) runs.now backs.now) place ends.new.items) }
 {
     ends.clear();
     if place == 0 {
         ends.push(BOS)?;
         return Ok(());
     }
-    add_ends(nodes, head, place, ends)
+    add_ends(source, runs, backs, head, place, ends)
 }
 
 /// Appends the nodes that end at a place, the latest first.
-fn add_ends(
-    nodes: &[Node],
+fn add_ends<S: WordSource>(
+    source: &S,
+    runs: &[Run],
+    backs: &[Backpointer],
     head: Option<usize>,
     place: usize,
     ends: &mut Vec<End>,
 ) -> Result<(), AllocError>
-    requires links { LinksAreLatest nodes.now }
-    requires head { IsLatest nodes.now place (length nodes.now) head }
+    requires runs { AreRuns (S.says source.now).surface_words runs.now }
+    requires all { AreAllKept (S.says source.now) runs.now backs.now }
+    requires links { LinksAreLatest runs.now }
+    requires head { IsLatest runs.now place (length runs.now) head }
     requires none { ends.old.items ≡ [] }
-    ensures { OnOk result (StandFor nodes.now place 0 ends.new.items) }
+    ensures { OnOk result
+        (StandFor (nodes_in (S.says source.now) runs.now backs.now) place 0 ends.new.items) }
 {
     let mut link = head;
     while let Some(i) = link {
-        ends.push(node_end(i, &nodes[i]))?;
-        link = nodes[i].earlier;
+        add_run_ends(source, runs, backs, &runs[i], ends)?;
+        link = runs[i].next;
+    }
+    Ok(())
+}
+
+/// Appends the nodes of a run, the latest first: its words in their order.
+fn add_run_ends<S: WordSource>(
+    source: &S,
+    runs: &[Run],
+    backs: &[Backpointer],
+    run: &Run,
+    ends: &mut Vec<End>,
+) -> Result<(), AllocError>
+    requires runs { AreRuns (S.says source.now).surface_words runs.now }
+    requires all { AreAllKept (S.says source.now) runs.now backs.now }
+    requires run { Contains runs.now run.now }
+    requires later { StandFor (nodes_in (S.says source.now) runs.now backs.now)
+        run.now.surface.end (run.now.from + run.now.surface.count) ends.old.items }
+    ensures { OnOk result (StandFor (nodes_in (S.says source.now) runs.now backs.now)
+        run.now.surface.end run.now.from ends.new.items) }
+{
+    let mut left = run.surface.count;
+    while 0 < left {
+        left -= 1;
+        let word = source.word(&run.surface, run.surface.count - 1 - left);
+        let number = run.from + left as usize;
+        ends.push(node_end(number, &backs[number], word.right))?;
     }
     Ok(())
 }
 
 /// A node as an end.
-fn node_end(number: usize, node: &Node) -> End
-    ensures { result ≡ end_of number node.now }
+fn node_end(number: usize, back: &Backpointer, right: u16) -> End
+    ensures { result ≡ record { total = back.now.total; right = right; before = Some number } }
 {
     End {
-        total: node.total,
-        right: node.word.right,
+        total: back.total,
+        right,
         before: Some(number),
     }
 }

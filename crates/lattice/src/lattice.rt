@@ -6,9 +6,8 @@ ghost use Rattle.paths.specs.BestOver.{IsBestOver, cost_over};
 ghost use Rattle.lattice.specs.SearchedText.{CanBeSearched, IsBestIn, cost_of};
 ghost use Rattle.word_lookup.specs.Overlays.{overlay_of};
 
-use crate::building::{Room, build};
+use crate::building::{Nodes, Room, build};
 use crate::dictionary_text::DictionaryText;
-use crate::node::Node;
 use crate::path::Path;
 use crate::source::WordSource;
 use crate::tracing::trace_best;
@@ -25,9 +24,7 @@ use word_lookup::Dictionaries;
 #[derive(Debug, Drop)]
 pub struct Lattice {
     alloc: Global,
-    nodes: Vec<Node>,
-    /// For each place the number of the latest node that ends there.
-    heads: Vec<Option<usize>>,
+    nodes: Nodes,
     room: Room,
     /// The words of the best path.
     best: Vec<Word>,
@@ -38,8 +35,7 @@ impl Lattice {
     pub fn new(alloc: Global) -> Lattice {
         Lattice {
             alloc,
-            nodes: Vec::new(alloc),
-            heads: Vec::new(alloc),
+            nodes: Nodes::new(alloc),
             room: Room::new(alloc),
             best: Vec::new(alloc),
         }
@@ -57,14 +53,8 @@ impl Lattice {
         ensures words_kept { OnErr result (path.new.words.items ≡ path.old.words.items) }
         ensures total_kept { OnErr result (path.new.total ≡ path.old.total) }
     {
-        build(source, &mut self.nodes, &mut self.heads, &mut self.room)?;
-        let total = trace_best(
-            source,
-            &self.nodes,
-            &self.heads,
-            &mut self.room.ends,
-            &mut self.best,
-        )?;
+        build(source, &mut self.nodes, &mut self.room)?;
+        let total = trace_best(source, &self.nodes, &mut self.room.ends, &mut self.best)?;
         mem::swap(&mut path.words, &mut self.best);
         path.total = total;
         Ok(())

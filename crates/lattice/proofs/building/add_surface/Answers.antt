@@ -1,19 +1,107 @@
-use Rattle.std.proofs.Common.{arith, subst, ap, ◌∙◌}
-use Rattle.lattice.specs.Lattice.{IsLattice}
-use Rattle.lattice.specs.SearchedText.{words_before}
-use Rattle.lattice.proofs.WordNumbers.{count_at, next_surface}
+use Rattle.std.proofs.Common.{arith, ◌≡◌, ℕ, ◌+◌, ◌<◌, ◌++◌, List, [], ◌∷◌, Option, Some, length, get_or, set, take, drop, refl, sym, subst, ap, ◌∙◌, slice_get}
+use Rattle.std.proofs.lemmas.List.{length-set, take_at}
+use Rattle.std.proofs.lemmas.Option.{slice_get-get_or, slice_get_read}
+use Rattle.lattice.specs.declared.node.Run.{Run}
+use Rattle.lattice.specs.Ends.{AreEnds}
+use Rattle.lattice.specs.Nodes.{AreLinked, AreRuns, Node, node_words}
+use Rattle.lattice.specs.SearchedText.{IsLatticeOf, nodes_in, words_before}
+use Rattle.lattice.proofs.Links.{links_on}
+use Rattle.lattice.proofs.RunNodes.{nodes_stay, runs_push, words_push}
+use Rattle.lattice.proofs.WordNumbers.{no_surface, surface_ends, whole_at}
 use Rattle.lattice.proofs.building.add_surface.Goals as goal
 
-pub loop-i-init : goal.loop-i-init
-loop-i-init g c =
+pub index-requires : goal.index-requires
+index-requires g c =
     let t = g.S.WordSource.says c.args.source.now in
+    let nodes = c.args.nodes.now in
     let surfaces = c.args.surfaces.now in
-    let count = count_at surfaces c.args.number _ c.requires.number in
-    let last = next_surface t c.args.place surfaces c.requires.surfaces c.args.number c.requires.number in
+    let s = get_or surfaces c.args.number no_surface in
+    let kept = c.requires.kept in
+    let end = surface_ends t c.args.place surfaces c.requires.surfaces c.requires.source.source c.args.number no_surface c.requires.number in
+    let long = kept.places in
+    let ok = nodes.heads.ok in
+    omega (arith, end, long, ok.0)
+
+pub add_run-requires : goal.add_run-requires
+add_run-requires g c =
+    let t = g.S.WordSource.says c.args.source.now in
+    let nodes = c.args.nodes.now in
+    let surfaces = c.args.surfaces.now in
+    let s = get_or surfaces c.args.number no_surface in
+    let kept = c.requires.kept in
+    let end = surface_ends t c.args.place surfaces c.requires.surfaces c.requires.source.source c.args.number no_surface c.requires.number in
+    let long = kept.places in
+    let whole = ap length c.deref_mut.ensures.value in
+    record { end = omega (arith, end, long, whole) }
+
+pub add_words-requires-clause-next : goal.add_words-requires-clause-next
+add_words-requires-clause-next g c =
+    let t = g.S.WordSource.says c.args.source.now in
+    let nodes = c.args.nodes.now in
+    let surfaces = c.args.surfaces.now in
+    let s = get_or surfaces c.args.number no_surface in
+    let kept = c.requires.kept in
+    let run : Run = record { surface = s; from = c.len.result; next = c.index.result.now } in
+    let runs_now : c.deref.result.now ≡ nodes.runs.items ++ run ∷ [] = c.deref.ensures.value ∙ c.in_ok-add_run.ensures.runs in
     record {
-      within = omega (arith, count);
-      lattice = subst (IsLattice t.words t.connection c.args.nodes.now.items c.args.place) (last ∙ ap (words_before t surfaces c.args.number) count) c.requires.lattice;
-      links = c.requires.links;
-      ends = c.requires.ends;
-      joins = c.requires.joins;
+      surface = s;
+      here = slice_get-get_or surfaces c.args.number no_surface c.requires.number;
+      before = node_words t.surface_words nodes.runs.items;
+      words = ap (node_words t.surface_words) runs_now ∙ words_push t.surface_words nodes.runs.items run;
+      none_yet = kept.all;
+    }
+
+pub add_words-requires-clause-lattice : goal.add_words-requires-clause-lattice
+add_words-requires-clause-lattice g c =
+    let t = g.S.WordSource.says c.args.source.now in
+    let nodes = c.args.nodes.now in
+    let surfaces = c.args.surfaces.now in
+    let s = get_or surfaces c.args.number no_surface in
+    let kept = c.requires.kept in
+    let run : Run = record { surface = s; from = c.len.result; next = c.index.result.now } in
+    let runs_now : c.deref.result.now ≡ nodes.runs.items ++ run ∷ [] = c.deref.ensures.value ∙ c.in_ok-add_run.ensures.runs in
+    let same = ap (λ (rs : List Run). nodes_in t rs nodes.backs.items) runs_now ∙ nodes_stay t.surface_words nodes.runs.items run nodes.backs.items kept.all in
+    subst (λ (ns : List Node). IsLatticeOf t ns c.args.place (words_before t surfaces (c.args.number + 1) 0)) (sym same) c.requires.lattice
+
+pub add_words-requires-clause-ends : goal.add_words-requires-clause-ends
+add_words-requires-clause-ends g c =
+    let t = g.S.WordSource.says c.args.source.now in
+    let nodes = c.args.nodes.now in
+    let surfaces = c.args.surfaces.now in
+    let s = get_or surfaces c.args.number no_surface in
+    let kept = c.requires.kept in
+    let run : Run = record { surface = s; from = c.len.result; next = c.index.result.now } in
+    let runs_now : c.deref.result.now ≡ nodes.runs.items ++ run ∷ [] = c.deref.ensures.value ∙ c.in_ok-add_run.ensures.runs in
+    let same = ap (λ (rs : List Run). nodes_in t rs nodes.backs.items) runs_now ∙ nodes_stay t.surface_words nodes.runs.items run nodes.backs.items kept.all in
+    subst (λ (ns : List Node). AreEnds ns c.args.place c.args.ends.now) (sym same) c.requires.ends
+
+pub returns-clause-kept : goal.returns-clause-kept
+returns-clause-kept g c =
+    let t = g.S.WordSource.says c.args.source.now in
+    let nodes = c.args.nodes.now in
+    let surfaces = c.args.surfaces.now in
+    let s = get_or surfaces c.args.number no_surface in
+    let kept = c.requires.kept in
+    let run : Run = record { surface = s; from = c.len.result; next = c.index.result.now } in
+    let runs_now : c.deref.result.now ≡ nodes.runs.items ++ run ∷ [] = c.deref.ensures.value ∙ c.in_ok-add_run.ensures.runs in
+    let heads = nodes.heads.items in
+    let ok = nodes.heads.ok in
+    let long = kept.places in
+    let end = surface_ends t c.args.place surfaces c.requires.surfaces c.requires.source.source c.args.number no_surface c.requires.number in
+    let within : s.end < length heads = omega (arith, end, long) in
+    let at : slice_get heads s.end ≡ Some run.next = slice_get_read heads (length heads) s.end c.index.result.now refl within c.index.ensures in
+    let set_heads = c.in_ok-add_run.ensures.heads ∙ ap (λ (hs : List (Option ℕ)). set hs s.end (Some (length nodes.runs.items))) c.deref_mut.ensures.value in
+    let size = ap length set_heads ∙ length-set heads s.end (Some (length nodes.runs.items)) in
+    let heads_now = take_at c.add_run.new.heads (drop (length c.add_run.new.heads) heads) nodes.heads.len (size ∙ sym ok.0) ∙ set_heads in
+    let from = c.len.ensures ∙ nodes.backs.ok.0 ∙ kept.all in
+    let whole = whole_at t c.args.place surfaces c.requires.surfaces c.args.number no_surface c.requires.number in
+    let runs_are = subst (AreRuns t.surface_words) (sym c.in_ok-add_run.ensures.runs) (runs_push t.surface_words nodes.runs.items run kept.runs_are whole from) in
+    let linked = links_on nodes.runs.items heads run kept.linked at in
+    let all = c.in_ok-add_words.ensures.all ∙ ap (λ (rs : List Run). length (node_words t.surface_words rs)) c.deref.ensures.value in
+    let places = ap length heads_now ∙ length-set heads s.end (Some (length nodes.runs.items)) ∙ kept.places in
+    record {
+      runs_are = runs_are;
+      all = all;
+      linked = subst (λ (rs : List Run). AreLinked rs (take nodes.heads.len (c.add_run.new.heads ++ drop (length c.add_run.new.heads) heads))) (sym c.in_ok-add_run.ensures.runs) (subst (λ (hs : List (Option ℕ)). AreLinked (nodes.runs.items ++ run ∷ []) hs) (sym heads_now) linked);
+      places = places;
     }

@@ -1,15 +1,14 @@
 use Rattle.std.proofs.Common.{◌≤◌, length}
 use Rattle.lattice.specs.Ends.{AreEnds, AreLeast}
-use Rattle.lattice.specs.Nodes.{AreLinked}
-use Rattle.lattice.specs.SearchedText.{IsLatticeOf, words_before}
+use Rattle.lattice.specs.SearchedText.{AreKept, IsLatticeOf, nodes_in, words_before}
 use Rattle.lattice.proofs.building.add_surfaces.Given as goal
 
 abbrev pub invariant-loop-number : goal.invariant-loop-number
 invariant-loop-number g l = record {
   within : l.number ≤ length l.surfaces;
-  lattice : IsLatticeOf (g.S.WordSource.says l.source) l.nodes.items l.place (words_before (g.S.WordSource.says l.source) l.surfaces l.number 0);
-  links : AreLinked l.nodes.items l.heads;
-  ends : AreEnds l.nodes.items l.place l.ends;
+  kept : AreKept (g.S.WordSource.says l.source) l.nodes.runs.items l.nodes.backs.items l.nodes.heads.items;
+  lattice : IsLatticeOf (g.S.WordSource.says l.source) (nodes_in (g.S.WordSource.says l.source) l.nodes.runs.items l.nodes.backs.items) l.place (words_before (g.S.WordSource.says l.source) l.surfaces l.number 0);
+  ends : AreEnds (nodes_in (g.S.WordSource.says l.source) l.nodes.runs.items l.nodes.backs.items) l.place l.ends;
   joins : AreLeast (g.S.WordSource.says l.source).connection l.ends l.joins.found.items;
 }
 

@@ -1,30 +1,51 @@
-use Rattle.std.proofs.Common.{ℕ, ◌<◌, subst, sym, Option, Some, None, pos, get_or}
-use Rattle.mj_model.specs.declared.word.Origin.TheVariants.{Known}
-use Rattle.lattice.specs.declared.node.Node.{Node}
-use Rattle.lattice.proofs.EndsLemmas.{turn, below_there, node_there, gathered_at, walk_ends, walk_starts, link_size, earlier_smaller}
+use Rattle.std.proofs.Common.{ℕ, ◌<◌, ◌+◌, subst, sym, refl, Option, Some, get_or}
+use Rattle.std.proofs.lemmas.Option.{slice_get-get_or}
+use Rattle.lattice.specs.Ends.{StandFor}
+use Rattle.lattice.specs.SearchedText.{nodes_in}
+use Rattle.lattice.proofs.EndsLemmas.{after_turn, before_turn, below_there, ends_here, gathered_at, link_size, next_smaller, run_there, walk_ends, walk_starts}
+use Rattle.lattice.proofs.RunNodes.{no_run}
 use Rattle.lattice.proofs.ends.add_ends.Goals as goal
 
-abbrev no_node : Node
-no_node = record { word = record { place = 0; start = 0; end = 0; left = 0; right = 0; cost = pos 0; origin = Known 0 0 }; total = pos 0; before = None; earlier = None }
-
 pub loop-link-init : goal.loop-link-init
-loop-link-init c =
-    let walk = walk_starts c.args.nodes.now c.args.place c.args.ends.now.items c.args.head c.requires.none c.requires.head in
-    record { below = below_there c.args.nodes.now c.args.place c.args.ends.now.items c.args.head walk; walk = walk }
+loop-link-init g c =
+    let f = (g.S.WordSource.says c.args.source.now).surface_words in
+    let walk = walk_starts f c.args.runs.now c.requires.runs c.args.backs.now c.requires.all c.args.place c.args.ends.now.items c.args.head c.requires.none c.requires.head in
+    record { below = below_there f c.args.runs.now c.requires.runs c.args.backs.now c.requires.all c.args.place c.args.ends.now.items c.args.head walk; walk = walk }
 
-pub loop-link-preserved : goal.loop-link-preserved
-loop-link-preserved c =
-    let nodes = c.args.nodes.now in
-    let walk = turn nodes c.args.place c.loop-link.ends.items c.push.new.self.items c.in-Some.i no_node c.node_end.result c.requires.links
-    (gathered_at nodes c.args.place c.loop-link.ends.items c.loop-link.link (Some c.in-Some.i) c.in-Some.is c.loop-link.invariant.walk)
-    c.node_end.ensures c.in_ok-push.ensures.items in
-    record { below = below_there nodes c.args.place c.push.new.self.items (get_or nodes c.in-Some.i no_node).earlier walk; walk = walk }
+pub add_run_ends-requires-clause-later : goal.add_run_ends-requires-clause-later
+add_run_ends-requires-clause-later g c =
+    let t = g.S.WordSource.says c.args.source.now in
+    let runs = c.args.runs.now in
+    let ends = c.loop-link.ends.items in
+    let i = c.in-Some.i in
+    let w = gathered_at t.surface_words runs c.requires.runs c.args.backs.now c.requires.all c.args.place ends c.loop-link.link (Some i) c.in-Some.is c.loop-link.invariant.walk in
+    let run = get_or runs i no_run in
+    let at = slice_get-get_or runs i no_run (run_there t.surface_words runs c.requires.runs c.args.backs.now c.requires.all c.args.place ends (Some i) i refl w) in
+    subst (λ (p : ℕ). StandFor (nodes_in t runs c.args.backs.now) p (run.from + run.surface.count) ends) (sym (ends_here t.surface_words runs c.requires.runs c.args.backs.now c.requires.all c.args.place ends i run at w))
+    (before_turn t.surface_words runs c.requires.runs c.args.backs.now c.requires.all c.args.place ends i run at w)
 
 pub loop-link-smaller : goal.loop-link-smaller
-loop-link-smaller c =
-    let nodes = c.args.nodes.now in
-    let within = node_there nodes c.args.place c.loop-link.ends.items c.loop-link.link c.in-Some.i c.in-Some.is c.loop-link.invariant.walk in
-    subst (λ (o : Option ℕ). link_size (get_or nodes c.in-Some.i no_node).earlier < link_size o) (sym c.in-Some.is) (earlier_smaller nodes c.in-Some.i no_node c.requires.links within)
+loop-link-smaller g c =
+    let t = g.S.WordSource.says c.args.source.now in
+    let runs = c.args.runs.now in
+    let within = run_there t.surface_words runs c.requires.runs c.args.backs.now c.requires.all c.args.place c.loop-link.ends.items c.loop-link.link c.in-Some.i c.in-Some.is c.loop-link.invariant.walk in
+    subst (λ (o : Option ℕ). link_size (get_or runs c.in-Some.i no_run).next < link_size o) (sym c.in-Some.is) (next_smaller runs c.in-Some.i no_run c.requires.links within)
+
+pub loop-link-preserved : goal.loop-link-preserved
+loop-link-preserved g c =
+    let t = g.S.WordSource.says c.args.source.now in
+    let runs = c.args.runs.now in
+    let ends = c.loop-link.ends.items in
+    let after = c.add_run_ends.new.ends.items in
+    let i = c.in-Some.i in
+    let w = gathered_at t.surface_words runs c.requires.runs c.args.backs.now c.requires.all c.args.place ends c.loop-link.link (Some i) c.in-Some.is c.loop-link.invariant.walk in
+    let run = get_or runs i no_run in
+    let at = slice_get-get_or runs i no_run (run_there t.surface_words runs c.requires.runs c.args.backs.now c.requires.all c.args.place ends (Some i) i refl w) in
+    let stand = subst (λ (p : ℕ). StandFor (nodes_in t runs c.args.backs.now) p run.from after) (ends_here t.surface_words runs c.requires.runs c.args.backs.now c.requires.all c.args.place ends i run at w) c.in_ok-add_run_ends.ensures in
+    let walk = after_turn t.surface_words runs c.requires.runs c.args.backs.now c.requires.all c.args.place ends after i run c.requires.links at w stand in
+    record { below = below_there t.surface_words runs c.requires.runs c.args.backs.now c.requires.all c.args.place after run.next walk; walk = walk }
 
 pub returns : goal.returns
-returns c = walk_ends c.args.nodes.now c.args.place c.loop-link.ends.items c.loop-link.link c.in_default.is c.loop-link.invariant.walk
+returns g c =
+    let t = g.S.WordSource.says c.args.source.now in
+    walk_ends t.surface_words c.args.runs.now c.requires.runs c.args.backs.now c.requires.all c.args.place c.loop-link.ends.items c.loop-link.link c.in_default.is c.loop-link.invariant.walk

@@ -4,7 +4,7 @@ use Rattle.lattice.proofs.EndsLemmas.{Gathered, link_size}
 use Rattle.lattice.proofs.ends.add_ends.Given as goal
 
 abbrev pub invariant-loop-link : goal.invariant-loop-link
-invariant-loop-link l = record { below : IsBelow l.link (length l.nodes); walk : Gathered l.nodes l.place l.ends.items l.link }
+invariant-loop-link g l = record { below : IsBelow l.link (length l.runs); walk : Gathered (g.S.WordSource.says l.source).surface_words l.runs l.backs l.place l.ends.items l.link }
 
 abbrev pub decreases-loop-link : goal.decreases-loop-link
-decreases-loop-link l = link_size l.link
+decreases-loop-link g l = link_size l.link

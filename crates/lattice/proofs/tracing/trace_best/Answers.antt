@@ -1,143 +1,143 @@
-use Rattle.std.proofs.Common.{rules, arith, ◌<◌, ◌∙◌, All, List, None, length, subst, sym, w64}
-use Rattle.std.proofs.lemmas.Option.{slice_get-get_or}
+use Rattle.std.proofs.Common.{rules, arith, ◌<◌, ◌∙◌, ℕ, All, List, Option, length, subst, sym, ap, w64}
 use Rattle.std.proofs.lemmas.Int.{to_z-of_z}
 use mir.Val.{SFits}
 use Rattle.lattice.specs.declared.node.End.{End}
-use Rattle.lattice.specs.Ends.{HasSmallTotal, IsFollowedBy, IsLeast}
+use Rattle.lattice.specs.declared.node.Run.{Run}
+use Rattle.lattice.specs.Ends.{AreEnds, HasSmallTotal, IsFollowedBy, IsLeast}
+use Rattle.lattice.specs.Lattice.{IsBelow, LinksGoBack, Traces}
+use Rattle.lattice.specs.Nodes.{IsLastHead, Node, node_words}
+use Rattle.lattice.specs.SearchedText.{nodes_in}
 use Rattle.lattice.proofs.Choice.{all_followed, least_joins, small_totals}
 use Rattle.lattice.proofs.Finish.{leads_there, links_back, join_below, path_is_best, path_costs, last_is, last_low}
+use Rattle.lattice.proofs.RunNodes.{nodes_length}
 use Rattle.lattice.proofs.tracing.trace_best.Goals as goal
-
-pub offset_bounds-heads-last : goal.offset_bounds-heads-last
-offset_bounds-heads-last g c =
-    let words = (g.S.WordSource.says c.args.source.now).words in
-    let conn = (g.S.WordSource.says c.args.source.now).connection in
-    let len = (g.S.WordSource.says c.args.source.now).text_length in
-    let nodes = c.args.nodes.now in
-    let k = length (words len) in
-    let last = c.last_end-last.result in
-    let is_last = last_is words conn len c.requires.source.source nodes c.args.heads.now k last c.requires.lattice c.requires.links c.requires.heads c.last_end-last.ensures in
-    let low = last_low words conn len c.requires.source.source nodes k last c.requires.lattice is_last in
-    let short = c.requires.source.short in
-    omega (arith, low, short)
-
-pub bounds-heads-last : goal.bounds-heads-last
-bounds-heads-last g c =
-    let words = (g.S.WordSource.says c.args.source.now).words in
-    let conn = (g.S.WordSource.says c.args.source.now).connection in
-    let len = (g.S.WordSource.says c.args.source.now).text_length in
-    let nodes = c.args.nodes.now in
-    let k = length (words len) in
-    let last = c.last_end-last.result in
-    let is_last = last_is words conn len c.requires.source.source nodes c.args.heads.now k last c.requires.lattice c.requires.links c.requires.heads c.last_end-last.ensures in
-    let low = last_low words conn len c.requires.source.source nodes k last c.requires.lattice is_last in
-    omega (arith, low, c.requires.heads)
-
-pub gather-requires-clause-head : goal.gather-requires-clause-head
-gather-requires-clause-head g c =
-    let words = (g.S.WordSource.says c.args.source.now).words in
-    let conn = (g.S.WordSource.says c.args.source.now).connection in
-    let len = (g.S.WordSource.says c.args.source.now).text_length in
-    let nodes = c.args.nodes.now in
-    let k = length (words len) in
-    let last = c.last_end-last.result in
-    let is_last = last_is words conn len c.requires.source.source nodes c.args.heads.now k last c.requires.lattice c.requires.links c.requires.heads c.last_end-last.ensures in
-    let low = last_low words conn len c.requires.source.source nodes k last c.requires.lattice is_last in
-    let heads = c.args.heads.now in
-    let within : last < length heads = omega (arith, low, c.requires.heads) in
-    c.requires.links.heads_latest last _ (slice_get-get_or heads last None within)
 
 pub least-found-requires-clause-some : goal.least-found-requires-clause-some
 least-found-requires-clause-some g c =
-    let words = (g.S.WordSource.says c.args.source.now).words in
-    let conn = (g.S.WordSource.says c.args.source.now).connection in
-    let len = (g.S.WordSource.says c.args.source.now).text_length in
-    let nodes = c.args.nodes.now in
-    let k = length (words len) in
+    let t = g.S.WordSource.says c.args.source.now in
+    let source = c.requires.source.source in
+    let kept = c.requires.kept in
+    let runs = c.args.nodes.now.runs.items in
+    let backs = c.args.nodes.now.backs.items in
+    let nodes = nodes_in t runs backs in
+    let k = length (t.words t.text_length) in
     let last = c.last_end-last.result in
-    let is_last = last_is words conn len c.requires.source.source nodes c.args.heads.now k last c.requires.lattice c.requires.links c.requires.heads c.last_end-last.ensures in
-    subst (λ (xs : List End). 0 < length xs) (sym c.deref.ensures.value) (leads_there words conn len c.requires.source.source nodes k last c.requires.lattice is_last c.gather.new.ends.items c.in_ok-gather.ensures)
+    let is_last = last_is t.words t.connection t.text_length source t.surface_words runs backs c.args.nodes.now.heads.items k last c.requires.lattice kept.runs_are kept.all kept.linked kept.places
+    (subst (λ (hs : List (Option ℕ)). IsLastHead hs last) c.deref.ensures.value c.last_end-last.ensures) in
+    let ends = c.gather.new.ends.items in
+    let are : AreEnds nodes last ends = subst (λ (ns : List Node). AreEnds ns last ends) (ap (λ (rs : List Run). nodes_in t rs c.deref-3.result.now) c.deref-2.ensures.value ∙ ap (nodes_in t runs) c.deref-3.ensures.value) c.in_ok-gather.ensures in
+    subst (λ (xs : List End). 0 < length xs) (sym c.deref-4.ensures.value) (leads_there t.words t.connection t.text_length source nodes k last c.requires.lattice is_last ends are)
 
 pub least-found-requires-clause-totals : goal.least-found-requires-clause-totals
 least-found-requires-clause-totals g c =
-    let words = (g.S.WordSource.says c.args.source.now).words in
-    let conn = (g.S.WordSource.says c.args.source.now).connection in
-    let len = (g.S.WordSource.says c.args.source.now).text_length in
-    let nodes = c.args.nodes.now in
-    let k = length (words len) in
+    let t = g.S.WordSource.says c.args.source.now in
+    let source = c.requires.source.source in
+    let kept = c.requires.kept in
+    let runs = c.args.nodes.now.runs.items in
+    let backs = c.args.nodes.now.backs.items in
+    let nodes = nodes_in t runs backs in
+    let k = length (t.words t.text_length) in
     let last = c.last_end-last.result in
-    let is_last = last_is words conn len c.requires.source.source nodes c.args.heads.now k last c.requires.lattice c.requires.links c.requires.heads c.last_end-last.ensures in
-    subst (λ (xs : List End). All HasSmallTotal xs) (sym c.deref.ensures.value) (small_totals words conn len c.requires.source.source nodes len k last c.gather.new.ends.items c.requires.source.short c.requires.lattice c.in_ok-gather.ensures)
+    let is_last = last_is t.words t.connection t.text_length source t.surface_words runs backs c.args.nodes.now.heads.items k last c.requires.lattice kept.runs_are kept.all kept.linked kept.places
+    (subst (λ (hs : List (Option ℕ)). IsLastHead hs last) c.deref.ensures.value c.last_end-last.ensures) in
+    let ends = c.gather.new.ends.items in
+    let are : AreEnds nodes last ends = subst (λ (ns : List Node). AreEnds ns last ends) (ap (λ (rs : List Run). nodes_in t rs c.deref-3.result.now) c.deref-2.ensures.value ∙ ap (nodes_in t runs) c.deref-3.ensures.value) c.in_ok-gather.ensures in
+    subst (λ (xs : List End). All HasSmallTotal xs) (sym c.deref-4.ensures.value) (small_totals t.words t.connection t.text_length source nodes t.text_length k last ends c.requires.source.short c.requires.lattice are)
 
 pub least-found-requires-clause-pairs : goal.least-found-requires-clause-pairs
 least-found-requires-clause-pairs g c =
-    let words = (g.S.WordSource.says c.args.source.now).words in
-    let conn = (g.S.WordSource.says c.args.source.now).connection in
-    let len = (g.S.WordSource.says c.args.source.now).text_length in
-    let nodes = c.args.nodes.now in
-    let k = length (words len) in
+    let t = g.S.WordSource.says c.args.source.now in
+    let source = c.requires.source.source in
+    let kept = c.requires.kept in
+    let runs = c.args.nodes.now.runs.items in
+    let backs = c.args.nodes.now.backs.items in
+    let nodes = nodes_in t runs backs in
+    let k = length (t.words t.text_length) in
     let last = c.last_end-last.result in
-    let is_last = last_is words conn len c.requires.source.source nodes c.args.heads.now k last c.requires.lattice c.requires.links c.requires.heads c.last_end-last.ensures in
-    let is_pair = (g.S.WordSource.says c.args.source.now).is_pair in
-    subst (λ (xs : List End). All (IsFollowedBy is_pair 0) xs) (sym c.deref.ensures.value) (all_followed words conn len c.requires.source.source is_pair nodes len k last 0 c.gather.new.ends.items c.requires.source.eos_follows c.requires.lattice c.in_ok-gather.ensures)
+    let is_last = last_is t.words t.connection t.text_length source t.surface_words runs backs c.args.nodes.now.heads.items k last c.requires.lattice kept.runs_are kept.all kept.linked kept.places
+    (subst (λ (hs : List (Option ℕ)). IsLastHead hs last) c.deref.ensures.value c.last_end-last.ensures) in
+    let ends = c.gather.new.ends.items in
+    let are : AreEnds nodes last ends = subst (λ (ns : List Node). AreEnds ns last ends) (ap (λ (rs : List Run). nodes_in t rs c.deref-3.result.now) c.deref-2.ensures.value ∙ ap (nodes_in t runs) c.deref-3.ensures.value) c.in_ok-gather.ensures in
+    subst (λ (xs : List End). All (IsFollowedBy t.is_pair 0) xs) (sym c.deref-4.ensures.value) (all_followed t.words t.connection t.text_length source t.is_pair nodes t.text_length k last 0 ends c.requires.source.eos_follows c.requires.lattice are)
 
 pub words_back-requires-clause-links : goal.words_back-requires-clause-links
 words_back-requires-clause-links g c =
-    let words = (g.S.WordSource.says c.args.source.now).words in
-    let conn = (g.S.WordSource.says c.args.source.now).connection in
-    let len = (g.S.WordSource.says c.args.source.now).text_length in
-    let nodes = c.args.nodes.now in
-    let k = length (words len) in
+    let t = g.S.WordSource.says c.args.source.now in
+    let source = c.requires.source.source in
+    let kept = c.requires.kept in
+    let runs = c.args.nodes.now.runs.items in
+    let backs = c.args.nodes.now.backs.items in
+    let nodes = nodes_in t runs backs in
+    let k = length (t.words t.text_length) in
     let last = c.last_end-last.result in
-    let is_last = last_is words conn len c.requires.source.source nodes c.args.heads.now k last c.requires.lattice c.requires.links c.requires.heads c.last_end-last.ensures in
-    links_back words conn len c.requires.source.source nodes k last c.requires.lattice is_last
+    let is_last = last_is t.words t.connection t.text_length source t.surface_words runs backs c.args.nodes.now.heads.items k last c.requires.lattice kept.runs_are kept.all kept.linked kept.places
+    (subst (λ (hs : List (Option ℕ)). IsLastHead hs last) c.deref.ensures.value c.last_end-last.ensures) in
+    subst LinksGoBack (sym (ap (λ (rs : List Run). nodes_in t rs c.deref-6.result.now) c.deref-5.ensures.value ∙ ap (nodes_in t runs) c.deref-6.ensures.value)) (links_back t.words t.connection t.text_length source nodes k last c.requires.lattice is_last)
 
 pub words_back-requires-clause-from : goal.words_back-requires-clause-from
 words_back-requires-clause-from g c =
-    let words = (g.S.WordSource.says c.args.source.now).words in
-    let conn = (g.S.WordSource.says c.args.source.now).connection in
-    let len = (g.S.WordSource.says c.args.source.now).text_length in
-    let nodes = c.args.nodes.now in
-    let k = length (words len) in
+    let t = g.S.WordSource.says c.args.source.now in
+    let source = c.requires.source.source in
+    let kept = c.requires.kept in
+    let runs = c.args.nodes.now.runs.items in
+    let backs = c.args.nodes.now.backs.items in
+    let nodes = nodes_in t runs backs in
+    let k = length (t.words t.text_length) in
     let last = c.last_end-last.result in
-    let is_last = last_is words conn len c.requires.source.source nodes c.args.heads.now k last c.requires.lattice c.requires.links c.requires.heads c.last_end-last.ensures in
-    let low = last_low words conn len c.requires.source.source nodes k last c.requires.lattice is_last in
+    let is_last = last_is t.words t.connection t.text_length source t.surface_words runs backs c.args.nodes.now.heads.items k last c.requires.lattice kept.runs_are kept.all kept.linked kept.places
+    (subst (λ (hs : List (Option ℕ)). IsLastHead hs last) c.deref.ensures.value c.last_end-last.ensures) in
     let ends = c.gather.new.ends.items in
+    let are : AreEnds nodes last ends = subst (λ (ns : List Node). AreEnds ns last ends) (ap (λ (rs : List Run). nodes_in t rs c.deref-3.result.now) c.deref-2.ensures.value ∙ ap (nodes_in t runs) c.deref-3.ensures.value) c.in_ok-gather.ensures in
+    let low = last_low t.words t.connection t.text_length source nodes k last c.requires.lattice is_last in
     let found = c.least-found.result in
-    let least : IsLeast conn ends 0 found = subst (λ (xs : List End). IsLeast conn xs 0 found) c.deref.ensures.value c.least-found.ensures in
-    let join = least_joins words conn len c.requires.source.source nodes len k last 0 ends found c.requires.lattice low c.in_ok-gather.ensures least in
-    join_below words conn len c.requires.source.source nodes k last c.requires.lattice is_last found join
+    let least : IsLeast t.connection ends 0 found = subst (λ (xs : List End). IsLeast t.connection xs 0 found) c.deref-4.ensures.value c.least-found.ensures in
+    let join = least_joins t.words t.connection t.text_length source nodes t.text_length k last 0 ends found c.requires.lattice low are least in
+    let all = kept.all in
+    let long = nodes_length (node_words t.surface_words runs) backs (omega (arith, all)) in
+    subst (IsBelow found.before) (long ∙ ap length (sym c.deref-6.ensures.value)) (join_below t.words t.connection t.text_length source nodes k last c.requires.lattice is_last found join)
 
 pub returns-clause-best : goal.returns-clause-best
 returns-clause-best g c =
-    let words = (g.S.WordSource.says c.args.source.now).words in
-    let conn = (g.S.WordSource.says c.args.source.now).connection in
-    let len = (g.S.WordSource.says c.args.source.now).text_length in
-    let nodes = c.args.nodes.now in
-    let k = length (words len) in
+    let t = g.S.WordSource.says c.args.source.now in
+    let source = c.requires.source.source in
+    let kept = c.requires.kept in
+    let runs = c.args.nodes.now.runs.items in
+    let backs = c.args.nodes.now.backs.items in
+    let nodes = nodes_in t runs backs in
+    let k = length (t.words t.text_length) in
     let last = c.last_end-last.result in
-    let is_last = last_is words conn len c.requires.source.source nodes c.args.heads.now k last c.requires.lattice c.requires.links c.requires.heads c.last_end-last.ensures in
-    let low = last_low words conn len c.requires.source.source nodes k last c.requires.lattice is_last in
+    let is_last = last_is t.words t.connection t.text_length source t.surface_words runs backs c.args.nodes.now.heads.items k last c.requires.lattice kept.runs_are kept.all kept.linked kept.places
+    (subst (λ (hs : List (Option ℕ)). IsLastHead hs last) c.deref.ensures.value c.last_end-last.ensures) in
     let ends = c.gather.new.ends.items in
+    let are : AreEnds nodes last ends = subst (λ (ns : List Node). AreEnds ns last ends) (ap (λ (rs : List Run). nodes_in t rs c.deref-3.result.now) c.deref-2.ensures.value ∙ ap (nodes_in t runs) c.deref-3.ensures.value) c.in_ok-gather.ensures in
+    let low = last_low t.words t.connection t.text_length source nodes k last c.requires.lattice is_last in
     let found = c.least-found.result in
-    let least : IsLeast conn ends 0 found = subst (λ (xs : List End). IsLeast conn xs 0 found) c.deref.ensures.value c.least-found.ensures in
-    let join = least_joins words conn len c.requires.source.source nodes len k last 0 ends found c.requires.lattice low c.in_ok-gather.ensures least in
-    path_is_best words conn len c.requires.source.source nodes k last c.requires.lattice is_last found c.words_back.new.words.items c.reverse.new.self.items join c.in_ok-words_back.ensures c.reverse.ensures.items
+    let least : IsLeast t.connection ends 0 found = subst (λ (xs : List End). IsLeast t.connection xs 0 found) c.deref-4.ensures.value c.least-found.ensures in
+    let join = least_joins t.words t.connection t.text_length source nodes t.text_length k last 0 ends found c.requires.lattice low are least in
+    let words = c.words_back.new.words.items in
+    let traced : Traces nodes found.before words = subst (λ (ns : List Node). Traces ns found.before words) (ap (λ (rs : List Run). nodes_in t rs c.deref-6.result.now) c.deref-5.ensures.value ∙ ap (nodes_in t runs) c.deref-6.ensures.value) c.in_ok-words_back.ensures in
+    path_is_best t.words t.connection t.text_length source nodes k last c.requires.lattice is_last found words c.reverse.new.self.items join traced c.reverse.ensures.items
 
 pub returns-clause-total : goal.returns-clause-total
 returns-clause-total g c =
-    let words = (g.S.WordSource.says c.args.source.now).words in
-    let conn = (g.S.WordSource.says c.args.source.now).connection in
-    let len = (g.S.WordSource.says c.args.source.now).text_length in
-    let nodes = c.args.nodes.now in
-    let k = length (words len) in
+    let t = g.S.WordSource.says c.args.source.now in
+    let source = c.requires.source.source in
+    let kept = c.requires.kept in
+    let runs = c.args.nodes.now.runs.items in
+    let backs = c.args.nodes.now.backs.items in
+    let nodes = nodes_in t runs backs in
+    let k = length (t.words t.text_length) in
     let last = c.last_end-last.result in
-    let is_last = last_is words conn len c.requires.source.source nodes c.args.heads.now k last c.requires.lattice c.requires.links c.requires.heads c.last_end-last.ensures in
-    let low = last_low words conn len c.requires.source.source nodes k last c.requires.lattice is_last in
+    let is_last = last_is t.words t.connection t.text_length source t.surface_words runs backs c.args.nodes.now.heads.items k last c.requires.lattice kept.runs_are kept.all kept.linked kept.places
+    (subst (λ (hs : List (Option ℕ)). IsLastHead hs last) c.deref.ensures.value c.last_end-last.ensures) in
     let ends = c.gather.new.ends.items in
+    let are : AreEnds nodes last ends = subst (λ (ns : List Node). AreEnds ns last ends) (ap (λ (rs : List Run). nodes_in t rs c.deref-3.result.now) c.deref-2.ensures.value ∙ ap (nodes_in t runs) c.deref-3.ensures.value) c.in_ok-gather.ensures in
+    let low = last_low t.words t.connection t.text_length source nodes k last c.requires.lattice is_last in
     let found = c.least-found.result in
-    let least : IsLeast conn ends 0 found = subst (λ (xs : List End). IsLeast conn xs 0 found) c.deref.ensures.value c.least-found.ensures in
-    let join = least_joins words conn len c.requires.source.source nodes len k last 0 ends found c.requires.lattice low c.in_ok-gather.ensures least in
-    let costs = path_costs words conn len c.requires.source.source nodes k last c.requires.lattice is_last found c.words_back.new.words.items c.reverse.new.self.items join c.in_ok-words_back.ensures c.reverse.ensures.items in
+    let least : IsLeast t.connection ends 0 found = subst (λ (xs : List End). IsLeast t.connection xs 0 found) c.deref-4.ensures.value c.least-found.ensures in
+    let join = least_joins t.words t.connection t.text_length source nodes t.text_length k last 0 ends found c.requires.lattice low are least in
+    let words = c.words_back.new.words.items in
+    let traced : Traces nodes found.before words = subst (λ (ns : List Node). Traces ns found.before words) (ap (λ (rs : List Run). nodes_in t rs c.deref-6.result.now) c.deref-5.ensures.value ∙ ap (nodes_in t runs) c.deref-6.ensures.value) c.in_ok-words_back.ensures in
+    let costs = path_costs t.words t.connection t.text_length source nodes k last c.requires.lattice is_last found words c.reverse.new.self.items join traced c.reverse.ensures.items in
     let fits : SFits w64 found.cost = search rules in
     to_z-of_z w64 found.cost fits ∙ costs

@@ -1,0 +1,5 @@
+pub mod Values
+pub mod CallLemmas
+pub mod HandleLemmas
+pub mod TextLemmas
+pub mod FillLemmas

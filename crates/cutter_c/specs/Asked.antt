@@ -1,0 +1,60 @@
+-- What is asked of the path that was cut last, and how it is told in a buffer.
+use Rattle.std.specs.Prelude.{◌≡◌, ℕ, ◌<◌, List, ◌++◌, length, drop, slice_get, Option, Some, None}
+use Rattle.std.specs.Option.{IsSomeAnd}
+use Rattle.mj_model.specs.declared.word.Word.{Word}
+use Rattle.mj_model.specs.Printed.{feature_of}
+use Rattle.cutter.specs.Cutters.{Cut, Held, OfCut, ShowsCut, overlay_held}
+use Rattle.cutter.specs.declared.fault.CutFault.{CutFault}
+use Rattle.cutter.specs.Faults.{IsFeatureRefusal, IsPrintRefusal}
+use Rattle.cutter_c.specs.declared.fault.CallFault.{CallFault}
+use Rattle.cutter_c.specs.declared.fault.CallFault.TheVariants as call
+use Rattle.cutter_c.specs.declared.telling.Asked.{Asked}
+use Rattle.cutter_c.specs.declared.telling.Asked.TheVariants.{Path, Feature}
+
+-- the feature of the word with a number
+abbrev pub HasFeature : Held → ℕ → List ℕ → Cut → Type 0
+HasFeature h number feature c = IsSomeAnd (slice_get c.words number) (λ (w : Word). feature ≡ feature_of (overlay_held h) w.origin)
+
+-- bytes are what is asked: the path in the format, or a feature
+abbrev pub IsTold : Asked → Held → List ℕ → Type 0
+IsTold Path h bytes = OfCut h (λ c. ShowsCut h c bytes)
+IsTold (Feature number) h bytes = OfCut h (HasFeature h number bytes)
+
+-- why it is not told
+abbrev pub IsAskedRefusal : Asked → Held → CutFault → Type 0
+IsAskedRefusal Path h fault = IsPrintRefusal h fault
+IsAskedRefusal (Feature number) h fault = IsFeatureRefusal h number fault
+
+-- bytes stand at the front of a buffer, and behind them it is as before
+abbrev pub IsCopied : List ℕ → List ℕ → List ℕ → Type 0
+IsCopied bytes old new = new ≡ bytes ++ drop (length bytes) old
+
+-- bytes that are so were copied into a buffer, and so many they are
+pub record IsWritten (Is : List ℕ → Type 0) (needed : ℕ) (old new : List ℕ) : Type 0 where
+  pub bytes : List ℕ
+  pub is : Is bytes
+  pub needed_is : needed ≡ length bytes
+  pub copied : IsCopied bytes old new
+
+-- a buffer with so much room is too short for so many bytes
+abbrev pub NeedsMore : ℕ → ℕ → CallFault → Type 0
+NeedsMore needed room call.ShortBuffer = room < needed
+NeedsMore needed room fault = ⊥
+
+-- bytes that are so need more room than there is
+pub record IsShortFor (Is : List ℕ → Type 0) (needed room : ℕ) : Type 0 where
+  pub bytes : List ℕ
+  pub is : Is bytes
+  pub needed_is : needed ≡ length bytes
+  pub short : room < needed
+
+-- why what is asked is not copied
+abbrev pub IsCopyRefusal : Asked → ℕ → ℕ → Held → CallFault → Type 0
+IsCopyRefusal asked needed room h (call.Cut fault) = IsAskedRefusal asked h fault
+IsCopyRefusal asked needed room h call.ShortBuffer = IsShortFor (IsTold asked h) needed room
+IsCopyRefusal asked needed room h fault = ⊥
+
+-- the same of a handle, which may have no cutter
+abbrev pub IsCopyFault : Option Held → Asked → ℕ → ℕ → CallFault → Type 0
+IsCopyFault None asked needed room fault = fault ≡ call.EmptyCutter
+IsCopyFault (Some h) asked needed room fault = IsCopyRefusal asked needed room h fault

@@ -1,0 +1,52 @@
+//! Why a call of C's is refused.
+
+use cutter::CutFault;
+use std::alloc::{AllocError, AllocFailed};
+
+/// Why a call of C's is refused: by the cutter, or for what C passed.
+#[derive(Clone, Copy, Debug, PartialEq, Eq, Drop)]
+pub enum CallFault {
+    /// The cutter refuses it.
+    Cut(CutFault),
+    /// The handle has no cutter.
+    EmptyCutter,
+    /// The handle has a cutter.
+    FullCutter,
+    /// The buffer has less room than is needed.
+    ShortBuffer,
+}
+
+impl From<CutFault> for CallFault {
+    ghost use Rattle.std.specs.Prelude.{◌≡◌};
+    ghost use Rattle.cutter_c.specs.declared.fault.CallFault.TheVariants.{Cut};
+
+    ghost from_gives = { λ fault told. told ≡ Cut fault };
+
+    fn from(fault: CutFault) -> CallFault {
+        CallFault::Cut(fault)
+    }
+}
+
+impl From<AllocError> for CallFault {
+    ghost use Rattle.std.specs.Prelude.{◌≡◌};
+    ghost use Rattle.cutter.specs.declared.fault.CutFault.TheVariants.{Memory};
+    ghost use Rattle.cutter_c.specs.declared.fault.CallFault.TheVariants.{Cut};
+
+    ghost from_gives = { λ _ told. told ≡ Cut Memory };
+
+    fn from(_refused: AllocError) -> CallFault {
+        CallFault::Cut(CutFault::Memory)
+    }
+}
+
+impl<T: Drop> From<AllocFailed<T>> for CallFault {
+    ghost use Rattle.std.specs.Prelude.{◌≡◌};
+    ghost use Rattle.cutter.specs.declared.fault.CutFault.TheVariants.{Memory};
+    ghost use Rattle.cutter_c.specs.declared.fault.CallFault.TheVariants.{Cut};
+
+    ghost from_gives = { λ _ told. told ≡ Cut Memory };
+
+    fn from(_refused: AllocFailed<T>) -> CallFault {
+        CallFault::Cut(CutFault::Memory)
+    }
+}

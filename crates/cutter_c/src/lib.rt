@@ -1,0 +1,27 @@
+//! The cutter for C: exports over a handle that owns what C holds.
+#![tactic(auto)]
+
+mod codes;
+mod cutting;
+mod exports;
+mod fault;
+mod handle;
+mod loading;
+mod parts;
+mod session;
+mod settings;
+mod slot;
+mod tellers;
+mod telling;
+pub mod texts;
+mod words;
+
+pub use exports::{
+    kumquatsieve_add_user, kumquatsieve_cut, kumquatsieve_cut_text, kumquatsieve_free,
+    kumquatsieve_load, kumquatsieve_set_format, kumquatsieve_set_grouping, kumquatsieve_share,
+};
+pub use handle::Handle;
+pub use tellers::{
+    kumquatsieve_copy_feature, kumquatsieve_copy_print, kumquatsieve_fault, kumquatsieve_feature,
+    kumquatsieve_print, kumquatsieve_words,
+};

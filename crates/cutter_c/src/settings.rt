@@ -1,0 +1,136 @@
+//! The format and the grouping of a handle's cutter.
+
+ghost use Rattle.std.specs.Prelude.{◌≡◌, IsUtf8, IfOk, IfErr, OnErr, OnOk};
+ghost use Rattle.cutter.specs.Faults.{IsGroupingRefusal};
+ghost use Rattle.cutter_c.specs.Calls.{IsNoText, IsRegrouped, IsSettingRefusal, SetsFormat, texts_in};
+ghost use Rattle.cutter_c.specs.Codes.{call_code};
+ghost use Rattle.cutter_c.specs.Handles.{Moves, TellsRefusal, cutter_in};
+
+use crate::fault::CallFault;
+use crate::handle::Handle;
+use cutter::{CutFault, Cutter};
+use mj_model::{FormatFault, FormatPart};
+use std::alloc::Global;
+use std::str;
+
+/// The number of a format's text, in the order of the texts.
+fn number_of(part: FormatPart) -> u32 {
+    match part {
+        FormatPart::Node => 0,
+        FormatPart::Unk => 1,
+        FormatPart::Bos => 2,
+        FormatPart::Eos => 3,
+    }
+}
+
+/// Bytes as the text with a number; else the number and the first byte that is no text are told.
+fn text_of<'a>(
+    bytes: &'a [u8],
+    number: u32,
+    part: &mut u32,
+    at: &mut usize,
+) -> Result<&'a str, CutFault>
+    ensures text { IfOk result (λ text. text.now ≡ bytes.now) }
+    ensures accepted { OnOk result (IsUtf8 bytes.now) }
+    ensures refused { IfErr result (IsNoText bytes.now) }
+{
+    match str::from_utf8(bytes) {
+        Ok(text) => Ok(text),
+        Err(error) => {
+            *part = number;
+            *at = error.valid_up_to();
+            Err(CutFault::NotUtf8)
+        }
+    }
+}
+
+/// Sets the format by the bytes of its four texts; of a refused one the number and a byte are told.
+fn set_texts(
+    cutter: &mut Cutter,
+    node: &[u8],
+    unk: &[u8],
+    bos: &[u8],
+    eos: &[u8],
+    part: &mut u32,
+    at: &mut usize,
+) -> Result<(), CutFault>
+    ensures read { OnOk result (SetsFormat (texts_in node.now unk.now bos.now eos.now)
+        cutter.old cutter.new) }
+    ensures refused { IfErr result (IsSettingRefusal node.now unk.now bos.now eos.now) }
+    ensures kept { OnErr result (cutter.new ≡ cutter.old) }
+{
+    let node = text_of(node, 0, part, at)?;
+    let unk = text_of(unk, 1, part, at)?;
+    let bos = text_of(bos, 2, part, at)?;
+    let eos = text_of(eos, 3, part, at)?;
+    let answer = cutter.set_format(node, Some(unk), bos, eos);
+    if let Err(
+        CutFault::Format(
+            FormatFault::Bad {
+                part: refused,
+                at: place,
+                ..
+            },
+        ),
+    ) = answer
+    {
+        *part = number_of(refused);
+        *at = place;
+    }
+    answer
+}
+
+/// Sets the format of a handle's cutter.
+pub fn set_format(
+    alloc: Global,
+    cutter: &mut Handle,
+    node: &[u8],
+    unk: &[u8],
+    bos: &[u8],
+    eos: &[u8],
+    part: &mut u32,
+    at: &mut usize,
+) -> Result<(), CallFault>
+    ensures read { OnOk result (Moves (cutter_in cutter.old) (cutter_in cutter.new)
+        (SetsFormat (texts_in node.now unk.now bos.now eos.now))) }
+    ensures refused { IfErr result (λ fault. TellsRefusal (cutter_in cutter.old)
+        (λ _. IsSettingRefusal node.now unk.now bos.now eos.now) (call_code fault)) }
+    ensures kept { OnErr result (cutter_in cutter.new ≡ cutter_in cutter.old) }
+{
+    let Some(mut session) = cutter.take(alloc) else {
+        return Err(CallFault::EmptyCutter);
+    };
+    let answer = set_texts(&mut session.cutter, node, unk, bos, eos, part, at);
+    cutter.put(session);
+    answer?;
+    Ok(())
+}
+
+/// Sets the grouping, of any 32 bits.
+fn regroup(cutter: &mut Cutter, grouping: u32) -> Result<(), CutFault>
+    ensures set { OnOk result (IsRegrouped grouping cutter.old cutter.new) }
+    ensures refused { IfErr result (IsGroupingRefusal grouping) }
+    ensures kept { OnErr result (cutter.new ≡ cutter.old) }
+{
+    let Ok(grouping) = u16::try_from(grouping) else {
+        return Err(CutFault::BadGrouping);
+    };
+    cutter.set_grouping(grouping)
+}
+
+/// Sets the grouping of a handle's cutter.
+pub fn set_grouping(alloc: Global, cutter: &mut Handle, grouping: u32) -> Result<(), CallFault>
+    ensures set { OnOk result (Moves (cutter_in cutter.old) (cutter_in cutter.new)
+        (IsRegrouped grouping)) }
+    ensures refused { IfErr result (λ fault. TellsRefusal (cutter_in cutter.old)
+        (λ _. IsGroupingRefusal grouping) (call_code fault)) }
+    ensures kept { OnErr result (cutter_in cutter.new ≡ cutter_in cutter.old) }
+{
+    let Some(mut session) = cutter.take(alloc) else {
+        return Err(CallFault::EmptyCutter);
+    };
+    let answer = regroup(&mut session.cutter, grouping);
+    cutter.put(session);
+    answer?;
+    Ok(())
+}

@@ -1,0 +1,119 @@
+//! What C calls to be told of the path that was cut last, and of faults.
+
+ghost use Rattle.std.specs.Prelude.{◌≡◌, ◌≢◌, length};
+ghost use Rattle.std.specs.Option.{IsSomeAnd};
+ghost use Rattle.cutter.specs.Cutters.{OfCut};
+ghost use Rattle.cutter.specs.Faults.{IsNothingCut};
+ghost use Rattle.cutter_c.specs.Asked.{IsAskedRefusal, IsCopied, IsCopyFault, IsTold, IsWritten, NeedsMore};
+ghost use Rattle.cutter_c.specs.declared.telling.Asked.TheVariants.{Feature as FeatureOf, Path as PathText};
+ghost use Rattle.cutter_c.specs.Handles.{HoldsOutput, Moves, TellsCall, TellsRefusal, cutter_in};
+ghost use Rattle.cutter_c.specs.Texts.{text_at};
+ghost use Rattle.cutter_c.specs.Words.{AreTold};
+
+use crate::codes::code_told;
+use crate::handle::Handle;
+use crate::telling::{Asked, copy, copy_to, tell};
+use crate::texts::text_of_code;
+use crate::words::{CWord, words};
+use std::alloc::Global;
+
+/// The text of the path that was cut last, in the format. It stays until the next call with this handle.
+#[unsafe(no_mangle)]
+pub extern "C" fn kumquatsieve_print(
+    alloc: Global,
+    cutter: &mut Handle,
+    text: &mut *const u8,
+    count: &mut usize,
+) -> u32
+    ensures told { (result ≡ 0) → HoldsOutput (IsTold PathText) count.new cutter.new }
+    ensures cutter { cutter_in cutter.new ≡ cutter_in cutter.old }
+    ensures refused { (result ≢ 0)
+        → TellsRefusal (cutter_in cutter.old) (IsAskedRefusal PathText) result }
+{
+    code_told(tell(alloc, cutter, Asked::Path, text, count))
+}
+
+/// The feature of a word that was cut last, by the word's number from 0. It stays until the next call with this handle.
+#[unsafe(no_mangle)]
+pub extern "C" fn kumquatsieve_feature(
+    alloc: Global,
+    cutter: &mut Handle,
+    number: usize,
+    feature: &mut *const u8,
+    count: &mut usize,
+) -> u32
+    ensures told { (result ≡ 0) → HoldsOutput (IsTold (FeatureOf number)) count.new cutter.new }
+    ensures cutter { cutter_in cutter.new ≡ cutter_in cutter.old }
+    ensures refused { (result ≢ 0)
+        → TellsRefusal (cutter_in cutter.old) (IsAskedRefusal (FeatureOf number)) result }
+{
+    code_told(tell(alloc, cutter, Asked::Feature(number), feature, count))
+}
+
+/// The text of the path in a buffer of C's. `needed` is its length, also where the buffer is too short.
+#[unsafe(no_mangle)]
+pub extern "C" fn kumquatsieve_copy_print(
+    alloc: Global,
+    cutter: &mut Handle,
+    out: &mut [u8],
+    needed: &mut usize,
+) -> u32
+    ensures written { (result ≡ 0) → IsSomeAnd (cutter_in cutter.old)
+        (λ h. IsWritten (IsTold PathText h) needed.new out.old out.new) }
+    ensures cutter { cutter_in cutter.new ≡ cutter_in cutter.old }
+    ensures refused { (result ≢ 0) → TellsCall
+        (IsCopyFault (cutter_in cutter.old) PathText needed.new (length out.old)) result }
+    ensures kept { (result ≢ 0) → out.new ≡ out.old }
+{
+    code_told(copy(alloc, cutter, Asked::Path, out, needed))
+}
+
+/// The feature of a word in a buffer of C's. `needed` is its length, also where the buffer is too short.
+#[unsafe(no_mangle)]
+pub extern "C" fn kumquatsieve_copy_feature(
+    alloc: Global,
+    cutter: &mut Handle,
+    number: usize,
+    out: &mut [u8],
+    needed: &mut usize,
+) -> u32
+    ensures written { (result ≡ 0) → IsSomeAnd (cutter_in cutter.old)
+        (λ h. IsWritten (IsTold (FeatureOf number) h) needed.new out.old out.new) }
+    ensures cutter { cutter_in cutter.new ≡ cutter_in cutter.old }
+    ensures refused { (result ≢ 0) → TellsCall
+        (IsCopyFault (cutter_in cutter.old) (FeatureOf number) needed.new (length out.old)) result }
+    ensures kept { (result ≢ 0) → out.new ≡ out.old }
+{
+    code_told(copy(alloc, cutter, Asked::Feature(number), out, needed))
+}
+
+/// Writes words that were cut last from number `first` on, as far as there is room. `count` is the number of all.
+#[unsafe(no_mangle)]
+pub extern "C" fn kumquatsieve_words(
+    alloc: Global,
+    cutter: &mut Handle,
+    first: usize,
+    out: &mut [CWord],
+    count: &mut usize,
+) -> u32
+    ensures told { (result ≡ 0) → Moves (cutter_in cutter.old) (cutter_in cutter.new)
+        (λ h _. OfCut h (AreTold h first count.new out.old out.new)) }
+    ensures cutter { cutter_in cutter.new ≡ cutter_in cutter.old }
+    ensures refused { (result ≢ 0) → TellsRefusal (cutter_in cutter.old) IsNothingCut result }
+    ensures kept { (result ≢ 0) → out.new ≡ out.old }
+{
+    code_told(words(alloc, cutter, first, out, count))
+}
+
+/// The text of a code in a buffer of C's. `needed` is its length, also where the buffer is too short, and 0 where no fault has the
+/// code.
+#[unsafe(no_mangle)]
+pub extern "C" fn kumquatsieve_fault(code: u32, out: &mut [u8], needed: &mut usize) -> u32
+    ensures needed { needed.new ≡ length (text_at code) }
+    ensures written { (result ≡ 0) → IsCopied (text_at code) out.old out.new }
+    ensures short { (result ≢ 0)
+        → TellsCall (NeedsMore (length (text_at code)) (length out.old)) result }
+    ensures kept { (result ≢ 0) → out.new ≡ out.old }
+{
+    code_told(copy_to(text_of_code(code).as_bytes(), out, needed))
+}

@@ -1,0 +1,40 @@
+use Rattle.std.proofs.Common.{◌≡◌, ℕ, ◌+◌, ◌-◌, ◌<◌, arith, get_or, subst}
+use Rattle.lattice.specs.Ends.{StandFor}
+use Rattle.lattice.specs.Nodes.{kept_node}
+use Rattle.lattice.specs.SearchedText.{nodes_in}
+use Rattle.lattice.proofs.EndsLemmas.{stand_next}
+use Rattle.lattice.proofs.Pushed.{get_from_Contains}
+use Rattle.lattice.proofs.RunNodes.{no_back, node_of_run, run_within, word_stands}
+use Rattle.lattice.proofs.ends.add_run_ends.Goals as goal
+
+pub loop-left-init : goal.loop-left-init
+loop-left-init g c =
+    let t = g.S.WordSource.says c.args.source.now in
+    let at = get_from_Contains c.args.runs.now c.args.run.now c.requires.run in
+    let within = run_within t.surface_words c.args.runs.now c.requires.runs at.0 c.args.run.now at.1 in
+    record { within = omega arith; among = omega (arith, within, c.requires.all); stand = c.requires.later }
+
+pub loop-left-preserved : goal.loop-left-preserved
+loop-left-preserved g c =
+    let t = g.S.WordSource.says c.args.source.now in
+    let runs = c.args.runs.now in
+    let backs = c.args.backs.now in
+    let run = c.args.run.now in
+    let at = get_from_Contains runs run c.requires.run in
+    let left = c.loop-left.left - 1 in
+    let low = c.loop-left.invariant.within in
+    let some = c.loop-left-test.true in
+    let among = c.loop-left.invariant.among in
+    let less : left < run.surface.count = omega (arith, low, some) in
+    let i = run.from + left in
+    let word = c.word-word.result in
+    let n = kept_node word (get_or backs i no_back) in
+    let here = node_of_run t.surface_words runs c.requires.runs backs c.requires.all at.0 run left word no_back at.1 less c.word-word.ensures in
+    let there = word_stands t.surface_words runs c.requires.runs at.0 run (run.surface.count - 1 - left) word at.1 c.word-word.ensures in
+    let same : run.from + c.loop-left.left ≡ i + 1 = omega (arith, some) in
+    record {
+      within = omega (arith, low);
+      among = omega (arith, among);
+      stand = stand_next (nodes_in t runs backs) run.surface.end c.loop-left.ends.items c.push.new.self.items i n c.node_end.result here there c.node_end.ensures c.in_ok-push.ensures.items
+          (subst (λ (k : ℕ). StandFor (nodes_in t runs backs) run.surface.end k c.loop-left.ends.items) same c.loop-left.invariant.stand);
+    }
