@@ -82,7 +82,7 @@ static void the_words(kumquatsieve_cutter *cutter) {
 static void formats(kumquatsieve_cutter *cutter) {
     CHECK(set_format(cutter, "%m", "%m%", "", "") == KUMQUATSIEVE_BAD_ITEM && part == 1 && at == 2);
     CHECK(set_format(cutter, "%m", "%m", "\\q", "") == KUMQUATSIEVE_BAD_ESCAPE && part == 2 && at == 0);
-    CHECK(set_format(cutter, "%m", "%m", "", "a%f[x]") == KUMQUATSIEVE_BAD_INDEX && part == 3 && at == 1);
+    CHECK(set_format(cutter, "a%f[x]", "%m", "", "") == KUMQUATSIEVE_BAD_INDEX && part == 0 && at == 1);
     CHECK(set_format(cutter, "\xff", "", "", "") == KUMQUATSIEVE_NOT_UTF8 && part == 0);
     CHECK(cut(cutter, LINE) == KUMQUATSIEVE_OK && prints(cutter, PRINTED));
     CHECK(set_format(cutter, "%m ", "%m ", "", "\\n") == KUMQUATSIEVE_OK && cut(cutter, LINE) == KUMQUATSIEVE_OK && prints(cutter, "すもも もも \n"));

@@ -1,6 +1,5 @@
 /* Refuses each growth of a run in turn, and counts the blocks that are held: refused SYSTEM.img USER.img. The call whose growth was
-   refused answers out of memory or, where the library asks again for less, goes on; the cutter answers the next call as it would have, and
-   no block is left. Linked with --wrap=malloc, --wrap=realloc and --wrap=free. */
+   refused answers out of memory, the cutter answers the next call as it would have, and no block is left. Linked with --wrap=malloc, --wrap=realloc and --wrap=free. */
 #include "check.h"
 
 void *__real_malloc(size_t size);
@@ -70,11 +69,11 @@ int main(int given, char **paths) {
         refused_growth = n;
         run(system, user);
         refused_growth = 0;
-        ended += times_refused > was;
+        ended += times_refused == was + 1;
         CHECK(held == before);
     }
-    CHECK(ended > 0);
-    printf("refused: %ld growths, each refused in turn; %ld ended a call, the others were asked again; no block is left\n", all, ended);
+    CHECK(ended == all);
+    printf("refused: %ld growths; each one that was refused ended its call, and no block is left\n", all);
     free(system.bytes);
     free(user.bytes);
     return 0;
