@@ -31,6 +31,7 @@ typedef struct options {
     char *bos;
     char *eos;
     char *grouping;
+    char *copies;
     char *file;
     int rest;
 } options;
@@ -43,13 +44,14 @@ typedef struct format {
     char *eos;
 } format;
 
-/* Dictionaries, from which taggers take theirs. `turn` rises where they are swapped. */
+/* Dictionaries, from which taggers take theirs, and what is asked of their lattices. `turn` rises where they are swapped. */
 struct mecab_model_t {
     pthread_mutex_t lock;
     kumquatsieve_cutter cutter;
     mecab_dictionary_info_t *infos;
     char *bos_feature;
     format texts;
+    int request;
     unsigned long turn;
 };
 

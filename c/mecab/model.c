@@ -46,6 +46,7 @@ mecab_model_t *open_model(const options *from, fault *error) {
         return NULL;
     }
     pthread_mutex_init(&model->lock, NULL);
+    model->request = MECAB_ONE_BEST | (from->copies ? MECAB_ALLOCATE_SENTENCE : 0);
     if (choose_texts(&model->texts, from, error) && load_dictionaries(model, from, error) && accepts_texts(model, error)) return model;
     mecab_model_destroy(model);
     return NULL;
@@ -78,8 +79,9 @@ mecab_t *mecab_model_new_tagger(mecab_model_t *model) {
 }
 
 mecab_lattice_t *mecab_model_new_lattice(mecab_model_t *model) {
-    (void)model;
-    return mecab_lattice_new();
+    mecab_lattice_t *lattice = mecab_lattice_new();
+    if (lattice) lattice->request = model->request;
+    return lattice;
 }
 
 /* The dictionaries of a model are exchanged for those of another, which goes. Taggers take them at their next sentence. */

@@ -6,8 +6,8 @@
 
 enum { NOWHERE = -1, IGNORED = -2 };
 
-/* Where an option's value goes. What names a file of settings, a buffer's size or who keeps a sentence means nothing here: images have no
-   settings, and sentences are as long as they are. */
+/* Where an option's value goes. What names a file of settings or a buffer's size means nothing here: images have no settings, and sentences are
+   as long as they are. */
 static const struct {
     char letter;
     const char *name;
@@ -25,7 +25,7 @@ static const struct {
     {'o', "output", 1, offsetof(options, file)},
     {'r', "rcfile", 1, IGNORED},
     {'b', "input-buffer-size", 1, IGNORED},
-    {'C', "allocate-sentence", 0, IGNORED},
+    {'C', "allocate-sentence", 0, offsetof(options, copies)},
 };
 
 static int find(const char *word, size_t *value_at) {
@@ -61,7 +61,7 @@ static int read_option(options *to, int i, int count, char *const *words, fault 
         fail_left_out(error, words[i]);
         return 0;
     }
-    if (!KNOWN[found].has_value) return 1;
+    if (!KNOWN[found].has_value) return keep(to, KNOWN[found].place, "yes", error) ? 1 : 0;
     if (words[i][value_at] != '\0' || (words[i][1] == '-' && words[i][value_at - 1] == '=')) {
         return keep(to, KNOWN[found].place, words[i] + value_at, error) ? 1 : 0;
     }
@@ -118,7 +118,7 @@ bool read_options_of(options *to, const char *line, fault *error) {
 }
 
 void free_options(options *of) {
-    char *all[] = {of->dictionary, of->users, of->output, of->node, of->unk, of->bos, of->eos, of->grouping, of->file};
+    char *all[] = {of->dictionary, of->users, of->output, of->node, of->unk, of->bos, of->eos, of->grouping, of->copies, of->file};
     for (size_t i = 0; i < sizeof all / sizeof *all; i++) free(all[i]);
     *of = (options){0};
 }

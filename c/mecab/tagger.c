@@ -16,6 +16,7 @@ mecab_t *open_tagger(mecab_model_t *model, bool owns, fault *error) {
     tagger->model = model;
     tagger->owns_model = owns;
     tagger->lattice = lattice;
+    lattice->request = model->request;
     tagger->theta = THETA;
     return tagger;
 }
