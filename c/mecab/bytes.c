@@ -1,0 +1,27 @@
+/* Bytes that grow. */
+#include "layer.h"
+#include <stdlib.h>
+#include <string.h>
+
+static bool has_room(bytes *of, size_t length) {
+    if (length < of->room) return true;
+    size_t room = length < SIZE_MAX / 2 ? 2 * length + 64 : length + 1;
+    char *at = realloc(of->at, room);
+    if (!at) return false;
+    of->at = at;
+    of->room = room;
+    return true;
+}
+
+bool set_bytes(bytes *to, const void *from, size_t length) {
+    if (!has_room(to, length)) return false;
+    memcpy(to->at, from, length);
+    to->at[length] = '\0';
+    to->length = length;
+    return true;
+}
+
+void free_bytes(bytes *of) {
+    free(of->at);
+    *of = (bytes){NULL, 0, 0};
+}

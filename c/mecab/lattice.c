@@ -1,0 +1,94 @@
+/* Sentences and their best paths. */
+#include "layer.h"
+#include "layer_cpp.h"
+#include <stdlib.h>
+#include <string.h>
+
+mecab_lattice_t *mecab_lattice_new(void) {
+    mecab_lattice_t *lattice = calloc(1, sizeof *lattice);
+    if (lattice) lattice->request = MECAB_ONE_BEST;
+    return lattice;
+}
+
+void mecab_lattice_destroy(mecab_lattice_t *lattice) {
+    if (!lattice) return;
+    free_bytes(&lattice->own);
+    free_bytes(&lattice->features);
+    free_bytes(&lattice->printed);
+    free(lattice->words);
+    free(lattice->nodes);
+    free(lattice);
+}
+
+void mecab_lattice_clear(mecab_lattice_t *lattice) {
+    lattice->sentence = NULL;
+    lattice->size = lattice->count = 0;
+    lattice->is_printed = false;
+}
+
+/* A sentence is kept where it lies, or copied where that is asked for. (MeCab) */
+void mecab_lattice_set_sentence2(mecab_lattice_t *lattice, const char *sentence, size_t size) {
+    mecab_lattice_clear(lattice);
+    if (lattice->request & MECAB_ALLOCATE_SENTENCE) {
+        if (!set_bytes(&lattice->own, sentence, size)) {
+            fail_memory(&lattice->error);
+            return;
+        }
+        sentence = lattice->own.at;
+    }
+    lattice->sentence = sentence;
+    lattice->size = size;
+}
+
+void mecab_lattice_set_sentence(mecab_lattice_t *lattice, const char *sentence) {
+    mecab_lattice_set_sentence2(lattice, sentence, strlen(sentence));
+}
+
+const char *mecab_lattice_get_sentence(mecab_lattice_t *lattice) { return lattice->sentence; }
+size_t mecab_lattice_get_size(mecab_lattice_t *lattice) { return lattice->size; }
+int mecab_lattice_is_available(mecab_lattice_t *lattice) { return lattice->sentence && lattice->count > 0; }
+
+mecab_node_t *mecab_lattice_get_bos_node(mecab_lattice_t *lattice) {
+    return lattice->count > 0 ? lattice->nodes : NULL;
+}
+
+mecab_node_t *mecab_lattice_get_eos_node(mecab_lattice_t *lattice) {
+    return lattice->count > 0 ? &lattice->nodes[lattice->count - 1] : NULL;
+}
+
+const char *mecab_lattice_tostr(mecab_lattice_t *lattice) {
+    if (lattice->is_printed) return lattice->printed.at;
+    fail(&lattice->error, "no sentence was parsed");
+    return NULL;
+}
+
+const char *mecab_lattice_tostr2(mecab_lattice_t *lattice, char *out, size_t room) {
+    if (!mecab_lattice_tostr(lattice)) return NULL;
+    if (lattice->printed.length >= room) {
+        fail(&lattice->error, "output buffer overflow");
+        return NULL;
+    }
+    memcpy(out, lattice->printed.at, lattice->printed.length + 1);
+    return out;
+}
+
+const char *mecab_lattice_strerror(mecab_lattice_t *lattice) { return lattice->error.text; }
+
+int mecab_lattice_get_request_type(mecab_lattice_t *lattice) { return lattice->request; }
+int mecab_lattice_has_request_type(mecab_lattice_t *lattice, int type) { return lattice->request & type; }
+void mecab_lattice_set_request_type(mecab_lattice_t *lattice, int type) { lattice->request = type; }
+void mecab_lattice_add_request_type(mecab_lattice_t *lattice, int type) { lattice->request |= type; }
+void mecab_lattice_remove_request_type(mecab_lattice_t *lattice, int type) { lattice->request &= ~type; }
+
+double mecab_lattice_get_theta(mecab_lattice_t *lattice) { return lattice->theta; }
+void mecab_lattice_set_theta(mecab_lattice_t *lattice, double theta) { lattice->theta = theta; }
+double mecab_lattice_get_z(mecab_lattice_t *lattice) { return lattice->z; }
+void mecab_lattice_set_z(mecab_lattice_t *lattice, double z) { lattice->z = z; }
+
+mecab_lattice_t *lattice_of(mecab_t *tagger) { return tagger->lattice; }
+void set_error_of(mecab_lattice_t *lattice, const char *text) { fail(&lattice->error, "%s", text); }
+
+const char *left_out_of(mecab_lattice_t *lattice, const char *what) {
+    fail_left_out(&lattice->error, what);
+    return NULL;
+}

@@ -1,0 +1,64 @@
+/* What needs more than the best path, or other tools of MeCab's: each answers NULL or 0, and says so. */
+#include "layer.h"
+#include <stdio.h>
+
+#define OF_TAGGER(type, name, none, ...)                \
+    type name(mecab_t *tagger, ##__VA_ARGS__) {         \
+        fail_left_out(&tagger->error, #name);           \
+        return none;                                    \
+    }
+#define OF_LATTICE(type, name, none, ...)               \
+    type name(mecab_lattice_t *lattice, ##__VA_ARGS__) { \
+        fail_left_out(&lattice->error, #name);          \
+        return none;                                    \
+    }
+#define PROGRAM(name)                                   \
+    int name(int count, char **words) {                 \
+        (void)count, (void)words;                       \
+        fail_left_out(common_fault(), #name);           \
+        fprintf(stderr, "%s\n", common_fault()->text);  \
+        return 1;                                       \
+    }
+
+#pragma GCC diagnostic ignored "-Wunused-parameter"
+
+OF_TAGGER(const char *, mecab_nbest_sparse_tostr, NULL, size_t n, const char *text)
+OF_TAGGER(const char *, mecab_nbest_sparse_tostr2, NULL, size_t n, const char *text, size_t length)
+OF_TAGGER(char *, mecab_nbest_sparse_tostr3, NULL, size_t n, const char *text, size_t length, char *out, size_t room)
+OF_TAGGER(int, mecab_nbest_init, 0, const char *text)
+OF_TAGGER(int, mecab_nbest_init2, 0, const char *text, size_t length)
+OF_TAGGER(const char *, mecab_nbest_next_tostr, NULL)
+OF_TAGGER(char *, mecab_nbest_next_tostr2, NULL, char *out, size_t room)
+OF_TAGGER(const mecab_node_t *, mecab_nbest_next_tonode, NULL)
+OF_TAGGER(const char *, mecab_format_node, NULL, const mecab_node_t *node)
+
+OF_LATTICE(mecab_node_t **, mecab_lattice_get_all_begin_nodes, NULL)
+OF_LATTICE(mecab_node_t **, mecab_lattice_get_all_end_nodes, NULL)
+OF_LATTICE(mecab_node_t *, mecab_lattice_get_begin_nodes, NULL, size_t at)
+OF_LATTICE(mecab_node_t *, mecab_lattice_get_end_nodes, NULL, size_t at)
+OF_LATTICE(int, mecab_lattice_next, 0)
+OF_LATTICE(mecab_node_t *, mecab_lattice_new_node, NULL)
+OF_LATTICE(const char *, mecab_lattice_nbest_tostr, NULL, size_t n)
+OF_LATTICE(const char *, mecab_lattice_nbest_tostr2, NULL, size_t n, char *out, size_t room)
+OF_LATTICE(int, mecab_lattice_has_constraint, 0)
+OF_LATTICE(int, mecab_lattice_get_boundary_constraint, 0, size_t at)
+OF_LATTICE(const char *, mecab_lattice_get_feature_constraint, NULL, size_t at)
+OF_LATTICE(void, mecab_lattice_set_boundary_constraint, , size_t at, int type)
+OF_LATTICE(void, mecab_lattice_set_feature_constraint, , size_t from, size_t to, const char *feature)
+OF_LATTICE(void, mecab_lattice_set_result, , const char *result)
+
+int mecab_model_transition_cost(mecab_model_t *model, unsigned short right, unsigned short left) {
+    fail_left_out(common_fault(), "mecab_model_transition_cost");
+    return 0;
+}
+
+mecab_node_t *mecab_model_lookup(mecab_model_t *model, const char *begin, const char *end, mecab_lattice_t *lattice) {
+    fail_left_out(&lattice->error, "mecab_model_lookup");
+    return NULL;
+}
+
+PROGRAM(mecab_dict_index)
+PROGRAM(mecab_dict_gen)
+PROGRAM(mecab_cost_train)
+PROGRAM(mecab_system_eval)
+PROGRAM(mecab_test_gen)

@@ -1,0 +1,142 @@
+#ifndef KUMQUATSIEVE_H
+#define KUMQUATSIEVE_H
+/* Kumquatsieve cuts Japanese text into words, in process. The calls are proved; docs/LIBRARY.md says what of them, and what they ask of C.
+
+   What C owes, and nothing checks: no pointer is NULL, also where its length is 0; no output overlaps another argument; what a call
+   points to in a cutter's own buffer is not handed back to it as text; a full cutter is not copied; one call at a time for each cutter,
+   which may go from thread to thread; no call from a signal handler, or in the forked child of a process with threads.
+
+   Texts are bytes of UTF-8 with their length. Nothing here ends in a zero byte. */
+#include <stdbool.h>
+#include <stddef.h>
+#include <stdint.h>
+
+#ifdef __cplusplus
+extern "C" {
+#endif
+
+/* What cuts lines: dictionaries, a format, the line that was cut last, and memory that is used again from line to line. Begin with
+   KUMQUATSIEVE_EMPTY. The fields are the library's. */
+typedef struct kumquatsieve_cutter {
+    bool held;
+    void *at;
+} kumquatsieve_cutter;
+
+#define KUMQUATSIEVE_EMPTY {false, NULL}
+
+/* A word of the line that was cut last. Its blanks stand from place to start, its surface from start to end, in bytes from the line's
+   beginning. left and right are context ids, and cost is the word cost. token is the number of its entry: where known is 1 in
+   dictionary 0, the system's, or 1 and more, the users' in their order; where known is 0 among the unknown words of the system.
+   category is the number of the first category of the surface's first character, in the order of char.def. */
+typedef struct kumquatsieve_word {
+    size_t place;
+    size_t start;
+    size_t end;
+    size_t dictionary;
+    uint32_t token;
+    uint16_t left;
+    uint16_t right;
+    int16_t cost;
+    uint8_t known;
+    uint8_t category;
+} kumquatsieve_word;
+
+/* What a call answers: 0, out of memory, or a fault, whose letter and number are those of `jseg --explain`. After a fault the cutter
+   is as before, and answers the next call as it would have, but where a call says otherwise. */
+enum {
+    KUMQUATSIEVE_OK = 0,
+    KUMQUATSIEVE_MEMORY = 1,
+
+    KUMQUATSIEVE_TRUNCATED = 0x4c01,    /* L1 */
+    KUMQUATSIEVE_BAD_MAGIC = 0x4c02,    /* L2 */
+    KUMQUATSIEVE_BAD_LAYOUT = 0x4c03,   /* L3, with the layout */
+    KUMQUATSIEVE_BAD_SECTION = 0x4c04,  /* L4, with the section */
+    KUMQUATSIEVE_BAD_KEY = 0x4c05,      /* L5, with the group */
+    KUMQUATSIEVE_BAD_TOKEN = 0x4c06,    /* L6, with the token */
+    KUMQUATSIEVE_BAD_TEXT = 0x4c07,     /* L7, with the token */
+    KUMQUATSIEVE_DIGEST = 0x4c08,       /* L8 */
+
+    KUMQUATSIEVE_NOT_SYSTEM = 0x4f01,   /* O1 */
+    KUMQUATSIEVE_NOT_USER = 0x4f02,     /* O2, with the user */
+    KUMQUATSIEVE_OTHER_SIZES = 0x4f03,  /* O3, with the user */
+
+    KUMQUATSIEVE_BAD_ESCAPE = 0x5001,   /* P1, with the part and the byte */
+    KUMQUATSIEVE_BAD_ITEM = 0x5002,     /* P2, with the part and the byte */
+    KUMQUATSIEVE_BAD_INDEX = 0x5003,    /* P3, with the part and the byte */
+
+    KUMQUATSIEVE_NOT_UTF8 = 0x4703,     /* G3 */
+    KUMQUATSIEVE_TOO_LONG = 0x4704,     /* G4: more than 1,048,576 bytes */
+
+    KUMQUATSIEVE_LINE_FEED = 0x4b01,    /* K1: a line feed in a line */
+    KUMQUATSIEVE_NOTHING_CUT = 0x4b02,  /* K2: no line was cut */
+    KUMQUATSIEVE_SHARED = 0x4b03,       /* K3: the dictionaries are shared */
+    KUMQUATSIEVE_BAD_GROUPING = 0x4b04, /* K4: more than 1,000 */
+    KUMQUATSIEVE_EMPTY_CUTTER = 0x4b05, /* K5: the cutter has nothing in it */
+    KUMQUATSIEVE_FULL_CUTTER = 0x4b06,  /* K6: the cutter has something in it */
+    KUMQUATSIEVE_SHORT_BUFFER = 0x4b07, /* K7: the buffer has less room than is needed */
+    KUMQUATSIEVE_NO_WORD = 0x4b08       /* K8: the line has no word of this number */
+};
+
+/* Fills an empty cutter with the image of a system dictionary, which is copied, the default format, and a grouping of 24 characters.
+   *number is set where a fault has one. */
+uint32_t kumquatsieve_load(kumquatsieve_cutter *cutter, const uint8_t *image, size_t length, uint64_t *number);
+
+/* Lays the image of a user dictionary over the others, which is copied. *number is set where a fault has one. */
+uint32_t kumquatsieve_add_user(kumquatsieve_cutter *cutter, const uint8_t *image, size_t length, uint64_t *number);
+
+/* Fills an empty cutter with the dictionaries, the format and the grouping of another one. No dictionary is copied; while two share
+   theirs, no user dictionary can be added. Each thread wants a cutter of its own. */
+uint32_t kumquatsieve_share(kumquatsieve_cutter *cutter, kumquatsieve_cutter *other);
+
+/* Gives back all that a cutter holds, which is empty then. Of an empty cutter nothing. */
+void kumquatsieve_free(kumquatsieve_cutter *cutter);
+
+/* Sets the texts for a known word, an unknown one, the beginning and the end of a line, in MeCab's items and escapes. *part is 0 to 3 and
+   *at a byte of that text, where one is refused. The default is "%m\t%H\n" for words and "EOS\n" at the end. */
+uint32_t kumquatsieve_set_format(
+    kumquatsieve_cutter *cutter, const uint8_t *node, size_t node_length, const uint8_t *unk, size_t unk_length,
+    const uint8_t *bos, size_t bos_length, const uint8_t *eos, size_t eos_length, uint32_t *part, size_t *at
+);
+
+/* Sets how many characters may follow the first one of a grouped unknown word, at most 1,000. */
+uint32_t kumquatsieve_set_grouping(kumquatsieve_cutter *cutter, uint32_t grouping);
+
+/* Cuts a line, which has no line feed. *count is the number of its words, and *total the cost of the path. */
+uint32_t kumquatsieve_cut(
+    kumquatsieve_cutter *cutter, const uint8_t *line, size_t length, size_t *count, int64_t *total
+);
+
+/* The same of a text of several lines, in which a line feed is a character as others are: what MeCab's library does of a sentence. */
+uint32_t kumquatsieve_cut_text(
+    kumquatsieve_cutter *cutter, const uint8_t *text, size_t length, size_t *count, int64_t *total
+);
+
+/* Writes the words of the line that was cut last from number `first` on, as far as there is room. *count is the number of all words
+   of the line. */
+uint32_t kumquatsieve_words(
+    kumquatsieve_cutter *cutter, size_t first, kumquatsieve_word *words, size_t room, size_t *count
+);
+
+/* The feature of a word of the line that was cut last, by the word's number from 0, in the cutter's own buffer: *feature is valid until
+   the next call with this cutter. */
+uint32_t kumquatsieve_feature(kumquatsieve_cutter *cutter, size_t number, const uint8_t **feature, size_t *length);
+
+/* The same into a buffer of the caller. *needed is its length, also where there is less room, and then nothing is written. */
+uint32_t kumquatsieve_copy_feature(
+    kumquatsieve_cutter *cutter, size_t number, uint8_t *out, size_t room, size_t *needed
+);
+
+/* The text of the line that was cut last, in the format, in the cutter's own buffer: *text is valid until the next call with this cutter. */
+uint32_t kumquatsieve_print(kumquatsieve_cutter *cutter, const uint8_t **text, size_t *length);
+
+/* The same into a buffer of the caller. *needed is its length, also where there is less room, and then nothing is written. */
+uint32_t kumquatsieve_copy_print(kumquatsieve_cutter *cutter, uint8_t *out, size_t room, size_t *needed);
+
+/* Writes what a code means, as "G3 NotUtf8". *needed is its length, also where there is less room, and then nothing is written; 0 where
+   no fault has this code. */
+uint32_t kumquatsieve_fault(uint32_t code, uint8_t *out, size_t room, size_t *needed);
+
+#ifdef __cplusplus
+}
+#endif
+#endif

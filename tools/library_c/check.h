@@ -1,0 +1,56 @@
+/* What the C programs of tools/library share. */
+#ifndef CHECK_H
+#define CHECK_H
+#include <kumquatsieve.h>
+#include <stdio.h>
+#include <stdlib.h>
+#include <string.h>
+
+#define CHECK(holds)                                                  \
+    do {                                                              \
+        if (!(holds)) {                                               \
+            fprintf(stderr, "%s:%d: %s\n", __FILE__, __LINE__, #holds); \
+            exit(1);                                                  \
+        }                                                             \
+    } while (0)
+
+/* A text as bytes, without the zero at its end. */
+#define BYTES(text) ((const uint8_t *)(text))
+
+/* The words of the sample, and what jseg prints of them. */
+#define LINE "すもももも"
+#define PRINTED "すもも\t名詞,すもも\nもも\t名詞,もも\nEOS\n"
+
+typedef struct file {
+    uint8_t *bytes;
+    size_t length;
+} file;
+
+static inline file read_file(const char *path) {
+    file whole = {NULL, 0};
+    FILE *opened = fopen(path, "rb");
+    CHECK(opened && fseek(opened, 0, SEEK_END) == 0);
+    whole.length = (size_t)ftell(opened);
+    rewind(opened);
+    whole.bytes = malloc(whole.length + 1);
+    CHECK(whole.bytes && fread(whole.bytes, 1, whole.length, opened) == whole.length);
+    fclose(opened);
+    return whole;
+}
+
+static inline int is_text(const uint8_t *bytes, size_t length, const char *text) {
+    return length == strlen(text) && memcmp(bytes, text, length) == 0;
+}
+
+static inline uint32_t cut(kumquatsieve_cutter *cutter, const char *line) {
+    size_t count = 0;
+    int64_t total = 0;
+    return kumquatsieve_cut(cutter, BYTES(line), strlen(line), &count, &total);
+}
+
+static inline int prints(kumquatsieve_cutter *cutter, const char *wanted) {
+    const uint8_t *text = NULL;
+    size_t length = 0;
+    return kumquatsieve_print(cutter, &text, &length) == KUMQUATSIEVE_OK && is_text(text, length, wanted);
+}
+#endif
