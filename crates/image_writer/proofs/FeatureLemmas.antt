@@ -1,20 +1,22 @@
 -- Texts that are kept once each: what one more text adds, and how many bytes they have.
-use Rattle.std.proofs.Common.{◌≡◌, ℕ, ◌+◌, ◌≤◌, Bool, true, false, cond, not, ◌||◌, ◌⊎◌, inl, inr, List, [], ◌∷◌, ◌++◌, length, map, filter, Option, Some, None, is_some, sym, ap, ◌∙◌, refl, arith, subst, append_assoc}
+use Rattle.std.proofs.Common.{◌≡◌, ℕ, ◌+◌, ◌<◌, ◌≤◌, Bool, true, false, cond, not, ◌||◌, ◌&&◌, ◌⊎◌, inl, inr, List, [], ◌∷◌, ◌++◌, length, map, filter, Option, Some, None, is_some, sym, ap, ◌∙◌, refl, arith, subst, append_assoc}
 use Rattle.std.specs.Prelude.{bytes_eq, sum_by}
 use Rattle.std.specs.List.{concat, list_any, enumerate_from}
 use Rattle.std.proofs.lemmas.List.Concat.{concat_is, length-flat_map}
-use Rattle.std.specs.BTreeMap.{IsUnchanged, UpdatesBy, is_at}
+use Rattle.std.specs.BTreeMap.{IsUnchanged, UpdatesBy, get_by, is_at}
 use Rattle.std.specs.Cmp.Lexicographic.{slice_cmp}
-use Rattle.std.specs.Ordering.{nat_cmp}
+use Rattle.std.specs.Ordering.{MatchOrdering, is_eq, nat_cmp, ordering_then}
+use Rattle.std.specs.declared.cmp.Ordering.{Ordering}
+use Rattle.std.specs.declared.cmp.Ordering.TheVariants.{Less, Equal, Greater}
 use Rattle.std.specs.Map.{lookup}
 use Rattle.std.proofs.lemmas.List.{append-nil, length-append, map-append}
 use Rattle.std.proofs.lemmas.List.Elements.{filter-append}
 use Rattle.std.proofs.lemmas.List.Folds.{list_any-append}
 use Rattle.std.proofs.lemmas.List.Sums.{sum_by_push}
-use Rattle.std.proofs.lemmas.Map.Text.{btree_map_updates_str}
+use Rattle.std.proofs.lemmas.Map.Text.{is_eq-slice_cmp}
 use Rattle.std.proofs.lemmas.Slice.Eq.{bytes_eq-Decides}
 use denote.Ref.{Bor}
-use Rattle.std.proofs.lemmas.Cmp.{nat_list_eq_equiv}
+use Rattle.std.proofs.lemmas.Cmp.{nat_list_eq_equiv, ranked}
 use Rattle.std.proofs.lemmas.Option.{same_Some}
 use Rattle.image_bytes.specs.ImageBounds.{each_once, feature_bytes, feature_bytes_end}
 use Rattle.mj_model.specs.Lexicon.{Row}
@@ -22,7 +24,8 @@ use Rattle.mj_model.specs.Tables.{Token}
 use Rattle.mj_model.specs.UnkDef.{token_of}
 use Rattle.image_writer.specs.declared.features.FeatureStore.{FeatureStore}
 use Rattle.image_writer.specs.Entries.{tokens_of}
-use Rattle.image_writer.specs.Places.{ArePlacesWithin, Places, place_in}
+use Rattle.image_writer.specs.Marks.{mark_of_bytes}
+use Rattle.image_writer.specs.Places.{ArePlacesWithin, Places, marked_cmp, place_in}
 use Rattle.image_writer.specs.Sections.{HoldsTexts, HoldsOneMore, IsAdded, StandsAt, features_of, IsTooLarge}
 use Rattle.image_bytes.proofs.NumberLemmas.{range_kept, range_behind}
 
@@ -193,11 +196,44 @@ still_too_large rows more large =
 
 -- ---- the map of places
 
+-- a text is found by its mark and itself
+pub found_by : (mark : ℕ) (text : List ℕ) (places : Places) → mark ≡ mark_of_bytes text → get_by (marked_cmp mark text) places ≡ place_in places text
+found_by mark text places marked = ap (λ (m : ℕ). get_by (marked_cmp m text) places) marked
+
+then_equal : (a b : Ordering) → is_eq (ordering_then a b) ≡ (is_eq a && is_eq b)
+then_equal Less b = refl
+then_equal Equal b = refl
+then_equal Greater b = refl
+
+second : (a b : Bool) → (b ≡ true → a ≡ true) → (a && b) ≡ b
+second true b h = refl
+second false true h = h refl
+second false false h = refl
+
+equal_by : (m n : ℕ) (o : Ordering) → MatchOrdering o (m < n) (m ≡ n) (n < m) → m ≡ n → is_eq o ≡ true
+equal_by m n Less less e = absurd (omega (arith, less, e))
+equal_by m n Equal same e = refl
+equal_by m n Greater more e = absurd (omega (arith, more, e))
+
+equal_numbers : (m n : ℕ) → m ≡ n → is_eq (nat_cmp m n) ≡ true
+equal_numbers m n e = equal_by m n (nat_cmp m n) (ranked m n (nat_cmp m n) refl) e
+
+-- texts with their marks are equal where the texts are
+same_marked : (mark : ℕ) (text q : List ℕ) → mark ≡ mark_of_bytes text → is_eq (ordering_then (nat_cmp mark (mark_of_bytes q)) (slice_cmp nat_cmp text q)) ≡ bytes_eq text q
+same_marked mark text q marked =
+    then_equal (nat_cmp mark (mark_of_bytes q)) (slice_cmp nat_cmp text q)
+    ∙ ap (λ (b : Bool). is_eq (nat_cmp mark (mark_of_bytes q)) && b) (is_eq-slice_cmp text q)
+    ∙ second (is_eq (nat_cmp mark (mark_of_bytes q))) (bytes_eq text q)
+    (λ e. equal_numbers mark (mark_of_bytes q) (marked ∙ ap mark_of_bytes ((bytes_eq-Decides text q).0 e)))
+
 -- the place of a text after an insertion
-pub place_after : (text : Bor (List ℕ)) (old new : Places) (place at : ℕ) → place ≡ at → UpdatesBy (λ x y. slice_cmp nat_cmp x.now y.now) (λ key. slice_cmp nat_cmp text.now key.now) old new (Some place)
+pub place_after : (mark : ℕ) (text : Bor (List ℕ)) (old new : Places) (place at : ℕ) → mark ≡ mark_of_bytes text.now → place ≡ at
+    → UpdatesBy (λ x y. marked_cmp x.0 x.1.now y) (marked_cmp mark text.now) old new (Some place)
     → (q : List ℕ) → place_in new q ≡ cond (bytes_eq text.now q) (Some at) (place_in old q)
-place_after text old new place at same updates q =
-    btree_map_updates_str text.now old new (Some place) updates q ∙ ap (λ (n : ℕ). cond (bytes_eq text.now q) (Some n) (place_in old q)) same
+place_after mark text old new place at marked same updates q =
+    updates.0 (mark_of_bytes q, record { ref_ptr = (0, 0); now = q })
+    ∙ ap (λ (b : Bool). cond b (Some place) (place_in old q)) (same_marked mark text.now q marked)
+    ∙ ap (λ (n : ℕ). cond (bytes_eq text.now q) (Some n) (place_in old q)) same
 
 pub within_after : (bytes text : List ℕ) (old new : Places) → ArePlacesWithin bytes old
     → ((q : List ℕ) → place_in new q ≡ cond (bytes_eq text q) (Some (length bytes)) (place_in old q))
@@ -212,5 +248,5 @@ within_after bytes text old new within after q place at =
 pub still_within : (bytes more : List ℕ) (old new : Places) → ArePlacesWithin bytes old → IsUnchanged old new → ArePlacesWithin (bytes ++ more) new
 still_within bytes more old new within unchanged q place at =
     let long = length-append bytes more in
-    let w = within q place (ap (lookup (is_at (λ key. slice_cmp nat_cmp q key.now))) (sym unchanged) ∙ at) in
+    let w = within q place (ap (lookup (is_at (marked_cmp (mark_of_bytes q) q))) (sym unchanged) ∙ at) in
     omega (arith, long, w)

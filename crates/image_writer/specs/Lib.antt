@@ -4,6 +4,7 @@ pub mod Ranges
 pub mod Faults
 pub mod Entries
 pub mod Groups
+pub mod Marks
 pub mod Places
 pub mod Sections
 pub mod TokenBytes

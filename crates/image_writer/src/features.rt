@@ -2,10 +2,12 @@
 ghost use Rattle.std.specs.Prelude.{◌≡◌, ◌≢◌, ◌<◌, ◌+◌, None, ℕ, ◌++◌, ◌∷◌, [], List, length, IfOk, IfErr, OnOk};
 ghost use Rattle.std.proofs.Props.{props};
 ghost use Rattle.image_bytes.specs.ImageBounds.{feature_bytes_end};
+ghost use Rattle.image_writer.specs.Marks.{mark_of_bytes};
 ghost use Rattle.image_writer.specs.Places.{ArePlacesWithin, place_in};
 ghost use Rattle.image_writer.specs.declared.fault.LexiconFault.TheVariants.{ArrayFull, FeaturesTooLarge};
 
 use crate::fault::LexiconFault;
+use crate::mark::mark_of;
 use image_bytes::FEATURE_BYTES_END;
 use std::alloc::Global;
 use std::collections::BTreeMap;
@@ -15,8 +17,9 @@ use std::collections::BTreeMap;
 pub(crate) struct FeatureStore<'a> {
     /// The features, one behind another.
     pub bytes: Vec<u8>,
-    /// Where each feature begins. A tree, since no features can be chosen that make it slow.
-    pub places: BTreeMap<&'a str, u32>,
+    /// Where each feature begins, by its mark and itself. A tree, since no features can be chosen that make it slow: those of one mark
+    /// are compared by their bytes.
+    pub places: BTreeMap<(u64, &'a str), u32>,
     ghost few: { length bytes.items < feature_bytes_end },
     ghost within: { ArePlacesWithin bytes.items places } by { Prim.hlevel props },
 }
@@ -44,15 +47,17 @@ impl<'a> FeatureStore<'a> {
             → IfErr result (LargeOnlyOf (texts ++ feature.now ∷ [])) }
         ensures never_full { IfErr result (λ fault. fault ≢ ArrayFull) }
     {
-        match self.places.get(feature).copied() {
+        let mark = mark_of(feature);
+        match self.places.get(&(mark, feature)).copied() {
             Some(place) => Ok(place),
-            None => self.add(feature),
+            None => self.add(mark, feature),
         }
     }
 
-    /// Adds a feature at the end.
-    fn add(&mut self, feature: &'a str) -> Result<u32, LexiconFault>
-        requires { place_in self.old.places feature.now ≡ None }
+    /// Adds a feature with its mark at the end.
+    fn add(&mut self, mark: u64, feature: &'a str) -> Result<u32, LexiconFault>
+        requires marked { mark ≡ mark_of_bytes feature.now }
+        requires new { place_in self.old.places feature.now ≡ None }
         ensures short { OnOk result (length feature.now < feature_bytes_end) }
         ensures added { OnOk result (IsAdded feature.now self.old self.new) }
         ensures place { IfOk result (λ place. place ≡ length self.old.bytes.items) }
@@ -64,7 +69,7 @@ impl<'a> FeatureStore<'a> {
         }
         let place = self.bytes.len() as u32;
         self.bytes.extend_from_slice(feature.as_bytes())?;
-        self.places.insert(feature, place)?;
+        self.places.insert((mark, feature), place)?;
         Ok(place)
     }
 }

@@ -12,6 +12,7 @@ mod groups;
 mod header;
 mod keys;
 mod lexicon;
+mod mark;
 mod ranges;
 mod system;
 mod tokens;

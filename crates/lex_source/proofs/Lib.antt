@@ -9,4 +9,5 @@ pub mod LexiconLemmas
 pub mod AppendLemmas
 pub mod WordLemmas
 pub mod SortedRows
+pub mod HeadLemmas
 pub mod EntryLemmas

@@ -2,7 +2,6 @@
 -- the order in which they were given. Stability is known of each record; a row that ties with none of the records says nothing.
 use Rattle.std.proofs.Common.{◌≡◌, ℕ, ◌+◌, ◌<◌, Bool, true, false, cond, List, [], ◌∷◌, length, get_or, map, sym, ap, ◌∙◌, refl, arith}
 use Rattle.std.specs.Prelude.{string_bytes, not, ◌&&◌, filter, IsSortedBy, IsSortedByKey}
-use Rattle.std.specs.Cmp.{IsStrictWeakOrder}
 use Rattle.std.specs.Cmp.Lexicographic.{slice_cmp, nat_list_cmp_total}
 use Rattle.std.specs.List.Sorted.{ties, IsStableBy, IsStableByKey}
 use Rattle.std.specs.declared.cmp.Ordering.{Ordering}
@@ -11,7 +10,6 @@ use Rattle.std.specs.Ordering.{is_lt, nat_cmp, ordering_reverse}
 use Rattle.std.proofs.lemmas.Cmp.{alike_right}
 use Rattle.std.proofs.lemmas.List.{get_or-map, length-map}
 use Rattle.std.proofs.lemmas.List.Elements.{filter_agree}
-use Rattle.std.proofs.lemmas.List.Sorted.{ranks_by}
 use Rattle.mj_model.specs.declared.entry.Record.{Record}
 use Rattle.mj_model.specs.Dictionary.{surface_of}
 use Rattle.mj_model.specs.Lexicon.{Row, row_of, rows_of}
@@ -22,9 +20,6 @@ order = slice_cmp nat_cmp
 
 abbrev pub is_below : Record → Record → Bool
 is_below a b = is_lt (order (string_bytes a.surface) (string_bytes b.surface))
-
-pub is_below_order : IsStrictWeakOrder is_below
-is_below_order = ranks_by nat_list_cmp_total (λ (r : Record). string_bytes r.surface)
 
 -- ---- in order
 

@@ -5,4 +5,6 @@ pub mod Spelled
 pub mod Steps
 pub mod Answers
 pub mod Lexicons
+pub mod Heads
+pub mod HeadedRecords
 pub mod AddedLexicon

@@ -4,9 +4,11 @@
 mod bytes;
 mod fields;
 mod filled;
+mod headed;
 mod lexicon;
 mod numbered;
 mod numbers;
+mod ordering;
 mod outcome;
 mod parts;
 mod quoted;

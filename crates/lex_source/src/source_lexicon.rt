@@ -1,13 +1,14 @@
 //! Entries in the order of their sources.
 ghost use Rattle.std.specs.Prelude.{◌≡◌, ℕ, [], length, take, IfOk, IfErr, OnErr, option_map};
 ghost use Rattle.mj_model.specs.declared.source_fault.SourceKind.TheVariants.{IdOutside};
-ghost use Rattle.mj_model.specs.Dictionary.{IsInOrder, first_outside};
+ghost use Rattle.mj_model.specs.Dictionary.{first_outside};
 ghost use Rattle.mj_model.specs.FirstFault.{IsRefusal};
 ghost use Rattle.mj_model.specs.Lexicon.{rows_of};
 ghost use Rattle.lex_source.specs.Lexicons.{AreSortedOf, entries_in};
 ghost use Rattle.lex_source.specs.AddedLexicon.{AddsLexicon, IsLexiconFault};
 
 use crate::lexicon::read_lexicon;
+use crate::ordering::in_order;
 use crate::sorted_lexicon::SortedLexicon;
 use mj_model::{MatrixSizes, Record, SourceFault, SourceKind};
 use std::alloc::{AllocError, Global};
@@ -110,12 +111,4 @@ fn line_outside(records: &[Record], sizes: MatrixSizes) -> Option<u64>
         }
     }
     None
-}
-
-/// The records in the byte order of their surfaces, those of one surface in the order given.
-fn in_order(mut records: Vec<Record>) -> Result<Vec<Record>, AllocError>
-    ensures { IfOk result (λ ordered. IsInOrder (rows_of records.items) (rows_of ordered.items)) }
-{
-    records.sort_by(|a, b| a.surface.cmp(&b.surface))?;
-    Ok(records)
 }

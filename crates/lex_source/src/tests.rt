@@ -220,6 +220,9 @@ fn sorted_lexicons(rt: HostRuntime) -> Result<(), Fail> {
         ("bytes, not letters",            "b,0,0,1,x\nB,0,0,1,y\n",    "あ,0,0,1,z\n", "yxz"),
         ("one surface",                   "a,1,2,9,x\na,0,0,1,y\n",    "a,0,0,5,z\n",  "xyz"),
         ("a surface that begins another", "ab,0,0,1,x\nabc,0,0,1,y\n", "a,0,0,1,z\n",  "zxy"),
+        ("7, 8 and 9 bytes", "abcdefghi,0,0,1,x\nabcdefgh,0,0,1,y\n",  "abcdefg,0,0,1,z\n",  "zyx"),
+        ("equal up to byte 8", "abcdefghz,0,0,1,x\nabcdefgha,0,0,1,y\n", "abcdefgz,0,0,1,z\n", "yxz"),
+        ("U+0000 at the end", "a\0,0,0,1,x\na\0\0,0,0,1,y\n",       "a,0,0,1,z\n",  "zxy"),
     ];
     for (what, first, second, expected) in rows {
         let mut lexicon = SourceLexicon::new(rt.alloc(), SIZES);

@@ -11,7 +11,7 @@ invariant_of-self-2-clause-within c =
     let bytes = c.in_ok-extend_from_slice.ensures.items ∙ ap (λ (text : List ℕ). old.bytes.items ++ text) c.as_bytes.ensures.value in
     subst (λ (bytes : List ℕ). ArePlacesWithin bytes c.insert.new.self) (sym bytes)
     (in_both c.insert.result c.insert.ensures.updates c.insert.ensures.err
-    (λ updates. within_after old.bytes.items c.args.feature.now old.places c.insert.new.self old.within (place_after c.args.feature old.places c.insert.new.self c.len-place.result (length old.bytes.items) place updates))
+    (λ updates. within_after old.bytes.items c.args.feature.now old.places c.insert.new.self old.within (place_after c.args.mark c.args.feature old.places c.insert.new.self c.len-place.result (length old.bytes.items) c.requires.marked place updates))
     (λ unchanged. still_within old.bytes.items c.args.feature.now old.places c.insert.new.self old.within unchanged))
 
 pub returns-clause-added : goal.returns-clause-added
@@ -20,5 +20,5 @@ returns-clause-added c =
     let place : c.len-place.result ≡ length old.bytes.items = search rules in
     record {
       bytes = c.in_ok-extend_from_slice.ensures.items ∙ ap (λ (text : List ℕ). old.bytes.items ++ text) c.as_bytes.ensures.value;
-      places = place_after c.args.feature old.places c.insert.new.self c.len-place.result (length old.bytes.items) place c.in_ok-insert.ensures.updates;
+      places = place_after c.args.mark c.args.feature old.places c.insert.new.self c.len-place.result (length old.bytes.items) c.requires.marked place c.in_ok-insert.ensures.updates;
     }

@@ -1,0 +1,43 @@
+//! Records in the byte order of their surfaces.
+ghost use Rattle.std.specs.Prelude.{◌≡◌, map, IfOk};
+ghost use Rattle.mj_model.specs.Dictionary.{IsInOrder};
+ghost use Rattle.mj_model.specs.Lexicon.{rows_of};
+ghost use Rattle.lex_source.specs.HeadedRecords.{without_head};
+
+use crate::headed::{Headed, by_surface, head_of};
+use mj_model::Record;
+use std::alloc::AllocError;
+
+/// The records in the byte order of their surfaces, those of one surface in the order given.
+pub(crate) fn in_order(records: Vec<Record>) -> Result<Vec<Record>, AllocError>
+    ensures { IfOk result (λ ordered. IsInOrder (rows_of records.items) (rows_of ordered.items)) }
+{
+    let mut headed = with_heads(records)?;
+    headed.sort_by(by_surface)?;
+    without_heads(headed)
+}
+
+/// Records with the heads of their surfaces.
+fn with_heads(records: Vec<Record>) -> Result<Vec<Headed>, AllocError>
+    ensures { IfOk result (λ headed. map without_head headed.items ≡ records.items) }
+{
+    let mut headed = Vec::with_capacity(*records.allocator(), records.len())?;
+    for row in records {
+        headed.push(Headed {
+            head: head_of(row.surface.as_bytes()),
+            row,
+        })?;
+    }
+    Ok(headed)
+}
+
+/// The records alone.
+fn without_heads(headed: Vec<Headed>) -> Result<Vec<Record>, AllocError>
+    ensures { IfOk result (λ records. records.items ≡ map without_head headed.items) }
+{
+    let mut records = Vec::with_capacity(*headed.allocator(), headed.len())?;
+    for one in headed {
+        records.push(one.row)?;
+    }
+    Ok(records)
+}
