@@ -1,11 +1,14 @@
 //! Dictionaries are compiled from the files that the command line names.
 
 use crate::choices::{Base, Options};
+use crate::matrix_file::MatrixFile;
 use crate::reporting::tell_counts;
 use crate::shares::say_shares;
 use crate::step_teller::StepTeller;
-use dict_compile::{CompileUserFault, Compiled, compile_user_watched, compile_watched};
-use mj_model::{OverlayFault, Sources};
+use dict_compile::{
+    CompileUserFault, Compiled, OtherSources, compile_others_watched, compile_user_watched,
+};
+use mj_model::{OverlayFault, SourceFault};
 use programs::{
     Fault, Narrator, SourceFiles, Stage, WholeFile, dictionary_at, lexicon_path, read_files, texts,
     write_file,
@@ -53,22 +56,28 @@ fn compile_files(
 ) -> Result<Compiled, Fault> {
     match &options.base {
         Base::Definitions { matrix, chars, unk } => {
+            let costs = MatrixFile::read(rt, matrix.as_str())?;
             let files = SourceFiles {
-                matrix: WholeFile::read(rt, matrix.as_str())?,
+                matrix: WholeFile {
+                    path: String::from_str(rt.alloc(), matrix.as_str())?,
+                    bytes: Vec::new(rt.alloc()),
+                },
                 chars: WholeFile::read(rt, chars.as_str())?,
                 unk: WholeFile::read(rt, unk.as_str())?,
                 lexicons: read_files(rt, &options.lexicons)?,
             };
-            files.say(narrator);
-            compile_sources(rt.alloc(), &files, narrator)
+            narrator.say_read(matrix.as_str(), costs.bytes, &costs.first);
+            files.say_others(narrator);
+            compile_sources(rt.alloc(), costs, &files, narrator)
         }
         Base::System(dic) => compile_user_files(rt, dic.as_str(), &options.lexicons, narrator),
     }
 }
 
-/// Compiles a system dictionary.
+/// Compiles a system dictionary. `files` lack the bytes of `matrix.def`.
 fn compile_sources(
     alloc: Global,
+    costs: MatrixFile,
     files: &SourceFiles,
     narrator: &Narrator<'_>,
 ) -> Result<Compiled, Fault> {
@@ -76,18 +85,24 @@ fn compile_sources(
     narrator.say(Stage::Compiling {
         lexicons: lexicons.len(),
     });
-    let sources = Sources {
-        matrix: &files.matrix.bytes,
+    let others = OtherSources {
         chars: &files.chars.bytes,
         unk: &files.unk.bytes,
         lexicons: &lexicons,
     };
-    let mut teller = StepTeller::new(narrator, &files.lexicons);
-    compile_watched(alloc, &sources, &mut teller).map_err(|fault| Fault::of_source(
-        alloc,
-        files.path(fault.file),
-        fault,
-    ))
+    compile_others(alloc, costs, &others, StepTeller::new(narrator, &files.lexicons)).map_err(
+        |fault| Fault::of_source(alloc, files.path(fault.file), fault),
+    )
+}
+
+/// The same of the bytes of the other files, or the first fault of all.
+fn compile_others(
+    alloc: Global,
+    costs: MatrixFile,
+    others: &OtherSources<'_>,
+    mut teller: StepTeller<'_>,
+) -> Result<Compiled, SourceFault> {
+    compile_others_watched(alloc, costs.matrix()?, others, &mut teller)
 }
 
 /// Compiles a user dictionary for the system dictionary at a path.

@@ -5,6 +5,7 @@ mod choices;
 mod command_line;
 mod compiling;
 mod inputs;
+mod matrix_file;
 mod reporting;
 mod shares;
 mod step_teller;

@@ -28,7 +28,7 @@ pub use narrator::Narrator;
 pub use one_line::OneLine;
 pub use options_fault::OptionsFault;
 pub use program::run_program;
-pub use reading::{ReadFault, read_whole};
+pub use reading::{Pieces, ReadFault, read_into, read_whole};
 pub use reporting::report;
 pub use source_files::{SourceFiles, lexicon_path};
 pub use stage::Stage;

@@ -47,12 +47,13 @@ impl<'a> Narrator<'a> {
 
     /// Says that a source was read, and whether it begins with a byte order mark.
     pub fn say_source(&self, file: &WholeFile) {
-        let path = file.path.as_str();
-        self.say(Stage::Read {
-            path,
-            bytes: file.bytes.len(),
-        });
-        if file.bytes.starts_with(BYTE_ORDER_MARK) {
+        self.say_read(file.path.as_str(), file.bytes.len(), &file.bytes);
+    }
+
+    /// The same of a file with so many bytes, which begins with these.
+    pub fn say_read(&self, path: &str, bytes: usize, first: &[u8]) {
+        self.say(Stage::Read { path, bytes });
+        if first.starts_with(BYTE_ORDER_MARK) {
             self.say(Stage::ByteOrderMark { path });
         }
     }

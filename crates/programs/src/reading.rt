@@ -1,6 +1,6 @@
 //! The bytes of a reader that ends.
 
-ghost use Rattle.std.specs.Prelude.{◌≡◌, ◌<◌, Err, IfOk, IfSome, length, vec_len};
+ghost use Rattle.std.specs.Prelude.{◌≡◌, ℕ, ◌<◌, ◌++◌, List, Err, IfOk, IfSome, length, vec_len};
 ghost use Rattle.std.specs.Io.KnownBytes.{IsAtEnd};
 ghost use Rattle.programs.specs.Reading.{GivesAtLeast};
 ghost use Rattle.programs.specs.declared.reading.ReadFault.TheVariants.{Endless, Memory};
@@ -30,6 +30,26 @@ impl From<AllocError> for ReadFault {
     }
 }
 
+/// What takes bytes as they come, in pieces of any lengths.
+pub trait Pieces {
+    /// It was given these bytes.
+    ghost given: { Self → List ℕ → Type 0 };
+
+    /// After a further piece.
+    fn with(self, piece: &[u8]) -> Result<Self, AllocError>
+        ensures { (bytes : List ℕ) → given self bytes
+            → IfOk result (λ taken. given taken (bytes ++ piece.now)) };
+}
+
+impl Pieces for Vec<u8> {
+    ghost given = { λ v bytes. v.items ≡ bytes };
+
+    fn with(mut self, piece: &[u8]) -> Result<Vec<u8>, AllocError> {
+        self.extend_from_slice(piece)?;
+        Ok(self)
+    }
+}
+
 /// The bytes of a reader that ends within so many reads.
 pub fn read_whole<R: Read>(alloc: Global, reader: &mut R, reads: u64) -> Result<Vec<u8>, ReadFault>
     ensures whole { IfOk result (λ bytes.
@@ -39,8 +59,24 @@ pub fn read_whole<R: Read>(alloc: Global, reader: &mut R, reads: u64) -> Result<
     ensures endless { result ≡ Err Endless
         → GivesAtLeast reads (R.remaining reader.old) (R.remaining reader.new) }
 {
+    read_into(alloc, reader, reads, Vec::new(alloc))
+}
+
+/// Gives the bytes of a reader that ends within so many reads, one read after another.
+pub fn read_into<R: Read, P: Pieces + Drop>(
+    alloc: Global,
+    reader: &mut R,
+    reads: u64,
+    pieces: P,
+) -> Result<P, ReadFault>
+    ensures whole { (before : List ℕ) → P.given pieces before → IfOk result (λ taken.
+        IfSome (R.remaining reader.old) (λ known. P.given taken (before ++ known))) }
+    ensures end { IfOk result (λ _. IsAtEnd (R.remaining reader.new)) }
+    ensures endless { result ≡ Err Endless
+        → GivesAtLeast reads (R.remaining reader.old) (R.remaining reader.new) }
+{
     let mut buffer = new_buffer(alloc)?;
-    read_through(alloc, reader, &mut buffer, reads)
+    read_through(reader, &mut buffer, reads, pieces)
 }
 
 fn new_buffer(alloc: Global) -> Result<Vec<u8>, AllocError>
@@ -49,27 +85,27 @@ fn new_buffer(alloc: Global) -> Result<Vec<u8>, AllocError>
     vec![in alloc; 0; BUFFER]
 }
 
-/// The bytes of a reader, by a buffer.
-fn read_through<R: Read>(
-    alloc: Global,
+/// The same by a buffer.
+fn read_through<R: Read, P: Pieces + Drop>(
     reader: &mut R,
     buffer: &mut [u8],
     reads: u64,
-) -> Result<Vec<u8>, ReadFault>
+    pieces: P,
+) -> Result<P, ReadFault>
     requires buffer { 0 < length buffer.old }
-    ensures whole { IfOk result (λ bytes.
-        IfSome (R.remaining reader.old) (λ known. bytes.items ≡ known)) }
+    ensures whole { (before : List ℕ) → P.given pieces before → IfOk result (λ taken.
+        IfSome (R.remaining reader.old) (λ known. P.given taken (before ++ known))) }
     ensures end { IfOk result (λ _. IsAtEnd (R.remaining reader.new)) }
     ensures endless { result ≡ Err Endless
         → GivesAtLeast reads (R.remaining reader.old) (R.remaining reader.new) }
 {
-    let mut bytes = Vec::new(alloc);
+    let mut taken = pieces;
     for _read in 0..reads {
-        let taken = reader.read(buffer).map_err(ReadFault::Device)?;
-        if taken == 0 {
-            return Ok(bytes);
+        let count = reader.read(buffer).map_err(ReadFault::Device)?;
+        if count == 0 {
+            return Ok(taken);
         }
-        bytes.extend_from_slice(&buffer[..taken])?;
+        taken = taken.with(&buffer[..count])?;
     }
     Err(ReadFault::Endless)
 }

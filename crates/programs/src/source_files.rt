@@ -38,6 +38,11 @@ impl SourceFiles {
     /// Says that each was read.
     pub fn say(&self, narrator: &Narrator<'_>) {
         narrator.say_source(&self.matrix);
+        self.say_others(narrator);
+    }
+
+    /// Says that each but `matrix.def` was read.
+    pub fn say_others(&self, narrator: &Narrator<'_>) {
         narrator.say_source(&self.chars);
         narrator.say_source(&self.unk);
         for lexicon in &self.lexicons {

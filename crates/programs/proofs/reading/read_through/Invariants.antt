@@ -1,7 +1,8 @@
-use Rattle.std.proofs.Common.{◌≤◌, length}
+use Rattle.std.proofs.Common.{ℕ, ◌≤◌, List, ◌++◌, length}
 use Rattle.std.specs.Io.KnownBytes.{Consumes}
 use Rattle.programs.proofs.reading.read_through.Given as goal
 
 abbrev pub invariant-loop-read : goal.invariant-loop-read
-invariant-loop-read g l = Consumes (g.R.Read.remaining l.initial.reader) (g.R.Read.remaining l.reader) l.bytes.items
-    × (l._read ≤ length l.bytes.items)
+invariant-loop-read g l =
+    (done : List ℕ) × Consumes (g.R.Read.remaining l.initial.reader) (g.R.Read.remaining l.reader) done × (l._read ≤ length done)
+    × ((before : List ℕ) → g.P.Pieces.given l.fn.pieces before → g.P.Pieces.given l.taken (before ++ done))
