@@ -30,10 +30,10 @@ pub(crate) struct LexiconBytes {
 /// The sections of a system dictionary: of its lexicon, and of the unknown entries of all categories.
 ///
 /// The tokens of the unknown entries follow those of the lexicon, category by category. (The layout is this project's own.)
-pub(crate) fn write_lexicon(
+pub(crate) fn write_lexicon<'a>(
     alloc: Global,
-    lexicon: &SortedLexicon,
-    unknown: &UnkTable,
+    lexicon: &SortedLexicon<'a>,
+    unknown: &UnkTable<'a>,
 ) -> Result<LexiconBytes, LexiconFault>
     ensures sections { IfOk result (AreSections lexicon.now.rows unknown.now) }
 
@@ -51,7 +51,7 @@ pub(crate) fn write_lexicon(
 /// The sections of a user dictionary.
 pub(crate) fn write_user_lexicon(
     alloc: Global,
-    lexicon: &SortedLexicon,
+    lexicon: &SortedLexicon<'_>,
 ) -> Result<LexiconBytes, LexiconFault>
     ensures sections { IfOk result (AreSections lexicon.now.rows []) }
 
@@ -80,7 +80,7 @@ fn sections(keys: KeyBytes, writer: TokenWriter<'_>) -> LexiconBytes
 }
 
 /// Adds the tokens of each category's unknown entries.
-fn add_unknown<'a>(writer: &mut TokenWriter<'a>, unknown: &'a UnkTable) -> Result<(), LexiconFault>
+fn add_unknown<'a>(writer: &mut TokenWriter<'a>, unknown: &UnkTable<'a>) -> Result<(), LexiconFault>
     ensures written { (rows : List Row) → AreWritten rows writer.old
         → OnOk result (AreWritten (all_rows rows unknown.now) writer.new) }
     ensures large { (rows : List Row) → AreWritten rows writer.old

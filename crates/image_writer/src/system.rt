@@ -18,12 +18,12 @@ use matrix_def::Matrix;
 use std::alloc::Global;
 
 /// The image of a system dictionary.
-pub fn write_system(
+pub fn write_system<'a>(
     alloc: Global,
     matrix: &Matrix,
     chars: &CharTable,
-    unknown: &UnkTable,
-    lexicon: &SortedLexicon,
+    unknown: &UnkTable<'a>,
+    lexicon: &SortedLexicon<'a>,
 ) -> Result<Vec<u8>, LexiconFault>
     requires sizes { lexicon.now.sizes ≡ matrix.now.sizes }
     requires categories { length unknown.now ≡ length chars.now.categories }

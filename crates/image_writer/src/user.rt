@@ -12,7 +12,7 @@ use lex_source::SortedLexicon;
 use std::alloc::Global;
 
 /// The image of a user dictionary for connection costs of the lexicon's sizes.
-pub fn write_user(alloc: Global, lexicon: &SortedLexicon) -> Result<Vec<u8>, LexiconFault>
+pub fn write_user(alloc: Global, lexicon: &SortedLexicon<'_>) -> Result<Vec<u8>, LexiconFault>
     requires sizes { AreMatrixSizes lexicon.now.sizes }
     ensures image { IfOk result (λ image. IsUserImage lexicon.now.sizes lexicon.now.rows
         image.items) }
