@@ -7,7 +7,7 @@ use mj_model::{MatrixSizes, Record};
 
 /// The least of `first` and the lines of those records that lie outside the sizes.
 pub(crate) fn least_line_outside(
-    records: &[Record],
+    records: &[Record<'_>],
     sizes: MatrixSizes,
     first: Option<u64>,
 ) -> Option<u64>
@@ -24,7 +24,7 @@ pub(crate) fn least_line_outside(
 }
 
 /// Whether the ids don't lie within the sizes.
-fn is_outside(row: &Record, sizes: MatrixSizes) -> bool
+fn is_outside(row: &Record<'_>, sizes: MatrixSizes) -> bool
     ensures { result ≡ is_row_outside sizes (row_of row.now) }
 {
     !sizes.contains(row.entry.right, row.entry.left)

@@ -14,11 +14,11 @@ use mj_model::{ENTRIES_MAX, Record, SourceFault, SourceKind, UNK_FILE};
 use std::alloc::{AllocError, Global};
 
 /// The lines of each category, up to the first bad line.
-pub(crate) fn read_lines(
+pub(crate) fn read_lines<'a>(
     alloc: Global,
-    bytes: &[u8],
+    bytes: &'a [u8],
     table: &CharTable,
-) -> Result<Vec<Vec<Record>>, SourceFault>
+) -> Result<Vec<Vec<Record<'a>>>, SourceFault>
     ensures accepted { IfOk result (λ lists. AreListsIn table.now.categories bytes.now
         (lists_are lists.items)) }
     ensures count { IfOk result (λ lists. length lists.items ≡ length table.now.categories) }
@@ -38,13 +38,13 @@ pub(crate) fn read_lines(
 }
 
 /// Adds a line to those of its category, where `held` lines are held, and answers how many are held then.
-fn add_line(
+fn add_line<'a>(
     alloc: Global,
     number: u64,
-    line: &[u8],
+    line: &'a [u8],
     table: &CharTable,
     held: usize,
-    lists: &mut Vec<Vec<Record>>,
+    lists: &mut Vec<Vec<Record<'a>>>,
 ) -> Result<usize, SourceKind>
     requires { length lists.old.items ≡ length table.now.categories }
     ensures added { IfOk result (λ now. HasAdded table.now.categories number line.now held now
@@ -55,7 +55,7 @@ fn add_line(
     let Some(record) = read_record(alloc, number, line)? else {
         return Ok(held);
     };
-    let Some(category) = table.number_of(record.surface.as_bytes()) else {
+    let Some(category) = table.number_of(record.surface.as_str().as_bytes()) else {
         return Err(SourceKind::NoSuchCategory);
     };
     if held >= ENTRIES_MAX {
@@ -66,17 +66,21 @@ fn add_line(
 }
 
 /// Adds a record to those of a category.
-fn add(lists: &mut Vec<Vec<Record>>, category: usize, made: Record) -> Result<(), AllocError>
+fn add<'a>(
+    lists: &mut Vec<Vec<Record<'a>>>,
+    category: usize,
+    made: Record<'a>,
+) -> Result<(), AllocError>
     requires { category < length lists.old.items }
     ensures added { OnOk result (lists_are lists.new.items
-        ≡ with_row (lists_are lists.old.items) category (row_of made)) }
+        ≡ with_row (lists_are lists.old.items) category (row_of made.entry)) }
     ensures count { OnOk result (length lists.new.items ≡ length lists.old.items) }
 {
     lists[category].push(made)?;
     Ok(())
 }
 
-fn empty_lists(alloc: Global, count: usize) -> Result<Vec<Vec<Record>>, AllocError>
+fn empty_lists<'a>(alloc: Global, count: usize) -> Result<Vec<Vec<Record<'a>>>, AllocError>
     ensures { IfOk result (λ lists. lists_are lists.items ≡ replicate count []) }
 {
     let mut lists = Vec::with_capacity(alloc, count)?;
@@ -87,7 +91,7 @@ fn empty_lists(alloc: Global, count: usize) -> Result<Vec<Vec<Record>>, AllocErr
 }
 
 /// The first category without a line, or how many categories there are.
-pub(crate) fn first_empty(lists: &[Vec<Record>]) -> usize
+pub(crate) fn first_empty(lists: &[Vec<Record<'_>>]) -> usize
     ensures first { result ≡ first_without_rows (lists_are lists.now) }
     ensures within { result ≤ length lists.now }
 {

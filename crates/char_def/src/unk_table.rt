@@ -15,11 +15,11 @@ use std::marker::Model;
 
 /// The unknown entries of each category. (MeCab, `unk.def`)
 #[derive(Drop)]
-pub struct UnkTable {
-    lists: Vec<Vec<Record>>,
+pub struct UnkTable<'a> {
+    lists: Vec<Vec<Record<'a>>>,
 }
 
-impl Model for UnkTable {
+impl<'a> Model for UnkTable<'a> {
     ghost use Rattle.std.specs.Prelude.{List};
     ghost use Rattle.mj_model.specs.Lexicon.{Row};
     ghost use Rattle.char_def.specs.UnknownLists.{AreUnknownLists};
@@ -32,7 +32,7 @@ impl Model for UnkTable {
     ghost invariant = { λ t. AreUnknownLists (lists_are t.lists.items) };
 }
 
-impl UnkTable {
+impl<'a> UnkTable<'a> {
     /// How many categories there are.
     pub fn count(&self) -> usize
         ensures count { result ≡ length self.now }
@@ -42,7 +42,7 @@ impl UnkTable {
     }
 
     /// The lines of category `i`, in their order. There is at least one.
-    pub fn lines(&self, i: usize) -> &[Record]
+    pub fn lines(&self, i: usize) -> &[Record<'a>]
         requires { i < length self.now }
         ensures { rows_of result.now ≡ slice_index_or self.now i [] }
     {
@@ -64,7 +64,11 @@ impl UnkTable {
 
 /// The unknown entries of the categories of `table`; each line has a lexicon's form, with the name of a category as its surface.
 /// (MeCab, `unk.def`; that a category without a line is refused too)
-pub fn read_unk(alloc: Global, bytes: &[u8], table: &CharTable) -> Result<UnkTable, SourceFault>
+pub fn read_unk<'a>(
+    alloc: Global,
+    bytes: &'a [u8],
+    table: &CharTable,
+) -> Result<UnkTable<'a>, SourceFault>
     ensures accepted { IfOk result (λ unk. IsUnkDef table.now.categories bytes.now (Ok unk)) }
     ensures count { IfOk result (λ unk. length unk ≡ length table.now.categories) }
     ensures refused { IfErr result (λ fault. IsRefusal fault

@@ -24,8 +24,8 @@ fn file_behind(file: u32) -> u32
 
 /// The entries of some lexicons in source order, and how many lines were skipped.
 #[derive(Drop)]
-pub(crate) struct LexiconsRead {
-    pub(crate) lexicon: SourceLexicon,
+pub(crate) struct LexiconsRead<'a> {
+    pub(crate) lexicon: SourceLexicon<'a>,
     pub(crate) skipped: u128,
 }
 
@@ -38,12 +38,12 @@ fn with_more(skipped: u128, more: u64) -> u128
 }
 
 /// Reads the lexicons one after another, up to the first fault.
-pub(crate) fn read_lexicons<W: Watch>(
+pub(crate) fn read_lexicons<'a, W: Watch>(
     alloc: Global,
-    lexicons: &[&[u8]],
+    lexicons: &[&'a [u8]],
     sizes: MatrixSizes,
     watch: &mut W,
-) -> Result<LexiconsRead, SourceFault>
+) -> Result<LexiconsRead<'a>, SourceFault>
     ensures sizes { IfOk result (λ read. read.lexicon.sizes ≡ sizes) }
     ensures accepted { IfOk result (λ read. AreLexicons sizes FirstFile []
         (lexicons_of lexicons.now) (Ok read.lexicon.rows)) }

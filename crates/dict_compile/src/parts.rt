@@ -16,21 +16,21 @@ use std::alloc::Global;
 
 /// What the sources of a system dictionary say, file by file.
 #[derive(Drop)]
-pub(crate) struct SourceParts {
+pub(crate) struct SourceParts<'a> {
     pub(crate) matrix: Matrix,
     pub(crate) chars: CharTable,
-    pub(crate) unknown: UnkTable,
-    pub(crate) lexicon: SourceLexicon,
+    pub(crate) unknown: UnkTable<'a>,
+    pub(crate) lexicon: SourceLexicon<'a>,
     /// How many lines of the lexicons were skipped.
     pub(crate) skipped: u128,
 }
 
 /// Reads the sources, up to the first fault.
-pub(crate) fn read_sources<W: Watch>(
+pub(crate) fn read_sources<'a, W: Watch>(
     alloc: Global,
-    sources: &Sources<'_>,
+    sources: &Sources<'a>,
     watch: &mut W,
-) -> Result<SourceParts, SourceFault>
+) -> Result<SourceParts<'a>, SourceFault>
     ensures accepted { IfOk result (AreParts sources.now) }
     ensures fitting { IfOk result FitTogether }
     ensures refused { IfErr result (λ fault. IsRefusal fault (IsSourcesFault sources.now fault)) }

@@ -14,16 +14,16 @@ use std::alloc::Global;
 /// The image of a system dictionary, whose entries are sorted once.
 pub(crate) fn system_image<W: Watch>(
     alloc: Global,
-    parts: SourceParts,
+    parts: SourceParts<'_>,
     watch: &mut W,
 ) -> Result<Compiled, LexiconFault>
     requires { FitTogether parts }
-    ensures image { IfOk result (IsImageOf parts) }
+    ensures image { IfOk result (IsImageOf parts.entry) }
 
     // A refusal has its reason.
-    ensures large { IfErr result (λ fault. fault ≡ FeaturesTooLarge → HaveTooLarge parts) }
+    ensures large { IfErr result (λ fault. fault ≡ FeaturesTooLarge → HaveTooLarge parts.entry) }
     ensures full { IfErr result (λ fault. fault ≡ ArrayFull
-        → MayLackCells parts.lexicon.rows) }
+        → MayLackCells parts.entry.lexicon.rows) }
 {
     let entries = parts.lexicon.len() as u64;
     let lexicon = parts.lexicon.sorted()?;

@@ -10,12 +10,12 @@ use mj_model::{MatrixSizes, SourceFault, SourceKind, UNK_FILE};
 use std::alloc::Global;
 
 /// Reads `unk.def`; its ids have to lie within the sizes.
-pub(crate) fn read_unknown(
+pub(crate) fn read_unknown<'a>(
     alloc: Global,
-    bytes: &[u8],
+    bytes: &'a [u8],
     chars: &CharTable,
     sizes: MatrixSizes,
-) -> Result<UnkTable, SourceFault>
+) -> Result<UnkTable<'a>, SourceFault>
     ensures accepted { IfOk result (λ unk. IsUnkWithin sizes chars.now.categories bytes.now
         (Ok unk)) }
     ensures count { IfOk result (λ unk. length unk ≡ length chars.now.categories) }

@@ -15,17 +15,17 @@ use std::alloc::Global;
 /// The image of a user dictionary, whose entries are sorted once.
 pub(crate) fn user_image<W: Watch>(
     alloc: Global,
-    read: LexiconsRead,
+    read: LexiconsRead<'_>,
     watch: &mut W,
 ) -> Result<Compiled, LexiconFault>
     requires { AreMatrixSizes read.lexicon.sizes }
-    ensures image { IfOk result (IsUserImageOf read) }
+    ensures image { IfOk result (IsUserImageOf read.entry) }
 
     // A refusal has its reason.
     ensures large { IfErr result (λ fault. fault ≡ FeaturesTooLarge
-        → HasTooLarge read.lexicon.rows) }
+        → HasTooLarge read.entry.lexicon.rows) }
     ensures full { IfErr result (λ fault. fault ≡ ArrayFull
-        → MayLackCells read.lexicon.rows) }
+        → MayLackCells read.entry.lexicon.rows) }
 {
     let entries = read.lexicon.len() as u64;
     let lexicon = read.lexicon.sorted()?;

@@ -2,6 +2,7 @@
 use Rattle.std.proofs.Common.{◌≡◌, ℕ, ◌+◌, ◌<◌, ◌≤◌, Bool, true, false, cond, not, ◌||◌, ◌&&◌, ◌⊎◌, inl, inr, List, [], ◌∷◌, ◌++◌, length, map, filter, Option, Some, None, is_some, sym, ap, ◌∙◌, refl, arith, subst, append_assoc}
 use Rattle.std.specs.Prelude.{bytes_eq, sum_by}
 use Rattle.std.specs.List.{concat, list_any, enumerate_from}
+use Rattle.std.proofs.lemmas.Grind.{flat_map-append}
 use Rattle.std.proofs.lemmas.List.Concat.{concat_is, length-flat_map}
 use Rattle.std.specs.BTreeMap.{IsUnchanged, UpdatesBy, get_by, is_at}
 use Rattle.std.specs.Cmp.Lexicographic.{slice_cmp}
@@ -25,8 +26,8 @@ use Rattle.mj_model.specs.UnkDef.{token_of}
 use Rattle.image_writer.specs.declared.features.FeatureStore.{FeatureStore}
 use Rattle.image_writer.specs.Entries.{tokens_of}
 use Rattle.image_writer.specs.Marks.{mark_of_bytes}
-use Rattle.image_writer.specs.Places.{ArePlacesWithin, Places, marked_cmp, place_in}
-use Rattle.image_writer.specs.Sections.{HoldsTexts, HoldsOneMore, IsAdded, StandsAt, features_of, IsTooLarge}
+use Rattle.image_writer.specs.Places.{ArePlacesWithin, Places, joined_texts, marked_cmp, place_in}
+use Rattle.image_writer.specs.Sections.{HoldsTexts, HoldsOneMore, IsAdded, StandsAt, features_in, features_of, IsTooLarge}
 use Rattle.image_bytes.proofs.NumberLemmas.{range_kept, range_behind}
 
 -- ---- each text once
@@ -85,7 +86,7 @@ concat_more : (texts : List (List ℕ)) (text : List ℕ) → concat texts ++ te
 concat_more [] text = sym (append-nil text)
 concat_more (t ∷ texts) text = append_assoc t (concat texts) text ∙ ap (λ (bytes : List ℕ). t ++ bytes) (concat_more texts text)
 
-pub size_of : (texts : List (List ℕ)) (store : FeatureStore) → HoldsTexts texts store → length store.bytes.items ≡ sum_by length (each_once texts)
+pub size_of : (texts : List (List ℕ)) (store : FeatureStore) → HoldsTexts texts store → length (features_in store) ≡ sum_by length (each_once texts)
 size_of texts store holds = ap length (holds.bytes ∙ concat_is (each_once texts)) ∙ length-flat_map (λ (text : List ℕ). text) (each_once texts)
 
 -- ---- a list with one more text
@@ -102,6 +103,11 @@ or_same true b h = refl
 or_same false true h = h refl
 or_same false false h = refl
 
+-- the same of texts where they stand
+pub joined_more : (texts more : List (Bor (List ℕ))) (text : Bor (List ℕ)) → more ≡ texts ++ text ∷ [] → joined_texts more ≡ joined_texts texts ++ text.now
+joined_more texts more text is =
+    ap joined_texts is ∙ flat_map-append (λ (t : Bor (List ℕ)). t.now) texts (text ∷ []) ∙ ap (λ (bytes : List ℕ). joined_texts texts ++ bytes) (append-nil text.now)
+
 -- ---- the store
 
 pub text_there : (texts : List (List ℕ)) (text : List ℕ) (store : FeatureStore) (place : ℕ) → HoldsTexts texts store
@@ -116,7 +122,7 @@ text_there texts text store place holds found =
       };
       stands = holds.places text place found;
       more = [];
-      kept = sym (append-nil store.bytes.items);
+      kept = sym (append-nil (features_in store));
     }
 
 or_cond : (a b : Bool) (o : Option ℕ) (p : ℕ) → is_some o ≡ a → is_some (cond b (Some p) o) ≡ (a || b)
@@ -142,32 +148,32 @@ place_cases true n o p h = inl (refl, same_Some n p h)
 place_cases false n o p h = inr h
 
 pub text_added : (texts : List (List ℕ)) (text : List ℕ) (old new : FeatureStore) → HoldsTexts texts old → place_in old.places text ≡ None
-    → IsAdded text old new → HoldsOneMore texts text old new (length old.bytes.items)
+    → IsAdded text old new → HoldsOneMore texts text old new (length (features_in old))
 text_added texts text old new holds none added =
     let absent : list_any (bytes_eq text) texts ≡ false = sym (holds.known text) ∙ ap is_some none in
     record {
       holds = record {
         bytes = added.bytes ∙ ap (λ (bytes : List ℕ). bytes ++ text) holds.bytes ∙ concat_more (each_once texts) text
             ∙ ap concat (sym (each_once_more texts text ∙ ap (once_with (each_once texts) text) absent));
-        known = λ q. ap is_some (added.places q ∙ ap (λ (b : Bool). cond b (Some (length old.bytes.items)) (place_in old.places q)) (bytes_eq_turned text q))
-            ∙ or_cond (list_any (bytes_eq q) texts) (bytes_eq q text) (place_in old.places q) (length old.bytes.items) (holds.known q)
+        known = λ q. ap is_some (added.places q ∙ ap (λ (b : Bool). cond b (Some (length (features_in old))) (place_in old.places q)) (bytes_eq_turned text q))
+            ∙ or_cond (list_any (bytes_eq q) texts) (bytes_eq q text) (place_in old.places q) (length (features_in old)) (holds.known q)
             ∙ sym (any_more q text texts);
         places = λ q place at. subst (λ (bytes : List ℕ). StandsAt bytes q place) (sym added.bytes)
-            (elim (place_cases (bytes_eq text q) (length old.bytes.items) (place_in old.places q) place (sym (added.places q) ∙ at)) [
+            (elim (place_cases (bytes_eq text q) (length (features_in old)) (place_in old.places q) place (sym (added.places q) ∙ at)) [
               | inl new_one ↦
-                  subst (λ (t : List ℕ). StandsAt (old.bytes.items ++ text) t place) ((bytes_eq-Decides text q).0 new_one.0)
-                  (subst (StandsAt (old.bytes.items ++ text) text) new_one.1 (stands_behind old.bytes.items text))
-              | inr old_one ↦ stands_more old.bytes.items text q place (holds.places q place old_one)
+                  subst (λ (t : List ℕ). StandsAt (features_in old ++ text) t place) ((bytes_eq-Decides text q).0 new_one.0)
+                  (subst (StandsAt (features_in old ++ text) text) new_one.1 (stands_behind (features_in old) text))
+              | inr old_one ↦ stands_more (features_in old) text q place (holds.places q place old_one)
             ]);
       };
-      stands = subst (λ (bytes : List ℕ). StandsAt bytes text (length old.bytes.items)) (sym added.bytes) (stands_behind old.bytes.items text);
+      stands = subst (λ (bytes : List ℕ). StandsAt bytes text (length (features_in old))) (sym added.bytes) (stands_behind (features_in old) text);
       more = text;
       kept = added.bytes;
     }
 
 -- where a new text finds no room, the texts are too large
 pub no_room : (texts : List (List ℕ)) (text : List ℕ) (store : FeatureStore) → HoldsTexts texts store → place_in store.places text ≡ None
-    → feature_bytes_end ≤ length store.bytes.items + length text → feature_bytes_end ≤ sum_by length (each_once (texts ++ text ∷ []))
+    → feature_bytes_end ≤ length (features_in store) + length text → feature_bytes_end ≤ sum_by length (each_once (texts ++ text ∷ []))
 no_room texts text store holds none full =
     let absent : list_any (bytes_eq text) texts ≡ false = sym (holds.known text) ∙ ap is_some none in
     let sum : sum_by length (each_once (texts ++ text ∷ [])) ≡ sum_by length (each_once texts) + length text =

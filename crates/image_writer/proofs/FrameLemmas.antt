@@ -1,7 +1,8 @@
 -- What is read from an image that was put together.
 use Rattle.std.proofs.Common.{◌≡◌, ℕ, zero, suc, ◌+◌, ◌-◌, ◌*◌, ◌^◌, ◌<◌, ◌≤◌, List, [], ◌∷◌, ◌++◌, length, take, drop, refl, sym, ap, ◌∙◌, subst, arith, append_assoc, mul-le-mul_left}
 use Rattle.std.specs.Prelude.{ℤ, flat_map, map, slice_index, slice_index_or, slice_range, sum}
-use Rattle.std.proofs.lemmas.List.{drop-append-le, drop_at, ext_get_or, length-append, length-map, take_all, take_at}
+use Rattle.std.proofs.lemmas.List.{append-nil, drop-append-le, drop_at, ext_get_or, length-append, length-map, take_all, take_at}
+use Rattle.std.proofs.lemmas.Grind.{flat_map-append}
 use Rattle.std.proofs.lemmas.List.Folds.{flat_map-map}
 use Rattle.std.proofs.lemmas.List.FromFn.{length-map-range_with_len, get_or-map-range_with_len}
 use Rattle.std.proofs.lemmas.List.Elements.{All-from_recursion}
@@ -15,7 +16,8 @@ use Rattle.sha2.specs.Sha256.{sha256}
 use Rattle.image_bytes.specs.ImageBytes.{header_length, header_of, image_magic, number_at, section, section_end, section_start}
 use Rattle.image_bytes.specs.Layouts.{behind_sections}
 use Rattle.image_bytes.specs.declared.header.Header.{Header}
-use Rattle.image_writer.specs.Frames.{AreShort, AreSmall, IsFramed, IsHeaderFor, header_bytes, length_bytes, number_bytes, number_list}
+use Rattle.image_writer.specs.Frames.{AreShort, AreSmall, IsFramed, IsHeaderFor, all_sections, header_bytes, length_bytes, number_bytes, number_list}
+use Rattle.image_writer.specs.Places.{joined_texts}
 use Rattle.image_writer.specs.StoredTables.{cost_section}
 use Rattle.image_bytes.proofs.ItemLemmas.{item_at, items_length}
 use Rattle.image_bytes.proofs.NumberLemmas.{number_back}
@@ -168,17 +170,25 @@ module _ (h : Header) (sections : List (List ℕ)) (eight : length sections ≡ 
         }
 
 -- an image whose parts were written one behind another
-pub frame_of : (h : Header) (costs : List ℤ) (given : List (Bor (List ℕ))) (start head some all digest image : List ℕ) → length given ≡ 7
-    → IsHeaderFor (cost_section costs ∷ map (λ section. section.now) given) h
+pub frame_of : (h : Header) (costs : List ℤ) (given texts : List (Bor (List ℕ))) (start head some more all digest image : List ℕ) → length given ≡ 6
+    → IsHeaderFor (all_sections costs given texts) h
     → AreSmall (number_list h) → AreShort h.lengths → start ≡ [] → head ≡ start ++ header_bytes h → some ≡ head ++ cost_section costs
-    → all ≡ some ++ flat_map (λ section. section.now) given → digest ≡ sha256 all → length digest ≡ 32 → image ≡ all ++ digest
-    → IsFramed h (cost_section costs ∷ map (λ section. section.now) given) image
-frame_of h costs given start head some all digest image seven is_for small short none header_is some_is all_is digest_is digest_long is =
+    → more ≡ some ++ flat_map (λ section. section.now) given → all ≡ more ++ joined_texts texts
+    → digest ≡ sha256 all → length digest ≡ 32 → image ≡ all ++ digest
+    → IsFramed h (all_sections costs given texts) image
+frame_of h costs given texts start head some more all digest image six is_for small short none header_is some_is more_is all_is digest_is digest_long is =
     let first : List ℕ = cost_section costs in
+    let last : List ℕ = joined_texts texts in
     let others : List (List ℕ) = map (λ (section : Bor (List ℕ)). section.now) given in
     let same : flat_map (λ (section : Bor (List ℕ)). section.now) given ≡ joined others =
     sym (flat_map-map (λ (section : List ℕ). section) (λ (section : Bor (List ℕ)). section.now) given) in
-    let whole : all ≡ header_bytes h ++ joined (first ∷ others) =
-    all_is ∙ rw (some_is, header_is, none, same) (append_assoc (header_bytes h) first (joined others)) in
-    framed h (first ∷ others) (ap suc (length-map given (λ (section : Bor (List ℕ)). section.now) ∙ seven)) is_for small short digest image
+    let behind : joined others ++ last ≡ joined (others ++ last ∷ []) =
+    sym (flat_map-append (λ (section : List ℕ). section) others (last ∷ []) ∙ ap (λ (bytes : List ℕ). joined others ++ bytes) (append-nil last)) in
+    let whole : all ≡ header_bytes h ++ joined (first ∷ (others ++ last ∷ [])) =
+    all_is ∙ rw (more_is, some_is, header_is, none, same)
+    (append_assoc (header_bytes h ++ first) (joined others) last ∙ append_assoc (header_bytes h) first (joined others ++ last)
+    ∙ ap (λ (bytes : List ℕ). header_bytes h ++ (first ++ bytes)) behind) in
+    let count : length (others ++ last ∷ []) ≡ 7 =
+    length-append others (last ∷ []) ∙ ap (λ n. n + 1) (length-map given (λ (section : Bor (List ℕ)). section.now) ∙ six) in
+    framed h (first ∷ (others ++ last ∷ [])) (ap suc count) is_for small short digest image
     (is ∙ ap (λ (bytes : List ℕ). bytes ++ digest) whole) (digest_is ∙ ap sha256 whole) digest_long

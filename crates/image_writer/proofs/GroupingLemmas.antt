@@ -1,7 +1,7 @@
 -- One entry more: whether it begins a group, how many cells its surface may take, and that the entries so far stay in their groups.
 use Rattle.std.proofs.Common.{◌≡◌, ◌≢◌, ℕ, ◌+◌, ◌-◌, ◌<◌, ◌≤◌, ◌⊎◌, inl, inr, Bool, true, false, cond, not, List, [], ◌∷◌, ◌++◌, length, map, take, drop, get_or, None, sym, ap, ◌∙◌, refl, arith, subst, true≢false}
-use Rattle.std.specs.Prelude.{IsSortedByKey, sum_by, bytes_eq, string_bytes}
-use Rattle.std.specs.String.{string_eq}
+use Rattle.std.specs.Prelude.{IsSortedByKey, sum_by, bytes_eq}
+use Rattle.std.specs.Cow.{cow_str_bytes}
 use Rattle.std.specs.Cmp.Lexicographic.{slice_cmp}
 use Rattle.std.specs.List.{list_any, enumerate_from}
 use Rattle.std.specs.declared.vec.Vec.{Vec}
@@ -25,14 +25,14 @@ use Rattle.image_writer.proofs.GroupLemmas.{group_begun, group_goes_on, map_begu
 
 -- ---- the test for a new group
 
-pub surface_is : (records : List Record) (i : ℕ) (x : Record) → i < length records → surface_at (rows_of records) i ≡ string_bytes (get_or records i x).surface
+pub surface_is : (records : List Record) (i : ℕ) (x : Record) → i < length records → surface_at (rows_of records) i ≡ cow_str_bytes (get_or records i x).surface
 surface_is records i x less = ap (λ (row : Row). row.surface) (get_or-map row_of records i x no_row less)
 
-pub begins_by_test : (records : List Record) (i : ℕ) (x y : Record) (r : Bool) → i < length records → i ≢ 0 → r ≡ not (string_eq (get_or records i x).surface (get_or records (i - 1) y).surface)
+pub begins_by_test : (records : List Record) (i : ℕ) (x y : Record) (r : Bool) → i < length records → i ≢ 0 → r ≡ not (bytes_eq (cow_str_bytes (get_or records i x).surface) (cow_str_bytes (get_or records (i - 1) y).surface))
     → (r ≡ true → BeginsGroup (rows_of records) i) × (BeginsGroup (rows_of records) i → r ≡ true)
 begins_by_test records i x y r less some test =
-    let this : List ℕ = string_bytes (get_or records i x).surface in
-    let before : List ℕ = string_bytes (get_or records (i - 1) y).surface in
+    let this : List ℕ = cow_str_bytes (get_or records i x).surface in
+    let before : List ℕ = cow_str_bytes (get_or records (i - 1) y).surface in
     let a = surface_is records i x less in
     let b = surface_is records (i - 1) y (omega (arith, less)) in (
       λ yes. inr (λ same. true≢false (sym yes ∙ test ∙ ap not ((bytes_eq-Decides this before).1 (sym a ∙ same ∙ b)))),
@@ -127,7 +127,7 @@ grouped_full rows sorted i groups surface less grouped begins is full =
     let all = most_of_all rows (i + 1) in
     omega (arith, m, e, l, all, full)
 
-pub key_of_entry : (records : List Record) (i : ℕ) (r : Record) (bytes : List ℕ) → i < length records → bytes ≡ string_bytes (get_or records i r).surface → bytes ≡ surface_at (rows_of records) i
+pub key_of_entry : (records : List Record) (i : ℕ) (r : Record) (bytes : List ℕ) → i < length records → bytes ≡ cow_str_bytes (get_or records i r).surface → bytes ≡ surface_at (rows_of records) i
 key_of_entry records i r bytes less is = is ∙ sym (surface_is records i r less)
 
 -- before any entry

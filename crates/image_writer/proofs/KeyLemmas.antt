@@ -4,7 +4,6 @@ use Rattle.std.specs.Prelude.{All, IsUtf8}
 use Rattle.std.proofs.lemmas.Bool.{cases_lt}
 use Rattle.std.proofs.lemmas.List.{get_or_past}
 use Rattle.std.proofs.lemmas.Option.{same_Some}
-use Rattle.std.proofs.lemmas.Str.{IsUtf8-string_bytes}
 use Rattle.mj_model.specs.declared.entry.Record.{Record}
 use Rattle.double_array.specs.CellMap.{Cell, free_cell, base, check, walk, codes_of, value_of}
 use Rattle.double_array.specs.CellRules.{AreCells, AreOnKeys, IsBaseAfter, MeetsRules}
@@ -118,7 +117,7 @@ module _ (rows : List Row) (seen : ℕ) (starts : List ℕ) (cells : List Cell) 
 
 pub texts_of : (records : List Record) (i : ℕ) → i < length (rows_of records) → IsUtf8 (surface_at (rows_of records) i)
 texts_of [] i less = absurd (omega (arith, less))
-texts_of (r ∷ rs) zero less = IsUtf8-string_bytes r.surface
+texts_of (r ∷ rs) zero less = r.is_text
 texts_of (r ∷ rs) (suc i) less = texts_of rs i (omega (arith, less))
 
 key_of_group : (sizes : MatrixSizes) (rows : List Row) → All (IsLexiconRow sizes) rows → ((i : ℕ) → i < length rows → IsUtf8 (surface_at rows i))

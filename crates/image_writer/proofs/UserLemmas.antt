@@ -9,7 +9,7 @@ use Rattle.mj_model.specs.Lexicon.{Row}
 use Rattle.mj_model.specs.Tables.{User}
 use Rattle.image_bytes.specs.declared.header.Header.{Header}
 use Rattle.image_writer.specs.Frames.{IsFramed}
-use Rattle.image_writer.specs.declared.lexicon.LexiconBytes.{LexiconBytes}
+use Rattle.image_writer.specs.declared.lexicon_bytes.LexiconBytes.{LexiconBytes}
 use Rattle.image_writer.specs.Entries.{lexemes_of, tokens_of}
 use Rattle.image_writer.specs.Sections.{AreSections}
 use Rattle.mj_model.specs.Connection.{AreMatrixSizes}

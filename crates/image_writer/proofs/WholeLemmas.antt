@@ -18,7 +18,7 @@ use Rattle.char_def.specs.Categories.{CharCategories, IsCategoryTable}
 use Rattle.char_def.specs.Outside.{all_lines_outside}
 use Rattle.image_writer.specs.Frames.{IsFramed}
 use Rattle.image_writer.specs.StoredTables.{AreCategoriesOf, AreCostsOf, HoldRangesOf, AreUnknownOf}
-use Rattle.image_writer.specs.declared.lexicon.LexiconBytes.{LexiconBytes}
+use Rattle.image_writer.specs.declared.lexicon_bytes.LexiconBytes.{LexiconBytes}
 use Rattle.image_writer.specs.Sections.{AreSections}
 use Rattle.image_writer.specs.SystemImages.{IsSystemImage, tables_with}
 use Rattle.image_writer.proofs.FormedLemmas.{at, eight_of, from_parts}

@@ -6,7 +6,7 @@ use Rattle.mj_model.specs.declared.entry.Record.{Record}
 use Rattle.image_bytes.specs.ImageBounds.{each_once, feature_bytes_end}
 use Rattle.mj_model.specs.Lexicon.{Row, row_of, rows_of}
 use Rattle.image_writer.specs.declared.tokens.TokenWriter.{TokenWriter}
-use Rattle.image_writer.specs.Sections.{AreWritten, HoldTokens, HoldsOneMore, HoldsTexts, IsTooLarge, StandsAt, features_of}
+use Rattle.image_writer.specs.Sections.{AreWritten, HoldTokens, HoldsOneMore, HoldsTexts, IsTooLarge, StandsAt, features_in, features_of}
 use Rattle.image_writer.specs.TokenBytes.{FitsBytes, stored_bytes}
 use Rattle.image_writer.proofs.FeatureLemmas.{too_large, still_too_large}
 use Rattle.image_writer.proofs.TokenLemmas.{hold_more, stored_of}
@@ -16,9 +16,9 @@ pub token_written : (rows : List Row) (row : Row) (old new : TokenWriter) (place
     → FitsBytes (stored_of row place) → IsUtf8 row.feature → new.tokens.items ≡ old.tokens.items ++ stored_bytes (stored_of row place) → AreWritten (rows ++ row ∷ []) new
 token_written rows row old new place written more fits text bytes =
     record {
-      tokens = subst (λ (tokens : List ℕ). HoldTokens (rows ++ row ∷ []) tokens new.features.bytes.items) (sym bytes)
+      tokens = subst (λ (tokens : List ℕ). HoldTokens (rows ++ row ∷ []) tokens (features_in new.features)) (sym bytes)
           (subst (HoldTokens (rows ++ row ∷ []) (old.tokens.items ++ stored_bytes (stored_of row place))) (sym more.kept)
-          (hold_more rows row old.tokens.items old.features.bytes.items more.more place written.tokens fits
+          (hold_more rows row old.tokens.items (features_in old.features) more.more place written.tokens fits
           (subst (λ (b : List ℕ). StandsAt b row.feature place) more.kept more.stands) text));
       features = subst (λ (texts : List (List ℕ)). HoldsTexts texts new.features) (sym (map-append (λ (r : Row). r.feature) rows (row ∷ []))) more.holds;
     }

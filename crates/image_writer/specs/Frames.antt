@@ -1,11 +1,14 @@
 -- Images around their sections.
-use Rattle.std.specs.Prelude.{◌≡◌, ℕ, suc, ◌^◌, ◌<◌, List, [], ◌∷◌, ◌++◌, length, map, flat_map, take, slice_index_or}
+use Rattle.std.specs.Prelude.{◌≡◌, ℕ, ℤ, suc, ◌^◌, ◌<◌, List, [], ◌∷◌, ◌++◌, length, map, flat_map, take, slice_index_or}
 use Rattle.std.specs.List.{AllByRecursion}
 use Rattle.byteorder.specs.Endian.{little_bytes}
 use Rattle.image_bytes.specs.declared.header.Header.{Header}
 use Rattle.image_bytes.specs.declared.layout.TheConstants.{LAYOUT}
 use Rattle.image_bytes.specs.ImageBytes.{header_of, image_magic, section, total_length}
 use Rattle.image_bytes.specs.ImageFaults.{HasDigest}
+use Rattle.std.specs.Borrow.{Bor}
+use Rattle.image_writer.specs.Places.{joined_texts}
+use Rattle.image_writer.specs.StoredTables.{cost_section}
 
 -- the numbers of 4 bytes, in their order
 abbrev pub number_list : Header → List ℕ
@@ -33,6 +36,10 @@ AreShort lengths = AllByRecursion (λ n. n < 2 ^ 64) lengths
 pub record IsHeaderFor (sections : List (List ℕ)) (h : Header) : Type 0 where
   pub layout : h.layout ≡ LAYOUT
   pub lengths : h.lengths ≡ map length sections
+
+-- the sections of an image: costs, six that stand as they are, and features one behind another
+abbrev pub all_sections : List ℤ → List (Bor (List ℕ)) → List (Bor (List ℕ)) → List (List ℕ)
+all_sections costs others features = cost_section costs ∷ (map (λ (section : Bor (List ℕ)). section.now) others ++ joined_texts features ∷ [])
 
 -- an image with this header and these sections
 pub record IsFramed (h : Header) (sections : List (List ℕ)) (image : List ℕ) : Type 0 where

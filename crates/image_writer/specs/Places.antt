@@ -1,5 +1,5 @@
 -- Where texts stand in the bytes of a store.
-use Rattle.std.specs.Prelude.{◌≡◌, ℕ, ◌+◌, ◌≤◌, List, length, Option, Some}
+use Rattle.std.specs.Prelude.{◌≡◌, ℕ, ◌+◌, ◌≤◌, List, flat_map, length, Option, Some}
 use Rattle.std.specs.BTreeMap.{BTreeMap, get_by}
 use Rattle.std.specs.Cmp.Lexicographic.{slice_cmp}
 use Rattle.std.specs.Ordering.{nat_cmp, ordering_then}
@@ -22,6 +22,10 @@ Places = BTreeMap Marked ℕ
 -- where a text stands, if it is there
 abbrev pub place_in : Places → List ℕ → Option ℕ
 place_in places text = get_by (marked_cmp (mark_of_bytes text) text) places
+
+-- texts one behind another
+abbrev pub joined_texts : List (Bor (List ℕ)) → List ℕ
+joined_texts texts = flat_map (λ (text : Bor (List ℕ)). text.now) texts
 
 -- each text of the map ends within the bytes
 abbrev pub ArePlacesWithin : List ℕ → Places → Type 0

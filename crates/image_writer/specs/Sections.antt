@@ -10,14 +10,14 @@ use Rattle.mj_model.specs.Lexicon.{Row}
 use Rattle.mj_model.specs.UnkDef.{token_of}
 use Rattle.image_writer.specs.declared.features.FeatureStore.{FeatureStore}
 use Rattle.image_writer.specs.declared.keys.KeyBytes.{KeyBytes}
-use Rattle.image_writer.specs.declared.lexicon.LexiconBytes.{LexiconBytes}
+use Rattle.image_writer.specs.declared.lexicon_bytes.LexiconBytes.{LexiconBytes}
 use Rattle.image_writer.specs.declared.tokens.TokenWriter.{TokenWriter}
 use Rattle.image_writer.specs.Groups.{AreUnderKeys}
-use Rattle.image_writer.specs.Places.{place_in}
+use Rattle.image_writer.specs.Places.{joined_texts, place_in}
 use Rattle.image_writer.specs.Entries.{all_rows, lexemes_of, tokens_of}
 
 abbrev pub sections_of : LexiconBytes → LexiconSections
-sections_of bytes = record { form = Cells; keys = bytes.keys.items; groups = bytes.groups.items; tokens = bytes.tokens.items; features = bytes.features.items }
+sections_of bytes = record { form = Cells; keys = bytes.keys.items; groups = bytes.groups.items; tokens = bytes.tokens.items; features = joined_texts bytes.features.items }
 
 -- cells that hold each group once, each with a key
 pub record HoldKeys (groups : ℕ) (cells : List ℕ) : Type 0 where
@@ -51,9 +51,9 @@ pub record AreSections (lexicon : List Row) (unknown : List (List Row)) (s : Lex
   pub keys : HoldKeys s.group_count s.keys.items
   pub groups : IsIndex s.group_count 0 (length lexicon) s.groups.items
   pub few_groups : s.group_count ≤ length lexicon
-  pub tokens : HoldTokens (all_rows lexicon unknown) s.tokens.items s.features.items
+  pub tokens : HoldTokens (all_rows lexicon unknown) s.tokens.items (joined_texts s.features.items)
   pub means : lexicon_in s.group_count (sections_of s) ≡ lexemes_of lexicon
-  pub features : s.features.items ≡ concat (each_once (features_of (all_rows lexicon unknown)))
+  pub features : joined_texts s.features.items ≡ concat (each_once (features_of (all_rows lexicon unknown)))
   pub few_features : feature_bytes (tokens_of (all_rows lexicon unknown)) < feature_bytes_end
 
 -- the features of these rows are too many for an image
@@ -67,25 +67,29 @@ pub record StandsAt (bytes text : List ℕ) (place : ℕ) : Type 0 where
   pub within : place + length text ≤ length bytes
   pub is : slice_range bytes place (place + length text) ≡ text
 
+-- the features of a store, one behind another
+abbrev pub features_in : FeatureStore → List ℕ
+features_in store = joined_texts store.texts.items
+
 -- the store has each of the texts once, in the order of their first uses, and knows their places
 pub record HoldsTexts (texts : List (List ℕ)) (store : FeatureStore) : Type 0 where
-  pub bytes : store.bytes.items ≡ concat (each_once texts)
+  pub bytes : features_in store ≡ concat (each_once texts)
   pub known : (text : List ℕ) → is_some (place_in store.places text) ≡ list_any (bytes_eq text) texts
-  pub places : (text : List ℕ) (place : ℕ) → place_in store.places text ≡ Some place → StandsAt store.bytes.items text place
+  pub places : (text : List ℕ) (place : ℕ) → place_in store.places text ≡ Some place → StandsAt (features_in store) text place
 
 -- a store has one more text, at this place, and keeps the bytes before
 pub record HoldsOneMore (texts : List (List ℕ)) (text : List ℕ) (old new : FeatureStore) (place : ℕ) : Type 0 where
   pub holds : HoldsTexts (texts ++ text ∷ []) new
-  pub stands : StandsAt new.bytes.items text place
+  pub stands : StandsAt (features_in new) text place
   pub more : List ℕ
-  pub kept : new.bytes.items ≡ old.bytes.items ++ more
+  pub kept : features_in new ≡ features_in old ++ more
 
 -- a store after a new text
 pub record IsAdded (text : List ℕ) (old new : FeatureStore) : Type 0 where
-  pub bytes : new.bytes.items ≡ old.bytes.items ++ text
-  pub places : (q : List ℕ) → place_in new.places q ≡ cond (bytes_eq text q) (Some (length old.bytes.items)) (place_in old.places q)
+  pub bytes : features_in new ≡ features_in old ++ text
+  pub places : (q : List ℕ) → place_in new.places q ≡ cond (bytes_eq text q) (Some (length (features_in old))) (place_in old.places q)
 
 -- the tokens of these rows are written
 pub record AreWritten (rows : List Row) (writer : TokenWriter) : Type 0 where
-  pub tokens : HoldTokens rows writer.tokens.items writer.features.bytes.items
+  pub tokens : HoldTokens rows writer.tokens.items (features_in writer.features)
   pub features : HoldsTexts (features_of rows) writer.features

@@ -3,7 +3,7 @@ ghost use Rattle.std.specs.Prelude.{◌≡◌, ◌≢◌, ◌<◌, ◌+◌, None
 ghost use Rattle.std.proofs.Props.{props};
 ghost use Rattle.image_bytes.specs.ImageBounds.{feature_bytes_end};
 ghost use Rattle.image_writer.specs.Marks.{mark_of_bytes};
-ghost use Rattle.image_writer.specs.Places.{ArePlacesWithin, place_in};
+ghost use Rattle.image_writer.specs.Places.{ArePlacesWithin, joined_texts, place_in};
 ghost use Rattle.image_writer.specs.declared.fault.LexiconFault.TheVariants.{ArrayFull, FeaturesTooLarge};
 
 use crate::fault::LexiconFault;
@@ -12,28 +12,31 @@ use image_bytes::FEATURE_BYTES_END;
 use std::alloc::Global;
 use std::collections::BTreeMap;
 
-/// Features, each once, in the order of their first uses.
+/// Features, each once, in the order of their first uses. They stay where they are until an image takes them.
 #[derive(Drop)]
 pub(crate) struct FeatureStore<'a> {
-    /// The features, one behind another.
-    pub bytes: Vec<u8>,
+    pub texts: Vec<&'a str>,
+    /// How many bytes they have together.
+    pub size: usize,
     /// Where each feature begins, by its mark and itself. A tree, since no features can be chosen that make it slow: those of one mark
     /// are compared by their bytes.
     pub places: BTreeMap<(u64, &'a str), u32>,
-    ghost few: { length bytes.items < feature_bytes_end },
-    ghost within: { ArePlacesWithin bytes.items places } by { Prim.hlevel props },
+    ghost long: { size ≡ length (joined_texts texts.items) },
+    ghost few: { size < feature_bytes_end },
+    ghost within: { ArePlacesWithin (joined_texts texts.items) places } by { Prim.hlevel props },
 }
 
 impl<'a> FeatureStore<'a> {
     ghost use Rattle.image_writer.specs.Refusals.{LargeOnlyOf, LargeOnlyWith};
-    ghost use Rattle.image_writer.specs.Sections.{HoldsTexts, HoldsOneMore, IsAdded};
+    ghost use Rattle.image_writer.specs.Sections.{HoldsTexts, HoldsOneMore, IsAdded, features_in};
 
     /// No features.
     pub(crate) fn new(alloc: Global) -> FeatureStore<'a>
         ensures { HoldsTexts [] result }
     {
         FeatureStore {
-            bytes: Vec::new(alloc),
+            texts: Vec::new(alloc),
+            size: 0,
             places: BTreeMap::new(alloc),
         }
     }
@@ -60,15 +63,16 @@ impl<'a> FeatureStore<'a> {
         requires new { place_in self.old.places feature.now ≡ None }
         ensures short { OnOk result (length feature.now < feature_bytes_end) }
         ensures added { OnOk result (IsAdded feature.now self.old self.new) }
-        ensures place { IfOk result (λ place. place ≡ length self.old.bytes.items) }
-        ensures large { IfErr result (LargeOnlyWith self.old.bytes.items feature.now) }
+        ensures place { IfOk result (λ place. place ≡ length (features_in self.old)) }
+        ensures large { IfErr result (LargeOnlyWith (features_in self.old) feature.now) }
         ensures never_full { IfErr result (λ fault. fault ≢ ArrayFull) }
     {
-        if feature.len() >= FEATURE_BYTES_END - self.bytes.len() {
+        if feature.len() >= FEATURE_BYTES_END - self.size {
             return Err(LexiconFault::FeaturesTooLarge);
         }
-        let place = self.bytes.len() as u32;
-        self.bytes.extend_from_slice(feature.as_bytes())?;
+        let place = self.size as u32;
+        self.texts.push(feature)?;
+        self.size += feature.len();
         self.places.insert((mark, feature), place)?;
         Ok(place)
     }

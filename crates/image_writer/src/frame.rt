@@ -1,7 +1,7 @@
 //! A whole image.
-ghost use Rattle.std.specs.Prelude.{◌≡◌, ◌++◌, ◌∷◌, map, flat_map, IfOk, OnOk};
-ghost use Rattle.image_writer.specs.Frames.{IsFramed, IsHeaderFor};
-ghost use Rattle.image_writer.specs.StoredTables.{cost_section};
+ghost use Rattle.std.specs.Prelude.{◌≡◌, ◌++◌, flat_map, IfOk, OnOk};
+ghost use Rattle.image_writer.specs.Frames.{IsFramed, IsHeaderFor, all_sections};
+ghost use Rattle.image_writer.specs.Places.{joined_texts};
 
 use crate::costs::append_costs;
 use crate::header::append_header;
@@ -9,22 +9,23 @@ use image_bytes::{DIGEST_LENGTH, HEADER_LENGTH, Header};
 use sha2::{Digest, Sha256};
 use std::alloc::{AllocError, Global};
 
-/// The image of a header, of connection costs and of the seven sections after them. On `Err` memory was refused.
+/// The image of a header, of connection costs, of the six sections after them, and of features. On `Err` memory was refused.
 pub(crate) fn write_image(
     alloc: Global,
     header: Header,
     costs: &[i16],
-    sections: &[&[u8]; 7],
+    sections: &[&[u8]; 6],
+    features: &[&str],
 ) -> Result<Vec<u8>, AllocError>
-    requires { IsHeaderFor (cost_section costs.now ∷ map (λ section. section.now) sections.now)
-        header }
+    requires { IsHeaderFor (all_sections costs.now sections.now features.now) header }
     ensures { IfOk result (λ image. IsFramed header
-        (cost_section costs.now ∷ map (λ section. section.now) sections.now) image.items) }
+        (all_sections costs.now sections.now features.now) image.items) }
 {
     let mut image = Vec::with_capacity(alloc, image_length(&header.lengths))?;
     append_header(header, &mut image)?;
     append_costs(costs, &mut image)?;
     append_sections(sections, &mut image)?;
+    append_texts(features, &mut image)?;
     let digest = Sha256::digest(&image);
     image.extend_from_slice(&digest)?;
     Ok(image)
@@ -39,12 +40,22 @@ fn image_length(lengths: &[u64; 8]) -> usize {
         })
 }
 
-fn append_sections(sections: &[&[u8]; 7], image: &mut Vec<u8>) -> Result<(), AllocError>
+fn append_sections(sections: &[&[u8]; 6], image: &mut Vec<u8>) -> Result<(), AllocError>
     ensures { OnOk result (image.new.items
         ≡ image.old.items ++ flat_map (λ section. section.now) sections.now) }
 {
     for section in sections {
         image.extend_from_slice(section)?;
+    }
+    Ok(())
+}
+
+/// Appends texts, one behind another.
+fn append_texts(texts: &[&str], image: &mut Vec<u8>) -> Result<(), AllocError>
+    ensures { OnOk result (image.new.items ≡ image.old.items ++ joined_texts texts.now) }
+{
+    for text in texts {
+        image.extend_from_slice(text.as_bytes())?;
     }
     Ok(())
 }

@@ -42,7 +42,10 @@ impl Groups {
 }
 
 /// The groups of a lexicon.
-pub(crate) fn group_entries(alloc: Global, lexicon: &SortedLexicon) -> Result<Groups, LexiconFault>
+pub(crate) fn group_entries(
+    alloc: Global,
+    lexicon: &SortedLexicon<'_>,
+) -> Result<Groups, LexiconFault>
     ensures grouped { IfOk result (AreGrouped lexicon.now.rows (length lexicon.now.rows)) }
     ensures full { IfErr result (FullOnlyFor lexicon.now.rows) }
     ensures no_features { IfErr result (λ fault. fault ≢ FeaturesTooLarge) }
@@ -54,14 +57,14 @@ pub(crate) fn group_entries(alloc: Global, lexicon: &SortedLexicon) -> Result<Gr
     };
     for i in 0..records.len() {
         if begins_group(records, i) {
-            groups.begin(records[i].surface.as_bytes(), i as u32)?;
+            groups.begin(records[i].surface.as_str().as_bytes(), i as u32)?;
         }
     }
     Ok(groups)
 }
 
 /// Whether entry `i` is the first one of its surface.
-fn begins_group(records: &[Record], i: usize) -> bool
+fn begins_group(records: &[Record<'_>], i: usize) -> bool
     requires { i < length records.now }
     ensures { IsTrue result ↔ BeginsGroup (rows_of records.now) i }
 {

@@ -20,7 +20,10 @@ pub(crate) struct KeyBytes {
 }
 
 /// The keys and groups of a lexicon.
-pub(crate) fn write_keys(alloc: Global, lexicon: &SortedLexicon) -> Result<KeyBytes, LexiconFault>
+pub(crate) fn write_keys(
+    alloc: Global,
+    lexicon: &SortedLexicon<'_>,
+) -> Result<KeyBytes, LexiconFault>
     ensures keys { IfOk result (AreKeyBytes lexicon.now.rows) }
     ensures full { IfErr result (FullOnlyFor lexicon.now.rows) }
     ensures no_features { IfErr result (λ fault. fault ≢ FeaturesTooLarge) }

@@ -7,34 +7,22 @@ ghost use Rattle.image_writer.specs.Sections.{AreKeyBytes, AreSections, AreWritt
 ghost use Rattle.image_writer.specs.declared.fault.LexiconFault.TheVariants.{ArrayFull};
 
 use crate::fault::LexiconFault;
+use crate::features::FeatureStore;
 use crate::keys::{KeyBytes, write_keys};
+use crate::lexicon_bytes::LexiconBytes;
 use crate::tokens::TokenWriter;
 use char_def::UnkTable;
 use lex_source::SortedLexicon;
 use std::alloc::Global;
 
-/// The bytes of four sections, and how many groups (distinct surfaces) there are.
-#[derive(Drop)]
-pub(crate) struct LexiconBytes {
-    /// Cells of 8 bytes, which give each surface its group.
-    pub keys: Vec<u8>,
-    /// Numbers of 4 bytes: the first token of each group, and the number of the lexicon's tokens.
-    pub groups: Vec<u8>,
-    /// Tokens of 16 bytes.
-    pub tokens: Vec<u8>,
-    /// Each distinct feature once, in the order of its first token.
-    pub features: Vec<u8>,
-    pub group_count: u32,
-}
-
 /// The sections of a system dictionary: of its lexicon, and of the unknown entries of all categories.
 ///
 /// The tokens of the unknown entries follow those of the lexicon, category by category. (The layout is this project's own.)
-pub(crate) fn write_lexicon(
+pub(crate) fn write_lexicon<'a>(
     alloc: Global,
-    lexicon: &SortedLexicon,
-    unknown: &UnkTable,
-) -> Result<LexiconBytes, LexiconFault>
+    lexicon: &SortedLexicon<'a>,
+    unknown: &UnkTable<'a>,
+) -> Result<LexiconBytes<'a>, LexiconFault>
     ensures sections { IfOk result (AreSections lexicon.now.rows unknown.now) }
 
     // A refusal has its reason.
@@ -49,10 +37,10 @@ pub(crate) fn write_lexicon(
 }
 
 /// The sections of a user dictionary.
-pub(crate) fn write_user_lexicon(
+pub(crate) fn write_user_lexicon<'a>(
     alloc: Global,
-    lexicon: &SortedLexicon,
-) -> Result<LexiconBytes, LexiconFault>
+    lexicon: &SortedLexicon<'a>,
+) -> Result<LexiconBytes<'a>, LexiconFault>
     ensures sections { IfOk result (AreSections lexicon.now.rows []) }
 
     // A refusal has its reason.
@@ -66,21 +54,24 @@ pub(crate) fn write_user_lexicon(
 }
 
 /// The keys and the tokens together.
-fn sections(keys: KeyBytes, writer: TokenWriter<'_>) -> LexiconBytes
+fn sections<'a>(keys: KeyBytes, writer: TokenWriter<'a>) -> LexiconBytes<'a>
     ensures { (lexicon : List Row) → (unknown : List (List Row)) → AreKeyBytes lexicon keys
         → AreWritten (all_rows lexicon unknown) writer.entry → AreSections lexicon unknown result }
 {
+    let TokenWriter { tokens, features } = writer;
+    let FeatureStore { texts, size, .. } = features;
     LexiconBytes {
         keys: keys.cells,
         groups: keys.index,
-        tokens: writer.tokens,
-        features: writer.features.bytes,
+        tokens,
+        features: texts,
+        feature_size: size,
         group_count: keys.groups,
     }
 }
 
 /// Adds the tokens of each category's unknown entries.
-fn add_unknown<'a>(writer: &mut TokenWriter<'a>, unknown: &'a UnkTable) -> Result<(), LexiconFault>
+fn add_unknown<'a>(writer: &mut TokenWriter<'a>, unknown: &UnkTable<'a>) -> Result<(), LexiconFault>
     ensures written { (rows : List Row) → AreWritten rows writer.old
         → OnOk result (AreWritten (all_rows rows unknown.now) writer.new) }
     ensures large { (rows : List Row) → AreWritten rows writer.old

@@ -12,6 +12,7 @@ mod groups;
 mod header;
 mod keys;
 mod lexicon;
+mod lexicon_bytes;
 mod mark;
 mod ranges;
 mod system;

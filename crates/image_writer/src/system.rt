@@ -9,6 +9,7 @@ use crate::categories::write_categories;
 use crate::fault::LexiconFault;
 use crate::frame::write_image;
 use crate::lexicon::write_lexicon;
+use crate::lexicon_bytes::LexiconBytes;
 use crate::ranges::write_ranges;
 use crate::unknown_index::{unknown_count, write_unknown_index};
 use char_def::{CharTable, UnkTable};
@@ -18,12 +19,12 @@ use matrix_def::Matrix;
 use std::alloc::Global;
 
 /// The image of a system dictionary.
-pub fn write_system(
+pub fn write_system<'a>(
     alloc: Global,
     matrix: &Matrix,
     chars: &CharTable,
-    unknown: &UnkTable,
-    lexicon: &SortedLexicon,
+    unknown: &UnkTable<'a>,
+    lexicon: &SortedLexicon<'a>,
 ) -> Result<Vec<u8>, LexiconFault>
     requires sizes { lexicon.now.sizes ≡ matrix.now.sizes }
     requires categories { length unknown.now ≡ length chars.now.categories }
@@ -38,6 +39,15 @@ pub fn write_system(
     let count = chars.count();
     let entries = lexicon.records().len();
     let lexicon_bytes = write_lexicon(alloc, lexicon, unknown)?;
+    let LexiconBytes {
+        keys,
+        groups,
+        tokens,
+        features,
+        feature_size,
+        group_count,
+        ..
+    } = lexicon_bytes;
     let costs = matrix.costs();
     let categories = write_categories(alloc, chars)?;
     let ranges = write_ranges(alloc, chars)?;
@@ -46,17 +56,16 @@ pub fn write_system(
         categories.as_slice(),
         &ranges,
         &index,
-        &lexicon_bytes.keys,
-        &lexicon_bytes.groups,
-        &lexicon_bytes.tokens,
-        &lexicon_bytes.features,
+        &keys,
+        &groups,
+        &tokens,
     ];
     let header = Header {
         layout: LAYOUT,
         kind: 0,
         sizes: matrix.sizes(),
         categories: count as u32,
-        groups: lexicon_bytes.group_count,
+        groups: group_count,
         tokens: entries as u32,
         unknown: unknown_count(unknown) as u32,
         lengths: [
@@ -64,11 +73,11 @@ pub fn write_system(
             categories.len() as u64,
             ranges.len() as u64,
             index.len() as u64,
-            lexicon_bytes.keys.len() as u64,
-            lexicon_bytes.groups.len() as u64,
-            lexicon_bytes.tokens.len() as u64,
-            lexicon_bytes.features.len() as u64,
+            keys.len() as u64,
+            groups.len() as u64,
+            tokens.len() as u64,
+            feature_size as u64,
         ],
     };
-    Ok(write_image(alloc, header, costs, &sections)?)
+    Ok(write_image(alloc, header, costs, &sections, &features)?)
 }

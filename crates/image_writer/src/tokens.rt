@@ -31,7 +31,7 @@ impl<'a> TokenWriter<'a> {
     }
 
     /// Adds the tokens of all the records, in their order.
-    pub(crate) fn add_all(&mut self, records: &'a [Record]) -> Result<(), LexiconFault>
+    pub(crate) fn add_all(&mut self, records: &[Record<'a>]) -> Result<(), LexiconFault>
         ensures written { (rows : List Row) → AreWritten rows self.old
             → OnOk result (AreWritten (rows ++ rows_of records.now) self.new) }
         ensures large { (rows : List Row) → AreWritten rows self.old
@@ -45,7 +45,7 @@ impl<'a> TokenWriter<'a> {
     }
 
     /// Adds the token of a record.
-    fn add(&mut self, row: &'a Record) -> Result<(), LexiconFault>
+    fn add(&mut self, row: &Record<'a>) -> Result<(), LexiconFault>
         ensures written { (rows : List Row) → AreWritten rows self.old
             → OnOk result (AreWritten (rows ++ row_of row.now ∷ []) self.new) }
         ensures large { (rows : List Row) → AreWritten rows self.old
@@ -53,7 +53,7 @@ impl<'a> TokenWriter<'a> {
         ensures never_full { IfErr result (λ fault. fault ≢ ArrayFull) }
     {
         let entry = &row.entry;
-        let feature = entry.feature.as_str();
+        let feature = entry.feature;
         let place = self.features.place_of(feature)?;
         let length = feature.len() as u32;
         let token = token_bytes(entry.left, entry.right, entry.cost, place, length);

@@ -11,7 +11,7 @@ use std::alloc::{AllocError, Global};
 /// all entries; 4 bytes each. On `Err` memory was refused.
 pub(crate) fn write_unknown_index(
     alloc: Global,
-    unknown: &UnkTable,
+    unknown: &UnkTable<'_>,
     entries: usize,
 ) -> Result<Vec<u8>, AllocError>
     requires { entries ≤ EntriesMax }
@@ -28,7 +28,7 @@ pub(crate) fn write_unknown_index(
 }
 
 /// How many unknown entries there are in all.
-pub(crate) fn unknown_count(unknown: &UnkTable) -> usize
+pub(crate) fn unknown_count(unknown: &UnkTable<'_>) -> usize
     ensures count { result ≡ sum_by length unknown.now }
     ensures few { result ≤ EntriesMax }
 {

@@ -7,12 +7,13 @@ ghost use Rattle.image_writer.specs.UserImages.{IsUserImage};
 use crate::fault::LexiconFault;
 use crate::frame::write_image;
 use crate::lexicon::write_user_lexicon;
+use crate::lexicon_bytes::LexiconBytes;
 use image_bytes::{Header, LAYOUT};
 use lex_source::SortedLexicon;
 use std::alloc::Global;
 
 /// The image of a user dictionary for connection costs of the lexicon's sizes.
-pub fn write_user(alloc: Global, lexicon: &SortedLexicon) -> Result<Vec<u8>, LexiconFault>
+pub fn write_user(alloc: Global, lexicon: &SortedLexicon<'_>) -> Result<Vec<u8>, LexiconFault>
     requires sizes { AreMatrixSizes lexicon.now.sizes }
     ensures image { IfOk result (λ image. IsUserImage lexicon.now.sizes lexicon.now.rows
         image.items) }
@@ -22,21 +23,22 @@ pub fn write_user(alloc: Global, lexicon: &SortedLexicon) -> Result<Vec<u8>, Lex
     ensures full { IfErr result (FullOnlyFor lexicon.now.rows) }
 {
     let lexicon_bytes = write_user_lexicon(alloc, lexicon)?;
-    let sections = [
-        b"".as_slice(),
-        b"",
-        b"",
-        &lexicon_bytes.keys,
-        &lexicon_bytes.groups,
-        &lexicon_bytes.tokens,
-        &lexicon_bytes.features,
-    ];
+    let LexiconBytes {
+        keys,
+        groups,
+        tokens,
+        features,
+        feature_size,
+        group_count,
+        ..
+    } = lexicon_bytes;
+    let sections = [b"".as_slice(), b"", b"", &keys, &groups, &tokens];
     let header = Header {
         layout: LAYOUT,
         kind: 1,
         sizes: lexicon.sizes(),
         categories: 0,
-        groups: lexicon_bytes.group_count,
+        groups: group_count,
         tokens: lexicon.records().len() as u32,
         unknown: 0,
         lengths: [
@@ -44,11 +46,11 @@ pub fn write_user(alloc: Global, lexicon: &SortedLexicon) -> Result<Vec<u8>, Lex
             0,
             0,
             0,
-            lexicon_bytes.keys.len() as u64,
-            lexicon_bytes.groups.len() as u64,
-            lexicon_bytes.tokens.len() as u64,
-            lexicon_bytes.features.len() as u64,
+            keys.len() as u64,
+            groups.len() as u64,
+            tokens.len() as u64,
+            feature_size as u64,
         ],
     };
-    Ok(write_image(alloc, header, &[], &sections)?)
+    Ok(write_image(alloc, header, &[], &sections, &features)?)
 }

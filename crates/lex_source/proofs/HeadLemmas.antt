@@ -1,6 +1,7 @@
 -- Surfaces compare as their heads do, and as the surfaces where these are equal; and records that were sorted with their heads are sorted.
 use Rattle.std.proofs.Common.{◌≡◌, ◌⊎◌, inl, inr, ℕ, zero, suc, ◌+◌, ◌<◌, Bool, List, [], ◌∷◌, length, get_or, map, sym, ap, ◌∙◌, refl, arith, subst}
-use Rattle.std.specs.Prelude.{string_bytes, IsPermutation, IsSortedBy}
+use Rattle.std.specs.Cow.{cow_str_bytes}
+use Rattle.std.specs.Prelude.{IsPermutation, IsSortedBy}
 use Rattle.std.specs.Cmp.{IsStrictWeakOrder}
 use Rattle.std.specs.Cmp.Lexicographic.{nat_list_cmp_total}
 use Rattle.std.specs.List.Sorted.{ties, IsStableBy}
@@ -98,7 +99,7 @@ abbrev pub is_headed_below : Headed → Headed → Bool
 is_headed_below a b = is_below (without_head a) (without_head b)
 
 pub is_headed_below_order : IsStrictWeakOrder is_headed_below
-is_headed_below_order = ranks_by nat_list_cmp_total (λ (h : Headed). string_bytes h.row.surface)
+is_headed_below_order = ranks_by nat_list_cmp_total (λ (h : Headed). cow_str_bytes h.row.surface)
 
 pub sorted_alone : (hs : List Headed) → IsSortedBy is_headed_below hs → IsSortedBy is_below (map without_head hs)
 sorted_alone [] up k d low high = absurd (omega arith)
@@ -112,7 +113,7 @@ sorted_alone (h ∷ hs) up k d low high =
 
 pub stable_alone : (given sorted : List Headed) → IsStableBy is_headed_below given sorted → IsStableBy is_below (map without_head given) (map without_head sorted)
 stable_alone given sorted stable x =
-    let headed : Headed = record { head = head_of_bytes (string_bytes x.surface); row = x; front = refl } in
+    let headed : Headed = record { head = head_of_bytes (cow_str_bytes x.surface); row = x; front = refl } in
     filter_map_is without_head (ties is_below x) sorted ∙ ap (map without_head) (stable headed) ∙ sym (filter_map_is without_head (ties is_below x) given)
 
 pub order_alone : (records ordered : List Record) (given sorted : List Headed) → map without_head given ≡ records → ordered ≡ map without_head sorted

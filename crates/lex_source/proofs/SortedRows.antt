@@ -1,7 +1,8 @@
 -- Records that were sorted by their surfaces, seen as rows: they stand in the byte order of the surfaces, and rows of one surface in
 -- the order in which they were given. Stability is known of each record; a row that ties with none of the records says nothing.
 use Rattle.std.proofs.Common.{◌≡◌, ℕ, ◌+◌, ◌<◌, Bool, true, false, cond, List, [], ◌∷◌, length, get_or, map, sym, ap, ◌∙◌, refl, arith}
-use Rattle.std.specs.Prelude.{string_bytes, not, ◌&&◌, filter, IsSortedBy, IsSortedByKey}
+use Rattle.std.specs.Cow.{cow_str_bytes}
+use Rattle.std.specs.Prelude.{not, ◌&&◌, filter, IsSortedBy, IsSortedByKey}
 use Rattle.std.specs.Cmp.Lexicographic.{slice_cmp, nat_list_cmp_total}
 use Rattle.std.specs.List.Sorted.{ties, IsStableBy, IsStableByKey}
 use Rattle.std.specs.declared.cmp.Ordering.{Ordering}
@@ -19,7 +20,7 @@ abbrev pub order : List ℕ → List ℕ → Ordering
 order = slice_cmp nat_cmp
 
 abbrev pub is_below : Record → Record → Bool
-is_below a b = is_lt (order (string_bytes a.surface) (string_bytes b.surface))
+is_below a b = is_lt (order (cow_str_bytes a.surface) (cow_str_bytes b.surface))
 
 -- ---- in order
 
@@ -32,7 +33,7 @@ rows_in_order (r ∷ rs) up k d low high =
     let a : get_or (rows_of all) (k + 1) d ≡ row_of (get_or all (k + 1) r) = get_or-map row_of all (k + 1) r d h in
     let b : get_or (rows_of all) k d ≡ row_of (get_or all k r) = get_or-map row_of all k r d (omega (arith, h)) in
     ap (λ (x : Row). is_lt (order x.surface (get_or (rows_of all) k d).surface)) a
-    ∙ ap (λ (x : Row). is_lt (order (string_bytes (get_or all (k + 1) r).surface) x.surface)) b
+    ∙ ap (λ (x : Row). is_lt (order (cow_str_bytes (get_or all (k + 1) r).surface) x.surface)) b
     ∙ up k r low h
 
 -- ---- stable
@@ -86,7 +87,7 @@ pub rows_stable : (given sorted : List Record) → IsStableBy is_below given sor
 rows_stable given sorted stable x =
     let tie : Row → Bool = λ (y : Row). not (is_lt (order x.surface y.surface)) && not (is_lt (order y.surface x.surface)) in
     let p : Record → Bool = λ (r : Record). tie (row_of r) in
-    let agree : (r : Record) → p r ≡ true → (z : Record) → p z ≡ ties is_below r z = λ r h z. same_ties x.surface (string_bytes r.surface) (string_bytes z.surface) h in
+    let agree : (r : Record) → p r ≡ true → (z : Record) → p z ≡ ties is_below r z = λ r h z. same_ties x.surface (cow_str_bytes r.surface) (cow_str_bytes z.surface) h in
     filter_map_is row_of tie sorted
     ∙ ap (map row_of) (same_kept_by p (ties is_below) given sorted agree stable (filter p sorted) (filter p given) refl refl)
     ∙ sym (filter_map_is row_of tie given)

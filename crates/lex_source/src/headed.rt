@@ -1,5 +1,6 @@
 //! Records with the first bytes of their surfaces beside them.
-ghost use Rattle.std.specs.Prelude.{◌≡◌, slice_index, string_bytes};
+ghost use Rattle.std.specs.Prelude.{◌≡◌, slice_index};
+ghost use Rattle.std.specs.Cow.{cow_str_bytes};
 ghost use Rattle.std.specs.Cmp.Lexicographic.{slice_cmp};
 ghost use Rattle.std.specs.Ordering.{nat_cmp};
 ghost use Rattle.lex_source.specs.Heads.{head_of_bytes};
@@ -9,19 +10,19 @@ use std::cmp::Ordering;
 
 /// A record, and the first 8 bytes of its surface: most comparisons need no more, and the surface lies elsewhere in memory.
 #[derive(Drop)]
-pub(crate) struct Headed {
+pub(crate) struct Headed<'a> {
     pub head: [u8; 8],
-    pub row: Record,
-    ghost front: { head ≡ head_of_bytes (string_bytes row.surface) },
+    pub row: Record<'a>,
+    ghost front: { head ≡ head_of_bytes (cow_str_bytes row.surface) },
 }
 
 /// How surfaces compare in byte order.
-pub(crate) fn by_surface(a: &Headed, b: &Headed) -> Ordering
-    ensures { result ≡ slice_cmp nat_cmp (string_bytes a.now.row.surface)
-        (string_bytes b.now.row.surface) }
+pub(crate) fn by_surface(a: &Headed<'_>, b: &Headed<'_>) -> Ordering
+    ensures { result ≡ slice_cmp nat_cmp (cow_str_bytes a.now.row.surface)
+        (cow_str_bytes b.now.row.surface) }
 {
     match a.head.cmp(&b.head) {
-        Ordering::Equal => a.row.surface.cmp(&b.row.surface),
+        Ordering::Equal => a.row.surface.as_str().cmp(b.row.surface.as_str()),
         other => other,
     }
 }

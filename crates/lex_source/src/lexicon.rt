@@ -11,11 +11,11 @@ use std::alloc::Global;
 
 /// Appends the accepted lines of a lexicon to `out`, and answers how many were skipped for their empty surface. `file` is the
 /// lexicon's number in a fault. (MeCab, dic-detail)
-pub fn read_lexicon(
+pub fn read_lexicon<'a>(
     alloc: Global,
-    bytes: &[u8],
+    bytes: &'a [u8],
     file: u32,
-    out: &mut Vec<Record>,
+    out: &mut Vec<Record<'a>>,
 ) -> Result<u64, SourceFault>
     ensures accepted { IfOk result (AppendsLexicon file bytes.now out.old.items out.new.items) }
     ensures refused { IfErr result (λ fault. IsRefusal fault
@@ -31,11 +31,11 @@ pub fn read_lexicon(
 }
 
 /// Appends the accepted lines up to the first bad one.
-fn append_lines(
+fn append_lines<'a>(
     alloc: Global,
-    bytes: &[u8],
+    bytes: &'a [u8],
     file: u32,
-    out: &mut Vec<Record>,
+    out: &mut Vec<Record<'a>>,
 ) -> Result<u64, SourceFault>
     ensures begins { take (length out.old.items) out.new.items ≡ out.old.items }
     ensures read { AnswersLexicon file bytes.now out.old.items out.new.items result }
@@ -51,11 +51,11 @@ fn append_lines(
 }
 
 /// Appends what comes of a line, and answers whether it counts as skipped.
-fn append_line(
+fn append_line<'a>(
     alloc: Global,
     number: u64,
-    line: &[u8],
-    out: &mut Vec<Record>,
+    line: &'a [u8],
+    out: &mut Vec<Record<'a>>,
 ) -> Result<bool, SourceKind>
     ensures taken { IfOk result (AppendsLine number line.now out.old.items out.new.items) }
     ensures refused { IfErr result (IsLineRefusal number line.now (length out.old.items)) }

@@ -9,8 +9,8 @@ use mj_model::Record;
 use std::alloc::AllocError;
 
 /// The records in the byte order of their surfaces, those of one surface in the order given.
-pub(crate) fn in_order(records: Vec<Record>) -> Result<Vec<Record>, AllocError>
-    ensures { IfOk result (λ ordered. IsInOrder (rows_of records.items) (rows_of ordered.items)) }
+pub(crate) fn in_order(records: Vec<Record<'_>>) -> Result<Vec<Record<'_>>, AllocError>
+    ensures { IfOk result (λ ordered. IsInOrder (rows_of records.entry.items) (rows_of ordered.items)) }
 {
     let mut headed = with_heads(records)?;
     headed.sort_by(by_surface)?;
@@ -18,13 +18,13 @@ pub(crate) fn in_order(records: Vec<Record>) -> Result<Vec<Record>, AllocError>
 }
 
 /// Records with the heads of their surfaces.
-fn with_heads(records: Vec<Record>) -> Result<Vec<Headed>, AllocError>
-    ensures { IfOk result (λ headed. map without_head headed.items ≡ records.items) }
+fn with_heads(records: Vec<Record<'_>>) -> Result<Vec<Headed<'_>>, AllocError>
+    ensures { IfOk result (λ headed. map without_head headed.items ≡ records.entry.items) }
 {
     let mut headed = Vec::with_capacity(*records.allocator(), records.len())?;
     for row in records {
         headed.push(Headed {
-            head: head_of(row.surface.as_bytes()),
+            head: head_of(row.surface.as_str().as_bytes()),
             row,
         })?;
     }
@@ -32,8 +32,8 @@ fn with_heads(records: Vec<Record>) -> Result<Vec<Headed>, AllocError>
 }
 
 /// The records alone.
-fn without_heads(headed: Vec<Headed>) -> Result<Vec<Record>, AllocError>
-    ensures { IfOk result (λ records. records.items ≡ map without_head headed.items) }
+fn without_heads(headed: Vec<Headed<'_>>) -> Result<Vec<Record<'_>>, AllocError>
+    ensures { IfOk result (λ records. records.items ≡ map without_head headed.entry.items) }
 {
     let mut records = Vec::with_capacity(*headed.allocator(), headed.len())?;
     for one in headed {

@@ -10,15 +10,14 @@ use crate::numbers::{context_id, cost};
 use crate::parts::{LineParts, split_line};
 use mj_model::{Entry, Record, SURFACE_MAX, SourceKind};
 use std::alloc::Global;
-use std::string::String;
 
 /// What comes of a line that isn't refused.
 #[derive(Drop)]
-pub(crate) enum LineOutcome {
+pub(crate) enum LineOutcome<'a> {
     Blank,
     /// Its surface is empty.
     Skipped,
-    Accepted(Record),
+    Accepted(Record<'a>),
 }
 
 /// The numbers of a line.
@@ -30,7 +29,11 @@ pub(crate) struct IdsAndCost {
 }
 
 /// What comes of a line.
-pub(crate) fn read_line(alloc: Global, number: u64, line: &[u8]) -> Result<LineOutcome, SourceKind>
+pub(crate) fn read_line(
+    alloc: Global,
+    number: u64,
+    line: &[u8],
+) -> Result<LineOutcome<'_>, SourceKind>
     ensures { AnswersLine number line.now result }
 {
     match split_line(line)? {
@@ -40,7 +43,11 @@ pub(crate) fn read_line(alloc: Global, number: u64, line: &[u8]) -> Result<LineO
 }
 
 /// What comes of a line with these parts.
-fn read_parts(alloc: Global, number: u64, parts: LineParts) -> Result<LineOutcome, SourceKind>
+fn read_parts<'a>(
+    alloc: Global,
+    number: u64,
+    parts: LineParts<'a>,
+) -> Result<LineOutcome<'a>, SourceKind>
     requires { (meant : Parts) × StandsFor parts meant }
     ensures { (meant : Parts) → StandsFor parts.entry meant
         → AnswersOutcome (lexicon_outcome number meant) result }
@@ -52,7 +59,7 @@ fn read_parts(alloc: Global, number: u64, parts: LineParts) -> Result<LineOutcom
 }
 
 /// The record of a line with these parts, whose surface is not too long.
-fn accept(alloc: Global, number: u64, parts: LineParts) -> Result<Record, SourceKind>
+fn accept<'a>(alloc: Global, number: u64, parts: LineParts<'a>) -> Result<Record<'a>, SourceKind>
     requires { (meant : Parts) × StandsFor parts meant }
     ensures { (meant : Parts) → StandsFor parts.entry meant
         → AnswersAccepted (accept_short (row_from number meant)) result }
@@ -65,7 +72,11 @@ fn accept(alloc: Global, number: u64, parts: LineParts) -> Result<Record, Source
 }
 
 /// The record of a line with these parts.
-pub(crate) fn record_of(alloc: Global, number: u64, parts: LineParts) -> Result<Record, SourceKind>
+pub(crate) fn record_of<'a>(
+    alloc: Global,
+    number: u64,
+    parts: LineParts<'a>,
+) -> Result<Record<'a>, SourceKind>
     requires { (meant : Parts) × StandsFor parts meant }
     ensures { (meant : Parts) → StandsFor parts.entry meant
         → AnswersRow (row_from number meant) result }
@@ -73,8 +84,7 @@ pub(crate) fn record_of(alloc: Global, number: u64, parts: LineParts) -> Result<
     let Some(numbers) = ids_and_cost(parts) else {
         return Err(SourceKind::BadNumber);
     };
-    let surface = parts.surface.to_string(alloc)?;
-    let feature = String::from_str(alloc, parts.feature)?;
+    let surface = parts.surface.text(alloc)?;
     let IdsAndCost { left, right, cost } = numbers;
     Ok(Record {
         line: number,
@@ -83,7 +93,7 @@ pub(crate) fn record_of(alloc: Global, number: u64, parts: LineParts) -> Result<
             left,
             right,
             cost,
-            feature,
+            feature: parts.feature,
         },
     })
 }

@@ -1,5 +1,6 @@
 //! The first field of a text, where it stands.
-ghost use Rattle.std.specs.Prelude.{◌≡◌, ℕ, List, ◌∷◌, ◌++◌, take, IfOk, OnOk, ◌==◌, length, string_bytes, option_copied};
+ghost use Rattle.std.specs.Prelude.{◌≡◌, ℕ, List, ◌∷◌, ◌++◌, take, IfOk, IsUtf8, OnOk, ◌==◌, length, string_bytes, option_copied};
+ghost use Rattle.std.specs.Cow.{cow_str_bytes};
 ghost use Rattle.mj_model.specs.Bytes.{quote};
 ghost use Rattle.mj_model.specs.Fields.{BeginsWithQuote, IsFieldOf, IsFirstField, rest_of as rest_behind};
 ghost use Rattle.lex_source.specs.Spelled.{IsSpelled, StandsFirst};
@@ -8,6 +9,7 @@ use crate::quoted::{append_undoubled, split_quoted};
 use crate::sink::TextSink;
 use crate::text::{split_around, split_text, without_blanks};
 use std::alloc::{AllocError, Global};
+use std::borrow::CowStr;
 use std::string::String;
 
 /// The first field of a text, and what stands behind its comma.
@@ -31,6 +33,20 @@ impl<'a> RawField<'a> {
             quoted_field(split_around(text, 0).1)
         } else {
             plain_field(text)
+        }
+    }
+
+    /// The field without its quotes, copied only where it stands between quotes.
+    pub(crate) fn text(self, alloc: Global) -> Result<CowStr<'a, Global>, AllocError>
+        requires { (field : List ℕ) × IsSpelled self.raw.now self.quoted field }
+        ensures value { (field : List ℕ) → IsSpelled self.entry.raw.now self.entry.quoted field
+            → IfOk result (λ text. cow_str_bytes text ≡ field) }
+        ensures text { IfOk result (λ text. IsUtf8 (cow_str_bytes text)) }
+    {
+        if self.quoted {
+            Ok(CowStr::Owned(self.to_string(alloc)?))
+        } else {
+            Ok(CowStr::Borrowed(self.raw))
         }
     }
 

@@ -8,12 +8,12 @@ use std::marker::Model;
 
 /// The entries of a dictionary in the byte order of their surfaces, whose ids lie within the sizes of a connection table.
 #[derive(Drop)]
-pub struct SortedLexicon {
+pub struct SortedLexicon<'a> {
     pub(crate) sizes: MatrixSizes,
-    pub(crate) records: Vec<Record>,
+    pub(crate) records: Vec<Record<'a>>,
 }
 
-impl Model for SortedLexicon {
+impl<'a> Model for SortedLexicon<'a> {
     ghost use Rattle.lex_source.specs.Lexicons.{AreSortedRows, LexiconRows, entries_in};
 
     ghost Value = { LexiconRows };
@@ -23,7 +23,7 @@ impl Model for SortedLexicon {
     ghost invariant = { λ l. AreSortedRows (entries_in l.sizes l.records.items) };
 }
 
-impl SortedLexicon {
+impl<'a> SortedLexicon<'a> {
     /// The sizes that the ids lie within.
     pub fn sizes(&self) -> MatrixSizes
         ensures { result ≡ self.now.sizes }
@@ -32,7 +32,7 @@ impl SortedLexicon {
     }
 
     /// The entries.
-    pub fn records(&self) -> &[Record]
+    pub fn records(&self) -> &[Record<'a>]
         ensures rows { rows_of result.now ≡ self.now.rows }
         ensures formed { AreSortedRows self.now }
     {

@@ -16,12 +16,12 @@ use std::marker::Model;
 
 /// The entries of lexicons in source order, whose ids lie within the sizes of a connection table.
 #[derive(Drop)]
-pub struct SourceLexicon {
+pub struct SourceLexicon<'a> {
     sizes: MatrixSizes,
-    records: Vec<Record>,
+    records: Vec<Record<'a>>,
 }
 
-impl Model for SourceLexicon {
+impl<'a> Model for SourceLexicon<'a> {
     ghost use Rattle.lex_source.specs.Lexicons.{AreLexiconRows, LexiconRows, entries_in};
 
     ghost Value = { LexiconRows };
@@ -31,9 +31,9 @@ impl Model for SourceLexicon {
     ghost invariant = { λ l. AreLexiconRows (entries_in l.sizes l.records.items) };
 }
 
-impl SourceLexicon {
+impl<'a> SourceLexicon<'a> {
     /// No entries.
-    pub fn new(alloc: Global, sizes: MatrixSizes) -> SourceLexicon
+    pub fn new(alloc: Global, sizes: MatrixSizes) -> SourceLexicon<'a>
         ensures { result ≡ record { sizes = sizes; rows = [] } }
     {
         SourceLexicon {
@@ -51,7 +51,7 @@ impl SourceLexicon {
 
     /// Adds the accepted lines of a lexicon, and answers how many were skipped for their empty surface. `file` is the lexicon's number in a
     /// fault; what the lines say is looked at before their ids. (MeCab, dic-detail)
-    pub fn add(&mut self, alloc: Global, bytes: &[u8], file: u32) -> Result<u64, SourceFault>
+    pub fn add(&mut self, alloc: Global, bytes: &'a [u8], file: u32) -> Result<u64, SourceFault>
         ensures added { IfOk result (AddsLexicon file bytes.now self.old self.new) }
         ensures refused { IfErr result (λ fault. IsRefusal fault
             (IsLexiconFault file bytes.now self.old fault)) }
@@ -66,8 +66,8 @@ impl SourceLexicon {
     }
 
     /// The entries in the byte order of their surfaces, those of one surface in their order. On `Err` memory was refused.
-    pub fn sorted(self) -> Result<SortedLexicon, AllocError>
-        ensures { IfOk result (AreSortedOf self) }
+    pub fn sorted(self) -> Result<SortedLexicon<'a>, AllocError>
+        ensures { IfOk result (AreSortedOf self.entry) }
     {
         Ok(SortedLexicon {
             sizes: self.sizes,
@@ -77,12 +77,12 @@ impl SourceLexicon {
 }
 
 /// Appends the accepted lines of a lexicon up to the first at fault, then looks at the ids of all that were appended.
-fn append_within(
+fn append_within<'a>(
     alloc: Global,
-    bytes: &[u8],
+    bytes: &'a [u8],
     file: u32,
     sizes: MatrixSizes,
-    records: &mut Vec<Record>,
+    records: &mut Vec<Record<'a>>,
 ) -> Result<u64, SourceFault>
     ensures accepted { IfOk result (AddsLexicon file bytes.now (entries_in sizes records.old.items)
         (entries_in sizes records.new.items)) }
@@ -100,7 +100,7 @@ fn append_within(
 }
 
 /// The line of the first record whose ids lie outside the sizes.
-fn line_outside(records: &[Record], sizes: MatrixSizes) -> Option<u64>
+fn line_outside(records: &[Record<'_>], sizes: MatrixSizes) -> Option<u64>
     ensures { (file : ℕ) → first_outside file sizes (rows_of records.now)
         ≡ option_map (λ line. record { file = file; line = line; kind = IdOutside }) result }
 {

@@ -122,7 +122,7 @@ fn lexicon_lines(rt: HostRuntime) -> Result<(), Fail> {
         assert_eq!(rt; text, (line, surface), "{what}");
         let numbers = (entry.left, entry.right, entry.cost);
         assert_eq!(rt; numbers, (1, 1, cost), "{what}");
-        assert_eq!(rt; entry.feature.as_str(), feature, "{what}");
+        assert_eq!(rt; entry.feature, feature, "{what}");
     }
     Ok(())
 }

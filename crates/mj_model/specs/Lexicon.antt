@@ -1,6 +1,7 @@
 -- What the lines of a lexicon say: `surface,left id,right id,word cost,feature` (MeCab, dic-detail).
 -- The feature is all that stands behind the fourth comma, byte for byte.
-use Rattle.std.specs.Prelude.{◌≡◌, ℕ, ◌+◌, ◌≤◌, ℤ, IsTrue, IsFalse, ◌==◌, nat_le, nat_lt, if◌then◌else◌, List, [], ◌∷◌, length, count_by, filter_map, map, Option, Some, None, option_and_then, option_map, Result, Ok, Err, IsUtf8, string_bytes, Bool, true, false, sum}
+use Rattle.std.specs.Prelude.{◌≡◌, ℕ, ◌+◌, ◌≤◌, ℤ, IsTrue, IsFalse, ◌==◌, nat_le, nat_lt, if◌then◌else◌, List, [], ◌∷◌, length, count_by, filter_map, map, Option, Some, None, option_and_then, option_map, Result, Ok, Err, IsUtf8, Bool, true, false, sum}
+use Rattle.std.specs.Cow.{cow_str_bytes}
 use Rattle.std.specs.List.{AllZip}
 use Rattle.mj_model.specs.declared.limits.TheConstants.{SURFACE_MAX, ENTRIES_MAX}
 use Rattle.mj_model.specs.declared.source_fault.SourceFault.{SourceFault}
@@ -21,7 +22,7 @@ pub record Row : Type 0 where
   pub feature : List ℕ
 
 abbrev pub row_of : Record → Row
-row_of r = record { line = r.line; surface = string_bytes r.surface; left = r.entry.left; right = r.entry.right; cost = r.entry.cost; feature = string_bytes r.entry.feature }
+row_of r = record { line = r.line; surface = cow_str_bytes r.surface; left = r.entry.left; right = r.entry.right; cost = r.entry.cost; feature = r.entry.feature.now }
 
 abbrev pub rows_of : List Record → List Row
 rows_of = map row_of

@@ -83,7 +83,7 @@ fn unknown_entries(rt: HostRuntime) -> Result<(), Fail> {
             (left, right, cost),
             "{feature}"
         );
-        assert_eq!(rt; entry.feature.as_str(), feature);
+        assert_eq!(rt; entry.feature, feature);
     }
     Ok(())
 }

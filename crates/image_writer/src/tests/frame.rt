@@ -31,10 +31,10 @@ const SECTIONS: [u8; 33] =
 #[test]
 fn header_sections_and_digest(rt: HostRuntime) -> Result<(), Fail> {
     let (cells, groups) = SECTIONS[..16].split_at(8);
-    let (tokens, features) = SECTIONS[16..].split_at(16);
+    let tokens = &SECTIONS[16..32];
     let empty = b"".as_slice();
-    let sections = [empty, empty, empty, cells, groups, tokens, features];
-    let image = write_image(rt.alloc(), HEADER, &[], &sections)?;
+    let sections = [empty, empty, empty, cells, groups, tokens];
+    let image = write_image(rt.alloc(), HEADER, &[], &sections, &["X"])?;
     let mut body = Vec::new(rt.alloc());
     body.extend_from_slice(&HEADER_BYTES)?;
     body.extend_from_slice(&SECTIONS)?;

@@ -54,8 +54,9 @@ fn sections_of_the_lexicon(rt: HostRuntime) -> Result<(), Fail> {
     assert_eq!(rt; sections.group_count, 3);
     let groups = b"\0\0\0\0\x01\0\0\0\x02\0\0\0\x03\0\0\0";
     assert!(rt; sections.groups.as_slice() == groups.as_slice());
-    let features = "名詞,すもも助詞,も名詞,もも未知";
-    assert!(rt; sections.features.as_slice() == features.as_bytes());
+    let features = ["名詞,すもも", "助詞,も", "名詞,もも", "未知"];
+    assert_eq!(rt; sections.features.as_slice(), features.as_slice());
+    assert_eq!(rt; sections.feature_size, 45);
     let tokens = [
         // (what, left id, right id, cost, spare, place and length of the feature)
         ("すもも", b"\x01\0\x01\0\x64\0\0\0\0\0\0\0\x10\0\0\0"),

@@ -55,7 +55,11 @@ fn sections_of_lexicons(rt: HostRuntime) -> Result<(), Fail> {
         assert!(rt; numbers.get(12..16) == Some(count.as_slice()), "{what}");
         assert!(rt; sections.groups.as_slice() == groups, "{what}");
         assert!(rt; sections.tokens.as_slice() == tokens, "{what}");
-        assert!(rt; sections.features.as_slice() == features, "{what}");
+        let mut stored = Vec::new(rt.alloc());
+        for feature in &sections.features {
+            stored.extend_from_slice(feature.as_bytes())?;
+        }
+        assert!(rt; stored.as_slice() == features, "{what}");
 
         // The root's base is not known; its check is -2.
         let root_check: &[u8] = b"\xfe\xff\xff\xff";

@@ -1,4 +1,4 @@
-use Rattle.std.proofs.Common.{inr}
+use Rattle.std.proofs.Common.{inr, ◌∙◌}
 use Rattle.std.proofs.lemmas.Result.{err_from_is_err_and}
 use Rattle.std.proofs.lemmas.Bool.{le-ltb}
 use Rattle.mj_model.specs.Lexicon.{row_of}
@@ -18,16 +18,16 @@ returns-in_default-clause-added c = nothing_held c.args.table.now.categories c.a
 pub returns-in_default-number_of-clause-refused : goal.returns-in_default-number_of-clause-refused
 returns-in_default-number_of-clause-refused c =
     inr (unnamed_refused c.args.table.now.categories c.args.number c.args.line.now c.args.held (row_of c.in-Some.record) (rw c.in-Some.is at c.in_ok-record.ensures)
-    (rw c.as_bytes.ensures.value at c.in_default-number_of.ensures))
+    (rw (c.as_bytes.ensures.value ∙ c.as_str.ensures.value) at c.in_default-number_of.ensures))
 
 pub returns-then-held-ge-ENTRIES_MAX-clause-refused : goal.returns-then-held-ge-ENTRIES_MAX-clause-refused
 returns-then-held-ge-ENTRIES_MAX-clause-refused c =
-    let named : HasNumber c.args.table.now.categories (row_of c.in-Some.record).surface c.in-Some-number_of.category = rw c.as_bytes.ensures.value at c.in-Some-number_of.ensures in
+    let named : HasNumber c.args.table.now.categories (row_of c.in-Some.record).surface c.in-Some-number_of.category = rw (c.as_bytes.ensures.value ∙ c.as_str.ensures.value) at c.in-Some-number_of.ensures in
     inr (full_refused c.args.table.now.categories c.args.number c.args.line.now c.args.held (row_of c.in-Some.record) (rw c.in-Some.is at c.in_ok-record.ensures) named.defined
     (le-ltb c.args.held ENTRIES_MAX c.if-held-ge-ENTRIES_MAX.true))
 
 pub returns-clause-added : goal.returns-clause-added
 returns-clause-added c =
-    let named : HasNumber c.args.table.now.categories (row_of c.in-Some.record).surface c.in-Some-number_of.category = rw c.as_bytes.ensures.value at c.in-Some-number_of.ensures in
+    let named : HasNumber c.args.table.now.categories (row_of c.in-Some.record).surface c.in-Some-number_of.category = rw (c.as_bytes.ensures.value ∙ c.as_str.ensures.value) at c.in-Some-number_of.ensures in
     row_held c.args.table.now.categories c.args.number c.args.line.now c.args.held c.in-Some-number_of.category (row_of c.in-Some.record) c.args.lists.now.items _ (rw c.in-Some.is at c.in_ok-record.ensures) named
     c.if-held-ge-ENTRIES_MAX.false c.in_ok-add.ensures.added

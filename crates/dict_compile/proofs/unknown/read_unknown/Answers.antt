@@ -13,6 +13,6 @@ pub returns-in-Some-clause-refused : goal.returns-in-Some-clause-refused
 returns-in-Some-clause-refused c =
     rw c.at.ensures (inr (line_told c.args.sizes c.args.chars.now.categories c.args.bytes.now c.in_ok-unknown.unknown c.in-Some.line c.in_ok-unknown.ensures.accepted c.in-Some.ensures))
 
-pub returns-in-None-clause-accepted : goal.returns-in-None-clause-accepted
-returns-in-None-clause-accepted c =
+pub returns-clause-accepted : goal.returns-clause-accepted
+returns-clause-accepted c =
     none_told c.args.sizes c.args.chars.now.categories c.args.bytes.now c.in_ok-unknown.unknown c.in_ok-unknown.ensures.accepted c.in-None.ensures

@@ -25,7 +25,7 @@ loop-i-preserved c =
           subst (AreGrouped rows (i + 1)) (sym w.groups-is)
           (grouped_begun rows sorted i c.loop-i.groups w.begin.new.self w.as_bytes.result.now less c.loop-i.invariant
           (subst (λ (rs : List Row). BeginsGroup rs i) are (c.begins_group.ensures.0 w.if-begins_group.true))
-          (key_of_entry records i w.index-records-i.result w.as_bytes.result.now test w.as_bytes.ensures.value ∙ ap (λ (rs : List Row). surface_at rs i) are)
+          (key_of_entry records i w.index-records-i.result w.as_bytes.result.now test (w.as_bytes.ensures.value ∙ w.as_str.ensures.value) ∙ ap (λ (rs : List Row). surface_at rs i) are)
           w.in_ok-begin.ensures.map w.in_ok-begin.ensures.starts w.in_ok-begin.ensures.growth)
       | else-begins_group w ↦
           subst (AreGrouped rows (i + 1)) (sym w.groups-is)
@@ -44,7 +44,7 @@ returns-in_err-begin-clause-full c =
     passed_on c.from_residual-in_err-begin.result _ c.from_residual-in_err-begin.ensures.1
     (λ same. grouped_full rows c.records-records.ensures.formed.sorted i c.loop-i.groups c.as_bytes.result.now less c.loop-i.invariant
     (subst (λ (rs : List Row). BeginsGroup rs i) are (c.begins_group.ensures.0 c.if-begins_group.true))
-    (key_of_entry records i c.index-records-i.result c.as_bytes.result.now test c.as_bytes.ensures.value ∙ ap (λ (rs : List Row). surface_at rs i) are)
+    (key_of_entry records i c.index-records-i.result c.as_bytes.result.now test (c.as_bytes.ensures.value ∙ c.as_str.ensures.value) ∙ ap (λ (rs : List Row). surface_at rs i) are)
     (c.in_err-begin.ensures.full same))
 
 pub returns-clause-grouped : goal.returns-clause-grouped

@@ -8,6 +8,8 @@ use Rattle.lex_source.specs.Lexicons.{AreLexiconRows}
 use Rattle.image_bytes.specs.declared.header.Header.{Header}
 use Rattle.image_bytes.specs.declared.layout.TheConstants.{LAYOUT}
 use Rattle.image_writer.specs.Frames.{IsFramed}
+use Rattle.std.specs.Borrow.{Bor}
+use Rattle.image_writer.specs.Places.{joined_texts}
 use Rattle.image_writer.specs.StoredTables.{AreCostsOf, AreUnknownOf, cost_section}
 use Rattle.image_writer.proofs.CostLemmas.{costs_length, own_costs_are}
 use Rattle.image_writer.proofs.PartLemmas.{sections_with}
@@ -25,17 +27,17 @@ returns-clause-image c =
     let long : length c.records-entries.result.now ≡ length rows = sym (length-map c.records-entries.result.now row_of) ∙ ap length entries.rows in
     let costs = cost_section c.costs-costs.result.now in
     let given : List (List ℕ) = costs ∷ c.as_slice.result.now ∷ c.deref.result.now ∷ c.deref-2.result.now ∷ c.deref-3.result.now
-    ∷ c.deref-4.result.now ∷ c.deref-5.result.now ∷ c.deref-6.result.now ∷ [] in
+    ∷ c.deref-4.result.now ∷ c.deref-5.result.now ∷ joined_texts c.deref-6.result.now ∷ [] in
     let listed : given ≡ sections_with costs c.in_ok-categories.categories.items c.in_ok-ranges.ranges.items c.in_ok-index.index.items made =
     λ i. costs ∷ c.as_slice.ensures.value i ∷ c.deref.ensures.value i ∷ c.deref-2.ensures.value i ∷ c.deref-3.ensures.value i
-    ∷ c.deref-4.ensures.value i ∷ c.deref-5.ensures.value i ∷ c.deref-6.ensures.value i ∷ [] in
+    ∷ c.deref-4.ensures.value i ∷ c.deref-5.ensures.value i ∷ joined_texts (c.deref-6.ensures.value i) ∷ [] in
     let categories : c.len.result ≡ length c.in_ok-categories.categories.items = search rules in
     let ranges : c.len-2.result ≡ length c.in_ok-ranges.ranges.items = search rules in
     let index : c.len-3.result ≡ length c.in_ok-index.index.items = search rules in
     let keys : c.len-4.result ≡ length made.keys.items = search rules in
     let groups : c.len-5.result ≡ length made.groups.items = search rules in
     let tokens : c.len-6.result ≡ length made.tokens.items = search rules in
-    let features : c.len-7.result ≡ length made.features.items = search rules in
+    let features = made.long in
     system_image m chars unknown rows costs c.in_ok-categories.categories.items c.in_ok-ranges.ranges.items c.in_ok-index.index.items made
     (record {
       matrix = c.costs-costs.ensures.formed;
@@ -76,11 +78,11 @@ write_image-requires c =
     let keys : c.len-4.result ≡ length made.keys.items = search rules in
     let groups : c.len-5.result ≡ length made.groups.items = search rules in
     let tokens : c.len-6.result ≡ length made.tokens.items = search rules in
-    let features : c.len-7.result ≡ length made.features.items = search rules in
+    let features = made.long in
     record {
       layout = refl;
       lengths = λ i. (sym (costs_length c.costs-costs.result.now)) i ∷ (categories ∙ ap length (sym c.as_slice.ensures.value)) i
           ∷ (ranges ∙ ap length (sym c.deref.ensures.value)) i ∷ (index ∙ ap length (sym c.deref-2.ensures.value)) i
           ∷ (keys ∙ ap length (sym c.deref-3.ensures.value)) i ∷ (groups ∙ ap length (sym c.deref-4.ensures.value)) i
-          ∷ (tokens ∙ ap length (sym c.deref-5.ensures.value)) i ∷ (features ∙ ap length (sym c.deref-6.ensures.value)) i ∷ [];
+          ∷ (tokens ∙ ap length (sym c.deref-5.ensures.value)) i ∷ (features ∙ ap (λ (texts : List (Bor (List ℕ))). length (joined_texts texts)) (sym c.deref-6.ensures.value)) i ∷ [];
     }

@@ -5,6 +5,7 @@ use Rattle.mj_model.specs.Lexicon.{Row, row_of}
 use Rattle.image_bytes.specs.declared.header.Header.{Header}
 use Rattle.image_bytes.specs.declared.layout.TheConstants.{LAYOUT}
 use Rattle.image_writer.specs.Frames.{IsFramed}
+use Rattle.image_writer.specs.Places.{joined_texts}
 use Rattle.image_writer.proofs.PartLemmas.{sections_with}
 use Rattle.image_writer.proofs.UserLemmas.{user_image}
 use Rattle.image_writer.proofs.user.write_user.Goals as goal
@@ -16,13 +17,13 @@ returns-clause-image c =
     let made = c.in_ok-lexicon_bytes.lexicon_bytes in
     let entries = c.records.ensures in
     let long : length c.records.result.now ≡ length rows = sym (length-map c.records.result.now row_of) ∙ ap length entries.rows in
-    let given : List (List ℕ) = [] ∷ c.as_slice.result.now ∷ [] ∷ [] ∷ c.deref.result.now ∷ c.deref-2.result.now ∷ c.deref-3.result.now ∷ c.deref-4.result.now ∷ [] in
+    let given : List (List ℕ) = [] ∷ c.as_slice.result.now ∷ [] ∷ [] ∷ c.deref.result.now ∷ c.deref-2.result.now ∷ c.deref-3.result.now ∷ joined_texts c.deref-4.result.now ∷ [] in
     let listed : given ≡ sections_with [] [] [] [] made =
-    λ i. [] ∷ c.as_slice.ensures i ∷ [] ∷ [] ∷ c.deref.ensures.value i ∷ c.deref-2.ensures.value i ∷ c.deref-3.ensures.value i ∷ c.deref-4.ensures.value i ∷ [] in
+    λ i. [] ∷ c.as_slice.ensures i ∷ [] ∷ [] ∷ c.deref.ensures.value i ∷ c.deref-2.ensures.value i ∷ c.deref-3.ensures.value i ∷ joined_texts (c.deref-4.ensures.value i) ∷ [] in
     let keys : c.len.result ≡ length made.keys.items = search rules in
     let groups : c.len-2.result ≡ length made.groups.items = search rules in
     let tokens : c.len-3.result ≡ length made.tokens.items = search rules in
-    let features : c.len-4.result ≡ length made.features.items = search rules in
+    let features = made.long in
     user_image sizes rows made
     (record { sizes_fit = c.requires.sizes; entries = entries.formed.entries; lexicon = c.in_ok-lexicon_bytes.ensures.sections })
     c.in_ok-write_image.field-0.items
