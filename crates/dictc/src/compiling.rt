@@ -90,9 +90,13 @@ fn compile_sources(
         unk: &files.unk.bytes,
         lexicons: &lexicons,
     };
-    compile_others(alloc, costs, &others, StepTeller::new(narrator, &files.lexicons)).map_err(
-        |fault| Fault::of_source(alloc, files.path(fault.file), fault),
+    compile_others(
+        alloc,
+        costs,
+        &others,
+        StepTeller::new(narrator, &files.lexicons),
     )
+    .map_err(|fault| Fault::of_source(alloc, files.path(fault.file), fault))
 }
 
 /// The same of the bytes of the other files, or the first fault of all.

@@ -1,7 +1,6 @@
 use Rattle.std.proofs.Common.{rules, ◌≡◌, ℕ, ◌+◌, ◌-◌, List, ◌++◌, length, arith, ap, ◌∙◌}
 use Rattle.std.proofs.lemmas.List.{length-append}
 use Rattle.std.specs.Prelude.{min, take}
-use Rattle.dictc.specs.MatrixFiles.{HasTaken}
 use Rattle.dictc.proofs.FirstBytes.{first_of_both}
 use Rattle.dictc.proofs.matrix_file.MatrixFilePieces.with.Goals as goal
 
