@@ -4,8 +4,11 @@ use crate::choices::{Base, Options};
 use crate::reporting::tell_counts;
 use crate::shares::say_shares;
 use crate::step_teller::StepTeller;
-use dict_compile::{CompileUserFault, Compiled, compile_user_watched, compile_watched};
-use mj_model::{OverlayFault, Sources};
+use dict_compile::{
+    CompileUserFault, Compiled, OtherSources, compile_others_watched, compile_user_watched,
+};
+use matrix_def::{Matrix, read_matrix};
+use mj_model::OverlayFault;
 use programs::{
     Fault, Narrator, SourceFiles, Stage, WholeFile, dictionary_at, lexicon_path, read_files, texts,
     write_file,
@@ -60,7 +63,7 @@ fn compile_files(
                 lexicons: read_files(rt, &options.lexicons)?,
             };
             files.say(narrator);
-            compile_sources(rt.alloc(), &files, narrator)
+            compile_sources(rt.alloc(), files, narrator)
         }
         Base::System(dic) => compile_user_files(rt, dic.as_str(), &options.lexicons, narrator),
     }
@@ -69,25 +72,47 @@ fn compile_files(
 /// Compiles a system dictionary.
 fn compile_sources(
     alloc: Global,
+    mut files: SourceFiles,
+    narrator: &Narrator<'_>,
+) -> Result<Compiled, Fault> {
+    narrator.say(Stage::Compiling {
+        lexicons: files.lexicons.len(),
+    });
+    let matrix = read_costs(alloc, &mut files.matrix)?;
+    compile_others(alloc, matrix, &files, narrator)
+}
+
+/// Compiles a system dictionary, whose `matrix.def` was read before and has these costs.
+fn compile_others(
+    alloc: Global,
+    matrix: Matrix,
     files: &SourceFiles,
     narrator: &Narrator<'_>,
 ) -> Result<Compiled, Fault> {
     let lexicons = texts(alloc, &files.lexicons)?;
-    narrator.say(Stage::Compiling {
-        lexicons: lexicons.len(),
-    });
-    let sources = Sources {
-        matrix: &files.matrix.bytes,
+    let others = OtherSources {
         chars: &files.chars.bytes,
         unk: &files.unk.bytes,
         lexicons: &lexicons,
     };
     let mut teller = StepTeller::new(narrator, &files.lexicons);
-    compile_watched(alloc, &sources, &mut teller).map_err(|fault| Fault::of_source(
+    compile_others_watched(alloc, matrix, &others, &mut teller).map_err(|fault| Fault::of_source(
         alloc,
         files.path(fault.file),
         fault,
     ))
+}
+
+/// The connection costs of `matrix.def`. Its bytes are given back then: nothing else is looked up in them, and in a large
+/// dictionary they are most of all that was read.
+fn read_costs(alloc: Global, file: &mut WholeFile) -> Result<Matrix, Fault> {
+    let matrix = read_matrix(alloc, &file.bytes).map_err(|fault| Fault::of_source(
+        alloc,
+        Some(file.path.as_str()),
+        fault,
+    ))?;
+    file.bytes = Vec::new(alloc);
+    Ok(matrix)
 }
 
 /// Compiles a user dictionary for the system dictionary at a path.
