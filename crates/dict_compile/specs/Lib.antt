@@ -7,3 +7,4 @@ pub mod Images
 pub mod UserImages
 pub mod EveryKey
 pub mod Parts
+pub mod OtherSources

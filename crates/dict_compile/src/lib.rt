@@ -6,6 +6,7 @@ mod compiled;
 mod fault;
 pub mod laws;
 mod lexicons;
+mod other_sources;
 mod parts;
 mod system_image;
 mod unknown;
@@ -16,6 +17,7 @@ mod watch;
 pub use compilation::{compile, compile_watched};
 pub use compiled::Compiled;
 pub use fault::CompileUserFault;
+pub use other_sources::{OtherSources, compile_others_watched};
 pub use user_compilation::{compile_user, compile_user_watched};
 pub use watch::{Step, Watch};
 

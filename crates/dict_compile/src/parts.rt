@@ -1,11 +1,15 @@
 //! All sources together.
 
-ghost use Rattle.std.specs.Prelude.{Ok, IfOk, IfErr};
+ghost use Rattle.std.specs.Prelude.{ℕ, List, IfOk, IfErr};
+ghost use Rattle.std.specs.Borrow.{Bor};
 ghost use Rattle.mj_model.specs.FirstFault.{IsRefusal};
 ghost use Rattle.mj_model.specs.SourceTables.{IsSourcesFault};
+ghost use Rattle.matrix_def.specs.Costs.{IsTableIn};
+ghost use Rattle.dict_compile.specs.OtherSources.{sources_with};
 ghost use Rattle.dict_compile.specs.Parts.{AreParts, FitTogether};
 
 use crate::lexicons::read_lexicons;
+use crate::other_sources::OtherSources;
 use crate::unknown::read_unknown;
 use crate::watch::{Step, Watch};
 use char_def::{CharTable, UnkTable, read_chars};
@@ -36,13 +40,35 @@ pub(crate) fn read_sources<'a, W: Watch>(
     ensures refused { IfErr result (λ fault. IsRefusal fault (IsSourcesFault sources.now fault)) }
 {
     let matrix = read_matrix(alloc, sources.matrix)?;
+    let others = OtherSources {
+        chars: sources.chars,
+        unk: sources.unk,
+        lexicons: sources.lexicons,
+    };
+    read_others(alloc, matrix, &others, watch)
+}
+
+/// Reads the sources but `matrix.def`, whose costs these are, up to the first fault.
+pub(crate) fn read_others<'a, W: Watch>(
+    alloc: Global,
+    matrix: Matrix,
+    others: &OtherSources<'a>,
+    watch: &mut W,
+) -> Result<SourceParts<'a>, SourceFault>
+    ensures accepted { (costs : Bor (List ℕ)) → IsTableIn costs.now matrix
+        → IfOk result (AreParts (sources_with costs others.now)) }
+    ensures fitting { IfOk result FitTogether }
+    ensures refused { (costs : Bor (List ℕ)) → IsTableIn costs.now matrix
+        → IfErr result (λ fault. IsRefusal fault
+        (IsSourcesFault (sources_with costs others.now) fault)) }
+{
     let sizes = matrix.sizes();
     watch.done(Step::MatrixRead(sizes));
-    let chars = read_chars(alloc, sources.chars)?;
+    let chars = read_chars(alloc, others.chars)?;
     watch.done(Step::CategoriesRead(chars.count()));
-    let unknown = read_unknown(alloc, sources.unk, &chars, sizes)?;
+    let unknown = read_unknown(alloc, others.unk, &chars, sizes)?;
     watch.done(Step::UnknownRead);
-    let lexicons = read_lexicons(alloc, sources.lexicons, sizes, watch)?;
+    let lexicons = read_lexicons(alloc, others.lexicons, sizes, watch)?;
     Ok(SourceParts {
         matrix,
         chars,

@@ -104,8 +104,9 @@ fn rename_checks(pool: &mut CellPool, base: usize, old: usize, new: usize)
     ensures renamed { AreChildrenRenamed (pos base) pool.old.cells pool.new.cells old new }
     ensures top { pool.new.top ≡ pool.old.top }
 {
+    let family = family_of(pool, old, base);
     for code in 0..WIDTH {
-        if pool.is_child(base + code, old) {
+        if family[code] {
             pool.set_check(base + code, new);
         }
     }

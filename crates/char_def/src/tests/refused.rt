@@ -17,7 +17,7 @@ fn sample_chars(rt: &HostRuntime) -> Result<CharTable, Fail> {
 }
 
 /// What the sample's `unk.def` says; what is refused once is asked again.
-fn sample_unk(rt: &HostRuntime, chars: &CharTable) -> Result<UnkTable, Fail> {
+fn sample_unk(rt: &HostRuntime, chars: &CharTable) -> Result<UnkTable<'static>, Fail> {
     match read_unk(rt.alloc(), sample().unk, chars) {
         Err(SourceFault { kind: Memory, .. }) => {
             rt.eprintln("refused")?;

@@ -7,7 +7,7 @@ use mj_model::{MatrixSizes, SourceFault, sample};
 use std::test::Fail;
 
 /// What an `unk.def` says of the sample's categories.
-fn read(rt: &HostRuntime, bytes: &[u8]) -> Result<Result<UnkTable, SourceFault>, Fail> {
+fn read<'a>(rt: &HostRuntime, bytes: &'a [u8]) -> Result<Result<UnkTable<'a>, SourceFault>, Fail> {
     Ok(read_unk(rt.alloc(), bytes, &chars_with(rt, "")?))
 }
 

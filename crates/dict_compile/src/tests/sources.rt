@@ -7,7 +7,11 @@ use mj_model::{MatrixSizes, SourceFault, Sources};
 use std::test::Fail;
 
 /// What two lexicons say within 2 right ids and 3 left ids.
-fn read(rt: &HostRuntime, first: &str, second: &str) -> Result<LexiconsRead, SourceFault> {
+fn read<'a>(
+    rt: &HostRuntime,
+    first: &'a str,
+    second: &'a str,
+) -> Result<LexiconsRead<'a>, SourceFault> {
     let sizes = MatrixSizes { right: 2, left: 3 };
     let lexicons = [first.as_bytes(), second.as_bytes()];
     read_lexicons(rt.alloc(), &lexicons, sizes, &mut Unwatched {})

@@ -1,8 +1,12 @@
 //! What whoever watches a compilation is told.
 use super::samples::with_lexicons;
-use crate::{Step, Watch, compile, compile_user_watched, compile_watched};
+use crate::{
+    OtherSources, Step, Watch, compile, compile_others_watched, compile_user_watched,
+    compile_watched,
+};
 use dict_image::load;
-use mj_model::{MatrixSizes, sample};
+use matrix_def::read_matrix;
+use mj_model::{MatrixSizes, Sources, sample};
 use std::alloc::Global;
 use std::test::Fail;
 
@@ -46,6 +50,24 @@ fn steps_of_a_system(rt: HostRuntime) -> Result<(), Fail> {
         Step::UnknownRead,
     ];
     assert!(rt; !told.refused);
+    assert!(rt; told.steps.iter().eq(before.iter().chain(READ.iter())));
+
+    // The same where the costs were read before.
+    let Sources {
+        matrix,
+        chars,
+        unk,
+        lexicons,
+    } = with_lexicons(LEXICONS);
+    let costs = read_matrix(rt.alloc(), matrix)?;
+    let others = OtherSources {
+        chars,
+        unk,
+        lexicons,
+    };
+    let mut told = Told::nothing(rt.alloc());
+    let compiled = compile_others_watched(rt.alloc(), costs, &others, &mut told)?;
+    assert_eq!(rt; (compiled.entries, compiled.skipped), (3, 1));
     assert!(rt; told.steps.iter().eq(before.iter().chain(READ.iter())));
     Ok(())
 }

@@ -1,45 +1,7 @@
-use Rattle.std.proofs.lemmas.Result.{err_from_is_err_and}
-use Rattle.std.specs.Prelude.{Ok}
-use Rattle.dict_compile.proofs.SourceLemmas.{chars_at_fault, unknown_at_fault, unknown_read, lexicons_at_fault, rows_read}
 use Rattle.dict_compile.proofs.parts.read_sources.Goals as goal
 
-pub returns-in_err-chars-clause-refused : goal.returns-in_err-chars-clause-refused
-returns-in_err-chars-clause-refused g c =
-    let p = err_from_is_err_and c.from_residual-in_err-chars.result c.from_residual-in_err-chars.ensures.1 in
-    rw (p.1, p.2)
-    (chars_at_fault c.args.sources.now c.in_ok-matrix.matrix (c.sizes-sizes.result) c.sizes-sizes.ensures.sizes
-    c.in_ok-matrix.ensures.accepted c.in_err-chars.field-0.0 c.in_err-chars.ensures.refused)
-
-pub returns-in_err-unknown-clause-refused : goal.returns-in_err-unknown-clause-refused
-returns-in_err-unknown-clause-refused g c =
-    let p = err_from_is_err_and c.from_residual-in_err-unknown.result c.from_residual-in_err-unknown.ensures.1 in
-    rw (p.1, p.2)
-    (unknown_at_fault c.args.sources.now c.in_ok-matrix.matrix (c.sizes-sizes.result) c.sizes-sizes.ensures.sizes
-    c.in_ok-matrix.ensures.accepted c.in_ok-chars.chars c.in_ok-chars.ensures.accepted c.in_err-unknown.field-0.0 c.in_err-unknown.ensures.refused)
-
-pub returns-in_err-lexicons-clause-refused : goal.returns-in_err-lexicons-clause-refused
-returns-in_err-lexicons-clause-refused g c =
-    let p = err_from_is_err_and c.from_residual-in_err-lexicons.result c.from_residual-in_err-lexicons.ensures.1 in
-    rw (p.1, p.2)
-    (lexicons_at_fault c.args.sources.now c.in_ok-matrix.matrix (c.sizes-sizes.result) c.sizes-sizes.ensures.sizes
-    c.in_ok-matrix.ensures.accepted c.in_ok-chars.chars c.in_ok-chars.ensures.accepted c.in_ok-unknown.unknown c.in_ok-unknown.ensures.accepted
-    c.in_err-lexicons.field-0.0 c.in_err-lexicons.ensures.refused)
-
 pub returns-clause-accepted : goal.returns-clause-accepted
-returns-clause-accepted g c =
-    let s = c.args.sources.now in
-    let m = c.in_ok-matrix.matrix in
-    let sizes = c.sizes-sizes.result in
-    let table = c.in_ok-matrix.ensures.accepted in
-    let chars = c.in_ok-chars.ensures.accepted in
-    record {
-      connection = table.0;
-      is_connection = table.1;
-      matrix = table.2;
-      chars = chars.0;
-      are_chars = chars.1;
-      table = chars.2;
-      unknown = unknown_read s m sizes c.sizes-sizes.ensures.sizes table c.in_ok-chars.chars chars (Ok c.in_ok-unknown.unknown) c.in_ok-unknown.ensures.accepted;
-      rows = rows_read s m sizes c.sizes-sizes.ensures.sizes table (Ok c.in_ok-lexicons.lexicons.lexicon.rows) c.in_ok-lexicons.ensures.accepted;
-      skipped = c.in_ok-lexicons.ensures.skipped;
-    }
+returns-clause-accepted g c = c.read_others.ensures.accepted c.args.sources.now.matrix c.in_ok-matrix.ensures.accepted
+
+pub returns-clause-refused : goal.returns-clause-refused
+returns-clause-refused g c = c.read_others.ensures.refused c.args.sources.now.matrix c.in_ok-matrix.ensures.accepted

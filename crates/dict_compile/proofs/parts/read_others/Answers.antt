@@ -1,0 +1,45 @@
+use Rattle.std.proofs.lemmas.Result.{err_from_is_err_and}
+use Rattle.std.specs.Prelude.{Ok}
+use Rattle.dict_compile.specs.OtherSources.{sources_with}
+use Rattle.dict_compile.proofs.SourceLemmas.{chars_at_fault, unknown_at_fault, unknown_read, lexicons_at_fault, rows_read}
+use Rattle.dict_compile.proofs.parts.read_others.Goals as goal
+
+pub returns-in_err-chars-clause-refused : goal.returns-in_err-chars-clause-refused
+returns-in_err-chars-clause-refused g c = λ costs table.
+    let p = err_from_is_err_and c.from_residual.result c.from_residual.ensures.1 in
+    rw (p.1, p.2)
+    (chars_at_fault (sources_with costs c.args.others.now) c.args.matrix (c.sizes-sizes.result) c.sizes-sizes.ensures.sizes
+    table c.in_err-chars.field-0.0 c.in_err-chars.ensures.refused)
+
+pub returns-in_err-unknown-clause-refused : goal.returns-in_err-unknown-clause-refused
+returns-in_err-unknown-clause-refused g c = λ costs table.
+    let p = err_from_is_err_and c.from_residual-in_err-unknown.result c.from_residual-in_err-unknown.ensures.1 in
+    rw (p.1, p.2)
+    (unknown_at_fault (sources_with costs c.args.others.now) c.args.matrix (c.sizes-sizes.result) c.sizes-sizes.ensures.sizes
+    table c.in_ok-chars.chars c.in_ok-chars.ensures.accepted c.in_err-unknown.field-0.0 c.in_err-unknown.ensures.refused)
+
+pub returns-in_err-lexicons-clause-refused : goal.returns-in_err-lexicons-clause-refused
+returns-in_err-lexicons-clause-refused g c = λ costs table.
+    let p = err_from_is_err_and c.from_residual-in_err-lexicons.result c.from_residual-in_err-lexicons.ensures.1 in
+    rw (p.1, p.2)
+    (lexicons_at_fault (sources_with costs c.args.others.now) c.args.matrix (c.sizes-sizes.result) c.sizes-sizes.ensures.sizes
+    table c.in_ok-chars.chars c.in_ok-chars.ensures.accepted c.in_ok-unknown.unknown c.in_ok-unknown.ensures.accepted
+    c.in_err-lexicons.field-0.0 c.in_err-lexicons.ensures.refused)
+
+pub returns-clause-accepted : goal.returns-clause-accepted
+returns-clause-accepted g c = λ costs table.
+    let s = (sources_with costs c.args.others.now) in
+    let m = c.args.matrix in
+    let sizes = c.sizes-sizes.result in
+    let chars = c.in_ok-chars.ensures.accepted in
+    record {
+      connection = table.0;
+      is_connection = table.1;
+      matrix = table.2;
+      chars = chars.0;
+      are_chars = chars.1;
+      table = chars.2;
+      unknown = unknown_read s m sizes c.sizes-sizes.ensures.sizes table c.in_ok-chars.chars chars (Ok c.in_ok-unknown.unknown) c.in_ok-unknown.ensures.accepted;
+      rows = rows_read s m sizes c.sizes-sizes.ensures.sizes table (Ok c.in_ok-lexicons.lexicons.lexicon.rows) c.in_ok-lexicons.ensures.accepted;
+      skipped = c.in_ok-lexicons.ensures.skipped;
+    }

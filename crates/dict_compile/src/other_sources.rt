@@ -1,0 +1,52 @@
+//! The compilation of a system dictionary whose connection costs were read before.
+
+ghost use Rattle.std.specs.Prelude.{ℕ, List, IfOk, IfErr};
+ghost use Rattle.std.specs.Borrow.{Bor};
+ghost use Rattle.image_bytes.specs.ImageMeaning.{image_tables};
+ghost use Rattle.matrix_def.specs.Costs.{IsTableIn};
+ghost use Rattle.mj_model.specs.FirstFault.{IsRefusal};
+ghost use Rattle.mj_model.specs.declared.source_fault.SourceFault.{SourceFault as FaultOf};
+ghost use Rattle.dict_compile.specs.Answers.{IsRefusedFor};
+ghost use Rattle.dict_compile.specs.Compilation.{IsCompilation, IsCompilationCause, IsCompilationFault};
+ghost use Rattle.dict_compile.specs.EveryKey.{AnswersKeysOfSources};
+ghost use Rattle.dict_compile.specs.OtherSources.{sources_with};
+
+use crate::compiled::Compiled;
+use crate::parts::read_others;
+use crate::system_image::system_image;
+use crate::watch::Watch;
+use matrix_def::Matrix;
+use mj_model::SourceFault;
+use std::alloc::Global;
+
+/// The bytes of MeCab's source files but `matrix.def`. The lexicons stand in the order in which they are read.
+#[derive(Clone, Copy, Debug)]
+pub struct OtherSources<'a> {
+    pub chars: &'a [u8],
+    pub unk: &'a [u8],
+    pub lexicons: &'a [&'a [u8]],
+}
+
+/// As `compile_watched`, where `matrix.def` was read before and these are its costs: its bytes need not be kept.
+pub fn compile_others_watched<W: Watch>(
+    alloc: Global,
+    matrix: Matrix,
+    others: &OtherSources<'_>,
+    watch: &mut W,
+) -> Result<Compiled, SourceFault>
+    ensures compiled { (costs : Bor (List ℕ)) → IsTableIn costs.now matrix
+        → IfOk result (λ compiled. IsCompilation (sources_with costs others.now)
+        compiled.image.items compiled.entries compiled.skipped) }
+    ensures every_key { (costs : Bor (List ℕ)) → IsTableIn costs.now matrix
+        → IfOk result (λ compiled. AnswersKeysOfSources (sources_with costs others.now)
+        (image_tables compiled.image.items)) }
+    ensures refused { (costs : Bor (List ℕ)) → IsTableIn costs.now matrix
+        → IfErr result (λ fault. IsRefusal fault
+        (IsCompilationCause (sources_with costs others.now) fault)) }
+    // Sources at fault are refused with their first fault, want of memory and of cells aside.
+    ensures first { (costs : Bor (List ℕ)) → IsTableIn costs.now matrix → (fault : FaultOf)
+        → IsCompilationFault (sources_with costs others.now) fault → IsRefusedFor fault result }
+{
+    let parts = read_others(alloc, matrix, others, watch)?;
+    Ok(system_image(alloc, parts, watch)?)
+}
