@@ -33,6 +33,12 @@ def installed():
     return kept, needs
 
 
+def essential():
+    """The packages that every Debian has."""
+    told = subprocess.run(["dpkg-query", "-W", "-f", "${Package}\t${Essential}\n"], capture_output=True, text=True, check=True).stdout
+    return [line.partition("\t")[0] for line in told.splitlines() if line.endswith("\tyes")]
+
+
 def with_needs(names, kept, needs):
     """These packages and all that they depend on; None where one is not installed."""
     found, rest = set(), list(names)
