@@ -1,5 +1,5 @@
 -- The rows of `matrix.def`, one after another: each sets its cell, and of a repeated pair the last one counts.
-use Rattle.std.proofs.Common.{◌≡◌, ℕ, ◌+◌, ◌*◌, ◌<◌, Bool, false, cond, ltb, ◌&&◌, List, [], ◌∷◌, ◌++◌, length, get_or, set, reverse, refl, sym, ◌∙◌, ap, subst, arith, Option, Some, None, inl, inr, append_assoc, get_or-set_same, get_or-set_other, mul_comm}
+use Rattle.std.proofs.Common.{◌≡◌, ℕ, ◌+◌, ◌*◌, ◌<◌, Bool, false, cond, ltb, ◌&&◌, List, [], ◌∷◌, ◌++◌, length, get_or, set, reverse, refl, sym, ◌∙◌, ap, subst, arith, Option, Some, None, inl, inr, get_or-set_same, get_or-set_other, mul_comm}
 use Rattle.std.specs.Prelude.{ℤ, pos, find, ◌==◌, IsTrue}
 use Rattle.std.specs.List.{cons_option}
 use Rattle.std.specs.Option.{option_map_or}
@@ -14,7 +14,7 @@ use Rattle.mj_model.specs.FirstFault.{fault_or, first_fault}
 use Rattle.mj_model.specs.declared.matrix_sizes.MatrixSizes.{MatrixSizes}
 use Rattle.mj_model.specs.Connection.{Cell, cell_from, words_of, cell_fault, row_fault, connection_cost, is_pair}
 use Rattle.matrix_def.specs.Costs.{CostTable, IsMatrix, IsTableOf, cell_at, matrix_cost}
-use Rattle.matrix_def.specs.Rows.{cells_of, IsRow, HoldsUpTo}
+use Rattle.matrix_def.specs.Rows.{cells_of, IsFilledBy, IsRow}
 
 -- ---- faults
 
@@ -97,32 +97,25 @@ cells-append rows line cell listed =
     filter_map-append (λ row. cell_from (words_of row.1)) rows (line ∷ []) ∙ ap (λ (found : Option Cell). cells_of rows ++ cons_option found []) listed
 
 -- a row's ids lie within the table
-pub row_pair : (sizes : MatrixSizes) (all left : List (ℕ × List ℕ)) (m : CostTable) (line : List ℕ) (cell : Cell) → HoldsUpTo sizes all left m → IsRow sizes line cell → IsTrue (is_pair m.sizes cell.right cell.left)
-row_pair sizes all left m line cell h r =
-    subst (λ (s : MatrixSizes). IsTrue (is_pair s cell.right cell.left)) (sym h.holds.sizes) r.within
+pub row_pair : (sizes : MatrixSizes) (m : CostTable) (line : List ℕ) (cell : Cell) → m.sizes ≡ sizes → IsRow sizes line cell → IsTrue (is_pair m.sizes cell.right cell.left)
+row_pair sizes m line cell same r = subst (λ (s : MatrixSizes). IsTrue (is_pair s cell.right cell.left)) (sym same) r.within
 
-pub row_held : (sizes : MatrixSizes) (all left lines : List (ℕ × List ℕ)) (m new : CostTable) (number : ℕ) (line : List ℕ) (cell : Cell) → HoldsUpTo sizes all lines m → lines ≡ (number, line) ∷ left → IsRow sizes line cell
-    → new ≡ record m { costs = set m.costs (cell_at m cell.right cell.left) cell.cost } → IsMatrix new → HoldsUpTo sizes all left new
-row_held sizes all left lines m new number line cell h is r set_is formed =
-    let here : ℕ × List ℕ = (number, line) in
-    let p = row_pair sizes all lines m line cell h r in
-    let held : IsTableOf (record { sizes = sizes; cells = cells_of (h.rows ++ here ∷ []) }) (record m { costs = set m.costs (cell_at m cell.right cell.left) cell.cost }) = record {
-      sizes = h.holds.sizes;
-      costs = λ right left' q.
-          costs_more sizes (cells_of h.rows) m cell h.formed p h.holds right left' q
-          ∙ ap (λ (cs : List Cell). connection_cost (record { sizes = sizes; cells = cs }) right left') (sym (cells-append h.rows here cell r.listed));
+-- a further row sets its cell
+pub row_filled : (sizes : MatrixSizes) (rows : List (ℕ × List ℕ)) (m new : CostTable) (row : ℕ × List ℕ) (cell : Cell) → IsFilledBy sizes rows m → IsMatrix m → IsRow sizes row.1 cell
+    → new ≡ record m { costs = set m.costs (cell_at m cell.right cell.left) cell.cost } → IsFilledBy sizes (rows ++ row ∷ []) new
+row_filled sizes rows m new row cell h formed r set_is =
+    let p = row_pair sizes m row.1 cell h.1.sizes r in
+    let held : IsTableOf (record { sizes = sizes; cells = cells_of (rows ++ row ∷ []) }) (record m { costs = set m.costs (cell_at m cell.right cell.left) cell.cost }) = record {
+      sizes = h.1.sizes;
+      costs = λ right left q.
+          costs_more sizes (cells_of rows) m cell formed p h.1 right left q
+          ∙ ap (λ (cs : List Cell). connection_cost (record { sizes = sizes; cells = cs }) right left) (sym (cells-append rows row cell r.listed));
     } in
-    record {
-      rows = h.rows ++ here ∷ [];
-      parts = h.parts ∙ ap (λ (xs : List (ℕ × List ℕ)). h.rows ++ xs) is ∙ sym (append_assoc h.rows (here ∷ []) left);
-      none = fault-append 0 (row_fault sizes) h.rows (here ∷ []) h.none ∙ ap (λ (o : Option SourceKind). fault_or 0 number o None) (row_good sizes line cell r);
-      formed = formed;
-      holds = subst (λ (t : CostTable). IsTableOf (record { sizes = sizes; cells = cells_of (h.rows ++ here ∷ []) }) t) (sym set_is) held;
-    }
+    let none = fault-append 0 (row_fault sizes) rows (row ∷ []) h.0 ∙ ap (λ (o : Option SourceKind). fault_or 0 row.0 o None) (row_good sizes row.1 cell r) in
+    (none, subst (λ (t : CostTable). IsTableOf (record { sizes = sizes; cells = cells_of (rows ++ row ∷ []) }) t) (sym set_is) held)
 
-pub row_bad : (sizes : MatrixSizes) (all left lines : List (ℕ × List ℕ)) (m : CostTable) (number : ℕ) (line : List ℕ) (kind : SourceKind) (fault : SourceFault) → HoldsUpTo sizes all lines m → lines ≡ (number, line) ∷ left
-    → row_fault sizes line ≡ Some kind → fault ≡ record { file = 0; line = number; kind = kind } → first_fault 0 (row_fault sizes) all ≡ Some fault
-row_bad sizes all left lines m number line kind fault h is bad fault_is =
-    ap (first_fault 0 (row_fault sizes)) (h.parts ∙ ap (λ (xs : List (ℕ × List ℕ)). h.rows ++ xs) is)
-    ∙ fault-append 0 (row_fault sizes) h.rows ((number, line) ∷ left) h.none
-    ∙ ap (λ (o : Option SourceKind). fault_or 0 number o (first_fault 0 (row_fault sizes) left)) bad ∙ ap (λ (f : SourceFault). Some f) (sym fault_is)
+-- a row at fault is the first one, whatever follows
+pub row_bad : (sizes : MatrixSizes) (rows more : List (ℕ × List ℕ)) (m : CostTable) (row : ℕ × List ℕ) (kind : SourceKind) → IsFilledBy sizes rows m → row_fault sizes row.1 ≡ Some kind
+    → first_fault 0 (row_fault sizes) (rows ++ row ∷ more) ≡ Some (record { file = 0; line = row.0; kind = kind })
+row_bad sizes rows more m row kind h bad =
+    fault-append 0 (row_fault sizes) rows (row ∷ more) h.0 ∙ ap (λ (o : Option SourceKind). fault_or 0 row.0 o (first_fault 0 (row_fault sizes) more)) bad

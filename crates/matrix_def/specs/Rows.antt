@@ -1,11 +1,11 @@
 -- The rows of `matrix.def`.
-use Rattle.std.specs.Prelude.{◌≡◌, ℕ, IsTrue, List, ◌++◌, filter_map, Some, None}
+use Rattle.std.specs.Prelude.{◌≡◌, ℕ, IsTrue, List, filter_map, Some, None}
 use Rattle.mj_model.specs.declared.matrix_sizes.MatrixSizes.{MatrixSizes}
 use Rattle.mj_model.specs.declared.source_fault.TheConstants.{MATRIX_FILE}
 use Rattle.mj_model.specs.Connection.{Cell, cell_from, words_of, row_fault, is_pair}
 use Rattle.mj_model.specs.FirstFault.{first_fault}
 use Rattle.matrix_def.specs.declared.rows.MatrixCell.{MatrixCell}
-use Rattle.matrix_def.specs.Costs.{CostTable, IsMatrix, IsTableOf}
+use Rattle.matrix_def.specs.Costs.{CostTable, IsTableOf}
 
 abbrev pub cell_of : MatrixCell → Cell
 cell_of cell = record { right = cell.right; left = cell.left; cost = cell.cost }
@@ -18,14 +18,6 @@ cells_of rows = filter_map (λ row. cell_from (words_of row.1)) rows
 pub record IsRow (sizes : MatrixSizes) (line : List ℕ) (cell : Cell) : Type 0 where
   pub listed : cell_from (words_of line) ≡ Some cell
   pub within : IsTrue (is_pair sizes cell.right cell.left)
-
--- the table holds what the rows before `left` list, and none of them is at fault
-pub record HoldsUpTo (sizes : MatrixSizes) (all left : List (ℕ × List ℕ)) (m : CostTable) : Type 0 where
-  pub rows : List (ℕ × List ℕ)
-  pub parts : all ≡ rows ++ left
-  pub none : first_fault MATRIX_FILE (row_fault sizes) rows ≡ None
-  pub formed : IsMatrix m
-  pub holds : IsTableOf (record { sizes = sizes; cells = cells_of rows }) m
 
 -- rows are without fault, and the table holds what they list
 abbrev pub IsFilledBy : MatrixSizes → List (ℕ × List ℕ) → CostTable → Type 0

@@ -3,10 +3,13 @@
 
 mod matrix;
 mod read;
+mod reader;
 mod rows;
+mod standing;
 
 pub use matrix::Matrix;
 pub use read::read_matrix;
+pub use reader::MatrixReader;
 
 #[cfg(test)]
 mod tests;

@@ -1,4 +1,5 @@
 //! Rows of connection costs.
+mod pieces;
 mod refused;
 
 use crate::read_matrix;

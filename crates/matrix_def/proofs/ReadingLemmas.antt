@@ -1,0 +1,177 @@
+-- `matrix.def` line by line: each line that ends goes on from where reading stood.
+use Rattle.std.proofs.Common.{◌≡◌, ℕ, ◌+◌, ◌*◌, Bool, true, false, cond, List, [], ◌∷◌, ◌++◌, length, refl, sym, ◌∙◌, ap, subst, arith, Option, Some, inl, inr, append_assoc, get_or}
+use Rattle.std.proofs.Math.Seq.{take-append_seam, drop-append-add}
+use Rattle.std.specs.Prelude.{not, ◌||◌, take, drop, nat_le, slice_set, Err}
+use Rattle.std.specs.List.{enumerate_from, list_any, position_or_len}
+use Rattle.std.proofs.lemmas.Bool.{cases_Bool, cond-true, or_parts}
+use Rattle.std.proofs.lemmas.List.{append-nil, length-append}
+use Rattle.std.proofs.lemmas.List.Elements.{filter-append}
+use Rattle.std.proofs.lemmas.List.Folds.{list_any-append}
+use Rattle.mj_model.specs.declared.limits.TheConstants.{MATRIX_CELLS_MAX}
+use Rattle.mj_model.specs.declared.matrix_sizes.MatrixSizes.{MatrixSizes}
+use Rattle.mj_model.specs.declared.source_fault.SourceFault.{SourceFault}
+use Rattle.mj_model.specs.declared.source_fault.SourceKind.{SourceKind}
+use Rattle.mj_model.specs.Bytes.{is_line_feed, line_feed}
+use Rattle.mj_model.specs.Connection.{Cell, connection_from, connection_under, connection_unless, row_fault}
+use Rattle.mj_model.specs.FirstFault.{first_fault}
+use Rattle.mj_model.specs.Lines.{is_blank_line, numbered_lines, source_lines, without_return}
+use Rattle.lex_source.specs.Cuts.{IsCut}
+use Rattle.lex_source.specs.Filled.{filled}
+use Rattle.lex_source.proofs.LineLemmas.{cut_lines, last_line}
+use Rattle.matrix_def.specs.Costs.{CostTable, IsMatrix, cell_at}
+use Rattle.matrix_def.specs.declared.standing.Standing.{Standing}
+use Rattle.matrix_def.specs.Reading.{Fill, HasNoFeed, HasRead, ReaderSeen, StandsAfter, row_of}
+use Rattle.matrix_def.specs.Rows.{IsRow}
+use Rattle.matrix_def.proofs.RowLemmas.{row_bad, row_filled}
+
+-- ---- lines
+
+feed_at : (line more : List ℕ) → HasNoFeed line → position_or_len is_line_feed (line ++ line_feed ∷ more) ≡ length line
+feed_at [] more none = refl
+feed_at (c ∷ cs) more none =
+    let p = or_parts (is_line_feed c) (list_any is_line_feed cs) none in
+    ap (λ (b : Bool). cond (not b) (1 + position_or_len is_line_feed (cs ++ line_feed ∷ more)) 0) p.0 ∙ omega (arith, feed_at cs more p.1)
+
+cut_at_feed : (line more : List ℕ) → HasNoFeed line → IsCut is_line_feed (line ++ line_feed ∷ more) line more
+cut_at_feed line more none =
+    let all : List ℕ = line ++ line_feed ∷ more in
+    let at : position_or_len is_line_feed all ≡ length line = feed_at line more none in
+    record {
+      found = list_any-append is_line_feed line (line_feed ∷ more) ∙ ap (λ (b : Bool). b || list_any is_line_feed (line_feed ∷ more)) none;
+      before_is = sym (ap (λ (n : ℕ). take n all) at ∙ take-append_seam line (line_feed ∷ more));
+      behind_is = sym (ap (λ (n : ℕ). drop (n + 1) all) at ∙ drop-append-add line (line_feed ∷ more) 1);
+    }
+
+-- a line that ends is the first one
+line_first : (line more : List ℕ) → HasNoFeed line → source_lines (line ++ line_feed ∷ more) ≡ without_return line ∷ source_lines more
+line_first line more none = cut_lines (line ++ line_feed ∷ more) line more (without_return line) (cut_at_feed line more none) refl
+
+-- bytes without a line feed are one line, if there are any
+pub row_is : (number : ℕ) (bytes : List ℕ) → HasNoFeed bytes → row_of number bytes ≡ filled ((number, without_return bytes) ∷ [])
+row_is number [] none = refl
+row_is number (c ∷ cs) none =
+    ap (λ (lines : List (List ℕ)). filled (enumerate_from number lines)) (last_line (c ∷ cs) (without_return (c ∷ cs)) [] (omega arith) none refl refl)
+
+one_filled : (number : ℕ) (line : List ℕ) (b : Bool) → is_blank_line line ≡ b → filled ((number, line) ∷ []) ≡ cond b [] ((number, line) ∷ [])
+one_filled number line true is = ap (λ (b : Bool). cond (not b) ((number, line) ∷ []) []) is
+one_filled number line false is = ap (λ (b : Bool). cond (not b) ((number, line) ∷ []) []) is
+
+-- the same line under another number
+pub row_found : (number n : ℕ) (bytes line : List ℕ) (rest : List (ℕ × List ℕ)) → HasNoFeed bytes → filled (numbered_lines bytes) ≡ (n, line) ∷ rest → row_of number bytes ≡ (number, line) ∷ []
+row_found number n bytes line rest none is =
+    let w : List ℕ = without_return bytes in
+    let first : (n, line) ∷ rest ≡ filled ((1, w) ∷ []) = sym is ∙ row_is 1 bytes none in
+    elim (cases_Bool (is_blank_line w)) [
+      | inl blank ↦ let no : (n, line) ∷ rest ≡ [] = first ∙ one_filled 1 w true blank in absurd (cc)
+      | inr full ↦
+          let same : (n, line) ∷ rest ≡ (1, w) ∷ [] = first ∙ one_filled 1 w false full in
+          let same_line : line ≡ w = ap (λ (rows : List (ℕ × List ℕ)). (get_or rows 0 (0, [])).1) same in
+          row_is number bytes none ∙ one_filled number w false full ∙ ap (λ (l : List ℕ). (number, l) ∷ []) (sym same_line)
+    ]
+
+pub row_missing : (number : ℕ) (bytes : List ℕ) → HasNoFeed bytes → filled (numbered_lines bytes) ≡ [] → row_of number bytes ≡ []
+row_missing number bytes none is =
+    let w : List ℕ = without_return bytes in
+    let first : [] ≡ filled ((1, w) ∷ []) = sym is ∙ row_is 1 bytes none in
+    elim (cases_Bool (is_blank_line w)) [
+      | inl blank ↦ row_is number bytes none ∙ one_filled number w true blank
+      | inr full ↦
+          let no : 0 ≡ 1 = ap (λ (rows : List (ℕ × List ℕ)). length rows) (first ∙ one_filled 1 w false full) in
+          absurd (omega (arith, no))
+    ]
+
+enumerate-append : {X : Type 0} (n m : ℕ) (xs ys : List X) → m ≡ n + length xs → enumerate_from n (xs ++ ys) ≡ enumerate_from n xs ++ enumerate_from m ys
+enumerate-append {X = X} n m [] ys is = ap (λ (k : ℕ). enumerate_from k ys) (omega (arith, is))
+enumerate-append {X = X} n m (x ∷ xs) ys is = ap (λ (rest : List (ℕ × X)). (n, x) ∷ rest) (enumerate-append (n + 1) m xs ys (omega (arith, is)))
+
+-- the lines that are not blank, and those behind them
+filled-append : (n m : ℕ) (xs ys : List (List ℕ)) → m ≡ n + length xs → filled (enumerate_from n (xs ++ ys)) ≡ filled (enumerate_from n xs) ++ filled (enumerate_from m ys)
+filled-append n m xs ys is =
+    ap filled (enumerate-append n m xs ys is) ∙ filter-append (λ (line : ℕ × List ℕ). not (is_blank_line line.1)) (enumerate_from n xs) (enumerate_from m ys)
+
+-- ---- rows
+
+-- a good row behind a header and good rows
+pub fill_more : (lines : List (ℕ × List ℕ)) (m new : CostTable) (number : ℕ) (line : List ℕ) (cell : Cell) → Fill lines m → IsRow m.sizes line cell
+    → new ≡ record m { costs = slice_set m.costs (cell_at m cell.right cell.left) cell.cost } → IsMatrix new → Fill (lines ++ (number, line) ∷ []) new
+fill_more lines m new number line cell f r is formed =
+    let row : ℕ × List ℕ = (number, line) in
+    let set_one : CostTable = record m { costs = slice_set m.costs (cell_at m cell.right cell.left) cell.cost } in
+    subst (λ (t : CostTable). Fill (lines ++ row ∷ []) t) (sym is) (record {
+      header = f.header;
+      rows = f.rows ++ row ∷ [];
+      parts = ap (λ (ls : List (ℕ × List ℕ)). ls ++ row ∷ []) f.parts;
+      sizes = f.sizes;
+      few = f.few;
+      formed = subst IsMatrix is formed;
+      filled_by = row_filled m.sizes f.rows m set_one row cell f.filled_by f.formed r refl;
+    })
+
+-- a row at fault behind them
+pub fill_refused : (lines : List (ℕ × List ℕ)) (m : CostTable) (number : ℕ) (line : List ℕ) (kind : SourceKind) → Fill lines m → row_fault m.sizes line ≡ Some kind
+    → (more : List (ℕ × List ℕ)) → connection_from ((lines ++ (number, line) ∷ []) ++ more) ≡ Err (record { file = 0; line = number; kind = kind })
+fill_refused lines m number line kind f bad more =
+    let row : ℕ × List ℕ = (number, line) in
+    let rest : List (ℕ × List ℕ) = f.rows ++ row ∷ more in
+    let joined : (lines ++ row ∷ []) ++ more ≡ f.header ∷ rest = append_assoc lines (row ∷ []) more ∙ ap (λ (ls : List (ℕ × List ℕ)). ls ++ row ∷ more) f.parts in
+    ap connection_from joined
+    ∙ ap (λ (sizes : Option MatrixSizes). connection_under f.header.0 sizes rest) f.sizes
+    ∙ cond-true (nat_le (m.sizes.right * m.sizes.left) MATRIX_CELLS_MAX) (connection_unless (first_fault 0 (row_fault m.sizes) rest) m.sizes rest) (Err _) f.few
+    ∙ ap (λ (found : Option SourceFault). connection_unless found m.sizes rest) (row_bad m.sizes f.rows more m row kind f.filled_by bad)
+
+-- ---- what the reader was given
+
+-- all lines that are not blank: those that ended, and the one that began
+lines_read : (bytes : List ℕ) (r : ReaderSeen) (h : HasRead bytes r) → filled (numbered_lines bytes) ≡ filled (enumerate_from 1 h.lines) ++ row_of (r.ended + 1) r.begun
+lines_read bytes r h =
+    ap (λ (bs : List ℕ). filled (numbered_lines bs)) h.parts ∙ ap (λ (ls : List (List ℕ)). filled (enumerate_from 1 ls)) (h.cut r.begun)
+    ∙ filled-append 1 (r.ended + 1) h.lines (source_lines r.begun) (omega (arith, h.counted))
+
+-- where reading stands with the line that began, if no more follows
+pub all_read : (bytes line : List ℕ) (number : ℕ) (r : ReaderSeen) (new : Standing) → HasRead bytes r → number ≡ r.ended + 1 → line ≡ r.begun
+    → ((lines : List (ℕ × List ℕ)) → StandsAfter lines r.standing → StandsAfter (lines ++ row_of number line) new) → StandsAfter (filled (numbered_lines bytes)) new
+all_read bytes line number r new h number_is line_is after =
+    let lines : List (ℕ × List ℕ) = filled (enumerate_from 1 h.lines) in
+    let rows : row_of number line ≡ row_of (r.ended + 1) r.begun = ap (λ (n : ℕ). row_of n line) number_is ∙ ap (row_of (r.ended + 1)) line_is in
+    subst (λ (all : List (ℕ × List ℕ)). StandsAfter all new) (ap (λ (more : List (ℕ × List ℕ)). lines ++ more) rows ∙ sym (lines_read bytes r h)) (after lines h.stands)
+
+-- the line that began ends
+pub line_read : (bytes part : List ℕ) (r new : ReaderSeen) → HasRead bytes r → HasNoFeed (r.begun ++ part) → new.begun ≡ [] → new.ended ≡ r.ended + 1
+    → ((lines : List (ℕ × List ℕ)) → StandsAfter lines r.standing → StandsAfter (lines ++ row_of new.ended (r.begun ++ part)) new.standing) → HasRead ((bytes ++ part) ++ line_feed ∷ []) new
+line_read bytes part r new h none begun ended after =
+    let line : List ℕ = r.begun ++ part in
+    let w : List ℕ = without_return line in
+    let all : List ℕ = (bytes ++ part) ++ line_feed ∷ [] in
+    let turned : (more : List ℕ) → all ++ more ≡ h.closed ++ (line ++ line_feed ∷ more) = λ more.
+    ap (λ (bs : List ℕ). ((bs ++ part) ++ line_feed ∷ []) ++ more) h.parts
+    ∙ append_assoc ((h.closed ++ r.begun) ++ part) (line_feed ∷ []) more
+    ∙ ap (λ (bs : List ℕ). bs ++ line_feed ∷ more) (append_assoc h.closed r.begun part)
+    ∙ append_assoc h.closed line (line_feed ∷ more) in
+    let rows : filled (enumerate_from 1 (h.lines ++ w ∷ [])) ≡ filled (enumerate_from 1 h.lines) ++ row_of new.ended line =
+    filled-append 1 new.ended h.lines (w ∷ []) (omega (arith, ended, h.counted))
+    ∙ ap (λ (rows : List (ℕ × List ℕ)). filled (enumerate_from 1 h.lines) ++ rows) (sym (row_is new.ended line none)) in
+    record {
+      closed = all;
+      lines = h.lines ++ w ∷ [];
+      parts = sym (ap (λ (bs : List ℕ). all ++ bs) begun ∙ append-nil all);
+      cut = λ more.
+          ap source_lines (turned more) ∙ h.cut (line ++ line_feed ∷ more) ∙ ap (λ (ls : List (List ℕ)). h.lines ++ ls) (line_first line more none)
+          ∙ sym (append_assoc h.lines (w ∷ []) (source_lines more));
+      counted = ended ∙ ap (λ (n : ℕ). n + 1) h.counted ∙ sym (length-append h.lines (w ∷ []));
+      stands = subst (λ (rows : List (ℕ × List ℕ)). StandsAfter rows new.standing) (sym rows) (after (filled (enumerate_from 1 h.lines)) h.stands);
+    }
+
+-- ---- a piece
+
+pub no_feed_append : (xs ys : List ℕ) → HasNoFeed xs → HasNoFeed ys → HasNoFeed (xs ++ ys)
+no_feed_append xs ys before behind = list_any-append is_line_feed xs ys ∙ ap (λ (b : Bool). b || list_any is_line_feed ys) before ∙ behind
+
+-- a line of a piece is cut behind those that were read
+pub piece_cut : (piece done rest part behind : List ℕ) → piece ≡ done ++ rest → rest ≡ part ++ line_feed ∷ behind → piece ≡ ((done ++ part) ++ line_feed ∷ []) ++ behind
+piece_cut piece done rest part behind whole cut =
+    whole ∙ ap (λ (bs : List ℕ). done ++ bs) cut ∙ sym (append_assoc done part (line_feed ∷ behind)) ∙ sym (append_assoc (done ++ part) (line_feed ∷ []) behind)
+
+-- bytes that were read one part after another
+pub parts_joined : (bytes done part : List ℕ) → ((bytes ++ done) ++ part) ++ line_feed ∷ [] ≡ bytes ++ ((done ++ part) ++ line_feed ∷ [])
+parts_joined bytes done part =
+    ap (λ (bs : List ℕ). bs ++ line_feed ∷ []) (append_assoc bytes done part) ∙ append_assoc bytes (done ++ part) (line_feed ∷ [])

@@ -1,0 +1,116 @@
+//! `matrix.def`, read piece by piece.
+ghost use Rattle.std.specs.Prelude.{◌≡◌, ℕ, List, [], ◌∷◌, ◌++◌, Err, IfOk, IfErr};
+ghost use Rattle.mj_model.specs.Bytes.{line_feed};
+ghost use Rattle.mj_model.specs.Connection.{connection_of};
+ghost use Rattle.mj_model.specs.FirstFault.{IsRefusal};
+ghost use Rattle.matrix_def.specs.Costs.{IsTableIn};
+ghost use Rattle.matrix_def.specs.Reading.{HasNoFeed, HasRead};
+
+use crate::matrix::Matrix;
+use crate::standing::Standing;
+use lex_source::split_first;
+use mj_model::SourceFault;
+use std::alloc::{AllocError, Global};
+use std::marker::Model;
+
+/// Reads a `matrix.def` whose bytes come in pieces, of any lengths and cut anywhere.
+///
+/// It keeps the table of costs and the line that did not end yet, and none of the bytes before it.
+#[derive(Drop)]
+pub struct MatrixReader {
+    alloc: Global,
+    /// How many lines ended.
+    ended: u64,
+    /// The bytes of the line that began behind them.
+    begun: Vec<u8>,
+    standing: Standing,
+}
+
+impl Model for MatrixReader {
+    ghost use Rattle.matrix_def.specs.Reading.{HasNoFeed, ReaderSeen};
+
+    ghost Value = { ReaderSeen };
+
+    ghost view = { λ r. record { ended = r.ended; begun = r.begun.items; standing = r.standing } };
+
+    ghost invariant = { λ r. HasNoFeed r.begun.items };
+}
+
+impl MatrixReader {
+    /// A reader that was given no bytes. It takes no memory.
+    pub fn new(alloc: Global) -> MatrixReader
+        ensures { HasRead [] result }
+    {
+        MatrixReader {
+            alloc,
+            ended: 0,
+            begun: Vec::new(alloc),
+            standing: Standing::Header,
+        }
+    }
+
+    /// After a further piece.
+    pub fn read(self, piece: &[u8]) -> Result<MatrixReader, AllocError>
+        ensures { (bytes : List ℕ) → HasRead bytes self
+            → IfOk result (HasRead (bytes ++ piece.now)) }
+    {
+        let mut reader = self;
+        let mut rest = piece;
+        while let Some((part, behind)) = split_first(rest, b'\n') {
+            reader = reader.read_to_end(part)?;
+            rest = behind;
+        }
+        reader.read_begun(rest)
+    }
+
+    /// After the rest of a line, and its LF.
+    fn read_to_end(self, part: &[u8]) -> Result<MatrixReader, AllocError>
+        requires { HasNoFeed part.now }
+        ensures { (bytes : List ℕ) → HasRead bytes self
+            → IfOk result (HasRead (bytes ++ part.now ++ line_feed ∷ [])) }
+    {
+        let MatrixReader {
+            alloc,
+            ended,
+            mut begun,
+            standing,
+        } = self;
+        begun.extend_from_slice(part)?;
+        let number = ended.checked_add(1).ok_or(AllocError)?;
+        let standing = standing.after(alloc, number, &begun)?;
+        begun.clear();
+        Ok(MatrixReader {
+            alloc,
+            ended: number,
+            begun,
+            standing,
+        })
+    }
+
+    /// After bytes of a line that does not end with them.
+    fn read_begun(mut self, part: &[u8]) -> Result<MatrixReader, AllocError>
+        requires { HasNoFeed part.now }
+        ensures { (bytes : List ℕ) → HasRead bytes self
+            → IfOk result (HasRead (bytes ++ part.now)) }
+    {
+        self.begun.extend_from_slice(part)?;
+        Ok(self)
+    }
+
+    /// What the bytes say: what `read_matrix` reads of them as one slice.
+    pub fn finish(self) -> Result<Matrix, SourceFault>
+        ensures accepted { (bytes : List ℕ) → HasRead bytes self
+            → IfOk result (IsTableIn bytes) }
+        ensures refused { (bytes : List ℕ) → HasRead bytes self
+            → IfErr result (λ fault. IsRefusal fault (connection_of bytes ≡ Err fault)) }
+    {
+        let MatrixReader {
+            alloc,
+            ended,
+            begun,
+            standing,
+        } = self;
+        let number = ended.checked_add(1).ok_or(AllocError)?;
+        standing.after(alloc, number, &begun)?.matrix()
+    }
+}
