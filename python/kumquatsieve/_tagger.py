@@ -40,6 +40,12 @@ class Node:
         self._path = path
         self._number = number
 
+    def __eq__(self, other: object) -> bool:
+        return isinstance(other, Node) and self._path is other._path and self._number == other._number
+
+    def __hash__(self) -> int:
+        return hash((id(self._path), self._number))
+
     lcAttr, rcAttr, wcost, char_type = of_field(5), of_field(6), of_field(7), of_field(9)
 
     @property
