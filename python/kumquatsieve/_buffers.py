@@ -1,7 +1,7 @@
 """Where the library writes what it answers to a cutter: memory that is used again from line to line."""
 import struct
 from ctypes import addressof, c_char, c_int64, c_size_t, sizeof
-from typing import Any, List
+from typing import Any
 
 from ._fault import raise_fault
 from ._library import LIBRARY, OK, SHORT_BUFFER, Record
@@ -40,12 +40,12 @@ class Buffers:
             raise_fault(code)
         return str(self._bytes[: self._length.value], "utf-8")
 
-    def fields_of(self, cutter: int) -> List[tuple]:
-        """The fields of the words of the line that was cut last, whose number `count_at` has."""
+    def records_of(self, cutter: int) -> bytes:
+        """The records of the words of the line that was cut last, whose number `count_at` has. `FIELDS` reads them."""
         count = self._count.value
         if count > self._most:
             self._make_records(2 * count)
         code = WORDS(cutter, 0, self._records_at, count, self.count_at)
         if code != OK:
             raise_fault(code)
-        return list(FIELDS.iter_unpack(self._fields[: count * FIELDS.size]))
+        return bytes(self._fields[: count * FIELDS.size])

@@ -6,13 +6,13 @@ from ctypes import addressof, c_size_t, c_uint32, c_uint64
 from pathlib import Path
 from typing import Any, List, NamedTuple, Sequence, Tuple, Union
 
-from ._buffers import Buffers
+from ._buffers import FIELDS, Buffers
 from ._fault import raise_fault
 from ._library import LIBRARY, OK, PARTS, Handle
 
 Image = Union[bytes, str, "os.PathLike[str]"]
 Texts = Tuple[bytes, bytes, bytes, bytes]
-Told = Tuple[List[tuple], List[str], List[str]]
+Told = Tuple[bytes, List[str], List[str]]
 
 GROUPING = 24
 DEFAULT: Texts = (b"%m\\t%H\\n", b"%m\\t%H\\n", b"", b"EOS\\n")
@@ -112,16 +112,17 @@ class Cutter:
         return words_of(text, *self.told(text, CUT))
 
     def told(self, text: bytes, call: Any) -> Told:
-        """The fields, the surfaces and the features of the words of a text in UTF-8, cut by one of the calls."""
+        """The records, the surfaces and the features of the words of a text in UTF-8, cut by one of the calls."""
         with self._lock:
             self._cut(call, text)
-            fields = self._buffers.fields_of(self._at)
+            records = self._buffers.records_of(self._at)
             lines = self._lines(FEATURES)
-            if len(lines) == 2 * len(fields) + 1:
-                return fields, lines[:-1:2], lines[1::2]
+            count = len(records) // FIELDS.size
+            if len(lines) == 2 * count + 1:
+                return records, lines[:-1:2], lines[1::2]
             # A line feed stands in a surface or in a feature.
-            features = [self._buffers.text_of(FEATURE, self._at, number) for number in range(len(fields))]
-        return fields, [text[start:end].decode() for _, start, end, *_ in fields], features
+            features = [self._buffers.text_of(FEATURE, self._at, number) for number in range(count)]
+        return records, [text[start:end].decode() for _, start, end, *_ in FIELDS.iter_unpack(records)], features
 
     def wakati(self, line: str) -> List[str]:
         """The surfaces of a line's words."""
@@ -171,11 +172,11 @@ class Cutter:
         self._texts = texts
 
 
-def words_of(text: bytes, fields: List[tuple], surfaces: List[str], features: List[str]) -> List[Word]:
+def words_of(text: bytes, records: bytes, surfaces: List[str], features: List[str]) -> List[Word]:
     """The words of a text. Characters are counted from word to word."""
     words, make = [], tuple.__new__
     characters = behind = 0
-    for (_, start, end, _, _, left, right, cost, known, _), surface, feature in zip(fields, surfaces, features):
+    for (_, start, end, _, _, left, right, cost, known, _), surface, feature in zip(FIELDS.iter_unpack(records), surfaces, features):
         if behind != start:
             characters += len(text[behind:start].decode())
         after = characters + len(surface)

@@ -4,6 +4,7 @@ import shlex
 from pathlib import Path
 from typing import List, Optional, Tuple
 
+from ._buffers import FIELDS
 from ._cutter import CUT_TEXT, DEFAULT, WAKATI, Cutter, Texts, Told, encoded
 
 VARIABLE = "KUMQUATSIEVE_DICTIONARY"
@@ -21,13 +22,13 @@ NAMES = {
     "--eos-format": "E",
 }
 
-# The fields of a text's beginning and end.
-NO_FIELDS = (0,) * 10
+# The record of a text's beginning and end.
+NO_FIELDS = bytes(FIELDS.size)
 
 
 def of_field(number: int) -> property:
     """A field of a node's word, by its number among those of a record."""
-    return property(lambda node: node._path[0][node._number][number])
+    return property(lambda node: node._fields()[number])
 
 
 class Node:
@@ -40,6 +41,12 @@ class Node:
         self._path = path
         self._number = number
 
+    def __eq__(self, other: object) -> bool:
+        return isinstance(other, Node) and self._path is other._path and self._number == other._number
+
+    def __hash__(self) -> int:
+        return hash((id(self._path), self._number))
+
     lcAttr, rcAttr, wcost, char_type = of_field(5), of_field(6), of_field(7), of_field(9)
 
     @property
@@ -50,26 +57,29 @@ class Node:
     def feature(self) -> str:
         return self._path[2][self._number]
 
+    def _fields(self) -> tuple:
+        return FIELDS.unpack_from(self._path[0], self._number * FIELDS.size)
+
     @property
     def stat(self) -> int:
         if self._number == 0:
             return 2
-        return 3 if self._number + 1 == len(self._path[0]) else 1 - self._path[0][self._number][8]
+        return 3 if self._number + 1 == len(self._path[1]) else 1 - self._fields()[8]
 
     @property
     def length(self) -> int:
-        _, start, end, *_ = self._path[0][self._number]
+        _, start, end, *_ = self._fields()
         return end - start
 
     @property
     def rlength(self) -> int:
-        place, _, end, *_ = self._path[0][self._number]
+        place, _, end, *_ = self._fields()
         return end - place
 
     @property
     def next(self) -> Optional["Node"]:
         number = self._number + 1
-        return Node(self._path, number) if number < len(self._path[0]) else None
+        return Node(self._path, number) if number < len(self._path[1]) else None
 
     @property
     def prev(self) -> Optional["Node"]:
@@ -134,6 +144,6 @@ class Tagger:
 
     def parseToNode(self, text: str) -> Node:
         """The node of a text's beginning, which leads by `next` to its words and its end."""
-        fields, surfaces, features = self._cutter.told(encoded(text), CUT_TEXT)
-        path = [NO_FIELDS, *fields, NO_FIELDS], ["", *surfaces, ""], [BOUNDARY, *features, BOUNDARY]
+        records, surfaces, features = self._cutter.told(encoded(text), CUT_TEXT)
+        path = NO_FIELDS + records + NO_FIELDS, ["", *surfaces, ""], [BOUNDARY, *features, BOUNDARY]
         return Node(path, 0)

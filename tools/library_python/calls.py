@@ -91,6 +91,7 @@ def check_taggers():
     second = Tagger(SYSTEM).parseToNode(LINE).next.next
     same("a node before", ("すもも", None), (second.prev.surface, second.prev.prev.prev))
     same("its numbers", (1, 1), (second.lcAttr, second.rcAttr))
+    same("a node is the same again", (True, False), (second.prev.next == second, second.next == second))
 
 
 def check_threads():
