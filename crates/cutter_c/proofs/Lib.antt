@@ -1,4 +1,6 @@
-pub mod Values
+pub mod SlotValues
+pub mod PassedTypes
+pub mod BoxCalls
 pub mod CallLemmas
 pub mod HandleLemmas
 pub mod TextLemmas

@@ -7,7 +7,6 @@ mod exports;
 mod fault;
 mod handle;
 mod loading;
-mod parts;
 mod session;
 mod settings;
 mod slot;
