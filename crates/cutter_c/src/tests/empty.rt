@@ -1,0 +1,38 @@
+//! Calls with an empty handle.
+
+use super::samples::{Held, UNSET, add_user, cut, load, sample_image, user_image};
+use crate::{
+    kumquatsieve_copy_feature, kumquatsieve_copy_print, kumquatsieve_cut_text,
+    kumquatsieve_set_format, kumquatsieve_set_grouping, kumquatsieve_words,
+};
+use std::test::Fail;
+
+#[test]
+fn empty_handle(rt: HostRuntime) -> Result<(), Fail> {
+    let alloc = rt.alloc();
+    let mut held = Held::empty(alloc);
+    held.free();
+    let user = user_image(alloc, "もも,1,1,1,名詞,ユーザ\n")?;
+    assert!(rt; add_user(&mut held, &user) == (0x4b05, UNSET));
+    assert!(rt; cut(&mut held, b"") == 0x4b05);
+    let (mut count, mut total, mut part) = (0, 0, 0);
+    let handle = &mut held.handle;
+    let empty = &[];
+    #[rattlefmt::skip]
+    let codes = [
+        ("set_format",   kumquatsieve_set_format(alloc, handle, empty, empty, empty, empty, &mut part, &mut count)),
+        ("set_grouping", kumquatsieve_set_grouping(alloc, handle, 24)),
+        ("cut_text",     kumquatsieve_cut_text(alloc, handle, empty, &mut count, &mut total)),
+        ("words",        kumquatsieve_words(alloc, handle, 0, &mut [], &mut count)),
+        ("copy_print",   kumquatsieve_copy_print(alloc, handle, &mut [], &mut count)),
+        ("copy_feature", kumquatsieve_copy_feature(alloc, handle, 0, &mut [], &mut count)),
+    ];
+    for (what, code) in codes {
+        assert!(rt; code == 0x4b05, "{what}");
+    }
+    assert!(rt; load(&mut held, &sample_image(alloc)?) == (0, UNSET));
+    held.free();
+    held.free();
+    assert!(rt; cut(&mut held, b"") == 0x4b05);
+    Ok(())
+}
