@@ -42,7 +42,8 @@ pub extern "C" fn kumquatsieve_feature(
     feature: &mut *const u8,
     count: &mut usize,
 ) -> u32
-    ensures told { (result ≡ 0) → Lends (IsTold (FeatureOf number)) feature.new count.new cutter.new }
+    ensures told { (result ≡ 0)
+        → Lends (IsTold (FeatureOf number)) feature.new count.new cutter.new }
     ensures cutter { cutter_in cutter.new ≡ cutter_in cutter.old }
     ensures refused { (result ≢ 0)
         → TellsRefusal (cutter_in cutter.old) (IsAskedRefusal (FeatureOf number)) result }

@@ -5,7 +5,7 @@ use crate::{kumquatsieve_set_format, kumquatsieve_set_grouping};
 use std::test::Fail;
 
 /// What setting a format answers: the code, the part and the place.
-fn set_format(held: &mut Held, texts: [&[u8]; 4]) -> (u32, u32, usize) {
+pub fn set_format(held: &mut Held, texts: [&[u8]; 4]) -> (u32, u32, usize) {
     let [node, unk, bos, eos] = texts;
     let (mut part, mut at) = (9, 99);
     let code = kumquatsieve_set_format(
