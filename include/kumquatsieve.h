@@ -26,8 +26,8 @@ typedef struct kumquatsieve_cutter {
 
 /* A word of the line that was cut last. Its blanks stand from place to start, its surface from start to end, in bytes from the line's
    beginning. left and right are context ids, and cost is the word cost. token is the number of its entry: where known is 1 in
-   dictionary 0, the system's, or 1 and more, the users' in their order; where known is 0 among the unknown words of the system.
-   category is the number of the first category of the surface's first character, in the order of char.def. */
+   dictionary 0, the system's, or 1 and more, the users' in their order; where known is 0 in the system's, whose unknown words come
+   behind those of its lexicon. category is the number of the first category of the surface's first character, in the order of char.def. */
 typedef struct kumquatsieve_word {
     size_t place;
     size_t start;

@@ -15,9 +15,19 @@ static bool has_room(bytes *of, size_t length) {
 
 bool set_bytes(bytes *to, const void *from, size_t length) {
     if (!has_room(to, length)) return false;
-    memcpy(to->at, from, length);
+    if (length > 0) memmove(to->at, from, length);
     to->at[length] = '\0';
     to->length = length;
+    return true;
+}
+
+/* Adds what stands before the first zero, and a zero. */
+bool add_text(bytes *to, const char *from, size_t length) {
+    size_t shown = strnlen(from, length), whole = to->length + shown;
+    if (!has_room(to, whole)) return false;
+    memcpy(to->at + to->length, from, shown);
+    to->at[whole] = '\0';
+    to->length = whole + 1;
     return true;
 }
 

@@ -52,12 +52,16 @@ public:
     mecab_lattice_t *const at;
 };
 
+mecab_lattice_t *at_of(MeCab::Lattice *lattice) {
+    return lattice != nullptr ? static_cast<LatticeOver *>(lattice)->at : nullptr;
+}
+
 class TaggerOver final : public MeCab::Tagger {
 public:
     explicit TaggerOver(mecab_t *at) : at(at) {}
     ~TaggerOver() override { mecab_destroy(at); }
 
-    bool parse(MeCab::Lattice *lattice) const override { return mecab_parse_lattice(at, static_cast<LatticeOver *>(lattice)->at) != 0; }
+    bool parse(MeCab::Lattice *lattice) const override { return mecab_parse_lattice(at, at_of(lattice)) != 0; }
     const char *parse(const char *text) override { return mecab_sparse_tostr(at, text); }
     const MeCab::Node *parseToNode(const char *text) override { return mecab_sparse_tonode(at, text); }
     const char *parseNBest(size_t n, const char *text) override { return mecab_nbest_sparse_tostr(at, n, text); }
@@ -101,7 +105,7 @@ public:
     const MeCab::DictionaryInfo *dictionary_info() const override { return mecab_model_dictionary_info(at); }
     int transition_cost(unsigned short right, unsigned short left) const override { return mecab_model_transition_cost(at, right, left); }
     MeCab::Node *lookup(const char *begin, const char *end, MeCab::Lattice *lattice) const override {
-        return mecab_model_lookup(at, begin, end, static_cast<LatticeOver *>(lattice)->at);
+        return mecab_model_lookup(at, begin, end, at_of(lattice));
     }
     MeCab::Tagger *createTagger() const override;
     MeCab::Lattice *createLattice() const override;

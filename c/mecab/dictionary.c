@@ -43,7 +43,7 @@ static char *path_of(const char *named) {
 
 static bool read_file(const char *path, bytes *whole, fault *error) {
     FILE *file = fopen(path, "rb");
-    if (!file) return fail(error, "%s: can't be opened", path);
+    if (!file) return fail(error, "%s: can't be opened; kumquatsieve-import makes an image", path);
     long size = fseek(file, 0, SEEK_END) == 0 ? ftell(file) : -1;
     rewind(file);
     bool read = size >= 0;

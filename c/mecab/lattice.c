@@ -4,10 +4,23 @@
 #include <stdlib.h>
 #include <string.h>
 
+static const double THETA = 0.75;
+static const format DEFAULT = {"%m\\t%H\\n", "%m\\t%H\\n", "", "EOS\\n", 2};
+
 mecab_lattice_t *mecab_lattice_new(void) {
     mecab_lattice_t *lattice = calloc(1, sizeof *lattice);
-    if (lattice) lattice->request = MECAB_ONE_BEST;
+    if (!lattice) {
+        fail_memory(common_fault());
+        return NULL;
+    }
+    lattice->request = MECAB_ONE_BEST;
+    lattice->theta = THETA;
     return lattice;
+}
+
+/* That of the lattice's model, whichever tagger parses it. (MeCab) */
+const format *format_of(const mecab_lattice_t *lattice) {
+    return lattice->model ? &lattice->model->texts : &DEFAULT;
 }
 
 void mecab_lattice_destroy(mecab_lattice_t *lattice) {
@@ -17,18 +30,22 @@ void mecab_lattice_destroy(mecab_lattice_t *lattice) {
     free_bytes(&lattice->printed);
     free(lattice->words);
     free(lattice->nodes);
+    mecab_model_destroy(lattice->model);
     free(lattice);
 }
 
 void mecab_lattice_clear(mecab_lattice_t *lattice) {
     lattice->sentence = NULL;
     lattice->size = lattice->count = 0;
-    lattice->is_printed = false;
+    lattice->is_printed = lattice->is_constrained = false;
+    lattice->theta = THETA;
+    lattice->z = 0;
 }
 
 /* A sentence is kept where it lies, or copied where that is asked for. (MeCab) */
 void mecab_lattice_set_sentence2(mecab_lattice_t *lattice, const char *sentence, size_t size) {
     mecab_lattice_clear(lattice);
+    if (!sentence) return;
     if (lattice->request & MECAB_ALLOCATE_SENTENCE) {
         if (!set_bytes(&lattice->own, sentence, size)) {
             fail_memory(&lattice->error);
@@ -41,12 +58,13 @@ void mecab_lattice_set_sentence2(mecab_lattice_t *lattice, const char *sentence,
 }
 
 void mecab_lattice_set_sentence(mecab_lattice_t *lattice, const char *sentence) {
-    mecab_lattice_set_sentence2(lattice, sentence, strlen(sentence));
+    mecab_lattice_set_sentence2(lattice, sentence, sentence ? strlen(sentence) : 0);
 }
 
 const char *mecab_lattice_get_sentence(mecab_lattice_t *lattice) { return lattice->sentence; }
 size_t mecab_lattice_get_size(mecab_lattice_t *lattice) { return lattice->size; }
-int mecab_lattice_is_available(mecab_lattice_t *lattice) { return lattice->sentence && lattice->count > 0; }
+/* Once a sentence is set, before it is parsed. (MeCab) */
+int mecab_lattice_is_available(mecab_lattice_t *lattice) { return lattice->sentence != NULL; }
 
 mecab_node_t *mecab_lattice_get_bos_node(mecab_lattice_t *lattice) {
     return lattice->count > 0 ? lattice->nodes : NULL;
@@ -75,7 +93,7 @@ const char *mecab_lattice_tostr2(mecab_lattice_t *lattice, char *out, size_t roo
 const char *mecab_lattice_strerror(mecab_lattice_t *lattice) { return lattice->error.text; }
 
 int mecab_lattice_get_request_type(mecab_lattice_t *lattice) { return lattice->request; }
-int mecab_lattice_has_request_type(mecab_lattice_t *lattice, int type) { return lattice->request & type; }
+int mecab_lattice_has_request_type(mecab_lattice_t *lattice, int type) { return (lattice->request & type) != 0; }
 void mecab_lattice_set_request_type(mecab_lattice_t *lattice, int type) { lattice->request = type; }
 void mecab_lattice_add_request_type(mecab_lattice_t *lattice, int type) { lattice->request |= type; }
 void mecab_lattice_remove_request_type(mecab_lattice_t *lattice, int type) { lattice->request &= ~type; }

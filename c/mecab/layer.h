@@ -14,14 +14,15 @@ typedef struct fault {
     char text[ERROR_MAX];
 } fault;
 
-/* Bytes that grow, with a zero after them. */
+/* Bytes that grow, with a zero after each piece. */
 typedef struct bytes {
     char *at;
     size_t length;
     size_t room;
 } bytes;
 
-/* What a caller asked for, each NULL where it didn't. The users are a list with commas. */
+/* What a caller asked for, each NULL where it didn't. The users are a list with commas; `others` are the words that are no
+   options, which stay the caller's. */
 typedef struct options {
     char *dictionary;
     char *users;
@@ -33,20 +34,26 @@ typedef struct options {
     char *grouping;
     char *copies;
     char *file;
-    int rest;
+    char *version;
+    char *dictionary_info;
+    char **others;
+    int other_count;
 } options;
 
-/* The texts of an output format. */
+/* The texts of an output format. No two formats have the same number, which is above 0. */
 typedef struct format {
-    char *node;
-    char *unk;
-    char *bos;
-    char *eos;
+    const char *node;
+    const char *unk;
+    const char *bos;
+    const char *eos;
+    unsigned long number;
 } format;
 
-/* Dictionaries, from which taggers take theirs, and what is asked of their lattices. `turn` rises where they are swapped. */
+/* Dictionaries, from which taggers take theirs, and what is asked of their lattices. `turn` rises where dictionaries are swapped. It goes
+   with the last of its holders: its owner, its taggers and its lattices. */
 struct mecab_model_t {
     pthread_mutex_t lock;
+    unsigned long holders;
     kumquatsieve_cutter cutter;
     mecab_dictionary_info_t *infos;
     char *bos_feature;
@@ -55,25 +62,22 @@ struct mecab_model_t {
     unsigned long turn;
 };
 
-typedef enum chosen_format { FORMAT_NONE, FORMAT_OWN, FORMAT_NODES } chosen_format;
-
-/* A cutter over the dictionaries of a model, as they were at `turn`. */
+/* A cutter over the dictionaries of a model, as they were at `turn`, and the number of its format, 0 where none was chosen. */
 struct mecab_t {
     mecab_model_t *model;
-    bool owns_model;
     unsigned long turn;
     kumquatsieve_cutter cutter;
-    chosen_format chosen;
+    bytes bos_feature;
+    unsigned long chosen;
     mecab_lattice_t *lattice;
-    int partial;
-    int all_morphs;
-    int level;
     float theta;
     fault error;
 };
 
-/* A sentence and, once it was parsed, its best path: the nodes from its beginning to its end, and its text in the format. */
+/* A sentence and, once it was parsed, its best path: the nodes from its beginning to its end, and its text in the format of its model, or
+   the default one where it has none. */
 struct mecab_lattice_t {
+    mecab_model_t *model;
     const char *sentence;
     size_t size;
     bytes own;
@@ -85,6 +89,7 @@ struct mecab_lattice_t {
     bytes features;
     bytes printed;
     bool is_printed;
+    bool is_constrained;
     int request;
     double theta;
     double z;
@@ -101,6 +106,7 @@ fault *common_fault(void);
 
 /* bytes.c */
 bool set_bytes(bytes *to, const void *from, size_t length);
+bool add_text(bytes *to, const char *from, size_t length);
 void free_bytes(bytes *of);
 
 /* options.c */
@@ -114,9 +120,14 @@ void free_dictionaries(mecab_model_t *model);
 
 /* model.c */
 mecab_model_t *open_model(const options *from, fault *error);
+mecab_model_t *hold_model(mecab_model_t *model);
+bool accepts_texts(kumquatsieve_cutter *cutter, const format *texts, fault *error);
 
 /* tagger.c */
-mecab_t *open_tagger(mecab_model_t *model, bool owns, fault *error);
+mecab_t *open_tagger(mecab_model_t *model, fault *error);
+
+/* lattice.c */
+const format *format_of(const mecab_lattice_t *lattice);
 
 /* parsing.c */
 bool parse(mecab_t *tagger, mecab_lattice_t *lattice, bool nodes, bool text, fault *error);

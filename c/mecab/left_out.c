@@ -1,6 +1,5 @@
-/* What needs more than the best path, or other tools of MeCab's: each answers NULL or 0, and says so. */
+/* What needs more than the best path: each answers NULL or 0, and says so. */
 #include "layer.h"
-#include <stdio.h>
 
 #define OF_TAGGER(type, name, none, ...)                \
     type name(mecab_t *tagger, ##__VA_ARGS__) {         \
@@ -11,13 +10,6 @@
     type name(mecab_lattice_t *lattice, ##__VA_ARGS__) { \
         fail_left_out(&lattice->error, #name);          \
         return none;                                    \
-    }
-#define PROGRAM(name)                                   \
-    int name(int count, char **words) {                 \
-        (void)count, (void)words;                       \
-        fail_left_out(common_fault(), #name);           \
-        fprintf(stderr, "%s\n", common_fault()->text);  \
-        return 1;                                       \
     }
 
 #pragma GCC diagnostic ignored "-Wunused-parameter"
@@ -43,9 +35,26 @@ OF_LATTICE(const char *, mecab_lattice_nbest_tostr2, NULL, size_t n, char *out, 
 OF_LATTICE(int, mecab_lattice_has_constraint, 0)
 OF_LATTICE(int, mecab_lattice_get_boundary_constraint, 0, size_t at)
 OF_LATTICE(const char *, mecab_lattice_get_feature_constraint, NULL, size_t at)
-OF_LATTICE(void, mecab_lattice_set_boundary_constraint, , size_t at, int type)
-OF_LATTICE(void, mecab_lattice_set_feature_constraint, , size_t from, size_t to, const char *feature)
-OF_LATTICE(void, mecab_lattice_set_result, , const char *result)
+
+/* These answer nothing, so that the sentence is refused where it is parsed, and no older result stays. */
+static void constrain(mecab_lattice_t *lattice, const char *what) {
+    fail_left_out(&lattice->error, what);
+    lattice->is_constrained = true;
+    lattice->is_printed = false;
+    lattice->count = 0;
+}
+
+void mecab_lattice_set_boundary_constraint(mecab_lattice_t *lattice, size_t at, int type) {
+    constrain(lattice, "mecab_lattice_set_boundary_constraint");
+}
+
+void mecab_lattice_set_feature_constraint(mecab_lattice_t *lattice, size_t from, size_t to, const char *feature) {
+    constrain(lattice, "mecab_lattice_set_feature_constraint");
+}
+
+void mecab_lattice_set_result(mecab_lattice_t *lattice, const char *result) {
+    constrain(lattice, "mecab_lattice_set_result");
+}
 
 int mecab_model_transition_cost(mecab_model_t *model, unsigned short right, unsigned short left) {
     fail_left_out(common_fault(), "mecab_model_transition_cost");
@@ -53,12 +62,6 @@ int mecab_model_transition_cost(mecab_model_t *model, unsigned short right, unsi
 }
 
 mecab_node_t *mecab_model_lookup(mecab_model_t *model, const char *begin, const char *end, mecab_lattice_t *lattice) {
-    fail_left_out(&lattice->error, "mecab_model_lookup");
+    fail_left_out(lattice ? &lattice->error : common_fault(), "mecab_model_lookup");
     return NULL;
 }
-
-PROGRAM(mecab_dict_index)
-PROGRAM(mecab_dict_gen)
-PROGRAM(mecab_cost_train)
-PROGRAM(mecab_system_eval)
-PROGRAM(mecab_test_gen)

@@ -1,40 +1,43 @@
 /* Models: dictionaries that taggers share. */
 #include "layer.h"
+#include <stdatomic.h>
 #include <stdlib.h>
 #include <string.h>
 
 static void free_texts(format *of) {
-    char *all[] = {of->node, of->unk, of->bos, of->eos};
-    for (int i = 0; i < 4; i++) free(all[i]);
+    const char *all[] = {of->node, of->unk, of->bos, of->eos};
+    for (int i = 0; i < 4; i++) free((char *)all[i]);
 }
 
 static char *copy_of(const char *given, const char *otherwise) {
     return strdup(given ? given : otherwise);
 }
 
-/* The texts that are asked for. With -O wakati the others are not looked at. (MeCab) */
+/* The texts that are asked for. With -O wakati the others are not looked at. (MeCab) Numbers 1 and 2 are those of parsing.c and lattice.c. */
 static bool choose_texts(format *to, const options *from, fault *error) {
+    static atomic_ulong last = 2;
     const char *output = from->output ? from->output : "";
+    unsigned long number = ++last;
     if (strcmp(output, "wakati") == 0) {
-        *to = (format){strdup("%m "), strdup("%m "), strdup(""), strdup("\\n")};
+        *to = (format){strdup("%m "), strdup("%m "), strdup(""), strdup("\\n"), number};
     } else if (*output) {
         return fail_left_out(error, output);
     } else {
         const char *node = from->node ? from->node : "%m\\t%H\\n";
-        *to = (format){copy_of(node, ""), copy_of(from->unk, node), copy_of(from->bos, ""), copy_of(from->eos, "EOS\\n")};
+        *to = (format){copy_of(node, ""), copy_of(from->unk, node), copy_of(from->bos, ""), copy_of(from->eos, "EOS\\n"), number};
     }
     return (to->node && to->unk && to->bos && to->eos) || fail_memory(error);
 }
 
-static bool accepts_texts(mecab_model_t *model, fault *error) {
+bool accepts_texts(kumquatsieve_cutter *cutter, const format *texts, fault *error) {
     static const char *const NAMES[] = {"node-format", "unk-format", "bos-format", "eos-format"};
-    const char *all[] = {model->texts.node, model->texts.unk, model->texts.bos, model->texts.eos};
+    const char *all[] = {texts->node, texts->unk, texts->bos, texts->eos};
     uint32_t part = 0;
     size_t at = 0;
-    const uint8_t *texts[4];
-    for (int i = 0; i < 4; i++) texts[i] = (const uint8_t *)all[i];
+    const uint8_t *of[4];
+    for (int i = 0; i < 4; i++) of[i] = (const uint8_t *)all[i];
     uint32_t code = kumquatsieve_set_format(
-        &model->cutter, texts[0], strlen(all[0]), texts[1], strlen(all[1]), texts[2], strlen(all[2]), texts[3], strlen(all[3]), &part, &at
+        cutter, of[0], strlen(all[0]), of[1], strlen(all[1]), of[2], strlen(all[2]), of[3], strlen(all[3]), &part, &at
     );
     return code == KUMQUATSIEVE_OK || fail_code(error, NAMES[part & 3], code);
 }
@@ -46,8 +49,12 @@ mecab_model_t *open_model(const options *from, fault *error) {
         return NULL;
     }
     pthread_mutex_init(&model->lock, NULL);
+    model->holders = 1;
     model->request = MECAB_ONE_BEST | (from->copies ? MECAB_ALLOCATE_SENTENCE : 0);
-    if (choose_texts(&model->texts, from, error) && load_dictionaries(model, from, error) && accepts_texts(model, error)) return model;
+    if (choose_texts(&model->texts, from, error) && load_dictionaries(model, from, error)
+        && accepts_texts(&model->cutter, &model->texts, error)) {
+        return model;
+    }
     mecab_model_destroy(model);
     return NULL;
 }
@@ -66,38 +73,55 @@ mecab_model_t *mecab_model_new2(const char *line) {
     return model;
 }
 
+mecab_model_t *hold_model(mecab_model_t *model) {
+    pthread_mutex_lock(&model->lock);
+    model->holders++;
+    pthread_mutex_unlock(&model->lock);
+    return model;
+}
+
+/* Lets go of a model, by its owner, a tagger or a lattice. */
 void mecab_model_destroy(mecab_model_t *model) {
     if (!model) return;
+    pthread_mutex_lock(&model->lock);
+    unsigned long others = --model->holders;
+    pthread_mutex_unlock(&model->lock);
+    if (others > 0) return;
     free_dictionaries(model);
     free_texts(&model->texts);
     pthread_mutex_destroy(&model->lock);
     free(model);
 }
 
+static bool is_given(const mecab_model_t *model) {
+    return model != NULL || fail(common_fault(), "no model is given");
+}
+
 mecab_t *mecab_model_new_tagger(mecab_model_t *model) {
-    return open_tagger(model, false, common_fault());
+    return is_given(model) ? open_tagger(model, common_fault()) : NULL;
 }
 
 mecab_lattice_t *mecab_model_new_lattice(mecab_model_t *model) {
-    mecab_lattice_t *lattice = mecab_lattice_new();
-    if (lattice) lattice->request = model->request;
+    mecab_lattice_t *lattice = is_given(model) ? mecab_lattice_new() : NULL;
+    if (!lattice) return NULL;
+    lattice->model = hold_model(model);
+    lattice->request = model->request;
     return lattice;
 }
 
-/* The dictionaries of a model are exchanged for those of another, which goes. Taggers take them at their next sentence. */
+/* The dictionaries of a model are exchanged for those of another, which goes; formats stay. (MeCab) Taggers take them at their next sentence. */
 int mecab_model_swap(mecab_model_t *model, mecab_model_t *other) {
-    if (!model || !other || model == other) return 0;
+    if (!is_given(model) || !is_given(other)) return 0;
+    if (model == other) return fail(common_fault(), "a model is swapped for itself");
     pthread_mutex_lock(&model->lock);
     mecab_model_t kept = *model;
     model->cutter = other->cutter;
     model->infos = other->infos;
     model->bos_feature = other->bos_feature;
-    model->texts = other->texts;
     model->turn++;
     other->cutter = kept.cutter;
     other->infos = kept.infos;
     other->bos_feature = kept.bos_feature;
-    other->texts = kept.texts;
     pthread_mutex_unlock(&model->lock);
     mecab_model_destroy(other);
     return 1;

@@ -1,5 +1,6 @@
 /* MeCab's options, as its callers give them. */
 #include "layer.h"
+#include <ctype.h>
 #include <stddef.h>
 #include <stdlib.h>
 #include <string.h>
@@ -26,6 +27,8 @@ static const struct {
     {'r', "rcfile", 1, IGNORED},
     {'b', "input-buffer-size", 1, IGNORED},
     {'C', "allocate-sentence", 0, offsetof(options, copies)},
+    {'v', "version", 0, offsetof(options, version)},
+    {'D', "dictionary-info", 0, offsetof(options, dictionary_info)},
 };
 
 static int find(const char *word, size_t *value_at) {
@@ -61,6 +64,10 @@ static int read_option(options *to, int i, int count, char *const *words, fault 
         fail_left_out(error, words[i]);
         return 0;
     }
+    if (!KNOWN[found].has_value && words[i][value_at] != '\0') {
+        fail(error, "%s: it takes no value", words[i]);
+        return 0;
+    }
     if (!KNOWN[found].has_value) return keep(to, KNOWN[found].place, "yes", error) ? 1 : 0;
     if (words[i][value_at] != '\0' || (words[i][1] == '-' && words[i][value_at - 1] == '=')) {
         return keep(to, KNOWN[found].place, words[i] + value_at, error) ? 1 : 0;
@@ -72,43 +79,43 @@ static int read_option(options *to, int i, int count, char *const *words, fault 
     return keep(to, KNOWN[found].place, words[i + 1], error) ? 2 : 0;
 }
 
-/* The first word is the program's name. */
+/* The first word is the program's name. Options may stand behind other words, and after `--` nothing is one. (MeCab) */
 bool read_options(options *to, int count, char *const *words, fault *error) {
     int i = 1;
-    while (i < count && words[i][0] == '-' && words[i][1] != '\0') {
-        int taken = read_option(to, i, count, words, error);
+    to->others = malloc((size_t)(count > 0 ? count : 1) * sizeof *to->others);
+    if (!to->others) return fail_memory(error);
+    while (i < count && strcmp(words[i], "--") != 0) {
+        bool is_option = words[i][0] == '-' && words[i][1] != '\0';
+        int taken = is_option ? read_option(to, i, count, words, error) : 1;
         if (taken == 0) return false;
+        if (!is_option) to->others[to->other_count++] = words[i];
         i += taken;
     }
-    to->rest = i;
+    for (i++; i < count; i++) to->others[to->other_count++] = words[i];
     return true;
 }
 
-/* Words between blanks; quotes keep blanks, as MeCab has it. */
+/* Words between blanks. Quotes are letters as others are. (MeCab) */
 static int cut_words(char *line, char **words) {
     int count = 1;
     for (char *at = line; *at;) {
-        while (*at == ' ' || *at == '\t') at++;
+        while (isspace((unsigned char)*at)) at++;
         if (!*at) break;
-        char end = *at == '"' || *at == '\'' ? *at++ : ' ';
         words[count++] = at;
-        while (*at && *at != end && !(end == ' ' && *at == '\t')) at++;
+        while (*at && !isspace((unsigned char)*at)) at++;
         if (*at) *at++ = '\0';
     }
     return count;
 }
 
 bool read_options_of(options *to, const char *line, fault *error) {
-    size_t length = strlen(line);
-    char *copy = strdup(line);
-    char **words = malloc((length + 2) * sizeof *words);
+    static char program[] = "mecab";
+    char *copy = strdup(line ? line : "");
+    char **words = copy ? malloc((strlen(copy) + 2) * sizeof *words) : NULL;
     bool read = false;
-    if (copy && words) {
-        static char program[] = "mecab";
+    if (words) {
         words[0] = program;
-        int count = cut_words(copy, words);
-        read = read_options(to, count, words, error);
-        if (read && to->rest != count) read = fail(error, "%s: no option", words[to->rest]);
+        read = read_options(to, cut_words(copy, words), words, error);
     } else {
         fail_memory(error);
     }
@@ -118,7 +125,11 @@ bool read_options_of(options *to, const char *line, fault *error) {
 }
 
 void free_options(options *of) {
-    char *all[] = {of->dictionary, of->users, of->output, of->node, of->unk, of->bos, of->eos, of->grouping, of->copies, of->file};
+    char *all[] = {
+        of->dictionary, of->users, of->output, of->node, of->unk, of->bos, of->eos, of->grouping, of->copies, of->file, of->version,
+        of->dictionary_info,
+    };
     for (size_t i = 0; i < sizeof all / sizeof *all; i++) free(all[i]);
+    free(of->others);
     *of = (options){0};
 }

@@ -3,8 +3,8 @@
 #include <stdlib.h>
 #include <string.h>
 
-/* For each word its cost from the sentence's beginning, a tab, its feature, and a line feed, which no feature has. */
-static const char NODES[] = "%pc\\t%H\\n";
+/* For each word its cost from the sentence's beginning. A feature may hold any character, and is told word by word. */
+static const format COSTS = {"%pc\\n", "%pc\\n", "", "", 1};
 
 /* Takes the model's dictionaries, where there are none yet or the model's were exchanged since. */
 static bool take_dictionaries(mecab_t *tagger, fault *error) {
@@ -13,35 +13,22 @@ static bool take_dictionaries(mecab_t *tagger, fault *error) {
     uint32_t code = KUMQUATSIEVE_OK;
     if (!tagger->cutter.held || tagger->turn != model->turn) {
         kumquatsieve_free(&tagger->cutter);
-        code = kumquatsieve_share(&tagger->cutter, &model->cutter);
+        if (!set_bytes(&tagger->bos_feature, model->bos_feature, strlen(model->bos_feature))) code = KUMQUATSIEVE_MEMORY;
+        if (code == KUMQUATSIEVE_OK) code = kumquatsieve_share(&tagger->cutter, &model->cutter);
         tagger->turn = model->turn;
-        tagger->chosen = FORMAT_OWN;
+        tagger->chosen = 0;
     }
     pthread_mutex_unlock(&model->lock);
     return code == KUMQUATSIEVE_OK || fail_code(error, "dictionaries", code);
 }
 
-static bool choose_format(mecab_t *tagger, chosen_format chosen, fault *error) {
-    const format *own = &tagger->model->texts;
-    const char *texts[4] = {own->node, own->unk, own->bos, own->eos};
-    uint32_t part = 0;
-    size_t at = 0;
-    if (tagger->chosen == chosen) return true;
-    if (chosen == FORMAT_NODES) texts[0] = texts[1] = NODES, texts[2] = texts[3] = "";
-    const uint8_t *of[4];
-    for (int i = 0; i < 4; i++) of[i] = (const uint8_t *)texts[i];
-    uint32_t code = kumquatsieve_set_format(
-        &tagger->cutter, of[0], strlen(texts[0]), of[1], strlen(texts[1]), of[2], strlen(texts[2]), of[3], strlen(texts[3]), &part, &at
-    );
-    if (code != KUMQUATSIEVE_OK) return fail_code(error, "format", code);
-    tagger->chosen = chosen;
-    return true;
-}
-
-static bool print_into(mecab_t *tagger, chosen_format chosen, bytes *to, fault *error) {
+static bool print_into(mecab_t *tagger, const format *texts, bytes *to, fault *error) {
     const uint8_t *text = NULL;
     size_t length = 0;
-    if (!choose_format(tagger, chosen, error)) return false;
+    if (tagger->chosen != texts->number) {
+        if (!accepts_texts(&tagger->cutter, texts, error)) return false;
+        tagger->chosen = texts->number;
+    }
     uint32_t code = kumquatsieve_print(&tagger->cutter, &text, &length);
     if (code != KUMQUATSIEVE_OK) return fail_code(error, "printing", code);
     return set_bytes(to, text, length) || fail_memory(error);
@@ -64,8 +51,8 @@ static bool take_words(mecab_t *tagger, mecab_lattice_t *lattice, size_t count, 
     return code == KUMQUATSIEVE_OK || fail_code(error, "words", code);
 }
 
-static mecab_node_t boundary(const char *surface, const char *feature, unsigned char stat, unsigned id) {
-    return (mecab_node_t){.surface = surface, .feature = feature, .stat = stat, .id = id, .isbest = 1};
+static mecab_node_t boundary(const char *surface, unsigned char stat, unsigned id) {
+    return (mecab_node_t){.surface = surface, .stat = stat, .id = id, .isbest = 1};
 }
 
 static mecab_node_t node_of(const kumquatsieve_word *word, const char *sentence, unsigned id) {
@@ -76,43 +63,68 @@ static mecab_node_t node_of(const kumquatsieve_word *word, const char *sentence,
     };
 }
 
-/* Gives each node its cost and its feature, which are ended by a zero each. */
-static void read_features(mecab_lattice_t *lattice, size_t count) {
+/* Each node's cost from the beginning. The buffer is used again for the features. */
+static bool read_costs(mecab_t *tagger, mecab_lattice_t *lattice, size_t count, fault *error) {
+    if (!print_into(tagger, &COSTS, &lattice->features, error)) return false;
     char *at = lattice->features.at;
-    for (size_t i = 1; i <= count; i++) {
-        char *feature = NULL;
-        lattice->nodes[i].cost = strtol(at, &feature, 10);
-        lattice->nodes[i].feature = feature + 1;
-        at = strchr(feature, '\n');
-        *at++ = '\0';
+    for (size_t i = 1; i <= count; i++) lattice->nodes[i].cost = strtol(at, &at, 10);
+    return true;
+}
+
+/* The features, that of the beginning and the end first. A feature with U+0000 ends there for who reads it as C does. */
+static bool read_features(mecab_t *tagger, mecab_lattice_t *lattice, size_t count, fault *error) {
+    bytes *to = &lattice->features;
+    to->length = 0;
+    if (!add_text(to, tagger->bos_feature.at, tagger->bos_feature.length)) return fail_memory(error);
+    for (size_t i = 0; i < count; i++) {
+        const uint8_t *feature = NULL;
+        size_t length = 0;
+        uint32_t code = kumquatsieve_feature(&tagger->cutter, i, &feature, &length);
+        if (code != KUMQUATSIEVE_OK) return fail_code(error, "feature", code);
+        if (!add_text(to, (const char *)feature, length)) return fail_memory(error);
     }
+    const char *at = to->at;
+    for (size_t i = 0; i <= count; i++) {
+        lattice->nodes[i].feature = at;
+        at += strlen(at) + 1;
+    }
+    lattice->nodes[count + 1].feature = to->at;
+    return true;
+}
+
+/* MeCab's nodes have 16 bits for a length. */
+static bool fit_nodes(const kumquatsieve_word *words, size_t count, fault *error) {
+    for (size_t i = 0; i < count; i++) {
+        if (words[i].end - words[i].place > UINT16_MAX) return fail(error, "a word with its blanks has more than %d bytes", UINT16_MAX);
+    }
+    return true;
 }
 
 static bool make_nodes(mecab_t *tagger, mecab_lattice_t *lattice, size_t count, int64_t total, fault *error) {
-    const char *end = lattice->sentence + lattice->size, *feature = tagger->model->bos_feature;
-    if (!take_words(tagger, lattice, count, error) || !print_into(tagger, FORMAT_NODES, &lattice->features, error)) return false;
+    if (!take_words(tagger, lattice, count, error) || !fit_nodes(lattice->words, count, error)) return false;
     mecab_node_t *nodes = lattice->nodes;
-    nodes[0] = boundary(lattice->sentence, feature, MECAB_BOS_NODE, 0);
+    nodes[0] = boundary(lattice->sentence, MECAB_BOS_NODE, 0);
     for (size_t i = 0; i < count; i++) nodes[i + 1] = node_of(&lattice->words[i], lattice->sentence, (unsigned)i + 1);
-    nodes[count + 1] = boundary(end, feature, MECAB_EOS_NODE, (unsigned)count + 1);
+    nodes[count + 1] = boundary(lattice->sentence + lattice->size, MECAB_EOS_NODE, (unsigned)count + 1);
     nodes[count + 1].cost = (long)total;
-    read_features(lattice, count);
     for (size_t i = 0; i <= count; i++) {
         nodes[i].next = &nodes[i + 1];
         nodes[i + 1].prev = &nodes[i];
     }
+    if (!read_costs(tagger, lattice, count, error) || !read_features(tagger, lattice, count, error)) return false;
     lattice->count = count + 2;
     return true;
 }
 
 /* What the best path alone can't answer is refused. */
-static bool is_had(const mecab_t *tagger, const mecab_lattice_t *lattice, fault *error) {
+static bool is_had(const mecab_lattice_t *lattice, fault *error) {
     int request = lattice->request;
     if (request & MECAB_NBEST) return fail_left_out(error, "N-best");
-    if (request & MECAB_MARGINAL_PROB || tagger->level > 1) return fail_left_out(error, "marginal probabilities");
-    if (request & MECAB_PARTIAL || tagger->partial) return fail_left_out(error, "partial parsing");
-    if (request & MECAB_ALL_MORPHS || tagger->all_morphs) return fail_left_out(error, "all morphs");
-    if (request & MECAB_ALTERNATIVE || tagger->level > 0) return fail_left_out(error, "alternatives");
+    if (request & MECAB_MARGINAL_PROB) return fail_left_out(error, "marginal probabilities");
+    if (request & MECAB_PARTIAL) return fail_left_out(error, "partial parsing");
+    if (request & MECAB_ALL_MORPHS) return fail_left_out(error, "all morphs");
+    if (request & MECAB_ALTERNATIVE) return fail_left_out(error, "alternatives");
+    if (lattice->is_constrained) return fail_left_out(error, "constraints");
     return lattice->sentence != NULL || fail(error, "no sentence is set");
 }
 
@@ -121,11 +133,11 @@ bool parse(mecab_t *tagger, mecab_lattice_t *lattice, bool nodes, bool text, fau
     int64_t total = 0;
     lattice->count = 0;
     lattice->is_printed = false;
-    if (!is_had(tagger, lattice, error) || !take_dictionaries(tagger, error)) return false;
+    if (!is_had(lattice, error) || !take_dictionaries(tagger, error)) return false;
     uint32_t code = kumquatsieve_cut_text(&tagger->cutter, (const uint8_t *)lattice->sentence, lattice->size, &count, &total);
     if (code != KUMQUATSIEVE_OK) return fail_code(error, "sentence", code);
     if (nodes && !make_nodes(tagger, lattice, count, total, error)) return false;
-    if (text && !print_into(tagger, FORMAT_OWN, &lattice->printed, error)) return false;
+    if (text && !print_into(tagger, format_of(lattice), &lattice->printed, error)) return false;
     lattice->is_printed = text;
     return true;
 }

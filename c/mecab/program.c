@@ -36,20 +36,36 @@ static int cut_files(mecab_t *tagger, int count, char **paths, FILE *to) {
     return status;
 }
 
-int mecab_do(int count, char **words) {
-    options from = {0};
-    bool read = read_options(&from, count, words, common_fault());
-    mecab_model_t *model = read ? open_model(&from, common_fault()) : NULL;
-    mecab_t *tagger = open_tagger(model, true, common_fault());
-    FILE *to = tagger && from.file ? fopen(from.file, "wb") : stdout;
+static int tell_dictionaries(const mecab_dictionary_info_t *info, FILE *to) {
+    for (; info; info = info->next) {
+        fprintf(to, "filename:\t%s\nversion:\t%u\ncharset:\t%s\n", info->filename, info->version, info->charset);
+        fprintf(to, "type:\t%d\nsize:\t%u\nleft size:\t%u\nright size:\t%u\n\n", info->type, info->size, info->lsize, info->rsize);
+    }
+    return 0;
+}
+
+static int run(const options *from) {
+    mecab_model_t *model = open_model(from, common_fault());
+    mecab_t *tagger = model ? open_tagger(model, common_fault()) : NULL;
+    FILE *to = tagger && from->file ? fopen(from->file, "wb") : stdout;
     int status = 0;
     if (!tagger) status = report(common_fault()->text);
-    else if (!to) status = report(from.file);
-    else status = cut_files(tagger, count - from.rest, words + from.rest, to);
+    else if (!to) status = report(from->file);
+    else if (from->dictionary_info) status = tell_dictionaries(mecab_dictionary_info(tagger), to);
+    else status = cut_files(tagger, from->other_count, from->others, to);
     if (to && fflush(to) != 0 && status == 0) status = report("a write failed");
-    if (to && to != stdout) fclose(to);
-    if (tagger) mecab_destroy(tagger);
-    else mecab_model_destroy(model);
+    if (to && to != stdout && fclose(to) != 0 && status == 0) status = report("a write failed");
+    mecab_destroy(tagger);
+    mecab_model_destroy(model);
+    return status;
+}
+
+int mecab_do(int count, char **words) {
+    options from = {0};
+    int status = 0;
+    if (!read_options(&from, count, words, common_fault())) status = report(common_fault()->text);
+    else if (from.version) printf("mecab of %s\n\n", mecab_version());
+    else status = run(&from);
     free_options(&from);
     return status;
 }

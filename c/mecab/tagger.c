@@ -5,27 +5,25 @@
 
 static const float THETA = 0.75F;
 
-mecab_t *open_tagger(mecab_model_t *model, bool owns, fault *error) {
-    mecab_t *tagger = model ? calloc(1, sizeof *tagger) : NULL;
-    mecab_lattice_t *lattice = tagger ? mecab_lattice_new() : NULL;
+mecab_t *open_tagger(mecab_model_t *model, fault *error) {
+    mecab_t *tagger = calloc(1, sizeof *tagger);
+    mecab_lattice_t *lattice = tagger ? mecab_model_new_lattice(model) : NULL;
     if (!lattice) {
         free(tagger);
-        if (model) fail_memory(error);
+        fail_memory(error);
         return NULL;
     }
-    tagger->model = model;
-    tagger->owns_model = owns;
+    tagger->model = hold_model(model);
     tagger->lattice = lattice;
-    lattice->request = model->request;
     tagger->theta = THETA;
     return tagger;
 }
 
-/* A tagger with a model of its own. */
+/* A tagger that alone holds its model. */
 static mecab_t *opened(const options *from) {
     mecab_model_t *model = open_model(from, common_fault());
-    mecab_t *tagger = open_tagger(model, true, common_fault());
-    if (!tagger) mecab_model_destroy(model);
+    mecab_t *tagger = model ? open_tagger(model, common_fault()) : NULL;
+    mecab_model_destroy(model);
     return tagger;
 }
 
@@ -46,8 +44,9 @@ mecab_t *mecab_new2(const char *line) {
 void mecab_destroy(mecab_t *tagger) {
     if (!tagger) return;
     kumquatsieve_free(&tagger->cutter);
+    free_bytes(&tagger->bos_feature);
     mecab_lattice_destroy(tagger->lattice);
-    if (tagger->owns_model) mecab_model_destroy(tagger->model);
+    mecab_model_destroy(tagger->model);
     free(tagger);
 }
 
@@ -64,6 +63,7 @@ const mecab_dictionary_info_t *mecab_dictionary_info(mecab_t *tagger) {
 }
 
 int mecab_parse_lattice(mecab_t *tagger, mecab_lattice_t *lattice) {
+    if (!lattice) return fail(&tagger->error, "no lattice is given");
     return parse(tagger, lattice, true, true, &lattice->error);
 }
 
@@ -73,7 +73,7 @@ const char *mecab_sparse_tostr2(mecab_t *tagger, const char *text, size_t length
 }
 
 const char *mecab_sparse_tostr(mecab_t *tagger, const char *text) {
-    return mecab_sparse_tostr2(tagger, text, strlen(text));
+    return mecab_sparse_tostr2(tagger, text, text ? strlen(text) : 0);
 }
 
 char *mecab_sparse_tostr3(mecab_t *tagger, const char *text, size_t length, char *out, size_t room) {
@@ -93,15 +93,32 @@ const mecab_node_t *mecab_sparse_tonode2(mecab_t *tagger, const char *text, size
 }
 
 const mecab_node_t *mecab_sparse_tonode(mecab_t *tagger, const char *text) {
-    return mecab_sparse_tonode2(tagger, text, strlen(text));
+    return mecab_sparse_tonode2(tagger, text, text ? strlen(text) : 0);
 }
 
-/* What is asked for here and not had is refused where a sentence is parsed. */
-int mecab_get_partial(mecab_t *tagger) { return tagger->partial; }
-void mecab_set_partial(mecab_t *tagger, int partial) { tagger->partial = partial; }
+/* What a tagger is asked for is kept with its own lattice, and what is not had is refused where a sentence is parsed. */
+static void ask(mecab_t *tagger, int type, bool wanted) {
+    if (wanted) mecab_lattice_add_request_type(tagger->lattice, type);
+    else mecab_lattice_remove_request_type(tagger->lattice, type);
+}
+
+static int is_asked(mecab_t *tagger, int type) {
+    return mecab_lattice_has_request_type(tagger->lattice, type);
+}
+
+int mecab_get_partial(mecab_t *tagger) { return is_asked(tagger, MECAB_PARTIAL); }
+void mecab_set_partial(mecab_t *tagger, int partial) { ask(tagger, MECAB_PARTIAL, partial); }
 float mecab_get_theta(mecab_t *tagger) { return tagger->theta; }
 void mecab_set_theta(mecab_t *tagger, float theta) { tagger->theta = theta; }
-int mecab_get_lattice_level(mecab_t *tagger) { return tagger->level; }
-void mecab_set_lattice_level(mecab_t *tagger, int level) { tagger->level = level; }
-int mecab_get_all_morphs(mecab_t *tagger) { return tagger->all_morphs; }
-void mecab_set_all_morphs(mecab_t *tagger, int all_morphs) { tagger->all_morphs = all_morphs; }
+int mecab_get_all_morphs(mecab_t *tagger) { return is_asked(tagger, MECAB_ALL_MORPHS); }
+void mecab_set_all_morphs(mecab_t *tagger, int all_morphs) { ask(tagger, MECAB_ALL_MORPHS, all_morphs); }
+
+int mecab_get_lattice_level(mecab_t *tagger) {
+    return is_asked(tagger, MECAB_MARGINAL_PROB) ? 2 : is_asked(tagger, MECAB_NBEST) ? 1 : 0;
+}
+
+/* Level 1 is N-best, 2 marginal probabilities. (MeCab, which never goes down again) */
+void mecab_set_lattice_level(mecab_t *tagger, int level) {
+    ask(tagger, MECAB_NBEST, level == 1);
+    ask(tagger, MECAB_MARGINAL_PROB, level > 1);
+}

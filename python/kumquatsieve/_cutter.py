@@ -1,21 +1,30 @@
 """Cuts lines into words."""
-import ctypes
 import os
 import threading
 import weakref
+from ctypes import addressof, c_size_t, c_uint32, c_uint64
 from pathlib import Path
-from typing import Iterator, List, NamedTuple, Sequence, Tuple, Union
+from typing import Any, List, NamedTuple, Sequence, Tuple, Union
 
+from ._buffers import FIELDS, Buffers
 from ._fault import raise_fault
-from ._library import LIBRARY, OK, PARTS, Bytes, Handle, Record
+from ._library import LIBRARY, OK, PARTS, Handle
 
 Image = Union[bytes, str, "os.PathLike[str]"]
 Texts = Tuple[bytes, bytes, bytes, bytes]
+Told = Tuple[bytes, List[str], List[str]]
 
 GROUPING = 24
 DEFAULT: Texts = (b"%m\\t%H\\n", b"%m\\t%H\\n", b"", b"EOS\\n")
 WAKATI: Texts = (b"%m ", b"%m ", b"", b"\\n")
 NUMBERED = {0x4C03, 0x4C04, 0x4C05, 0x4C06, 0x4C07, 0x4F02, 0x4F03}
+
+# What tells all words of a line in one call: a line for each surface, or for each surface and each feature.
+SURFACES: Texts = (b"%m\\n", b"%m\\n", b"", b"")
+FEATURES: Texts = (b"%m\\n%H\\n", b"%m\\n%H\\n", b"", b"")
+
+CUT, CUT_TEXT = LIBRARY.kumquatsieve_cut, LIBRARY.kumquatsieve_cut_text
+PRINT, FEATURE = LIBRARY.kumquatsieve_copy_print, LIBRARY.kumquatsieve_copy_feature
 
 
 class Word(NamedTuple):
@@ -44,7 +53,10 @@ def bytes_of(image: Image) -> bytes:
 
 def encoded(line: str) -> bytes:
     """A line in UTF-8. Half of a pair of surrogates is no character, and the library refuses what is made of it."""
-    return line.encode("utf-8", "surrogatepass")
+    try:
+        return line.encode()
+    except UnicodeEncodeError:
+        return line.encode("utf-8", "surrogatepass")
 
 
 class Cutter:
@@ -62,13 +74,15 @@ class Cutter:
 
     def _begin(self) -> None:
         self._handle = Handle()
+        self._at = addressof(self._handle)
+        self._buffers = Buffers()
         self._lock = threading.Lock()
         self._texts = DEFAULT
         self.close = weakref.finalize(self, LIBRARY.kumquatsieve_free, self._handle)
 
     def _load(self, call: str, image: bytes) -> None:
-        number = ctypes.c_uint64()
-        code = getattr(LIBRARY, f"kumquatsieve_{call}")(self._handle, image, len(image), number)
+        number = c_uint64()
+        code = getattr(LIBRARY, f"kumquatsieve_{call}")(self._at, image, len(image), addressof(number))
         if code != OK:
             raise_fault(code, number.value if code in NUMBERED else None)
 
@@ -78,7 +92,7 @@ class Cutter:
         other._begin()
         with self._lock:
             other._texts = self._texts
-            code = LIBRARY.kumquatsieve_share(other._handle, self._handle)
+            code = LIBRARY.kumquatsieve_share(other._at, self._at)
         if code != OK:
             raise_fault(code)
         return other
@@ -88,24 +102,36 @@ class Cutter:
         if not 0 <= grouping < 2**32:
             raise ValueError("grouping")
         with self._lock:
-            code = LIBRARY.kumquatsieve_set_grouping(self._handle, grouping)
+            code = LIBRARY.kumquatsieve_set_grouping(self._at, grouping)
         if code != OK:
             raise_fault(code)
 
     def cut(self, line: str) -> List[Word]:
         """The words of a line, which has no line feed."""
         text = encoded(line)
+        return words_of(text, *self.told(text, CUT))
+
+    def told(self, text: bytes, call: Any) -> Told:
+        """The records, the surfaces and the features of the words of a text in UTF-8, cut by one of the calls."""
         with self._lock:
-            records = self._records(text)
-            features = [self._feature(number) for number in range(len(records))]
-        return list(words_of(text, records, features))
+            self._cut(call, text)
+            records = self._buffers.records_of(self._at)
+            lines = self._lines(FEATURES)
+            count = len(records) // FIELDS.size
+            if len(lines) == 2 * count + 1:
+                return records, lines[:-1:2], lines[1::2]
+            # A line feed stands in a surface or in a feature.
+            features = [self._buffers.text_of(FEATURE, self._at, number) for number in range(count)]
+        return records, [text[start:end].decode() for _, start, end, *_ in FIELDS.iter_unpack(records)], features
 
     def wakati(self, line: str) -> List[str]:
         """The surfaces of a line's words."""
         text = encoded(line)
         with self._lock:
-            records = self._records(text)
-        return [text[record.start : record.end].decode() for record in records]
+            self._cut(CUT, text)
+            lines = self._lines(SURFACES)
+        lines.pop()
+        return lines
 
     def format(
         self, line: str, node: Union[str, None] = None, unk: Union[str, None] = None, bos: str = "", eos: str = "EOS\\n"
@@ -113,60 +139,47 @@ class Cutter:
         """The text of a line in an output format of MeCab's: `node` for a known word, `unk` for an unknown one (as `node` where it isn't
         given), `bos` before the first and `eos` after the last. Without `node` a line for each word, with its feature."""
         texts = tuple(map(encoded, (node, node if unk is None else unk, bos, eos))) if node is not None else DEFAULT
-        return self.printed(encoded(line), texts).decode()
+        return self.printed(encoded(line), texts, CUT)
 
-    def printed(self, text: bytes, texts: Texts) -> bytes:
-        """The text of a line in UTF-8, in the four texts of a format."""
+    def printed(self, text: bytes, texts: Texts, call: Any) -> str:
+        """A text in UTF-8, cut by one of the calls, in the four texts of a format."""
         with self._lock:
+            if texts is not self._texts:
+                self._set_format(texts)
+            self._cut(call, text)
+            return self._buffers.text_of(PRINT, self._at)
+
+    def _cut(self, call: Any, text: bytes) -> None:
+        buffers = self._buffers
+        code = call(self._at, text, len(text), buffers.count_at, buffers.total_at)
+        if code != OK:
+            raise_fault(code)
+
+    def _lines(self, texts: Texts) -> List[str]:
+        """The words that were cut last in a format whose texts end in line feeds, and the empty text behind the last one."""
+        if texts is not self._texts:
             self._set_format(texts)
-            self._cut(text)
-            return self._kept(LIBRARY.kumquatsieve_print)
+        return self._buffers.text_of(PRINT, self._at).split("\n")
 
     def _set_format(self, texts: Texts) -> None:
         if texts == self._texts:
             return
-        part, at = ctypes.c_uint32(), ctypes.c_size_t()
+        part, at = c_uint32(), c_size_t()
         lengths = [piece for text in texts for piece in (text, len(text))]
-        code = LIBRARY.kumquatsieve_set_format(self._handle, *lengths, part, at)
+        code = LIBRARY.kumquatsieve_set_format(self._at, *lengths, addressof(part), addressof(at))
         if code != OK:
             raise_fault(code, at.value, PARTS[part.value])
         self._texts = texts
 
-    def _cut(self, text: bytes) -> int:
-        count, total = ctypes.c_size_t(), ctypes.c_int64()
-        code = LIBRARY.kumquatsieve_cut(self._handle, text, len(text), count, total)
-        if code != OK:
-            raise_fault(code)
-        return count.value
 
-    def _records(self, text: bytes) -> Sequence[Record]:
-        count = self._cut(text)
-        records, all_words = (Record * count)(), ctypes.c_size_t()
-        code = LIBRARY.kumquatsieve_words(self._handle, 0, records, count, all_words)
-        if code != OK:
-            raise_fault(code)
-        return records
-
-    def _feature(self, number: int) -> str:
-        return self._kept(LIBRARY.kumquatsieve_feature, number).decode()
-
-    def _kept(self, call, *words: int) -> bytes:
-        """What a call leaves in the cutter's own buffer."""
-        at, length = Bytes(), ctypes.c_size_t()
-        code = call(self._handle, *words, at, length)
-        if code != OK:
-            raise_fault(code)
-        return ctypes.string_at(at, length.value)
-
-
-def words_of(text: bytes, records: Sequence[Record], features: Sequence[str]) -> Iterator[Word]:
-    """The words of a line. Characters are counted from word to word."""
+def words_of(text: bytes, records: bytes, surfaces: List[str], features: List[str]) -> List[Word]:
+    """The words of a text. Characters are counted from word to word."""
+    words, make = [], tuple.__new__
     characters = behind = 0
-    for record, feature in zip(records, features):
-        characters += len(text[behind : record.start].decode())
-        surface = text[record.start : record.end].decode()
-        end = characters + len(surface)
-        yield Word(
-            surface, feature, characters, end, record.start, record.end, record.left, record.right, record.cost, bool(record.known)
-        )
-        characters, behind = end, record.end
+    for (_, start, end, _, _, left, right, cost, known, _), surface, feature in zip(FIELDS.iter_unpack(records), surfaces, features):
+        if behind != start:
+            characters += len(text[behind:start].decode())
+        after = characters + len(surface)
+        words.append(make(Word, (surface, feature, characters, after, start, end, left, right, cost, known == 1)))
+        characters, behind = after, end
+    return words

@@ -12,10 +12,6 @@ MEMORY = 1
 SHORT_BUFFER = 0x4B07
 PARTS = ("node", "unk", "bos", "eos")
 
-Bytes = ctypes.POINTER(ctypes.c_uint8)
-Size = ctypes.POINTER(ctypes.c_size_t)
-
-
 class Handle(ctypes.Structure):
     """What the library keeps of a cutter."""
 
@@ -46,22 +42,23 @@ def place() -> str:
 
 
 def arguments() -> dict:
-    """The types of each call's arguments; a text is its bytes and their length."""
-    cutter, number = ctypes.POINTER(Handle), ctypes.POINTER(ctypes.c_uint64)
-    text = [ctypes.c_char_p, ctypes.c_size_t]
-    kept = [ctypes.POINTER(Bytes), Size]
+    """The types of each call's arguments; a text is its bytes and their length. What a call writes is given by its address, which is made
+    once: a pointer that is made for each call takes longer than many a call."""
+    address, size = ctypes.c_void_p, ctypes.c_size_t
+    text = [ctypes.c_char_p, size]
     return {
-        "load": [cutter, *text, number],
-        "add_user": [cutter, *text, number],
-        "share": [cutter, cutter],
-        "free": [cutter],
-        "set_format": [cutter, *text * 4, ctypes.POINTER(ctypes.c_uint32), Size],
-        "set_grouping": [cutter, ctypes.c_uint32],
-        "cut": [cutter, *text, Size, ctypes.POINTER(ctypes.c_int64)],
-        "words": [cutter, ctypes.c_size_t, ctypes.POINTER(Record), ctypes.c_size_t, Size],
-        "feature": [cutter, ctypes.c_size_t, *kept],
-        "print": [cutter, *kept],
-        "fault": [ctypes.c_uint32, ctypes.c_char_p, ctypes.c_size_t, Size],
+        "load": [address, *text, address],
+        "add_user": [address, *text, address],
+        "share": [address, address],
+        "free": [ctypes.POINTER(Handle)],
+        "set_format": [address, *text * 4, address, address],
+        "set_grouping": [address, ctypes.c_uint32],
+        "cut": [address, *text, address, address],
+        "cut_text": [address, *text, address, address],
+        "words": [address, size, address, size, address],
+        "copy_feature": [address, size, address, size, address],
+        "copy_print": [address, address, size, address],
+        "fault": [ctypes.c_uint32, ctypes.c_char_p, size, address],
     }
 
 

@@ -2,9 +2,10 @@
 import os
 import shlex
 from pathlib import Path
-from typing import Iterator, List, Optional, Tuple
+from typing import List, Optional, Tuple
 
-from ._cutter import DEFAULT, WAKATI, Cutter, Texts, Word, encoded
+from ._buffers import FIELDS
+from ._cutter import CUT_TEXT, DEFAULT, WAKATI, Cutter, Texts, Told, encoded
 
 VARIABLE = "KUMQUATSIEVE_DICTIONARY"
 IMAGE = "kumquatsieve.img"
@@ -21,46 +22,68 @@ NAMES = {
     "--eos-format": "E",
 }
 
+# The record of a text's beginning and end.
+NO_FIELDS = bytes(FIELDS.size)
+
+
+def of_field(number: int) -> property:
+    """A field of a node's word, by its number among those of a record."""
+    return property(lambda node: node._fields()[number])
+
 
 class Node:
-    """A word of a line, or its beginning or end, as MeCab's nodes are. `stat` is 0 for a known word, 1 for an unknown one, 2 for the
-    beginning and 3 for the end; `length` is in bytes, `rlength` with the blanks before the word."""
+    """A word of a text, or its beginning or end, as MeCab's nodes are: a place in the path of the whole text. `stat` is 0 for a known word, 1
+    for an unknown one, 2 for the beginning and 3 for the end; `length` is in bytes, `rlength` with the blanks before the word."""
 
-    def __init__(self, surface: str, feature: str, stat: int) -> None:
-        self.surface = surface
-        self.feature = feature
-        self.stat = stat
-        self.length = self.rlength = 0
-        self.lcAttr = self.rcAttr = self.wcost = 0
-        self.prev: Optional["Node"] = None
-        self.next: Optional["Node"] = None
+    __slots__ = ("_path", "_number")
 
+    def __init__(self, path: Told, number: int) -> None:
+        self._path = path
+        self._number = number
 
-def node_of(word: Word, before: int) -> Node:
-    """The node of a word; the word before it ends at this byte."""
-    node = Node(word.surface, word.feature, 0 if word.known else 1)
-    node.length = word.byte_end - word.byte_start
-    node.rlength = word.byte_end - before
-    node.lcAttr, node.rcAttr, node.wcost = word.left, word.right, word.cost
-    return node
+    def __eq__(self, other: object) -> bool:
+        return isinstance(other, Node) and self._path is other._path and self._number == other._number
 
+    def __hash__(self) -> int:
+        return hash((id(self._path), self._number))
 
-def nodes_of(words: List[Word]) -> Iterator[Node]:
-    yield Node("", BOUNDARY, 2)
-    before = 0
-    for word in words:
-        yield node_of(word, before)
-        before = word.byte_end
-    yield Node("", BOUNDARY, 3)
+    lcAttr, rcAttr, wcost, char_type = of_field(5), of_field(6), of_field(7), of_field(9)
 
+    @property
+    def surface(self) -> str:
+        return self._path[1][self._number]
 
-def linked(nodes: Iterator[Node]) -> Node:
-    """The first of these nodes, each linked to the next."""
-    first = last = next(nodes)
-    for node in nodes:
-        last.next, node.prev = node, last
-        last = node
-    return first
+    @property
+    def feature(self) -> str:
+        return self._path[2][self._number]
+
+    def _fields(self) -> tuple:
+        return FIELDS.unpack_from(self._path[0], self._number * FIELDS.size)
+
+    @property
+    def stat(self) -> int:
+        if self._number == 0:
+            return 2
+        return 3 if self._number + 1 == len(self._path[1]) else 1 - self._fields()[8]
+
+    @property
+    def length(self) -> int:
+        _, start, end, *_ = self._fields()
+        return end - start
+
+    @property
+    def rlength(self) -> int:
+        place, _, end, *_ = self._fields()
+        return end - place
+
+    @property
+    def next(self) -> Optional["Node"]:
+        number = self._number + 1
+        return Node(self._path, number) if number < len(self._path[1]) else None
+
+    @property
+    def prev(self) -> Optional["Node"]:
+        return Node(self._path, self._number - 1) if self._number > 0 else None
 
 
 def options_of(words: str) -> List[Tuple[str, str]]:
@@ -104,7 +127,7 @@ def texts_of(options: dict) -> Texts:
 
 
 class Tagger:
-    """Cuts lines as MeCab's tagger does. It takes an image's path, or MeCab's options in one text: `-d IMG`, `-u IMG`, `-O wakati`,
+    """Cuts texts as MeCab's tagger does. It takes an image's path, or MeCab's options in one text: `-d IMG`, `-u IMG`, `-O wakati`,
     `-F`, `-U`, `-B` and `-E`; any other is refused by its name."""
 
     def __init__(self, words: str = "") -> None:
@@ -114,10 +137,13 @@ class Tagger:
         self._texts = texts_of(chosen)
         self._cutter = Cutter(image_of(chosen.get("d")), users)
 
-    def parse(self, line: str) -> str:
-        """The text of a line in the tagger's format; as the default has it, a line for each word and EOS."""
-        return self._cutter.printed(encoded(line), self._texts).decode()
+    def parse(self, text: str) -> str:
+        """The words of a text in the tagger's format; as the default has it, a line for each word and EOS. A line feed in the text is a
+        character as others are, as MeCab has it."""
+        return self._cutter.printed(encoded(text), self._texts, CUT_TEXT)
 
-    def parseToNode(self, line: str) -> Node:
-        """The node of a line's beginning, which leads by `next` to its words and its end."""
-        return linked(nodes_of(self._cutter.cut(line)))
+    def parseToNode(self, text: str) -> Node:
+        """The node of a text's beginning, which leads by `next` to its words and its end."""
+        records, surfaces, features = self._cutter.told(encoded(text), CUT_TEXT)
+        path = NO_FIELDS + records + NO_FIELDS, ["", *surfaces, ""], [BOUNDARY, *features, BOUNDARY]
+        return Node(path, 0)

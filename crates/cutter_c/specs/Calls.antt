@@ -1,5 +1,9 @@
 -- What calls do to a cutter.
-use Rattle.std.specs.Prelude.{◌≡◌, ℕ, ℤ, List, length, Some, None, IsUtf8}
+use Rattle.std.specs.Prelude.{◌≡◌, ℕ, ℤ, List, [], ◌∷◌, length, slice_get, take, All, Some, None, IsUtf8}
+use Rattle.std.specs.Str.{IsValidUpTo}
+use Rattle.mj_model.specs.declared.format_fault.FormatFault.TheVariants as format
+use Rattle.mj_model.specs.declared.format_fault.FormatPart.{FormatPart}
+use Rattle.mj_model.specs.declared.format_fault.FormatPart.TheVariants.{Node, Unk, Bos, Eos}
 use Rattle.cutter.specs.Cutters.{Cut, Held, OfCut, with_user}
 use Rattle.cutter.specs.declared.fault.CutFault.{CutFault}
 use Rattle.cutter.specs.declared.fault.CutFault.TheVariants as cut
@@ -45,6 +49,31 @@ pub record SetsFormat (texts : FormatTexts) (old new : Held) : Type 0 where
 abbrev pub IsSettingRefusal : List ℕ → List ℕ → List ℕ → List ℕ → CutFault → Type 0
 IsSettingRefusal node unk bos eos cut.NotUtf8 = IsUtf8 node × IsUtf8 unk × IsUtf8 bos × IsUtf8 eos → ⊥
 IsSettingRefusal node unk bos eos fault = IsFormatRefused (texts_in node unk bos eos) fault
+
+-- the number of a format's text, in the order of the texts
+abbrev pub part_number : FormatPart → ℕ
+part_number Node = 0
+part_number Unk = 1
+part_number Bos = 2
+part_number Eos = 3
+
+-- the text with this number is the first one that is not UTF-8, and it is UTF-8 up to this byte
+pub record IsNoTextAt (texts : List (List ℕ)) (part at : ℕ) : Type 0 where
+  pub bytes : List ℕ
+  pub there : slice_get texts part ≡ Some bytes
+  pub up_to : IsValidUpTo bytes at
+  pub before : All IsUtf8 (take part texts)
+
+-- where a fault has a part and a place, these are they
+abbrev pub IsPlaced : List (List ℕ) → ℕ → ℕ → CutFault → Type 0
+IsPlaced texts part at (cut.Format (format.Bad refused place kind)) = (part ≡ part_number refused) × (at ≡ place)
+IsPlaced texts part at cut.NotUtf8 = IsNoTextAt texts part at
+IsPlaced texts part at fault = Unit {0}
+
+-- why four texts are not set, and where
+pub record IsRefusedAt (node unk bos eos : List ℕ) (part at : ℕ) (fault : CutFault) : Type 0 where
+  pub is : IsSettingRefusal node unk bos eos fault
+  pub placed : IsPlaced (node ∷ unk ∷ bos ∷ eos ∷ []) part at fault
 
 -- the grouping is this, and nothing is cut yet
 abbrev pub IsRegrouped : ℕ → Held → Held → Type 0

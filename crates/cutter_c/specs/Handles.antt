@@ -1,12 +1,15 @@
 -- What C's handles hold, and what C is told.
 use Rattle.std.specs.Prelude.{◌≡◌, ℕ, List, length, Option, None, Some, option_map}
 use Rattle.std.specs.Option.{IsSomeAnd}
+use Rattle.std_alloc.specs.Vec.{vec_ptr}
+use denote.RawPtr.{Ptr}
 use Rattle.cutter.specs.Cutters.{Held}
 use Rattle.cutter.specs.declared.fault.CutFault.{CutFault}
 use Rattle.cutter_c.specs.Codes.{call_code, cut_code, memory}
 use Rattle.cutter_c.specs.declared.fault.CallFault.{CallFault}
 use Rattle.cutter_c.specs.declared.fault.CallFault.TheVariants as call
 use Rattle.cutter_c.specs.declared.handle.Handle.{Handle}
+use Rattle.cutter_c.specs.declared.session.Session.{Session}
 
 -- the cutter of a handle, if it has one
 abbrev pub cutter_in : Handle → Option Held
@@ -39,9 +42,14 @@ abbrev pub Moves : Option Held → Option Held → (Held → Held → Type 0) �
 Moves (Some old) (Some new) Is = Is old new
 Moves old new Is = ⊥
 
--- the handle's own buffer holds so many bytes, which are so of its cutter
-abbrev pub HoldsOutput : (Held → List ℕ → Type 0) → ℕ → Handle → Type 0
-HoldsOutput Is count handle = IsSomeAnd handle.slot.value (λ s. Is s.cutter s.output.items × (count ≡ length s.output.items))
+-- at a place there are so many bytes, which are so of a cutter: the bytes of the session's own buffer, which lies there
+pub record IsLent (Is : Held → List ℕ → Type 0) (at : Ptr) (count : ℕ) (session : Session) : Type 0 where
+  pub is : Is session.cutter session.output.items
+  pub place : at ≡ vec_ptr session.output
+  pub all : count ≡ length session.output.items
+
+abbrev pub Lends : (Held → List ℕ → Type 0) → Ptr → ℕ → Handle → Type 0
+Lends Is at count handle = IsSomeAnd handle.slot.value (IsLent Is at count)
 
 -- a code tells a fault of a call that is so
 pub record TellsCall (Is : CallFault → Type 0) (code : ℕ) : Type 0 where

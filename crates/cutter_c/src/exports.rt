@@ -4,7 +4,7 @@ ghost use Rattle.std.specs.Prelude.{◌≡◌, ◌≢◌, None};
 ghost use Rattle.std.specs.Option.{IsSomeAnd};
 ghost use Rattle.cutter.specs.Cutters.{IsLoaded};
 ghost use Rattle.cutter.specs.Faults.{IsGroupingRefusal, IsImage, IsLineRefusal, IsLoadRefusal, IsTextRefusal};
-ghost use Rattle.cutter_c.specs.Calls.{IsCutInto, IsExtended, IsRegrouped, IsSettingRefusal, IsShared, IsUserFault, SetsFormat, texts_in};
+ghost use Rattle.cutter_c.specs.Calls.{IsCutInto, IsExtended, IsRefusedAt, IsRegrouped, IsShared, IsUserFault, SetsFormat, texts_in};
 ghost use Rattle.cutter_c.specs.Handles.{Moves, TellsLoad, TellsNotShared, TellsRefusal, cutter_in};
 
 use crate::codes::{code_told, told};
@@ -75,7 +75,7 @@ pub extern "C" fn kumquatsieve_set_format(
     ensures read { (result ≡ 0) → Moves (cutter_in cutter.old) (cutter_in cutter.new)
         (SetsFormat (texts_in node.now unk.now bos.now eos.now)) }
     ensures refused { (result ≢ 0) → TellsRefusal (cutter_in cutter.old)
-        (λ _. IsSettingRefusal node.now unk.now bos.now eos.now) result }
+        (λ _. IsRefusedAt node.now unk.now bos.now eos.now part.new at.new) result }
     ensures kept { (result ≢ 0) → cutter_in cutter.new ≡ cutter_in cutter.old }
 {
     code_told(settings::set_format(alloc, cutter, node, unk, bos, eos, part, at))

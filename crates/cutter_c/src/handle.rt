@@ -3,7 +3,6 @@
 ghost use Rattle.std.specs.Prelude.{◌≡◌, Some, None, IsNone, is_some, option_map};
 ghost use Rattle.cutter_c.specs.Owned.{IsFlagOf, flag-prop};
 
-use crate::parts::Parts;
 use crate::session::Session;
 use crate::slot::{Slot, discard, opened, shut, vacant};
 use std::alloc::Global;
@@ -34,7 +33,7 @@ impl Handle {
     {
         Handle {
             held: true,
-            slot: shut(Parts::of_box(session)),
+            slot: shut(session),
         }
     }
 
@@ -51,7 +50,7 @@ impl Handle {
     {
         let Handle { held, slot } = self;
         if held {
-            Some(opened(slot, alloc).into_box())
+            Some(opened(slot, alloc))
         } else {
             discard(slot);
             None

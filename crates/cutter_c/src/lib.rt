@@ -7,7 +7,6 @@ mod exports;
 mod fault;
 mod handle;
 mod loading;
-mod parts;
 mod session;
 mod settings;
 mod slot;
@@ -25,3 +24,6 @@ pub use tellers::{
     kumquatsieve_copy_feature, kumquatsieve_copy_print, kumquatsieve_fault, kumquatsieve_feature,
     kumquatsieve_print, kumquatsieve_words,
 };
+
+#[cfg(test)]
+mod tests;

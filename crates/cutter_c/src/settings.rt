@@ -1,8 +1,9 @@
 //! The format and the grouping of a handle's cutter.
 
 ghost use Rattle.std.specs.Prelude.{◌≡◌, IsUtf8, IfOk, IfErr, OnErr, OnOk};
+ghost use Rattle.std.specs.Str.{IsValidUpTo};
 ghost use Rattle.cutter.specs.Faults.{IsGroupingRefusal};
-ghost use Rattle.cutter_c.specs.Calls.{IsNoText, IsRegrouped, IsSettingRefusal, SetsFormat, texts_in};
+ghost use Rattle.cutter_c.specs.Calls.{IsNoText, IsRefusedAt, IsRegrouped, SetsFormat, part_number, texts_in};
 ghost use Rattle.cutter_c.specs.Codes.{call_code};
 ghost use Rattle.cutter_c.specs.Handles.{Moves, TellsRefusal, cutter_in};
 
@@ -14,7 +15,9 @@ use std::alloc::Global;
 use std::str;
 
 /// The number of a format's text, in the order of the texts.
-fn number_of(part: FormatPart) -> u32 {
+fn number_of(part: FormatPart) -> u32
+    ensures { result ≡ part_number part }
+{
     match part {
         FormatPart::Node => 0,
         FormatPart::Unk => 1,
@@ -33,6 +36,8 @@ fn text_of<'a>(
     ensures text { IfOk result (λ text. text.now ≡ bytes.now) }
     ensures accepted { OnOk result (IsUtf8 bytes.now) }
     ensures refused { IfErr result (IsNoText bytes.now) }
+    ensures part { OnErr result (part.new ≡ number) }
+    ensures place { OnErr result (IsValidUpTo bytes.now at.new) }
 {
     match str::from_utf8(bytes) {
         Ok(text) => Ok(text),
@@ -45,6 +50,7 @@ fn text_of<'a>(
 }
 
 /// Sets the format by the bytes of its four texts; of a refused one the number and a byte are told.
+#[tactic(auto, using(crate::proofs::SettingLemmas::third_refused, crate::proofs::SettingLemmas::fourth_refused))]
 fn set_texts(
     cutter: &mut Cutter,
     node: &[u8],
@@ -56,7 +62,7 @@ fn set_texts(
 ) -> Result<(), CutFault>
     ensures read { OnOk result (SetsFormat (texts_in node.now unk.now bos.now eos.now)
         cutter.old cutter.new) }
-    ensures refused { IfErr result (IsSettingRefusal node.now unk.now bos.now eos.now) }
+    ensures refused { IfErr result (IsRefusedAt node.now unk.now bos.now eos.now part.new at.new) }
     ensures kept { OnErr result (cutter.new ≡ cutter.old) }
 {
     let node = text_of(node, 0, part, at)?;
@@ -94,7 +100,7 @@ pub fn set_format(
     ensures read { OnOk result (Moves (cutter_in cutter.old) (cutter_in cutter.new)
         (SetsFormat (texts_in node.now unk.now bos.now eos.now))) }
     ensures refused { IfErr result (λ fault. TellsRefusal (cutter_in cutter.old)
-        (λ _. IsSettingRefusal node.now unk.now bos.now eos.now) (call_code fault)) }
+        (λ _. IsRefusedAt node.now unk.now bos.now eos.now part.new at.new) (call_code fault)) }
     ensures kept { OnErr result (cutter_in cutter.new ≡ cutter_in cutter.old) }
 {
     let Some(mut session) = cutter.take(alloc) else {

@@ -3,12 +3,11 @@
 ghost use Rattle.std.specs.Prelude.{◌≡◌, Some, None, IsSome, IsNone};
 ghost use Rattle.cutter_c.specs.Owned.{Kept, kept_coded, slot_owns};
 
-use crate::parts::Parts;
 use crate::session::Session;
 use std::alloc::Global;
 use std::marker::{Model, Send};
 
-/// A boxed session, or nothing.
+/// The pointer of a boxed session, or nothing.
 #[repr(C)]
 pub struct Slot {
     at: *mut u8,
@@ -19,7 +18,7 @@ impl Model for Slot {
     ghost also_owns = { λ s. slot_owns s.at s.value };
 }
 
-// C may hand a full one to another thread, since a session may go there.
+// By this C may hand a full slot to another thread.
 unsafe impl Send for Slot {}
 
 /// A slot with nothing in it.
@@ -31,24 +30,22 @@ pub fn vacant() -> Slot
     }
 }
 
-/// The slot of a boxed session.
-pub fn shut(parts: Parts<Session, Global>) -> Slot
-    ensures { result.value ≡ Some parts.value }
+/// Shuts a boxed session up in a slot.
+pub fn shut(boxed: Box<Session>) -> Slot
+    ensures { result.value ≡ Some boxed.value }
 {
-    let Parts { at, alloc: _ } = parts;
-    Slot { at: at as *mut u8 }
+    Slot {
+        at: Box::into_raw(boxed) as *mut u8,
+    }
 }
 
-/// The boxed session of a slot.
-pub fn opened(slot: Slot, alloc: Global) -> Parts<Session, Global>
+/// Opens a full slot: the box that was shut up in it.
+pub fn opened(slot: Slot, alloc: Global) -> Box<Session>
     requires { IsSome slot.value }
-    ensures { slot.value ≡ Some result.value }
+    ensures { Some result.value ≡ slot.value }
 {
     let Slot { at } = slot;
-    Parts {
-        at: at as *mut Session,
-        alloc,
-    }
+    unsafe { Box::from_raw(alloc, at as *mut Session) }
 }
 
 /// Lets a slot with nothing in it go.

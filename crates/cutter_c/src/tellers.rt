@@ -6,7 +6,7 @@ ghost use Rattle.cutter.specs.Cutters.{OfCut};
 ghost use Rattle.cutter.specs.Faults.{IsNothingCut};
 ghost use Rattle.cutter_c.specs.Asked.{IsAskedRefusal, IsCopied, IsCopyFault, IsTold, IsWritten, NeedsMore};
 ghost use Rattle.cutter_c.specs.declared.telling.Asked.TheVariants.{Feature as FeatureOf, Path as PathText};
-ghost use Rattle.cutter_c.specs.Handles.{HoldsOutput, Moves, TellsCall, TellsRefusal, cutter_in};
+ghost use Rattle.cutter_c.specs.Handles.{Lends, Moves, TellsCall, TellsRefusal, cutter_in};
 ghost use Rattle.cutter_c.specs.Texts.{text_at};
 ghost use Rattle.cutter_c.specs.Words.{AreTold};
 
@@ -25,7 +25,7 @@ pub extern "C" fn kumquatsieve_print(
     text: &mut *const u8,
     count: &mut usize,
 ) -> u32
-    ensures told { (result ≡ 0) → HoldsOutput (IsTold PathText) count.new cutter.new }
+    ensures told { (result ≡ 0) → Lends (IsTold PathText) text.new count.new cutter.new }
     ensures cutter { cutter_in cutter.new ≡ cutter_in cutter.old }
     ensures refused { (result ≢ 0)
         → TellsRefusal (cutter_in cutter.old) (IsAskedRefusal PathText) result }
@@ -42,7 +42,8 @@ pub extern "C" fn kumquatsieve_feature(
     feature: &mut *const u8,
     count: &mut usize,
 ) -> u32
-    ensures told { (result ≡ 0) → HoldsOutput (IsTold (FeatureOf number)) count.new cutter.new }
+    ensures told { (result ≡ 0)
+        → Lends (IsTold (FeatureOf number)) feature.new count.new cutter.new }
     ensures cutter { cutter_in cutter.new ≡ cutter_in cutter.old }
     ensures refused { (result ≢ 0)
         → TellsRefusal (cutter_in cutter.old) (IsAskedRefusal (FeatureOf number)) result }

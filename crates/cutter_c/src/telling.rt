@@ -2,9 +2,10 @@
 
 ghost use Rattle.std.specs.Prelude.{◌≡◌, length, OnErr, OnOk, IfErr};
 ghost use Rattle.std.specs.Option.{IsSomeAnd};
+ghost use Rattle.std_alloc.specs.Vec.{vec_ptr};
 ghost use Rattle.cutter_c.specs.Asked.{IsAskedRefusal, IsCopied, IsCopyFault, IsCopyRefusal, IsTold, IsWritten, NeedsMore};
 ghost use Rattle.cutter_c.specs.Codes.{call_code};
-ghost use Rattle.cutter_c.specs.Handles.{HoldsOutput, TellsRefusal, cutter_in};
+ghost use Rattle.cutter_c.specs.Handles.{Lends, TellsRefusal, cutter_in};
 
 use crate::fault::CallFault;
 use crate::handle::Handle;
@@ -65,7 +66,8 @@ impl Session {
 
     /// Tells where the buffer lies.
     fn lend(&self, at: &mut *const u8, count: &mut usize)
-        ensures { count.new ≡ length self.now.output.items }
+        ensures place { at.new ≡ vec_ptr self.now.output }
+        ensures all { count.new ≡ length self.now.output.items }
     {
         *at = self.output.as_ptr();
         *count = self.output.len();
@@ -80,7 +82,7 @@ pub fn tell(
     at: &mut *const u8,
     count: &mut usize,
 ) -> Result<(), CallFault>
-    ensures told { OnOk result (HoldsOutput (IsTold asked) count.new cutter.new) }
+    ensures told { OnOk result (Lends (IsTold asked) at.new count.new cutter.new) }
     ensures cutter { cutter_in cutter.new ≡ cutter_in cutter.old }
     ensures refused { IfErr result (λ fault.
         TellsRefusal (cutter_in cutter.old) (IsAskedRefusal asked) (call_code fault)) }

@@ -16,10 +16,10 @@ use std::alloc::Global;
 /// A word of the path that was cut last, as C sees it.
 ///
 /// `place`, `start` and `end` are byte offsets into the text, as those of `Word`. `token` is the number of the word's entry: where
-/// `known` is 1 in the dictionary with the number `dictionary`, and where it is 0 among the unknown entries of the system. `category`
-/// is the number of the first category of the surface's first character.
+/// `known` is 1 in the dictionary with the number `dictionary`, and where it is 0 in the system's, whose unknown entries come behind
+/// those of its lexicon. `category` is the number of the first category of the surface's first character.
 #[repr(C)]
-#[derive(Clone, Copy, Debug, Drop)]
+#[derive(Clone, Copy, Debug, PartialEq, Eq, Drop)]
 pub struct CWord {
     pub place: usize,
     pub start: usize,

@@ -1,27 +1,25 @@
--- A slot may go to another thread, since a session may.
-use mir.Raw.{raw}
+-- A slot may go to another thread, since a boxed session may: beside its pointer it owns no more than the box does.
+use Rattle.std.specs.Prelude.{[], Some, None}
+use Rattle.std.proofs.Crossing.{frees}
+use Rattle.std.proofs.alloc.Global.TheSendSync.{the_send as heap_sends}
+use Rattle.std.specs.contracts.impls.GlobalAllocator.TheImpl.{ghosts}
+use Rattle.std_alloc.proofs.SendSync.{Box-send}
 use base.Shift.{Keyless}
-use denote.Builtin.{RawPtr}
-use denote.Memory.{lone}
-use denote.Param.Send.{IsSend, owning_send, struct_send, sendable}
+use denote.Param.Send.{IsSend}
 use denote.RawPtr.{Ptr}
-use denote.Struct.Owning.{fields, shape, to}
-use denote.Struct.Struct.{exits_of}
-use Rattle.std.specs.Prelude.{Some, None}
-use Rattle.std.proofs.Crossing as heap
-use Rattle.std_alloc.proofs.SendSync.{quiet, lies}
+use Rattle.cutter_c.specs.Owned.{Kept, slot_owns}
+use Rattle.cutter_c.specs.contracts.slot.Slot.{the_row}
+use Rattle.cutter_c.proofs.PassedTypes.{Boxed, Heap, Session}
 use Rattle.cutter_c.proofs.session.Session.TheSendSync.{the_send as session_sends}
-use Rattle.cutter_c.specs.contracts.session.Session as session
-use Rattle.cutter_c.specs.contracts.slot.Slot.{the_row, the_type}
-use Rattle.cutter_c.specs.Owned.{Kept, slot_owns, token}
 
-token-keyless : (p : Ptr) → Keyless (token (raw (lone session.the_row.mir)) p)
-token-keyless p = heap.frees.frees (record { memory = record { seal = tt } }) (raw (lone session.the_row.mir)) p
+boxed_sends : IsSend Boxed
+boxed_sends = Box-send Session Heap ghosts session_sends heap_sends frees
 
-kept-keyless : (p : Ptr) (x : Kept) → Keyless (slot_owns p x)
-kept-keyless p None = tt
-kept-keyless p (Some x) = (lies session.the_row session_sends p x, token-keyless p)
+-- what a slot holds is what a box owns beside its pointer and its handle
+kept_sends : (at : Ptr) (kept : Kept) → Keyless (slot_owns at kept)
+kept_sends at None = tt
+kept_sends at (Some s) = (boxed_sends.owned (record { ptr = at; alloc = record { memory = record { seal = tt } }; value = s }) []).1
 
+-- its pointer says the same to every thread, and a slot that was handed in leaves nothing
 pub send : IsSend the_row
-send = let O = the_type in let ptr_sends : IsSend RawPtr = search sendable in
-    owning_send O (ptr_sends, tt) (λ d. kept-keyless d.at d.value) (λ k. quiet (to O) (exits_of k (fields O)) ((struct_send (shape O) (ptr_sends, tt)).leaving k))
+send = record { owned = λ slot vs. ((λ _. (tt, (tt, tt))), kept_sends slot.at slot.value); leaving = λ k slot w. tt }

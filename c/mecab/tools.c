@@ -1,0 +1,26 @@
+/* MeCab's own tools. Its programs are these calls, and Debian's packages of dictionaries run one where they are installed; so each is handed to
+   MeCab's own library, where that is there, and refused else. */
+#include "layer.h"
+#include <dlfcn.h>
+#include <stdio.h>
+
+#ifndef MECAB_LIBRARY
+#define MECAB_LIBRARY "/usr/lib/libmecab.so.2"
+#endif
+
+typedef int tool(int count, char **words);
+
+static int hand_on(const char *name, tool *here, int count, char **words) {
+    void *library = dlopen(MECAB_LIBRARY, RTLD_NOW | RTLD_LOCAL | RTLD_DEEPBIND);
+    tool *there = library ? (tool *)dlsym(library, name) : NULL;
+    if (there && there != here) return there(count, words);
+    fail_left_out(common_fault(), name);
+    fprintf(stderr, "%s\n", common_fault()->text);
+    return 1;
+}
+
+int mecab_dict_index(int count, char **words) { return hand_on(__func__, mecab_dict_index, count, words); }
+int mecab_dict_gen(int count, char **words) { return hand_on(__func__, mecab_dict_gen, count, words); }
+int mecab_cost_train(int count, char **words) { return hand_on(__func__, mecab_cost_train, count, words); }
+int mecab_system_eval(int count, char **words) { return hand_on(__func__, mecab_system_eval, count, words); }
+int mecab_test_gen(int count, char **words) { return hand_on(__func__, mecab_test_gen, count, words); }

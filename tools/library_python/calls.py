@@ -1,0 +1,125 @@
+"""Makes each call of the Python module over the sample's images: calls.py SYSTEM.img USER.img ODD.img. In the odd image the feature of もも has a
+line feed for its comma."""
+import sys
+import threading
+
+from kumquatsieve import Cutter, Fault, Tagger
+
+SYSTEM, USER, ODD = sys.argv[1:]
+LINE = "すもももも"
+PRINTED = "すもも\t名詞,すもも\nもも\t名詞,もも\nEOS\n"
+WAKATI = "すもも もも \n"
+# A line's words, each with its first and last character and bytes.
+LINES = [
+    ("", []),
+    (LINE, [("すもも", 0, 3, 0, 9), ("もも", 3, 5, 9, 15)]),
+    (" すもも  もも ", [("すもも", 1, 4, 1, 10), ("もも", 6, 8, 12, 18)]),
+]
+FORMATS = [
+    ({}, PRINTED),
+    ({"node": "%m/%f[0] ", "eos": "\\n"}, "すもも/名詞 もも/名詞 \n"),
+    ({"node": "%m", "unk": "", "bos": "[", "eos": "]"}, "[すもももも]"),
+]
+FAULTS = [
+    ("L1", None, None, lambda: Cutter(b"")),
+    ("O1", None, None, lambda: Cutter(USER)),
+    ("O2", 0, None, lambda: Cutter(SYSTEM, [SYSTEM])),
+    ("K4", None, None, lambda: Cutter(SYSTEM, grouping=1001)),
+    ("K1", None, None, lambda: Cutter(SYSTEM).cut("a\nb")),
+    ("K1", None, None, lambda: Cutter(SYSTEM).wakati("a\n")),
+    ("G3", None, None, lambda: Cutter(SYSTEM).cut("a\ud800")),
+    ("G4", None, None, lambda: Tagger(SYSTEM).parse("a" * (2**20 + 1))),
+    ("P2", 2, "node", lambda: Cutter(SYSTEM).format(LINE, "%m%q")),
+    ("P2", 0, "eos", lambda: Tagger(f"-d {SYSTEM} -E %q").parse(LINE)),
+]
+OPTIONS = [("", "no dictionary"), ("-Z", "no option"), (f"-d {SYSTEM} -O chasen", "no output format"), ("-d", "missing")]
+TAGGERS = [
+    (f"-d {SYSTEM}", PRINTED),
+    (f"--dicdir={SYSTEM} -Owakati", WAKATI),
+    (f"-d {SYSTEM} -F '%m ' -E \\\\n", WAKATI),
+    (f"-d {SYSTEM} -u {USER} -O wakati", "すもももも \n"),
+]
+
+
+def same(what, wanted, got):
+    if wanted != got:
+        sys.exit(f"{what}: {got!r}, and not {wanted!r}")
+
+
+def check_words():
+    cutter = Cutter(SYSTEM)
+    for line, words in LINES:
+        found = cutter.cut(line)
+        same(f"cut {line!r}", words, [(word.surface, word.start, word.end, word.byte_start, word.byte_end) for word in found])
+        same(f"wakati {line!r}", [word[0] for word in words], cutter.wakati(line))
+        same(f"known {line!r}", [True] * len(words), [word.known for word in found])
+    same("features", ["名詞,すもも", "名詞,もも"], [word.feature for word in cutter.cut(LINE)])
+    for options, text in FORMATS:
+        same(f"format {options}", text, cutter.format(LINE, **options))
+    same("an odd feature", ["名詞,すもも", "名詞\nもも"], [word.feature for word in Cutter(ODD).cut(LINE)])
+    same("a long line", [LINE[:3], LINE[3:]] * 20_000, Cutter(open(SYSTEM, "rb").read()).wakati(LINE * 20_000))
+    same("its words", 40_000, len(cutter.cut(LINE * 20_000)))
+
+
+def check_faults():
+    for code, number, part, call in FAULTS:
+        try:
+            call()
+        except Fault as fault:
+            same(f"fault {code}", (code, number, part), (fault.code, fault.number, fault.part))
+        else:
+            sys.exit(f"{code}: no fault")
+    for options, text in OPTIONS:
+        try:
+            Tagger(options)
+        except ValueError as error:
+            same(f"options {options!r}", True, text in str(error))
+        else:
+            sys.exit(f"options {options!r}: not refused")
+
+
+def check_taggers():
+    for options, text in TAGGERS:
+        same(f"parse with {options}", text, Tagger(options).parse(LINE))
+    same("parse lines", "すもも もも \n", Tagger(f"-d {SYSTEM} -O wakati").parse(" すもも  もも  "))
+    node, found = Tagger(SYSTEM).parseToNode(" すもももも"), []
+    while node:
+        found.append((node.surface, node.feature, node.stat, node.length, node.rlength))
+        node = node.next
+    words = [("すもも", "名詞,すもも", 0, 9, 10), ("もも", "名詞,もも", 0, 6, 6)]
+    same("nodes", [("", "BOS/EOS", 2, 0, 0), *words, ("", "BOS/EOS", 3, 0, 0)], found)
+    second = Tagger(SYSTEM).parseToNode(LINE).next.next
+    same("a node before", ("すもも", None), (second.prev.surface, second.prev.prev.prev))
+    same("its numbers", (1, 1), (second.lcAttr, second.rcAttr))
+    same("a node is the same again", (True, False), (second.prev.next == second, second.next == second))
+
+
+def check_threads():
+    """Cutters that share dictionaries cut beside one another, and one that is closed leaves the other."""
+    first = Cutter(SYSTEM, [USER])
+    others = [first.share() for _ in range(4)]
+    same("a shared format", "すもももも\t名詞,すもももも\nEOS\n", others[0].format(LINE))
+    faults = []
+
+    def cut(cutter):
+        faults.extend(words for words in (cutter.wakati(LINE) for _ in range(500)) if words != [LINE])
+
+    threads = [threading.Thread(target=cut, args=(cutter,)) for cutter in [*others, others[0]]]
+    for thread in threads:
+        thread.start()
+    for thread in threads:
+        thread.join()
+    same("threads", [], faults)
+    first.close()
+    same("after the first was closed", [LINE], others[0].wakati(LINE))
+    try:
+        first.wakati(LINE)
+    except Fault as fault:
+        same("a closed cutter", "K5", fault.code)
+
+
+check_words()
+check_faults()
+check_taggers()
+check_threads()
+print("Python: each call answers as docs/LIBRARY.md says")
