@@ -8,7 +8,11 @@ use crate::node::{Candidate, End, Join};
 use crate::source::WordSource;
 use std::alloc::AllocError;
 
-/// The best of the chains to a place that have these ends, where a word of this left id follows. It is searched once for each left id.
+/// Among so few ends a search takes less than to remember what it found.
+const FEW_ENDS: usize = 8;
+
+/// The best of the chains to a place that have these ends, where a word of this left id follows. Where there are more than `FEW_ENDS`, it is
+/// searched once for each left id.
 pub fn join<S: WordSource>(
     source: &S,
     ends: &[End],
@@ -23,6 +27,9 @@ pub fn join<S: WordSource>(
     ensures joins { OnOk result
         (AreLeast (S.says source.now).connection ends.now joins.new.found.items) }
 {
+    if ends.len() <= FEW_ENDS {
+        return Ok(least(source, ends, left));
+    }
     match joins.get(left) {
         Some(join) => Ok(join),
         None => {
