@@ -1,5 +1,5 @@
 -- Lists with one more element at the end, and their elements by number.
-use Rattle.std.proofs.Common.{◌≡◌, ℕ, zero, suc, List, [], ◌∷◌, ◌++◌, length, Contains, Some, ◌⊎◌, inl, inr, refl, ap, ◌∙◌, slice_get}
+use Rattle.std.proofs.Common.{◌≡◌, ℕ, zero, suc, ◌<◌, List, [], ◌∷◌, ◌++◌, length, Contains, Some, ◌⊎◌, inl, inr, refl, ap, ◌∙◌, arith, slice_get}
 use Rattle.std.proofs.lemmas.Option.{same_Some, slice_get_within, slice_get-get_or, get_or_from_slice_get}
 
 pub get_push_old : {X : Type 0} (xs : List X) (y : X) (i : ℕ) (x : X) → slice_get xs i ≡ Some x → slice_get (xs ++ y ∷ []) i ≡ Some x
@@ -10,6 +10,12 @@ get_push_old (z ∷ xs) y (suc i) x h = get_push_old xs y i x h
 pub get_push_new : {X : Type 0} (xs : List X) (y : X) → slice_get (xs ++ y ∷ []) (length xs) ≡ Some y
 get_push_new [] y = refl
 get_push_new (z ∷ xs) y = get_push_new xs y
+
+-- elements that follow change none
+pub get_front : {X : Type 0} (xs ys : List X) (i : ℕ) → i < length xs → slice_get (xs ++ ys) i ≡ slice_get xs i
+get_front [] ys i less = absurd (omega (arith, less))
+get_front (x ∷ xs) ys zero less = refl
+get_front (x ∷ xs) ys (suc i) less = get_front xs ys i (omega (arith, less))
 
 -- an element is one from before, or the new one
 pub get_push_cases : {X : Type 0} (xs : List X) (y : X) (i : ℕ) (x : X) → slice_get (xs ++ y ∷ []) i ≡ Some x → (slice_get xs i ≡ Some x) ⊎ ((i ≡ length xs) × (y ≡ x))

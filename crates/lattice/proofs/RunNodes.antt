@@ -10,8 +10,8 @@ use Rattle.word_lookup.specs.declared.surface.Surface.{Surface}
 use Rattle.word_lookup.specs.Surfaces.{IsWhole, StandsWith}
 use Rattle.lattice.specs.declared.node.Run.{Run}
 use Rattle.lattice.specs.declared.node.Backpointer.{Backpointer}
-use Rattle.lattice.specs.Nodes.{AreRuns, HasNode, Node, kept_node, node_words, nodes_of, run_words}
-use Rattle.lattice.proofs.Pushed.{get_push_cases}
+use Rattle.lattice.specs.Nodes.{AreRuns, HasNode, HaveRights, Node, kept_node, node_words, nodes_of, run_words}
+use Rattle.lattice.proofs.Pushed.{get_front, get_push_cases}
 use Rattle.lattice.proofs.WordNumbers.{holds_in, no_surface, no_word}
 
 -- ---- words with what is kept
@@ -40,6 +40,26 @@ node_here [] (c ∷ bs) i w b at_w at_b = absurd (cc)
 node_here (v ∷ ws) [] i w b at_w at_b = absurd (cc)
 node_here (v ∷ ws) (c ∷ bs) zero w b at_w at_b = ap (λ (u : Word). Some (kept_node u c)) (same_Some v w at_w) ∙ ap (λ (d : Backpointer). Some (kept_node w d)) (same_Some c b at_b)
 node_here (v ∷ ws) (c ∷ bs) (suc i) w b at_w at_b = node_here ws bs i w b at_w at_b
+
+-- ---- the right ids that are kept
+
+pub rights_of_none : (ws : List Word) → HaveRights ws []
+rights_of_none ws i w b at_w at_b = absurd (cc)
+
+-- of one more node
+pub rights_push : (ws : List Word) (bs : List Backpointer) (w : Word) (b : Backpointer) → slice_get ws (length bs) ≡ Some w → b.right ≡ w.right → HaveRights ws bs → HaveRights ws (bs ++ b ∷ [])
+rights_push ws bs w b next right rights i v c at_v at_c = elim (get_push_cases bs b i c at_c) [
+  | inl old ↦ rights i v c at_v old
+  | inr new ↦
+      let same : v ≡ w = same_Some v w (sym at_v ∙ ap (slice_get ws) new.0 ∙ next) in
+      ap (λ (x : Backpointer). x.right) (sym new.1) ∙ right ∙ ap (λ (x : Word). x.right) (sym same)
+]
+
+-- words that follow change nothing
+pub rights_more : (ws vs : List Word) (bs : List Backpointer) → length bs ≤ length ws → HaveRights ws bs → HaveRights (ws ++ vs) bs
+rights_more ws vs bs le rights i w b at_w at_b =
+    let low = slice_get_within bs i b at_b in
+    rights i w b (sym (get_front ws vs i (omega (arith, low, le))) ∙ at_w) at_b
 
 -- a node has a word, and something is kept of it
 pub record IsKept (ws : List Word) (bs : List Backpointer) (i : ℕ) (n : Node) : Type 0 where
@@ -74,7 +94,7 @@ next_word ws before fs n i w is at long =
 -- ---- runs
 
 abbrev pub no_back : Backpointer
-no_back = record { total = pos 0; before = 0 }
+no_back = record { total = pos 0; before = 0; right = 0 }
 
 abbrev pub no_run : Run
 no_run = record { surface = no_surface; from = 0; next = None }
@@ -121,6 +141,9 @@ module _ (f : Surface → List Word) where
   -- a new run of which nothing is kept changes no node
   pub nodes_stay : (runs : List Run) (r : Run) (backs : List Backpointer) → length backs ≡ length (node_words f runs) → nodes_of (node_words f (runs ++ r ∷ [])) backs ≡ nodes_of (node_words f runs) backs
   nodes_stay runs r backs all = ap (λ (ws : List Word). nodes_of ws backs) (words_push runs r) ∙ nodes_more (node_words f runs) (run_words f r) backs (omega (arith, all))
+
+  pub rights_stay : (runs : List Run) (r : Run) (backs : List Backpointer) → length backs ≡ length (node_words f runs) → HaveRights (node_words f runs) backs → HaveRights (node_words f (runs ++ r ∷ [])) backs
+  rights_stay runs r backs all rights = subst (λ (ws : List Word). HaveRights ws backs) (sym (words_push runs r)) (rights_more (node_words f runs) (run_words f r) backs (omega (arith, all)) rights)
 
   module _ (runs : List Run) (are : AreRuns f runs) where
     -- after a run comes the next one

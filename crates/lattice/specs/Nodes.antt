@@ -27,6 +27,10 @@ nodes_of ws [] = []
 nodes_of [] (b ∷ bs) = []
 nodes_of (w ∷ ws) (b ∷ bs) = kept_node w b ∷ nodes_of ws bs
 
+-- the right id that is kept of each node is that of its word
+abbrev pub HaveRights : List Word → List Backpointer → Type 0
+HaveRights ws bs = (i : ℕ) (w : Word) (b : Backpointer) → slice_get ws i ≡ Some w → slice_get bs i ≡ Some b → b.right ≡ w.right
+
 -- the words of a run, the last one of its surface first
 abbrev pub run_words : (Surface → List Word) → Run → List Word
 run_words words_of run = reverse (words_of run.surface)

@@ -11,7 +11,7 @@ use Rattle.word_lookup.specs.Surfaces.{AreSurfacesOf}
 use Rattle.lattice.specs.declared.building.Nodes.{Nodes}
 use Rattle.lattice.specs.declared.node.Run.{Run}
 use Rattle.lattice.specs.declared.node.Backpointer.{Backpointer}
-use Rattle.lattice.specs.Nodes.{AreLinked, AreRuns, Node, node_words, nodes_of}
+use Rattle.lattice.specs.Nodes.{AreLinked, AreRuns, HaveRights, Node, node_words, nodes_of}
 use Rattle.lattice.specs.Lattice.{IsLattice}
 
 -- a text's length in bytes, the words of each place in their order, the words of a surface, the connection cost of a right id and the
@@ -66,6 +66,7 @@ AreAllKept t runs backs = length backs ≡ length (node_words t.surface_words ru
 pub record AreKept (t : SearchedText) (runs : List Run) (backs : List Backpointer) (heads : List (Option ℕ)) : Type 0 where
   pub runs_are : AreRuns t.surface_words runs
   pub all : AreAllKept t runs backs
+  pub rights : HaveRights (node_words t.surface_words runs) backs
   pub linked : AreLinked runs heads
   pub places : length heads ≡ t.text_length + 1
 

@@ -2,7 +2,7 @@
 
 ghost use Rattle.std.specs.Prelude.{◌≡◌, ◌+◌, ◌<◌, ◌++◌, ◌∷◌, [], slice_set, slice_get, length, IfSome, OnOk, Some};
 ghost use Rattle.lattice.specs.Ends.{AreEnds, AreLeast};
-ghost use Rattle.lattice.specs.Nodes.{node_words, reached};
+ghost use Rattle.lattice.specs.Nodes.{HaveRights, node_words, reached};
 ghost use Rattle.lattice.specs.SearchedText.{AreAllKept, AreKeptIn, AreSurfacesAt, CanBeSearched, IsLatticeAfter, IsLatticeFrom, IsLatticeOf, IsLatticeTo, NextAt, kept_nodes, nodes_in, words_before};
 
 use crate::ends::gather;
@@ -244,6 +244,8 @@ fn add_words<S: WordSource>(
     requires surfaces { AreSurfacesAt (S.says source.now) place surfaces.now }
     requires number { number < length surfaces.now }
     requires next { NextAt (S.says source.now) surfaces.now number runs.now backs.old.items }
+    requires rights { HaveRights (node_words (S.says source.now).surface_words runs.now)
+        backs.old.items }
     requires lattice { IsLatticeOf (S.says source.now)
         (nodes_in (S.says source.now) runs.now backs.old.items)
         place (words_before (S.says source.now) surfaces.now (number + 1) 0) }
@@ -251,6 +253,8 @@ fn add_words<S: WordSource>(
     requires ends { AreEnds (nodes_in (S.says source.now) runs.now backs.old.items) place ends.now }
     requires joins { AreLeast (S.says source.now).connection ends.now joins.old.found.items }
     ensures all { OnOk result (AreAllKept (S.says source.now) runs.now backs.new.items) }
+    ensures rights { OnOk result (HaveRights (node_words (S.says source.now).surface_words runs.now)
+        backs.new.items) }
     ensures lattice { OnOk result (IsLatticeOf (S.says source.now)
         (nodes_in (S.says source.now) runs.now backs.new.items)
         place (words_before (S.says source.now) surfaces.now number 0)) }
@@ -283,12 +287,16 @@ fn add_word<S: WordSource>(
     requires place { place < (S.says source.now).text_length }
     requires next { slice_get (node_words (S.says source.now).surface_words runs.now)
         (length backs.old.items) ≡ Some word.now }
+    requires rights { HaveRights (node_words (S.says source.now).surface_words runs.now)
+        backs.old.items }
     requires lattice { IsLatticeAfter (S.says source.now)
         (nodes_in (S.says source.now) runs.now backs.old.items) place word.now }
     requires some { 0 < length ends.now }
     requires ends { AreEnds (nodes_in (S.says source.now) runs.now backs.old.items) place ends.now }
     requires joins { AreLeast (S.says source.now).connection ends.now joins.old.found.items }
     ensures one { OnOk result (length backs.new.items ≡ length backs.old.items + 1) }
+    ensures rights { OnOk result (HaveRights (node_words (S.says source.now).surface_words runs.now)
+        backs.new.items) }
     ensures lattice { OnOk result (IsLatticeFrom (S.says source.now)
         (nodes_in (S.says source.now) runs.now backs.new.items) place word.now) }
     ensures ends { OnOk result

@@ -2,7 +2,7 @@
 
 ghost use Rattle.std.specs.Prelude.{◌≡◌, ◌+◌, ◌<◌, [], length, Contains, OnOk, Some};
 ghost use Rattle.lattice.specs.Ends.{AreEnds, StandFor};
-ghost use Rattle.lattice.specs.Nodes.{AreRuns, IsLatest, LinksAreLatest};
+ghost use Rattle.lattice.specs.Nodes.{AreRuns, HaveRights, IsLatest, LinksAreLatest, node_words};
 ghost use Rattle.lattice.specs.SearchedText.{AreAllKept, nodes_in};
 
 use crate::node::{BOUNDARY_ID, Backpointer, End, Run};
@@ -28,6 +28,7 @@ pub fn gather<S: WordSource>(
 ) -> Result<(), AllocError>
     requires runs { AreRuns (S.says source.now).surface_words runs.now }
     requires all { AreAllKept (S.says source.now) runs.now backs.now }
+    requires rights { HaveRights (node_words (S.says source.now).surface_words runs.now) backs.now }
     requires links { LinksAreLatest runs.now }
     requires head { IsLatest runs.now place (length runs.now) head }
     ensures { OnOk result
@@ -52,6 +53,7 @@ fn add_ends<S: WordSource>(
 ) -> Result<(), AllocError>
     requires runs { AreRuns (S.says source.now).surface_words runs.now }
     requires all { AreAllKept (S.says source.now) runs.now backs.now }
+    requires rights { HaveRights (node_words (S.says source.now).surface_words runs.now) backs.now }
     requires links { LinksAreLatest runs.now }
     requires head { IsLatest runs.now place (length runs.now) head }
     requires none { ends.old.items ≡ [] }
@@ -76,6 +78,7 @@ fn add_run_ends<S: WordSource>(
 ) -> Result<(), AllocError>
     requires runs { AreRuns (S.says source.now).surface_words runs.now }
     requires all { AreAllKept (S.says source.now) runs.now backs.now }
+    requires rights { HaveRights (node_words (S.says source.now).surface_words runs.now) backs.now }
     requires run { Contains runs.now run.now }
     requires later { StandFor (nodes_in (S.says source.now) runs.now backs.now)
         run.now.surface.end (run.now.from + run.now.surface.count) ends.old.items }
@@ -85,20 +88,20 @@ fn add_run_ends<S: WordSource>(
     let mut left = run.surface.count;
     while 0 < left {
         left -= 1;
-        let word = source.word(&run.surface, run.surface.count - 1 - left);
         let number = run.from + left as usize;
-        ends.push(node_end(number, &backs[number], word.right))?;
+        ends.push(node_end(number, &backs[number]))?;
     }
     Ok(())
 }
 
 /// A node as an end.
-fn node_end(number: usize, back: &Backpointer, right: u16) -> End
-    ensures { result ≡ record { total = back.now.total; right = right; before = Some number } }
+fn node_end(number: usize, back: &Backpointer) -> End
+    ensures { result
+        ≡ record { total = back.now.total; right = back.now.right; before = Some number } }
 {
     End {
         total: back.total,
-        right,
+        right: back.right,
         before: Some(number),
     }
 }

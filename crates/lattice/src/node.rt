@@ -25,11 +25,13 @@ pub struct Run {
 /// What is kept of a node: its word is that of its run.
 ///
 /// `total` is the cost of the best chain from BOS up to and with the word. `before` is the number
-/// of the node before it in that chain, counted from 1, and 0 where there is none.
+/// of the node before it in that chain, counted from 1, and 0 where there is none. `right` is the
+/// word's right id, so that the word isn't read again where another one follows it.
 #[derive(Clone, Copy, Debug, Drop)]
 pub struct Backpointer {
     pub total: i64,
     pub before: usize,
+    pub right: u16,
 }
 
 impl Backpointer {
@@ -37,7 +39,8 @@ impl Backpointer {
     pub fn after(found: &Join, word: &Word) -> Backpointer
         requires cost { IsWithin (2 ^ 40) found.now.cost }
         requires before { IsBelow found.now.before (2 ^ 63) }
-        ensures { kept_node word.now result ≡ node_of word.now found.now }
+        ensures node { kept_node word.now result ≡ node_of word.now found.now }
+        ensures right { result.right ≡ word.now.right }
     {
         let before = match found.before {
             Some(number) => number + 1,
@@ -46,6 +49,7 @@ impl Backpointer {
         Backpointer {
             total: found.cost + i64::from(word.cost),
             before,
+            right: word.right,
         }
     }
 

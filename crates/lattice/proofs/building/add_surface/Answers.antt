@@ -3,10 +3,10 @@ use Rattle.std.proofs.lemmas.List.{length-set, take_at}
 use Rattle.std.proofs.lemmas.Option.{slice_get-get_or, slice_get_read}
 use Rattle.lattice.specs.declared.node.Run.{Run}
 use Rattle.lattice.specs.Ends.{AreEnds}
-use Rattle.lattice.specs.Nodes.{AreLinked, AreRuns, Node, node_words}
+use Rattle.lattice.specs.Nodes.{AreLinked, AreRuns, HaveRights, Node, node_words}
 use Rattle.lattice.specs.SearchedText.{IsLatticeOf, nodes_in, words_before}
 use Rattle.lattice.proofs.Links.{links_on}
-use Rattle.lattice.proofs.RunNodes.{nodes_stay, runs_push, words_push}
+use Rattle.lattice.proofs.RunNodes.{nodes_stay, rights_stay, runs_push, words_push}
 use Rattle.lattice.proofs.WordNumbers.{no_surface, surface_ends, whole_at}
 use Rattle.lattice.proofs.building.add_surface.Goals as goal
 
@@ -50,6 +50,16 @@ add_words-requires-clause-next g c =
       words = ap (node_words t.surface_words) runs_now ∙ words_push t.surface_words nodes.runs.items run;
       none_yet = kept.all;
     }
+
+pub add_words-requires-clause-rights : goal.add_words-requires-clause-rights
+add_words-requires-clause-rights g c =
+    let t = g.S.WordSource.says c.args.source.now in
+    let nodes = c.args.nodes.now in
+    let s = get_or c.args.surfaces.now c.args.number no_surface in
+    let kept = c.requires.kept in
+    let run : Run = record { surface = s; from = c.len.result; next = c.index.result.now } in
+    let runs_now : c.deref.result.now ≡ nodes.runs.items ++ run ∷ [] = c.deref.ensures.value ∙ c.in_ok-add_run.ensures.runs in
+    subst (λ (rs : List Run). HaveRights (node_words t.surface_words rs) nodes.backs.items) (sym runs_now) (rights_stay t.surface_words nodes.runs.items run nodes.backs.items kept.all kept.rights)
 
 pub add_words-requires-clause-lattice : goal.add_words-requires-clause-lattice
 add_words-requires-clause-lattice g c =
@@ -102,6 +112,7 @@ returns-clause-kept g c =
     record {
       runs_are = runs_are;
       all = all;
+      rights = subst (λ (rs : List Run). HaveRights (node_words t.surface_words rs) c.add_words.new.backs.items) c.deref.ensures.value c.in_ok-add_words.ensures.rights;
       linked = subst (λ (rs : List Run). AreLinked rs (take nodes.heads.len (c.add_run.new.heads ++ drop (length c.add_run.new.heads) heads))) (sym c.in_ok-add_run.ensures.runs) (subst (λ (hs : List (Option ℕ)). AreLinked (nodes.runs.items ++ run ∷ []) hs) (sym heads_now) linked);
       places = places;
     }

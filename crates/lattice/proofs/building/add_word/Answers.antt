@@ -1,6 +1,6 @@
 use Rattle.std.proofs.Common.{arith, ◌≡◌, ◌+◌, ◌^◌, ◌++◌, List, [], ◌∷◌, sym, subst, ap, ◌∙◌, length}
 use Rattle.std.proofs.lemmas.Option.{slice_get_within}
-use Rattle.lattice.specs.Nodes.{Node, node_words, nodes_of}
+use Rattle.lattice.specs.Nodes.{HaveRights, Node, node_words, nodes_of}
 use Rattle.lattice.specs.Ends.{AreEnds}
 use Rattle.lattice.specs.Lattice.{IsLattice, node_of}
 use Rattle.lattice.specs.SearchedText.{nodes_in}
@@ -8,7 +8,7 @@ use Rattle.lattice.proofs.Choice.{all_followed, least_joins, small_join, small_t
 use Rattle.lattice.proofs.EndsLemmas.{ends_past}
 use Rattle.lattice.proofs.Growth.{grows, word_goes_on, word_there}
 use Rattle.lattice.proofs.Links.{below_all, below_up}
-use Rattle.lattice.proofs.RunNodes.{nodes_push, nodes_length}
+use Rattle.lattice.proofs.RunNodes.{nodes_push, nodes_length, rights_push}
 use Rattle.lattice.proofs.building.add_word.Goals as goal
 
 pub join-requires-clause-totals : goal.join-requires-clause-totals
@@ -64,7 +64,7 @@ returns-clause-lattice g c =
     let words = node_words t.surface_words c.args.runs.now in
     let joins = least_joins t.words t.connection t.text_length c.requires.source.source nodes c.args.place (k + 1) c.args.place word.left c.args.ends.now found c.requires.lattice.2 (omega arith) c.requires.ends c.in_ok-found.ensures.join in
     let pushed : nodes_of words c.push.new.self.items ≡ nodes ++ node_of word found ∷ [] =
-    ap (nodes_of words) c.in_ok-push.ensures.items ∙ nodes_push words c.args.backs.now.items word c.after.result c.requires.next ∙ ap (λ (x : Node). nodes ++ x ∷ []) c.after.ensures in (
+    ap (nodes_of words) c.in_ok-push.ensures.items ∙ nodes_push words c.args.backs.now.items word c.after.result c.requires.next ∙ ap (λ (x : Node). nodes ++ x ∷ []) c.after.ensures.node in (
       k,
       c.requires.lattice.1,
       subst (λ (xs : List Node). IsLattice t.words t.connection xs c.args.place k) (sym pushed)
@@ -80,6 +80,12 @@ returns-clause-ends g c =
     let found = c.in_ok-found.found in
     let words = node_words t.surface_words c.args.runs.now in
     let pushed : nodes_of words c.push.new.self.items ≡ nodes ++ node_of word found ∷ [] =
-    ap (nodes_of words) c.in_ok-push.ensures.items ∙ nodes_push words c.args.backs.now.items word c.after.result c.requires.next ∙ ap (λ (x : Node). nodes ++ x ∷ []) c.after.ensures in
+    ap (nodes_of words) c.in_ok-push.ensures.items ∙ nodes_push words c.args.backs.now.items word c.after.result c.requires.next ∙ ap (λ (x : Node). nodes ++ x ∷ []) c.after.ensures.node in
     let on = word_goes_on t.words t.connection t.text_length c.requires.source.source c.args.place k word c.requires.lattice.1 in
     subst (λ (xs : List Node). AreEnds xs c.args.place c.args.ends.now) (sym pushed) (ends_past nodes c.args.place c.args.ends.now (node_of word found) on c.requires.ends)
+
+pub returns-clause-rights : goal.returns-clause-rights
+returns-clause-rights g c =
+    let t = g.S.WordSource.says c.args.source.now in
+    let words = node_words t.surface_words c.args.runs.now in
+    subst (HaveRights words) (sym c.in_ok-push.ensures.items) (rights_push words c.args.backs.now.items c.args.word.now c.after.result c.requires.next c.after.ensures.right c.requires.rights)

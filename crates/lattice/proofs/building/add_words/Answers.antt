@@ -23,6 +23,7 @@ loop-i-init g c =
     record {
       within = omega (arith, count);
       left = omega (arith, own, long, yet);
+      rights = c.requires.rights;
       lattice = subst (IsLatticeOf t (nodes_in t c.args.runs.now c.args.backs.now.items) c.args.place) (last ∙ ap (words_before t surfaces c.args.number) count) c.requires.lattice;
       ends = c.requires.ends;
       joins = c.requires.joins;
@@ -80,6 +81,7 @@ loop-i-preserved g c =
     record {
       within = omega (arith, within);
       left = omega (arith, left, some, one);
+      rights = c.in_ok-add_word.ensures.rights;
       lattice = subst (IsLatticeOf t (nodes_in t c.args.runs.now c.add_word.new.backs.items) c.args.place) same grown.2;
       ends = c.in_ok-add_word.ensures.ends;
       joins = c.in_ok-add_word.ensures.joins;

@@ -1,10 +1,12 @@
-use Rattle.std.proofs.Common.{◌≡◌, ℕ, ◌+◌, ◌-◌, ◌<◌, arith, get_or, subst}
+use Rattle.std.proofs.Common.{◌≡◌, ℕ, ◌+◌, ◌-◌, ◌<◌, ◌∙◌, ap, arith, get_or, subst, Some}
+use Rattle.std.proofs.lemmas.Option.{slice_get-get_or}
 use Rattle.lattice.specs.Ends.{StandFor}
 use Rattle.lattice.specs.Nodes.{kept_node}
 use Rattle.lattice.specs.SearchedText.{nodes_in}
 use Rattle.lattice.proofs.EndsLemmas.{stand_next}
 use Rattle.lattice.proofs.Pushed.{get_from_Contains}
-use Rattle.lattice.proofs.RunNodes.{no_back, node_of_run, run_within, word_stands}
+use Rattle.lattice.proofs.RunNodes.{no_back, node_of_run, run_within, run_word, word_stands}
+use Rattle.lattice.proofs.WordNumbers.{no_word}
 use Rattle.lattice.proofs.ends.add_run_ends.Goals as goal
 
 pub loop-left-init : goal.loop-left-init
@@ -27,14 +29,19 @@ loop-left-preserved g c =
     let among = c.loop-left.invariant.among in
     let less : left < run.surface.count = omega (arith, low, some) in
     let i = run.from + left in
-    let word = c.word-word.result in
+    let count = (c.requires.runs.whole at.0 run at.1).count_is in
+    let words = t.surface_words run.surface in
+    let word = get_or words (run.surface.count - 1 - left) no_word in
+    let at_word = slice_get-get_or words (run.surface.count - 1 - left) no_word (omega (arith, less, count)) in
     let n = kept_node word (get_or backs i no_back) in
-    let here = node_of_run t.surface_words runs c.requires.runs backs c.requires.all at.0 run left word no_back at.1 less c.word-word.ensures in
-    let there = word_stands t.surface_words runs c.requires.runs at.0 run (run.surface.count - 1 - left) word at.1 c.word-word.ensures in
+    let here = node_of_run t.surface_words runs c.requires.runs backs c.requires.all at.0 run left word no_back at.1 less at_word in
+    let there = word_stands t.surface_words runs c.requires.runs at.0 run (run.surface.count - 1 - left) word at.1 at_word in
+    let kept = slice_get-get_or backs i no_back (omega (arith, among, some)) in
+    let right = c.requires.rights i word (get_or backs i no_back) (run_word t.surface_words runs c.requires.runs at.0 run left word at.1 less at_word) kept in
     let same : run.from + c.loop-left.left ≡ i + 1 = omega (arith, some) in
     record {
       within = omega (arith, low);
       among = omega (arith, among);
-      stand = stand_next (nodes_in t runs backs) run.surface.end c.loop-left.ends.items c.push.new.self.items i n c.node_end.result here there c.node_end.ensures c.in_ok-push.ensures.items
+      stand = stand_next (nodes_in t runs backs) run.surface.end c.loop-left.ends.items c.push.new.self.items i n c.node_end.result here there (c.node_end.ensures ∙ ap (λ (r : ℕ). record { total = (get_or backs i no_back).total; right = r; before = Some i }) right) c.in_ok-push.ensures.items
           (subst (λ (k : ℕ). StandFor (nodes_in t runs backs) run.surface.end k c.loop-left.ends.items) same c.loop-left.invariant.stand);
     }
