@@ -1,12 +1,14 @@
 -- Where categories stand in their section.
-use Rattle.std.proofs.Common.{◌≡◌, ℕ, zero, suc, ◌+◌, ◌<◌, ◌≤◌, List, ◌++◌, map, length, drop, get_or, Some, ap, ◌∙◌, refl, arith, subst}
+use Rattle.std.proofs.Common.{◌≡◌, ℕ, zero, suc, ◌+◌, ◌<◌, ◌≤◌, List, [], ◌∷◌, ◌++◌, map, length, drop, get_or, Some, sym, ap, ◌∙◌, refl, arith, subst}
 use Rattle.std.specs.List.{flat_map, slice_get}
-use Rattle.std.proofs.lemmas.List.{length-append, length-map, drop_at, get_or-drop}
+use Rattle.std.proofs.lemmas.List.{append_assoc, length-append, length-map, drop_at, get_or-drop}
+use Rattle.mj_model.specs.declared.category.Category.{Category}
 use Rattle.mj_model.specs.CharDef.{NamedCategory, IsStorable}
+use Rattle.image_bytes.specs.declared.header.Header.{Header}
 use Rattle.image_bytes.specs.ImageBytes.{number_at, header_of, section}
 use Rattle.image_bytes.specs.ImageMeaning.{image_categories}
 use Rattle.image_bytes.specs.ImageSections.{AreCategories, category_bytes, first_category, categories_in}
-use Rattle.dict_image.specs.Categories.{HasFirst, HasFront, behind_first, bytes_from}
+use Rattle.dict_image.specs.Categories.{HasFirst, HasFront, behind_first, bytes_from, listed_categories}
 use Rattle.dict_image.specs.Held.{IsImage}
 use Rattle.dict_image.proofs.FormedLemmas.{categories_are, system_of_categories}
 
@@ -74,6 +76,16 @@ front_more n m bytes e front = subst (λ (k : ℕ). HasFront k bytes) e front
 pub from_more : (n m : ℕ) (bytes : List ℕ) → m ≡ suc n → bytes_from m bytes ≡ bytes_from n (behind_first bytes)
 from_more n m bytes e = ap (λ (k : ℕ). bytes_from k bytes) e
 
+-- ---- what they say, one after another
+
+pub category_more : (n m : ℕ) (done : List Category) (first : Category) (bytes rest : List ℕ) → m ≡ suc n → first ≡ (first_category bytes).category → rest ≡ behind_first bytes
+    → (done ++ first ∷ []) ++ listed_categories n rest ≡ done ++ listed_categories m bytes
+category_more n m done first bytes rest more is behind =
+    append_assoc done (first ∷ []) (listed_categories n rest)
+    ∙ ap (λ (c : Category). done ++ c ∷ listed_categories n rest) is
+    ∙ ap (λ (xs : List ℕ). done ++ (first_category bytes).category ∷ listed_categories n xs) behind
+    ∙ ap (λ (k : ℕ). done ++ listed_categories k bytes) (sym more)
+
 -- ---- categories of an image
 
 pub count_of_image : (bytes : List ℕ) → length (map (λ (n : NamedCategory). n.category) (image_categories bytes)) ≡ (header_of bytes).categories
@@ -93,3 +105,21 @@ below_count bytes i less = let e = count_of_image bytes in omega (arith, less, e
 
 pub category_of_image : (bytes : List ℕ) (i : ℕ) → i < (header_of bytes).categories → slice_get (image_categories bytes) i ≡ Some (first_category (bytes_from i (section bytes 2)))
 category_of_image bytes i less = category_there (header_of bytes).categories i (section bytes 2) less
+
+-- ---- the list of an image's categories
+
+all_by : (n : ℕ) (bytes : List ℕ) → (0 < n → AreCategories n bytes) → HasFront n bytes
+all_by zero bytes are = tt
+all_by (suc n) bytes are = fronts_of (suc n) (suc n) bytes (are (omega arith)) (omega arith)
+
+all_fronts : (bytes : List ℕ) → IsImage bytes → HasFront (header_of bytes).categories (section bytes 2)
+all_fronts bytes w = all_by (header_of bytes).categories (section bytes 2) (λ some. categories_are bytes (system_of_categories bytes 0 w some) w)
+
+pub fronts_in : (bytes : List ℕ) (h : Header) (named : List ℕ) → h ≡ header_of bytes → named ≡ section bytes 2 → IsImage bytes → HasFront h.categories named
+fronts_in bytes h named same there w =
+    subst (λ (xs : List ℕ). HasFront h.categories xs) (sym there) (subst (λ (g : Header). HasFront g.categories (section bytes 2)) (sym same) (all_fronts bytes w))
+
+pub categories_in_image : (bytes : List ℕ) (h : Header) (named : List ℕ) (list : List Category) → h ≡ header_of bytes → named ≡ section bytes 2 → list ≡ listed_categories h.categories named
+    → list ≡ listed_categories (header_of bytes).categories (section bytes 2)
+categories_in_image bytes h named list same there is =
+    is ∙ ap (λ (xs : List ℕ). listed_categories h.categories xs) there ∙ ap (λ (g : Header). listed_categories g.categories (section bytes 2)) same

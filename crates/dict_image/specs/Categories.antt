@@ -1,8 +1,10 @@
--- The names of categories, and where categories stand in their section.
+-- The names of categories, where categories stand in their section, and what they say.
 use Rattle.std.specs.Prelude.{ℕ, zero, suc, ◌+◌, ◌≤◌, List, length, drop, map}
 use Rattle.mj_model.specs.CharDef.{NamedCategory}
+use Rattle.mj_model.specs.declared.category.Category.{Category}
 use Rattle.image_bytes.specs.ImageBytes.{number_at}
 use Rattle.image_bytes.specs.ImageMeaning.{image_categories}
+use Rattle.image_bytes.specs.ImageSections.{categories_in}
 
 -- the bytes behind the first category
 abbrev pub behind_first : List ℕ → List ℕ
@@ -26,3 +28,7 @@ HasFront (suc n) bytes = HasFirst bytes × HasFront n (behind_first bytes)
 -- the names of an image's categories
 abbrev pub category_names : List ℕ → List (List ℕ)
 category_names bytes = map (λ (c : NamedCategory). c.name) (image_categories bytes)
+
+-- what the first n categories of a section say
+abbrev pub listed_categories : ℕ → List ℕ → List Category
+listed_categories n bytes = map (λ (c : NamedCategory). c.category) (categories_in n bytes)

@@ -1,10 +1,29 @@
 //! The section of categories.
-ghost use Rattle.std.specs.Prelude.{◌≡◌, ◌+◌, length, IsUtf8};
+ghost use Rattle.std.specs.Prelude.{◌≡◌, ◌+◌, length, IfOk, IsUtf8};
 ghost use Rattle.image_bytes.specs.ImageSections.{first_category};
-ghost use Rattle.dict_image.specs.Categories.{HasFirst, HasFront, behind_first, bytes_from};
+ghost use Rattle.dict_image.specs.Categories.{HasFirst, HasFront, behind_first, bytes_from, listed_categories};
 
 use crate::entry_ref::text;
 use mj_model::Category;
+use std::alloc::{AllocError, Global};
+
+/// The first categories of a section, so many of them. They take 3 bytes each.
+pub(crate) fn categories_of(
+    alloc: Global,
+    categories: &[u8],
+    count: u32,
+) -> Result<Vec<Category>, AllocError>
+    requires { HasFront count categories.now }
+    ensures { IfOk result (λ list. list.items ≡ listed_categories count categories.now) }
+{
+    let mut list = Vec::with_capacity(alloc, count as usize)?;
+    let mut rest = categories;
+    for _ in 0..count {
+        list.push(category_of(rest))?;
+        rest = behind_category(rest);
+    }
+    Ok(list)
+}
 
 /// The bytes of a section from category `i` on.
 pub(crate) fn from_category(categories: &[u8], i: usize) -> &[u8]

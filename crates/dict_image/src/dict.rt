@@ -27,7 +27,7 @@ use crate::listed_keys::ListedKeys;
 use double_array::{CellRead, get, prefixes};
 use image_bytes::Section::{Features, Groups, Tokens};
 use image_bytes::{Header, ImageCells, Section, section_bytes};
-use mj_model::MatrixSizes;
+use mj_model::{Category, MatrixSizes};
 use std::marker::Model;
 
 /// A dictionary, as the bytes of its image, which are read where they lie.
@@ -40,6 +40,7 @@ pub struct Dict {
     keys: Keys,
     costs: CostTable,
     infos: InfoTable,
+    categories: Vec<Category>,
 }
 
 impl Model for Dict {
@@ -51,14 +52,15 @@ impl Model for Dict {
 
     ghost view = { λ d. d.bytes.items };
 
-    ghost invariant = { λ d. IsDict d.bytes.items d.header d.ends d.keys d.costs d.infos };
+    ghost invariant = { λ d. IsDict d.bytes.items d.header d.ends d.keys d.costs d.infos
+        d.categories.items };
 }
 
 impl Dict {
     /// The dictionary of a well-formed image with its outline. It takes no memory.
     pub(crate) fn over(bytes: Vec<u8>, outline: Outline) -> Dict
         requires { IsDict bytes.items outline.header outline.ends outline.keys
-            outline.costs outline.infos }
+            outline.costs outline.infos outline.categories.items }
         ensures { result ≡ bytes.items }
     {
         let Outline {
@@ -67,6 +69,7 @@ impl Dict {
             keys,
             costs,
             infos,
+            categories,
         } = outline;
         Dict {
             bytes,
@@ -75,6 +78,7 @@ impl Dict {
             keys,
             costs,
             infos,
+            categories,
         }
     }
 
@@ -135,6 +139,14 @@ impl Dict {
         ensures formed { IsImage self.now }
     {
         &self.infos
+    }
+
+    /// What the categories say, by their numbers.
+    pub(crate) fn categories(&self) -> &[Category]
+        ensures categories { result.now ≡ (image_tables self.now).categories }
+        ensures formed { IsImage self.now }
+    {
+        &self.categories
     }
 
     /// The keys, to look one up.

@@ -5,7 +5,7 @@ ghost use Rattle.image_bytes.specs.ImageMeaning.{image_tables};
 ghost use Rattle.mj_model.specs.Tables.{System};
 ghost use Rattle.dict_image.specs.Categories.{category_names};
 
-use crate::categories::{category_of, from_category, name_of};
+use crate::categories::{from_category, name_of};
 use crate::cost_table::{CostTable, cost_in};
 use crate::costs::cost_at;
 use crate::dict::Dict;
@@ -55,7 +55,7 @@ impl Dict {
         requires { i < length (image_tables self.now).categories }
         ensures { slice_get (image_tables self.now).categories i ≡ Some result }
     {
-        category_of(from_category(self.section(Categories), i))
+        self.categories()[i]
     }
 
     /// The name of category `i`.

@@ -1,8 +1,8 @@
 -- Within a run of blanks each character goes on from the one before. So behind a place in it that has blanks they end where the run ends.
 use Rattle.std.proofs.Common.{◌≡◌, ℕ, suc, ◌+◌, ◌-◌, ◌<◌, ◌≤◌, Bool, true, false, cond, List, [], ◌∷◌, ◌++◌, length, take, drop, inl, inr, refl, sym, ap, ◌∙◌, subst, arith}
-use Rattle.std.specs.Prelude.{IsTrue, IsUtf8, chars, encode_utf8_all, min}
+use Rattle.std.specs.Prelude.{IsTrue, IsUtf8, chars, encode_utf8_all, nat_lt}
 use Rattle.std.proofs.Math.Seq.{take-append-add}
-use Rattle.std.proofs.lemmas.Bool.{cases_lt}
+use Rattle.std.proofs.lemmas.Bool.{cases_lt, lt-ltb, ltb-false, ltb-true}
 use Rattle.std.proofs.lemmas.List.{drop-drop, length-append, length-drop, length-take, take-append-drop, take-append-le}
 use Rattle.std.proofs.lemmas.Str.{IsCharBoundary-from_drop, IsUtf8-take, chars-append, encodes-append, encodes-chars}
 use Rattle.mj_model.specs.declared.category.CharInfo.{CharInfo}
@@ -13,7 +13,7 @@ use Rattle.paths.specs.Run.{bytes_of, run}
 use Rattle.paths.specs.Words.{is_place}
 use Rattle.paths.proofs.CharBytes.{bytes_within}
 use Rattle.word_lookup.specs.declared.blank_run.BlankRun.{BlankRun}
-use Rattle.word_lookup.specs.BlankRuns.{IsBlankRun}
+use Rattle.word_lookup.specs.BlankRuns.{IsBlankRun, begins_with_blank}
 use Rattle.word_lookup.proofs.PlaceLemmas.{place_within, text_there}
 
 -- ---- a run that goes past a character goes on from it
@@ -104,23 +104,32 @@ inside_by : (o : Overlay) (text : List ℕ) (from to place : ℕ) (cs : List ℕ
 inside_by o text from to place [] parts ends low less first some = absurd (omega (arith, some))
 inside_by o text from to place (c ∷ cs) parts ends low less first some = inside o text from to place c cs parts ends low less first some
 
--- what a look at one character told
-one_looked_at : (o : Overlay) (text rest : List ℕ) (place : ℕ) (entry : CharInfo) (n : ℕ) → rest ≡ drop place text → entry ≡ o.system.info space
-    → n ≡ min 1 (run o.system.info entry (chars rest)) → n ≡ min 1 (run o.system.info (o.system.info space) (chars_from text place))
-one_looked_at o text rest place entry n at is looked =
+-- ---- the first character
+
+begun_by : (n : ℕ) (b : Bool) → b ≡ nat_lt 0 (cond b (suc n) 0)
+begun_by n true = sym (lt-ltb 0 (suc n) (omega arith))
+begun_by n false = refl
+
+-- it shares a category with U+0020, or not
+pub begins_by_first : (o : Overlay) (text rest : List ℕ) (entry : CharInfo) (c : ℕ) → chars text ≡ c ∷ rest → entry ≡ o.system.info space
+    → shares entry (o.system.info c) ≡ begins_with_blank o text
+begins_by_first o text rest entry c split is =
     let info = o.system.info in
-    looked ∙ ap (λ (i : CharInfo). min 1 (run info i (chars rest))) is ∙ ap (λ (bytes : List ℕ). min 1 (run info (info space) (chars bytes))) at
+    ap (λ (e : CharInfo). shares e (info c)) is ∙ begun_by (run info (info c) rest) (shares (info space) (info c))
+    ∙ ap (λ (cs : List ℕ). nat_lt 0 (run info (info space) cs)) (sym split)
 
-pub blanks_inside : (o : Overlay) (text rest : List ℕ) (r : BlankRun) (place : ℕ) (entry : CharInfo) (n : ℕ) → IsBlankRun o text r → IsTrue (is_place text place) → r.from ≤ place → place < r.to
-    → rest ≡ drop place text → entry ≡ o.system.info space → n ≡ min 1 (run o.system.info entry (chars rest)) → (n ≡ 0 → ⊥) → r.to ≡ skip o text place
-blanks_inside o text rest r place entry n is there low less at entry_is looked some =
-    let one = one_looked_at o text rest place entry n at entry_is looked in
-    sym (inside_by o text r.from r.to place (chars_from text place) (parted text r.from place is.begins there low) is.ends low less refl (omega (arith, one, some)))
+pub begins_empty : (o : Overlay) (text : List ℕ) → chars text ≡ [] → false ≡ begins_with_blank o text
+begins_empty o text none = ap (λ (cs : List ℕ). nat_lt 0 (run o.system.info (o.system.info space) cs)) (sym none)
 
-pub no_blanks : (o : Overlay) (text rest : List ℕ) (place : ℕ) (entry : CharInfo) (n : ℕ) → rest ≡ drop place text → entry ≡ o.system.info space
-    → n ≡ min 1 (run o.system.info entry (chars rest)) → n ≡ 0 → place ≡ skip o text place
-no_blanks o text rest place entry n at entry_is looked none =
-    let one = one_looked_at o text rest place entry n at entry_is looked in
-    let empty : run o.system.info (o.system.info space) (chars_from text place) ≡ 0 = omega (arith, one, none) in
+pub blanks_inside : (o : Overlay) (text rest : List ℕ) (r : BlankRun) (place : ℕ) → IsBlankRun o text r → IsTrue (is_place text place) → r.from ≤ place → place < r.to
+    → rest ≡ drop place text → begins_with_blank o rest ≡ true → r.to ≡ skip o text place
+blanks_inside o text rest r place is there low less at begins =
+    let some = ltb-true 0 (run o.system.info (o.system.info space) (chars_from text place)) (ap (begins_with_blank o) (sym at) ∙ begins) in
+    sym (inside_by o text r.from r.to place (chars_from text place) (parted text r.from place is.begins there low) is.ends low less refl some)
+
+pub no_blanks : (o : Overlay) (text rest : List ℕ) (place : ℕ) → rest ≡ drop place text → begins_with_blank o rest ≡ false → place ≡ skip o text place
+no_blanks o text rest place at begins =
+    let none = ltb-false 0 (run o.system.info (o.system.info space) (chars_from text place)) (ap (begins_with_blank o) (sym at) ∙ begins) in
+    let empty : run o.system.info (o.system.info space) (chars_from text place) ≡ 0 = omega (arith, none) in
     let width = ap (λ (k : ℕ). bytes_of k (chars_from text place)) empty in
     omega (arith, width)

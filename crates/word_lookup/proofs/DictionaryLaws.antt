@@ -8,6 +8,7 @@ use Rattle.mj_model.specs.declared.matrix_sizes.MatrixSizes.{MatrixSizes}
 use Rattle.mj_model.specs.Connection.{is_pair}
 use Rattle.image_bytes.specs.ImageMeaning.{image_tables}
 use Rattle.mj_model.specs.Tables.{HasText, HasApartTokens, Kind, System, User, Tables, Lexeme, lexicons_of}
+use Rattle.paths.specs.Blanks.{space}
 use Rattle.paths.specs.Laws.{HasWords, CoversAll}
 use Rattle.mj_model.specs.Overlays.{is_user, are_same_sizes}
 use Rattle.paths.specs.Searchable.{IsSearchable}
@@ -42,7 +43,7 @@ users_fit sizes (user ∷ users) all =
 
 -- ---- the laws
 
-system_by : (kind : Kind) → is_user kind ≡ false → kind ≡ System
+pub system_by : (kind : Kind) → is_user kind ≡ false → kind ≡ System
 system_by System h = refl
 system_by User h = absurd (cc)
 
@@ -51,6 +52,10 @@ facts d = laid_over (image_tables d.system.now) (map image_tables d.users.now) d
 
 pub is_system : (d : Dictionaries) → (image_tables d.system.now).kind ≡ System
 is_system d = system_by (image_tables d.system.now).kind (facts d).is_system
+
+pub space_of : (d : Dictionaries) → d.space ≡ (overlay_of d).system.info space
+unfolding overlay_of
+space_of d = λ i. record { bits = d.space_is.bits i; head = d.space_is.head i }
 
 pub has_words : (d : Dictionaries) → HasWords (overlay_of d)
 unfolding overlay_of

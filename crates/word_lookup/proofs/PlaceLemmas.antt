@@ -115,10 +115,12 @@ unknown_are o none_known place start c i all following ts ns e at t s =
     ∙ ap (λ (xs : List ℕ). unknown o none_known place start xs) (sym e)
 
 -- an empty text has no characters
-pub none_there : (o : Overlay) (none_known : Bool) (place start : ℕ) (text rest : List ℕ) → IsUtf8 text → rest ≡ text → length rest ≡ 0 → [] ≡ unknown o none_known place start (chars text)
-none_there o none_known place start text rest u same none =
+pub no_chars : (text rest : List ℕ) → IsUtf8 text → rest ≡ text → length rest ≡ 0 → chars text ≡ []
+no_chars text rest u same none =
     let short = length-le-encodes (chars text) in
     let spelled = ap length (encodes-chars text u) in
     let e = ap length same in
-    let empty : chars text ≡ [] = nil_from_length (chars text) (omega (arith, short, spelled, e, none)) in
-    ap (λ (cs : List ℕ). unknown o none_known place start cs) (sym empty)
+    nil_from_length (chars text) (omega (arith, short, spelled, e, none))
+
+pub none_there : (o : Overlay) (none_known : Bool) (place start : ℕ) (text rest : List ℕ) → IsUtf8 text → rest ≡ text → length rest ≡ 0 → [] ≡ unknown o none_known place start (chars text)
+none_there o none_known place start text rest u same none = ap (λ (cs : List ℕ). unknown o none_known place start cs) (sym (no_chars text rest u same none))

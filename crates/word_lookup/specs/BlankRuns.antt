@@ -1,9 +1,14 @@
 -- Runs of blanks of a text, as a search remembers them.
-use Rattle.std.specs.Prelude.{◌≡◌, ℕ, List, IsTrue}
+use Rattle.std.specs.Prelude.{◌≡◌, ℕ, Bool, nat_lt, List, IsTrue, chars}
 use Rattle.mj_model.specs.Tables.{Overlay}
-use Rattle.paths.specs.Blanks.{skip}
+use Rattle.paths.specs.Blanks.{skip, space}
+use Rattle.paths.specs.Run.{run}
 use Rattle.paths.specs.Words.{is_place}
 use Rattle.word_lookup.specs.declared.blank_run.BlankRun.{BlankRun}
+
+-- a text begins with a blank
+abbrev pub begins_with_blank : Overlay → List ℕ → Bool
+begins_with_blank o text = nat_lt 0 (run o.system.info (o.system.info space) (chars text))
 
 -- the run begins at a place, and ends behind the blanks there
 pub record IsBlankRun (o : Overlay) (text : List ℕ) (run : BlankRun) : Type 0 where

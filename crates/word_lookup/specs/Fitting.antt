@@ -1,9 +1,11 @@
 -- Dictionaries that make an overlay, and what a search asks of them.
 use Rattle.std.specs.Prelude.{◌≡◌, true, false, List}
 use Rattle.std.specs.List.{AllByRecursion}
+use Rattle.mj_model.specs.declared.category.CharInfo.{CharInfo}
 use Rattle.mj_model.specs.declared.matrix_sizes.MatrixSizes.{MatrixSizes}
 use Rattle.mj_model.specs.Overlays.{is_user, are_same_sizes}
 use Rattle.mj_model.specs.Tables.{Tables}
+use Rattle.paths.specs.Blanks.{space}
 use Rattle.dict_image.specs.Fitting.{AreFitting}
 
 -- a user dictionary, made for these sizes
@@ -21,3 +23,8 @@ pub record AreLaidOver (system : Tables) (users : List Tables) : Type 0 where
 -- the same, as a word that is not taken apart
 unfoldable pub IsOverlay : Tables → List Tables → Type 0
 IsOverlay system users = AreLaidOver system users
+
+-- these are the categories of U+0020
+pub record AreOfSpace (t : Tables) (info : CharInfo) : Type 0 where
+  pub bits : info.bits ≡ (t.info space).bits
+  pub head : info.head ≡ (t.info space).head

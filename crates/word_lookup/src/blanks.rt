@@ -3,7 +3,7 @@
 ghost use Rattle.std.specs.Prelude.{◌≡◌, ◌<◌, ◌≤◌, IsTrue, IfSome};
 ghost use Rattle.paths.specs.Blanks.{skip};
 ghost use Rattle.paths.specs.Words.{is_place};
-ghost use Rattle.word_lookup.specs.BlankRuns.{IsBlankRun};
+ghost use Rattle.word_lookup.specs.BlankRuns.{IsBlankRun, begins_with_blank};
 ghost use Rattle.word_lookup.specs.Overlays.{overlay_of};
 
 use crate::blank_run::BlankRun;
@@ -17,9 +17,22 @@ impl<'a> Dictionaries<'a> {
         requires { IsTrue (is_place text.now place) }
         ensures { result ≡ skip (overlay_of self.now) text.now place }
     {
-        let space = self.system.info(' ');
         let rest = behind(text, place);
-        place + run_up_to(self.system, space, rest, rest.len()).bytes
+        if !self.begins_with_blank(rest) {
+            return place;
+        }
+        place + run_up_to(self.system, self.space, rest, rest.len()).bytes
+    }
+
+    /// Whether a text begins with a blank: its first character shares a category with U+0020. Most places have none, and no more is
+    /// looked at there.
+    fn begins_with_blank(&self, text: &str) -> bool
+        ensures { result ≡ begins_with_blank (overlay_of self.now) text.now }
+    {
+        match text.chars().next() {
+            Some(first) => self.space.shares(self.system.info(first)),
+            None => false,
+        }
     }
 
     /// The same, for places of one text in turn. `last` is the run of blanks that was looked at last, if one was: of a place in it only
@@ -53,8 +66,10 @@ impl<'a> Dictionaries<'a> {
         requires to { place < run.to }
         ensures { result ≡ skip (overlay_of self.now) text.now place }
     {
-        let space = self.system.info(' ');
-        let first = run_up_to(self.system, space, behind(text, place), 1);
-        if first.characters == 0 { place } else { run.to }
+        if self.begins_with_blank(behind(text, place)) {
+            run.to
+        } else {
+            place
+        }
     }
 }

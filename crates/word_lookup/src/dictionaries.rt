@@ -6,7 +6,8 @@ ghost use Rattle.image_bytes.specs.ImageMeaning.{image_tables};
 ghost use Rattle.mj_model.specs.Printed.{feature_of};
 ghost use Rattle.mj_model.specs.Tables.{lexicons};
 ghost use Rattle.dict_image.specs.Fitting.{AreFitting};
-ghost use Rattle.word_lookup.specs.Fitting.{IsOverlay};
+ghost use Rattle.std.proofs.Props.{props};
+ghost use Rattle.word_lookup.specs.Fitting.{AreOfSpace, IsOverlay};
 ghost use Rattle.word_lookup.specs.Props.{IsOverlay-prop};
 
 use crate::overlay::check_users;
@@ -21,7 +22,10 @@ pub struct Dictionaries<'a> {
     pub(crate) system: &'a Dict,
     pub(crate) users: &'a [Dict],
     pub(crate) grouping: u16,
+    /// The categories of U+0020, with which blanks begin.
+    pub(crate) space: CharInfo,
     ghost fitting: { IsOverlay (image_tables system.now) (map image_tables users.now) } by { IsOverlay-prop (image_tables system.now) (map image_tables users.now) },
+    ghost space_is: { AreOfSpace (image_tables system.now) space } by { Prim.hlevel props },
 }
 
 impl<'a> Dictionaries<'a> {
@@ -46,6 +50,7 @@ impl<'a> Dictionaries<'a> {
             system,
             users,
             grouping: GROUPING_DEFAULT,
+            space: system.info(' '),
         })
     }
 
@@ -59,6 +64,7 @@ impl<'a> Dictionaries<'a> {
             system: self.system,
             users: self.users,
             grouping,
+            space: self.space,
         }
     }
 

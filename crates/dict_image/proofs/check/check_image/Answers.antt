@@ -6,6 +6,7 @@ use Rattle.image_bytes.specs.ImageFaults.{PassAll, front_tests, end_tests, secti
 use Rattle.image_bytes.specs.Layouts.{key_form}
 use Rattle.dict_image.specs.KeyPlaces.{AreKeysOf}
 use Rattle.dict_image.specs.Held.{IsImage}
+use Rattle.dict_image.proofs.CategoryLemmas.{categories_in_image, fronts_in}
 use Rattle.dict_image.proofs.CostTableLemmas.{cost_table_in, costs_in}
 use Rattle.dict_image.proofs.InfoTableLemmas.{readable_in, table_in}
 use Rattle.dict_image.proofs.FormedLemmas.{from_formed}
@@ -53,6 +54,20 @@ returns-in_err-infos-clause-refused c =
     let p = err_from_is_err_and c.from_residual-in_err-infos.result c.from_residual-in_err-infos.ensures.1 in
     rw (p.1, p.2) (inl refl)
 
+pub section_bytes-named-requires-clause-within : goal.section_bytes-named-requires-clause-within
+section_bytes-named-requires-clause-within c = c.in_ok-ends.ensures.2
+
+pub categories_of-requires : goal.categories_of-requires
+categories_of-requires c =
+    let bytes = c.args.bytes.now in
+    let h = c.in_ok-header.header in
+    fronts_in bytes h c.section_bytes-named.result.now c.in_ok-header.ensures.1 c.section_bytes-named.ensures (formed_by bytes h c.in_ok-header.ensures c.in_ok-ends.ensures.0 c.in_ok-keys.ensures.0)
+
+pub returns-in_err-categories-clause-refused : goal.returns-in_err-categories-clause-refused
+returns-in_err-categories-clause-refused c =
+    let p = err_from_is_err_and c.from_residual-in_err-categories.result c.from_residual-in_err-categories.ensures.1 in
+    rw (p.1, p.2) (inl refl)
+
 pub returns-clause-accepted : goal.returns-clause-accepted
 returns-clause-accepted c =
     let bytes = c.args.bytes.now in
@@ -66,4 +81,5 @@ returns-clause-accepted c =
       keys_are = subst (λ (g : Header). AreKeysOf (key_form g.layout) g.groups (section bytes 5) c.in_ok-keys.keys) front.1 c.in_ok-keys.ensures.1;
       costs_are = cost_table_in bytes h c.section_bytes.result.now c.in_ok-costs.costs front.1 c.section_bytes.ensures c.in_ok-costs.ensures;
       infos_are = table_in bytes h c.section_bytes-2.result.now c.in_ok-infos.infos front.1 c.section_bytes-2.ensures c.in_ok-infos.ensures;
+      categories_are = categories_in_image bytes h c.section_bytes-named.result.now c.in_ok-categories.categories.items front.1 c.section_bytes-named.ensures c.in_ok-categories.ensures;
     }

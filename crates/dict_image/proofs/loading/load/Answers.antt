@@ -9,7 +9,7 @@ use Rattle.dict_image.proofs.loading.load.Goals as goal
 pub over-requires : goal.over-requires
 over-requires c =
     let outline = c.in_ok-outline.outline in
-    subst (λ (bytes : List ℕ). IsDict bytes outline.header outline.ends outline.keys outline.costs outline.infos) c.deref.ensures.value c.in_ok-outline.ensures.accepted
+    subst (λ (bytes : List ℕ). IsDict bytes outline.header outline.ends outline.keys outline.costs outline.infos outline.categories.items) c.deref.ensures.value c.in_ok-outline.ensures.accepted
 
 pub returns-clause-accepted : goal.returns-clause-accepted
 returns-clause-accepted c = subst IsWellFormed c.deref.ensures.value (is_formed c.deref.result.now c.in_ok-outline.ensures.accepted.formed)

@@ -1,8 +1,13 @@
-use Rattle.std.proofs.Common.{arith}
+use Rattle.std.proofs.Common.{arith, sym, ◌∙◌}
 use Rattle.word_lookup.specs.Overlays.{overlay_of}
-use Rattle.word_lookup.proofs.DictionaryLaws.{is_system}
+use Rattle.word_lookup.proofs.BlankRunLemmas.{no_blanks}
+use Rattle.word_lookup.proofs.DictionaryLaws.{is_system, space_of}
 use Rattle.word_lookup.proofs.PlaceLemmas.{blanks_fit, blanks_are}
 use Rattle.word_lookup.proofs.dictionaries.Dictionaries.blanks.Goals as goal
+
+pub returns-then-not-begins_with_blank : goal.returns-then-not-begins_with_blank
+returns-then-not-begins_with_blank c =
+    no_blanks (overlay_of c.args.self.now) c.args.text.now c.behind-rest.result.now c.args.place c.behind-rest.ensures (sym c.begins_with_blank.ensures ∙ c.if-not-begins_with_blank.true)
 
 pub overflow_add-result : goal.overflow_add-result
 unfolding overlay_of
@@ -13,13 +18,9 @@ overflow_add-result c =
 pub returns : goal.returns
 unfolding overlay_of
 returns c =
-    let o = overlay_of c.args.self.now in
-    blanks_are o c.args.text.now c.behind-rest.result.now c.args.place c.info-space.result c.run_up_to.result.characters c.run_up_to.result.bytes c.requires c.behind-rest.ensures
-    c.info-space.ensures.info c.run_up_to.ensures.characters c.run_up_to.ensures.bytes
-
-pub info-space-requires : goal.info-space-requires
-unfolding overlay_of
-info-space-requires c = is_system c.args.self.now
+    let d = c.args.self.now in
+    blanks_are (overlay_of d) c.args.text.now c.behind-rest.result.now c.args.place d.space c.run_up_to.result.characters c.run_up_to.result.bytes c.requires c.behind-rest.ensures
+    (space_of d) c.run_up_to.ensures.characters c.run_up_to.ensures.bytes
 
 pub run_up_to-requires : goal.run_up_to-requires
 unfolding overlay_of

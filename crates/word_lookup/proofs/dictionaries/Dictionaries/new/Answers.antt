@@ -1,7 +1,9 @@
-use Rattle.std.proofs.Common.{sym, ◌∙◌, map}
+use Rattle.std.proofs.Common.{sym, ap, ◌∙◌, map}
 use Rattle.std.specs.Prelude.{None}
 use Rattle.std.proofs.lemmas.Result.{err_from_is_err_and}
 use Rattle.image_bytes.specs.ImageMeaning.{image_tables}
+use Rattle.mj_model.specs.declared.category.CharInfo.{CharInfo}
+use Rattle.word_lookup.proofs.DictionaryLaws.{system_by}
 use Rattle.word_lookup.proofs.UserLemmas.{no_user_fault, overlay_found, overlay_is}
 use Rattle.word_lookup.specs.Overlays.{overlay_of}
 use Rattle.word_lookup.proofs.dictionaries.Dictionaries.new.Goals as goal
@@ -18,7 +20,12 @@ unfolding overlay_of
 invariant_of-result c = record {
   fitting = overlay_is (image_tables c.args.system.now) (map image_tables c.args.users.now) c.matrix_sizes.result (sym c.is_user.ensures.kind ∙ c.if-is_user.false) c.matrix_sizes.ensures.fitting
       c.matrix_sizes.ensures.sizes c.in_ok-check_users.ensures.accepted;
+  space_is = record { bits = ap (λ (i : CharInfo). i.bits) c.info.ensures.info; head = ap (λ (i : CharInfo). i.head) c.info.ensures.info };
 }
+
+pub info-requires : goal.info-requires
+unfolding overlay_of
+info-requires c = system_by _ (sym c.is_user.ensures.kind ∙ c.if-is_user.false)
 
 pub returns-clause-accepted : goal.returns-clause-accepted
 unfolding overlay_of
