@@ -2,12 +2,20 @@
 
        cc cut.c $(pkg-config --cflags --libs kumquatsieve) -o cut
        ./cut ipadic.img [wakati] < text */
-#define _GNU_SOURCE
+#define _POSIX_C_SOURCE 200809L
 #include <kumquatsieve.h>
 #include <stdio.h>
 #include <stdlib.h>
 #include <string.h>
-#include <sys/types.h>
+#include <unistd.h>
+
+enum { PIECE = 1 << 16 };
+
+/* Bytes in memory that grows. */
+struct bytes {
+    uint8_t *at;
+    size_t length, room;
+};
 
 /* A whole file, or NULL. */
 static uint8_t *read_file(const char *path, size_t *length) {
@@ -45,26 +53,60 @@ static uint32_t set_wakati(kumquatsieve_cutter *cutter) {
     return kumquatsieve_set_format(cutter, word, 3, word, 3, word, 0, end, 2, &part, &at);
 }
 
-static uint32_t print_line(kumquatsieve_cutter *cutter, const uint8_t *line, size_t length) {
+static bool make_room(struct bytes *bytes, size_t more) {
+    if (bytes->room - bytes->length >= more) return true;
+    size_t room = 2 * bytes->room + more;
+    uint8_t *at = realloc(bytes->at, room);
+    if (!at) return false;
+    bytes->at = at;
+    bytes->room = room;
+    return true;
+}
+
+static uint32_t print_line(kumquatsieve_cutter *cutter, const uint8_t *line, size_t length, struct bytes *out) {
     size_t count = 0, printed = 0;
     int64_t total = 0;
     const uint8_t *text = NULL;
     uint32_t code = kumquatsieve_cut(cutter, line, length, &count, &total);
     if (code == KUMQUATSIEVE_OK) code = kumquatsieve_print(cutter, &text, &printed);
-    if (code == KUMQUATSIEVE_OK) fwrite(text, 1, printed, stdout);
+    if (code != KUMQUATSIEVE_OK) return code;
+    if (!make_room(out, printed)) return KUMQUATSIEVE_MEMORY;
+    memcpy(out->at + out->length, text, printed);
+    out->length += printed;
+    return KUMQUATSIEVE_OK;
+}
+
+/* Prints the lines that were read. What is behind the last line feed stays for the next piece, and is a line where none comes. */
+static uint32_t print_lines(kumquatsieve_cutter *cutter, struct bytes *in, bool at_end, struct bytes *out) {
+    const uint8_t *line = in->at, *end = in->at + in->length, *feed = NULL;
+    uint32_t code = KUMQUATSIEVE_OK;
+    while (code == KUMQUATSIEVE_OK && (feed = memchr(line, '\n', (size_t)(end - line)))) {
+        code = print_line(cutter, line, (size_t)(feed - line), out);
+        line = feed + 1;
+    }
+    in->length = (size_t)(end - line);
+    if (code == KUMQUATSIEVE_OK && at_end && line < end) code = print_line(cutter, line, in->length, out);
+    memmove(in->at, line, in->length);
     return code;
 }
 
-static uint32_t print_lines(kumquatsieve_cutter *cutter) {
-    char *line = NULL;
-    size_t room = 0;
-    ssize_t length = 0;
+/* Reads and writes in large pieces: a call of stdio for each line would cost more than the library's own calls do. */
+static uint32_t print_text(kumquatsieve_cutter *cutter) {
+    struct bytes in = {NULL, 0, 0}, out = {NULL, 0, 0};
     uint32_t code = KUMQUATSIEVE_OK;
-    while (code == KUMQUATSIEVE_OK && (length = getline(&line, &room, stdin)) >= 0) {
-        if (length > 0 && line[length - 1] == '\n') length--;
-        code = print_line(cutter, (const uint8_t *)line, (size_t)length);
+    ssize_t got = 1;
+    while (code == KUMQUATSIEVE_OK && got > 0) {
+        code = KUMQUATSIEVE_MEMORY;
+        if (!make_room(&in, PIECE)) break;
+        got = read(STDIN_FILENO, in.at + in.length, PIECE);
+        in.length += got > 0 ? (size_t)got : 0;
+        code = print_lines(cutter, &in, got <= 0, &out);
+        if (out.length > 0) fwrite(out.at, 1, out.length, stdout);
+        fflush(stdout);
+        out.length = 0;
     }
-    free(line);
+    free(in.at);
+    free(out.at);
     return code;
 }
 
@@ -85,7 +127,7 @@ int main(int count, char **words) {
     }
     uint32_t code = load(&cutter, words[1]);
     if (code == KUMQUATSIEVE_OK && count > 2 && strcmp(words[2], "wakati") == 0) code = set_wakati(&cutter);
-    if (code == KUMQUATSIEVE_OK) code = print_lines(&cutter);
+    if (code == KUMQUATSIEVE_OK) code = print_text(&cutter);
     kumquatsieve_free(&cutter);
     return report(code);
 }

@@ -1,8 +1,7 @@
 pub mod SlotValues
 pub mod PassedTypes
 pub mod BoxCalls
-pub mod CallLemmas
-pub mod HandleLemmas
+pub mod CalledLemmas
 pub mod SettingLemmas
 pub mod TextLemmas
 pub mod FillLemmas

@@ -5,7 +5,7 @@ use Rattle.std.proofs.lemmas.List.Elements.{All-cons, All-nil}
 use Rattle.std.specs.Str.{IsValidUpTo}
 use Rattle.cutter.specs.declared.fault.CutFault.{CutFault}
 use Rattle.cutter.specs.declared.fault.CutFault.TheVariants as cut
-use Rattle.cutter_c.specs.Calls.{IsNoText, IsRefusedAt}
+use Rattle.cutter_c.specs.Settings.{IsNoText, IsRefusedAt}
 
 -- bytes that are no text have one fault
 is_not_utf8 : (bytes : List ℕ) (fault : CutFault) → IsNoText bytes fault → fault ≡ cut.NotUtf8

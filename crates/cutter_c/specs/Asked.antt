@@ -1,5 +1,5 @@
 -- What is asked of the path that was cut last, and how it is told in a buffer.
-use Rattle.std.specs.Prelude.{◌≡◌, ℕ, ◌<◌, List, ◌++◌, length, drop, slice_get, Option, Some, None}
+use Rattle.std.specs.Prelude.{◌≡◌, ◌≢◌, ℕ, ◌<◌, List, ◌++◌, length, drop, slice_get, Option, Some, None}
 use Rattle.std.specs.Option.{IsSomeAnd}
 use Rattle.mj_model.specs.declared.word.Word.{Word}
 use Rattle.mj_model.specs.Printed.{feature_of}
@@ -8,6 +8,7 @@ use Rattle.cutter.specs.declared.fault.CutFault.{CutFault}
 use Rattle.cutter.specs.Faults.{IsFeatureRefusal, IsPrintRefusal}
 use Rattle.cutter_c.specs.declared.fault.CallFault.{CallFault}
 use Rattle.cutter_c.specs.declared.fault.CallFault.TheVariants as call
+use Rattle.cutter_c.specs.Handles.{TellsCall}
 use Rattle.cutter_c.specs.declared.telling.Asked.{Asked}
 use Rattle.cutter_c.specs.declared.telling.Asked.TheVariants.{Path, Feature}
 
@@ -58,3 +59,10 @@ IsCopyRefusal asked needed room h fault = ⊥
 abbrev pub IsCopyFault : Option Held → Asked → ℕ → ℕ → CallFault → Type 0
 IsCopyFault None asked needed room fault = fault ≡ call.EmptyCutter
 IsCopyFault (Some h) asked needed room fault = IsCopyRefusal asked needed room h fault
+
+-- C is told by 0 that what is asked was copied into its buffer, or else why it is as it was; the cutter stays
+pub record TellsCopied (old new : Option Held) (asked : Asked) (needed : ℕ) (out_old out_new : List ℕ) (code : ℕ) : Type 0 where
+  pub written : code ≡ 0 → IsSomeAnd old (λ h. IsWritten (IsTold asked h) needed out_old out_new)
+  pub refused : code ≢ 0 → TellsCall (IsCopyFault old asked needed (length out_old)) code
+  pub kept : code ≢ 0 → out_new ≡ out_old
+  pub cutter : new ≡ old

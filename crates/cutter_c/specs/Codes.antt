@@ -88,6 +88,11 @@ cut_number (cut.Image fault) number = image_number fault number
 cut_number (cut.Overlay fault) number = overlay_number fault number
 cut_number fault number = number
 
+abbrev pub call_number : CallFault → ℕ → ℕ
+call_number (call.Cut fault) number = cut_number fault number
+call_number fault number = number
+
+-- the number of an answer's fault
 abbrev pub told_number : {T : Type 0} → Result T CallFault → ℕ → ℕ
-told_number (Err (call.Cut fault)) number = cut_number fault number
-told_number answer number = number
+told_number (Ok x) number = number
+told_number (Err fault) number = call_number fault number

@@ -1,15 +1,16 @@
 //! What C calls. Each export tells the answer of a call as a code.
 
 ghost use Rattle.std.specs.Prelude.{◌≡◌, ◌≢◌, None};
-ghost use Rattle.std.specs.Option.{IsSomeAnd};
-ghost use Rattle.cutter.specs.Cutters.{IsLoaded};
-ghost use Rattle.cutter.specs.Faults.{IsGroupingRefusal, IsImage, IsLineRefusal, IsLoadRefusal, IsTextRefusal};
-ghost use Rattle.cutter_c.specs.Calls.{IsCutInto, IsExtended, IsRefusedAt, IsRegrouped, IsShared, IsUserFault, SetsFormat, texts_in};
-ghost use Rattle.cutter_c.specs.Handles.{Moves, TellsLoad, TellsNotShared, TellsRefusal, cutter_in};
+ghost use Rattle.cutter.specs.Faults.{IsGroupingRefusal, IsLineRefusal, IsLoadRefusal, IsTextRefusal};
+ghost use Rattle.cutter_c.specs.Calls.{IsCutInto, IsExtended, IsLoadedFrom, IsShared, IsUserFault, size_told};
+ghost use Rattle.cutter_c.specs.Handles.{Fills, FillsFrom, IsFillRefusal, IsRefusal, IsShareRefusal, Moves, TellsCall, TellsChange, TellsNumbered, cutter_in};
+ghost use Rattle.cutter_c.specs.Settings.{IsRefusedAt, IsRegrouped, SetsFormat, texts_in};
 
 use crate::codes::{code_told, told};
+use crate::cutting::told_size;
 use crate::handle::Handle;
-use crate::{cutting, loading, settings};
+use crate::settings::Texts;
+use crate::{loading, settings};
 use std::alloc::Global;
 
 /// Fills an empty handle with the cutter of a system's image. `number` is set where a fault has one.
@@ -20,10 +21,11 @@ pub extern "C" fn kumquatsieve_load(
     image: &[u8],
     number: &mut u64,
 ) -> u32
-    ensures loaded { (result ≡ 0) → IsSomeAnd (cutter_in cutter.new) (IsLoaded image.now) }
-    ensures accepted { (result ≡ 0) → IsImage image.now }
-    ensures refused { (result ≢ 0)
-        → TellsLoad (cutter_in cutter.old) (IsLoadRefusal image.now) result }
+    ensures loaded { (result ≡ 0)
+        → Fills (cutter_in cutter.old) (cutter_in cutter.new) (IsLoadedFrom image.now) }
+    ensures refused { (result ≢ 0) → TellsNumbered
+        (IsFillRefusal (cutter_in cutter.old) (IsLoadRefusal image.now))
+        number.old number.new result }
     ensures kept { (result ≢ 0) → cutter_in cutter.new ≡ cutter_in cutter.old }
 {
     told(loading::load(alloc, cutter, image), number)
@@ -39,22 +41,23 @@ pub extern "C" fn kumquatsieve_add_user(
 ) -> u32
     ensures added { (result ≡ 0)
         → Moves (cutter_in cutter.old) (cutter_in cutter.new) (IsExtended image.now) }
-    ensures accepted { (result ≡ 0) → IsImage image.now }
-    ensures refused { (result ≢ 0)
-        → TellsRefusal (cutter_in cutter.old) (IsUserFault image.now) result }
+    ensures refused { (result ≢ 0) → TellsNumbered
+        (IsRefusal (cutter_in cutter.old) (IsUserFault image.now))
+        number.old number.new result }
     ensures kept { (result ≢ 0) → cutter_in cutter.new ≡ cutter_in cutter.old }
 {
-    told(loading::add_user(alloc, cutter, image), number)
+    let answer = cutter.call(alloc, |session| session.add_user(alloc, image));
+    told(answer, number)
 }
 
 /// Fills an empty handle with a cutter over the dictionaries of another one's.
 #[unsafe(no_mangle)]
 pub extern "C" fn kumquatsieve_share(alloc: Global, cutter: &mut Handle, other: &mut Handle) -> u32
     ensures shared { (result ≡ 0)
-        → Moves (cutter_in other.old) (cutter_in cutter.new) IsShared }
+        → FillsFrom (cutter_in cutter.old) (cutter_in other.old) (cutter_in cutter.new) IsShared }
     ensures other { cutter_in other.new ≡ cutter_in other.old }
-    ensures refused { (result ≢ 0)
-        → TellsNotShared (cutter_in cutter.old) (cutter_in other.old) result }
+    ensures refused { (result ≢ 0) → TellsCall
+        (IsShareRefusal (cutter_in cutter.old) (cutter_in other.old)) result }
     ensures kept { (result ≢ 0) → cutter_in cutter.new ≡ cutter_in cutter.old }
 {
     code_told(loading::share(alloc, cutter, other))
@@ -72,13 +75,17 @@ pub extern "C" fn kumquatsieve_set_format(
     part: &mut u32,
     at: &mut usize,
 ) -> u32
-    ensures read { (result ≡ 0) → Moves (cutter_in cutter.old) (cutter_in cutter.new)
-        (SetsFormat (texts_in node.now unk.now bos.now eos.now)) }
-    ensures refused { (result ≢ 0) → TellsRefusal (cutter_in cutter.old)
+    ensures { TellsChange (cutter_in cutter.old) (cutter_in cutter.new)
+        (SetsFormat (texts_in node.now unk.now bos.now eos.now))
         (λ _. IsRefusedAt node.now unk.now bos.now eos.now part.new at.new) result }
-    ensures kept { (result ≢ 0) → cutter_in cutter.new ≡ cutter_in cutter.old }
 {
-    code_told(settings::set_format(alloc, cutter, node, unk, bos, eos, part, at))
+    let texts = Texts {
+        node,
+        unk,
+        bos,
+        eos,
+    };
+    code_told(settings::set_format(alloc, cutter, texts, part, at))
 }
 
 /// Sets how many characters may follow the first one of a grouped unknown word.
@@ -88,13 +95,10 @@ pub extern "C" fn kumquatsieve_set_grouping(
     cutter: &mut Handle,
     grouping: u32,
 ) -> u32
-    ensures set { (result ≡ 0)
-        → Moves (cutter_in cutter.old) (cutter_in cutter.new) (IsRegrouped grouping) }
-    ensures refused { (result ≢ 0)
-        → TellsRefusal (cutter_in cutter.old) (λ _. IsGroupingRefusal grouping) result }
-    ensures kept { (result ≢ 0) → cutter_in cutter.new ≡ cutter_in cutter.old }
+    ensures { TellsChange (cutter_in cutter.old) (cutter_in cutter.new)
+        (IsRegrouped grouping) (λ _. IsGroupingRefusal grouping) result }
 {
-    code_told(settings::set_grouping(alloc, cutter, grouping))
+    code_told(cutter.call(alloc, |session| session.set_grouping(grouping)))
 }
 
 /// Cuts a line, which has no LF: `count` is the number of its words, and `total` what its path costs.
@@ -106,13 +110,11 @@ pub extern "C" fn kumquatsieve_cut(
     count: &mut usize,
     total: &mut i64,
 ) -> u32
-    ensures cut { (result ≡ 0) → Moves (cutter_in cutter.old) (cutter_in cutter.new)
-        (IsCutInto line.now count.new total.new) }
-    ensures refused { (result ≢ 0)
-        → TellsRefusal (cutter_in cutter.old) (λ _. IsLineRefusal line.now) result }
-    ensures kept { (result ≢ 0) → cutter_in cutter.new ≡ cutter_in cutter.old }
+    ensures { TellsChange (cutter_in cutter.old) (cutter_in cutter.new)
+        (IsCutInto line.now (size_told count.new total.new)) (λ _. IsLineRefusal line.now) result }
 {
-    code_told(cutting::cut(alloc, cutter, line, count, total))
+    let answer = cutter.call(alloc, |session| session.cut(line));
+    told_size(answer, count, total)
 }
 
 /// The same of a text in which an LF is a character as others are.
@@ -124,13 +126,11 @@ pub extern "C" fn kumquatsieve_cut_text(
     count: &mut usize,
     total: &mut i64,
 ) -> u32
-    ensures cut { (result ≡ 0) → Moves (cutter_in cutter.old) (cutter_in cutter.new)
-        (IsCutInto text.now count.new total.new) }
-    ensures refused { (result ≢ 0)
-        → TellsRefusal (cutter_in cutter.old) (λ _. IsTextRefusal text.now) result }
-    ensures kept { (result ≢ 0) → cutter_in cutter.new ≡ cutter_in cutter.old }
+    ensures { TellsChange (cutter_in cutter.old) (cutter_in cutter.new)
+        (IsCutInto text.now (size_told count.new total.new)) (λ _. IsTextRefusal text.now) result }
 {
-    code_told(cutting::cut_text(alloc, cutter, text, count, total))
+    let answer = cutter.call(alloc, |session| session.cut_text(text));
+    told_size(answer, count, total)
 }
 
 /// Gives back what a handle has, which is empty then.

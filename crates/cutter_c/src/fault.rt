@@ -1,7 +1,6 @@
 //! Why a call of C's is refused.
 
 use cutter::CutFault;
-use std::alloc::{AllocError, AllocFailed};
 
 /// Why a call of C's is refused: by the cutter, or for what C passed.
 #[derive(Clone, Copy, Debug, PartialEq, Eq, Drop)]
@@ -24,29 +23,5 @@ impl From<CutFault> for CallFault {
 
     fn from(fault: CutFault) -> CallFault {
         CallFault::Cut(fault)
-    }
-}
-
-impl From<AllocError> for CallFault {
-    ghost use Rattle.std.specs.Prelude.{◌≡◌};
-    ghost use Rattle.cutter.specs.declared.fault.CutFault.TheVariants.{Memory};
-    ghost use Rattle.cutter_c.specs.declared.fault.CallFault.TheVariants.{Cut};
-
-    ghost from_gives = { λ _ told. told ≡ Cut Memory };
-
-    fn from(_refused: AllocError) -> CallFault {
-        CallFault::Cut(CutFault::Memory)
-    }
-}
-
-impl<T: Drop> From<AllocFailed<T>> for CallFault {
-    ghost use Rattle.std.specs.Prelude.{◌≡◌};
-    ghost use Rattle.cutter.specs.declared.fault.CutFault.TheVariants.{Memory};
-    ghost use Rattle.cutter_c.specs.declared.fault.CallFault.TheVariants.{Cut};
-
-    ghost from_gives = { λ _ told. told ≡ Cut Memory };
-
-    fn from(_refused: AllocFailed<T>) -> CallFault {
-        CallFault::Cut(CutFault::Memory)
     }
 }

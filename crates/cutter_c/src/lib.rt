@@ -1,6 +1,7 @@
 //! The cutter for C: exports over a handle that owns what C holds.
 #![tactic(auto)]
 
+mod calling;
 mod codes;
 mod cutting;
 mod exports;

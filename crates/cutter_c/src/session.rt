@@ -1,13 +1,12 @@
 //! What C holds of a cutter.
 
-ghost use Rattle.std.specs.Prelude.{◌≡◌, [], None, IfOk, IfErr, OnOk, OnErr};
-ghost use Rattle.cutter.specs.Cutters.{IsLoaded};
-ghost use Rattle.cutter.specs.Faults.{IsImage, IsLoadRefusal};
-ghost use Rattle.cutter_c.specs.Calls.{IsExtended, IsUserFault};
-ghost use Rattle.word_lookup.specs.Overlays.{fault_of_images};
+ghost use Rattle.std.specs.Prelude.{◌≡◌, None, IfOk, IfErr, OnOk, OnErr};
+ghost use Rattle.cutter.specs.Faults.{IsLoadRefusal};
+ghost use Rattle.cutter.specs.declared.fault.CutFault.TheVariants.{Memory};
+ghost use Rattle.cutter_c.specs.Calls.{IsExtended, IsLoadedFrom, IsShared, IsUserFault};
 
 use cutter::{CutFault, Cutter};
-use std::alloc::{AllocError, Global};
+use std::alloc::Global;
 
 /// A cutter, and what was written last into its own buffer.
 #[derive(Drop)]
@@ -18,37 +17,38 @@ pub struct Session {
 
 impl Session {
     /// The session of a system's image, which is copied.
-    pub fn load(alloc: Global, image: &[u8]) -> Result<Session, CutFault>
-        ensures loaded { IfOk result (λ session. IsLoaded image.now session.cutter) }
-        ensures accepted { OnOk result (IsImage image.now) }
-        ensures fits { OnOk result (fault_of_images image.now [] ≡ None) }
+    pub fn load(alloc: Global, image: &[u8]) -> Result<Box<Session>, CutFault>
+        ensures loaded { IfOk result (λ session. IsLoadedFrom image.now session.value.cutter) }
         ensures refused { IfErr result (IsLoadRefusal image.now) }
     {
         let image = Vec::from_slice(alloc, image)?;
-        Ok(Session {
-            cutter: Cutter::load(alloc, image)?,
-            output: Vec::new(alloc),
-        })
+        Session::of(alloc, Cutter::load(alloc, image)?)
+    }
+
+    /// The session of a cutter.
+    fn of(alloc: Global, cutter: Cutter) -> Result<Box<Session>, CutFault>
+        ensures of { IfOk result (λ session. session.value.cutter ≡ cutter) }
+        ensures refused { IfErr result (λ fault. fault ≡ Memory) }
+    {
+        let output = Vec::new(alloc);
+        Ok(Box::new(alloc, Session { cutter, output })?)
+    }
+
+    /// Another session over the same dictionaries.
+    pub fn share(&self, alloc: Global) -> Result<Box<Session>, CutFault>
+        ensures shared { IfOk result (λ other. IsShared self.now.cutter other.value.cutter) }
+        ensures refused { IfErr result (λ fault. fault ≡ Memory) }
+    {
+        Session::of(alloc, self.cutter.share()?)
     }
 
     /// Lays a user's image, which is copied, over the dictionaries.
     pub fn add_user(&mut self, alloc: Global, image: &[u8]) -> Result<(), CutFault>
         ensures added { OnOk result (IsExtended image.now self.old.cutter self.new.cutter) }
-        ensures accepted { OnOk result (IsImage image.now) }
         ensures refused { IfErr result (IsUserFault image.now self.old.cutter) }
         ensures kept { OnErr result (self.new.cutter ≡ self.old.cutter) }
     {
         let image = Vec::from_slice(alloc, image)?;
         self.cutter.add_user(image)
-    }
-
-    /// Another session over the same dictionaries.
-    pub fn share(&self, alloc: Global) -> Result<Session, AllocError>
-        ensures { IfOk result (λ other. other.cutter ≡ record self.now.cutter { cut = None }) }
-    {
-        Ok(Session {
-            cutter: self.cutter.share()?,
-            output: Vec::new(alloc),
-        })
     }
 }

@@ -3,12 +3,12 @@
 ghost use Rattle.std.specs.Prelude.{◌≡◌, IsUtf8, IfOk, IfErr, OnErr, OnOk};
 ghost use Rattle.std.specs.Str.{IsValidUpTo};
 ghost use Rattle.cutter.specs.Faults.{IsGroupingRefusal};
-ghost use Rattle.cutter_c.specs.Calls.{IsNoText, IsRefusedAt, IsRegrouped, SetsFormat, part_number, texts_in};
-ghost use Rattle.cutter_c.specs.Codes.{call_code};
-ghost use Rattle.cutter_c.specs.Handles.{Moves, TellsRefusal, cutter_in};
+ghost use Rattle.cutter_c.specs.Handles.{IsRefusal, Moves, cutter_in};
+ghost use Rattle.cutter_c.specs.Settings.{IsNoText, IsRefusedIn, IsRegrouped, SetsFormat, part_number, texts_lent};
 
 use crate::fault::CallFault;
 use crate::handle::Handle;
+use crate::session::Session;
 use cutter::{CutFault, Cutter};
 use mj_model::{FormatFault, FormatPart};
 use std::alloc::Global;
@@ -49,26 +49,31 @@ fn text_of<'a>(
     }
 }
 
-/// Sets the format by the bytes of its four texts; of a refused one the number and a byte are told.
+/// The bytes of a format's four texts.
+#[derive(Clone, Copy)]
+pub struct Texts<'a> {
+    pub node: &'a [u8],
+    pub unk: &'a [u8],
+    pub bos: &'a [u8],
+    pub eos: &'a [u8],
+}
+
+/// Sets the format by its four texts; of a refused one the number and a byte are told.
 #[tactic(auto, using(crate::proofs::SettingLemmas::third_refused, crate::proofs::SettingLemmas::fourth_refused))]
 fn set_texts(
     cutter: &mut Cutter,
-    node: &[u8],
-    unk: &[u8],
-    bos: &[u8],
-    eos: &[u8],
+    texts: Texts<'_>,
     part: &mut u32,
     at: &mut usize,
 ) -> Result<(), CutFault>
-    ensures read { OnOk result (SetsFormat (texts_in node.now unk.now bos.now eos.now)
-        cutter.old cutter.new) }
-    ensures refused { IfErr result (IsRefusedAt node.now unk.now bos.now eos.now part.new at.new) }
+    ensures read { OnOk result (SetsFormat (texts_lent texts.entry) cutter.old cutter.new) }
+    ensures refused { IfErr result (IsRefusedIn texts.entry part.new at.new) }
     ensures kept { OnErr result (cutter.new ≡ cutter.old) }
 {
-    let node = text_of(node, 0, part, at)?;
-    let unk = text_of(unk, 1, part, at)?;
-    let bos = text_of(bos, 2, part, at)?;
-    let eos = text_of(eos, 3, part, at)?;
+    let node = text_of(texts.node, 0, part, at)?;
+    let unk = text_of(texts.unk, 1, part, at)?;
+    let bos = text_of(texts.bos, 2, part, at)?;
+    let eos = text_of(texts.eos, 3, part, at)?;
     let answer = cutter.set_format(node, Some(unk), bos, eos);
     if let Err(
         CutFault::Format(
@@ -90,53 +95,32 @@ fn set_texts(
 pub fn set_format(
     alloc: Global,
     cutter: &mut Handle,
-    node: &[u8],
-    unk: &[u8],
-    bos: &[u8],
-    eos: &[u8],
+    texts: Texts<'_>,
     part: &mut u32,
     at: &mut usize,
 ) -> Result<(), CallFault>
     ensures read { OnOk result (Moves (cutter_in cutter.old) (cutter_in cutter.new)
-        (SetsFormat (texts_in node.now unk.now bos.now eos.now))) }
-    ensures refused { IfErr result (λ fault. TellsRefusal (cutter_in cutter.old)
-        (λ _. IsRefusedAt node.now unk.now bos.now eos.now part.new at.new) (call_code fault)) }
+        (SetsFormat (texts_lent texts.entry))) }
+    ensures refused { IfErr result (IsRefusal (cutter_in cutter.old)
+        (λ _. IsRefusedIn texts.entry part.new at.new)) }
     ensures kept { OnErr result (cutter_in cutter.new ≡ cutter_in cutter.old) }
 {
-    let Some(mut session) = cutter.take(alloc) else {
-        return Err(CallFault::EmptyCutter);
-    };
-    let answer = set_texts(&mut session.cutter, node, unk, bos, eos, part, at);
+    let mut session = cutter.take(alloc).ok_or(CallFault::EmptyCutter)?;
+    let answer = set_texts(&mut session.cutter, texts, part, at);
     cutter.put(session);
-    answer?;
-    Ok(())
+    Ok(answer?)
 }
 
-/// Sets the grouping, of any 32 bits.
-fn regroup(cutter: &mut Cutter, grouping: u32) -> Result<(), CutFault>
-    ensures set { OnOk result (IsRegrouped grouping cutter.old cutter.new) }
-    ensures refused { IfErr result (IsGroupingRefusal grouping) }
-    ensures kept { OnErr result (cutter.new ≡ cutter.old) }
-{
-    let Ok(grouping) = u16::try_from(grouping) else {
-        return Err(CutFault::BadGrouping);
-    };
-    cutter.set_grouping(grouping)
-}
-
-/// Sets the grouping of a handle's cutter.
-pub fn set_grouping(alloc: Global, cutter: &mut Handle, grouping: u32) -> Result<(), CallFault>
-    ensures set { OnOk result (Moves (cutter_in cutter.old) (cutter_in cutter.new)
-        (IsRegrouped grouping)) }
-    ensures refused { IfErr result (λ fault. TellsRefusal (cutter_in cutter.old)
-        (λ _. IsGroupingRefusal grouping) (call_code fault)) }
-    ensures kept { OnErr result (cutter_in cutter.new ≡ cutter_in cutter.old) }
-{
-    let Some(mut session) = cutter.take(alloc) else {
-        return Err(CallFault::EmptyCutter);
-    };
-    let answer = regroup(&mut session.cutter, grouping);
-    cutter.put(session);
-    answer?;
-    Ok(())
+impl Session {
+    /// Sets the grouping, of any 32 bits.
+    pub fn set_grouping(&mut self, grouping: u32) -> Result<(), CutFault>
+        ensures set { OnOk result (IsRegrouped grouping self.old.cutter self.new.cutter) }
+        ensures refused { IfErr result (IsGroupingRefusal grouping) }
+        ensures kept { OnErr result (self.new.cutter ≡ self.old.cutter) }
+    {
+        let Ok(grouping) = u16::try_from(grouping) else {
+            return Err(CutFault::BadGrouping);
+        };
+        self.cutter.set_grouping(grouping)
+    }
 }

@@ -4,15 +4,15 @@ ghost use Rattle.std.specs.Prelude.{◌≡◌, ◌≢◌, length};
 ghost use Rattle.std.specs.Option.{IsSomeAnd};
 ghost use Rattle.cutter.specs.Cutters.{OfCut};
 ghost use Rattle.cutter.specs.Faults.{IsNothingCut};
-ghost use Rattle.cutter_c.specs.Asked.{IsAskedRefusal, IsCopied, IsCopyFault, IsTold, IsWritten, NeedsMore};
+ghost use Rattle.cutter_c.specs.Asked.{IsAskedRefusal, IsCopied, IsTold, NeedsMore, TellsCopied};
 ghost use Rattle.cutter_c.specs.declared.telling.Asked.TheVariants.{Feature as FeatureOf, Path as PathText};
-ghost use Rattle.cutter_c.specs.Handles.{Lends, Moves, TellsCall, TellsRefusal, cutter_in};
+ghost use Rattle.cutter_c.specs.Handles.{IsRefusal, TellsCall, TellsLent, cutter_in, lent_at};
 ghost use Rattle.cutter_c.specs.Texts.{text_at};
 ghost use Rattle.cutter_c.specs.Words.{AreTold};
 
 use crate::codes::code_told;
 use crate::handle::Handle;
-use crate::telling::{Asked, copy, copy_to, tell};
+use crate::telling::{Asked, copy, copy_to, told_lent};
 use crate::texts::text_of_code;
 use crate::words::{CWord, words};
 use std::alloc::Global;
@@ -25,12 +25,11 @@ pub extern "C" fn kumquatsieve_print(
     text: &mut *const u8,
     count: &mut usize,
 ) -> u32
-    ensures told { (result ≡ 0) → Lends (IsTold PathText) text.new count.new cutter.new }
-    ensures cutter { cutter_in cutter.new ≡ cutter_in cutter.old }
-    ensures refused { (result ≢ 0)
-        → TellsRefusal (cutter_in cutter.old) (IsAskedRefusal PathText) result }
+    ensures { TellsLent cutter.old.slot.value cutter.new.slot.value
+        (IsTold PathText) (IsAskedRefusal PathText) (lent_at text.new count.new) result }
 {
-    code_told(tell(alloc, cutter, Asked::Path, text, count))
+    let answer = cutter.call(alloc, |session| session.lend(Asked::Path));
+    told_lent(answer, text, count)
 }
 
 /// The feature of a word that was cut last, by the word's number from 0. It stays until the next call with this handle.
@@ -42,13 +41,12 @@ pub extern "C" fn kumquatsieve_feature(
     feature: &mut *const u8,
     count: &mut usize,
 ) -> u32
-    ensures told { (result ≡ 0)
-        → Lends (IsTold (FeatureOf number)) feature.new count.new cutter.new }
-    ensures cutter { cutter_in cutter.new ≡ cutter_in cutter.old }
-    ensures refused { (result ≢ 0)
-        → TellsRefusal (cutter_in cutter.old) (IsAskedRefusal (FeatureOf number)) result }
+    ensures { TellsLent cutter.old.slot.value cutter.new.slot.value
+        (IsTold (FeatureOf number)) (IsAskedRefusal (FeatureOf number))
+        (lent_at feature.new count.new) result }
 {
-    code_told(tell(alloc, cutter, Asked::Feature(number), feature, count))
+    let answer = cutter.call(alloc, |session| session.lend(Asked::Feature(number)));
+    told_lent(answer, feature, count)
 }
 
 /// The text of the path in a buffer of C's. `needed` is its length, also where the buffer is too short.
@@ -59,12 +57,8 @@ pub extern "C" fn kumquatsieve_copy_print(
     out: &mut [u8],
     needed: &mut usize,
 ) -> u32
-    ensures written { (result ≡ 0) → IsSomeAnd (cutter_in cutter.old)
-        (λ h. IsWritten (IsTold PathText h) needed.new out.old out.new) }
-    ensures cutter { cutter_in cutter.new ≡ cutter_in cutter.old }
-    ensures refused { (result ≢ 0) → TellsCall
-        (IsCopyFault (cutter_in cutter.old) PathText needed.new (length out.old)) result }
-    ensures kept { (result ≢ 0) → out.new ≡ out.old }
+    ensures { TellsCopied (cutter_in cutter.old) (cutter_in cutter.new)
+        PathText needed.new out.old out.new result }
 {
     code_told(copy(alloc, cutter, Asked::Path, out, needed))
 }
@@ -78,12 +72,8 @@ pub extern "C" fn kumquatsieve_copy_feature(
     out: &mut [u8],
     needed: &mut usize,
 ) -> u32
-    ensures written { (result ≡ 0) → IsSomeAnd (cutter_in cutter.old)
-        (λ h. IsWritten (IsTold (FeatureOf number) h) needed.new out.old out.new) }
-    ensures cutter { cutter_in cutter.new ≡ cutter_in cutter.old }
-    ensures refused { (result ≢ 0) → TellsCall
-        (IsCopyFault (cutter_in cutter.old) (FeatureOf number) needed.new (length out.old)) result }
-    ensures kept { (result ≢ 0) → out.new ≡ out.old }
+    ensures { TellsCopied (cutter_in cutter.old) (cutter_in cutter.new)
+        (FeatureOf number) needed.new out.old out.new result }
 {
     code_told(copy(alloc, cutter, Asked::Feature(number), out, needed))
 }
@@ -97,10 +87,11 @@ pub extern "C" fn kumquatsieve_words(
     out: &mut [CWord],
     count: &mut usize,
 ) -> u32
-    ensures told { (result ≡ 0) → Moves (cutter_in cutter.old) (cutter_in cutter.new)
-        (λ h _. OfCut h (AreTold h first count.new out.old out.new)) }
+    ensures told { (result ≡ 0) → IsSomeAnd (cutter_in cutter.old)
+        (λ h. OfCut h (AreTold h first count.new out.old out.new)) }
     ensures cutter { cutter_in cutter.new ≡ cutter_in cutter.old }
-    ensures refused { (result ≢ 0) → TellsRefusal (cutter_in cutter.old) IsNothingCut result }
+    ensures refused { (result ≢ 0)
+        → TellsCall (IsRefusal (cutter_in cutter.old) IsNothingCut) result }
     ensures kept { (result ≢ 0) → out.new ≡ out.old }
 {
     code_told(words(alloc, cutter, first, out, count))

@@ -1,12 +1,12 @@
 //! What is asked of the path that was cut last, told in the cutter's own buffer or in a buffer of C's.
 
-ghost use Rattle.std.specs.Prelude.{◌≡◌, length, OnErr, OnOk, IfErr};
+ghost use Rattle.std.specs.Prelude.{◌≡◌, length, OnErr, OnOk, IfOk, IfErr};
 ghost use Rattle.std.specs.Option.{IsSomeAnd};
-ghost use Rattle.std_alloc.specs.Vec.{vec_ptr};
 ghost use Rattle.cutter_c.specs.Asked.{IsAskedRefusal, IsCopied, IsCopyFault, IsCopyRefusal, IsTold, IsWritten, NeedsMore};
-ghost use Rattle.cutter_c.specs.Codes.{call_code};
-ghost use Rattle.cutter_c.specs.Handles.{Lends, TellsRefusal, cutter_in};
+ghost use Rattle.cutter_c.specs.Codes.{told_code};
+ghost use Rattle.cutter_c.specs.Handles.{IsLent, cutter_in, lent_at};
 
+use crate::codes::{OK, code_of};
 use crate::fault::CallFault;
 use crate::handle::Handle;
 use crate::session::Session;
@@ -20,6 +20,13 @@ pub enum Asked {
     Path,
     /// The feature of a word, by the word's number from 0.
     Feature(usize),
+}
+
+/// Bytes that are lent to C: where they lie, and how many they are.
+#[derive(Clone, Copy)]
+pub struct Lent {
+    pub at: *const u8,
+    pub count: usize,
 }
 
 /// Copies bytes into a buffer, and tells how many they are.
@@ -64,39 +71,38 @@ impl Session {
         copy_to(&self.output, out, needed)
     }
 
-    /// Tells where the buffer lies.
-    fn lend(&self, at: &mut *const u8, count: &mut usize)
-        ensures place { at.new ≡ vec_ptr self.now.output }
-        ensures all { count.new ≡ length self.now.output.items }
+    /// Puts into the buffer what is asked, and lends it.
+    pub fn lend(&mut self, asked: Asked) -> Result<Lent, CutFault>
+        ensures lent { IfOk result (λ lent. IsLent (IsTold asked) lent self.new) }
+        ensures refused { IfErr result (IsAskedRefusal asked self.old.cutter) }
+        ensures cutter { self.new.cutter ≡ self.old.cutter }
     {
-        *at = self.output.as_ptr();
-        *count = self.output.len();
+        self.tell(asked)?;
+        Ok(Lent {
+            at: self.output.as_ptr(),
+            count: self.output.len(),
+        })
     }
 }
 
-/// Puts into the cutter's own buffer what is asked, and tells where it lies.
-pub fn tell(
-    alloc: Global,
-    cutter: &mut Handle,
-    asked: Asked,
-    at: &mut *const u8,
-    count: &mut usize,
-) -> Result<(), CallFault>
-    ensures told { OnOk result (Lends (IsTold asked) at.new count.new cutter.new) }
-    ensures cutter { cutter_in cutter.new ≡ cutter_in cutter.old }
-    ensures refused { IfErr result (λ fault.
-        TellsRefusal (cutter_in cutter.old) (IsAskedRefusal asked) (call_code fault)) }
+/// The code of an answer. Where bytes are lent their place is told, and how many they are.
+pub fn told_lent(answer: Result<Lent, CallFault>, at: &mut *const u8, count: &mut usize) -> u32
+    ensures code { result ≡ told_code answer }
+    ensures place { IfOk answer (λ lent. lent ≡ lent_at at.new count.new) }
 {
-    let Some(mut session) = cutter.take(alloc) else {
-        return Err(CallFault::EmptyCutter);
-    };
-    let answer = session.tell(asked);
-    if answer.is_ok() {
-        session.lend(at, count);
+    match answer {
+        Ok(
+            Lent {
+                at: place,
+                count: length,
+            },
+        ) => {
+            *at = place;
+            *count = length;
+            OK
+        }
+        Err(fault) => code_of(fault),
     }
-    cutter.put(session);
-    answer?;
-    Ok(())
 }
 
 /// Puts into a buffer of C's what is asked, and tells how long it is.
@@ -114,9 +120,7 @@ pub fn copy(
         (IsCopyFault (cutter_in cutter.old) asked needed.new (length out.old)) }
     ensures kept { OnErr result (out.new ≡ out.old) }
 {
-    let Some(mut session) = cutter.take(alloc) else {
-        return Err(CallFault::EmptyCutter);
-    };
+    let mut session = cutter.take(alloc).ok_or(CallFault::EmptyCutter)?;
     let answer = session.copy(asked, out, needed);
     cutter.put(session);
     answer

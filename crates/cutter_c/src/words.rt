@@ -1,10 +1,10 @@
 //! The words of the path that was cut last, as C sees them.
 
 ghost use Rattle.std.specs.Prelude.{◌≡◌, drop, Some, slice_get, OnOk, OnErr, IfErr};
+ghost use Rattle.std.specs.Option.{IsSomeAnd};
 ghost use Rattle.cutter.specs.Cutters.{OfCut};
 ghost use Rattle.cutter.specs.Faults.{IsNothingCut};
-ghost use Rattle.cutter_c.specs.Codes.{call_code};
-ghost use Rattle.cutter_c.specs.Handles.{Moves, TellsRefusal, cutter_in};
+ghost use Rattle.cutter_c.specs.Handles.{IsRefusal, cutter_in};
 ghost use Rattle.cutter_c.specs.Words.{AreTold, c_word, c_word_in, filled};
 
 use crate::fault::CallFault;
@@ -103,18 +103,14 @@ pub fn words(
     out: &mut [CWord],
     count: &mut usize,
 ) -> Result<(), CallFault>
-    ensures told { OnOk result (Moves (cutter_in cutter.old) (cutter_in cutter.new)
-        (λ h _. OfCut h (AreTold h first count.new out.old out.new))) }
+    ensures told { OnOk result (IsSomeAnd (cutter_in cutter.old)
+        (λ h. OfCut h (AreTold h first count.new out.old out.new))) }
     ensures cutter { cutter_in cutter.new ≡ cutter_in cutter.old }
-    ensures refused { IfErr result (λ fault.
-        TellsRefusal (cutter_in cutter.old) IsNothingCut (call_code fault)) }
+    ensures refused { IfErr result (IsRefusal (cutter_in cutter.old) IsNothingCut) }
     ensures kept { OnErr result (out.new ≡ out.old) }
 {
-    let Some(session) = cutter.take(alloc) else {
-        return Err(CallFault::EmptyCutter);
-    };
+    let session = cutter.take(alloc).ok_or(CallFault::EmptyCutter)?;
     let answer = tell_words(&session.cutter, first, out, count);
     cutter.put(session);
-    answer?;
-    Ok(())
+    Ok(answer?)
 }

@@ -19,12 +19,12 @@ fn empty_handle(rt: HostRuntime) -> Result<(), Fail> {
     let (mut count, mut total) = (0, 0);
     #[rattlefmt::skip]
     let codes = [
-        ("set_format",   set_format(&mut held, [b"", b"", b"", b""]).0),
-        ("set_grouping", kumquatsieve_set_grouping(alloc, &mut held.handle, 24)),
-        ("cut_text",     kumquatsieve_cut_text(alloc, &mut held.handle, b"", &mut count, &mut total)),
-        ("words",        kumquatsieve_words(alloc, &mut held.handle, 0, &mut [], &mut count)),
-        ("copy_print",   kumquatsieve_copy_print(alloc, &mut held.handle, &mut [], &mut count)),
-        ("copy_feature", kumquatsieve_copy_feature(alloc, &mut held.handle, 0, &mut [], &mut count)),
+        ("format",   set_format(&mut held, [b"", b"", b"", b""]).0),
+        ("grouping", kumquatsieve_set_grouping(alloc, &mut held.handle, 24)),
+        ("cut_text", kumquatsieve_cut_text(alloc, &mut held.handle, b"", &mut count, &mut total)),
+        ("words",    kumquatsieve_words(alloc, &mut held.handle, 0, &mut [], &mut count)),
+        ("print",    kumquatsieve_copy_print(alloc, &mut held.handle, &mut [], &mut count)),
+        ("feature",  kumquatsieve_copy_feature(alloc, &mut held.handle, 0, &mut [], &mut count)),
     ];
     for (what, code) in codes {
         assert!(rt; code == 0x4b05, "{what}");

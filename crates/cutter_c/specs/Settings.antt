@@ -1,0 +1,71 @@
+-- What the calls that set a format or a grouping do to a cutter.
+use Rattle.std.specs.Prelude.{◌≡◌, ℕ, List, [], ◌∷◌, slice_get, take, All, Some, None, IsUtf8}
+use Rattle.std.specs.Str.{IsValidUpTo}
+use Rattle.mj_model.specs.declared.format_fault.FormatFault.TheVariants as format
+use Rattle.mj_model.specs.declared.format_fault.FormatPart.{FormatPart}
+use Rattle.mj_model.specs.declared.format_fault.FormatPart.TheVariants.{Node, Unk, Bos, Eos}
+use Rattle.cutter.specs.Cutters.{Held}
+use Rattle.cutter.specs.declared.fault.CutFault.{CutFault}
+use Rattle.cutter.specs.declared.fault.CutFault.TheVariants as cut
+use Rattle.cutter.specs.Faults.{IsFormatRefused}
+use Rattle.cutter_c.specs.declared.settings.Texts.{Texts}
+use Rattle.out_format.specs.Formats.{FormatTexts, ReadsFormat}
+
+-- bytes are no text
+abbrev pub IsNoText : List ℕ → CutFault → Type 0
+IsNoText bytes cut.NotUtf8 = IsUtf8 bytes → ⊥
+IsNoText bytes fault = ⊥
+
+-- the texts of a format, with one for unknown words
+abbrev pub texts_in : List ℕ → List ℕ → List ℕ → List ℕ → FormatTexts
+texts_in node unk bos eos = record { node = node; unk = Some unk; bos = bos; eos = eos }
+
+-- the format is what these texts read as, and nothing else changed
+pub record SetsFormat (texts : FormatTexts) (old new : Held) : Type 0 where
+  pub reads : ReadsFormat texts new.format
+  pub others : new ≡ record old { format = new.format }
+
+-- four texts are all UTF-8
+abbrev pub AreUtf8 : List ℕ → List ℕ → List ℕ → List ℕ → Type 0
+AreUtf8 node unk bos eos = IsUtf8 node × IsUtf8 unk × IsUtf8 bos × IsUtf8 eos
+
+-- why texts are not set: not all are UTF-8, or else they are no format
+abbrev pub IsSettingRefusal : List ℕ → List ℕ → List ℕ → List ℕ → CutFault → Type 0
+IsSettingRefusal node unk bos eos cut.NotUtf8 = AreUtf8 node unk bos eos → ⊥
+IsSettingRefusal node unk bos eos fault = AreUtf8 node unk bos eos × IsFormatRefused (texts_in node unk bos eos) fault
+
+-- the number of a format's text, in the order of the texts
+abbrev pub part_number : FormatPart → ℕ
+part_number Node = 0
+part_number Unk = 1
+part_number Bos = 2
+part_number Eos = 3
+
+-- the text with this number is the first one that is not UTF-8, and it is UTF-8 up to this byte
+pub record IsNoTextAt (texts : List (List ℕ)) (part at : ℕ) : Type 0 where
+  pub bytes : List ℕ
+  pub there : slice_get texts part ≡ Some bytes
+  pub up_to : IsValidUpTo bytes at
+  pub before : All IsUtf8 (take part texts)
+
+-- where a fault has a part and a place, these are they
+abbrev pub IsPlaced : List (List ℕ) → ℕ → ℕ → CutFault → Type 0
+IsPlaced texts part at (cut.Format (format.Bad refused place kind)) = (part ≡ part_number refused) × (at ≡ place)
+IsPlaced texts part at cut.NotUtf8 = IsNoTextAt texts part at
+IsPlaced texts part at fault = Unit {0}
+
+-- why four texts are not set, and where
+pub record IsRefusedAt (node unk bos eos : List ℕ) (part at : ℕ) (fault : CutFault) : Type 0 where
+  pub is : IsSettingRefusal node unk bos eos fault
+  pub placed : IsPlaced (node ∷ unk ∷ bos ∷ eos ∷ []) part at fault
+
+-- the same of texts that are lent
+abbrev pub texts_lent : Texts → FormatTexts
+texts_lent t = texts_in t.node.now t.unk.now t.bos.now t.eos.now
+
+abbrev pub IsRefusedIn : Texts → ℕ → ℕ → CutFault → Type 0
+IsRefusedIn t part at fault = IsRefusedAt t.node.now t.unk.now t.bos.now t.eos.now part at fault
+
+-- the grouping is this, and nothing is cut yet
+abbrev pub IsRegrouped : ℕ → Held → Held → Type 0
+IsRegrouped grouping old new = new ≡ record old { grouping = grouping; cut = None }
