@@ -1,5 +1,5 @@
 -- The entries of all groups, one group behind another, are those of the lexicon.
-use Rattle.std.proofs.Common.{◌≡◌, ℕ, zero, suc, ◌+◌, ◌-◌, ◌<◌, ◌≤◌, List, [], ◌∷◌, ◌++◌, length, map, take, drop, get_or, Some, sym, ap, ◌∙◌, refl, arith, subst, append_assoc}
+use Rattle.std.proofs.Common.{◌≡◌, ℕ, zero, suc, ◌+◌, ◌-◌, ◌<◌, ◌≤◌, List, [], ◌∷◌, ◌++◌, length, map, take, drop, get_or, Some, sym, ap, ◌∙◌, refl, arith, append_assoc}
 use Rattle.std.specs.Prelude.{flat_map, slice_get}
 use Rattle.std.specs.List.{range_with_len}
 use Rattle.std.proofs.lemmas.List.{flat_map_more, get_or_append_left, length-append, map-append, take_all, take_more, take-append-drop}
@@ -16,9 +16,9 @@ use Rattle.mj_model.specs.Tables.{Lexeme}
 use Rattle.image_writer.specs.declared.tokens.TokenWriter.{TokenWriter}
 use Rattle.image_writer.specs.Entries.{all_rows, lexemes_of, no_row, tokens_of}
 use Rattle.image_writer.specs.Groups.{AreUnderKeys}
-use Rattle.image_writer.specs.Sections.{AreWritten, HoldTokens, IsTooLarge, features_of}
+use Rattle.image_writer.specs.Sections.{AreWritten, HoldTokens, features_of}
 use Rattle.image_writer.proofs.RowLemmas.{numbered}
-use Rattle.image_writer.proofs.FeatureLemmas.{feature_bytes_of, size_of, still_too_large}
+use Rattle.image_writer.proofs.FeatureLemmas.{feature_bytes_of, size_of}
 
 -- ---- ranges of numbers
 
@@ -112,7 +112,7 @@ module _ (s : LexiconSections) (rows more : List Row) (groups : ℕ) (cells : s.
 
 -- ---- features
 
-pub few_features : (rows : List Row) (writer : TokenWriter) → AreWritten rows writer → feature_bytes (tokens_of rows) < feature_bytes_end
+pub few_features : (rows : List Row) (writer : TokenWriter) → AreWritten rows rows writer → feature_bytes (tokens_of rows) < feature_bytes_end
 few_features rows writer written =
     let size = size_of (features_of rows) writer.features written.features in
     let few = writer.features.few in
@@ -131,9 +131,12 @@ category_more rows unknown i lines less at =
 pub categories_all : (rows : List Row) (unknown : List (List Row)) (i : ℕ) → length unknown ≤ i → all_rows rows (take i unknown) ≡ all_rows rows unknown
 categories_all rows unknown i past = ap (all_rows rows) (take_all i unknown past)
 
-pub categories_too_large : (rows : List Row) (unknown : List (List Row)) (i : ℕ) → IsTooLarge (all_rows rows (take i unknown)) → IsTooLarge (all_rows rows unknown)
-categories_too_large rows unknown i large =
-    subst IsTooLarge
-    (append_assoc rows (flat_map (λ rs. rs) (take i unknown)) (flat_map (λ rs. rs) (drop i unknown))
-    ∙ ap (λ (more : List Row). rows ++ more) (sym (flat_map-append (λ rs. rs) (take i unknown) (drop i unknown)) ∙ ap (flat_map (λ rs. rs)) (take-append-drop i unknown)))
-    (still_too_large (all_rows rows (take i unknown)) (flat_map (λ rs. rs) (drop i unknown)) large)
+-- the entries up to a category, those of the category, and the rest
+pub categories_around : (rows : List Row) (unknown : List (List Row)) (i : ℕ) (lines : List Row) → i < length unknown → lines ≡ get_or unknown i []
+    → all_rows rows unknown ≡ (all_rows rows (take i unknown) ++ lines) ++ flat_map (λ rs. rs) (drop (i + 1) unknown)
+categories_around rows unknown i lines less at =
+    let front = flat_map (λ (rs : List Row). rs) (take (i + 1) unknown) in
+    let behind = flat_map (λ (rs : List Row). rs) (drop (i + 1) unknown) in
+    ap (λ (rs : List Row). rows ++ rs) (ap (flat_map (λ (rs : List Row). rs)) (sym (take-append-drop (i + 1) unknown)) ∙ flat_map-append (λ (rs : List Row). rs) (take (i + 1) unknown) (drop (i + 1) unknown))
+    ∙ sym (append_assoc rows front behind)
+    ∙ ap (λ (rs : List Row). rs ++ behind) (sym (category_more rows unknown i lines less at))

@@ -18,3 +18,4 @@ pub mod PartLemmas
 pub mod SystemLemmas
 pub mod WholeLemmas
 pub mod UserLemmas
+pub mod FirstUseLemmas

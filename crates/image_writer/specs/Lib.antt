@@ -12,3 +12,4 @@ pub mod Written
 pub mod SystemImages
 pub mod UserImages
 pub mod Refusals
+pub mod FirstUses

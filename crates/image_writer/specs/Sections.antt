@@ -1,5 +1,5 @@
 -- What the sections of a lexicon hold.
-use Rattle.std.specs.Prelude.{◌≡◌, ℕ, ◌+◌, ◌*◌, ◌<◌, ◌≤◌, List, [], ◌∷◌, ◌++◌, length, map, bytes_eq, cond, slice_get, slice_range, Some, is_some}
+use Rattle.std.specs.Prelude.{◌≡◌, ℕ, ◌+◌, ◌*◌, ◌<◌, ◌≤◌, List, [], ◌∷◌, ◌++◌, length, map, bytes_eq, false, slice_get, slice_range, Some}
 use Rattle.std.specs.List.{concat, list_any}
 use Rattle.image_bytes.specs.declared.layout.KeyForm.TheVariants.{Cells}
 use Rattle.image_bytes.specs.ImageBounds.{each_once, feature_bytes, feature_bytes_end}
@@ -8,12 +8,15 @@ use Rattle.image_bytes.specs.ImageMeaning.{LexiconSections, lexicon_in}
 use Rattle.image_bytes.specs.ImageSections.{HoldGroups, HasFeature, IsIndex, stored_cells, stored_token, token_from}
 use Rattle.mj_model.specs.Lexicon.{Row}
 use Rattle.mj_model.specs.UnkDef.{token_of}
+use Rattle.image_writer.specs.declared.feature_place.FeaturePlace.{FeaturePlace}
 use Rattle.image_writer.specs.declared.features.FeatureStore.{FeatureStore}
 use Rattle.image_writer.specs.declared.keys.KeyBytes.{KeyBytes}
 use Rattle.image_writer.specs.declared.lexicon_bytes.LexiconBytes.{LexiconBytes}
+use Rattle.image_writer.specs.declared.token_bytes.TokenBytes.{TokenBytes}
 use Rattle.image_writer.specs.declared.tokens.TokenWriter.{TokenWriter}
 use Rattle.image_writer.specs.Groups.{AreUnderKeys}
-use Rattle.image_writer.specs.Places.{joined_texts, place_in}
+use Rattle.image_writer.specs.FirstUses.{AreFirstUses}
+use Rattle.image_writer.specs.Places.{joined_texts}
 use Rattle.image_writer.specs.Entries.{all_rows, lexemes_of, tokens_of}
 
 abbrev pub sections_of : LexiconBytes → LexiconSections
@@ -71,25 +74,49 @@ pub record StandsAt (bytes text : List ℕ) (place : ℕ) : Type 0 where
 abbrev pub features_in : FeatureStore → List ℕ
 features_in store = joined_texts store.texts.items
 
--- the store has each of the texts once, in the order of their first uses, and knows their places
+-- a text stands at a place, in its length
+pub record HasPlace (bytes text : List ℕ) (place : FeaturePlace) : Type 0 where
+  pub stands : StandsAt bytes text place.start
+  pub long : place.length ≡ length text
+
+-- the place of a text that is set behind these bytes
+abbrev pub place_behind : List ℕ → List ℕ → FeaturePlace
+place_behind bytes text = record { start = length bytes; length = length text }
+
+-- the store has each of the texts once, in the order of their first uses, and knows the place of each
 pub record HoldsTexts (texts : List (List ℕ)) (store : FeatureStore) : Type 0 where
   pub bytes : features_in store ≡ concat (each_once texts)
-  pub known : (text : List ℕ) → is_some (place_in store.places text) ≡ list_any (bytes_eq text) texts
-  pub places : (text : List ℕ) (place : ℕ) → place_in store.places text ≡ Some place → StandsAt (features_in store) text place
+  pub long : length store.places.items ≡ length texts
+  pub places : (i : ℕ) (text : List ℕ) (place : FeaturePlace) → slice_get texts i ≡ Some text → slice_get store.places.items i ≡ Some place → HasPlace (features_in store) text place
 
--- a store has one more text, at this place, and keeps the bytes before
-pub record HoldsOneMore (texts : List (List ℕ)) (text : List ℕ) (old new : FeatureStore) (place : ℕ) : Type 0 where
-  pub holds : HoldsTexts (texts ++ text ∷ []) new
-  pub stands : StandsAt (features_in new) text place
+-- `first` is the number of a text behind these, or of the first one of them that is the same
+pub record IsNextUse (texts : List (List ℕ)) (text : List ℕ) (first : ℕ) : Type 0 where
+  pub there : first < length texts → slice_get texts first ≡ Some text
+  pub new : length texts ≤ first → list_any (bytes_eq text) texts ≡ false
+
+-- a store has the bytes of one more text, at this place, and keeps the bytes before
+pub record IsPlaced (texts : List (List ℕ)) (text : List ℕ) (old new : FeatureStore) (place : FeaturePlace) : Type 0 where
+  pub bytes : features_in new ≡ concat (each_once (texts ++ text ∷ []))
+  pub stands : HasPlace (features_in new) text place
+  pub same_places : new.places.items ≡ old.places.items
   pub more : List ℕ
   pub kept : features_in new ≡ features_in old ++ more
 
--- a store after a new text
-pub record IsAdded (text : List ℕ) (old new : FeatureStore) : Type 0 where
-  pub bytes : features_in new ≡ features_in old ++ text
-  pub places : (q : List ℕ) → place_in new.places q ≡ cond (bytes_eq text q) (Some (length (features_in old))) (place_in old.places q)
+-- and knows its place
+pub record HoldsOneMore (texts : List (List ℕ)) (text : List ℕ) (old new : FeatureStore) (place : FeaturePlace) : Type 0 where
+  pub holds : HoldsTexts (texts ++ text ∷ []) new
+  pub stands : HasPlace (features_in new) text place
+  pub more : List ℕ
+  pub kept : features_in new ≡ features_in old ++ more
 
--- the tokens of these rows are written
-pub record AreWritten (rows : List Row) (writer : TokenWriter) : Type 0 where
+-- the tokens of these rows, the first of all, are written
+pub record AreWritten (all rows : List Row) (writer : TokenWriter) : Type 0 where
   pub tokens : HoldTokens rows writer.tokens.items (features_in writer.features)
   pub features : HoldsTexts (features_of rows) writer.features
+  pub firsts : AreFirstUses (features_of all) writer.firsts.items
+
+-- tokens and features as they stand in an image
+pub record AreTokenBytes (rows : List Row) (bytes : TokenBytes) : Type 0 where
+  pub tokens : HoldTokens rows bytes.tokens.items (joined_texts bytes.features.items)
+  pub features : joined_texts bytes.features.items ≡ concat (each_once (features_of rows))
+  pub few : feature_bytes (tokens_of rows) < feature_bytes_end

@@ -1,16 +1,13 @@
 //! The features of a lexicon, each once.
-ghost use Rattle.std.specs.Prelude.{◌≡◌, ◌≢◌, ◌<◌, ◌+◌, None, ℕ, ◌++◌, ◌∷◌, [], List, length, IfOk, IfErr, OnOk};
-ghost use Rattle.std.proofs.Props.{props};
+ghost use Rattle.std.specs.Prelude.{◌≡◌, ◌≢◌, ◌<◌, ℕ, ◌++◌, ◌∷◌, [], List, length, slice_get, IfOk, IfErr, OnOk};
 ghost use Rattle.image_bytes.specs.ImageBounds.{feature_bytes_end};
-ghost use Rattle.image_writer.specs.Marks.{mark_of_bytes};
-ghost use Rattle.image_writer.specs.Places.{ArePlacesWithin, joined_texts, place_in};
+ghost use Rattle.image_writer.specs.Places.{joined_texts};
 ghost use Rattle.image_writer.specs.declared.fault.LexiconFault.TheVariants.{ArrayFull, FeaturesTooLarge};
 
 use crate::fault::LexiconFault;
-use crate::mark::mark_of;
+use crate::feature_place::FeaturePlace;
 use image_bytes::FEATURE_BYTES_END;
 use std::alloc::Global;
-use std::collections::BTreeMap;
 
 /// Features, each once, in the order of their first uses. They stay where they are until an image takes them.
 #[derive(Drop)]
@@ -18,17 +15,15 @@ pub(crate) struct FeatureStore<'a> {
     pub texts: Vec<&'a str>,
     /// How many bytes they have together.
     pub size: usize,
-    /// Where each feature begins, by its mark and itself. A tree, since no features can be chosen that make it slow: those of one mark
-    /// are compared by their bytes.
-    pub places: BTreeMap<(u64, &'a str), u32>,
+    /// Where the feature of each entry so far stands.
+    pub places: Vec<FeaturePlace>,
     ghost long: { size ≡ length (joined_texts texts.items) },
     ghost few: { size < feature_bytes_end },
-    ghost within: { ArePlacesWithin (joined_texts texts.items) places } by { Prim.hlevel props },
 }
 
 impl<'a> FeatureStore<'a> {
     ghost use Rattle.image_writer.specs.Refusals.{LargeOnlyOf, LargeOnlyWith};
-    ghost use Rattle.image_writer.specs.Sections.{HoldsTexts, HoldsOneMore, IsAdded, features_in};
+    ghost use Rattle.image_writer.specs.Sections.{HoldsTexts, HoldsOneMore, IsNextUse, IsPlaced, features_in, place_behind};
 
     /// No features.
     pub(crate) fn new(alloc: Global) -> FeatureStore<'a>
@@ -37,43 +32,78 @@ impl<'a> FeatureStore<'a> {
         FeatureStore {
             texts: Vec::new(alloc),
             size: 0,
-            places: BTreeMap::new(alloc),
+            places: Vec::new(alloc),
         }
     }
 
-    /// Where the feature begins; a new one is added at the end.
-    pub(crate) fn place_of(&mut self, feature: &'a str) -> Result<u32, LexiconFault>
-        ensures short { OnOk result (length feature.now < feature_bytes_end) }
+    /// Where the feature of the next entry stands. `first` is the number of the first entry with this feature.
+    pub(crate) fn place_of(
+        &mut self,
+        feature: &'a str,
+        first: usize,
+    ) -> Result<FeaturePlace, LexiconFault>
         ensures place { (texts : List (List ℕ)) → HoldsTexts texts self.old
+            → IsNextUse texts feature.now first
             → IfOk result (HoldsOneMore texts feature.now self.old self.new) }
         ensures large { (texts : List (List ℕ)) → HoldsTexts texts self.old
+            → IsNextUse texts feature.now first
             → IfErr result (LargeOnlyOf (texts ++ feature.now ∷ [])) }
         ensures never_full { IfErr result (λ fault. fault ≢ ArrayFull) }
     {
-        let mark = mark_of(feature);
-        match self.places.get(&(mark, feature)).copied() {
+        let place = self.found_or_added(feature, first)?;
+        self.places.push(place)?;
+        Ok(place)
+    }
+
+    /// The same place, which is not noted yet. A feature that no entry before has is added at the end.
+    fn found_or_added(
+        &mut self,
+        feature: &'a str,
+        first: usize,
+    ) -> Result<FeaturePlace, LexiconFault>
+        ensures place { (texts : List (List ℕ)) → HoldsTexts texts self.old
+            → IsNextUse texts feature.now first
+            → IfOk result (IsPlaced texts feature.now self.old self.new) }
+        ensures large { (texts : List (List ℕ)) → HoldsTexts texts self.old
+            → IsNextUse texts feature.now first
+            → IfErr result (LargeOnlyOf (texts ++ feature.now ∷ [])) }
+        ensures never_full { IfErr result (λ fault. fault ≢ ArrayFull) }
+    {
+        match known_place(&self.places, first) {
             Some(place) => Ok(place),
-            None => self.add(mark, feature),
+            None => self.add(feature),
         }
     }
 
-    /// Adds a feature with its mark at the end.
-    fn add(&mut self, mark: u64, feature: &'a str) -> Result<u32, LexiconFault>
-        requires marked { mark ≡ mark_of_bytes feature.now }
-        requires new { place_in self.old.places feature.now ≡ None }
-        ensures short { OnOk result (length feature.now < feature_bytes_end) }
-        ensures added { OnOk result (IsAdded feature.now self.old self.new) }
-        ensures place { IfOk result (λ place. place ≡ length (features_in self.old)) }
+    /// Adds a feature at the end.
+    fn add(&mut self, feature: &'a str) -> Result<FeaturePlace, LexiconFault>
+        ensures added { OnOk result (features_in self.new ≡ features_in self.old ++ feature.now) }
+        ensures place { IfOk result (λ place. place
+            ≡ place_behind (features_in self.old) feature.now) }
+        ensures kept { self.new.places.items ≡ self.old.places.items }
         ensures large { IfErr result (LargeOnlyWith (features_in self.old) feature.now) }
         ensures never_full { IfErr result (λ fault. fault ≢ ArrayFull) }
     {
         if feature.len() >= FEATURE_BYTES_END - self.size {
             return Err(LexiconFault::FeaturesTooLarge);
         }
-        let place = self.size as u32;
+        let place = FeaturePlace {
+            start: self.size as u32,
+            length: feature.len() as u32,
+        };
         self.texts.push(feature)?;
         self.size += feature.len();
-        self.places.insert((mark, feature), place)?;
         Ok(place)
+    }
+}
+
+/// The place of an entry's feature, if it is known.
+fn known_place(places: &[FeaturePlace], entry: usize) -> Option<FeaturePlace>
+    ensures { result ≡ slice_get places.now entry }
+{
+    if entry < places.len() {
+        Some(places[entry])
+    } else {
+        None
     }
 }

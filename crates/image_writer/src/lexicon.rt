@@ -1,19 +1,22 @@
 //! The sections of an image that hold a lexicon.
-ghost use Rattle.std.specs.Prelude.{◌≢◌, List, [], IfOk, IfErr, OnOk};
+ghost use Rattle.std.specs.Prelude.{◌≡◌, ◌≢◌, List, [], IfOk, IfErr, OnOk};
 ghost use Rattle.mj_model.specs.Lexicon.{Row};
 ghost use Rattle.image_writer.specs.Entries.{all_rows};
 ghost use Rattle.image_writer.specs.Refusals.{FullOnlyFor, LargeOnlyFor};
-ghost use Rattle.image_writer.specs.Sections.{AreKeyBytes, AreSections, AreWritten};
+ghost use Rattle.image_writer.specs.FirstUses.{AreNumbered, features_used};
+ghost use Rattle.image_writer.specs.Sections.{AreKeyBytes, AreSections, AreTokenBytes, AreWritten, features_of};
 ghost use Rattle.image_writer.specs.declared.fault.LexiconFault.TheVariants.{ArrayFull};
 
 use crate::fault::LexiconFault;
-use crate::features::FeatureStore;
+use crate::feature_use::FeatureUse;
+use crate::first_uses::{append_uses, first_uses};
 use crate::keys::{KeyBytes, write_keys};
 use crate::lexicon_bytes::LexiconBytes;
+use crate::token_bytes::TokenBytes;
 use crate::tokens::TokenWriter;
 use char_def::UnkTable;
 use lex_source::SortedLexicon;
-use std::alloc::Global;
+use std::alloc::{AllocError, Global};
 
 /// The sections of a system dictionary: of its lexicon, and of the unknown entries of all categories.
 ///
@@ -29,11 +32,14 @@ pub(crate) fn write_lexicon<'a>(
     ensures large { IfErr result (LargeOnlyFor (all_rows lexicon.now.rows unknown.now)) }
     ensures full { IfErr result (FullOnlyFor lexicon.now.rows) }
 {
-    let keys = write_keys(alloc, lexicon)?;
-    let mut writer = TokenWriter::new(alloc);
+    let uses = feature_uses(alloc, lexicon, unknown)?;
+    let firsts = first_uses(alloc, uses)?;
+    let mut writer = TokenWriter::new(alloc, firsts);
     writer.add_all(lexicon.records())?;
     add_unknown(&mut writer, unknown)?;
-    Ok(sections(keys, writer))
+    let tokens = writer.into_bytes();
+    let keys = write_keys(alloc, lexicon)?;
+    Ok(sections(keys, tokens))
 }
 
 /// The sections of a user dictionary.
@@ -47,34 +53,58 @@ pub(crate) fn write_user_lexicon<'a>(
     ensures large { IfErr result (LargeOnlyFor lexicon.now.rows) }
     ensures full { IfErr result (FullOnlyFor lexicon.now.rows) }
 {
+    let records = lexicon.records();
+    let mut uses = Vec::with_capacity(alloc, records.len())?;
+    append_uses(records, &mut uses)?;
+    let firsts = first_uses(alloc, uses)?;
+    let mut writer = TokenWriter::new(alloc, firsts);
+    writer.add_all(records)?;
+    let tokens = writer.into_bytes();
     let keys = write_keys(alloc, lexicon)?;
-    let mut writer = TokenWriter::new(alloc);
-    writer.add_all(lexicon.records())?;
-    Ok(sections(keys, writer))
+    Ok(sections(keys, tokens))
 }
 
 /// The keys and the tokens together.
-fn sections<'a>(keys: KeyBytes, writer: TokenWriter<'a>) -> LexiconBytes<'a>
+fn sections<'a>(keys: KeyBytes, tokens: TokenBytes<'a>) -> LexiconBytes<'a>
     ensures { (lexicon : List Row) → (unknown : List (List Row)) → AreKeyBytes lexicon keys
-        → AreWritten (all_rows lexicon unknown) writer.entry → AreSections lexicon unknown result }
+        → AreTokenBytes (all_rows lexicon unknown) tokens.entry
+        → AreSections lexicon unknown result }
 {
-    let TokenWriter { tokens, features } = writer;
-    let FeatureStore { texts, size, .. } = features;
     LexiconBytes {
         keys: keys.cells,
         groups: keys.index,
-        tokens,
-        features: texts,
-        feature_size: size,
+        tokens: tokens.tokens,
+        features: tokens.features,
+        feature_size: tokens.feature_size,
         group_count: keys.groups,
     }
 }
 
+/// The uses of the features of all entries, in the order of their tokens.
+fn feature_uses<'a>(
+    alloc: Global,
+    lexicon: &SortedLexicon<'a>,
+    unknown: &UnkTable<'a>,
+) -> Result<Vec<FeatureUse<'a>>, AllocError>
+    ensures numbered { IfOk result (λ uses. AreNumbered uses.items) }
+    ensures features { IfOk result (λ uses. features_used uses.items
+        ≡ features_of (all_rows lexicon.now.rows unknown.now)) }
+{
+    let records = lexicon.records();
+    let mut uses = Vec::with_capacity(alloc, records.len())?;
+    append_uses(records, &mut uses)?;
+    for category in 0..unknown.count() {
+        append_uses(unknown.lines(category), &mut uses)?;
+    }
+    Ok(uses)
+}
+
 /// Adds the tokens of each category's unknown entries.
 fn add_unknown<'a>(writer: &mut TokenWriter<'a>, unknown: &UnkTable<'a>) -> Result<(), LexiconFault>
-    ensures written { (rows : List Row) → AreWritten rows writer.old
-        → OnOk result (AreWritten (all_rows rows unknown.now) writer.new) }
-    ensures large { (rows : List Row) → AreWritten rows writer.old
+    ensures written { (rows : List Row) → AreWritten (all_rows rows unknown.now) rows writer.old
+        → OnOk result (AreWritten (all_rows rows unknown.now) (all_rows rows unknown.now)
+        writer.new) }
+    ensures large { (rows : List Row) → AreWritten (all_rows rows unknown.now) rows writer.old
         → IfErr result (LargeOnlyFor (all_rows rows unknown.now)) }
     ensures never_full { IfErr result (λ fault. fault ≢ ArrayFull) }
 {

@@ -1,13 +1,16 @@
 //! The tokens of entries, and their features.
-ghost use Rattle.std.specs.Prelude.{◌≡◌, ◌≢◌, ◌<◌, ◌+◌, ◌++◌, ◌∷◌, [], List, length, IfErr, OnOk};
+ghost use Rattle.std.specs.Prelude.{◌≡◌, ◌≢◌, ◌++◌, ◌∷◌, [], List, length, slice_index_or, IfErr, OnOk};
 ghost use Rattle.mj_model.specs.Lexicon.{Row, row_of, rows_of};
-ghost use Rattle.image_writer.specs.Sections.{AreWritten};
+ghost use Rattle.image_writer.specs.FirstUses.{AreFirstUses};
+ghost use Rattle.image_writer.specs.Sections.{AreTokenBytes, AreWritten, features_of};
 ghost use Rattle.image_writer.specs.Refusals.{LargeOnlyFor};
 ghost use Rattle.image_writer.specs.TokenBytes.{FitsBytes, stored_bytes, stored_with};
 ghost use Rattle.image_writer.specs.declared.fault.LexiconFault.TheVariants.{ArrayFull};
 
 use crate::fault::LexiconFault;
+use crate::feature_place::FeaturePlace;
 use crate::features::FeatureStore;
+use crate::token_bytes::TokenBytes;
 use byteorder::{ByteOrder, LittleEndian};
 use mj_model::Record;
 use std::alloc::Global;
@@ -17,25 +20,30 @@ use std::alloc::Global;
 pub(crate) struct TokenWriter<'a> {
     pub tokens: Vec<u8>,
     pub features: FeatureStore<'a>,
+    /// For each entry the number of the first one with the same feature.
+    pub firsts: Vec<usize>,
 }
 
 impl<'a> TokenWriter<'a> {
-    /// No tokens.
-    pub(crate) fn new(alloc: Global) -> TokenWriter<'a>
-        ensures { AreWritten [] result }
+    /// No tokens, for entries with these first uses of their features.
+    pub(crate) fn new(alloc: Global, firsts: Vec<usize>) -> TokenWriter<'a>
+        ensures { (all : List Row) → AreFirstUses (features_of all) firsts.items
+            → AreWritten all [] result }
     {
         TokenWriter {
             tokens: Vec::new(alloc),
             features: FeatureStore::new(alloc),
+            firsts,
         }
     }
 
     /// Adds the tokens of all the records, in their order.
     pub(crate) fn add_all(&mut self, records: &[Record<'a>]) -> Result<(), LexiconFault>
-        ensures written { (rows : List Row) → AreWritten rows self.old
-            → OnOk result (AreWritten (rows ++ rows_of records.now) self.new) }
-        ensures large { (rows : List Row) → AreWritten rows self.old
-            → IfErr result (LargeOnlyFor (rows ++ rows_of records.now)) }
+        ensures written { (all rows rest : List Row) → all ≡ (rows ++ rows_of records.now) ++ rest
+            → AreWritten all rows self.old
+            → OnOk result (AreWritten all (rows ++ rows_of records.now) self.new) }
+        ensures large { (all rows rest : List Row) → all ≡ (rows ++ rows_of records.now) ++ rest
+            → AreWritten all rows self.old → IfErr result (LargeOnlyFor all) }
         ensures never_full { IfErr result (λ fault. fault ≢ ArrayFull) }
     {
         for record in records {
@@ -46,32 +54,61 @@ impl<'a> TokenWriter<'a> {
 
     /// Adds the token of a record.
     fn add(&mut self, row: &Record<'a>) -> Result<(), LexiconFault>
-        ensures written { (rows : List Row) → AreWritten rows self.old
-            → OnOk result (AreWritten (rows ++ row_of row.now ∷ []) self.new) }
-        ensures large { (rows : List Row) → AreWritten rows self.old
-            → IfErr result (LargeOnlyFor (rows ++ row_of row.now ∷ [])) }
+        ensures written { (all rows rest : List Row) → all ≡ (rows ++ row_of row.now ∷ []) ++ rest
+            → AreWritten all rows self.old
+            → OnOk result (AreWritten all (rows ++ row_of row.now ∷ []) self.new) }
+        ensures large { (all rows rest : List Row) → all ≡ (rows ++ row_of row.now ∷ []) ++ rest
+            → AreWritten all rows self.old → IfErr result (LargeOnlyFor all) }
         ensures never_full { IfErr result (λ fault. fault ≢ ArrayFull) }
     {
         let entry = &row.entry;
-        let feature = entry.feature;
-        let place = self.features.place_of(feature)?;
-        let length = feature.len() as u32;
-        let token = token_bytes(entry.left, entry.right, entry.cost, place, length);
+        let number = self.features.places.len();
+        let first = first_of(&self.firsts, number);
+        let place = self.features.place_of(entry.feature, first)?;
+        let token = token_bytes(entry.left, entry.right, entry.cost, place);
         self.tokens.extend_from_slice(&token)?;
         Ok(())
     }
+
+    /// What was written.
+    pub(crate) fn into_bytes(self) -> TokenBytes<'a>
+        ensures { (rows : List Row) → AreWritten rows rows self.entry
+            → AreTokenBytes rows result }
+    {
+        let TokenWriter {
+            tokens,
+            features,
+            ..
+        } = self;
+        let FeatureStore { texts, size, .. } = features;
+        TokenBytes {
+            tokens,
+            features: texts,
+            feature_size: size,
+        }
+    }
 }
 
-/// The 16 bytes of a token whose feature begins at `place` and has `length` bytes.
-fn token_bytes(left: u16, right: u16, cost: i16, place: u32, length: u32) -> [u8; 16]
-    ensures bytes { result ≡ stored_bytes (stored_with left right cost place length) }
-    ensures fits { FitsBytes (stored_with left right cost place length) }
+/// The first entry with the same feature as this one, or this one itself where none is told.
+fn first_of(firsts: &[usize], entry: usize) -> usize
+    ensures { result ≡ slice_index_or firsts.now entry entry }
+{
+    match firsts.get(entry).copied() {
+        Some(first) => first,
+        None => entry,
+    }
+}
+
+/// The 16 bytes of a token whose feature stands there.
+fn token_bytes(left: u16, right: u16, cost: i16, place: FeaturePlace) -> [u8; 16]
+    ensures bytes { result ≡ stored_bytes (stored_with left right cost place.start place.length) }
+    ensures fits { FitsBytes (stored_with left right cost place.start place.length) }
 {
     let mut bytes = [0; 16];
     LittleEndian::write_u16(&mut bytes, left);
     LittleEndian::write_u16(&mut bytes[2..], right);
     LittleEndian::write_i16(&mut bytes[4..], cost);
-    LittleEndian::write_u32(&mut bytes[8..], place);
-    LittleEndian::write_u32(&mut bytes[12..], length);
+    LittleEndian::write_u32(&mut bytes[8..], place.start);
+    LittleEndian::write_u32(&mut bytes[12..], place.length);
     bytes
 }

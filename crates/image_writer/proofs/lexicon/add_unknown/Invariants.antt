@@ -6,4 +6,4 @@ use Rattle.image_writer.proofs.lexicon.add_unknown.Given as goal
 
 -- the tokens of the categories so far are written
 abbrev pub invariant-loop-category : goal.invariant-loop-category
-invariant-loop-category l = (rows : List Row) → AreWritten rows l.fn.writer → AreWritten (all_rows rows (take l.category l.unknown)) l.writer
+invariant-loop-category l = (rows : List Row) → AreWritten (all_rows rows l.unknown) rows l.fn.writer → AreWritten (all_rows rows l.unknown) (all_rows rows (take l.category l.unknown)) l.writer

@@ -1,7 +1,6 @@
 use Rattle.std.proofs.Common.{refl}
 use Rattle.std.specs.Prelude.{flat_map}
-use Rattle.image_writer.proofs.LexiconLemmas.{all_entries, few_features}
-use Rattle.image_writer.specs.Entries.{all_rows}
+use Rattle.image_writer.proofs.LexiconLemmas.{all_entries}
 use Rattle.image_writer.proofs.lexicon.sections.Goals as goal
 
 pub returns : goal.returns
@@ -11,6 +10,6 @@ returns c = λ lexicon unknown keys written. record {
   few_groups = keys.few;
   tokens = written.tokens;
   means = all_entries _ lexicon (flat_map (λ rows. rows) unknown) c.args.keys.groups refl written.tokens keys.is_index keys.entries;
-  features = written.features.bytes;
-  few_features = few_features (all_rows lexicon unknown) c.args.writer written;
+  features = written.features;
+  few_features = written.few;
 }

@@ -1,24 +1,27 @@
-use Rattle.std.proofs.Common.{List, [], append-nil, sym, ◌∙◌, subst}
-use Rattle.mj_model.specs.Lexicon.{Row}
-use Rattle.image_writer.specs.Sections.{AreWritten, IsTooLarge}
+use Rattle.std.proofs.Common.{◌≡◌, List, ℕ, [], ◌++◌, ap, append-nil, sym, ◌∙◌, subst}
+use Rattle.mj_model.specs.Lexicon.{Row, rows_of}
+use Rattle.image_writer.specs.declared.feature_use.FeatureUse.{FeatureUse}
+use Rattle.image_writer.specs.FirstUses.{AreFirstUses, features_used}
+use Rattle.image_writer.specs.Sections.{AreTokenBytes, AreWritten, features_of}
 use Rattle.image_writer.proofs.Results.{passed_on}
 use Rattle.image_writer.proofs.lexicon.write_user_lexicon.Goals as goal
 
-pub returns-in_err-keys-clause-large : goal.returns-in_err-keys-clause-large
-returns-in_err-keys-clause-large c =
-    passed_on c.from_residual.result _ c.from_residual.ensures.1 (λ same. absurd (c.in_err-keys.ensures.no_features same))
-
 pub returns-in_err-add_all-clause-large : goal.returns-in_err-add_all-clause-large
 returns-in_err-add_all-clause-large c =
-    passed_on c.from_residual-in_err-add_all.result _ c.from_residual-in_err-add_all.ensures.1
-    (λ same. subst IsTooLarge c.records.ensures.rows (c.in_err-add_all.ensures.large [] c.new-writer.ensures same))
-
-pub returns-in_err-add_all-clause-full : goal.returns-in_err-add_all-clause-full
-returns-in_err-add_all-clause-full c =
-    passed_on c.from_residual-in_err-add_all.result _ c.from_residual-in_err-add_all.ensures.1 (λ same. absurd (c.in_err-add_all.ensures.never_full same))
+    let rows : List Row = c.args.lexicon.now.rows in
+    let given = rows_of c.records-records.result.now in
+    let parts : rows ≡ given ++ [] = sym c.records-records.ensures.rows ∙ sym (append-nil given) in
+    let used = c.in_ok-append_uses.ensures.features ∙ ap (λ (us : List FeatureUse). features_used us ++ features_of given) c.in_ok-uses.ensures.items ∙ ap features_of c.records-records.ensures.rows in
+    let begun = c.new-writer.ensures rows (subst (λ (texts : List (List ℕ)). AreFirstUses texts c.in_ok-firsts.firsts.items) used c.in_ok-firsts.ensures) in
+    passed_on c.from_residual-in_err-add_all.result _ c.from_residual-in_err-add_all.ensures.1 (c.in_err-add_all.ensures.large rows [] [] parts begun)
 
 pub returns-clause-sections : goal.returns-clause-sections
 returns-clause-sections c =
     let rows : List Row = c.args.lexicon.now.rows in
+    let given = rows_of c.records-records.result.now in
+    let parts : rows ≡ given ++ [] = sym c.records-records.ensures.rows ∙ sym (append-nil given) in
+    let used = c.in_ok-append_uses.ensures.features ∙ ap (λ (us : List FeatureUse). features_used us ++ features_of given) c.in_ok-uses.ensures.items ∙ ap features_of c.records-records.ensures.rows in
+    let begun = c.new-writer.ensures rows (subst (λ (texts : List (List ℕ)). AreFirstUses texts c.in_ok-firsts.firsts.items) used c.in_ok-firsts.ensures) in
+    let written = subst (λ (rs : List Row). AreWritten rows rs c.add_all.new.self) c.records-records.ensures.rows (c.in_ok-add_all.ensures.written rows [] [] parts begun) in
     c.sections.ensures rows [] c.in_ok-keys.ensures.keys
-    (subst (λ (rs : List Row). AreWritten rs c.add_all.new.self) (c.records.ensures.rows ∙ sym (append-nil rows)) (c.in_ok-add_all.ensures.written [] c.new-writer.ensures))
+    (subst (λ (rs : List Row). AreTokenBytes rs c.into_bytes-tokens.result) (sym (append-nil rows)) (c.into_bytes-tokens.ensures rows written))
