@@ -55,9 +55,8 @@ pub(crate) struct Outline {
 /// and so are an entry of 4 bytes for each code point of the basic plane where the categories of code points stand in ranges, a copy of
 /// the connection costs where they are few, and 3 bytes for each category.
 pub(crate) fn check_image(alloc: Global, bytes: &[u8]) -> Result<Outline, ImageFault>
-    ensures accepted { IfOk result
-        (λ outline. IsDict bytes.now outline.header outline.ends outline.keys outline.costs outline.infos
-        outline.categories.items) }
+    ensures accepted { IfOk result (λ outline. IsDict bytes.now outline.header outline.ends
+        outline.keys outline.costs outline.infos outline.categories.items) }
     ensures refused { IfErr result (λ fault. (fault ≡ Memory) ⊎ IsImageFault bytes.now fault) }
 {
     let header = check_front(bytes)?;
