@@ -2,7 +2,6 @@
 use Rattle.std.proofs.Common.{◌≡◌, ℕ, ◌+◌, ◌<◌, ◌≤◌, Bool, true, false, cond, not, ◌||◌, inl, inr, List, [], ◌∷◌, ◌++◌, length, map, filter, get_or, Some, None, sym, ap, ◌∙◌, refl, arith, subst, append_assoc}
 use Rattle.std.specs.Prelude.{bytes_eq, slice_get, sum_by}
 use Rattle.std.specs.List.{concat, list_any, enumerate_from}
-use Rattle.std.proofs.lemmas.Grind.{flat_map-append}
 use Rattle.std.proofs.lemmas.List.Concat.{concat_is, length-flat_map}
 use Rattle.std.proofs.lemmas.List.{append-nil, length_push, length-append, map-append}
 use Rattle.std.proofs.lemmas.List.Elements.{filter-append}
@@ -18,7 +17,6 @@ use Rattle.mj_model.specs.UnkDef.{token_of}
 use Rattle.image_writer.specs.declared.feature_place.FeaturePlace.{FeaturePlace}
 use Rattle.image_writer.specs.declared.features.FeatureStore.{FeatureStore}
 use Rattle.image_writer.specs.Entries.{tokens_of}
-use Rattle.image_writer.specs.Places.{joined_texts}
 use Rattle.image_writer.specs.Sections.{HasPlace, HoldsTexts, HoldsOneMore, IsNextUse, IsPlaced, StandsAt, features_in, features_of, place_behind, IsTooLarge}
 use Rattle.image_bytes.proofs.NumberLemmas.{range_kept, range_behind}
 use Rattle.image_writer.proofs.FirstUseLemmas.{beyond, within}
@@ -82,11 +80,6 @@ concat_more (t ∷ texts) text = append_assoc t (concat texts) text ∙ ap (λ (
 
 pub size_of : (texts : List (List ℕ)) (store : FeatureStore) → HoldsTexts texts store → length (features_in store) ≡ sum_by length (each_once texts)
 size_of texts store holds = ap length (holds.bytes ∙ concat_is (each_once texts)) ∙ length-flat_map (λ (text : List ℕ). text) (each_once texts)
-
--- the same of texts where they stand
-pub joined_more : (texts more : List (Bor (List ℕ))) (text : Bor (List ℕ)) → more ≡ texts ++ text ∷ [] → joined_texts more ≡ joined_texts texts ++ text.now
-joined_more texts more text is =
-    ap joined_texts is ∙ flat_map-append (λ (t : Bor (List ℕ)). t.now) texts (text ∷ []) ∙ ap (λ (bytes : List ℕ). joined_texts texts ++ bytes) (append-nil text.now)
 
 -- ---- the store
 

@@ -2,12 +2,7 @@
 use Rattle.std.proofs.Common.{◌≡◌, Result, Ok, Err, sym, subst}
 use Rattle.std.specs.Result.{IsErrAnd}
 use Rattle.std.proofs.lemmas.Result.{err_from_is_err_and}
-use Rattle.std.specs.Prelude.{IfErr, IfOk, OnOk, OnErr}
-
--- what holds in either case
-pub in_both : {T E G P Q : Type 0} (r : Result T E) → OnOk r P → OnErr r Q → (P → G) → (Q → G) → G
-in_both (Ok x) p q f g = f p
-in_both (Err e) p q f g = g q
+use Rattle.std.specs.Prelude.{IfErr, IfOk, OnOk}
 
 -- an answer of a known value
 pub ok_known : {T E A : Type 0} (r : Result T E) (x : T) (P : T → Type 0) → IfOk r (λ y. y ≡ x) → OnOk r A → (A → P x) → IfOk r P

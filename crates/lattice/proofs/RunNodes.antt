@@ -43,9 +43,6 @@ node_here (v ∷ ws) (c ∷ bs) (suc i) w b at_w at_b = node_here ws bs i w b at
 
 -- ---- the right ids that are kept
 
-pub rights_of_none : (ws : List Word) → HaveRights ws []
-rights_of_none ws i w b at_w at_b = absurd (cc)
-
 -- of one more node
 pub rights_push : (ws : List Word) (bs : List Backpointer) (w : Word) (b : Backpointer) → slice_get ws (length bs) ≡ Some w → b.right ≡ w.right → HaveRights ws bs → HaveRights ws (bs ++ b ∷ [])
 rights_push ws bs w b next right rights i v c at_v at_c = elim (get_push_cases bs b i c at_c) [

@@ -1,4 +1,4 @@
-use Rattle.std.proofs.Common.{◌≡◌, ℕ, ◌+◌, ◌-◌, ◌++◌, ◌∷◌, [], List, suc, rules, sym, ap, ◌∙◌, subst, arith}
+use Rattle.std.proofs.Common.{◌≡◌, ◌+◌, ◌-◌, ◌++◌, ◌∷◌, [], List, suc, rules, sym, ap, ◌∙◌, subst, arith}
 use Rattle.mj_model.specs.declared.category.Category.{Category}
 use Rattle.dict_image.specs.Categories.{HasFront, listed_categories}
 use Rattle.dict_image.proofs.CategoryLemmas.{category_more, front_more}
