@@ -125,7 +125,8 @@ impl Cutter {
 
     /// Sets how many characters may follow the first one of a grouped unknown word, at most `GROUPING_MAX`.
     pub fn set_grouping(&mut self, grouping: u16) -> Result<(), CutFault>
-        ensures set { OnOk result (self.new ≡ record self.old { grouping = grouping; cut = None }) }
+        ensures set { OnOk result
+            (self.new ≡ record self.old { grouping = grouping; cut = None }) }
         ensures accepted { OnOk result (grouping ≤ GroupingMax) }
         ensures refused { IfErr result (IsGroupingRefusal grouping) }
         ensures kept { OnErr result (self.new ≡ self.old) }

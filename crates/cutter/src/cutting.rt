@@ -88,7 +88,8 @@ impl Cutter {
 
     /// The number of the first category of a word's first character, in the order of `char.def`.
     pub fn category(&self, i: usize) -> Result<u8, CutFault>
-        ensures category { IfOk result (λ category. OfCut self.now (HasCategory self.now i category)) }
+        ensures category { IfOk result
+            (λ category. OfCut self.now (HasCategory self.now i category)) }
         ensures refused { IfErr result (IsWordRefusal self.now i) }
     {
         let (text, path) = self.last_cut()?;

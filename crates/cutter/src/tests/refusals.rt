@@ -17,15 +17,16 @@ fn refused_texts(rt: HostRuntime) -> Result<(), Fail> {
     cutter.cut("もも".as_bytes())?;
     let long = Vec::from_elem(alloc, b'z', SENTENCE_MAX + 1)?;
     let long_no_text = Vec::from_elem(alloc, 0xffu8, SENTENCE_MAX + 1)?;
+    let (no_text, too_long) = (CutFault::NotUtf8, CutFault::TooLong);
     #[rattlefmt::skip]
     let rows: [(&str, &[u8], CutFault, Option<CutFault>); 6] = [
         // (what, bytes, fault as a line, fault as a text)
         ("a line feed",               "も\nも".as_bytes(), CutFault::LineFeed(3), None),
         ("a line feed alone",         b"\n",               CutFault::LineFeed(0), None),
-        ("a line feed, then no text", b"ab\n\xff",         CutFault::LineFeed(2), Some(CutFault::NotUtf8)),
-        ("no text",                   b"a\xff",            CutFault::NotUtf8,     Some(CutFault::NotUtf8)),
-        ("too long",                  &long,               CutFault::TooLong,     Some(CutFault::TooLong)),
-        ("too long, no text",         &long_no_text,       CutFault::TooLong,     Some(CutFault::TooLong)),
+        ("a line feed, then no text", b"ab\n\xff",         CutFault::LineFeed(2), Some(no_text)),
+        ("no text",                   b"a\xff",            no_text,               Some(no_text)),
+        ("too long",                  &long,               too_long,              Some(too_long)),
+        ("too long, no text",         &long_no_text,       too_long,              Some(too_long)),
     ];
     for (what, bytes, as_line, as_text) in rows {
         assert!(rt; cutter.cut(bytes) == Err(as_line), "{what}");
