@@ -17,7 +17,7 @@ pub(crate) fn write_cells(alloc: Global, array: &DoubleArray) -> Result<Vec<u8>,
     ensures rules { OnOk result (AreCells array.now) }
     ensures keys { OnOk result (AreOnKeys array.now) }
 {
-    let mut bytes = Vec::new(alloc);
+    let mut bytes = Vec::with_capacity(alloc, 8 * array.len())?;
     for i in 0..array.len() {
         let (base, check) = array.cell(i);
         bytes.extend_from_slice(&cell_bytes(base, check))?;

@@ -7,7 +7,7 @@ ghost use Rattle.image_writer.specs.declared.fault.LexiconFault.TheVariants.{Arr
 use crate::fault::LexiconFault;
 use crate::feature_place::FeaturePlace;
 use image_bytes::FEATURE_BYTES_END;
-use std::alloc::Global;
+use std::alloc::{AllocError, Global};
 
 /// Features, each once, in the order of their first uses. They stay where they are until an image takes them.
 #[derive(Drop)]
@@ -25,15 +25,15 @@ impl<'a> FeatureStore<'a> {
     ghost use Rattle.image_writer.specs.Refusals.{LargeOnlyOf, LargeOnlyWith};
     ghost use Rattle.image_writer.specs.Sections.{HoldsTexts, HoldsOneMore, IsNextUse, IsPlaced, features_in, place_behind};
 
-    /// No features.
-    pub(crate) fn new(alloc: Global) -> FeatureStore<'a>
-        ensures { HoldsTexts [] result }
+    /// No features, and room for those of so many entries.
+    pub(crate) fn new(alloc: Global, entries: usize) -> Result<FeatureStore<'a>, AllocError>
+        ensures { IfOk result (HoldsTexts []) }
     {
-        FeatureStore {
-            texts: Vec::new(alloc),
+        Ok(FeatureStore {
+            texts: Vec::with_capacity(alloc, entries)?,
             size: 0,
-            places: Vec::new(alloc),
-        }
+            places: Vec::with_capacity(alloc, entries)?,
+        })
     }
 
     /// Where the feature of the next entry stands. `first` is the number of the first entry with this feature.

@@ -14,6 +14,7 @@ use crate::keys::{KeyBytes, write_keys};
 use crate::lexicon_bytes::LexiconBytes;
 use crate::token_bytes::TokenBytes;
 use crate::tokens::TokenWriter;
+use crate::unknown_index::unknown_count;
 use char_def::UnkTable;
 use lex_source::SortedLexicon;
 use std::alloc::{AllocError, Global};
@@ -32,14 +33,13 @@ pub(crate) fn write_lexicon<'a>(
     ensures large { IfErr result (LargeOnlyFor (all_rows lexicon.now.rows unknown.now)) }
     ensures full { IfErr result (FullOnlyFor lexicon.now.rows) }
 {
+    let keys = write_keys(alloc, lexicon)?;
     let uses = feature_uses(alloc, lexicon, unknown)?;
     let firsts = first_uses(alloc, uses)?;
-    let mut writer = TokenWriter::new(alloc, firsts);
+    let mut writer = TokenWriter::new(alloc, firsts)?;
     writer.add_all(lexicon.records())?;
     add_unknown(&mut writer, unknown)?;
-    let tokens = writer.into_bytes();
-    let keys = write_keys(alloc, lexicon)?;
-    Ok(sections(keys, tokens))
+    Ok(sections(keys, writer.into_bytes()))
 }
 
 /// The sections of a user dictionary.
@@ -53,15 +53,14 @@ pub(crate) fn write_user_lexicon<'a>(
     ensures large { IfErr result (LargeOnlyFor lexicon.now.rows) }
     ensures full { IfErr result (FullOnlyFor lexicon.now.rows) }
 {
+    let keys = write_keys(alloc, lexicon)?;
     let records = lexicon.records();
     let mut uses = Vec::with_capacity(alloc, records.len())?;
     append_uses(records, &mut uses)?;
     let firsts = first_uses(alloc, uses)?;
-    let mut writer = TokenWriter::new(alloc, firsts);
+    let mut writer = TokenWriter::new(alloc, firsts)?;
     writer.add_all(records)?;
-    let tokens = writer.into_bytes();
-    let keys = write_keys(alloc, lexicon)?;
-    Ok(sections(keys, tokens))
+    Ok(sections(keys, writer.into_bytes()))
 }
 
 /// The keys and the tokens together.
@@ -91,7 +90,8 @@ fn feature_uses<'a>(
         ≡ features_of (all_rows lexicon.now.rows unknown.now)) }
 {
     let records = lexicon.records();
-    let mut uses = Vec::with_capacity(alloc, records.len())?;
+    let entries = records.len().saturating_add(unknown_count(unknown));
+    let mut uses = Vec::with_capacity(alloc, entries)?;
     append_uses(records, &mut uses)?;
     for category in 0..unknown.count() {
         append_uses(unknown.lines(category), &mut uses)?;

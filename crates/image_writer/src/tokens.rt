@@ -1,5 +1,5 @@
 //! The tokens of entries, and their features.
-ghost use Rattle.std.specs.Prelude.{◌≡◌, ◌≢◌, ◌++◌, ◌∷◌, [], List, length, slice_index_or, IfErr, OnOk};
+ghost use Rattle.std.specs.Prelude.{◌≡◌, ◌≢◌, ◌++◌, ◌∷◌, [], List, length, slice_index_or, IfOk, IfErr, OnOk};
 ghost use Rattle.mj_model.specs.Lexicon.{Row, row_of, rows_of};
 ghost use Rattle.image_writer.specs.FirstUses.{AreFirstUses};
 ghost use Rattle.image_writer.specs.Sections.{AreTokenBytes, AreWritten, features_of};
@@ -13,7 +13,7 @@ use crate::features::FeatureStore;
 use crate::token_bytes::TokenBytes;
 use byteorder::{ByteOrder, LittleEndian};
 use mj_model::Record;
-use std::alloc::Global;
+use std::alloc::{AllocError, Global};
 
 /// Tokens of 16 bytes, one behind another, and the features that they name.
 #[derive(Drop)]
@@ -26,15 +26,16 @@ pub(crate) struct TokenWriter<'a> {
 
 impl<'a> TokenWriter<'a> {
     /// No tokens, for entries with these first uses of their features.
-    pub(crate) fn new(alloc: Global, firsts: Vec<usize>) -> TokenWriter<'a>
+    pub(crate) fn new(alloc: Global, firsts: Vec<usize>) -> Result<TokenWriter<'a>, AllocError>
         ensures { (all : List Row) → AreFirstUses (features_of all) firsts.items
-            → AreWritten all [] result }
+            → IfOk result (AreWritten all []) }
     {
-        TokenWriter {
-            tokens: Vec::new(alloc),
-            features: FeatureStore::new(alloc),
+        let entries = firsts.len();
+        Ok(TokenWriter {
+            tokens: Vec::with_capacity(alloc, entries.saturating_mul(16))?,
+            features: FeatureStore::new(alloc, entries)?,
             firsts,
-        }
+        })
     }
 
     /// Adds the tokens of all the records, in their order.

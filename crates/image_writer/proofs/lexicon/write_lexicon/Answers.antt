@@ -14,7 +14,7 @@ returns-in_err-add_all-clause-large c =
     let all = all_rows rows unknown in
     let rest = flat_map (λ (rs : List Row). rs) unknown in
     let parts : all ≡ rows_of c.records.result.now ++ rest = ap (λ (rs : List Row). rs ++ rest) (sym c.records.ensures.rows) in
-    let begun = c.new-writer.ensures all (subst (λ (texts : List (List ℕ)). AreFirstUses texts c.in_ok-firsts.firsts.items) c.in_ok-uses.ensures.features c.in_ok-firsts.ensures) in
+    let begun = c.in_ok-writer.ensures all (subst (λ (texts : List (List ℕ)). AreFirstUses texts c.in_ok-firsts.firsts.items) c.in_ok-uses.ensures.features c.in_ok-firsts.ensures) in
     passed_on c.from_residual-in_err-add_all.result _ c.from_residual-in_err-add_all.ensures.1 (c.in_err-add_all.ensures.large all [] rest parts begun)
 
 pub returns-in_err-add_unknown-clause-large : goal.returns-in_err-add_unknown-clause-large
@@ -24,7 +24,7 @@ returns-in_err-add_unknown-clause-large c =
     let all = all_rows rows unknown in
     let rest = flat_map (λ (rs : List Row). rs) unknown in
     let parts : all ≡ rows_of c.records.result.now ++ rest = ap (λ (rs : List Row). rs ++ rest) (sym c.records.ensures.rows) in
-    let begun = c.new-writer.ensures all (subst (λ (texts : List (List ℕ)). AreFirstUses texts c.in_ok-firsts.firsts.items) c.in_ok-uses.ensures.features c.in_ok-firsts.ensures) in
+    let begun = c.in_ok-writer.ensures all (subst (λ (texts : List (List ℕ)). AreFirstUses texts c.in_ok-firsts.firsts.items) c.in_ok-uses.ensures.features c.in_ok-firsts.ensures) in
     let known = subst (λ (rs : List Row). AreWritten all rs c.add_all.new.self) c.records.ensures.rows (c.in_ok-add_all.ensures.written all [] rest parts begun) in
     passed_on c.from_residual-in_err-add_unknown.result _ c.from_residual-in_err-add_unknown.ensures.1 (c.in_err-add_unknown.ensures.large rows known)
 
@@ -35,6 +35,6 @@ returns-clause-sections c =
     let all = all_rows rows unknown in
     let rest = flat_map (λ (rs : List Row). rs) unknown in
     let parts : all ≡ rows_of c.records.result.now ++ rest = ap (λ (rs : List Row). rs ++ rest) (sym c.records.ensures.rows) in
-    let begun = c.new-writer.ensures all (subst (λ (texts : List (List ℕ)). AreFirstUses texts c.in_ok-firsts.firsts.items) c.in_ok-uses.ensures.features c.in_ok-firsts.ensures) in
+    let begun = c.in_ok-writer.ensures all (subst (λ (texts : List (List ℕ)). AreFirstUses texts c.in_ok-firsts.firsts.items) c.in_ok-uses.ensures.features c.in_ok-firsts.ensures) in
     let known = subst (λ (rs : List Row). AreWritten all rs c.add_all.new.self) c.records.ensures.rows (c.in_ok-add_all.ensures.written all [] rest parts begun) in
-    c.sections.ensures rows unknown c.in_ok-keys.ensures.keys (c.into_bytes-tokens.ensures all (c.in_ok-add_unknown.ensures.written rows known))
+    c.sections.ensures rows unknown c.in_ok-keys.ensures.keys (c.into_bytes.ensures all (c.in_ok-add_unknown.ensures.written rows known))

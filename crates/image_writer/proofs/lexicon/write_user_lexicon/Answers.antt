@@ -12,7 +12,7 @@ returns-in_err-add_all-clause-large c =
     let given = rows_of c.records-records.result.now in
     let parts : rows ≡ given ++ [] = sym c.records-records.ensures.rows ∙ sym (append-nil given) in
     let used = c.in_ok-append_uses.ensures.features ∙ ap (λ (us : List FeatureUse). features_used us ++ features_of given) c.in_ok-uses.ensures.items ∙ ap features_of c.records-records.ensures.rows in
-    let begun = c.new-writer.ensures rows (subst (λ (texts : List (List ℕ)). AreFirstUses texts c.in_ok-firsts.firsts.items) used c.in_ok-firsts.ensures) in
+    let begun = c.in_ok-writer.ensures rows (subst (λ (texts : List (List ℕ)). AreFirstUses texts c.in_ok-firsts.firsts.items) used c.in_ok-firsts.ensures) in
     passed_on c.from_residual-in_err-add_all.result _ c.from_residual-in_err-add_all.ensures.1 (c.in_err-add_all.ensures.large rows [] [] parts begun)
 
 pub returns-clause-sections : goal.returns-clause-sections
@@ -21,7 +21,7 @@ returns-clause-sections c =
     let given = rows_of c.records-records.result.now in
     let parts : rows ≡ given ++ [] = sym c.records-records.ensures.rows ∙ sym (append-nil given) in
     let used = c.in_ok-append_uses.ensures.features ∙ ap (λ (us : List FeatureUse). features_used us ++ features_of given) c.in_ok-uses.ensures.items ∙ ap features_of c.records-records.ensures.rows in
-    let begun = c.new-writer.ensures rows (subst (λ (texts : List (List ℕ)). AreFirstUses texts c.in_ok-firsts.firsts.items) used c.in_ok-firsts.ensures) in
+    let begun = c.in_ok-writer.ensures rows (subst (λ (texts : List (List ℕ)). AreFirstUses texts c.in_ok-firsts.firsts.items) used c.in_ok-firsts.ensures) in
     let written = subst (λ (rs : List Row). AreWritten rows rs c.add_all.new.self) c.records-records.ensures.rows (c.in_ok-add_all.ensures.written rows [] [] parts begun) in
     c.sections.ensures rows [] c.in_ok-keys.ensures.keys
-    (subst (λ (rs : List Row). AreTokenBytes rs c.into_bytes-tokens.result) (sym (append-nil rows)) (c.into_bytes-tokens.ensures rows written))
+    (subst (λ (rs : List Row). AreTokenBytes rs c.into_bytes.result) (sym (append-nil rows)) (c.into_bytes.ensures rows written))
