@@ -90,6 +90,11 @@ static uint32_t print_lines(kumquatsieve_cutter *cutter, struct bytes *in, bool 
     return code;
 }
 
+static void stop(const char *what) {
+    perror(what);
+    exit(2);
+}
+
 /* Reads and writes in large pieces: a call of stdio for each line would cost more than the library's own calls do. */
 static uint32_t print_text(kumquatsieve_cutter *cutter) {
     struct bytes in = {NULL, 0, 0}, out = {NULL, 0, 0};
@@ -99,10 +104,10 @@ static uint32_t print_text(kumquatsieve_cutter *cutter) {
         code = KUMQUATSIEVE_MEMORY;
         if (!make_room(&in, PIECE)) break;
         got = read(STDIN_FILENO, in.at + in.length, PIECE);
-        in.length += got > 0 ? (size_t)got : 0;
-        code = print_lines(cutter, &in, got <= 0, &out);
-        if (out.length > 0) fwrite(out.at, 1, out.length, stdout);
-        fflush(stdout);
+        if (got < 0) stop("standard input");
+        in.length += (size_t)got;
+        code = print_lines(cutter, &in, got == 0, &out);
+        if (fwrite(out.at, 1, out.length, stdout) != out.length || fflush(stdout) != 0) stop("standard output");
         out.length = 0;
     }
     free(in.at);
