@@ -28,7 +28,7 @@ pub(crate) fn system_image<W: Watch>(
     let entries = parts.lexicon.len() as u64;
     let lexicon = parts.lexicon.sorted()?;
     watch.done(Step::Sorted { entries });
-    let image = write_system(alloc, &parts.matrix, &parts.chars, &parts.unknown, &lexicon)?;
+    let image = write_system(alloc, &parts.matrix, &parts.chars, &parts.unknown, lexicon)?;
     Ok(Compiled {
         image,
         entries,

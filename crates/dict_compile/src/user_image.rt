@@ -30,7 +30,7 @@ pub(crate) fn user_image<W: Watch>(
     let entries = read.lexicon.len() as u64;
     let lexicon = read.lexicon.sorted()?;
     watch.done(Step::Sorted { entries });
-    let image = write_user(alloc, &lexicon)?;
+    let image = write_user(alloc, lexicon)?;
     Ok(Compiled {
         image,
         entries,

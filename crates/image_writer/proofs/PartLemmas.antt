@@ -1,5 +1,5 @@
 -- An image is well formed where its parts are, whatever its kind.
-use Rattle.std.proofs.Common.{◌≡◌, ℕ, ◌+◌, ◌*◌, ◌<◌, ◌≤◌, List, [], ◌∷◌, length, ap, ◌∙◌, arith}
+use Rattle.std.proofs.Common.{◌≡◌, ℕ, ◌+◌, ◌*◌, ◌<◌, ◌≤◌, List, [], length, ap, ◌∙◌, arith}
 use Rattle.std.specs.Prelude.{map, slice_index_or, sum_by}
 use Rattle.std.proofs.lemmas.Option.{slice_get-get_or}
 use Rattle.mj_model.specs.declared.limits.TheConstants.{ENTRIES_MAX}
@@ -11,21 +11,15 @@ use Rattle.image_bytes.specs.ImageFaults.{AreCounts, IsHeader, IsWellFormed, Pas
 use Rattle.image_bytes.specs.ImageSections.{AreCategories, AreCosts, AreRanges, FitsSizes, IsIndex, stored_token}
 use Rattle.mj_model.specs.Lexicon.{Row}
 use Rattle.mj_model.specs.Tables.{Kind, Token}
-use Rattle.image_writer.specs.Frames.{IsFramed}
+use Rattle.image_writer.specs.Frames.{IsFramed, sections_with}
 use Rattle.image_writer.specs.declared.lexicon_bytes.LexiconBytes.{LexiconBytes}
 use Rattle.lex_source.specs.Lexicons.{AreLexiconRows}
 use Rattle.char_def.specs.Outside.{all_lines_outside}
 use Rattle.image_writer.specs.Entries.{all_rows, no_row}
-use Rattle.image_writer.specs.Places.{joined_texts}
 use Rattle.image_writer.specs.Sections.{AreSections, IsTokenOf}
 use Rattle.mj_model.specs.Connection.{AreMatrixSizes}
 use Rattle.image_writer.proofs.FormedLemmas.{eight_of, at, formed_of, part_tests}
 use Rattle.image_writer.proofs.RowLemmas.{count_all, ids_within}
-
--- the sections of a table of costs, of categories, of ranges and of an index of unknown entries, and those of a lexicon
-abbrev pub sections_with : List ℕ → List ℕ → List ℕ → List ℕ → LexiconBytes → List (List ℕ)
-sections_with costs categories ranges index bytes =
-    costs ∷ categories ∷ ranges ∷ index ∷ bytes.keys.items ∷ bytes.groups.items ∷ bytes.tokens.items ∷ joined_texts bytes.features.items ∷ []
 
 -- the header of an image with these entries
 abbrev pub header_with : ℕ → MatrixSizes → ℕ → List Row → List (List Row) → List ℕ → List ℕ → List ℕ → List ℕ → LexiconBytes → Header

@@ -8,7 +8,7 @@ use Rattle.image_bytes.specs.Layouts.{key_form}
 use Rattle.mj_model.specs.Lexicon.{Row}
 use Rattle.mj_model.specs.Tables.{User}
 use Rattle.image_bytes.specs.declared.header.Header.{Header}
-use Rattle.image_writer.specs.Frames.{IsFramed}
+use Rattle.image_writer.specs.Frames.{IsFramed, sections_with}
 use Rattle.image_writer.specs.declared.lexicon_bytes.LexiconBytes.{LexiconBytes}
 use Rattle.image_writer.specs.Entries.{lexemes_of, tokens_of}
 use Rattle.image_writer.specs.Sections.{AreSections}
@@ -16,7 +16,7 @@ use Rattle.mj_model.specs.Connection.{AreMatrixSizes}
 use Rattle.lex_source.specs.Lexicons.{AreLexiconRows}
 use Rattle.image_writer.specs.UserImages.{IsUserImage}
 use Rattle.image_writer.proofs.FormedLemmas.{at, from_parts}
-use Rattle.image_writer.proofs.PartLemmas.{AreParts, header_with, sections_with, well_formed}
+use Rattle.image_writer.proofs.PartLemmas.{AreParts, header_with, well_formed}
 
 module _ (sizes : MatrixSizes) (rows : List Row) (bytes : LexiconBytes) where
   -- what the parts say of a user dictionary

@@ -16,13 +16,13 @@ use Rattle.matrix_def.specs.Costs.{CostTable, IsMatrix}
 use Rattle.lex_source.specs.Lexicons.{AreLexiconRows}
 use Rattle.char_def.specs.Categories.{CharCategories, IsCategoryTable}
 use Rattle.char_def.specs.Outside.{all_lines_outside}
-use Rattle.image_writer.specs.Frames.{IsFramed}
+use Rattle.image_writer.specs.Frames.{IsFramed, sections_with}
 use Rattle.image_writer.specs.StoredTables.{AreCategoriesOf, AreCostsOf, HoldRangesOf, AreUnknownOf}
 use Rattle.image_writer.specs.declared.lexicon_bytes.LexiconBytes.{LexiconBytes}
 use Rattle.image_writer.specs.Sections.{AreSections}
 use Rattle.image_writer.specs.SystemImages.{IsSystemImage, tables_with}
 use Rattle.image_writer.proofs.FormedLemmas.{at, eight_of, from_parts}
-use Rattle.image_writer.proofs.PartLemmas.{AreParts, header_with, sections_with, well_formed}
+use Rattle.image_writer.proofs.PartLemmas.{AreParts, header_with, well_formed}
 use Rattle.image_writer.proofs.SystemLemmas.{same_cost, same_unknown}
 
 -- the tables that a header and sections mean

@@ -7,6 +7,7 @@ use Rattle.image_bytes.specs.declared.layout.TheConstants.{LAYOUT}
 use Rattle.image_bytes.specs.ImageBytes.{header_of, image_magic, section, total_length}
 use Rattle.image_bytes.specs.ImageFaults.{HasDigest}
 use Rattle.std.specs.Borrow.{Bor}
+use Rattle.image_writer.specs.declared.lexicon_bytes.LexiconBytes.{LexiconBytes}
 use Rattle.image_writer.specs.Places.{joined_texts}
 use Rattle.image_writer.specs.StoredTables.{cost_section}
 
@@ -40,6 +41,11 @@ pub record IsHeaderFor (sections : List (List ℕ)) (h : Header) : Type 0 where
 -- the sections of an image: costs, six that stand as they are, and features one behind another
 abbrev pub all_sections : List ℤ → List (Bor (List ℕ)) → List (Bor (List ℕ)) → List (List ℕ)
 all_sections costs others features = cost_section costs ∷ (map (λ (section : Bor (List ℕ)). section.now) others ++ joined_texts features ∷ [])
+
+-- the sections of a table of costs, of categories, of ranges and of an index of unknown entries, and those of a lexicon
+abbrev pub sections_with : List ℕ → List ℕ → List ℕ → List ℕ → LexiconBytes → List (List ℕ)
+sections_with costs categories ranges index bytes =
+    costs ∷ categories ∷ ranges ∷ index ∷ bytes.keys.items ∷ bytes.groups.items ∷ bytes.tokens.items ∷ joined_texts bytes.features.items ∷ []
 
 -- an image with this header and these sections
 pub record IsFramed (h : Header) (sections : List (List ℕ)) (image : List ℕ) : Type 0 where

@@ -1,10 +1,12 @@
 //! A whole image.
-ghost use Rattle.std.specs.Prelude.{◌≡◌, ◌++◌, flat_map, IfOk, OnOk};
-ghost use Rattle.image_writer.specs.Frames.{IsFramed, IsHeaderFor, all_sections};
+ghost use Rattle.std.specs.Prelude.{◌≡◌, ◌≤◌, ◌^◌, ◌++◌, flat_map, length, map, IfOk, OnOk};
+ghost use Rattle.image_writer.specs.Frames.{IsFramed, IsHeaderFor, all_sections, sections_with};
+ghost use Rattle.image_writer.specs.StoredTables.{cost_section};
 ghost use Rattle.image_writer.specs.Places.{joined_texts};
 
 use crate::costs::append_costs;
 use crate::header::append_header;
+use crate::lexicon_bytes::LexiconBytes;
 use image_bytes::{DIGEST_LENGTH, HEADER_LENGTH, Header};
 use sha2::{Digest, Sha256};
 use std::alloc::{AllocError, Global};
@@ -29,6 +31,30 @@ pub(crate) fn write_image(
     let digest = Sha256::digest(&image);
     image.extend_from_slice(&digest)?;
     Ok(image)
+}
+
+/// The lengths of the sections of an image.
+pub(crate) fn section_lengths(
+    costs: &[i16],
+    categories: &[u8],
+    ranges: &[u8],
+    index: &[u8],
+    lexicon: &LexiconBytes<'_>,
+) -> [u64; 8]
+    requires few { length costs.now ≤ 2 ^ 30 }
+    ensures { result ≡ map length
+        (sections_with (cost_section costs.now) categories.now ranges.now index.now lexicon.now) }
+{
+    [
+        2 * costs.len() as u64,
+        categories.len() as u64,
+        ranges.len() as u64,
+        index.len() as u64,
+        lexicon.keys.len() as u64,
+        lexicon.groups.len() as u64,
+        lexicon.tokens.len() as u64,
+        lexicon.feature_size as u64,
+    ]
 }
 
 /// How many bytes an image with sections of these lengths has, so that it is never moved while it is written.

@@ -24,17 +24,17 @@ use std::alloc::{AllocError, Global};
 /// The tokens of the unknown entries follow those of the lexicon, category by category. (The layout is this project's own.)
 pub(crate) fn write_lexicon<'a>(
     alloc: Global,
-    lexicon: &SortedLexicon<'a>,
+    lexicon: SortedLexicon<'a>,
     unknown: &UnkTable<'a>,
 ) -> Result<LexiconBytes<'a>, LexiconFault>
-    ensures sections { IfOk result (AreSections lexicon.now.rows unknown.now) }
+    ensures sections { IfOk result (AreSections lexicon.entry.rows unknown.now) }
 
     // A refusal has its reason.
-    ensures large { IfErr result (LargeOnlyFor (all_rows lexicon.now.rows unknown.now)) }
-    ensures full { IfErr result (FullOnlyFor lexicon.now.rows) }
+    ensures large { IfErr result (LargeOnlyFor (all_rows lexicon.entry.rows unknown.now)) }
+    ensures full { IfErr result (FullOnlyFor lexicon.entry.rows) }
 {
-    let keys = write_keys(alloc, lexicon)?;
-    let uses = feature_uses(alloc, lexicon, unknown)?;
+    let keys = write_keys(alloc, &lexicon)?;
+    let uses = feature_uses(alloc, &lexicon, unknown)?;
     let firsts = first_uses(alloc, uses)?;
     let mut writer = TokenWriter::new(alloc, firsts)?;
     writer.add_all(lexicon.records())?;
@@ -45,15 +45,15 @@ pub(crate) fn write_lexicon<'a>(
 /// The sections of a user dictionary.
 pub(crate) fn write_user_lexicon<'a>(
     alloc: Global,
-    lexicon: &SortedLexicon<'a>,
+    lexicon: SortedLexicon<'a>,
 ) -> Result<LexiconBytes<'a>, LexiconFault>
-    ensures sections { IfOk result (AreSections lexicon.now.rows []) }
+    ensures sections { IfOk result (AreSections lexicon.entry.rows []) }
 
     // A refusal has its reason.
-    ensures large { IfErr result (LargeOnlyFor lexicon.now.rows) }
-    ensures full { IfErr result (FullOnlyFor lexicon.now.rows) }
+    ensures large { IfErr result (LargeOnlyFor lexicon.entry.rows) }
+    ensures full { IfErr result (FullOnlyFor lexicon.entry.rows) }
 {
-    let keys = write_keys(alloc, lexicon)?;
+    let keys = write_keys(alloc, &lexicon)?;
     let records = lexicon.records();
     let mut uses = Vec::with_capacity(alloc, records.len())?;
     append_uses(records, &mut uses)?;

@@ -7,7 +7,7 @@ ghost use Rattle.image_writer.specs.SystemImages.{IsSystemImage};
 
 use crate::categories::write_categories;
 use crate::fault::LexiconFault;
-use crate::frame::write_image;
+use crate::frame::{section_lengths, write_image};
 use crate::lexicon::write_lexicon;
 use crate::lexicon_bytes::LexiconBytes;
 use crate::ranges::write_ranges;
@@ -18,48 +18,40 @@ use lex_source::SortedLexicon;
 use matrix_def::Matrix;
 use std::alloc::Global;
 
-/// The image of a system dictionary.
+/// The image of a system dictionary. Its entries go as soon as their sections are made.
 pub fn write_system<'a>(
     alloc: Global,
     matrix: &Matrix,
     chars: &CharTable,
     unknown: &UnkTable<'a>,
-    lexicon: &SortedLexicon<'a>,
+    lexicon: SortedLexicon<'a>,
 ) -> Result<Vec<u8>, LexiconFault>
-    requires sizes { lexicon.now.sizes ≡ matrix.now.sizes }
+    requires sizes { lexicon.sizes ≡ matrix.now.sizes }
     requires categories { length unknown.now ≡ length chars.now.categories }
     requires ids { all_lines_outside matrix.now.sizes unknown.now ≡ [] }
     ensures image { IfOk result (λ image. IsSystemImage matrix.now chars.now unknown.now
-        lexicon.now.rows image.items) }
+        lexicon.entry.rows image.items) }
 
     // A refusal has its reason.
-    ensures large { IfErr result (LargeOnlyFor (all_rows lexicon.now.rows unknown.now)) }
-    ensures full { IfErr result (FullOnlyFor lexicon.now.rows) }
+    ensures large { IfErr result (LargeOnlyFor (all_rows lexicon.entry.rows unknown.now)) }
+    ensures full { IfErr result (FullOnlyFor lexicon.entry.rows) }
 {
     let count = chars.count();
     let entries = lexicon.records().len();
-    let lexicon_bytes = write_lexicon(alloc, lexicon, unknown)?;
+    let made = write_lexicon(alloc, lexicon, unknown)?;
+    let costs = matrix.costs();
+    let categories = write_categories(alloc, chars)?;
+    let ranges = write_ranges(alloc, chars)?;
+    let index = write_unknown_index(alloc, unknown, entries)?;
+    let lengths = section_lengths(costs, &categories, &ranges, &index, &made);
     let LexiconBytes {
         keys,
         groups,
         tokens,
         features,
-        feature_size,
         group_count,
         ..
-    } = lexicon_bytes;
-    let costs = matrix.costs();
-    let categories = write_categories(alloc, chars)?;
-    let ranges = write_ranges(alloc, chars)?;
-    let index = write_unknown_index(alloc, unknown, entries)?;
-    let sections = [
-        categories.as_slice(),
-        &ranges,
-        &index,
-        &keys,
-        &groups,
-        &tokens,
-    ];
+    } = made;
     let header = Header {
         layout: LAYOUT,
         kind: 0,
@@ -68,16 +60,15 @@ pub fn write_system<'a>(
         groups: group_count,
         tokens: entries as u32,
         unknown: unknown_count(unknown) as u32,
-        lengths: [
-            2 * costs.len() as u64,
-            categories.len() as u64,
-            ranges.len() as u64,
-            index.len() as u64,
-            keys.len() as u64,
-            groups.len() as u64,
-            tokens.len() as u64,
-            feature_size as u64,
-        ],
+        lengths,
     };
+    let sections = [
+        categories.as_slice(),
+        &ranges,
+        &index,
+        &keys,
+        &groups,
+        &tokens,
+    ];
     Ok(write_image(alloc, header, costs, &sections, &features)?)
 }

@@ -5,52 +5,42 @@ ghost use Rattle.image_writer.specs.Refusals.{FullOnlyFor, LargeOnlyFor};
 ghost use Rattle.image_writer.specs.UserImages.{IsUserImage};
 
 use crate::fault::LexiconFault;
-use crate::frame::write_image;
+use crate::frame::{section_lengths, write_image};
 use crate::lexicon::write_user_lexicon;
-use crate::lexicon_bytes::LexiconBytes;
 use image_bytes::{Header, LAYOUT};
 use lex_source::SortedLexicon;
 use std::alloc::Global;
 
-/// The image of a user dictionary for connection costs of the lexicon's sizes.
-pub fn write_user(alloc: Global, lexicon: &SortedLexicon<'_>) -> Result<Vec<u8>, LexiconFault>
-    requires sizes { AreMatrixSizes lexicon.now.sizes }
-    ensures image { IfOk result (λ image. IsUserImage lexicon.now.sizes lexicon.now.rows
+/// The image of a user dictionary for connection costs of the lexicon's sizes. Its entries go as soon as their sections are made.
+pub fn write_user(alloc: Global, lexicon: SortedLexicon<'_>) -> Result<Vec<u8>, LexiconFault>
+    requires sizes { AreMatrixSizes lexicon.sizes }
+    ensures image { IfOk result (λ image. IsUserImage lexicon.entry.sizes lexicon.entry.rows
         image.items) }
 
     // A refusal has its reason.
-    ensures large { IfErr result (LargeOnlyFor lexicon.now.rows) }
-    ensures full { IfErr result (FullOnlyFor lexicon.now.rows) }
+    ensures large { IfErr result (LargeOnlyFor lexicon.entry.rows) }
+    ensures full { IfErr result (FullOnlyFor lexicon.entry.rows) }
 {
-    let lexicon_bytes = write_user_lexicon(alloc, lexicon)?;
-    let LexiconBytes {
-        keys,
-        groups,
-        tokens,
-        features,
-        feature_size,
-        group_count,
-        ..
-    } = lexicon_bytes;
-    let sections = [b"".as_slice(), b"", b"", &keys, &groups, &tokens];
+    let sizes = lexicon.sizes();
+    let entries = lexicon.records().len();
+    let made = write_user_lexicon(alloc, lexicon)?;
     let header = Header {
         layout: LAYOUT,
         kind: 1,
-        sizes: lexicon.sizes(),
+        sizes,
         categories: 0,
-        groups: group_count,
-        tokens: lexicon.records().len() as u32,
+        groups: made.group_count,
+        tokens: entries as u32,
         unknown: 0,
-        lengths: [
-            0,
-            0,
-            0,
-            0,
-            keys.len() as u64,
-            groups.len() as u64,
-            tokens.len() as u64,
-            feature_size as u64,
-        ],
+        lengths: section_lengths(&[], b"", b"", b"", &made),
     };
-    Ok(write_image(alloc, header, &[], &sections, &features)?)
+    let sections = [
+        b"".as_slice(),
+        b"",
+        b"",
+        &made.keys,
+        &made.groups,
+        &made.tokens,
+    ];
+    Ok(write_image(alloc, header, &[], &sections, &made.features)?)
 }

@@ -35,5 +35,5 @@ pub fn sample_image(alloc: Global) -> Result<Vec<u8>, Fail> {
         return Err("the ids of the unknown entries lie within the sizes")?;
     }
     let lexicon = sorted(alloc, matrix.sizes(), SAMPLE)?;
-    Ok(write_system(alloc, &matrix, &chars, &unknown, &lexicon)?)
+    Ok(write_system(alloc, &matrix, &chars, &unknown, lexicon)?)
 }

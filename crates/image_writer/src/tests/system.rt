@@ -49,7 +49,7 @@ fn sections_of_the_lexicon(rt: HostRuntime) -> Result<(), Fail> {
     let lexicon = sorted(alloc, MatrixSizes { right: 2, left: 2 }, SAMPLE)?;
     let chars = read_chars(alloc, sample().chars)?;
     let unknown = read_unk(alloc, sample().unk, &chars)?;
-    let sections = write_lexicon(alloc, &lexicon, &unknown)?;
+    let sections = write_lexicon(alloc, lexicon, &unknown)?;
 
     assert_eq!(rt; sections.group_count, 3);
     let groups = b"\0\0\0\0\x01\0\0\0\x02\0\0\0\x03\0\0\0";

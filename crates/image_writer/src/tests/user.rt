@@ -50,7 +50,7 @@ fn sections_of_lexicons(rt: HostRuntime) -> Result<(), Fail> {
         #[rattlefmt::skip]
         let Row { what, sizes, lines, numbers, groups, tokens, features, .. } = row;
         let lexicon = sorted(rt.alloc(), sizes, lines)?;
-        let sections = write_user_lexicon(rt.alloc(), &lexicon)?;
+        let sections = write_user_lexicon(rt.alloc(), lexicon)?;
         let count = sections.group_count.to_le_bytes();
         assert!(rt; numbers.get(12..16) == Some(count.as_slice()), "{what}");
         assert!(rt; sections.groups.as_slice() == groups, "{what}");
@@ -75,7 +75,7 @@ fn user_images(rt: HostRuntime) -> Result<(), Fail> {
         #[rattlefmt::skip]
         let Row { what, sizes, lines, numbers, lengths, groups, tokens, features } = row;
         let lexicon = sorted(rt.alloc(), sizes, lines)?;
-        let image = write_user(rt.alloc(), &lexicon)?;
+        let image = write_user(rt.alloc(), lexicon)?;
         let mut end = Vec::new(rt.alloc());
         for section in [groups, tokens, features] {
             end.extend_from_slice(section)?;

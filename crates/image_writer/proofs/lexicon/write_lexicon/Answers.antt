@@ -9,7 +9,7 @@ use Rattle.image_writer.proofs.lexicon.write_lexicon.Goals as goal
 
 pub returns-in_err-add_all-clause-large : goal.returns-in_err-add_all-clause-large
 returns-in_err-add_all-clause-large c =
-    let rows : List Row = c.args.lexicon.now.rows in
+    let rows : List Row = c.args.lexicon.rows in
     let unknown = c.args.unknown.now in
     let all = all_rows rows unknown in
     let rest = flat_map (λ (rs : List Row). rs) unknown in
@@ -19,7 +19,7 @@ returns-in_err-add_all-clause-large c =
 
 pub returns-in_err-add_unknown-clause-large : goal.returns-in_err-add_unknown-clause-large
 returns-in_err-add_unknown-clause-large c =
-    let rows : List Row = c.args.lexicon.now.rows in
+    let rows : List Row = c.args.lexicon.rows in
     let unknown = c.args.unknown.now in
     let all = all_rows rows unknown in
     let rest = flat_map (λ (rs : List Row). rs) unknown in
@@ -30,7 +30,7 @@ returns-in_err-add_unknown-clause-large c =
 
 pub returns-clause-sections : goal.returns-clause-sections
 returns-clause-sections c =
-    let rows : List Row = c.args.lexicon.now.rows in
+    let rows : List Row = c.args.lexicon.rows in
     let unknown = c.args.unknown.now in
     let all = all_rows rows unknown in
     let rest = flat_map (λ (rs : List Row). rs) unknown in

@@ -8,7 +8,7 @@ use Rattle.image_writer.proofs.lexicon.write_user_lexicon.Goals as goal
 
 pub returns-in_err-add_all-clause-large : goal.returns-in_err-add_all-clause-large
 returns-in_err-add_all-clause-large c =
-    let rows : List Row = c.args.lexicon.now.rows in
+    let rows : List Row = c.args.lexicon.rows in
     let given = rows_of c.records-records.result.now in
     let parts : rows ≡ given ++ [] = sym c.records-records.ensures.rows ∙ sym (append-nil given) in
     let used = c.in_ok-append_uses.ensures.features ∙ ap (λ (us : List FeatureUse). features_used us ++ features_of given) c.in_ok-uses.ensures.items ∙ ap features_of c.records-records.ensures.rows in
@@ -17,7 +17,7 @@ returns-in_err-add_all-clause-large c =
 
 pub returns-clause-sections : goal.returns-clause-sections
 returns-clause-sections c =
-    let rows : List Row = c.args.lexicon.now.rows in
+    let rows : List Row = c.args.lexicon.rows in
     let given = rows_of c.records-records.result.now in
     let parts : rows ≡ given ++ [] = sym c.records-records.ensures.rows ∙ sym (append-nil given) in
     let used = c.in_ok-append_uses.ensures.features ∙ ap (λ (us : List FeatureUse). features_used us ++ features_of given) c.in_ok-uses.ensures.items ∙ ap features_of c.records-records.ensures.rows in

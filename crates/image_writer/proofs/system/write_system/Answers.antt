@@ -1,5 +1,5 @@
-use Rattle.std.proofs.Common.{rules, ◌≡◌, ◌≤◌, ℕ, List, [], ◌∷◌, length, refl, ap, sym, ◌∙◌, subst}
-use Rattle.std.specs.Prelude.{ℤ}
+use Rattle.std.proofs.Common.{◌≡◌, ◌≤◌, ℕ, List, [], ◌∷◌, length, refl, ap, sym, ◌∙◌, subst}
+use Rattle.std.specs.Prelude.{ℤ, map}
 use Rattle.std.proofs.lemmas.List.{length-map}
 use Rattle.mj_model.specs.declared.limits.TheConstants.{ENTRIES_MAX}
 use Rattle.mj_model.specs.declared.matrix_sizes.MatrixSizes.{MatrixSizes}
@@ -7,12 +7,10 @@ use Rattle.mj_model.specs.Lexicon.{Row, row_of}
 use Rattle.lex_source.specs.Lexicons.{AreLexiconRows}
 use Rattle.image_bytes.specs.declared.header.Header.{Header}
 use Rattle.image_bytes.specs.declared.layout.TheConstants.{LAYOUT}
-use Rattle.image_writer.specs.Frames.{IsFramed}
-use Rattle.std.specs.Borrow.{Bor}
+use Rattle.image_writer.specs.Frames.{IsFramed, sections_with}
 use Rattle.image_writer.specs.Places.{joined_texts}
 use Rattle.image_writer.specs.StoredTables.{AreCostsOf, AreUnknownOf, cost_section}
-use Rattle.image_writer.proofs.CostLemmas.{costs_length, own_costs_are}
-use Rattle.image_writer.proofs.PartLemmas.{sections_with}
+use Rattle.image_writer.proofs.CostLemmas.{own_costs_are}
 use Rattle.image_writer.proofs.WholeLemmas.{system_image}
 use Rattle.image_writer.proofs.system.write_system.Goals as goal
 
@@ -21,23 +19,18 @@ returns-clause-image c =
     let m = c.args.matrix.now in
     let chars = c.args.chars.now in
     let unknown = c.args.unknown.now in
-    let rows : List Row = c.args.lexicon.now.rows in
-    let made = c.in_ok-lexicon_bytes.lexicon_bytes in
+    let rows : List Row = c.args.lexicon.rows in
+    let made = c.in_ok-made.made in
     let entries = c.records-entries.ensures in
     let long : length c.records-entries.result.now ≡ length rows = sym (length-map c.records-entries.result.now row_of) ∙ ap length entries.rows in
     let costs = cost_section c.costs-costs.result.now in
-    let given : List (List ℕ) = costs ∷ c.as_slice.result.now ∷ c.deref.result.now ∷ c.deref-2.result.now ∷ c.deref-3.result.now
-    ∷ c.deref-4.result.now ∷ c.deref-5.result.now ∷ joined_texts c.deref-6.result.now ∷ [] in
+    let given : List (List ℕ) = costs ∷ c.as_slice.result.now ∷ c.deref-4.result.now ∷ c.deref-5.result.now ∷ c.deref-6.result.now
+    ∷ c.deref-7.result.now ∷ c.deref-8.result.now ∷ joined_texts c.deref-9.result.now ∷ [] in
     let listed : given ≡ sections_with costs c.in_ok-categories.categories.items c.in_ok-ranges.ranges.items c.in_ok-index.index.items made =
-    λ i. costs ∷ c.as_slice.ensures.value i ∷ c.deref.ensures.value i ∷ c.deref-2.ensures.value i ∷ c.deref-3.ensures.value i
-    ∷ c.deref-4.ensures.value i ∷ c.deref-5.ensures.value i ∷ joined_texts (c.deref-6.ensures.value i) ∷ [] in
-    let categories : c.len.result ≡ length c.in_ok-categories.categories.items = search rules in
-    let ranges : c.len-2.result ≡ length c.in_ok-ranges.ranges.items = search rules in
-    let index : c.len-3.result ≡ length c.in_ok-index.index.items = search rules in
-    let keys : c.len-4.result ≡ length made.keys.items = search rules in
-    let groups : c.len-5.result ≡ length made.groups.items = search rules in
-    let tokens : c.len-6.result ≡ length made.tokens.items = search rules in
-    let features = made.long in
+    λ i. costs ∷ c.as_slice.ensures.value i ∷ c.deref-4.ensures.value i ∷ c.deref-5.ensures.value i ∷ c.deref-6.ensures.value i
+    ∷ c.deref-7.ensures.value i ∷ c.deref-8.ensures.value i ∷ joined_texts (c.deref-9.ensures.value i) ∷ [] in
+    let lengths : c.section_lengths-lengths.result ≡ map length (sections_with costs c.in_ok-categories.categories.items c.in_ok-ranges.ranges.items c.in_ok-index.index.items made) =
+    c.section_lengths-lengths.ensures ∙ λ i. map length (sections_with costs (c.deref.ensures.value i) (c.deref-2.ensures.value i) (c.deref-3.ensures.value i) made) in
     system_image m chars unknown rows costs c.in_ok-categories.categories.items c.in_ok-ranges.ranges.items c.in_ok-index.index.items made
     (record {
       matrix = c.costs-costs.ensures.formed;
@@ -50,7 +43,7 @@ returns-clause-image c =
       categories_are = c.in_ok-categories.ensures;
       ranges_are = c.in_ok-ranges.ensures;
       index_are = subst (λ n. AreUnknownOf n unknown c.in_ok-index.index.items) long c.in_ok-index.ensures;
-      lexicon = c.in_ok-lexicon_bytes.ensures.sections;
+      lexicon = c.in_ok-made.ensures.sections;
     })
     c.in_ok-write_image.field-0.items
     (subst (λ (x : Header × List (List ℕ)). IsFramed x.0 x.1 c.in_ok-write_image.field-0.items)
@@ -63,7 +56,7 @@ returns-clause-image c =
         groups = made.group_count;
         tokens = long i;
         unknown = c.unknown_count.ensures.count i;
-        lengths = (sym (costs_length c.costs-costs.result.now)) i ∷ categories i ∷ ranges i ∷ index i ∷ keys i ∷ groups i ∷ tokens i ∷ features i ∷ [];
+        lengths = lengths i;
       },
       listed i,
     ))
@@ -71,18 +64,13 @@ returns-clause-image c =
 
 pub write_image-requires : goal.write_image-requires
 write_image-requires c =
-    let made = c.in_ok-lexicon_bytes.lexicon_bytes in
-    let categories : c.len.result ≡ length c.in_ok-categories.categories.items = search rules in
-    let ranges : c.len-2.result ≡ length c.in_ok-ranges.ranges.items = search rules in
-    let index : c.len-3.result ≡ length c.in_ok-index.index.items = search rules in
-    let keys : c.len-4.result ≡ length made.keys.items = search rules in
-    let groups : c.len-5.result ≡ length made.groups.items = search rules in
-    let tokens : c.len-6.result ≡ length made.tokens.items = search rules in
-    let features = made.long in
-    record {
-      layout = refl;
-      lengths = λ i. (sym (costs_length c.costs-costs.result.now)) i ∷ (categories ∙ ap length (sym c.as_slice.ensures.value)) i
-          ∷ (ranges ∙ ap length (sym c.deref.ensures.value)) i ∷ (index ∙ ap length (sym c.deref-2.ensures.value)) i
-          ∷ (keys ∙ ap length (sym c.deref-3.ensures.value)) i ∷ (groups ∙ ap length (sym c.deref-4.ensures.value)) i
-          ∷ (tokens ∙ ap length (sym c.deref-5.ensures.value)) i ∷ (features ∙ ap (λ (texts : List (Bor (List ℕ))). length (joined_texts texts)) (sym c.deref-6.ensures.value)) i ∷ [];
-    }
+    let made = c.in_ok-made.made in
+    let costs = cost_section c.costs-costs.result.now in
+    let given : List (List ℕ) = costs ∷ c.as_slice.result.now ∷ c.deref-4.result.now ∷ c.deref-5.result.now ∷ c.deref-6.result.now
+    ∷ c.deref-7.result.now ∷ c.deref-8.result.now ∷ joined_texts c.deref-9.result.now ∷ [] in
+    let listed : given ≡ sections_with costs c.in_ok-categories.categories.items c.in_ok-ranges.ranges.items c.in_ok-index.index.items made =
+    λ i. costs ∷ c.as_slice.ensures.value i ∷ c.deref-4.ensures.value i ∷ c.deref-5.ensures.value i ∷ c.deref-6.ensures.value i
+    ∷ c.deref-7.ensures.value i ∷ c.deref-8.ensures.value i ∷ joined_texts (c.deref-9.ensures.value i) ∷ [] in
+    let lengths : c.section_lengths-lengths.result ≡ map length (sections_with costs c.in_ok-categories.categories.items c.in_ok-ranges.ranges.items c.in_ok-index.index.items made) =
+    c.section_lengths-lengths.ensures ∙ λ i. map length (sections_with costs (c.deref.ensures.value i) (c.deref-2.ensures.value i) (c.deref-3.ensures.value i) made) in
+    record { layout = refl; lengths = lengths ∙ ap (map length) (sym listed) }
