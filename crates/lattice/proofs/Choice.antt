@@ -5,7 +5,7 @@
 -- word of some left id follows, ends in the node that is least by its total and the connection to that left id, then by the later
 -- place, then by the earlier position among the words of that place: the later of the nodes, since the words of a place are added
 -- last to first. A word adds at most 2 ^ 16 to the cost of a chain for each of its bytes, so no sum overflows.
-use Rattle.std.proofs.Common.{◌≡◌, ℕ, zero, suc, ◌+◌, ◌*◌, ◌<◌, ◌≤◌, List, [], ◌∷◌, ◌^◌, All, length, get_or, Some, None, Option, true, ◌⊎◌, inl, inr, refl, sym, ap, ◌∙◌, subst, arith, slice_get}
+use Rattle.std.proofs.Common.{◌≡◌, ℕ, zero, suc, ◌+◌, ◌*◌, ◌<◌, ◌≤◌, List, [], ◌∷◌, ◌^◌, All, length, get_or, Some, true, ◌⊎◌, inl, inr, refl, sym, ap, ◌∙◌, subst, arith, slice_get}
 use Rattle.std.specs.Prelude.{ℤ, ◌+ℤ◌, ◌<ℤ◌}
 use Rattle.std.proofs.lemmas.Int.{ints}
 use Rattle.std.proofs.lemmas.Bool.{cases_lt, eqb-true}
@@ -21,7 +21,7 @@ use Rattle.lattice.specs.Ends.{AreEnds, HasSmallTotal, IsFollowedBy, IsLeast, St
 use Rattle.word_lookup.specs.declared.surface.Surface.{Surface}
 use Rattle.lattice.specs.declared.node.Backpointer.{Backpointer}
 use Rattle.lattice.specs.declared.node.Run.{Run}
-use Rattle.lattice.specs.Nodes.{AreRuns, IsLatest, Node, node_words, nodes_of, reached}
+use Rattle.lattice.specs.Nodes.{AreRuns, IsLatest, Node, link_of, node_words, nodes_of, reached}
 use Rattle.lattice.specs.Lattice.{IsDone, IsLattice, IsJoin, NoChain, Traces}
 use Rattle.paths.specs.Searchable.{MayFollow}
 use Rattle.paths.proofs.ChainsBackLemmas.{best_empty, best_among}
@@ -97,11 +97,11 @@ module _ (words : ℕ → List Word) (conn : ℕ → ℕ → ℤ) (len : ℕ) (s
   ranks_fall : (nodes : List Node) (at i j a b : ℕ) (x y : End) (m n : Node) (ends : List End) → StandFor nodes at 0 ends → slice_get ends a ≡ Some x → slice_get ends b ≡ Some y → x ≡ end_of i m → y ≡ end_of j n → a ≤ b → j ≤ i
   ranks_fall nodes at i j a b x y m n ends h at_a at_b is_x is_y le =
       elim (cases_lt a b) [
-        | inl less ↦ let f = h.falling a b i j x y less at_a at_b (ap (λ (e : End). e.before) is_x) (ap (λ (e : End). e.before) is_y) in omega (arith, f)
+        | inl less ↦ let f = h.falling a b x y less at_a at_b in let of_x = ap (λ (e : End). e.before) is_x in let of_y = ap (λ (e : End). e.before) is_y in omega (arith, f, of_x, of_y)
         | inr more ↦
             let e : a ≡ b = omega arith in
             let same : x ≡ y = same_Some x y (sym at_a ∙ ap (slice_get ends) e ∙ at_b) in
-            let numbers : i ≡ j = same_Some i j (ap (λ (e : End). e.before) (sym is_x ∙ same ∙ is_y)) in
+            let numbers = ap (λ (e : End). e.before) (sym is_x ∙ same ∙ is_y) in
             omega (arith, numbers)
       ]
 
@@ -123,7 +123,7 @@ module _ (words : ℕ → List Word) (conn : ℕ → ℕ → ℤ) (len : ℕ) (s
       let b = l.best o.number n o.here in
       let total : least.end.total ≡ n.total = ap (λ (e : End). e.total) o.is in
       let right : least.end.right ≡ n.word.right = ap (λ (e : End). e.right) o.is in
-      let before : j.before ≡ Some o.number = least.before_is ∙ ap (λ (e : End). e.before) o.is in
+      let before : j.before ≡ suc o.number = least.before_is ∙ ap (λ (e : End). e.before) o.is in
       let cost : j.cost ≡ joined conn (n.word ∷ b.chain) left = least.cost_is ∙ ap (end_cost conn left) o.is ∙ ap (λ (z : ℤ). z +ℤ conn n.word.right left) b.total_is in
       let on = source.are.go_on n.word.place n.word b.is_word in
       let there = o.ends in
@@ -149,16 +149,16 @@ module _ (words : ℕ → List Word) (conn : ℕ → ℕ → ℤ) (len : ℕ) (s
       in
       record {
         chain = n.word ∷ b.chain;
-        traced = subst (λ (link : Option ℕ). Traces nodes link (n.word ∷ b.chain)) (sym before) (n, o.here, refl, b.traced);
+        traced = subst (λ (number : ℕ). Traces nodes (link_of number) (n.word ∷ b.chain)) (sym before) (n, o.here, refl, b.traced);
         best = best_among words conn len source.are n.word b.chain at left above (there, b.is_word, b.best.chain) b.best others;
         cost_is = cost;
       }
 
   -- the empty chain is the best to the beginning
-  begins_join : (nodes : List Node) (left : ℕ) (j : Join) → j.before ≡ None → j.cost ≡ conn 0 left → IsJoin words conn nodes 0 left j
+  begins_join : (nodes : List Node) (left : ℕ) (j : Join) → j.before ≡ 0 → j.cost ≡ conn 0 left → IsJoin words conn nodes 0 left j
   begins_join nodes left j before cost = record {
     chain = [];
-    traced = subst (λ (link : Option ℕ). Traces nodes link []) (sym before) tt;
+    traced = subst (λ (number : ℕ). Traces nodes (link_of number) []) (sym before) tt;
     best = best_empty words conn len source.are left;
     cost_is = omega (arith, ints, cost);
   }
@@ -209,9 +209,9 @@ some_bos nodes ends place start (inl bos) = let e = ap length bos.1 in omega (ar
 some_bos nodes ends place start (inr (above, h)) = absurd (omega (arith, start, above))
 
 -- so there are at a place that some chain reaches
-pub some_reached : (f : Surface → List Word) (runs : List Run) (backs : List Backpointer) (place bound : ℕ) (head : Option ℕ) (ends : List End) → AreRuns f runs → length backs ≡ length (node_words f runs)
-    → reached place head ≡ true → IsLatest runs place bound head → AreEnds (nodes_of (node_words f runs) backs) place ends → 0 < length ends
-some_reached f runs backs place bound None ends runs_are all it_is latest are = some_bos (nodes_of (node_words f runs) backs) ends place (eqb-true place 0 it_is) are
-some_reached f runs backs place bound (Some i) ends runs_are all it_is latest are =
+pub some_reached : (f : Surface → List Word) (runs : List Run) (backs : List Backpointer) (place bound head : ℕ) (ends : List End) → AreRuns f runs → length backs ≡ length (node_words f runs)
+    → reached place head ≡ true → IsLatest runs place bound (link_of head) → AreEnds (nodes_of (node_words f runs) backs) place ends → 0 < length ends
+some_reached f runs backs place bound zero ends runs_are all it_is latest are = some_bos (nodes_of (node_words f runs) backs) ends place (eqb-true place 0 it_is) are
+some_reached f runs backs place bound (suc i) ends runs_are all it_is latest are =
     let node = run_node f runs runs_are backs all i latest.1.0 latest.1.1 in
     some_end (nodes_of (node_words f runs) backs) place latest.1.0.from node.0 ends node.1 (node.2 ∙ latest.1.2) are

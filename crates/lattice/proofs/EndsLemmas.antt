@@ -8,7 +8,7 @@ use Rattle.word_lookup.specs.declared.surface.Surface.{Surface}
 use Rattle.lattice.specs.declared.node.Backpointer.{Backpointer}
 use Rattle.lattice.specs.declared.node.End.{End}
 use Rattle.lattice.specs.declared.node.Run.{Run}
-use Rattle.lattice.specs.Nodes.{AreRuns, IsLatest, LinksAreLatest, Node, node_words, nodes_of}
+use Rattle.lattice.specs.Nodes.{AreRuns, IsLatest, LinksAreLatest, Node, link_of, node_words, nodes_of}
 use Rattle.lattice.specs.Lattice.{IsBelow}
 use Rattle.lattice.specs.Ends.{AreEnds, IsNodeEnd, StandFor, end_of}
 use Rattle.lattice.proofs.Pushed.{get_push_old, get_push_new, get_push_cases}
@@ -24,10 +24,10 @@ latest_below runs place before None h = omega arith
 latest_below runs place before (Some i) h = let l = h.0 in omega (arith, l)
 
 -- links lead back
-pub next_smaller : (runs : List Run) (i : ℕ) (d : Run) → LinksAreLatest runs → i < length runs → link_size (get_or runs i d).next < suc i
+pub next_smaller : (runs : List Run) (i : ℕ) (d : Run) → LinksAreLatest runs → i < length runs → link_size (link_of (get_or runs i d).next) < suc i
 next_smaller runs i d links within =
     let n = get_or runs i d in
-    let l = latest_below runs n.surface.end i n.next (links i n (slice_get-get_or runs i d within)) in
+    let l = latest_below runs n.surface.end i (link_of n.next) (links i n (slice_get-get_or runs i d within)) in
     omega (arith, l)
 
 -- a link leads to one of the runs
@@ -40,7 +40,7 @@ module _ (nodes : List Node) (place : ℕ) where
   none_yet ends e = subst (StandFor nodes place (length nodes)) (sym e) (record {
     each = λ r e h. absurd (cc);
     all = λ k m after at ends. absurd (let w = slice_get_within nodes k m at in omega (arith, w));
-    falling = λ a b i j x y less g h. absurd (cc);
+    falling = λ a b x y less g h. absurd (cc);
   })
 
   -- from a lower number on, where no node between ends at the place
@@ -76,23 +76,23 @@ module _ (nodes : List Node) (place : ℕ) where
     ]
 
     -- an end from before has a greater number
-    greater : (e : End) (k : ℕ) → IsNodeEnd nodes place from e → e.before ≡ Some k → i < k
-    greater e k o is =
-        let same : o.number ≡ k = same_Some o.number k (sym (ap (λ (x : End). x.before) o.is) ∙ is) in
+    greater : (e : End) → IsNodeEnd nodes place from e → suc i < e.before
+    greater e o =
+        let number = ap (λ (x : End). x.before) o.is in
         let a = o.among in
-        omega (arith, a, same)
+        omega (arith, a, low, number)
 
-    new_falling : (a b p q : ℕ) (x y : End) → a < b → slice_get (ends ++ end_of i n ∷ []) a ≡ Some x → slice_get (ends ++ end_of i n ∷ []) b ≡ Some y → x.before ≡ Some p → y.before ≡ Some q → q < p
-    new_falling a b p q x y less at_a at_b is_x is_y = elim (get_push_cases ends (end_of i n) b y at_b) [
+    new_falling : (a b : ℕ) (x y : End) → a < b → slice_get (ends ++ end_of i n ∷ []) a ≡ Some x → slice_get (ends ++ end_of i n ∷ []) b ≡ Some y → y.before < x.before
+    new_falling a b x y less at_a at_b = elim (get_push_cases ends (end_of i n) b y at_b) [
       | inl old_b ↦ elim (get_push_cases ends (end_of i n) a x at_a) [
-        | inl old_a ↦ h.falling a b p q x y less old_a old_b is_x is_y
+        | inl old_a ↦ h.falling a b x y less old_a old_b
         | inr new_a ↦ let w = slice_get_within ends b y old_b in let z = new_a.0 in absurd (omega (arith, w, z))
       ]
       | inr new_b ↦ elim (get_push_cases ends (end_of i n) a x at_a) [
         | inl old_a ↦
-            let g = greater x p (h.each a x old_a) is_x in
-            let same : i ≡ q = same_Some i q (ap (λ (e : End). e.before) new_b.1 ∙ is_y) in
-            omega (arith, g, same)
+            let g = greater x (h.each a x old_a) in
+            let number = ap (λ (e : End). e.before) new_b.1 in
+            omega (arith, g, number)
         | inr new_a ↦ let w = new_b.0 in let z = new_a.0 in absurd (omega (arith, w, z))
       ]
     ]
@@ -172,13 +172,13 @@ module _ (f : Surface → List Word) (runs : List Run) (are : AreRuns f runs) (b
       (stand_lower nodes place ends (start f runs (i + 1)) (start f runs w.from) rise (none_between (i + 1) w.from (λ q r more less. l.2 q r (omega (arith, more)) less)) w.stand)
 
   -- and with its own it is passed
-  pub after_turn : (ends after : List End) (i : ℕ) (run : Run) → LinksAreLatest runs → slice_get runs i ≡ Some run → Walk ends (Some i) → StandFor nodes place run.from after → Walk after run.next
+  pub after_turn : (ends after : List End) (i : ℕ) (run : Run) → LinksAreLatest runs → slice_get runs i ≡ Some run → Walk ends (Some i) → StandFor nodes place run.from after → Walk after (link_of run.next)
   after_turn ends after i run links at w stand =
       let l = w.latest in
       let there : run.surface.end ≡ place = ap (λ (r : Run). r.surface.end) (same_Some run l.1.0 (sym at ∙ l.1.1)) ∙ l.1.2 in
       record {
         from = i;
-        latest = subst (λ (p : ℕ). IsLatest runs p i run.next) there (links i run at);
+        latest = subst (λ (p : ℕ). IsLatest runs p i (link_of run.next)) there (links i run at);
         stand = subst (λ (n : ℕ). StandFor nodes place n after) (are.from i run at) stand;
       }
 

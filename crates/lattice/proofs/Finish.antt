@@ -1,5 +1,5 @@
 -- The lattice of the whole text: the best chain to the greatest place where a node ends is the best path.
-use Rattle.std.proofs.Common.{◌≡◌, ℕ, ◌+◌, ◌<◌, ◌≤◌, List, [], ◌∷◌, length, reverse, Some, None, Option, get_or, inl, inr, refl, sym, ap, ◌∙◌, subst, arith, slice_get}
+use Rattle.std.proofs.Common.{◌≡◌, ℕ, suc, ◌+◌, ◌<◌, ◌≤◌, List, [], ◌∷◌, length, reverse, Some, get_or, inl, inr, refl, sym, ap, ◌∙◌, subst, arith, slice_get}
 use Rattle.std.specs.Prelude.{ℤ}
 use Rattle.std.proofs.lemmas.Bool.{cases_lt}
 use Rattle.std.proofs.lemmas.Option.{slice_get_within, slice_get-get_or}
@@ -10,7 +10,7 @@ use Rattle.lattice.specs.Ends.{AreEnds}
 use Rattle.word_lookup.specs.declared.surface.Surface.{Surface}
 use Rattle.lattice.specs.declared.node.Backpointer.{Backpointer}
 use Rattle.lattice.specs.declared.node.Run.{Run}
-use Rattle.lattice.specs.Nodes.{AreLinked, AreRuns, IsLastHead, IsLatest, Node, node_words, nodes_of}
+use Rattle.lattice.specs.Nodes.{AreLinked, AreRuns, IsLastHead, IsLatest, Node, link_of, node_words, nodes_of}
 use Rattle.paths.specs.Best.{IsSource, IsBestPath}
 use Rattle.paths.specs.Cost.{path_cost}
 use Rattle.paths.specs.ChainsBack.{IsChainTo, joined}
@@ -33,7 +33,7 @@ module _ (words : ℕ → List Word) (conn : ℕ → ℕ → ℤ) (len : ℕ) (s
       l.complete w ws (refl, c.1, c.2) (inl (omega (arith, go, end)))
 
   -- where the last head is, the last node ends
-  pub last_is : (f : Surface → List Word) (runs : List Run) (backs : List Backpointer) (heads : List (Option ℕ)) (k last : ℕ) → IsLattice words conn (nodes_of (node_words f runs) backs) len k → AreRuns f runs → length backs ≡ length (node_words f runs)
+  pub last_is : (f : Surface → List Word) (runs : List Run) (backs : List Backpointer) (heads : List ℕ) (k last : ℕ) → IsLattice words conn (nodes_of (node_words f runs) backs) len k → AreRuns f runs → length backs ≡ length (node_words f runs)
       → AreLinked runs heads → length heads ≡ len + 1 → IsLastHead heads last → IsLastEnd (nodes_of (node_words f runs) backs) last
   last_is f runs backs heads k last l are all linked long is = record {
     each = λ i m at. elim (cases_lt last m.word.end) [
@@ -41,16 +41,16 @@ module _ (words : ℕ → List Word) (conn : ℕ → ℕ → ℤ) (len : ℕ) (s
           let b = l.best i m at in
           let low = source.are.within m.word.place m.word b.is_word in
           let within : m.word.end < length heads = omega (arith, low, long) in
-          let here = slice_get-get_or heads m.word.end None within in
-          let none = is.none_later m.word.end (get_or heads m.word.end None) (omega arith) here in
+          let here = slice_get-get_or heads m.word.end 0 within in
+          let none = is.none_later m.word.end (get_or heads m.word.end 0) (omega arith) here in
           let q = node_run f runs are backs all i m at in
-          absurd (subst (IsLatest runs m.word.end (length runs)) none (linked.heads_latest m.word.end (get_or heads m.word.end None) here) q.0 q.1.run (slice_get_within runs q.0 q.1.run q.1.here) q.1.here (sym q.2))
+          absurd (subst (λ (h : ℕ). IsLatest runs m.word.end (length runs) (link_of h)) none (linked.heads_latest m.word.end (get_or heads m.word.end 0) here) q.0 q.1.run (slice_get_within runs q.0 q.1.run q.1.here) q.1.here (sym q.2))
       | inr more ↦ more
     ];
     reached = elim is.reached [
       | inl start ↦ inl start
       | inr at ↦
-          let latest = linked.heads_latest last (Some at.0) at.1 in
+          let latest = linked.heads_latest last (suc at.0) at.1 in
           let node = run_node f runs are backs all at.0 latest.1.0 latest.1.1 in
           inr (latest.1.0.from, node.0, node.1, node.2 ∙ latest.1.2)
     ];
@@ -83,17 +83,17 @@ module _ (words : ℕ → List Word) (conn : ℕ → ℕ → ℤ) (len : ℕ) (s
     pub links_back : LinksGoBack nodes
     links_back i n at = (l.best i n at).below
 
-    pub join_below : (j : Join) → IsJoin words conn nodes last 0 j → IsBelow j.before (length nodes)
-    join_below j join = below_all nodes j.before join.chain join.traced
+    pub join_below : (j : Join) → IsJoin words conn nodes last 0 j → IsBelow (link_of j.before) (length nodes)
+    join_below j join = below_all nodes (link_of j.before) join.chain join.traced
 
     -- the words from the node before EOS, turned round, are the best path
-    pub path_is_best : (j : Join) (ws vs : List Word) → IsJoin words conn nodes last 0 j → Traces nodes j.before ws → vs ≡ reverse ws → IsBestPath words conn vs
+    pub path_is_best : (j : Join) (ws vs : List Word) → IsJoin words conn nodes last 0 j → Traces nodes (link_of j.before) ws → vs ≡ reverse ws → IsBestPath words conn vs
     path_is_best j ws vs join t is =
-        let same : join.chain ≡ ws = traced_same nodes j.before join.chain ws join.traced t in
+        let same : join.chain ≡ ws = traced_same nodes (link_of j.before) join.chain ws join.traced t in
         subst (IsBestPath words conn) (ap reverse same ∙ sym is) (best_path_from words conn len source.are join.chain last join.best greatest)
 
     -- and its cost is the join's
-    pub path_costs : (j : Join) (ws vs : List Word) → IsJoin words conn nodes last 0 j → Traces nodes j.before ws → vs ≡ reverse ws → j.cost ≡ path_cost conn vs
+    pub path_costs : (j : Join) (ws vs : List Word) → IsJoin words conn nodes last 0 j → Traces nodes (link_of j.before) ws → vs ≡ reverse ws → j.cost ≡ path_cost conn vs
     path_costs j ws vs join t is =
-        let same : join.chain ≡ ws = traced_same nodes j.before join.chain ws join.traced t in
+        let same : join.chain ≡ ws = traced_same nodes (link_of j.before) join.chain ws join.traced t in
         join.cost_is ∙ ap (λ (us : List Word). joined conn us 0) (same ∙ sym (reverse-reverse ws) ∙ ap reverse (sym is)) ∙ sym (cost_reversed words conn len source.are vs)

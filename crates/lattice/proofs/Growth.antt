@@ -1,5 +1,5 @@
 -- The lattice grows by a word and by a place.
-use Rattle.std.proofs.Common.{◌≡◌, ℕ, ◌+◌, ◌<◌, List, [], ◌∷◌, ◌++◌, length, Contains, Some, None, Option, true, false, ◌⊎◌, inl, inr, sym, ap, ◌∙◌, subst, arith, slice_get}
+use Rattle.std.proofs.Common.{◌≡◌, ℕ, zero, suc, ◌+◌, ◌<◌, List, [], ◌∷◌, ◌++◌, length, Contains, Some, true, false, ◌⊎◌, inl, inr, sym, ap, ◌∙◌, subst, arith, slice_get}
 use Rattle.std.specs.Prelude.{ℤ, ◌+ℤ◌}
 use Rattle.std.proofs.lemmas.Bool.{cases_lt, eqb-true, eqb-false}
 use Rattle.std.proofs.lemmas.Option.{same_Some, slice_get_within}
@@ -11,7 +11,7 @@ use Rattle.paths.specs.ChainsBack.{IsChainTo, IsBestTo}
 use Rattle.word_lookup.specs.declared.surface.Surface.{Surface}
 use Rattle.lattice.specs.declared.node.Backpointer.{Backpointer}
 use Rattle.lattice.specs.declared.node.Run.{Run}
-use Rattle.lattice.specs.Nodes.{AreLinked, AreRuns, Node, node_words, nodes_of, reached}
+use Rattle.lattice.specs.Nodes.{AreLinked, AreRuns, Node, link_of, node_words, nodes_of, reached}
 use Rattle.lattice.specs.Lattice.{IsBestNode, IsDone, IsLattice, IsJoin, NoChain, node_of}
 use Rattle.paths.specs.Searchable.{StaysOnPlaces}
 use Rattle.lattice.proofs.Pushed.{get_push_old, get_push_new, get_push_cases, get_from_Contains, Contains_from_get}
@@ -47,11 +47,11 @@ module _ (words : ℕ → List Word) (conn : ℕ → ℕ → ℤ) (len : ℕ) (s
     new_best : IsBestNode words conn (nodes ++ node_of w j ∷ []) (length nodes) (node_of w j)
     new_best = record {
       chain = join.chain;
-      traced = traces_push nodes (node_of w j) j.before join.chain join.traced;
+      traced = traces_push nodes (node_of w j) (link_of j.before) join.chain join.traced;
       best = subst (λ (q : ℕ). IsBestTo words conn join.chain q w.left) (sym at_place) join.best;
       is_word = subst (λ (q : ℕ). Contains (words q) w) (sym at_place) member;
       total_is = ap (λ (z : ℤ). z +ℤ w.cost) join.cost_is;
-      below = below_all nodes j.before join.chain join.traced;
+      below = below_all nodes (link_of j.before) join.chain join.traced;
     }
 
     old_best : (i : ℕ) (n : Node) → IsBestNode words conn nodes i n → IsBestNode words conn (nodes ++ node_of w j ∷ []) i n
@@ -139,11 +139,11 @@ module _ (words : ℕ → List Word) (conn : ℕ → ℕ → ℤ) (len : ℕ) (s
   -- ---- places that some chain reaches
 
   -- a place with a head is where some word ends, or the beginning
-  pub reached_place : (is_place : ℕ → Type 0) (f : Surface → List Word) (runs : List Run) (backs : List Backpointer) (heads : List (Option ℕ)) (p k place : ℕ) (head : Option ℕ) → StaysOnPlaces is_place words → AreRuns f runs → length backs ≡ length (node_words f runs)
+  pub reached_place : (is_place : ℕ → Type 0) (f : Surface → List Word) (runs : List Run) (backs : List Backpointer) (heads : List ℕ) (p k place head : ℕ) → StaysOnPlaces is_place words → AreRuns f runs → length backs ≡ length (node_words f runs)
       → Lattice (nodes_of (node_words f runs) backs) p k → AreLinked runs heads → slice_get heads place ≡ Some head → reached place head ≡ true → is_place place
-  reached_place is_place f runs backs heads p k place None stays are all l linked at yes_it_is = subst is_place (sym (eqb-true place 0 yes_it_is)) stays.begins
-  reached_place is_place f runs backs heads p k place (Some i) stays are all l linked at yes_it_is =
-      let latest = linked.heads_latest place (Some i) at in
+  reached_place is_place f runs backs heads p k place zero stays are all l linked at yes_it_is = subst is_place (sym (eqb-true place 0 yes_it_is)) stays.begins
+  reached_place is_place f runs backs heads p k place (suc i) stays are all l linked at yes_it_is =
+      let latest = linked.heads_latest place (suc i) at in
       let node = run_node f runs are backs all i latest.1.0 latest.1.1 in
       let b = l.best latest.1.0.from node.0 node.1 in
       subst is_place (node.2 ∙ latest.1.2) (stays.word_ends_there node.0.word.place node.0.word b.is_word)
@@ -166,13 +166,13 @@ module _ (words : ℕ → List Word) (conn : ℕ → ℕ → ℤ) (len : ℕ) (s
   }
 
   -- a place without a head is passed over
-  pub not_reached : (f : Surface → List Word) (runs : List Run) (backs : List Backpointer) (heads : List (Option ℕ)) (p : ℕ) (head : Option ℕ) → AreRuns f runs → length backs ≡ length (node_words f runs)
+  pub not_reached : (f : Surface → List Word) (runs : List Run) (backs : List Backpointer) (heads : List ℕ) (p head : ℕ) → AreRuns f runs → length backs ≡ length (node_words f runs)
       → Lattice (nodes_of (node_words f runs) backs) p (length (words p)) → AreLinked runs heads → slice_get heads p ≡ Some head → reached p head ≡ false → Lattice (nodes_of (node_words f runs) backs) (p + 1) (length (words (p + 1)))
-  not_reached f runs backs heads p (Some i) are all l linked at it_is_not = absurd (cc)
-  not_reached f runs backs heads p None are all l linked at it_is_not =
+  not_reached f runs backs heads p (suc i) are all l linked at it_is_not = absurd (cc)
+  not_reached f runs backs heads p zero are all l linked at it_is_not =
       let nodes = nodes_of (node_words f runs) backs in
       let above : 0 < p = let n = eqb-false p 0 it_is_not in omega (arith, n) in
-      let latest = linked.heads_latest p None at in
+      let latest = linked.heads_latest p 0 at in
       passes nodes p (none_leads words conn len source nodes p (length (words p)) p l (omega arith) above (λ k m here there.
       let q = node_run f runs are backs all k m here in
       latest q.0 q.1.run (slice_get_within runs q.0 q.1.run q.1.here) q.1.here (sym q.2 ∙ there))) l

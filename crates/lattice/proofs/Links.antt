@@ -4,7 +4,7 @@ use Rattle.std.proofs.lemmas.Bool.{cases_eq}
 use Rattle.std.proofs.lemmas.Option.{same_Some, slice_get_within, slice_get-get_or}
 use Rattle.mj_model.specs.declared.word.Word.{Word}
 use Rattle.lattice.specs.declared.node.Run.{Run}
-use Rattle.lattice.specs.Nodes.{IsLatest, AreLinked, Node}
+use Rattle.lattice.specs.Nodes.{IsLatest, AreLinked, Node, link_of}
 use Rattle.lattice.specs.Lattice.{Traces, IsBelow}
 use Rattle.std.proofs.lemmas.List.{append_assoc, append-nil, length_push, length-set, get_or-set_same, get_or-set_other}
 use Rattle.lattice.proofs.EndsLemmas.{link_size}
@@ -98,30 +98,30 @@ latest_new runs y =
     (omega (arith, more), (y, get_push_new runs y, refl), λ k m above less at. absurd (omega (arith, more)))
 
 -- the head of the place where the new run ends
-heads_of : (heads : List (Option ℕ)) (e i : ℕ) (h : Option ℕ) → slice_get (set heads e (Some i)) e ≡ Some h → e < length heads → h ≡ Some i
-heads_of heads e i h at within = same_Some h (Some i) (sym at ∙ slice_get-get_or (set heads e (Some i)) e None (omega (arith, length-set heads e (Some i))) ∙ ap Some (get_or-set_same heads e (Some i) None within))
+heads_of : (heads : List ℕ) (e i h : ℕ) → slice_get (set heads e i) e ≡ Some h → e < length heads → h ≡ i
+heads_of heads e i h at within = same_Some h i (sym at ∙ slice_get-get_or (set heads e i) e 0 (omega (arith, length-set heads e i)) ∙ ap Some (get_or-set_same heads e i 0 within))
 
 -- the heads of the other places stay
-other_head : (heads : List (Option ℕ)) (e i place : ℕ) (h : Option ℕ) → (place ≡ e → ⊥) → slice_get (set heads e (Some i)) place ≡ Some h → slice_get heads place ≡ Some h
+other_head : (heads : List ℕ) (e i place h : ℕ) → (place ≡ e → ⊥) → slice_get (set heads e i) place ≡ Some h → slice_get heads place ≡ Some h
 other_head heads e i place h other at =
-    let within : place < length heads = let w = slice_get_within (set heads e (Some i)) place h at in omega (arith, w, length-set heads e (Some i)) in
-    slice_get-get_or heads place None within ∙ ap Some (sym (get_or-set_other heads e place (Some i) None other)) ∙ sym (slice_get-get_or (set heads e (Some i)) place None (omega (arith, within, length-set heads e (Some i)))) ∙ at
+    let within : place < length heads = let w = slice_get_within (set heads e i) place h at in omega (arith, w, length-set heads e i) in
+    slice_get-get_or heads place 0 within ∙ ap Some (sym (get_or-set_other heads e place i 0 other)) ∙ sym (slice_get-get_or (set heads e i) place 0 (omega (arith, within, length-set heads e i))) ∙ at
 
 -- a run is added, with the head of its place as its link, and becomes the head
-pub links_on : (runs : List Run) (heads : List (Option ℕ)) (y : Run) → AreLinked runs heads → slice_get heads y.surface.end ≡ Some y.next → AreLinked (runs ++ y ∷ []) (set heads y.surface.end (Some (length runs)))
+pub links_on : (runs : List Run) (heads : List ℕ) (y : Run) → AreLinked runs heads → slice_get heads y.surface.end ≡ Some y.next → AreLinked (runs ++ y ∷ []) (set heads y.surface.end (suc (length runs)))
 links_on runs heads y l at = record {
   links = λ i n here. elim (get_push_cases runs y i n here) [
-    | inl old ↦ latest_push runs y n.surface.end i n.next (let w = slice_get_within runs i n old in omega (arith, w)) (l.links i n old)
+    | inl old ↦ latest_push runs y n.surface.end i (link_of n.next) (let w = slice_get_within runs i n old in omega (arith, w)) (l.links i n old)
     | inr new ↦
-        subst (λ (x : Run). IsLatest (runs ++ y ∷ []) x.surface.end i x.next) new.1
-        (subst (λ (k : ℕ). IsLatest (runs ++ y ∷ []) y.surface.end k y.next) (sym new.0)
-        (latest_push runs y y.surface.end (length runs) y.next (omega arith) (l.heads_latest y.surface.end y.next at)))
+        subst (λ (x : Run). IsLatest (runs ++ y ∷ []) x.surface.end i (link_of x.next)) new.1
+        (subst (λ (k : ℕ). IsLatest (runs ++ y ∷ []) y.surface.end k (link_of y.next)) (sym new.0)
+        (latest_push runs y y.surface.end (length runs) (link_of y.next) (omega arith) (l.heads_latest y.surface.end y.next at)))
   ];
   heads_latest = λ place h here. elim (cases_eq place y.surface.end) [
     | inl same ↦
-        let e = heads_of heads y.surface.end (length runs) h (subst (λ (p : ℕ). slice_get (set heads y.surface.end (Some (length runs))) p ≡ Some h) same here) (slice_get_within heads y.surface.end y.next at) in
-        subst (λ (o : Option ℕ). IsLatest (runs ++ y ∷ []) place (length (runs ++ y ∷ [])) o) (sym e)
+        let e = heads_of heads y.surface.end (suc (length runs)) h (subst (λ (p : ℕ). slice_get (set heads y.surface.end (suc (length runs))) p ≡ Some h) same here) (slice_get_within heads y.surface.end y.next at) in
+        subst (λ (o : ℕ). IsLatest (runs ++ y ∷ []) place (length (runs ++ y ∷ [])) (link_of o)) (sym e)
         (subst (λ (p : ℕ). IsLatest (runs ++ y ∷ []) p (length (runs ++ y ∷ [])) (Some (length runs))) (sym same) (latest_new runs y))
-    | inr other ↦ latest_past runs y place h (λ e. other (sym e)) (l.heads_latest place h (other_head heads y.surface.end (length runs) place h other here))
+    | inr other ↦ latest_past runs y place (link_of h) (λ e. other (sym e)) (l.heads_latest place h (other_head heads y.surface.end (suc (length runs)) place h other here))
   ];
 }

@@ -1,5 +1,5 @@
 -- Nodes by run: each is a word of its run's surface, with what is kept of it.
-use Rattle.std.proofs.Common.{◌≡◌, ℕ, zero, suc, ◌+◌, ◌-◌, ◌<◌, ◌≤◌, List, [], ◌∷◌, ◌++◌, length, get_or, take, reverse, Some, None, inl, inr, refl, sym, ap, ◌∙◌, subst, arith, slice_get, pos}
+use Rattle.std.proofs.Common.{◌≡◌, ℕ, zero, suc, ◌+◌, ◌-◌, ◌<◌, ◌≤◌, List, [], ◌∷◌, ◌++◌, length, get_or, take, reverse, Some, inl, inr, refl, sym, ap, ◌∙◌, subst, arith, slice_get, pos}
 use Rattle.std.proofs.lemmas.Bool.{cases_lt}
 use Rattle.std.proofs.lemmas.List.{append-nil, get_or-append-add, get_or-reverse, length-append, length-reverse, take-append-le, take_all, take_more}
 use Rattle.std.proofs.lemmas.List.Concat.{flat_map-append, get_or-flat_map}
@@ -94,7 +94,7 @@ abbrev pub no_back : Backpointer
 no_back = record { total = pos 0; before = 0; right = 0 }
 
 abbrev pub no_run : Run
-no_run = record { surface = no_surface; from = 0; next = None }
+no_run = record { surface = no_surface; from = 0; next = 0 }
 
 module _ (f : Surface → List Word) where
   -- how many nodes the first runs have

@@ -1,5 +1,5 @@
 -- The ends of a place, in the order in which they are preferred where costs are equal, and the least of them where a word follows.
-use Rattle.std.specs.Prelude.{◌≡◌, ℕ, ℤ, pos, ◌+ℤ◌, ◌<ℤ◌, ◌≤ℤ◌, ◌<◌, ◌≤◌, ◌^◌, List, [], ◌∷◌, ◌++◌, slice_get, Contains, Some, None, ◌⊎◌}
+use Rattle.std.specs.Prelude.{◌≡◌, ℕ, ℤ, pos, ◌+ℤ◌, ◌<ℤ◌, ◌≤ℤ◌, ◌<◌, ◌≤◌, ◌^◌, List, [], ◌∷◌, ◌++◌, slice_get, Contains, Some, suc, ◌⊎◌}
 use Rattle.mj_model.specs.Bounds.{IsWithin}
 use Rattle.lattice.specs.Nodes.{Node}
 use Rattle.lattice.specs.declared.node.End.{End}
@@ -9,11 +9,11 @@ use Rattle.lattice.specs.declared.joins.LeftJoin.{LeftJoin}
 
 -- node k as an end
 abbrev pub end_of : ℕ → Node → End
-end_of k n = record { total = n.total; right = n.word.right; before = Some k }
+end_of k n = record { total = n.total; right = n.word.right; before = suc k }
 
 -- BOS as an end
 abbrev pub bos_end : End
-bos_end = record { total = pos 0; right = 0; before = None }
+bos_end = record { total = pos 0; right = 0; before = 0 }
 
 -- the end stands for a node from a number on that ends at the place
 pub record IsNodeEnd (nodes : List Node) (place from : ℕ) (e : End) : Type 0 where
@@ -28,7 +28,7 @@ pub record IsNodeEnd (nodes : List Node) (place from : ℕ) (e : End) : Type 0 w
 pub record StandFor (nodes : List Node) (place from : ℕ) (ends : List End) : Type 0 where
   pub each : (r : ℕ) (e : End) → slice_get ends r ≡ Some e → IsNodeEnd nodes place from e
   pub all : (k : ℕ) (m : Node) → from ≤ k → slice_get nodes k ≡ Some m → m.word.end ≡ place → (r : ℕ) × (slice_get ends r ≡ Some (end_of k m))
-  pub falling : (a b i j : ℕ) (x y : End) → a < b → slice_get ends a ≡ Some x → slice_get ends b ≡ Some y → x.before ≡ Some i → y.before ≡ Some j → j < i
+  pub falling : (a b : ℕ) (x y : End) → a < b → slice_get ends a ≡ Some x → slice_get ends b ≡ Some y → y.before < x.before
 
 -- the ends of a place: BOS at the beginning, elsewhere the nodes that end there, the latest first
 abbrev pub AreEnds : List Node → ℕ → List End → Type 0

@@ -1,7 +1,7 @@
 -- The lattice as the search builds it: its nodes are words with their best chains, complete from a word of a place on.
 use Rattle.std.specs.Prelude.{◌≡◌, ℕ, ℤ, ◌+ℤ◌, ◌<◌, ◌≤◌, List, [], ◌∷◌, slice_get, Option, Some, None, Contains, ◌⊎◌}
 use Rattle.mj_model.specs.declared.word.Word.{Word}
-use Rattle.lattice.specs.Nodes.{Node}
+use Rattle.lattice.specs.Nodes.{Node, link_of}
 use Rattle.lattice.specs.declared.node.Join.{Join}
 use Rattle.paths.specs.Order.{IsPreferred}
 use Rattle.paths.specs.ChainsBack.{IsChainTo, joined, IsBestTo}
@@ -41,7 +41,7 @@ pub record IsLattice (words : ℕ → List Word) (conn : ℕ → ℕ → ℤ) (n
 -- a word of this left id at the place joins the best chain to it here
 pub record IsJoin (words : ℕ → List Word) (conn : ℕ → ℕ → ℤ) (nodes : List Node) (p left : ℕ) (j : Join) : Type 0 where
   pub chain : List Word
-  pub traced : Traces nodes j.before chain
+  pub traced : Traces nodes (link_of j.before) chain
   pub best : IsBestTo words conn chain p left
   pub cost_is : j.cost ≡ joined conn chain left
 
@@ -51,7 +51,7 @@ NoChain words p = (ws : List Word) → IsChainTo words ws p → ⊥
 
 -- the node of a word after a chain
 abbrev pub node_of : Word → Join → Node
-node_of w j = record { word = w; total = j.cost +ℤ w.cost; before = j.before }
+node_of w j = record { word = w; total = j.cost +ℤ w.cost; before = link_of j.before }
 
 -- each node's link goes back
 abbrev pub LinksGoBack : List Node → Type 0

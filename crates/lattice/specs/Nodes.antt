@@ -61,23 +61,23 @@ IsLatest runs place before (Some i) =
 
 -- each run's link leads to the latest run before it that ends where it ends
 abbrev pub LinksAreLatest : List Run → Type 0
-LinksAreLatest runs = (i : ℕ) (n : Run) → slice_get runs i ≡ Some n → IsLatest runs n.surface.end i n.next
+LinksAreLatest runs = (i : ℕ) (n : Run) → slice_get runs i ≡ Some n → IsLatest runs n.surface.end i (link_of n.next)
 
--- each run's link, and the link of each place, lead to the latest run that ends there
-pub record AreLinked (runs : List Run) (heads : List (Option ℕ)) : Type 0 where
+-- each run's link, and the head of each place, lead to the latest run that ends there
+pub record AreLinked (runs : List Run) (heads : List ℕ) : Type 0 where
   pub links : LinksAreLatest runs
-  pub heads_latest : (place : ℕ) (head : Option ℕ) → slice_get heads place ≡ Some head → IsLatest runs place (length runs) head
+  pub heads_latest : (place head : ℕ) → slice_get heads place ≡ Some head → IsLatest runs place (length runs) (link_of head)
 
 -- some chain leads to a place with this head
-abbrev pub reached : ℕ → Option ℕ → Bool
-reached place None = nat_eq place 0
-reached place (Some i) = true
+abbrev pub reached : ℕ → ℕ → Bool
+reached place zero = nat_eq place 0
+reached place (suc i) = true
 
 -- no place from a number on has a head
-abbrev pub HaveNoHead : List (Option ℕ) → ℕ → Type 0
-HaveNoHead heads from = (place : ℕ) (head : Option ℕ) → from ≤ place → slice_get heads place ≡ Some head → head ≡ None
+abbrev pub HaveNoHead : List ℕ → ℕ → Type 0
+HaveNoHead heads from = (place head : ℕ) → from ≤ place → slice_get heads place ≡ Some head → head ≡ 0
 
 -- the greatest place that has a head, or 0
-pub record IsLastHead (heads : List (Option ℕ)) (last : ℕ) : Type 0 where
+pub record IsLastHead (heads : List ℕ) (last : ℕ) : Type 0 where
   pub none_later : HaveNoHead heads (last + 1)
-  pub reached : (last ≡ 0) ⊎ ((i : ℕ) × (slice_get heads last ≡ Some (Some i)))
+  pub reached : (last ≡ 0) ⊎ ((i : ℕ) × (slice_get heads last ≡ Some (suc i)))

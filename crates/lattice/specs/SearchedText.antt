@@ -1,5 +1,5 @@
 -- What the search is told of a text, as one record.
-use Rattle.std.specs.Prelude.{◌≡◌, ℕ, ℤ, ◌+◌, ◌++◌, List, length, take, reverse, flat_map, slice_get, Option, Some}
+use Rattle.std.specs.Prelude.{◌≡◌, ℕ, ℤ, ◌+◌, ◌++◌, List, length, take, reverse, flat_map, slice_get, Some}
 use Rattle.std.specs.Option.{option_map_or}
 use Rattle.mj_model.specs.declared.word.Word.{Word}
 use Rattle.paths.specs.Best.{IsBestPath}
@@ -63,7 +63,7 @@ abbrev pub AreAllKept : SearchedText → List Run → List Backpointer → Type 
 AreAllKept t runs backs = length backs ≡ length (node_words t.surface_words runs)
 
 -- the runs are runs of its surfaces, linked by their ends and by the heads of its places, and of each of their nodes something is kept
-pub record AreKept (t : SearchedText) (runs : List Run) (backs : List Backpointer) (heads : List (Option ℕ)) : Type 0 where
+pub record AreKept (t : SearchedText) (runs : List Run) (backs : List Backpointer) (heads : List ℕ) : Type 0 where
   pub runs_are : AreRuns t.surface_words runs
   pub all : AreAllKept t runs backs
   pub rights : HaveRights (node_words t.surface_words runs) backs

@@ -8,7 +8,7 @@ ghost use Rattle.lattice.specs.SearchedText.{AreAllKept, AreKeptIn, AreSurfacesA
 use crate::ends::gather;
 use crate::joining::join;
 use crate::joins::Joins;
-use crate::node::{Backpointer, End, Run};
+use crate::node::{Backpointer, End, Run, linked};
 use crate::source::WordSource;
 use mj_model::Word;
 use std::alloc::{AllocError, Global};
@@ -20,8 +20,8 @@ pub struct Nodes {
     pub runs: Vec<Run>,
     /// What is kept of the nodes of one run after another.
     pub backs: Vec<Backpointer>,
-    /// For each place the number of the latest run that ends there.
-    pub heads: Vec<Option<usize>>,
+    /// For each place the number of the latest run that ends there, counted from 1, and 0 where none does.
+    pub heads: Vec<usize>,
 }
 
 impl Nodes {
@@ -71,7 +71,7 @@ pub fn build<S: WordSource>(
     nodes.runs.clear();
     nodes.backs.clear();
     nodes.heads.clear();
-    nodes.heads.resize(length + 1, None)?;
+    nodes.heads.resize(length + 1, 0)?;
     let mut last = None;
     for place in 0..length {
         add_place(source, nodes, room, place, &mut last)?;
@@ -108,7 +108,7 @@ fn add_place<S: WordSource>(
         source,
         &nodes.runs,
         &nodes.backs,
-        head,
+        linked(head),
         place,
         &mut room.ends,
     )?;
@@ -124,12 +124,12 @@ fn add_place<S: WordSource>(
 }
 
 /// Whether some chain leads to a place with this head.
-fn is_reached(place: usize, head: Option<usize>) -> bool
+fn is_reached(place: usize, head: usize) -> bool
     ensures { result ≡ reached place head }
 {
     match head {
-        Some(_) => true,
-        None => place == 0,
+        0 => place == 0,
+        _ => true,
     }
 }
 
@@ -215,16 +215,15 @@ fn add_surface<S: WordSource>(
 }
 
 /// Adds a run, which becomes the head of the place where it ends.
-fn add_run(runs: &mut Vec<Run>, heads: &mut [Option<usize>], run: Run) -> Result<(), AllocError>
+fn add_run(runs: &mut Vec<Run>, heads: &mut [usize], run: Run) -> Result<(), AllocError>
     requires end { run.surface.end < length heads.old }
     ensures runs { OnOk result (runs.new.items ≡ runs.old.items ++ run ∷ []) }
     ensures heads { OnOk result
-        (heads.new ≡ slice_set heads.old run.surface.end (Some (length runs.old.items))) }
+        (heads.new ≡ slice_set heads.old run.surface.end (length runs.new.items)) }
 {
     let end = run.surface.end;
-    let number = runs.len();
     runs.push(run)?;
-    heads[end] = Some(number);
+    heads[end] = runs.len();
     Ok(())
 }
 
@@ -263,11 +262,11 @@ fn add_words<S: WordSource>(
     ensures joins { OnOk result
         (AreLeast (S.says source.now).connection ends.now joins.new.found.items) }
 {
-    let surface = &surfaces[number];
+    let surface = surfaces[number];
     let mut i = surface.count;
     while 0 < i {
         i -= 1;
-        let word = source.word(surface, i);
+        let word = source.word(&surface, i);
         add_word(source, runs, backs, &word, place, ends, joins)?;
     }
     Ok(())

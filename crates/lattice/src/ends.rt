@@ -1,19 +1,19 @@
 //! The ends of a place.
 
-ghost use Rattle.std.specs.Prelude.{◌≡◌, ◌+◌, ◌<◌, [], length, Contains, OnOk, Some};
+ghost use Rattle.std.specs.Prelude.{◌≡◌, ◌+◌, ◌<◌, ◌^◌, [], length, Contains, OnOk};
 ghost use Rattle.lattice.specs.Ends.{AreEnds, StandFor};
 ghost use Rattle.lattice.specs.Nodes.{AreRuns, HaveRights, IsLatest, LinksAreLatest, node_words};
 ghost use Rattle.lattice.specs.SearchedText.{AreAllKept, nodes_in};
 
-use crate::node::{BOUNDARY_ID, Backpointer, End, Run};
+use crate::node::{BOUNDARY_ID, Backpointer, End, Run, linked};
 use crate::source::WordSource;
 use std::alloc::AllocError;
 
 /// The empty chain.
 const BOS: End = End {
     total: 0,
+    before: 0,
     right: BOUNDARY_ID,
-    before: None,
 };
 
 /// Fills `ends` with the ends of a place, in the order in which they are preferred where costs are equal. `head` leads to the latest of
@@ -63,7 +63,7 @@ fn add_ends<S: WordSource>(
     let mut link = head;
     while let Some(i) = link {
         add_run_ends(source, runs, backs, &runs[i], ends)?;
-        link = runs[i].next;
+        link = linked(runs[i].next);
     }
     Ok(())
 }
@@ -96,12 +96,13 @@ fn add_run_ends<S: WordSource>(
 
 /// A node as an end.
 fn node_end(number: usize, back: &Backpointer) -> End
+    requires { number + 1 < 2 ^ 64 }
     ensures { result
-        ≡ record { total = back.now.total; right = back.now.right; before = Some number } }
+        ≡ record { total = back.now.total; before = number + 1; right = back.now.right } }
 {
     End {
         total: back.total,
+        before: number + 1,
         right: back.right,
-        before: Some(number),
     }
 }

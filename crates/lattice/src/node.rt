@@ -3,7 +3,7 @@
 ghost use Rattle.std.specs.Prelude.{◌≡◌, ◌^◌};
 ghost use Rattle.mj_model.specs.Bounds.{IsWithin};
 ghost use Rattle.lattice.specs.Nodes.{kept_node, link_of};
-ghost use Rattle.lattice.specs.Lattice.{IsBelow, node_of};
+ghost use Rattle.lattice.specs.Lattice.{node_of};
 
 use mj_model::Word;
 use word_lookup::Surface;
@@ -14,12 +14,12 @@ pub const BOUNDARY_ID: u16 = 0;
 /// The nodes of the words of one surface at one place, the last word's first.
 ///
 /// `from` is the number of the first of them, and `next` that of the latest of the runs before it
-/// that end where it ends.
+/// that end where it ends, counted from 1, and 0 where there is none.
 #[derive(Clone, Copy, Debug, Drop)]
 pub struct Run {
     pub surface: Surface,
     pub from: usize,
-    pub next: Option<usize>,
+    pub next: usize,
 }
 
 /// What is kept of a node: its word is that of its run.
@@ -37,18 +37,13 @@ pub struct Backpointer {
 impl Backpointer {
     /// That of a word after a chain.
     pub fn after(found: &Join, word: &Word) -> Backpointer
-        requires cost { IsWithin (2 ^ 40) found.now.cost }
-        requires before { IsBelow found.now.before (2 ^ 63) }
+        requires { IsWithin (2 ^ 40) found.now.cost }
         ensures node { kept_node word.now result ≡ node_of word.now found.now }
         ensures right { result.right ≡ word.now.right }
     {
-        let before = match found.before {
-            Some(number) => number + 1,
-            None => 0,
-        };
         Backpointer {
             total: found.cost + i64::from(word.cost),
-            before,
+            before: found.before,
             right: word.right,
         }
     }
@@ -57,26 +52,33 @@ impl Backpointer {
     pub fn link(&self) -> Option<usize>
         ensures { result ≡ link_of self.now.before }
     {
-        self.before.checked_sub(1)
+        linked(self.before)
     }
 }
 
-/// The end of a chain to a place: that of a node, by its number, or BOS, which has none.
+/// The number that is meant by one counted from 1: none by 0.
+pub fn linked(number: usize) -> Option<usize>
+    ensures { result ≡ link_of number }
+{
+    number.checked_sub(1)
+}
+
+/// The end of a chain to a place: that of a node, or BOS.
 ///
-/// `total` is the chain's cost, and `right` the right id at its end.
+/// `total` is the chain's cost, and `right` the right id at its end. `before` is the node's number, counted from 1, and 0 for BOS.
 #[derive(Clone, Copy, Debug, Drop)]
 pub struct End {
     pub total: i64,
+    pub before: usize,
     pub right: u16,
-    pub before: Option<usize>,
 }
 
-/// The best chain to a place, by the number of its last node, or none where the chain is empty.
+/// The best chain to a place, by the number of its last node, counted from 1, and by 0 where the chain is empty.
 ///
 /// `cost` is the chain's, with the connection cost to a word that follows.
 #[derive(Clone, Copy, Debug, Drop)]
 pub struct Join {
-    pub before: Option<usize>,
+    pub before: usize,
     pub cost: i64,
 }
 

@@ -8,7 +8,7 @@ ghost use Rattle.lattice.specs.SearchedText.{AreAllKept, AreKeptIn, CanBeSearche
 use crate::building::Nodes;
 use crate::ends::gather;
 use crate::joining::least;
-use crate::node::{BOUNDARY_ID, Backpointer, End, Run};
+use crate::node::{BOUNDARY_ID, Backpointer, End, Run, linked};
 use crate::source::WordSource;
 use mj_model::Word;
 use std::alloc::AllocError;
@@ -32,26 +32,27 @@ pub fn trace_best<S: WordSource>(
         source,
         &nodes.runs,
         &nodes.backs,
-        nodes.heads[last],
+        linked(nodes.heads[last]),
         last,
         ends,
     )?;
     let found = least(source, ends, BOUNDARY_ID);
-    words_back(source, &nodes.runs, &nodes.backs, found.before, words)?;
+    let from = linked(found.before);
+    words_back(source, &nodes.runs, &nodes.backs, from, words)?;
     words.reverse();
     Ok(found.cost)
 }
 
 /// The greatest place that has a head, or the beginning.
-fn last_end(heads: &[Option<usize>]) -> usize
+fn last_end(heads: &[usize]) -> usize
     ensures { IsLastHead heads.now result }
 {
     let mut behind = heads.len();
     while 1 < behind {
-        match heads[behind - 1] {
-            Some(_) => return behind - 1,
-            None => behind -= 1,
+        if 0 < heads[behind - 1] {
+            return behind - 1;
         }
+        behind -= 1;
     }
     0
 }

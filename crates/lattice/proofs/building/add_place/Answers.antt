@@ -4,7 +4,7 @@ use Rattle.lattice.specs.declared.node.Backpointer.{Backpointer}
 use Rattle.lattice.specs.declared.node.End.{End}
 use Rattle.lattice.specs.declared.node.Run.{Run}
 use Rattle.lattice.specs.Ends.{AreEnds}
-use Rattle.lattice.specs.Nodes.{IsLatest}
+use Rattle.lattice.specs.Nodes.{IsLatest, link_of}
 use Rattle.lattice.specs.SearchedText.{nodes_in}
 use Rattle.lattice.proofs.Choice.{some_reached}
 use Rattle.lattice.proofs.Growth.{not_reached, reached_place}
@@ -41,7 +41,8 @@ gather-requires-clause-head g c =
     let long = kept.places in
     let within : c.args.place < length heads = omega (arith, c.requires.place, long) in
     let at = slice_get_read heads (length heads) c.args.place c.index-head.result.now refl within c.index-head.ensures in
-    subst (λ (xs : List Run). IsLatest xs c.args.place (length xs) c.index-head.result.now) (sym c.deref.ensures.value) (kept.linked.heads_latest c.args.place c.index-head.result.now at)
+    subst (IsLatest c.deref.result.now c.args.place (length c.deref.result.now)) (sym c.linked.ensures)
+    (subst (λ (xs : List Run). IsLatest xs c.args.place (length xs) (link_of c.index-head.result.now)) (sym c.deref.ensures.value) (kept.linked.heads_latest c.args.place c.index-head.result.now at))
 
 pub add_surfaces-requires-clause-some : goal.add_surfaces-requires-clause-some
 add_surfaces-requires-clause-some g c =

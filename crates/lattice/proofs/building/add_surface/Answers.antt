@@ -1,5 +1,5 @@
-use Rattle.std.proofs.Common.{arith, ◌≡◌, ℕ, ◌+◌, ◌<◌, ◌++◌, List, [], ◌∷◌, Option, Some, length, get_or, set, take, drop, refl, sym, subst, ap, ◌∙◌, slice_get}
-use Rattle.std.proofs.lemmas.List.{length-set, take_at}
+use Rattle.std.proofs.Common.{arith, ◌≡◌, ℕ, suc, ◌+◌, ◌<◌, ◌++◌, List, [], ◌∷◌, Some, length, get_or, set, take, drop, refl, sym, subst, ap, ◌∙◌, slice_get}
+use Rattle.std.proofs.lemmas.List.{length-set, length_push, take_at}
 use Rattle.std.proofs.lemmas.Option.{slice_get-get_or, slice_get_read}
 use Rattle.lattice.specs.declared.node.Run.{Run}
 use Rattle.lattice.specs.Ends.{AreEnds}
@@ -100,19 +100,20 @@ returns-clause-kept g c =
     let end = surface_ends t c.args.place surfaces c.requires.surfaces c.requires.source.source c.args.number no_surface c.requires.number in
     let within : s.end < length heads = omega (arith, end, long) in
     let at : slice_get heads s.end ≡ Some run.next = slice_get_read heads (length heads) s.end c.index.result.now refl within c.index.ensures in
-    let set_heads = c.in_ok-add_run.ensures.heads ∙ ap (λ (hs : List (Option ℕ)). set hs s.end (Some (length nodes.runs.items))) c.deref_mut.ensures.value in
-    let size = ap length set_heads ∙ length-set heads s.end (Some (length nodes.runs.items)) in
+    let more : length (nodes.runs.items ++ run ∷ []) ≡ suc (length nodes.runs.items) = let n = length_push nodes.runs.items run in omega (arith, n) in
+    let set_heads = c.in_ok-add_run.ensures.heads ∙ ap (λ (hs : List ℕ). set hs s.end (length c.add_run.new.runs.items)) c.deref_mut.ensures.value ∙ ap (set heads s.end) (ap length c.in_ok-add_run.ensures.runs ∙ more) in
+    let size = ap length set_heads ∙ length-set heads s.end (suc (length nodes.runs.items)) in
     let heads_now = take_at c.add_run.new.heads (drop (length c.add_run.new.heads) heads) nodes.heads.len (size ∙ sym ok.0) ∙ set_heads in
     let from = c.len.ensures ∙ nodes.backs.ok.0 ∙ kept.all in
     let whole = whole_at t c.args.place surfaces c.requires.surfaces c.args.number no_surface c.requires.number in
     let runs_are = subst (AreRuns t.surface_words) (sym c.in_ok-add_run.ensures.runs) (runs_push t.surface_words nodes.runs.items run kept.runs_are whole from) in
     let linked = links_on nodes.runs.items heads run kept.linked at in
     let all = c.in_ok-add_words.ensures.all ∙ ap (λ (rs : List Run). length (node_words t.surface_words rs)) c.deref.ensures.value in
-    let places = ap length heads_now ∙ length-set heads s.end (Some (length nodes.runs.items)) ∙ kept.places in
+    let places = ap length heads_now ∙ length-set heads s.end (suc (length nodes.runs.items)) ∙ kept.places in
     record {
       runs_are = runs_are;
       all = all;
       rights = subst (λ (rs : List Run). HaveRights (node_words t.surface_words rs) c.add_words.new.backs.items) c.deref.ensures.value c.in_ok-add_words.ensures.rights;
-      linked = subst (λ (rs : List Run). AreLinked rs (take nodes.heads.len (c.add_run.new.heads ++ drop (length c.add_run.new.heads) heads))) (sym c.in_ok-add_run.ensures.runs) (subst (λ (hs : List (Option ℕ)). AreLinked (nodes.runs.items ++ run ∷ []) hs) (sym heads_now) linked);
+      linked = subst (λ (rs : List Run). AreLinked rs (take nodes.heads.len (c.add_run.new.heads ++ drop (length c.add_run.new.heads) heads))) (sym c.in_ok-add_run.ensures.runs) (subst (λ (hs : List ℕ). AreLinked (nodes.runs.items ++ run ∷ []) hs) (sym heads_now) linked);
       places = places;
     }

@@ -1,5 +1,4 @@
-use Rattle.std.proofs.Common.{arith, ◌≡◌, ◌+◌, ◌^◌, ◌++◌, List, [], ◌∷◌, sym, subst, ap, ◌∙◌, length}
-use Rattle.std.proofs.lemmas.Option.{slice_get_within}
+use Rattle.std.proofs.Common.{arith, ◌≡◌, ◌+◌, ◌++◌, List, [], ◌∷◌, sym, subst, ap, ◌∙◌}
 use Rattle.lattice.specs.Nodes.{HaveRights, Node, node_words, nodes_of}
 use Rattle.lattice.specs.Ends.{AreEnds}
 use Rattle.lattice.specs.Lattice.{IsLattice, node_of}
@@ -7,8 +6,7 @@ use Rattle.lattice.specs.SearchedText.{nodes_in}
 use Rattle.lattice.proofs.Choice.{all_followed, least_joins, small_join, small_totals}
 use Rattle.lattice.proofs.EndsLemmas.{ends_past}
 use Rattle.lattice.proofs.Growth.{grows, word_goes_on, word_there}
-use Rattle.lattice.proofs.Links.{below_all, below_up}
-use Rattle.lattice.proofs.RunNodes.{nodes_push, nodes_length, rights_push}
+use Rattle.lattice.proofs.RunNodes.{nodes_push, rights_push}
 use Rattle.lattice.proofs.building.add_word.Goals as goal
 
 pub join-requires-clause-totals : goal.join-requires-clause-totals
@@ -28,8 +26,8 @@ join-requires-clause-pairs g c =
     all_followed t.words t.connection t.text_length c.requires.source.source t.is_pair
     nodes c.args.place (k + 1) c.args.place word.left c.args.ends.now (c.requires.source.word_follows c.args.place word there) c.requires.lattice.2 c.requires.ends
 
-pub after-requires-clause-cost : goal.after-requires-clause-cost
-after-requires-clause-cost g c =
+pub after-requires : goal.after-requires
+after-requires g c =
     let t = g.S.WordSource.says c.args.source.now in
     let nodes = nodes_in t c.args.runs.now c.args.backs.now.items in
     let word = c.args.word.now in
@@ -37,22 +35,6 @@ after-requires-clause-cost g c =
     let found = c.in_ok-found.found in
     let joins = least_joins t.words t.connection t.text_length c.requires.source.source nodes c.args.place (k + 1) c.args.place word.left c.args.ends.now found c.requires.lattice.2 (omega arith) c.requires.ends c.in_ok-found.ensures.join in
     small_join t.words t.connection t.text_length c.requires.source.source nodes c.args.place word.left found c.requires.source.short c.requires.place joins
-
-pub after-requires-clause-before : goal.after-requires-clause-before
-after-requires-clause-before g c =
-    let t = g.S.WordSource.says c.args.source.now in
-    let nodes = nodes_in t c.args.runs.now c.args.backs.now.items in
-    let word = c.args.word.now in
-    let k = c.requires.lattice.0 in
-    let found = c.in_ok-found.found in
-    let joins = least_joins t.words t.connection t.text_length c.requires.source.source nodes c.args.place (k + 1) c.args.place word.left c.args.ends.now found c.requires.lattice.2 (omega arith) c.requires.ends c.in_ok-found.ensures.join in
-    let words = node_words t.surface_words c.args.runs.now in
-    let backs = c.args.backs.now in
-    let low = slice_get_within words (length backs.items) word c.requires.next in
-    let long = nodes_length words backs.items (omega (arith, low)) in
-    let ok = backs.ok in
-    let small = backs.small in
-    below_up found.before (length nodes) (2 ^ 63) (below_all nodes found.before joins.chain joins.traced) (omega (arith, long, ok.0, ok.1, small))
 
 pub returns-clause-lattice : goal.returns-clause-lattice
 returns-clause-lattice g c =

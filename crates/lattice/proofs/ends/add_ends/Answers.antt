@@ -1,6 +1,7 @@
-use Rattle.std.proofs.Common.{ℕ, ◌<◌, ◌+◌, subst, sym, refl, Option, Some, get_or}
+use Rattle.std.proofs.Common.{ℕ, ◌<◌, ◌+◌, subst, sym, refl, suc, Option, Some, get_or}
 use Rattle.std.proofs.lemmas.Option.{slice_get-get_or}
 use Rattle.lattice.specs.Ends.{StandFor}
+use Rattle.lattice.specs.Nodes.{link_of}
 use Rattle.lattice.specs.SearchedText.{nodes_in}
 use Rattle.lattice.proofs.EndsLemmas.{after_turn, before_turn, below_there, ends_here, gathered_at, link_size, next_smaller, run_there, walk_ends, walk_starts}
 use Rattle.lattice.proofs.RunNodes.{no_run}
@@ -29,7 +30,8 @@ loop-link-smaller g c =
     let t = g.S.WordSource.says c.args.source.now in
     let runs = c.args.runs.now in
     let within = run_there t.surface_words runs c.requires.runs c.args.backs.now c.requires.all c.args.place c.loop-link.ends.items c.loop-link.link c.in-Some.i c.in-Some.is c.loop-link.invariant.walk in
-    subst (λ (o : Option ℕ). link_size (get_or runs c.in-Some.i no_run).next < link_size o) (sym c.in-Some.is) (next_smaller runs c.in-Some.i no_run c.requires.links within)
+    subst (λ (o : Option ℕ). link_size c.linked-link.result < link_size o) (sym c.in-Some.is)
+    (subst (λ (o : Option ℕ). link_size o < suc c.in-Some.i) (sym c.linked-link.ensures) (next_smaller runs c.in-Some.i no_run c.requires.links within))
 
 pub loop-link-preserved : goal.loop-link-preserved
 loop-link-preserved g c =
@@ -42,8 +44,8 @@ loop-link-preserved g c =
     let run = get_or runs i no_run in
     let at = slice_get-get_or runs i no_run (run_there t.surface_words runs c.requires.runs c.args.backs.now c.requires.all c.args.place ends (Some i) i refl w) in
     let stand = subst (λ (p : ℕ). StandFor (nodes_in t runs c.args.backs.now) p run.from after) (ends_here t.surface_words runs c.requires.runs c.args.backs.now c.requires.all c.args.place ends i run at w) c.in_ok-add_run_ends.ensures in
-    let walk = after_turn t.surface_words runs c.requires.runs c.args.backs.now c.requires.all c.args.place ends after i run c.requires.links at w stand in
-    record { below = below_there t.surface_words runs c.requires.runs c.args.backs.now c.requires.all c.args.place after run.next walk; walk = walk }
+    let walk = gathered_at t.surface_words runs c.requires.runs c.args.backs.now c.requires.all c.args.place after (link_of run.next) c.linked-link.result (sym c.linked-link.ensures) (after_turn t.surface_words runs c.requires.runs c.args.backs.now c.requires.all c.args.place ends after i run c.requires.links at w stand) in
+    record { below = below_there t.surface_words runs c.requires.runs c.args.backs.now c.requires.all c.args.place after c.linked-link.result walk; walk = walk }
 
 pub returns : goal.returns
 returns g c =

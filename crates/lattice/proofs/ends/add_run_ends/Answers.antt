@@ -1,4 +1,4 @@
-use Rattle.std.proofs.Common.{◌≡◌, ℕ, ◌+◌, ◌-◌, ◌<◌, ◌∙◌, ap, arith, get_or, subst, Some}
+use Rattle.std.proofs.Common.{◌≡◌, ℕ, suc, ◌+◌, ◌-◌, ◌<◌, ◌∙◌, ap, arith, get_or, subst}
 use Rattle.std.proofs.lemmas.Option.{slice_get-get_or}
 use Rattle.lattice.specs.Ends.{StandFor}
 use Rattle.lattice.specs.Nodes.{kept_node}
@@ -39,9 +39,10 @@ loop-left-preserved g c =
     let kept = slice_get-get_or backs i no_back (omega (arith, among, some)) in
     let right = c.requires.rights i word (get_or backs i no_back) (run_word t.surface_words runs c.requires.runs at.0 run left word at.1 less at_word) kept in
     let same : run.from + c.loop-left.left ≡ i + 1 = omega (arith, some) in
+    let next : i + 1 ≡ suc i = omega arith in
     record {
       within = omega (arith, low);
       among = omega (arith, among);
-      stand = stand_next (nodes_in t runs backs) run.surface.end c.loop-left.ends.items c.push.new.self.items i n c.node_end.result here there (c.node_end.ensures ∙ ap (λ (r : ℕ). record { total = (get_or backs i no_back).total; right = r; before = Some i }) right) c.in_ok-push.ensures.items
+      stand = stand_next (nodes_in t runs backs) run.surface.end c.loop-left.ends.items c.push.new.self.items i n c.node_end.result here there (c.node_end.ensures ∙ ap (λ (b : ℕ). record { total = (get_or backs i no_back).total; before = b; right = (get_or backs i no_back).right }) next ∙ ap (λ (r : ℕ). record { total = (get_or backs i no_back).total; before = suc i; right = r }) right) c.in_ok-push.ensures.items
           (subst (λ (k : ℕ). StandFor (nodes_in t runs backs) run.surface.end k c.loop-left.ends.items) same c.loop-left.invariant.stand);
     }

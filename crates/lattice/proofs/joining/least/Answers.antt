@@ -1,4 +1,4 @@
-use Rattle.std.proofs.Common.{rules, arith, ◌≡◌, ℕ, None, pos, refl, subst, length, get_or, to_z, of_z, w64}
+use Rattle.std.proofs.Common.{rules, arith, ◌≡◌, ℕ, pos, refl, subst, length, get_or, to_z, of_z, w64}
 use Rattle.std.proofs.lemmas.Int.{to_z-of_z}
 use mir.Val.{SFits}
 use Rattle.lattice.specs.declared.node.End.{End}
@@ -6,7 +6,7 @@ use Rattle.lattice.proofs.Least.{IsLeastOf, least_more, least_of_all}
 use Rattle.lattice.proofs.joining.least.Goals as goal
 
 abbrev no_end : End
-no_end = record { total = pos 0; right = 0; before = None }
+no_end = record { total = pos 0; before = 0; right = 0 }
 
 pub loop-rank-preserved : goal.loop-rank-preserved
 loop-rank-preserved g c =

@@ -5,7 +5,7 @@ use Rattle.lattice.specs.declared.node.End.{End}
 use Rattle.lattice.specs.declared.node.Run.{Run}
 use Rattle.lattice.specs.Ends.{AreEnds, HasSmallTotal, IsFollowedBy, IsLeast}
 use Rattle.lattice.specs.Lattice.{IsBelow, LinksGoBack, Traces}
-use Rattle.lattice.specs.Nodes.{IsLastHead, Node, node_words}
+use Rattle.lattice.specs.Nodes.{IsLastHead, Node, link_of, node_words}
 use Rattle.lattice.specs.SearchedText.{nodes_in}
 use Rattle.lattice.proofs.Choice.{all_followed, least_joins, small_totals}
 use Rattle.lattice.proofs.Finish.{leads_there, links_back, join_below, path_is_best, path_costs, last_is, last_low}
@@ -23,7 +23,7 @@ least-found-requires-clause-some g c =
     let k = length (t.words t.text_length) in
     let last = c.last_end-last.result in
     let is_last = last_is t.words t.connection t.text_length source t.surface_words runs backs c.args.nodes.now.heads.items k last c.requires.lattice kept.runs_are kept.all kept.linked kept.places
-    (subst (λ (hs : List (Option ℕ)). IsLastHead hs last) c.deref.ensures.value c.last_end-last.ensures) in
+    (subst (λ (hs : List ℕ). IsLastHead hs last) c.deref.ensures.value c.last_end-last.ensures) in
     let ends = c.gather.new.ends.items in
     let are : AreEnds nodes last ends = subst (λ (ns : List Node). AreEnds ns last ends) (ap (λ (rs : List Run). nodes_in t rs c.deref-3.result.now) c.deref-2.ensures.value ∙ ap (nodes_in t runs) c.deref-3.ensures.value) c.in_ok-gather.ensures in
     subst (λ (xs : List End). 0 < length xs) (sym c.deref-4.ensures.value) (leads_there t.words t.connection t.text_length source nodes k last c.requires.lattice is_last ends are)
@@ -39,7 +39,7 @@ least-found-requires-clause-totals g c =
     let k = length (t.words t.text_length) in
     let last = c.last_end-last.result in
     let is_last = last_is t.words t.connection t.text_length source t.surface_words runs backs c.args.nodes.now.heads.items k last c.requires.lattice kept.runs_are kept.all kept.linked kept.places
-    (subst (λ (hs : List (Option ℕ)). IsLastHead hs last) c.deref.ensures.value c.last_end-last.ensures) in
+    (subst (λ (hs : List ℕ). IsLastHead hs last) c.deref.ensures.value c.last_end-last.ensures) in
     let ends = c.gather.new.ends.items in
     let are : AreEnds nodes last ends = subst (λ (ns : List Node). AreEnds ns last ends) (ap (λ (rs : List Run). nodes_in t rs c.deref-3.result.now) c.deref-2.ensures.value ∙ ap (nodes_in t runs) c.deref-3.ensures.value) c.in_ok-gather.ensures in
     subst (λ (xs : List End). All HasSmallTotal xs) (sym c.deref-4.ensures.value) (small_totals t.words t.connection t.text_length source nodes t.text_length k last ends c.requires.source.short c.requires.lattice are)
@@ -55,7 +55,7 @@ least-found-requires-clause-pairs g c =
     let k = length (t.words t.text_length) in
     let last = c.last_end-last.result in
     let is_last = last_is t.words t.connection t.text_length source t.surface_words runs backs c.args.nodes.now.heads.items k last c.requires.lattice kept.runs_are kept.all kept.linked kept.places
-    (subst (λ (hs : List (Option ℕ)). IsLastHead hs last) c.deref.ensures.value c.last_end-last.ensures) in
+    (subst (λ (hs : List ℕ). IsLastHead hs last) c.deref.ensures.value c.last_end-last.ensures) in
     let ends = c.gather.new.ends.items in
     let are : AreEnds nodes last ends = subst (λ (ns : List Node). AreEnds ns last ends) (ap (λ (rs : List Run). nodes_in t rs c.deref-3.result.now) c.deref-2.ensures.value ∙ ap (nodes_in t runs) c.deref-3.ensures.value) c.in_ok-gather.ensures in
     subst (λ (xs : List End). All (IsFollowedBy t.is_pair 0) xs) (sym c.deref-4.ensures.value) (all_followed t.words t.connection t.text_length source t.is_pair nodes t.text_length k last 0 ends c.requires.source.eos_follows c.requires.lattice are)
@@ -71,7 +71,7 @@ words_back-requires-clause-links g c =
     let k = length (t.words t.text_length) in
     let last = c.last_end-last.result in
     let is_last = last_is t.words t.connection t.text_length source t.surface_words runs backs c.args.nodes.now.heads.items k last c.requires.lattice kept.runs_are kept.all kept.linked kept.places
-    (subst (λ (hs : List (Option ℕ)). IsLastHead hs last) c.deref.ensures.value c.last_end-last.ensures) in
+    (subst (λ (hs : List ℕ). IsLastHead hs last) c.deref.ensures.value c.last_end-last.ensures) in
     subst LinksGoBack (sym (ap (λ (rs : List Run). nodes_in t rs c.deref-6.result.now) c.deref-5.ensures.value ∙ ap (nodes_in t runs) c.deref-6.ensures.value)) (links_back t.words t.connection t.text_length source nodes k last c.requires.lattice is_last)
 
 pub words_back-requires-clause-from : goal.words_back-requires-clause-from
@@ -85,7 +85,7 @@ words_back-requires-clause-from g c =
     let k = length (t.words t.text_length) in
     let last = c.last_end-last.result in
     let is_last = last_is t.words t.connection t.text_length source t.surface_words runs backs c.args.nodes.now.heads.items k last c.requires.lattice kept.runs_are kept.all kept.linked kept.places
-    (subst (λ (hs : List (Option ℕ)). IsLastHead hs last) c.deref.ensures.value c.last_end-last.ensures) in
+    (subst (λ (hs : List ℕ). IsLastHead hs last) c.deref.ensures.value c.last_end-last.ensures) in
     let ends = c.gather.new.ends.items in
     let are : AreEnds nodes last ends = subst (λ (ns : List Node). AreEnds ns last ends) (ap (λ (rs : List Run). nodes_in t rs c.deref-3.result.now) c.deref-2.ensures.value ∙ ap (nodes_in t runs) c.deref-3.ensures.value) c.in_ok-gather.ensures in
     let low = last_low t.words t.connection t.text_length source nodes k last c.requires.lattice is_last in
@@ -94,7 +94,8 @@ words_back-requires-clause-from g c =
     let join = least_joins t.words t.connection t.text_length source nodes t.text_length k last 0 ends found c.requires.lattice low are least in
     let all = kept.all in
     let long = nodes_length (node_words t.surface_words runs) backs (omega (arith, all)) in
-    subst (IsBelow found.before) (long ∙ ap length (sym c.deref-6.ensures.value)) (join_below t.words t.connection t.text_length source nodes k last c.requires.lattice is_last found join)
+    subst (λ (o : Option ℕ). IsBelow o (length c.deref-6.result.now)) (sym c.linked-from.ensures)
+    (subst (IsBelow (link_of found.before)) (long ∙ ap length (sym c.deref-6.ensures.value)) (join_below t.words t.connection t.text_length source nodes k last c.requires.lattice is_last found join))
 
 pub returns-clause-best : goal.returns-clause-best
 returns-clause-best g c =
@@ -107,7 +108,7 @@ returns-clause-best g c =
     let k = length (t.words t.text_length) in
     let last = c.last_end-last.result in
     let is_last = last_is t.words t.connection t.text_length source t.surface_words runs backs c.args.nodes.now.heads.items k last c.requires.lattice kept.runs_are kept.all kept.linked kept.places
-    (subst (λ (hs : List (Option ℕ)). IsLastHead hs last) c.deref.ensures.value c.last_end-last.ensures) in
+    (subst (λ (hs : List ℕ). IsLastHead hs last) c.deref.ensures.value c.last_end-last.ensures) in
     let ends = c.gather.new.ends.items in
     let are : AreEnds nodes last ends = subst (λ (ns : List Node). AreEnds ns last ends) (ap (λ (rs : List Run). nodes_in t rs c.deref-3.result.now) c.deref-2.ensures.value ∙ ap (nodes_in t runs) c.deref-3.ensures.value) c.in_ok-gather.ensures in
     let low = last_low t.words t.connection t.text_length source nodes k last c.requires.lattice is_last in
@@ -115,7 +116,8 @@ returns-clause-best g c =
     let least : IsLeast t.connection ends 0 found = subst (λ (xs : List End). IsLeast t.connection xs 0 found) c.deref-4.ensures.value c.least-found.ensures in
     let join = least_joins t.words t.connection t.text_length source nodes t.text_length k last 0 ends found c.requires.lattice low are least in
     let words = c.words_back.new.words.items in
-    let traced : Traces nodes found.before words = subst (λ (ns : List Node). Traces ns found.before words) (ap (λ (rs : List Run). nodes_in t rs c.deref-6.result.now) c.deref-5.ensures.value ∙ ap (nodes_in t runs) c.deref-6.ensures.value) c.in_ok-words_back.ensures in
+    let on = subst (λ (o : Option ℕ). Traces (nodes_in t c.deref-5.result.now c.deref-6.result.now) o words) c.linked-from.ensures c.in_ok-words_back.ensures in
+    let traced : Traces nodes (link_of found.before) words = subst (λ (ns : List Node). Traces ns (link_of found.before) words) (ap (λ (rs : List Run). nodes_in t rs c.deref-6.result.now) c.deref-5.ensures.value ∙ ap (nodes_in t runs) c.deref-6.ensures.value) on in
     path_is_best t.words t.connection t.text_length source nodes k last c.requires.lattice is_last found words c.reverse.new.self.items join traced c.reverse.ensures.items
 
 pub returns-clause-total : goal.returns-clause-total
@@ -129,7 +131,7 @@ returns-clause-total g c =
     let k = length (t.words t.text_length) in
     let last = c.last_end-last.result in
     let is_last = last_is t.words t.connection t.text_length source t.surface_words runs backs c.args.nodes.now.heads.items k last c.requires.lattice kept.runs_are kept.all kept.linked kept.places
-    (subst (λ (hs : List (Option ℕ)). IsLastHead hs last) c.deref.ensures.value c.last_end-last.ensures) in
+    (subst (λ (hs : List ℕ). IsLastHead hs last) c.deref.ensures.value c.last_end-last.ensures) in
     let ends = c.gather.new.ends.items in
     let are : AreEnds nodes last ends = subst (λ (ns : List Node). AreEnds ns last ends) (ap (λ (rs : List Run). nodes_in t rs c.deref-3.result.now) c.deref-2.ensures.value ∙ ap (nodes_in t runs) c.deref-3.ensures.value) c.in_ok-gather.ensures in
     let low = last_low t.words t.connection t.text_length source nodes k last c.requires.lattice is_last in
@@ -137,7 +139,8 @@ returns-clause-total g c =
     let least : IsLeast t.connection ends 0 found = subst (λ (xs : List End). IsLeast t.connection xs 0 found) c.deref-4.ensures.value c.least-found.ensures in
     let join = least_joins t.words t.connection t.text_length source nodes t.text_length k last 0 ends found c.requires.lattice low are least in
     let words = c.words_back.new.words.items in
-    let traced : Traces nodes found.before words = subst (λ (ns : List Node). Traces ns found.before words) (ap (λ (rs : List Run). nodes_in t rs c.deref-6.result.now) c.deref-5.ensures.value ∙ ap (nodes_in t runs) c.deref-6.ensures.value) c.in_ok-words_back.ensures in
+    let on = subst (λ (o : Option ℕ). Traces (nodes_in t c.deref-5.result.now c.deref-6.result.now) o words) c.linked-from.ensures c.in_ok-words_back.ensures in
+    let traced : Traces nodes (link_of found.before) words = subst (λ (ns : List Node). Traces ns (link_of found.before) words) (ap (λ (rs : List Run). nodes_in t rs c.deref-6.result.now) c.deref-5.ensures.value ∙ ap (nodes_in t runs) c.deref-6.ensures.value) on in
     let costs = path_costs t.words t.connection t.text_length source nodes k last c.requires.lattice is_last found words c.reverse.new.self.items join traced c.reverse.ensures.items in
     let fits : SFits w64 found.cost = search rules in
     to_z-of_z w64 found.cost fits ∙ costs
