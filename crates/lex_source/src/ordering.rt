@@ -1,5 +1,5 @@
 //! Records in the byte order of their surfaces.
-ghost use Rattle.std.specs.Prelude.{◌≡◌, map, IfOk};
+ghost use Rattle.std.specs.Prelude.{◌≡◌, [], map, IfOk};
 ghost use Rattle.mj_model.specs.Dictionary.{IsInOrder};
 ghost use Rattle.mj_model.specs.Lexicon.{rows_of};
 ghost use Rattle.lex_source.specs.HeadedRecords.{without_head};
@@ -12,9 +12,11 @@ use std::alloc::AllocError;
 pub(crate) fn in_order(records: Vec<Record<'_>>) -> Result<Vec<Record<'_>>, AllocError>
     ensures { IfOk result (λ ordered. IsInOrder (rows_of records.entry.items) (rows_of ordered.items)) }
 {
+    // Room that is taken before the sort's lies apart from what is left of it, so that it is given back whole.
+    let room = Vec::with_capacity(*records.allocator(), records.len())?;
     let mut headed = with_heads(records)?;
     headed.sort_by(by_surface)?;
-    without_heads(headed)
+    without_heads(headed, room)
 }
 
 /// Records with the heads of their surfaces.
@@ -31,13 +33,16 @@ fn with_heads(records: Vec<Record<'_>>) -> Result<Vec<Headed<'_>>, AllocError>
     Ok(headed)
 }
 
-/// The records alone.
-fn without_heads(headed: Vec<Headed<'_>>) -> Result<Vec<Record<'_>>, AllocError>
+/// The records alone, in `room`, which has none yet.
+fn without_heads<'a>(
+    headed: Vec<Headed<'a>>,
+    mut room: Vec<Record<'a>>,
+) -> Result<Vec<Record<'a>>, AllocError>
+    requires { room.items ≡ [] }
     ensures { IfOk result (λ records. records.items ≡ map without_head headed.entry.items) }
 {
-    let mut records = Vec::with_capacity(*headed.allocator(), headed.len())?;
     for one in headed {
-        records.push(one.row)?;
+        room.push(one.row)?;
     }
-    Ok(records)
+    Ok(room)
 }
