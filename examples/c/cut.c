@@ -67,7 +67,8 @@ static uint32_t print_line(kumquatsieve_cutter *cutter, const uint8_t *line, siz
     size_t count = 0, printed = 0;
     int64_t total = 0;
     const uint8_t *text = NULL;
-    uint32_t code = kumquatsieve_cut(cutter, line, length, &count, &total);
+    /* A line of a text has no line feed, for which kumquatsieve_cut would look once more. */
+    uint32_t code = kumquatsieve_cut_text(cutter, line, length, &count, &total);
     if (code == KUMQUATSIEVE_OK) code = kumquatsieve_print(cutter, &text, &printed);
     if (code != KUMQUATSIEVE_OK) return code;
     if (!make_room(out, printed)) return KUMQUATSIEVE_MEMORY;
