@@ -7,7 +7,7 @@ use Rattle.lattice.specs.declared.node.Join.{Join}
 use Rattle.lattice.specs.declared.node.Candidate.{Candidate}
 use Rattle.lattice.specs.declared.joins.LeftJoin.{LeftJoin}
 
--- node k as an end
+-- node k as an end, in which it is numbered from 1
 abbrev pub end_of : ℕ → Node → End
 end_of k n = record { total = n.total; right = n.word.right; before = suc k }
 

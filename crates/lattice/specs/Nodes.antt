@@ -12,7 +12,7 @@ pub record Node : Type 0 where
   pub total : ℤ
   pub before : Option ℕ
 
--- a number counted from 1, where 0 means none
+-- the number, counted from 0, that one counted from 1 stands for; 0 stands for none
 abbrev pub link_of : ℕ → Option ℕ
 link_of zero = None
 link_of (suc i) = Some i

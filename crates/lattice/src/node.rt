@@ -13,8 +13,8 @@ pub const BOUNDARY_ID: u16 = 0;
 
 /// The nodes of the words of one surface at one place, the last word's first.
 ///
-/// `from` is the number of the first of them, and `next` that of the latest of the runs before it
-/// that end where it ends, counted from 1, and 0 where there is none.
+/// `from` is the number of the first of them, counted from 0. `next` is the number of the latest of the runs before it that end where
+/// it ends, counted from 1, and 0 where there is none.
 #[derive(Clone, Copy, Debug, Drop)]
 pub struct Run {
     pub surface: Surface,
@@ -56,7 +56,7 @@ impl Backpointer {
     }
 }
 
-/// The number that is meant by one counted from 1: none by 0.
+/// The number, counted from 0, that one counted from 1 stands for; 0 stands for none.
 pub fn linked(number: usize) -> Option<usize>
     ensures { result ≡ link_of number }
 {
