@@ -10,9 +10,11 @@ use std::alloc::AllocError;
 
 /// The records in the byte order of their surfaces, those of one surface in the order given.
 pub(crate) fn in_order(records: Vec<Record<'_>>) -> Result<Vec<Record<'_>>, AllocError>
-    ensures { IfOk result (λ ordered. IsInOrder (rows_of records.entry.items) (rows_of ordered.items)) }
+    ensures { IfOk result
+        (λ ordered. IsInOrder (rows_of records.entry.items) (rows_of ordered.items)) }
 {
-    // Room that is taken before the sort's lies apart from what is left of it, so that it is given back whole.
+    // Taken before the sort takes its room: taken after, it would lie in what the sort gave back, and the C library would keep it when the
+    // records go.
     let room = Vec::with_capacity(*records.allocator(), records.len())?;
     let mut headed = with_heads(records)?;
     headed.sort_by(by_surface)?;
