@@ -67,7 +67,7 @@ static uint32_t print_line(kumquatsieve_cutter *cutter, const uint8_t *line, siz
     size_t count = 0, printed = 0;
     int64_t total = 0;
     const uint8_t *text = NULL;
-    /* A line of a text has no line feed, for which kumquatsieve_cut would look once more. */
+    /* The line was cut at its line feed, so kumquatsieve_cut_text, which looks for none, is enough. */
     uint32_t code = kumquatsieve_cut_text(cutter, line, length, &count, &total);
     if (code == KUMQUATSIEVE_OK) code = kumquatsieve_print(cutter, &text, &printed);
     if (code != KUMQUATSIEVE_OK) return code;
