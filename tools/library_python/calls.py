@@ -4,6 +4,7 @@ import sys
 import threading
 
 from kumquatsieve import Cutter, Fault, Tagger
+from run_rows.images import OTHER_SIZES, REFUSED
 
 SYSTEM, USER, ODD = sys.argv[1:]
 LINE = "すもももも"
@@ -29,6 +30,8 @@ FAULTS = [
     ("K1", None, None, lambda: Cutter(SYSTEM).wakati("a\n")),
     ("G3", None, None, lambda: Cutter(SYSTEM).cut("a\ud800")),
     ("G4", None, None, lambda: Tagger(SYSTEM).parse("a" * (2**20 + 1))),
+    ("P1", 0, "node", lambda: Cutter(SYSTEM).format(LINE, "\\q")),
+    ("P3", 1, "node", lambda: Cutter(SYSTEM).format(LINE, "a%f[x]")),
     ("P2", 2, "node", lambda: Cutter(SYSTEM).format(LINE, "%m%q")),
     ("P2", 0, "eos", lambda: Tagger(f"-d {SYSTEM} -E %q").parse(LINE)),
 ]
@@ -61,8 +64,19 @@ def check_words():
     same("its words", 40_000, len(cutter.cut(LINE * 20_000)))
 
 
+def faults_of_images():
+    """Of each image that `tools/runs` refuses, as the system's and as a user's."""
+    for image, fault in REFUSED:
+        code, _, *number = fault.split()
+        number = int(number[0]) if number else None
+        yield code, number, None, lambda image=image: Cutter(image)
+        yield code, number, None, lambda image=image: Cutter(SYSTEM, [image])
+    for image in OTHER_SIZES.values():
+        yield "O3", 0, None, lambda image=image: Cutter(SYSTEM, [image])
+
+
 def check_faults():
-    for code, number, part, call in FAULTS:
+    for code, number, part, call in [*FAULTS, *faults_of_images()]:
         try:
             call()
         except Fault as fault:
