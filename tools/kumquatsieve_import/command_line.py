@@ -1,0 +1,65 @@
+"""The words of the command line."""
+import os
+from typing import NamedTuple, Optional
+
+from .encodings import CHOICES, Encoding, encoding_named
+from .faults import WRONG_WORDS, Fault, shown
+
+USAGE = "usage: kumquatsieve-import [-v] [--encoding NAME] [--] DIR|ipadic|juman|naist|unidic [IMG]"
+# What a name is in Debian's folder.
+NAMES = {b"ipadic": b"ipadic", b"juman": b"juman", b"naist": b"naist-jdic", b"unidic": b"unidic"}
+
+
+class Choices(NamedTuple):
+    """What was asked for. Without an image's path it is installed by the name of the folder."""
+
+    name: bytes
+    image: Optional[bytes]
+    encoding: Optional[Encoding]
+    is_verbose: bool
+    wants_help: bool
+
+    def is_debian(self):
+        return self.name in NAMES
+
+
+def usage_fault(why):
+    return Fault(WRONG_WORDS, f"{why}; {USAGE}")
+
+
+def encoding_given(name):
+    found = encoding_named(name)
+    if found is None:
+        raise Fault(WRONG_WORDS, f"--encoding {shown(name)} is not known; it takes {CHOICES}")
+    return found
+
+
+def read_words(words):
+    """The choices of a command line. Options stand anywhere before `--`."""
+    rest, names, encoding, is_verbose = list(words), [], None, False
+    while rest:
+        word = rest.pop(0)
+        name, equals, value = word.partition("=")
+        if word == "--":
+            names += rest
+            break
+        if not word.startswith("-"):
+            names.append(word)
+        elif word in ("-h", "--help"):
+            return Choices(b"", None, None, False, True)
+        elif word in ("-v", "--verbose"):
+            is_verbose = True
+        elif name == "--encoding" and (equals or rest):
+            encoding = encoding_given(value if equals else rest.pop(0))
+        else:
+            raise usage_fault(f"{shown(word)} is no option, or lacks its value; a name that begins with - stands after --")
+    return choices_of(list(map(os.fsencode, names)), encoding, is_verbose)
+
+
+def choices_of(names, encoding, is_verbose):
+    if not 1 <= len(names) <= 2 or b"" in names:
+        raise usage_fault("a folder is wanted, and the image to write")
+    choices = Choices(names[0], names[1] if len(names) == 2 else None, encoding, is_verbose, False)
+    if choices.image is None and (b"/" in choices.name or choices.name.startswith(b".")):
+        raise Fault(WRONG_WORDS, f"give the image to write: kumquatsieve-import {shown(choices.name)} IMG")
+    return choices

@@ -1,0 +1,141 @@
+"""The import, step by step."""
+import os
+import signal
+import sys
+
+from .command_line import NAMES, USAGE, read_words
+from .compiling import Compilation, dictc_beside
+from .converting import make_utf_8, write_converted
+from .encodings import missing_converter
+from .faults import FILE, MEMORY, Ended, Fault, naming, shown
+from .finding import find_encoding
+from .placing import Place
+from .sources import SETTINGS, debian_folder, encoding_told, read_folder
+from .telling import Teller
+from .workshop import Signals, Workshop
+
+# Where dictc writes the image, beside the place that it takes at the end.
+NEW = b"image"
+
+
+class Import:
+    """One import: what it reads, and where its image goes."""
+
+    def __init__(self, choices, own, workshop, teller):
+        self.choices, self.own, self.workshop, self.teller = choices, own, workshop, teller
+        path = debian_folder(NAMES[choices.name]) if choices.is_debian() else choices.name.rstrip(b"/") or b"/"
+        self.folder = read_folder(path)
+        self.dictc = dictc_beside(own)
+        self.place = Place(choices.image if choices.image is not None else self.installed())
+        self.place.check(self.folder, SETTINGS)
+
+    def installed(self):
+        """The path at which `jseg -d NAME` looks."""
+        return os.path.join(os.path.dirname(self.own), b"share", b"kumquatsieve", self.choices.name + b".img")
+
+    def run(self):
+        if self.choices.image is None:
+            self.workshop.make_parents(self.place.folder)
+        beside = self.workshop.new_folder(None if self.place.is_device() else self.place.folder)
+        work = self.workshop.new_folder()
+        folder, teller = self.folder, self.teller
+        teller.report(f"sources: {shown(folder.path)}")
+        read = [*folder.definitions[1:], *folder.lexicons, *folder.settings]
+        encoding = find_encoding(read, self.choices.encoding, encoding_told(folder), folder.path, teller)
+        teller.report(f"encoding: {encoding.name}")
+        if folder.others:
+            teller.report(f"not read: {' '.join(map(shown, folder.others))}")
+        names = self.convert(encoding, work)
+        settings = self.convert_settings(encoding, beside)
+        counted = self.compile(names, work, beside)
+        size = os.path.getsize(os.path.join(beside, NEW))
+        removed = [path for path in map(self.place.beside, (name for name in settings if not settings[name])) if path and os.path.lexists(path)]
+        self.place.put(os.path.join(beside, NEW), settings, self.workshop)
+        self.tell_end(counted, size, settings, removed)
+
+    def convert(self, encoding, work):
+        """Makes the sources UTF-8 by names of their own, which are UTF-8 whatever the sources' are."""
+        names = {source.name: source for source in self.folder.definitions}
+        names.update({b"%06d.csv" % number: source for number, source in enumerate(self.folder.lexicons)})
+        for name, source in names.items():
+            make_utf_8(source, encoding, os.path.join(work, name), self.teller)
+        return {name: source.path for name, source in names.items()}
+
+    def convert_settings(self, encoding, beside):
+        """The new files of settings, and None for one that the folder has not."""
+        found = {name: None for name in SETTINGS}
+        for source in [] if self.place.is_device() else self.folder.settings:
+            if self.place.beside(source.name):
+                found[source.name] = os.path.join(beside, source.name)
+                write_converted(source, encoding, found[source.name], self.teller)
+        return found
+
+    def compile(self, names, work, beside):
+        with naming(work):
+            os.symlink(beside, os.path.join(work, b"new"))
+        new = b"new/" + NEW
+        files = [b"matrix.def", b"--char", b"char.def", b"--unk", b"unk.def", b"--out", new]
+        lexicons = [name for name in names if name.endswith(b".csv")]
+        compilation = Compilation({**names, new: self.place.named}, self.teller)
+        return compilation.run([self.dictc, b"system", b"-v", b"--matrix", *files, *lexicons], work, self.workshop)
+
+    def tell_end(self, counted, size, settings, removed):
+        self.teller.report(counted)
+        kept = [shown(os.path.basename(self.place.beside(name))) for name, path in settings.items() if path]
+        self.teller.report(f"image: {shown(self.place.named)}, {size} bytes, {self.teller.seconds():.0f} s")
+        if kept:
+            self.teller.report(f"kept beside it: {' '.join(kept)}")
+        if removed:
+            self.teller.report(f"removed beside it: {' '.join(shown(os.path.basename(path)) for path in removed)}")
+        self.teller.report(f"{self.teller.left_out_lines} lines left out")
+
+
+def imported(words, own, workshop, teller):
+    """The status of an import."""
+    try:
+        choices = read_words(words)
+        teller.tells_steps = teller.tells_steps or choices.is_verbose
+        if choices.wants_help:
+            teller.report(USAGE)
+            return 0
+        missing = missing_converter()
+        if missing:
+            raise Fault(FILE, f"this Python has no converter of {missing}: it lacks a part of its library (Debian: apt install python3)")
+        Import(choices, own, workshop, teller).run()
+        return 0
+    except Fault as fault:
+        teller.say(str(fault))
+        return fault.status
+    except OSError as error:
+        teller.say(f"{shown(error.filename or 'a file')}: {os.strerror(error.errno) if error.errno else error}")
+        return FILE
+    except MemoryError:
+        teller.say("out of memory")
+        return MEMORY
+
+
+def fill_streams():
+    """A standard stream that is closed gets a file that can't be written, so that no file that is made gets its number."""
+    for descriptor in (0, 1, 2):
+        try:
+            os.fstat(descriptor)
+        except OSError:
+            os.open(os.devnull, os.O_RDONLY)
+
+
+def run(words, own):
+    """Runs an import, and leaves nothing of it but the image; a signal ends it as it would without this."""
+    fill_streams()
+    signals = Signals()
+    workshop = Workshop(signals)
+    signals.listen()
+    try:
+        try:
+            status = imported(words, own, workshop, Teller(False))
+        finally:
+            workshop.clean()
+    except Ended as ended:
+        workshop.clean()
+        signal.signal(ended.number, signal.SIG_DFL)
+        os.kill(os.getpid(), ended.number)
+    sys.exit(status)

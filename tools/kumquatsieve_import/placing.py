@@ -1,0 +1,100 @@
+"""Where the image goes, and the settings beside it: all of them take their places at the end, or none does."""
+import os
+import shutil
+import stat
+
+from .faults import FILE, WRONG_WORDS, Fault, naming, shown
+
+ENDING = b".img"
+# The longest name of a file.
+NAME_MAX = 255
+
+
+class Place:
+    """The place of an image. Of a link the file that it leads to is replaced, and a link to no file itself."""
+
+    def __init__(self, image):
+        self.named = image
+        self.image = os.path.realpath(image) if os.path.exists(image) else os.path.abspath(image)
+        self.folder = os.path.dirname(self.image)
+        stem = self.image[:-len(ENDING)] if self.image.endswith(ENDING) else self.image
+        self.stem = stem
+
+    def is_device(self):
+        return os.path.exists(self.image) and not os.path.isfile(self.image)
+
+    def beside(self, name):
+        """The path of a file of settings, NAME.dicrc of NAME.img; None where its name would be too long."""
+        path = self.stem + b"." + name
+        return path if len(os.path.basename(path)) <= NAME_MAX else None
+
+    def check(self, folder, settings):
+        """Refuses a place that is a file of the folder, by whichever name, or that can't be one."""
+        with naming(self.named):
+            if os.path.isdir(self.image):
+                raise Fault(FILE, f"{shown(self.named)}: it is a folder")
+        targets = [self.named] if self.is_device() else [self.named, *filter(None, map(self.beside, settings))]
+        for target in targets:
+            if os.path.isdir(target):
+                raise Fault(FILE, f"{shown(target)}: it is a folder")
+            for name in folder.all_names():
+                path = os.path.join(folder.path, name)
+                if is_same(path, target):
+                    raise Fault(WRONG_WORDS, f"{shown(target)} is a file of the folder that is read: {shown(path)}")
+
+    def put(self, new, settings, workshop):
+        """Gives the new image and the new settings their names: `settings` has a path or None for each name of a file of settings."""
+        if self.is_device():
+            with naming(self.image), open(new, "rb") as file, open(self.image, "wb", buffering=0) as device:
+                shutil.copyfileobj(file, device)
+            return
+        moves = [(path, self.beside(name)) for name, path in settings.items() if self.beside(name)]
+        with workshop.signals.held():
+            replace_all([*moves, (new, self.image)], workshop.folders[0])
+
+
+def is_same(path, other):
+    """Whether two paths lead to one file, or are one name."""
+    try:
+        return os.path.abspath(path) == os.path.abspath(other) or os.path.samefile(path, other)
+    except OSError:
+        return False
+
+
+def replace_all(moves, folder):
+    """Each new file takes the place of the old one with its mode, and an old one without a new one goes. Where one fails all are undone."""
+    done = []
+    try:
+        for number, (new, target) in enumerate(moves):
+            with naming(target):
+                old = kept(target, os.path.join(folder, b"old.%d" % number))
+                if new is None and old is None:
+                    continue
+                done.append((target, old))
+                replace(new, target)
+    except Fault:
+        for target, old in reversed(done):
+            replace(old, target)
+        raise
+
+
+def kept(target, name):
+    """Another name of an old file, so that it can be put back; None where there is no old file."""
+    if not os.path.lexists(target):
+        return None
+    try:
+        os.link(target, name, follow_symlinks=False)
+    except OSError:
+        shutil.copy2(target, name, follow_symlinks=False)
+    return name
+
+
+def replace(new, target):
+    """Moves a file to a name, or removes what has the name."""
+    if new is None:
+        if os.path.lexists(target):
+            os.unlink(target)
+        return
+    if os.path.isfile(target) and not os.path.islink(target):
+        os.chmod(new, stat.S_IMODE(os.stat(target).st_mode))
+    os.replace(new, target)
