@@ -62,8 +62,10 @@ struct mecab_model_t {
     unsigned long turn;
 };
 
-/* A cutter over the dictionaries of a model, as they were at `turn`, and the number of its format, 0 where none was chosen. */
+/* A cutter over the dictionaries of a model, as they were at `turn`, and the number of its format, 0 where none was chosen. One thread at a
+   time holds its lock, over a whole sentence. */
 struct mecab_t {
+    pthread_mutex_t lock;
     mecab_model_t *model;
     unsigned long turn;
     kumquatsieve_cutter cutter;

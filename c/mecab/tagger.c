@@ -13,6 +13,7 @@ mecab_t *open_tagger(mecab_model_t *model, fault *error) {
         fail_memory(error);
         return NULL;
     }
+    pthread_mutex_init(&tagger->lock, NULL);
     tagger->model = hold_model(model);
     tagger->lattice = lattice;
     tagger->theta = THETA;
@@ -47,6 +48,7 @@ void mecab_destroy(mecab_t *tagger) {
     free_bytes(&tagger->bos_feature);
     mecab_lattice_destroy(tagger->lattice);
     mecab_model_destroy(tagger->model);
+    pthread_mutex_destroy(&tagger->lock);
     free(tagger);
 }
 
@@ -63,13 +65,23 @@ const mecab_dictionary_info_t *mecab_dictionary_info(mecab_t *tagger) {
 }
 
 int mecab_parse_lattice(mecab_t *tagger, mecab_lattice_t *lattice) {
-    if (!lattice) return fail(&tagger->error, "no lattice is given");
-    return parse(tagger, lattice, true, true, &lattice->error);
+    pthread_mutex_lock(&tagger->lock);
+    bool parsed = lattice ? parse(tagger, lattice, true, true, &lattice->error) : fail(&tagger->error, "no lattice is given");
+    pthread_mutex_unlock(&tagger->lock);
+    return parsed;
+}
+
+/* A sentence of the tagger's own lattice. The lock is the caller's. */
+static bool parse_own(mecab_t *tagger, const char *text, size_t length, bool nodes) {
+    mecab_lattice_set_sentence2(tagger->lattice, text, length);
+    return parse(tagger, tagger->lattice, nodes, !nodes, &tagger->error);
 }
 
 const char *mecab_sparse_tostr2(mecab_t *tagger, const char *text, size_t length) {
-    mecab_lattice_set_sentence2(tagger->lattice, text, length);
-    return parse(tagger, tagger->lattice, false, true, &tagger->error) ? tagger->lattice->printed.at : NULL;
+    pthread_mutex_lock(&tagger->lock);
+    const char *printed = parse_own(tagger, text, length, false) ? tagger->lattice->printed.at : NULL;
+    pthread_mutex_unlock(&tagger->lock);
+    return printed;
 }
 
 const char *mecab_sparse_tostr(mecab_t *tagger, const char *text) {
@@ -77,19 +89,20 @@ const char *mecab_sparse_tostr(mecab_t *tagger, const char *text) {
 }
 
 char *mecab_sparse_tostr3(mecab_t *tagger, const char *text, size_t length, char *out, size_t room) {
-    if (!mecab_sparse_tostr2(tagger, text, length)) return NULL;
+    pthread_mutex_lock(&tagger->lock);
+    bool parsed = parse_own(tagger, text, length, false);
     const bytes *printed = &tagger->lattice->printed;
-    if (printed->length >= room) {
-        fail(&tagger->error, "output buffer overflow");
-        return NULL;
-    }
-    memcpy(out, printed->at, printed->length + 1);
-    return out;
+    if (parsed && printed->length >= room) parsed = fail(&tagger->error, "output buffer overflow");
+    if (parsed) memcpy(out, printed->at, printed->length + 1);
+    pthread_mutex_unlock(&tagger->lock);
+    return parsed ? out : NULL;
 }
 
 const mecab_node_t *mecab_sparse_tonode2(mecab_t *tagger, const char *text, size_t length) {
-    mecab_lattice_set_sentence2(tagger->lattice, text, length);
-    return parse(tagger, tagger->lattice, true, false, &tagger->error) ? mecab_lattice_get_bos_node(tagger->lattice) : NULL;
+    pthread_mutex_lock(&tagger->lock);
+    const mecab_node_t *first = parse_own(tagger, text, length, true) ? mecab_lattice_get_bos_node(tagger->lattice) : NULL;
+    pthread_mutex_unlock(&tagger->lock);
+    return first;
 }
 
 const mecab_node_t *mecab_sparse_tonode(mecab_t *tagger, const char *text) {
