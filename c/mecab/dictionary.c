@@ -78,17 +78,17 @@ static bool add_info(mecab_dictionary_info_t **last, const char *path, const byt
 }
 
 /* Loads an image, the first one as the system's. The library has looked at it before its header is read here. */
-static bool load_image(mecab_model_t *model, const char *path, fault *error) {
+static bool load_image(tables *to, const char *path, fault *error) {
     bytes image = {NULL, 0, 0};
     uint64_t number = 0;
-    mecab_dictionary_info_t **last = &model->infos;
+    mecab_dictionary_info_t **last = &to->infos;
     while (*last) last = &(*last)->next;
-    bool is_system = last == &model->infos;
+    bool is_system = last == &to->infos;
     bool loaded = read_file(path, &image, error);
     if (loaded) {
         const uint8_t *at = (const uint8_t *)image.at;
-        uint32_t code = is_system ? kumquatsieve_load(&model->cutter, at, image.length, &number)
-                                  : kumquatsieve_add_user(&model->cutter, at, image.length, &number);
+        uint32_t code = is_system ? kumquatsieve_load(&to->cutter, at, image.length, &number)
+                                  : kumquatsieve_add_user(&to->cutter, at, image.length, &number);
         if (code != KUMQUATSIEVE_OK) loaded = fail_code(error, path, code);
     }
     if (loaded && !add_info(last, path, &image, is_system ? MECAB_SYS_DIC : MECAB_USR_DIC)) loaded = fail_memory(error);
@@ -96,11 +96,11 @@ static bool load_image(mecab_model_t *model, const char *path, fault *error) {
     return loaded;
 }
 
-static bool load_users(mecab_model_t *model, const char *list, fault *error) {
+static bool load_users(tables *to, const char *list, fault *error) {
     char *copy = strdup(list), *rest = NULL;
     if (!copy) return fail_memory(error);
     bool loaded = true;
-    for (char *path = strtok_r(copy, ",", &rest); loaded && path; path = strtok_r(NULL, ",", &rest)) loaded = load_image(model, path, error);
+    for (char *path = strtok_r(copy, ",", &rest); loaded && path; path = strtok_r(NULL, ",", &rest)) loaded = load_image(to, path, error);
     free(copy);
     return loaded;
 }
@@ -122,37 +122,72 @@ static char *read_bos_feature(const char *image) {
     return found ? found : strdup(BOS_FEATURE);
 }
 
-static bool set_grouping(mecab_model_t *model, const char *text, fault *error) {
+static bool set_grouping(tables *to, const char *text, fault *error) {
     char *end = NULL;
     unsigned long grouping = strtoul(text, &end, 10);
     if (end == text || *end || grouping > UINT32_MAX) return fail(error, "max-grouping-size %s: no number", text);
-    uint32_t code = kumquatsieve_set_grouping(&model->cutter, (uint32_t)grouping);
+    uint32_t code = kumquatsieve_set_grouping(&to->cutter, (uint32_t)grouping);
     return code == KUMQUATSIEVE_OK || fail_code(error, text, code);
 }
 
-bool load_dictionaries(mecab_model_t *model, const options *from, fault *error) {
-    char *path = path_of(from->dictionary);
-    if (!path) return fail_memory(error);
-    bool loaded = load_image(model, path, error);
-    if (loaded && from->users) loaded = load_users(model, from->users, error);
-    if (loaded && from->grouping) loaded = set_grouping(model, from->grouping, error);
-    if (loaded) {
-        model->bos_feature = read_bos_feature(path);
-        if (!model->bos_feature) loaded = fail_memory(error);
-    }
-    free(path);
-    return loaded;
-}
-
-void free_dictionaries(mecab_model_t *model) {
-    kumquatsieve_free(&model->cutter);
-    for (mecab_dictionary_info_t *info = model->infos; info;) {
+static void free_tables(tables *of) {
+    kumquatsieve_free(&of->cutter);
+    for (mecab_dictionary_info_t *info = of->infos; info;) {
         mecab_dictionary_info_t *next = info->next;
         free((char *)info->filename);
         free(info);
         info = next;
     }
-    model->infos = NULL;
-    free(model->bos_feature);
-    model->bos_feature = NULL;
+    free(of->bos_feature);
+    free(of);
+}
+
+static bool fill_tables(tables *to, const char *path, const options *from, fault *error) {
+    if (!load_image(to, path, error)) return false;
+    if (from->users && !load_users(to, from->users, error)) return false;
+    if (from->grouping && !set_grouping(to, from->grouping, error)) return false;
+    to->bos_feature = read_bos_feature(path);
+    return to->bos_feature || fail_memory(error);
+}
+
+tables *load_tables(const options *from, fault *error) {
+    static atomic_ulong last;
+    char *path = path_of(from->dictionary);
+    tables *loaded = path ? calloc(1, sizeof *loaded) : NULL;
+    if (!loaded) {
+        free(path);
+        fail_memory(error);
+        return NULL;
+    }
+    loaded->number = ++last;
+    loaded->holders = 1;
+    bool filled = fill_tables(loaded, path, from, error);
+    free(path);
+    if (filled) return loaded;
+    free_tables(loaded);
+    return NULL;
+}
+
+tables *hold_tables(mecab_model_t *model) {
+    lock_shared();
+    tables *held = model->tables;
+    held->holders++;
+    unlock_shared();
+    return held;
+}
+
+void release_tables(tables *of) {
+    if (!of) return;
+    lock_shared();
+    unsigned long others = --of->holders;
+    unlock_shared();
+    if (others == 0) free_tables(of);
+}
+
+/* A cutter is called by one thread at a time, also where another one is made of it. */
+bool share_tables(kumquatsieve_cutter *to, tables *from, fault *error) {
+    lock_shared();
+    uint32_t code = kumquatsieve_share(to, &from->cutter);
+    unlock_shared();
+    return code == KUMQUATSIEVE_OK || fail_code(error, "dictionaries", code);
 }

@@ -25,6 +25,8 @@ const format *format_of(const mecab_lattice_t *lattice) {
 
 void mecab_lattice_destroy(mecab_lattice_t *lattice) {
     if (!lattice) return;
+    kumquatsieve_free(&lattice->cutter);
+    release_tables(lattice->tables);
     free_bytes(&lattice->own);
     free_bytes(&lattice->features);
     free_bytes(&lattice->printed);
@@ -37,7 +39,7 @@ void mecab_lattice_destroy(mecab_lattice_t *lattice) {
 void mecab_lattice_clear(mecab_lattice_t *lattice) {
     lattice->sentence = NULL;
     lattice->size = lattice->count = 0;
-    lattice->is_printed = lattice->is_constrained = false;
+    lattice->is_cut = lattice->is_printed = lattice->is_constrained = false;
     lattice->theta = THETA;
     lattice->z = 0;
 }
@@ -75,9 +77,7 @@ mecab_node_t *mecab_lattice_get_eos_node(mecab_lattice_t *lattice) {
 }
 
 const char *mecab_lattice_tostr(mecab_lattice_t *lattice) {
-    if (lattice->is_printed) return lattice->printed.at;
-    fail(&lattice->error, "no sentence was parsed");
-    return NULL;
+    return text_of(lattice, &lattice->error);
 }
 
 const char *mecab_lattice_tostr2(mecab_lattice_t *lattice, char *out, size_t room) {

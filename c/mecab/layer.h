@@ -4,8 +4,8 @@
 #define LAYER_H
 #include <kumquatsieve.h>
 #include <mecab.h>
-#include <pthread.h>
 #include <stdarg.h>
+#include <stdatomic.h>
 
 enum { ERROR_MAX = 512 };
 
@@ -49,37 +49,42 @@ typedef struct format {
     unsigned long number;
 } format;
 
-/* Dictionaries, from which taggers take theirs, and what is asked of their lattices. `turn` rises where dictionaries are swapped. It goes
-   with the last of its holders: its owner, its taggers and its lattices. */
-struct mecab_model_t {
-    pthread_mutex_t lock;
+/* The dictionaries of a model, which stay as they are; no two have the same number, which is above 0. Its holders are the model and the
+   lattices that were cut by it. The cutter and the count are under the lock of lock.c. */
+typedef struct tables {
+    unsigned long number;
     unsigned long holders;
     kumquatsieve_cutter cutter;
     mecab_dictionary_info_t *infos;
     char *bos_feature;
+} tables;
+
+/* Which tables taggers take, and what is asked of them. It goes with the last of its holders: its owner, its taggers and its lattices. The
+   pointer to its tables is under the lock of lock.c; their number is told beside it, so that who has them already needs no lock. */
+struct mecab_model_t {
+    atomic_ulong holders;
+    tables *tables;
+    atomic_ulong number;
     format texts;
     int request;
-    unsigned long turn;
 };
 
-/* A cutter over the dictionaries of a model, as they were at `turn`, and the number of its format, 0 where none was chosen. One thread at a
-   time holds its lock, over a whole sentence. */
+/* What it has to change belongs to its own lattice; so other lattices are parsed by several threads. */
 struct mecab_t {
-    pthread_mutex_t lock;
     mecab_model_t *model;
-    unsigned long turn;
-    kumquatsieve_cutter cutter;
-    bytes bos_feature;
-    unsigned long chosen;
     mecab_lattice_t *lattice;
     float theta;
     fault error;
 };
 
-/* A sentence and, once it was parsed, its best path: the nodes from its beginning to its end, and its text in the format of its model, or
-   the default one where it has none. */
+/* A sentence and, once it was parsed, its best path: the nodes from its beginning to its end, and, once that was asked for, its text in the
+   format of its model, or the default one where it has none. The cutter is over the tables of the tagger that parsed it last; `chosen` is
+   the number of the cutter's format, 0 where none was chosen. */
 struct mecab_lattice_t {
     mecab_model_t *model;
+    tables *tables;
+    kumquatsieve_cutter cutter;
+    unsigned long chosen;
     const char *sentence;
     size_t size;
     bytes own;
@@ -90,6 +95,7 @@ struct mecab_lattice_t {
     size_t count;
     bytes features;
     bytes printed;
+    bool is_cut;
     bool is_printed;
     bool is_constrained;
     int request;
@@ -116,9 +122,16 @@ bool read_options(options *to, int count, char *const *words, fault *error);
 bool read_options_of(options *to, const char *line, fault *error);
 void free_options(options *of);
 
+/* lock.c. One lock for all that models and lattices share, which is held for a few steps, never over a sentence, and not for each. It is free
+   in a child that was forked while another thread had it. */
+void lock_shared(void);
+void unlock_shared(void);
+
 /* dictionary.c */
-bool load_dictionaries(mecab_model_t *model, const options *from, fault *error);
-void free_dictionaries(mecab_model_t *model);
+tables *load_tables(const options *from, fault *error);
+tables *hold_tables(mecab_model_t *model);
+void release_tables(tables *of);
+bool share_tables(kumquatsieve_cutter *to, tables *from, fault *error);
 
 /* model.c */
 mecab_model_t *open_model(const options *from, fault *error);
@@ -132,6 +145,7 @@ mecab_t *open_tagger(mecab_model_t *model, fault *error);
 const format *format_of(const mecab_lattice_t *lattice);
 
 /* parsing.c */
-bool parse(mecab_t *tagger, mecab_lattice_t *lattice, bool nodes, bool text, fault *error);
+bool parse(mecab_model_t *model, mecab_lattice_t *lattice, bool nodes, fault *error);
+const char *text_of(mecab_lattice_t *lattice, fault *error);
 
 #endif

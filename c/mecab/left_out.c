@@ -40,7 +40,7 @@ OF_LATTICE(const char *, mecab_lattice_get_feature_constraint, NULL, size_t at)
 static void constrain(mecab_lattice_t *lattice, const char *what) {
     fail_left_out(&lattice->error, what);
     lattice->is_constrained = true;
-    lattice->is_printed = false;
+    lattice->is_cut = lattice->is_printed = false;
     lattice->count = 0;
 }
 

@@ -1,6 +1,5 @@
 /* Models: dictionaries that taggers share. */
 #include "layer.h"
-#include <stdatomic.h>
 #include <stdlib.h>
 #include <string.h>
 
@@ -48,11 +47,11 @@ mecab_model_t *open_model(const options *from, fault *error) {
         fail_memory(error);
         return NULL;
     }
-    pthread_mutex_init(&model->lock, NULL);
     model->holders = 1;
     model->request = MECAB_ONE_BEST | (from->copies ? MECAB_ALLOCATE_SENTENCE : 0);
-    if (choose_texts(&model->texts, from, error) && load_dictionaries(model, from, error)
-        && accepts_texts(&model->cutter, &model->texts, error)) {
+    if (choose_texts(&model->texts, from, error) && (model->tables = load_tables(from, error))
+        && accepts_texts(&model->tables->cutter, &model->texts, error)) {
+        model->number = model->tables->number;
         return model;
     }
     mecab_model_destroy(model);
@@ -74,22 +73,15 @@ mecab_model_t *mecab_model_new2(const char *line) {
 }
 
 mecab_model_t *hold_model(mecab_model_t *model) {
-    pthread_mutex_lock(&model->lock);
     model->holders++;
-    pthread_mutex_unlock(&model->lock);
     return model;
 }
 
 /* Lets go of a model, by its owner, a tagger or a lattice. */
 void mecab_model_destroy(mecab_model_t *model) {
-    if (!model) return;
-    pthread_mutex_lock(&model->lock);
-    unsigned long others = --model->holders;
-    pthread_mutex_unlock(&model->lock);
-    if (others > 0) return;
-    free_dictionaries(model);
+    if (!model || --model->holders > 0) return;
+    release_tables(model->tables);
     free_texts(&model->texts);
-    pthread_mutex_destroy(&model->lock);
     free(model);
 }
 
@@ -113,20 +105,20 @@ mecab_lattice_t *mecab_model_new_lattice(mecab_model_t *model) {
 int mecab_model_swap(mecab_model_t *model, mecab_model_t *other) {
     if (!is_given(model) || !is_given(other)) return 0;
     if (model == other) return fail(common_fault(), "a model is swapped for itself");
-    pthread_mutex_lock(&model->lock);
-    mecab_model_t kept = *model;
-    model->cutter = other->cutter;
-    model->infos = other->infos;
-    model->bos_feature = other->bos_feature;
-    model->turn++;
-    other->cutter = kept.cutter;
-    other->infos = kept.infos;
-    other->bos_feature = kept.bos_feature;
-    pthread_mutex_unlock(&model->lock);
+    lock_shared();
+    tables *kept = model->tables;
+    model->tables = other->tables;
+    model->number = model->tables->number;
+    other->tables = kept;
+    other->number = kept->number;
+    unlock_shared();
     mecab_model_destroy(other);
     return 1;
 }
 
 const mecab_dictionary_info_t *mecab_model_dictionary_info(mecab_model_t *model) {
-    return model->infos;
+    lock_shared();
+    const mecab_dictionary_info_t *infos = model->tables->infos;
+    unlock_shared();
+    return infos;
 }

@@ -6,35 +6,36 @@
 /* For each word its cost from the sentence's beginning. A feature may hold any character, and is told word by word. */
 static const format COSTS = {"%pc\\n", "%pc\\n", "", "", 1};
 
-/* Takes the model's dictionaries, where there are none yet or the model's were exchanged since. */
-static bool take_dictionaries(mecab_t *tagger, fault *error) {
-    mecab_model_t *model = tagger->model;
-    pthread_mutex_lock(&model->lock);
-    uint32_t code = KUMQUATSIEVE_OK;
-    if (!tagger->cutter.held || tagger->turn != model->turn) {
-        kumquatsieve_free(&tagger->cutter);
-        if (!set_bytes(&tagger->bos_feature, model->bos_feature, strlen(model->bos_feature))) code = KUMQUATSIEVE_MEMORY;
-        if (code == KUMQUATSIEVE_OK) code = kumquatsieve_share(&tagger->cutter, &model->cutter);
-        tagger->turn = model->turn;
-        tagger->chosen = 0;
+/* Has the lattice's cutter over the model's dictionaries, where it isn't yet, or those were exchanged since. */
+static bool take_tables(mecab_model_t *model, mecab_lattice_t *lattice, fault *error) {
+    if (lattice->tables && lattice->tables->number == model->number) return true;
+    kumquatsieve_cutter cutter = KUMQUATSIEVE_EMPTY;
+    tables *taken = hold_tables(model);
+    if (!share_tables(&cutter, taken, error)) {
+        release_tables(taken);
+        return false;
     }
-    pthread_mutex_unlock(&model->lock);
-    return code == KUMQUATSIEVE_OK || fail_code(error, "dictionaries", code);
+    kumquatsieve_free(&lattice->cutter);
+    release_tables(lattice->tables);
+    lattice->cutter = cutter;
+    lattice->tables = taken;
+    lattice->chosen = 0;
+    return true;
 }
 
-static bool print_into(mecab_t *tagger, const format *texts, bytes *to, fault *error) {
+static bool print_into(mecab_lattice_t *lattice, const format *texts, bytes *to, fault *error) {
     const uint8_t *text = NULL;
     size_t length = 0;
-    if (tagger->chosen != texts->number) {
-        if (!accepts_texts(&tagger->cutter, texts, error)) return false;
-        tagger->chosen = texts->number;
+    if (lattice->chosen != texts->number) {
+        if (!accepts_texts(&lattice->cutter, texts, error)) return false;
+        lattice->chosen = texts->number;
     }
-    uint32_t code = kumquatsieve_print(&tagger->cutter, &text, &length);
+    uint32_t code = kumquatsieve_print(&lattice->cutter, &text, &length);
     if (code != KUMQUATSIEVE_OK) return fail_code(error, "printing", code);
     return set_bytes(to, text, length) || fail_memory(error);
 }
 
-static bool take_words(mecab_t *tagger, mecab_lattice_t *lattice, size_t count, fault *error) {
+static bool take_words(mecab_lattice_t *lattice, size_t count, fault *error) {
     if (count >= lattice->words_room) {
         kumquatsieve_word *words = realloc(lattice->words, (2 * count + 8) * sizeof *words);
         if (!words) return fail_memory(error);
@@ -47,7 +48,7 @@ static bool take_words(mecab_t *tagger, mecab_lattice_t *lattice, size_t count, 
         lattice->nodes = nodes;
         lattice->nodes_room = 2 * count + 8;
     }
-    uint32_t code = kumquatsieve_words(&tagger->cutter, 0, lattice->words, count, &count);
+    uint32_t code = kumquatsieve_words(&lattice->cutter, 0, lattice->words, count, &count);
     return code == KUMQUATSIEVE_OK || fail_code(error, "words", code);
 }
 
@@ -64,22 +65,22 @@ static mecab_node_t node_of(const kumquatsieve_word *word, const char *sentence,
 }
 
 /* Each node's cost from the beginning. The buffer is used again for the features. */
-static bool read_costs(mecab_t *tagger, mecab_lattice_t *lattice, size_t count, fault *error) {
-    if (!print_into(tagger, &COSTS, &lattice->features, error)) return false;
+static bool read_costs(mecab_lattice_t *lattice, size_t count, fault *error) {
+    if (!print_into(lattice, &COSTS, &lattice->features, error)) return false;
     char *at = lattice->features.at;
     for (size_t i = 1; i <= count; i++) lattice->nodes[i].cost = strtol(at, &at, 10);
     return true;
 }
 
 /* The features, that of the beginning and the end first. A feature with U+0000 ends there for who reads it as C does. */
-static bool read_features(mecab_t *tagger, mecab_lattice_t *lattice, size_t count, fault *error) {
+static bool read_features(mecab_lattice_t *lattice, size_t count, fault *error) {
     bytes *to = &lattice->features;
     to->length = 0;
-    if (!add_text(to, tagger->bos_feature.at, tagger->bos_feature.length)) return fail_memory(error);
+    if (!add_text(to, lattice->tables->bos_feature, strlen(lattice->tables->bos_feature))) return fail_memory(error);
     for (size_t i = 0; i < count; i++) {
         const uint8_t *feature = NULL;
         size_t length = 0;
-        uint32_t code = kumquatsieve_feature(&tagger->cutter, i, &feature, &length);
+        uint32_t code = kumquatsieve_feature(&lattice->cutter, i, &feature, &length);
         if (code != KUMQUATSIEVE_OK) return fail_code(error, "feature", code);
         if (!add_text(to, (const char *)feature, length)) return fail_memory(error);
     }
@@ -100,8 +101,8 @@ static bool fit_nodes(const kumquatsieve_word *words, size_t count, fault *error
     return true;
 }
 
-static bool make_nodes(mecab_t *tagger, mecab_lattice_t *lattice, size_t count, int64_t total, fault *error) {
-    if (!take_words(tagger, lattice, count, error) || !fit_nodes(lattice->words, count, error)) return false;
+static bool make_nodes(mecab_lattice_t *lattice, size_t count, int64_t total, fault *error) {
+    if (!take_words(lattice, count, error) || !fit_nodes(lattice->words, count, error)) return false;
     mecab_node_t *nodes = lattice->nodes;
     nodes[0] = boundary(lattice->sentence, MECAB_BOS_NODE, 0);
     for (size_t i = 0; i < count; i++) nodes[i + 1] = node_of(&lattice->words[i], lattice->sentence, (unsigned)i + 1);
@@ -111,7 +112,7 @@ static bool make_nodes(mecab_t *tagger, mecab_lattice_t *lattice, size_t count, 
         nodes[i].next = &nodes[i + 1];
         nodes[i + 1].prev = &nodes[i];
     }
-    if (!read_costs(tagger, lattice, count, error) || !read_features(tagger, lattice, count, error)) return false;
+    if (!read_costs(lattice, count, error) || !read_features(lattice, count, error)) return false;
     lattice->count = count + 2;
     return true;
 }
@@ -128,16 +129,25 @@ static bool is_had(const mecab_lattice_t *lattice, fault *error) {
     return lattice->sentence != NULL || fail(error, "no sentence is set");
 }
 
-bool parse(mecab_t *tagger, mecab_lattice_t *lattice, bool nodes, bool text, fault *error) {
+bool parse(mecab_model_t *model, mecab_lattice_t *lattice, bool nodes, fault *error) {
     size_t count = 0;
     int64_t total = 0;
     lattice->count = 0;
-    lattice->is_printed = false;
-    if (!is_had(lattice, error) || !take_dictionaries(tagger, error)) return false;
-    uint32_t code = kumquatsieve_cut_text(&tagger->cutter, (const uint8_t *)lattice->sentence, lattice->size, &count, &total);
+    lattice->is_cut = lattice->is_printed = false;
+    if (!is_had(lattice, error) || !take_tables(model, lattice, error)) return false;
+    uint32_t code = kumquatsieve_cut_text(&lattice->cutter, (const uint8_t *)lattice->sentence, lattice->size, &count, &total);
     if (code != KUMQUATSIEVE_OK) return fail_code(error, "sentence", code);
-    if (nodes && !make_nodes(tagger, lattice, count, total, error)) return false;
-    if (text && !print_into(tagger, format_of(lattice), &lattice->printed, error)) return false;
-    lattice->is_printed = text;
+    if (nodes && !make_nodes(lattice, count, total, error)) return false;
+    lattice->is_cut = true;
     return true;
+}
+
+/* The text is made when it is asked for. */
+const char *text_of(mecab_lattice_t *lattice, fault *error) {
+    if (!lattice->is_cut) {
+        fail(error, "no sentence was parsed");
+        return NULL;
+    }
+    if (!lattice->is_printed) lattice->is_printed = print_into(lattice, format_of(lattice), &lattice->printed, error);
+    return lattice->is_printed ? lattice->printed.at : NULL;
 }

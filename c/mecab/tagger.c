@@ -1,4 +1,4 @@
-/* Taggers: cutters over the dictionaries of a model. */
+/* Taggers: what a model's dictionaries cut sentences by. */
 #include "layer.h"
 #include <stdlib.h>
 #include <string.h>
@@ -13,7 +13,6 @@ mecab_t *open_tagger(mecab_model_t *model, fault *error) {
         fail_memory(error);
         return NULL;
     }
-    pthread_mutex_init(&tagger->lock, NULL);
     tagger->model = hold_model(model);
     tagger->lattice = lattice;
     tagger->theta = THETA;
@@ -44,11 +43,8 @@ mecab_t *mecab_new2(const char *line) {
 
 void mecab_destroy(mecab_t *tagger) {
     if (!tagger) return;
-    kumquatsieve_free(&tagger->cutter);
-    free_bytes(&tagger->bos_feature);
     mecab_lattice_destroy(tagger->lattice);
     mecab_model_destroy(tagger->model);
-    pthread_mutex_destroy(&tagger->lock);
     free(tagger);
 }
 
@@ -61,27 +57,23 @@ const char *mecab_strerror(mecab_t *tagger) {
 }
 
 const mecab_dictionary_info_t *mecab_dictionary_info(mecab_t *tagger) {
-    return tagger->model->infos;
+    return mecab_model_dictionary_info(tagger->model);
 }
 
+/* Any number of threads may call this with one tagger, each with a lattice of its own. (mecab.h) */
 int mecab_parse_lattice(mecab_t *tagger, mecab_lattice_t *lattice) {
-    pthread_mutex_lock(&tagger->lock);
-    bool parsed = lattice ? parse(tagger, lattice, true, true, &lattice->error) : fail(&tagger->error, "no lattice is given");
-    pthread_mutex_unlock(&tagger->lock);
-    return parsed;
+    if (!lattice) return fail(common_fault(), "no lattice is given");
+    return parse(tagger->model, lattice, true, &lattice->error);
 }
 
-/* A sentence of the tagger's own lattice. The lock is the caller's. */
+/* A sentence of the tagger's own lattice. */
 static bool parse_own(mecab_t *tagger, const char *text, size_t length, bool nodes) {
     mecab_lattice_set_sentence2(tagger->lattice, text, length);
-    return parse(tagger, tagger->lattice, nodes, !nodes, &tagger->error);
+    return parse(tagger->model, tagger->lattice, nodes, &tagger->error);
 }
 
 const char *mecab_sparse_tostr2(mecab_t *tagger, const char *text, size_t length) {
-    pthread_mutex_lock(&tagger->lock);
-    const char *printed = parse_own(tagger, text, length, false) ? tagger->lattice->printed.at : NULL;
-    pthread_mutex_unlock(&tagger->lock);
-    return printed;
+    return parse_own(tagger, text, length, false) ? text_of(tagger->lattice, &tagger->error) : NULL;
 }
 
 const char *mecab_sparse_tostr(mecab_t *tagger, const char *text) {
@@ -89,20 +81,18 @@ const char *mecab_sparse_tostr(mecab_t *tagger, const char *text) {
 }
 
 char *mecab_sparse_tostr3(mecab_t *tagger, const char *text, size_t length, char *out, size_t room) {
-    pthread_mutex_lock(&tagger->lock);
-    bool parsed = parse_own(tagger, text, length, false);
+    if (!mecab_sparse_tostr2(tagger, text, length)) return NULL;
     const bytes *printed = &tagger->lattice->printed;
-    if (parsed && printed->length >= room) parsed = fail(&tagger->error, "output buffer overflow");
-    if (parsed) memcpy(out, printed->at, printed->length + 1);
-    pthread_mutex_unlock(&tagger->lock);
-    return parsed ? out : NULL;
+    if (printed->length >= room) {
+        fail(&tagger->error, "output buffer overflow");
+        return NULL;
+    }
+    memcpy(out, printed->at, printed->length + 1);
+    return out;
 }
 
 const mecab_node_t *mecab_sparse_tonode2(mecab_t *tagger, const char *text, size_t length) {
-    pthread_mutex_lock(&tagger->lock);
-    const mecab_node_t *first = parse_own(tagger, text, length, true) ? mecab_lattice_get_bos_node(tagger->lattice) : NULL;
-    pthread_mutex_unlock(&tagger->lock);
-    return first;
+    return parse_own(tagger, text, length, true) ? mecab_lattice_get_bos_node(tagger->lattice) : NULL;
 }
 
 const mecab_node_t *mecab_sparse_tonode(mecab_t *tagger, const char *text) {
