@@ -1,4 +1,4 @@
-/* The images of a model, and what is said of them. */
+/* What a model takes of its options and of what stands beside its image. */
 #include "layer.h"
 #include <stdlib.h>
 #include <string.h>
@@ -13,8 +13,7 @@ static const char VARIABLE[] = "KUMQUATSIEVE_DICTIONARY";
 static const char SHARED[] = PREFIX "/share/kumquatsieve";
 static const char BOS_FEATURE[] = "BOS/EOS";
 
-/* Where an image's header says its sizes: right ids, left ids, tokens of the lexicon. (docs/FORMAT.md) */
-enum { RIGHT_AT = 16, LEFT_AT = 20, TOKENS_AT = 32, HEADER = 104, VERSION = 102 };
+enum { GROUPING = 24 };
 
 static bool is_folder(const char *path) {
     struct stat of;
@@ -41,68 +40,24 @@ static char *path_of(const char *named) {
     return is_file(name) || strchr(name, '/') ? strdup(name) : joined(SHARED, name, ".img");
 }
 
-static bool read_file(const char *path, bytes *whole, fault *error) {
-    FILE *file = fopen(path, "rb");
-    if (!file) return fail(error, "%s: can't be opened; kumquatsieve-import makes an image", path);
-    long size = fseek(file, 0, SEEK_END) == 0 ? ftell(file) : -1;
-    rewind(file);
-    bool read = size >= 0;
-    if (!read) fail(error, "%s: can't be read", path);
-    whole->at = read ? malloc((size_t)size + 1) : NULL;
-    if (read && !whole->at) read = fail_memory(error);
-    whole->length = (size_t)size;
-    if (read && fread(whole->at, 1, whole->length, file) != whole->length) read = fail(error, "%s: can't be read", path);
-    fclose(file);
-    return read;
+/* The paths of the system's image and of the users', whose list has commas. */
+static size_t cut_paths(char **paths, char *image, char *users) {
+    size_t count = 0;
+    char *rest = NULL;
+    paths[count++] = image;
+    for (char *path = strtok_r(users, ",", &rest); path; path = strtok_r(NULL, ",", &rest)) paths[count++] = path;
+    return count;
 }
 
-static unsigned number_at(const bytes *image, size_t at) {
-    const unsigned char *of = (const unsigned char *)image->at + at;
-    return of[0] | (unsigned)of[1] << 8 | (unsigned)of[2] << 16 | (unsigned)of[3] << 24;
-}
-
-static bool add_info(mecab_dictionary_info_t **last, const char *path, const bytes *image, int type) {
-    mecab_dictionary_info_t *info = calloc(1, sizeof *info);
-    char *name = strdup(path);
-    if (!info || !name) {
-        free(info);
-        free(name);
-        return false;
-    }
-    *info = (mecab_dictionary_info_t){
-        .filename = name, .charset = "UTF-8", .size = number_at(image, TOKENS_AT), .type = type, .lsize = number_at(image, LEFT_AT),
-        .rsize = number_at(image, RIGHT_AT), .version = VERSION, .next = NULL,
-    };
-    *last = info;
-    return true;
-}
-
-/* Loads an image, the first one as the system's. The library has looked at it before its header is read here. */
-static bool load_image(tables *to, const char *path, fault *error) {
-    bytes image = {NULL, 0, 0};
-    uint64_t number = 0;
-    mecab_dictionary_info_t **last = &to->infos;
-    while (*last) last = &(*last)->next;
-    bool is_system = last == &to->infos;
-    bool loaded = read_file(path, &image, error);
-    if (loaded) {
-        const uint8_t *at = (const uint8_t *)image.at;
-        uint32_t code = is_system ? kumquatsieve_load(&to->cutter, at, image.length, &number)
-                                  : kumquatsieve_add_user(&to->cutter, at, image.length, &number);
-        if (code != KUMQUATSIEVE_OK) loaded = fail_code(error, path, code);
-    }
-    if (loaded && !add_info(last, path, &image, is_system ? MECAB_SYS_DIC : MECAB_USR_DIC)) loaded = fail_memory(error);
-    free(image.at);
-    return loaded;
-}
-
-static bool load_users(tables *to, const char *list, fault *error) {
-    char *copy = strdup(list), *rest = NULL;
-    if (!copy) return fail_memory(error);
-    bool loaded = true;
-    for (char *path = strtok_r(copy, ",", &rest); loaded && path; path = strtok_r(NULL, ",", &rest)) loaded = load_image(to, path, error);
-    free(copy);
-    return loaded;
+static images *open_all(char *image, const char *users, fault *error) {
+    char *list = strdup(users ? users : "");
+    char **paths = list ? malloc((strlen(list) + 2) * sizeof *paths) : NULL;
+    images *opened = NULL;
+    if (paths) opened = open_images(paths, cut_paths(paths, image, list), error);
+    else fail_memory(error);
+    free(paths);
+    free(list);
+    return opened;
 }
 
 /* The feature of a sentence's beginning and end, from the dicrc that stands beside the image, as MeCab has it. */
@@ -122,30 +77,24 @@ static char *read_bos_feature(const char *image) {
     return found ? found : strdup(BOS_FEATURE);
 }
 
-static bool set_grouping(tables *to, const char *text, fault *error) {
+static bool read_grouping(tables *to, const char *text, fault *error) {
     char *end = NULL;
     unsigned long grouping = strtoul(text, &end, 10);
     if (end == text || *end || grouping > UINT32_MAX) return fail(error, "max-grouping-size %s: no number", text);
-    uint32_t code = kumquatsieve_set_grouping(&to->cutter, (uint32_t)grouping);
-    return code == KUMQUATSIEVE_OK || fail_code(error, text, code);
+    to->grouping = (uint32_t)grouping;
+    return true;
 }
 
 static void free_tables(tables *of) {
-    kumquatsieve_free(&of->cutter);
-    for (mecab_dictionary_info_t *info = of->infos; info;) {
-        mecab_dictionary_info_t *next = info->next;
-        free((char *)info->filename);
-        free(info);
-        info = next;
-    }
+    release_images(of->images);
     free(of->bos_feature);
     free(of);
 }
 
-static bool fill_tables(tables *to, const char *path, const options *from, fault *error) {
-    if (!load_image(to, path, error)) return false;
-    if (from->users && !load_users(to, from->users, error)) return false;
-    if (from->grouping && !set_grouping(to, from->grouping, error)) return false;
+static bool fill_tables(tables *to, char *path, const options *from, fault *error) {
+    if (from->grouping && !read_grouping(to, from->grouping, error)) return false;
+    to->images = open_all(path, from->users, error);
+    if (!to->images) return false;
     to->bos_feature = read_bos_feature(path);
     return to->bos_feature || fail_memory(error);
 }
@@ -153,18 +102,19 @@ static bool fill_tables(tables *to, const char *path, const options *from, fault
 tables *load_tables(const options *from, fault *error) {
     static atomic_ulong last;
     char *path = path_of(from->dictionary);
-    tables *loaded = path ? calloc(1, sizeof *loaded) : NULL;
-    if (!loaded) {
+    tables *made = path ? calloc(1, sizeof *made) : NULL;
+    if (!made) {
         free(path);
         fail_memory(error);
         return NULL;
     }
-    loaded->number = ++last;
-    loaded->holders = 1;
-    bool filled = fill_tables(loaded, path, from, error);
+    made->number = ++last;
+    made->holders = 1;
+    made->grouping = GROUPING;
+    bool filled = fill_tables(made, path, from, error);
     free(path);
-    if (filled) return loaded;
-    free_tables(loaded);
+    if (filled) return made;
+    free_tables(made);
     return NULL;
 }
 
@@ -184,10 +134,10 @@ void release_tables(tables *of) {
     if (others == 0) free_tables(of);
 }
 
-/* A cutter is called by one thread at a time, also where another one is made of it. */
-bool share_tables(kumquatsieve_cutter *to, tables *from, fault *error) {
-    lock_shared();
-    uint32_t code = kumquatsieve_share(to, &from->cutter);
-    unlock_shared();
-    return code == KUMQUATSIEVE_OK || fail_code(error, "dictionaries", code);
+bool share_tables(kumquatsieve_cutter *to, const tables *from, fault *error) {
+    if (!share_images(to, from->images, error)) return false;
+    uint32_t code = kumquatsieve_set_grouping(to, from->grouping);
+    if (code == KUMQUATSIEVE_OK) return true;
+    kumquatsieve_free(to);
+    return fail_code(error, "max-grouping-size", code);
 }

@@ -49,13 +49,16 @@ typedef struct format {
     unsigned long number;
 } format;
 
-/* The dictionaries of a model, which stay as they are; no two have the same number, which is above 0. Its holders are the model and the
-   lattices that were cut by it. The cutter and the count are under the lock of lock.c. */
+/* Images that are loaded. (images.c) */
+typedef struct images images;
+
+/* The dictionaries of a model and what goes with them, which stay as they are; no two have the same number, which is above 0. The holders are
+   the model and the lattices that were cut by it; their count is under the lock of lock.c. */
 typedef struct tables {
     unsigned long number;
     unsigned long holders;
-    kumquatsieve_cutter cutter;
-    mecab_dictionary_info_t *infos;
+    images *images;
+    uint32_t grouping;
     char *bos_feature;
 } tables;
 
@@ -122,16 +125,24 @@ bool read_options(options *to, int count, char *const *words, fault *error);
 bool read_options_of(options *to, const char *line, fault *error);
 void free_options(options *of);
 
-/* lock.c. One lock for all that models and lattices share, which is held for a few steps, never over a sentence, and not for each. It is free
-   in a child that was forked while another thread had it. */
+/* lock.c. The one is held over a load of images. The other one is for all that models and lattices share; it is held for a few steps, never
+   over a sentence, and not for each. Both are free in a child that was forked while another thread had them. */
+void lock_loads(void);
+void unlock_loads(void);
 void lock_shared(void);
 void unlock_shared(void);
+
+/* images.c */
+images *open_images(char *const *paths, size_t count, fault *error);
+void release_images(images *of);
+const mecab_dictionary_info_t *infos_of(const images *of);
+bool share_images(kumquatsieve_cutter *to, images *from, fault *error);
 
 /* dictionary.c */
 tables *load_tables(const options *from, fault *error);
 tables *hold_tables(mecab_model_t *model);
 void release_tables(tables *of);
-bool share_tables(kumquatsieve_cutter *to, tables *from, fault *error);
+bool share_tables(kumquatsieve_cutter *to, const tables *from, fault *error);
 
 /* model.c */
 mecab_model_t *open_model(const options *from, fault *error);

@@ -1,8 +1,17 @@
-/* The lock of what models and lattices share. */
+/* The locks of what models and lattices share. */
 #include "layer.h"
 #include <pthread.h>
 
+static pthread_mutex_t loads = PTHREAD_MUTEX_INITIALIZER;
 static pthread_mutex_t shared = PTHREAD_MUTEX_INITIALIZER;
+
+void lock_loads(void) {
+    pthread_mutex_lock(&loads);
+}
+
+void unlock_loads(void) {
+    pthread_mutex_unlock(&loads);
+}
 
 void lock_shared(void) {
     pthread_mutex_lock(&shared);
@@ -12,7 +21,17 @@ void unlock_shared(void) {
     pthread_mutex_unlock(&shared);
 }
 
+static void lock_all(void) {
+    lock_loads();
+    lock_shared();
+}
+
+static void unlock_all(void) {
+    unlock_shared();
+    unlock_loads();
+}
+
 /* A child has the forking thread alone: what another one had locked would stay so. */
 __attribute__((constructor)) static void keep_over_forks(void) {
-    pthread_atfork(lock_shared, unlock_shared, unlock_shared);
+    pthread_atfork(lock_all, unlock_all, unlock_all);
 }

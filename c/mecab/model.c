@@ -41,6 +41,15 @@ bool accepts_texts(kumquatsieve_cutter *cutter, const format *texts, fault *erro
     return code == KUMQUATSIEVE_OK || fail_code(error, NAMES[part & 3], code);
 }
 
+/* Texts are looked at before a sentence is, by a cutter that is given back. */
+static bool accepts_model(const mecab_model_t *model, fault *error) {
+    kumquatsieve_cutter cutter = KUMQUATSIEVE_EMPTY;
+    if (!share_tables(&cutter, model->tables, error)) return false;
+    bool accepted = accepts_texts(&cutter, &model->texts, error);
+    kumquatsieve_free(&cutter);
+    return accepted;
+}
+
 mecab_model_t *open_model(const options *from, fault *error) {
     mecab_model_t *model = calloc(1, sizeof *model);
     if (!model) {
@@ -49,8 +58,7 @@ mecab_model_t *open_model(const options *from, fault *error) {
     }
     model->holders = 1;
     model->request = MECAB_ONE_BEST | (from->copies ? MECAB_ALLOCATE_SENTENCE : 0);
-    if (choose_texts(&model->texts, from, error) && (model->tables = load_tables(from, error))
-        && accepts_texts(&model->tables->cutter, &model->texts, error)) {
+    if (choose_texts(&model->texts, from, error) && (model->tables = load_tables(from, error)) && accepts_model(model, error)) {
         model->number = model->tables->number;
         return model;
     }
@@ -118,7 +126,7 @@ int mecab_model_swap(mecab_model_t *model, mecab_model_t *other) {
 
 const mecab_dictionary_info_t *mecab_model_dictionary_info(mecab_model_t *model) {
     lock_shared();
-    const mecab_dictionary_info_t *infos = model->tables->infos;
+    const mecab_dictionary_info_t *infos = infos_of(model->tables->images);
     unlock_shared();
     return infos;
 }
