@@ -32,6 +32,8 @@ void mecab_lattice_destroy(mecab_lattice_t *lattice) {
     free_bytes(&lattice->printed);
     free(lattice->words);
     free(lattice->nodes);
+    free(lattice->begins);
+    free(lattice->ends);
     mecab_model_destroy(lattice->model);
     free(lattice);
 }
@@ -39,7 +41,7 @@ void mecab_lattice_destroy(mecab_lattice_t *lattice) {
 void mecab_lattice_clear(mecab_lattice_t *lattice) {
     lattice->sentence = NULL;
     lattice->size = lattice->count = 0;
-    lattice->is_cut = lattice->is_printed = lattice->is_constrained = false;
+    lattice->is_cut = lattice->is_printed = lattice->is_placed = lattice->is_constrained = false;
     lattice->theta = THETA;
     lattice->z = 0;
 }

@@ -96,10 +96,14 @@ struct mecab_lattice_t {
     mecab_node_t *nodes;
     size_t nodes_room;
     size_t count;
+    mecab_node_t **begins;
+    mecab_node_t **ends;
+    size_t places_room;
     bytes features;
     bytes printed;
     bool is_cut;
     bool is_printed;
+    bool is_placed;
     bool is_constrained;
     int request;
     double theta;

@@ -24,10 +24,6 @@ OF_TAGGER(char *, mecab_nbest_next_tostr2, NULL, char *out, size_t room)
 OF_TAGGER(const mecab_node_t *, mecab_nbest_next_tonode, NULL)
 OF_TAGGER(const char *, mecab_format_node, NULL, const mecab_node_t *node)
 
-OF_LATTICE(mecab_node_t **, mecab_lattice_get_all_begin_nodes, NULL)
-OF_LATTICE(mecab_node_t **, mecab_lattice_get_all_end_nodes, NULL)
-OF_LATTICE(mecab_node_t *, mecab_lattice_get_begin_nodes, NULL, size_t at)
-OF_LATTICE(mecab_node_t *, mecab_lattice_get_end_nodes, NULL, size_t at)
 OF_LATTICE(int, mecab_lattice_next, 0)
 OF_LATTICE(mecab_node_t *, mecab_lattice_new_node, NULL)
 OF_LATTICE(const char *, mecab_lattice_nbest_tostr, NULL, size_t n)
@@ -40,7 +36,7 @@ OF_LATTICE(const char *, mecab_lattice_get_feature_constraint, NULL, size_t at)
 static void constrain(mecab_lattice_t *lattice, const char *what) {
     fail_left_out(&lattice->error, what);
     lattice->is_constrained = true;
-    lattice->is_cut = lattice->is_printed = false;
+    lattice->is_cut = lattice->is_printed = lattice->is_placed = false;
     lattice->count = 0;
 }
 

@@ -133,7 +133,7 @@ bool parse(mecab_model_t *model, mecab_lattice_t *lattice, bool nodes, fault *er
     size_t count = 0;
     int64_t total = 0;
     lattice->count = 0;
-    lattice->is_cut = lattice->is_printed = false;
+    lattice->is_cut = lattice->is_printed = lattice->is_placed = false;
     if (!is_had(lattice, error) || !take_tables(model, lattice, error)) return false;
     uint32_t code = kumquatsieve_cut_text(&lattice->cutter, (const uint8_t *)lattice->sentence, lattice->size, &count, &total);
     if (code != KUMQUATSIEVE_OK) return fail_code(error, "sentence", code);

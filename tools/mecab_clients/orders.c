@@ -124,6 +124,26 @@ static void nodes(void) {
     mecab_destroy(tagger);
 }
 
+/* The last word of a path and all before it, found by the arrays, as those of the best path. MeCab has other nodes
+   beside them, and the end among those that end at its place. */
+static void places(void) {
+    mecab_t *tagger = mecab_new2(words(""));
+    mecab_lattice_t *lattice = mecab_lattice_new();
+    mecab_lattice_set_sentence(lattice, " すもももももも の うち ");
+    if (!mecab_parse_lattice(tagger, lattice)) return;
+    mecab_node_t **begins = mecab_lattice_get_all_begin_nodes(lattice), **ends = mecab_lattice_get_all_end_nodes(lattice);
+    for (size_t at = 0; at <= mecab_lattice_get_size(lattice); at++) {
+        for (mecab_node_t *node = begins[at]; node; node = node->bnext) {
+            if (node->isbest) printf("begins at %zu: %.*s %d\n", at, node->length, node->surface, node == mecab_lattice_get_eos_node(lattice));
+        }
+        for (mecab_node_t *node = mecab_lattice_get_end_nodes(lattice, at); node; node = node->enext) {
+            if (node->isbest && node->stat != MECAB_EOS_NODE) printf("ends at %zu: %.*s %d\n", at, node->length, node->surface, ends[0] == mecab_lattice_get_bos_node(lattice));
+        }
+    }
+    mecab_lattice_destroy(lattice);
+    mecab_destroy(tagger);
+}
+
 int main(int given, char **paths) {
     if (given != 2) return 2;
     dictionary = paths[1];
@@ -132,5 +152,6 @@ int main(int given, char **paths) {
     settings_of_taggers();
     options_and_sentences();
     nodes();
+    places();
     return 0;
 }
