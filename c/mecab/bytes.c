@@ -3,7 +3,7 @@
 #include <stdlib.h>
 #include <string.h>
 
-static bool has_room(bytes *of, size_t length) {
+bool grow_bytes(bytes *of, size_t length) {
     if (length < of->room) return true;
     size_t room = length < SIZE_MAX / 2 ? 2 * length + 64 : length + 1;
     char *at = realloc(of->at, room);
@@ -14,7 +14,7 @@ static bool has_room(bytes *of, size_t length) {
 }
 
 bool set_bytes(bytes *to, const void *from, size_t length) {
-    if (!has_room(to, length)) return false;
+    if (!grow_bytes(to, length)) return false;
     if (length > 0) memmove(to->at, from, length);
     to->at[length] = '\0';
     to->length = length;
@@ -24,7 +24,7 @@ bool set_bytes(bytes *to, const void *from, size_t length) {
 /* Adds what stands before the first zero, and a zero. */
 bool add_text(bytes *to, const char *from, size_t length) {
     size_t shown = strnlen(from, length), whole = to->length + shown;
-    if (!has_room(to, whole)) return false;
+    if (!grow_bytes(to, whole)) return false;
     memcpy(to->at + to->length, from, shown);
     to->at[whole] = '\0';
     to->length = whole + 1;

@@ -120,9 +120,25 @@ bool fail_left_out(fault *error, const char *what);
 fault *common_fault(void);
 
 /* bytes.c */
+bool grow_bytes(bytes *of, size_t length);
 bool set_bytes(bytes *to, const void *from, size_t length);
 bool add_text(bytes *to, const char *from, size_t length);
 void free_bytes(bytes *of);
+
+/* Bytes that were read from a file, of which `told` were told as lines and `seen` have no line's end behind those. `number` is that of the
+   line that was told last, from 1. */
+typedef struct lines {
+    int from;
+    bytes held;
+    size_t told;
+    size_t seen;
+    size_t number;
+    bool is_over;
+} lines;
+
+/* lines.c. The next line, without its end, or NULL where there is none. What was written is flushed before the file is waited for, so that who
+   writes a line and waits gets its answer. */
+bool next_line(lines *of, FILE *to, const char **line, size_t *length, fault *error);
 
 /* options.c */
 bool read_options(options *to, int count, char *const *words, fault *error);

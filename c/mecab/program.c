@@ -1,38 +1,52 @@
 /* What Debian's program `mecab` calls. */
 #include "layer.h"
+#include <errno.h>
+#include <fcntl.h>
 #include <stdlib.h>
 #include <string.h>
-#include <sys/types.h>
+#include <unistd.h>
 
 static int report(const char *text) {
     fprintf(stderr, "mecab: %s\n", text);
     return 1;
 }
 
-static int cut_lines(mecab_t *tagger, FILE *from, FILE *to) {
-    char *line = NULL;
-    size_t room = 0;
-    ssize_t length = 0;
-    int status = 0;
-    while (status == 0 && (length = getline(&line, &room, from)) >= 0) {
-        if (length > 0 && line[length - 1] == '\n') length--;
-        const char *text = mecab_sparse_tostr2(tagger, line, (size_t)length);
-        if (!text) status = report(mecab_strerror(tagger));
-        else if (fwrite(text, 1, tagger->lattice->printed.length, to) != tagger->lattice->printed.length) status = report("a write failed");
+static bool write_text(mecab_t *tagger, FILE *to, fault *error) {
+    const bytes *text = &tagger->lattice->printed;
+    return fwrite(text->at, 1, text->length, to) == text->length || fail(error, "a write failed: %s", strerror(errno));
+}
+
+static int cut_lines(mecab_t *tagger, int from, FILE *to) {
+    lines all = {.from = from};
+    const char *line = NULL;
+    size_t length = 0;
+    bool is_good = true;
+    fault *error = &tagger->error;
+    while ((is_good = next_line(&all, to, &line, &length, error)) && line) {
+        is_good = mecab_sparse_tostr2(tagger, line, length) && write_text(tagger, to, error);
+        if (!is_good) break;
     }
-    if (status == 0 && ferror(from)) status = report("a read failed");
-    free(line);
+    if (!is_good) fprintf(stderr, "mecab: line %zu: %s\n", all.number + (line == NULL), error->text);
+    free_bytes(&all.held);
+    return is_good ? 0 : 1;
+}
+
+static int cut_file(mecab_t *tagger, const char *path, FILE *to) {
+    if (strcmp(path, "-") == 0) return cut_lines(tagger, STDIN_FILENO, to);
+    int from = open(path, O_RDONLY | O_CLOEXEC);
+    if (from < 0) {
+        fprintf(stderr, "mecab: %s: %s\n", path, strerror(errno));
+        return 1;
+    }
+    int status = cut_lines(tagger, from, to);
+    close(from);
     return status;
 }
 
 static int cut_files(mecab_t *tagger, int count, char **paths, FILE *to) {
     int status = 0;
-    if (count == 0) return cut_lines(tagger, stdin, to);
-    for (int i = 0; status == 0 && i < count; i++) {
-        FILE *from = strcmp(paths[i], "-") == 0 ? stdin : fopen(paths[i], "rb");
-        status = from ? cut_lines(tagger, from, to) : report(paths[i]);
-        if (from && from != stdin) fclose(from);
-    }
+    if (count == 0) return cut_file(tagger, "-", to);
+    for (int i = 0; status == 0 && i < count; i++) status = cut_file(tagger, paths[i], to);
     return status;
 }
 
@@ -47,7 +61,7 @@ static int tell_dictionaries(const mecab_dictionary_info_t *info, FILE *to) {
 static int run(const options *from) {
     mecab_model_t *model = open_model(from, common_fault());
     mecab_t *tagger = model ? open_tagger(model, common_fault()) : NULL;
-    FILE *to = tagger && from->file ? fopen(from->file, "wb") : stdout;
+    FILE *to = tagger && from->file ? fopen(from->file, "wbe") : stdout;
     int status = 0;
     if (!tagger) status = report(common_fault()->text);
     else if (!to) status = report(from->file);
