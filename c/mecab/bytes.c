@@ -1,5 +1,5 @@
 /* Bytes that grow. */
-#include "layer.h"
+#include "formats.h"
 #include <stdlib.h>
 #include <string.h>
 
@@ -18,6 +18,14 @@ bool set_bytes(bytes *to, const void *from, size_t length) {
     if (length > 0) memmove(to->at, from, length);
     to->at[length] = '\0';
     to->length = length;
+    return true;
+}
+
+bool add_bytes(bytes *to, const char *from, size_t length) {
+    if (!grow_bytes(to, to->length + length)) return false;
+    if (length > 0) memcpy(to->at + to->length, from, length);
+    to->length += length;
+    to->at[to->length] = '\0';
     return true;
 }
 

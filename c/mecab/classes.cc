@@ -33,10 +33,10 @@ public:
     MeCab::Allocator<MeCab::Node, MeCab::Path> *allocator() const override { return nullptr; }
     MeCab::Node *newNode() override { return mecab_lattice_new_node(at); }
     const char *toString() override { return mecab_lattice_tostr(at); }
-    const char *toString(const MeCab::Node *) override { return left_out_of(at, "Lattice::toString of a node"); }
+    const char *toString(const MeCab::Node *node) override { return text_of_node(at, node); }
     const char *enumNBestAsString(size_t n) override { return mecab_lattice_nbest_tostr(at, n); }
     const char *toString(char *out, size_t room) override { return mecab_lattice_tostr2(at, out, room); }
-    const char *toString(const MeCab::Node *, char *, size_t) override { return left_out_of(at, "Lattice::toString of a node"); }
+    const char *toString(const MeCab::Node *node, char *out, size_t room) override { return copy_text_of_node(at, node, out, room); }
     const char *enumNBestAsString(size_t n, char *out, size_t room) override { return mecab_lattice_nbest_tostr2(at, n, out, room); }
     bool has_constraint() const override { return mecab_lattice_has_constraint(at) != 0; }
     int boundary_constraint(size_t pos) const override { return mecab_lattice_get_boundary_constraint(at, pos); }
@@ -80,9 +80,9 @@ public:
     const char *parseNBest(size_t n, const char *text, size_t length, char *out, size_t room) override {
         return mecab_nbest_sparse_tostr3(at, n, text, length, out, room);
     }
-    const char *formatNode(const MeCab::Node *node, char *, size_t) override { return mecab_format_node(at, node); }
-    void set_request_type(int type) override { mecab_lattice_set_request_type(lattice_of(at), type); }
-    int request_type() const override { return mecab_lattice_get_request_type(lattice_of(at)); }
+    const char *formatNode(const MeCab::Node *node, char *out, size_t room) override { return copy_format_node(at, node, out, room); }
+    void set_request_type(int type) override { set_request_of_tagger(at, type); }
+    int request_type() const override { return request_of_tagger(at); }
     bool partial() const override { return mecab_get_partial(at) != 0; }
     void set_partial(bool partial) override { mecab_set_partial(at, partial); }
     int lattice_level() const override { return mecab_get_lattice_level(at); }

@@ -1,44 +1,11 @@
-/* What a model takes of its options and of what stands beside its image. */
+/* The dictionaries of a model, and what goes with them. */
 #include "layer.h"
 #include <stdlib.h>
 #include <string.h>
-#include <sys/stat.h>
 
-#ifndef PREFIX
-#define PREFIX "/usr/local"
-#endif
-
-static const char IMAGE[] = "kumquatsieve.img";
-static const char VARIABLE[] = "KUMQUATSIEVE_DICTIONARY";
-static const char SHARED[] = PREFIX "/share/kumquatsieve";
 static const char BOS_FEATURE[] = "BOS/EOS";
 
 enum { GROUPING = 24 };
-
-static bool is_folder(const char *path) {
-    struct stat of;
-    return stat(path, &of) == 0 && S_ISDIR(of.st_mode);
-}
-
-static bool is_file(const char *path) {
-    struct stat of;
-    return stat(path, &of) == 0 && S_ISREG(of.st_mode);
-}
-
-static char *joined(const char *folder, const char *name, const char *ending) {
-    size_t length = strlen(folder) + strlen(name) + strlen(ending) + 2;
-    char *path = malloc(length);
-    if (path) snprintf(path, length, "%s/%s%s", folder, name, ending);
-    return path;
-}
-
-/* The image that is named: a file, or that of a folder, or one by its name in PREFIX/share/kumquatsieve. */
-static char *path_of(const char *named) {
-    const char *name = named ? named : getenv(VARIABLE);
-    if (!name || !*name) return joined(SHARED, IMAGE, "");
-    if (is_folder(name)) return joined(name, IMAGE, "");
-    return is_file(name) || strchr(name, '/') ? strdup(name) : joined(SHARED, name, ".img");
-}
 
 /* The paths of the system's image and of the users', whose list has commas. */
 static size_t cut_paths(char **paths, char *image, char *users) {
@@ -60,57 +27,58 @@ static images *open_all(char *image, const char *users, fault *error) {
     return opened;
 }
 
-/* The feature of a sentence's beginning and end, from the dicrc that stands beside the image, as MeCab has it. */
-static char *read_bos_feature(const char *image) {
-    const char *slash = strrchr(image, '/');
-    char *folder = slash ? strndup(image, (size_t)(slash - image)) : strdup(".");
-    char *path = folder ? joined(folder, "dicrc", "") : NULL;
-    FILE *file = path ? fopen(path, "r") : NULL;
-    char line[1024], feature[1024];
-    char *found = NULL;
-    while (file && !found && fgets(line, sizeof line, file)) {
-        if (sscanf(line, " bos-feature = %1023[^\r\n]", feature) == 1) found = strdup(feature);
-    }
-    if (file) fclose(file);
-    free(path);
-    free(folder);
-    return found ? found : strdup(BOS_FEATURE);
-}
-
+/* 0 stands for the default. (MeCab) */
 static bool read_grouping(tables *to, const char *text, fault *error) {
     char *end = NULL;
-    unsigned long grouping = strtoul(text, &end, 10);
-    if (end == text || *end || grouping > UINT32_MAX) return fail(error, "max-grouping-size %s: no number", text);
-    to->grouping = (uint32_t)grouping;
+    unsigned long grouping = text ? strtoul(text, &end, 10) : GROUPING;
+    if (text && (end == text || *end || grouping > UINT32_MAX)) return fail(error, "max-grouping-size %s: no number", text);
+    to->grouping = grouping > 0 ? (uint32_t)grouping : GROUPING;
     return true;
+}
+
+/* An image without settings beside it has no ids. */
+static bool read_ids(tables *to, const char *image, const settings *from, fault *error) {
+    if (!is_set(from, HAS_DICRC)) return true;
+    char *path = beside(image, ".pos-id.def");
+    if (!path) return fail_memory(error);
+    to->posids = read_posids(path, to->images, error);
+    free(path);
+    return to->posids != NULL;
+}
+
+static bool copy_feature(char **to, const char *feature, fault *error) {
+    *to = strdup(feature);
+    return *to || fail_memory(error);
 }
 
 static void free_tables(tables *of) {
     release_images(of->images);
+    free_posids(of->posids);
     free(of->bos_feature);
+    free(of->unk_feature);
     free(of);
 }
 
-static bool fill_tables(tables *to, char *path, const options *from, fault *error) {
-    if (from->grouping && !read_grouping(to, from->grouping, error)) return false;
-    to->images = open_all(path, from->users, error);
-    if (!to->images) return false;
-    to->bos_feature = read_bos_feature(path);
-    return to->bos_feature || fail_memory(error);
+static bool fill_tables(tables *to, char *path, const settings *from, fault *error) {
+    const char *bos = setting_of(from, "bos-feature"), *unk = setting_of(from, "unk-feature");
+    if (!read_grouping(to, setting_of(from, "max-grouping-size"), error)) return false;
+    if (!copy_feature(&to->bos_feature, bos && *bos ? bos : BOS_FEATURE, error)) return false;
+    if (unk && *unk && !copy_feature(&to->unk_feature, unk, error)) return false;
+    to->images = open_all(path, setting_of(from, "userdic"), error);
+    return to->images && read_ids(to, path, from, error);
 }
 
-tables *load_tables(const options *from, fault *error) {
+tables *load_tables(settings *from, fault *error) {
     static atomic_ulong last;
-    char *path = path_of(from->dictionary);
+    char *path = find_image(from, error);
     tables *made = path ? calloc(1, sizeof *made) : NULL;
     if (!made) {
+        if (path) fail_memory(error);
         free(path);
-        fail_memory(error);
         return NULL;
     }
     made->number = ++last;
     made->holders = 1;
-    made->grouping = GROUPING;
     bool filled = fill_tables(made, path, from, error);
     free(path);
     if (filled) return made;

@@ -1,5 +1,6 @@
 /* What went wrong. */
-#include "layer.h"
+#include "formats.h"
+#include <kumquatsieve.h>
 
 static _Thread_local fault common;
 
@@ -28,5 +29,5 @@ bool fail_code(fault *error, const char *what, uint32_t code) {
 }
 
 bool fail_left_out(fault *error, const char *what) {
-    return fail(error, "%s: not had by libmecab over Kumquatsieve", what);
+    return fail(error, "%s is not supported by libmecab over Kumquatsieve", what);
 }

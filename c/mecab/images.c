@@ -4,8 +4,8 @@
 #include <string.h>
 #include <sys/stat.h>
 
-/* Where an image's header says its sizes: right ids, left ids, tokens of the lexicon. (docs/FORMAT.md) */
-enum { RIGHT_AT = 16, LEFT_AT = 20, TOKENS_AT = 32, VERSION = 102 };
+/* Where an image's header says its sizes: right ids, left ids, tokens of the lexicon, unknown tokens behind those. (docs/FORMAT.md) */
+enum { RIGHT_AT = 16, LEFT_AT = 20, TOKENS_AT = 32, UNKNOWN_AT = 36, VERSION = 102 };
 
 /* What tells a file from others, and from what it was before. */
 typedef struct identity {
@@ -23,6 +23,7 @@ struct images {
     unsigned long holders;
     size_t count;
     identity *files;
+    size_t *token_counts;
     kumquatsieve_cutter cutter;
     mecab_dictionary_info_t *infos;
 };
@@ -126,6 +127,7 @@ static bool load(images *to, const char *path, size_t number, fault *error) {
         uint32_t code = number == 0 ? kumquatsieve_load(&to->cutter, at, image.length, &at_fault)
                                     : kumquatsieve_add_user(&to->cutter, at, image.length, &at_fault);
         if (code != KUMQUATSIEVE_OK) is_loaded = fail_code(error, path, code);
+        else to->token_counts[number] = (size_t)number_at(&image, TOKENS_AT) + number_at(&image, UNKNOWN_AT);
     }
     if (is_loaded && !add_info(last, path, &image, number == 0 ? MECAB_SYS_DIC : MECAB_USR_DIC)) is_loaded = fail_memory(error);
     free(image.at);
@@ -141,25 +143,25 @@ static void free_images(images *of) {
         info = next;
     }
     free(of->files);
+    free(of->token_counts);
     free(of);
 }
 
 static images *load_all(char *const *paths, size_t count, fault *error) {
     images *made = calloc(1, sizeof *made);
-    if (made) made->files = calloc(count, sizeof *made->files);
-    if (!made || !made->files) {
-        free(made);
+    if (!made) {
         fail_memory(error);
         return NULL;
     }
     made->count = count;
     made->holders = 1;
-    for (size_t i = 0; i < count; i++) {
-        if (load(made, paths[i], i, error)) continue;
-        free_images(made);
-        return NULL;
-    }
-    return made;
+    made->files = calloc(count, sizeof *made->files);
+    made->token_counts = calloc(count, sizeof *made->token_counts);
+    bool is_loaded = (made->files && made->token_counts) || fail_memory(error);
+    for (size_t i = 0; is_loaded && i < count; i++) is_loaded = load(made, paths[i], i, error);
+    if (is_loaded) return made;
+    free_images(made);
+    return NULL;
 }
 
 /* Who wants an image while another thread loads it waits, and gets that one. */
@@ -187,6 +189,14 @@ void release_images(images *of) {
     }
     unlock_shared();
     if (is_last) free_images(of);
+}
+
+size_t image_count(const images *of) {
+    return of->count;
+}
+
+size_t token_count(const images *of, size_t image) {
+    return of->token_counts[image];
 }
 
 const mecab_dictionary_info_t *infos_of(const images *of) {

@@ -5,7 +5,6 @@
 #include <string.h>
 
 static const double THETA = 0.75;
-static const format DEFAULT = {"%m\\t%H\\n", "%m\\t%H\\n", "", "EOS\\n", 2};
 
 mecab_lattice_t *mecab_lattice_new(void) {
     mecab_lattice_t *lattice = calloc(1, sizeof *lattice);
@@ -20,7 +19,7 @@ mecab_lattice_t *mecab_lattice_new(void) {
 
 /* That of the lattice's model, whichever tagger parses it. (MeCab) */
 const format *format_of(const mecab_lattice_t *lattice) {
-    return lattice->model ? &lattice->model->texts : &DEFAULT;
+    return lattice->model ? &lattice->model->texts : default_format();
 }
 
 void mecab_lattice_destroy(mecab_lattice_t *lattice) {
@@ -30,6 +29,8 @@ void mecab_lattice_destroy(mecab_lattice_t *lattice) {
     free_bytes(&lattice->own);
     free_bytes(&lattice->features);
     free_bytes(&lattice->printed);
+    free_bytes(&lattice->listed);
+    free_bytes(&lattice->costs);
     free(lattice->words);
     free(lattice->nodes);
     free(lattice->begins);
@@ -39,9 +40,10 @@ void mecab_lattice_destroy(mecab_lattice_t *lattice) {
 }
 
 void mecab_lattice_clear(mecab_lattice_t *lattice) {
+    forget_path(lattice);
     lattice->sentence = NULL;
-    lattice->size = lattice->count = 0;
-    lattice->is_cut = lattice->is_printed = lattice->is_placed = lattice->is_constrained = false;
+    lattice->size = 0;
+    lattice->is_constrained = false;
     lattice->theta = THETA;
     lattice->z = 0;
 }
@@ -105,10 +107,4 @@ void mecab_lattice_set_theta(mecab_lattice_t *lattice, double theta) { lattice->
 double mecab_lattice_get_z(mecab_lattice_t *lattice) { return lattice->z; }
 void mecab_lattice_set_z(mecab_lattice_t *lattice, double z) { lattice->z = z; }
 
-mecab_lattice_t *lattice_of(mecab_t *tagger) { return tagger->lattice; }
 void set_error_of(mecab_lattice_t *lattice, const char *text) { fail(&lattice->error, "%s", text); }
-
-const char *left_out_of(mecab_lattice_t *lattice, const char *what) {
-    fail_left_out(&lattice->error, what);
-    return NULL;
-}

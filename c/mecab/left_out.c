@@ -1,11 +1,6 @@
 /* What needs more than the best path: each answers NULL or 0, and says so. */
 #include "layer.h"
 
-#define OF_TAGGER(type, name, none, ...)                \
-    type name(mecab_t *tagger, ##__VA_ARGS__) {         \
-        fail_left_out(&tagger->error, #name);           \
-        return none;                                    \
-    }
 #define OF_LATTICE(type, name, none, ...)               \
     type name(mecab_lattice_t *lattice, ##__VA_ARGS__) { \
         fail_left_out(&lattice->error, #name);          \
@@ -14,20 +9,8 @@
 
 #pragma GCC diagnostic ignored "-Wunused-parameter"
 
-OF_TAGGER(const char *, mecab_nbest_sparse_tostr, NULL, size_t n, const char *text)
-OF_TAGGER(const char *, mecab_nbest_sparse_tostr2, NULL, size_t n, const char *text, size_t length)
-OF_TAGGER(char *, mecab_nbest_sparse_tostr3, NULL, size_t n, const char *text, size_t length, char *out, size_t room)
-OF_TAGGER(int, mecab_nbest_init, 0, const char *text)
-OF_TAGGER(int, mecab_nbest_init2, 0, const char *text, size_t length)
-OF_TAGGER(const char *, mecab_nbest_next_tostr, NULL)
-OF_TAGGER(char *, mecab_nbest_next_tostr2, NULL, char *out, size_t room)
-OF_TAGGER(const mecab_node_t *, mecab_nbest_next_tonode, NULL)
-OF_TAGGER(const char *, mecab_format_node, NULL, const mecab_node_t *node)
 
-OF_LATTICE(int, mecab_lattice_next, 0)
 OF_LATTICE(mecab_node_t *, mecab_lattice_new_node, NULL)
-OF_LATTICE(const char *, mecab_lattice_nbest_tostr, NULL, size_t n)
-OF_LATTICE(const char *, mecab_lattice_nbest_tostr2, NULL, size_t n, char *out, size_t room)
 OF_LATTICE(int, mecab_lattice_has_constraint, 0)
 OF_LATTICE(int, mecab_lattice_get_boundary_constraint, 0, size_t at)
 OF_LATTICE(const char *, mecab_lattice_get_feature_constraint, NULL, size_t at)
@@ -36,8 +19,7 @@ OF_LATTICE(const char *, mecab_lattice_get_feature_constraint, NULL, size_t at)
 static void constrain(mecab_lattice_t *lattice, const char *what) {
     fail_left_out(&lattice->error, what);
     lattice->is_constrained = true;
-    lattice->is_cut = lattice->is_printed = lattice->is_placed = false;
-    lattice->count = 0;
+    forget_path(lattice);
 }
 
 void mecab_lattice_set_boundary_constraint(mecab_lattice_t *lattice, size_t at, int type) {

@@ -1,5 +1,5 @@
 /* Lines of a file, as they come. */
-#include "layer.h"
+#include "formats.h"
 #include <errno.h>
 #include <string.h>
 #include <unistd.h>

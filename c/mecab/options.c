@@ -1,36 +1,44 @@
 /* MeCab's options, as its callers give them. */
 #include "layer.h"
 #include <ctype.h>
-#include <stddef.h>
 #include <stdlib.h>
 #include <string.h>
 
-enum { NOWHERE = -1, IGNORED = -2 };
+enum { NOWHERE = -1 };
 
-/* Where an option's value goes. What names a file of settings or a buffer's size means nothing here: images have no settings, and sentences are
-   as long as they are. */
 static const struct {
     char letter;
     const char *name;
-    int has_value;
-    ptrdiff_t place;
+    bool has_value;
 } KNOWN[] = {
-    {'d', "dicdir", 1, offsetof(options, dictionary)},
-    {'u', "userdic", 1, offsetof(options, users)},
-    {'O', "output-format-type", 1, offsetof(options, output)},
-    {'F', "node-format", 1, offsetof(options, node)},
-    {'U', "unk-format", 1, offsetof(options, unk)},
-    {'B', "bos-format", 1, offsetof(options, bos)},
-    {'E', "eos-format", 1, offsetof(options, eos)},
-    {'M', "max-grouping-size", 1, offsetof(options, grouping)},
-    {'o', "output", 1, offsetof(options, file)},
-    {'r', "rcfile", 1, IGNORED},
-    {'b', "input-buffer-size", 1, IGNORED},
-    {'C', "allocate-sentence", 0, offsetof(options, copies)},
-    {'v', "version", 0, offsetof(options, version)},
-    {'D', "dictionary-info", 0, offsetof(options, dictionary_info)},
+    {'r', "rcfile", true},
+    {'d', "dicdir", true},
+    {'u', "userdic", true},
+    {'l', "lattice-level", true},
+    {'D', "dictionary-info", false},
+    {'O', "output-format-type", true},
+    {'a', "all-morphs", false},
+    {'N', "nbest", true},
+    {'p', "partial", false},
+    {'m', "marginal", false},
+    {'M', "max-grouping-size", true},
+    {'F', "node-format", true},
+    {'U', "unk-format", true},
+    {'B', "bos-format", true},
+    {'E', "eos-format", true},
+    {'S', "eon-format", true},
+    {'x', "unk-feature", true},
+    {'b', "input-buffer-size", true},
+    {'P', "dump-config", false},
+    {'C', "allocate-sentence", false},
+    {'t', "theta", true},
+    {'c', "cost-factor", true},
+    {'o', "output", true},
+    {'v', "version", false},
+    {'h', "help", false},
 };
 
+/* Which option a word is, and where in it a value may stand. */
 static int find(const char *word, size_t *value_at) {
     for (int i = 0; i < (int)(sizeof KNOWN / sizeof *KNOWN); i++) {
         size_t length = strlen(KNOWN[i].name);
@@ -46,41 +54,31 @@ static int find(const char *word, size_t *value_at) {
     return NOWHERE;
 }
 
-static bool keep(options *to, ptrdiff_t place, const char *value, fault *error) {
-    if (place == IGNORED) return true;
-    char **at = (char **)((char *)to + place);
-    char *copy = strdup(value);
-    if (!copy) return fail_memory(error);
-    free(*at);
-    *at = copy;
-    return true;
-}
-
 /* One option, at words[i]; answers how many words it takes, 0 where it is refused. */
-static int read_option(options *to, int i, int count, char *const *words, fault *error) {
+static int read_option(settings *to, int i, int count, char *const *words, fault *error) {
     size_t value_at = 0;
     int found = find(words[i], &value_at);
     if (found == NOWHERE) {
         fail_left_out(error, words[i]);
         return 0;
     }
-    if (!KNOWN[found].has_value && words[i][value_at] != '\0') {
+    const char *name = KNOWN[found].name;
+    bool has_value = words[i][value_at] != '\0' || words[i][value_at - 1] == '=';
+    if (!KNOWN[found].has_value && has_value) {
         fail(error, "%s: it takes no value", words[i]);
         return 0;
     }
-    if (!KNOWN[found].has_value) return keep(to, KNOWN[found].place, "yes", error) ? 1 : 0;
-    if (words[i][value_at] != '\0' || (words[i][1] == '-' && words[i][value_at - 1] == '=')) {
-        return keep(to, KNOWN[found].place, words[i] + value_at, error) ? 1 : 0;
-    }
+    if (!KNOWN[found].has_value) return set(to, name, "1", error) ? 1 : 0;
+    if (has_value) return set(to, name, words[i] + value_at, error) ? 1 : 0;
     if (i + 1 == count) {
         fail(error, "%s: its value is missing", words[i]);
         return 0;
     }
-    return keep(to, KNOWN[found].place, words[i + 1], error) ? 2 : 0;
+    return set(to, name, words[i + 1], error) ? 2 : 0;
 }
 
 /* The first word is the program's name. Options may stand behind other words, and after `--` nothing is one. (MeCab) */
-bool read_options(options *to, int count, char *const *words, fault *error) {
+bool read_options(settings *to, int count, char *const *words, fault *error) {
     int i = 1;
     to->others = malloc((size_t)(count > 0 ? count : 1) * sizeof *to->others);
     if (!to->others) return fail_memory(error);
@@ -108,7 +106,7 @@ static int cut_words(char *line, char **words) {
     return count;
 }
 
-bool read_options_of(options *to, const char *line, fault *error) {
+bool read_options_of(settings *to, const char *line, fault *error) {
     static char program[] = "mecab";
     char *copy = strdup(line ? line : "");
     char **words = copy ? malloc((strlen(copy) + 2) * sizeof *words) : NULL;
@@ -116,20 +114,11 @@ bool read_options_of(options *to, const char *line, fault *error) {
     if (words) {
         words[0] = program;
         read = read_options(to, cut_words(copy, words), words, error);
+        to->other_count = 0;
     } else {
         fail_memory(error);
     }
     free(words);
     free(copy);
     return read;
-}
-
-void free_options(options *of) {
-    char *all[] = {
-        of->dictionary, of->users, of->output, of->node, of->unk, of->bos, of->eos, of->grouping, of->copies, of->file, of->version,
-        of->dictionary_info,
-    };
-    for (size_t i = 0; i < sizeof all / sizeof *all; i++) free(all[i]);
-    free(of->others);
-    *of = (options){0};
 }

@@ -58,15 +58,23 @@ static int tell_dictionaries(const mecab_dictionary_info_t *info, FILE *to) {
     return 0;
 }
 
-static int run(const options *from) {
+static int cut_into(mecab_t *tagger, const settings *from, FILE *to) {
+    long nbest = number_of(from, "nbest", 1);
+    if (nbest <= 0) return report("invalid N value");
+    if (is_set(from, "dump-config")) return report("-P is not supported by libmecab over Kumquatsieve");
+    if (is_set(from, "dictionary-info")) return tell_dictionaries(mecab_dictionary_info(tagger), to);
+    return cut_files(tagger, from->other_count, from->others, to);
+}
+
+static int run(settings *from) {
     mecab_model_t *model = open_model(from, common_fault());
     mecab_t *tagger = model ? open_tagger(model, common_fault()) : NULL;
-    FILE *to = tagger && from->file ? fopen(from->file, "wbe") : stdout;
+    const char *path = setting_of(from, "output");
+    FILE *to = tagger && path && *path ? fopen(path, "wbe") : stdout;
     int status = 0;
     if (!tagger) status = report(common_fault()->text);
-    else if (!to) status = report(from->file);
-    else if (from->dictionary_info) status = tell_dictionaries(mecab_dictionary_info(tagger), to);
-    else status = cut_files(tagger, from->other_count, from->others, to);
+    else if (!to) status = report(path);
+    else status = cut_into(tagger, from, to);
     if (to && fflush(to) != 0 && status == 0) status = report("a write failed");
     if (to && to != stdout && fclose(to) != 0 && status == 0) status = report("a write failed");
     mecab_destroy(tagger);
@@ -74,12 +82,19 @@ static int run(const options *from) {
     return status;
 }
 
+static void tell_help(void) {
+    printf("Usage: mecab [options] files\n"
+           "MeCab's library over Kumquatsieve. It takes -d, -u, -r, -O, -F, -U, -B, -E, -S, -x, -M, -N 1, -o, -C, -D, -v and -h of MeCab's options;\n"
+           "-b, -c, -l, -m and -t are taken, and change no text; -a, -p, -P and -N above 1 are refused.\n\n");
+}
+
 int mecab_do(int count, char **words) {
-    options from = {0};
+    settings from = {0};
     int status = 0;
     if (!read_options(&from, count, words, common_fault())) status = report(common_fault()->text);
-    else if (from.version) printf("mecab of %s\n\n", mecab_version());
+    else if (is_set(&from, "help")) tell_help();
+    else if (is_set(&from, "version")) printf("mecab of %s\n\n", mecab_version());
     else status = run(&from);
-    free_options(&from);
+    free_settings(&from);
     return status;
 }

@@ -1,9 +1,8 @@
 /* Taggers: what a model's dictionaries cut sentences by. */
 #include "layer.h"
+#include "layer_cpp.h"
 #include <stdlib.h>
 #include <string.h>
-
-static const float THETA = 0.75F;
 
 mecab_t *open_tagger(mecab_model_t *model, fault *error) {
     mecab_t *tagger = calloc(1, sizeof *tagger);
@@ -15,12 +14,13 @@ mecab_t *open_tagger(mecab_model_t *model, fault *error) {
     }
     tagger->model = hold_model(model);
     tagger->lattice = lattice;
-    tagger->theta = THETA;
+    tagger->request = model->request;
+    tagger->theta = model->theta;
     return tagger;
 }
 
 /* A tagger that alone holds its model. */
-static mecab_t *opened(const options *from) {
+static mecab_t *opened(settings *from) {
     mecab_model_t *model = open_model(from, common_fault());
     mecab_t *tagger = model ? open_tagger(model, common_fault()) : NULL;
     mecab_model_destroy(model);
@@ -28,16 +28,16 @@ static mecab_t *opened(const options *from) {
 }
 
 mecab_t *mecab_new(int count, char **words) {
-    options from = {0};
+    settings from = {0};
     mecab_t *tagger = read_options(&from, count, words, common_fault()) ? opened(&from) : NULL;
-    free_options(&from);
+    free_settings(&from);
     return tagger;
 }
 
 mecab_t *mecab_new2(const char *line) {
-    options from = {0};
+    settings from = {0};
     mecab_t *tagger = read_options_of(&from, line, common_fault()) ? opened(&from) : NULL;
-    free_options(&from);
+    free_settings(&from);
     return tagger;
 }
 
@@ -66,14 +66,17 @@ int mecab_parse_lattice(mecab_t *tagger, mecab_lattice_t *lattice) {
     return parse(tagger->model, lattice, true, &lattice->error);
 }
 
-/* A sentence of the tagger's own lattice. */
-static bool parse_own(mecab_t *tagger, const char *text, size_t length, bool nodes) {
-    mecab_lattice_set_sentence2(tagger->lattice, text, length);
-    return parse(tagger->model, tagger->lattice, nodes, &tagger->error);
+/* A sentence of the tagger's own lattice. What is asked for goes before it, since that may be to copy it. */
+bool parse_own(mecab_t *tagger, const char *text, size_t length, int request, bool nodes) {
+    mecab_lattice_t *lattice = tagger->lattice;
+    lattice->request = tagger->request | request;
+    mecab_lattice_set_sentence2(lattice, text, length);
+    lattice->theta = tagger->theta;
+    return parse(tagger->model, lattice, nodes, &tagger->error);
 }
 
 const char *mecab_sparse_tostr2(mecab_t *tagger, const char *text, size_t length) {
-    return parse_own(tagger, text, length, false) ? text_of(tagger->lattice, &tagger->error) : NULL;
+    return parse_own(tagger, text, length, 0, false) ? text_of(tagger->lattice, &tagger->error) : NULL;
 }
 
 const char *mecab_sparse_tostr(mecab_t *tagger, const char *text) {
@@ -92,36 +95,34 @@ char *mecab_sparse_tostr3(mecab_t *tagger, const char *text, size_t length, char
 }
 
 const mecab_node_t *mecab_sparse_tonode2(mecab_t *tagger, const char *text, size_t length) {
-    return parse_own(tagger, text, length, true) ? mecab_lattice_get_bos_node(tagger->lattice) : NULL;
+    return parse_own(tagger, text, length, 0, true) ? mecab_lattice_get_bos_node(tagger->lattice) : NULL;
 }
 
 const mecab_node_t *mecab_sparse_tonode(mecab_t *tagger, const char *text) {
     return mecab_sparse_tonode2(tagger, text, text ? strlen(text) : 0);
 }
 
-/* What a tagger is asked for is kept with its own lattice, and what is not had is refused where a sentence is parsed. */
+/* What is not had is refused where a sentence is parsed. */
 static void ask(mecab_t *tagger, int type, bool wanted) {
-    if (wanted) mecab_lattice_add_request_type(tagger->lattice, type);
-    else mecab_lattice_remove_request_type(tagger->lattice, type);
+    if (wanted) tagger->request |= type;
+    else tagger->request &= ~type;
 }
 
-static int is_asked(mecab_t *tagger, int type) {
-    return mecab_lattice_has_request_type(tagger->lattice, type);
-}
-
-int mecab_get_partial(mecab_t *tagger) { return is_asked(tagger, MECAB_PARTIAL); }
+int mecab_get_partial(mecab_t *tagger) { return (tagger->request & MECAB_PARTIAL) != 0; }
 void mecab_set_partial(mecab_t *tagger, int partial) { ask(tagger, MECAB_PARTIAL, partial); }
-float mecab_get_theta(mecab_t *tagger) { return tagger->theta; }
+float mecab_get_theta(mecab_t *tagger) { return (float)tagger->theta; }
 void mecab_set_theta(mecab_t *tagger, float theta) { tagger->theta = theta; }
-int mecab_get_all_morphs(mecab_t *tagger) { return is_asked(tagger, MECAB_ALL_MORPHS); }
+int mecab_get_all_morphs(mecab_t *tagger) { return (tagger->request & MECAB_ALL_MORPHS) != 0; }
 void mecab_set_all_morphs(mecab_t *tagger, int all_morphs) { ask(tagger, MECAB_ALL_MORPHS, all_morphs); }
+int request_of_tagger(const mecab_t *tagger) { return tagger->request; }
+void set_request_of_tagger(mecab_t *tagger, int request) { tagger->request = request; }
 
 int mecab_get_lattice_level(mecab_t *tagger) {
-    return is_asked(tagger, MECAB_MARGINAL_PROB) ? 2 : is_asked(tagger, MECAB_NBEST) ? 1 : 0;
+    return tagger->request & MECAB_MARGINAL_PROB ? 2 : tagger->request & MECAB_NBEST ? 1 : 0;
 }
 
-/* Level 1 is N-best, 2 marginal probabilities. (MeCab, which never goes down again) */
+/* Level 1 is N-best, 2 marginal probabilities, and neither goes away again. (MeCab) */
 void mecab_set_lattice_level(mecab_t *tagger, int level) {
-    ask(tagger, MECAB_NBEST, level == 1);
-    ask(tagger, MECAB_MARGINAL_PROB, level > 1);
+    static const int TYPES[] = {MECAB_ONE_BEST, MECAB_NBEST, MECAB_MARGINAL_PROB};
+    if (level >= 0 && level <= 2) tagger->request |= TYPES[level];
 }

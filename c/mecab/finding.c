@@ -1,0 +1,205 @@
+/* Which image is meant, and which settings go with it. */
+#include "layer.h"
+#include <limits.h>
+#include <stdlib.h>
+#include <string.h>
+#include <sys/stat.h>
+#include <unistd.h>
+
+#ifndef PREFIX
+#define PREFIX "/usr/local"
+#endif
+
+static const char IMAGE[] = "kumquatsieve.img";
+static const char VARIABLE[] = "KUMQUATSIEVE_DICTIONARY";
+static const char SHARED[] = PREFIX "/share/kumquatsieve";
+static const char SYSTEM_SETTINGS[] = "/etc/mecabrc";
+static const char RC_PATH[] = "$(rcpath)";
+
+/* Whose settings were read. */
+typedef enum source { NO_SOURCE, GIVEN_SOURCE, USERS_SOURCE, SYSTEM_SOURCE } source;
+
+static bool is_folder(const char *path) {
+    struct stat of;
+    return stat(path, &of) == 0 && S_ISDIR(of.st_mode);
+}
+
+static bool is_file(const char *path) {
+    struct stat of;
+    return stat(path, &of) == 0 && S_ISREG(of.st_mode);
+}
+
+/* A folder's file, NULL where there is no memory. */
+static char *joined(const char *folder, const char *name, size_t name_length, const char *ending) {
+    size_t length = strlen(folder) + name_length + strlen(ending) + 2;
+    char *path = malloc(length);
+    if (path) snprintf(path, length, "%s/%.*s%s", folder, (int)name_length, name, ending);
+    return path;
+}
+
+static char *in_folder(const char *folder, const char *name) {
+    return joined(folder, name, strlen(name), "");
+}
+
+static bool is_in_folder(const char *folder, const char *name) {
+    char *path = in_folder(folder, name);
+    bool is_there = path && is_file(path);
+    free(path);
+    return is_there;
+}
+
+/* Compiled or not. */
+static bool is_of_mecab(const char *folder) {
+    return is_in_folder(folder, "sys.dic") || is_in_folder(folder, "matrix.def");
+}
+
+/* The name of an image that kumquatsieve-import makes of the sources of a folder of this name: without the character code, and Debian's
+   naist-jdic is naist. */
+static size_t length_of_name(const char *name) {
+    static const char *const CODES[] = {"-utf8", "-utf-8", "-eucjp", "-euc-jp", "-sjis"};
+    size_t length = strlen(name);
+    for (size_t i = 0; i < sizeof CODES / sizeof *CODES; i++) {
+        size_t code = strlen(CODES[i]);
+        if (length > code && strcmp(name + length - code, CODES[i]) == 0) length -= code;
+    }
+    return length == strlen("naist-jdic") && strncmp(name, "naist-jdic", length) == 0 ? strlen("naist") : length;
+}
+
+/* Those that kumquatsieve-import knows by their names. */
+static bool is_known(const char *name, size_t length) {
+    static const char *const NAMES[] = {"ipadic", "juman", "naist", "unidic"};
+    for (size_t i = 0; i < sizeof NAMES / sizeof *NAMES; i++) {
+        if (strlen(NAMES[i]) == length && strncmp(NAMES[i], name, length) == 0) return true;
+    }
+    return false;
+}
+
+static bool fail_not_imported(fault *error, const char *folder, const char *name, size_t length) {
+    int shown = (int)length;
+    if (is_known(name, length)) {
+        return fail(error, "%s is a dictionary of MeCab's: `kumquatsieve-import %.*s` makes an image of its sources", folder, shown, name);
+    }
+    return fail(
+        error, "%s is a dictionary of MeCab's: `kumquatsieve-import SOURCES %s/%.*s.img` makes an image of its sources", folder, SHARED, shown, name
+    );
+}
+
+/* The image that was imported from a folder of MeCab's, by its name. */
+static char *imported(const char *folder, fault *error) {
+    char whole[PATH_MAX];
+    const char *path = realpath(folder, whole) ? whole : folder;
+    const char *name = strrchr(path, '/') ? strrchr(path, '/') + 1 : path;
+    size_t length = length_of_name(name);
+    char *image = joined(SHARED, name, length, ".img");
+    if (!image || is_file(image)) {
+        if (!image) fail_memory(error);
+        return image;
+    }
+    free(image);
+    fail_not_imported(error, folder, name, length);
+    return NULL;
+}
+
+/* The image that is named: a file, or that of a folder, or one by its name in PREFIX/share/kumquatsieve. */
+static char *image_of(const char *name, fault *error) {
+    char *path = NULL;
+    if (is_folder(name) && !is_in_folder(name, IMAGE) && is_of_mecab(name)) return imported(name, error);
+    if (is_folder(name)) path = in_folder(name, IMAGE);
+    else if (is_file(name) || strchr(name, '/')) path = strdup(name);
+    else path = joined(SHARED, name, strlen(name), ".img");
+    if (!path) fail_memory(error);
+    return path;
+}
+
+/* What a file of settings calls its own folder by. (MeCab) */
+static char *with_rc_path(const char *value, const char *file) {
+    const char *found = strstr(value, RC_PATH);
+    const char *slash = strrchr(file, '/');
+    if (!found) return strdup(value);
+    const char *folder = slash ? file : ".";
+    size_t folder_length = slash ? (size_t)(slash - file) : 1, before = (size_t)(found - value);
+    const char *behind = found + strlen(RC_PATH);
+    size_t length = before + folder_length + strlen(behind) + 1;
+    char *path = malloc(length);
+    if (path) snprintf(path, length, "%.*s%.*s%s", (int)before, value, (int)folder_length, folder, behind);
+    return path;
+}
+
+/* The option's file, or the user's own, or that of the environment, or the system's. (MeCab) Only the last one may be missing, and the user's. */
+static source read_sources(settings *to, char **file, fault *error) {
+    const char *given = setting_of(to, "rcfile"), *home = getenv("HOME"), *named = getenv("MECABRC");
+    source from = given && *given ? GIVEN_SOURCE : USERS_SOURCE;
+    char *own = home ? in_folder(home, ".mecabrc") : NULL;
+    if (from == GIVEN_SOURCE) *file = strdup(given);
+    else if (own && access(own, R_OK) == 0) *file = strdup(own);
+    else if (named && *named) *file = strdup(named);
+    else {
+        from = access(SYSTEM_SETTINGS, R_OK) == 0 ? SYSTEM_SOURCE : NO_SOURCE;
+        *file = strdup(SYSTEM_SETTINGS);
+    }
+    free(own);
+    if (!*file) fail_memory(error);
+    return from;
+}
+
+/* What is nearer to the caller goes before what is the machine's. The folder of the system's settings goes last: it is MeCab's own. */
+static char *chosen_name(const char *option, const char *setting, source from) {
+    char *shared = in_folder(SHARED, IMAGE);
+    const char *named = getenv(VARIABLE);
+    const char *chosen = option;
+    if (!chosen && from == GIVEN_SOURCE) chosen = setting;
+    if (!chosen && named && *named) chosen = named;
+    if (!chosen && from == USERS_SOURCE) chosen = setting;
+    if (!chosen && !(shared && is_file(shared))) chosen = setting;
+    if (!chosen) return shared;
+    char *copy = strdup(chosen);
+    free(shared);
+    return copy;
+}
+
+/* The settings beside an image NAME.img are NAME.dicrc and NAME.pos-id.def. Where the image is a link they are beside what it leads to. */
+char *beside(const char *image, const char *ending) {
+    char whole[PATH_MAX];
+    const char *path = realpath(image, whole) ? whole : image;
+    size_t length = strlen(path), img = strlen(".img");
+    if (length > img && strcmp(path + length - img, ".img") == 0) length -= img;
+    char *made = malloc(length + strlen(ending) + 1);
+    if (made) snprintf(made, length + strlen(ending) + 1, "%.*s%s", (int)length, path, ending);
+    return made;
+}
+
+static bool read_beside(settings *to, const char *image, fault *error) {
+    char *path = beside(image, ".dicrc");
+    if (!path) return fail_memory(error);
+    bool is_read = access(path, F_OK) != 0 || (read_settings(to, path, error) && set(to, HAS_DICRC, "1", error));
+    free(path);
+    return is_read;
+}
+
+static char *find_named(settings *to, const char *option, fault *error) {
+    char *file = NULL, *setting = NULL, *image = NULL;
+    source from = read_sources(to, &file, error);
+    bool is_read = file && (from == NO_SOURCE || read_settings(to, file, error));
+    const char *dictionary = setting_of(to, "dicdir");
+    if (is_read && dictionary) setting = with_rc_path(dictionary, file);
+    char *name = is_read && (!dictionary || setting) ? chosen_name(option, setting, from) : NULL;
+    if (is_read && !name) fail_memory(error);
+    if (name) image = image_of(name, error);
+    free(name);
+    free(setting);
+    free(file);
+    return image;
+}
+
+/* The path of the image; the settings have then what MeCab's files and the image's own say. */
+char *find_image(settings *to, fault *error) {
+    const char *given = setting_of(to, "dicdir");
+    char *option = given && *given ? strdup(given) : NULL;
+    char *image = NULL;
+    if (given && *given && !option) fail_memory(error);
+    else image = find_named(to, option, error);
+    free(option);
+    if (image && read_beside(to, image, error)) return image;
+    free(image);
+    return NULL;
+}

@@ -1,0 +1,122 @@
+/* Settings by their names: what a caller's options and MeCab's files of settings say. */
+#include "formats.h"
+#include <errno.h>
+#include <stdlib.h>
+#include <string.h>
+
+/* What MeCab's files can't set, since MeCab has a value of its own for each before it reads them. */
+static const char *const NOT_IN_FILES[] = {
+    "node-format", "unk-format", "bos-format", "eos-format", "eon-format", "lattice-level", "nbest", "max-grouping-size", "theta", "cost-factor",
+};
+
+static setting *find(const settings *of, const char *name, size_t length) {
+    for (size_t i = 0; i < of->count; i++) {
+        if (strncmp(of->all[i].name, name, length) == 0 && of->all[i].name[length] == '\0') return &of->all[i];
+    }
+    return NULL;
+}
+
+const char *setting_of(const settings *of, const char *name) {
+    const setting *found = find(of, name, strlen(name));
+    return found ? found->value : NULL;
+}
+
+/* Where the whole text is a number, that one, and else 0. (MeCab) */
+long number_of(const settings *of, const char *name, long otherwise) {
+    const char *text = setting_of(of, name);
+    char *end = NULL;
+    if (!text) return otherwise;
+    long number = strtol(text, &end, 10);
+    return end != text && *end == '\0' ? number : 0;
+}
+
+bool is_set(const settings *of, const char *name) {
+    return number_of(of, name, 0) == 1;
+}
+
+static bool add(settings *to, const char *name, size_t length, const char *value, fault *error) {
+    if (to->count == to->room) {
+        setting *all = realloc(to->all, (2 * to->room + 8) * sizeof *all);
+        if (!all) return fail_memory(error);
+        to->all = all;
+        to->room = 2 * to->room + 8;
+    }
+    setting new = {strndup(name, length), strdup(value)};
+    if (!new.name || !new.value) {
+        free(new.name);
+        free(new.value);
+        return fail_memory(error);
+    }
+    to->all[to->count++] = new;
+    return true;
+}
+
+bool set(settings *to, const char *name, const char *value, fault *error) {
+    setting *found = find(to, name, strlen(name));
+    if (!found) return add(to, name, strlen(name), value, error);
+    char *copy = strdup(value);
+    if (!copy) return fail_memory(error);
+    free(found->value);
+    found->value = copy;
+    return true;
+}
+
+static bool is_in_files(const char *name, size_t length) {
+    for (size_t i = 0; i < sizeof NOT_IN_FILES / sizeof *NOT_IN_FILES; i++) {
+        if (strncmp(NOT_IN_FILES[i], name, length) == 0 && NOT_IN_FILES[i][length] == '\0') return false;
+    }
+    return true;
+}
+
+static bool is_blank(char byte) {
+    return byte == ' ' || (byte >= '\t' && byte <= '\r');
+}
+
+/* A name, `=` and a value. Empty lines say nothing, nor does what begins with `;` or `#`. (MeCab) */
+static bool read_line(settings *to, const char *line, fault *error) {
+    if (*line == '\0' || *line == ';' || *line == '#') return true;
+    const char *value = strchr(line, '=');
+    if (!value) return fail(error, "no `=` in %s", line);
+    size_t length = (size_t)(value - line);
+    while (length > 0 && is_blank(line[length - 1])) length--;
+    do value++;
+    while (is_blank(*value));
+    return find(to, line, length) || !is_in_files(line, length) || add(to, line, length, value, error);
+}
+
+static bool read_lines(settings *to, FILE *file, const char *path, fault *error) {
+    char *line = NULL;
+    size_t room = 0, number = 0;
+    ssize_t length = 0;
+    bool is_read = true;
+    errno = 0;
+    while (is_read && (length = getline(&line, &room, file)) >= 0) {
+        fault wrong;
+        if (length > 0 && line[length - 1] == '\n') line[length - 1] = '\0';
+        number++;
+        is_read = read_line(to, line, &wrong);
+        if (!is_read) fail(error, "%s: line %zu: %.200s", path, number, wrong.text);
+    }
+    if (is_read && !feof(file)) is_read = fail(error, "%s: line %zu: %s", path, number + 1, strerror(errno));
+    free(line);
+    return is_read;
+}
+
+/* What is set already stays as it is. */
+bool read_settings(settings *to, const char *path, fault *error) {
+    FILE *file = fopen(path, "re");
+    if (!file) return fail(error, "no such file or directory: %s", path);
+    bool is_read = read_lines(to, file, path, error);
+    fclose(file);
+    return is_read;
+}
+
+void free_settings(settings *of) {
+    for (size_t i = 0; i < of->count; i++) {
+        free(of->all[i].name);
+        free(of->all[i].value);
+    }
+    free(of->all);
+    free(of->others);
+    *of = (settings){0};
+}

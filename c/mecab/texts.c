@@ -1,0 +1,97 @@
+/* The formats that a model's settings ask for. */
+#include "layer.h"
+#include <stdlib.h>
+#include <string.h>
+
+static const char NODE[] = "%m\\t%H\\n";
+static const char EOS[] = "EOS\\n";
+static const char *const PARTS[PART_COUNT] = {"node-format", "unk-format", "bos-format", "eos-format", "eon-format"};
+static const char *const DEFAULTS[PART_COUNT] = {NODE, NODE, "", EOS, ""};
+
+/* No two formats have the same number. 1 is that of parsing.c. */
+static atomic_ulong last_number = 2;
+static const format LINES = {.style = LINES_STYLE, .texts = {NODE, NODE, "", EOS, ""}, .number = 2, .is_proved = true};
+static const format WAKATI = {.style = WAKATI_STYLE, .texts = {"%m ", "%m ", "", "\\n", ""}, .is_proved = true};
+static const format NONE = {.style = NO_STYLE, .texts = {"", "", "", "", ""}, .is_proved = true};
+
+const format *default_format(void) {
+    return &LINES;
+}
+
+bool accepts_texts(kumquatsieve_cutter *cutter, const format *texts, fault *error) {
+    uint32_t part = 0;
+    size_t at = 0;
+    const uint8_t *of[4];
+    size_t lengths[4];
+    for (int i = 0; i < 4; i++) {
+        of[i] = (const uint8_t *)texts->texts[i];
+        lengths[i] = strlen(texts->texts[i]);
+    }
+    uint32_t code = kumquatsieve_set_format(
+        cutter, of[0], lengths[0], of[1], lengths[1], of[2], lengths[2], of[3], lengths[3], &part, &at
+    );
+    return code == KUMQUATSIEVE_OK || fail_code(error, PARTS[part & 3], code);
+}
+
+/* A part's setting, or that of a style, where the others have nothing in place of a default. (MeCab) */
+static const char *text_in(const settings *from, int part, const char *style) {
+    char name[256];
+    if (!*style) {
+        const char *text = setting_of(from, PARTS[part]);
+        return text ? text : DEFAULTS[part];
+    }
+    snprintf(name, sizeof name, "%s-%s", PARTS[part], style);
+    const char *text = setting_of(from, name);
+    return text ? text : "";
+}
+
+static bool is_default(const char *const texts[]) {
+    for (int i = 0; i < EON_PART; i++) {
+        if (strcmp(texts[i], DEFAULTS[i]) != 0) return false;
+    }
+    return true;
+}
+
+/* What the library has is left to it, and the rest is printed here. */
+static bool read_own(format *to, const char *const texts[], kumquatsieve_cutter *cutter, fault *error) {
+    fault refused;
+    for (int i = 0; i < PART_COUNT; i++) {
+        to->texts[i] = to->own[i] = strdup(texts[i]);
+        if (!to->own[i]) return fail_memory(error);
+        if (!read_items(&to->items[i], texts[i], PARTS[i], error)) return false;
+    }
+    to->style = OWN_STYLE;
+    to->is_proved = accepts_texts(cutter, to, &refused);
+    return true;
+}
+
+/* The default unknown words' text stands for that of known ones. (MeCab) */
+static bool choose_own(format *to, const settings *from, const char *style, kumquatsieve_cutter *cutter, fault *error) {
+    const char *texts[PART_COUNT];
+    for (int i = 0; i < PART_COUNT; i++) texts[i] = text_in(from, i, style);
+    if (*style && !*texts[NODE_PART]) return fail(error, "unknown format type [%.200s]", style);
+    if (strcmp(texts[UNK_PART], NODE) == 0) texts[UNK_PART] = texts[NODE_PART];
+    if (!is_default(texts)) return read_own(to, texts, cutter, error);
+    *to = LINES;
+    return true;
+}
+
+/* With a style of MeCab's own the formats are not looked at. (MeCab) */
+bool choose_texts(format *to, const settings *from, kumquatsieve_cutter *cutter, fault *error) {
+    const char *style = setting_of(from, "output-format-type");
+    if (!style) style = "";
+    if (strcmp(style, "dump") == 0 || strcmp(style, "em") == 0) return fail(error, "output format type %s: not supported by libmecab over Kumquatsieve", style);
+    bool chosen = true;
+    if (strcmp(style, "wakati") == 0) *to = WAKATI;
+    else if (strcmp(style, "none") == 0) *to = NONE;
+    else chosen = choose_own(to, from, style, cutter, error);
+    to->number = ++last_number;
+    return chosen;
+}
+
+void free_texts(format *of) {
+    for (int i = 0; i < PART_COUNT; i++) {
+        free(of->own[i]);
+        free_items(&of->items[i]);
+    }
+}

@@ -1,0 +1,31 @@
+/* Prints each field of each node, of the beginning and the end too, for each line: fields DICTIONARY LINES. */
+#include <mecab.h>
+#include <stdio.h>
+#include <stdlib.h>
+#include <string.h>
+
+static void tell(const mecab_node_t *node) {
+    printf("%.*s %s %u %u ", node->length, node->surface, node->feature, node->length, node->rlength);
+    printf("%u %u %u %u %u ", node->rcAttr, node->lcAttr, node->posid, node->char_type, node->stat);
+    printf("%u %d %ld %g %g %g\n", node->isbest, node->wcost, node->cost, node->alpha, node->beta, node->prob);
+}
+
+int main(int given, char **paths) {
+    char options[4096], *line = NULL;
+    size_t room = 0;
+    FILE *file = given == 3 ? fopen(paths[2], "r") : NULL;
+    if (!file) return 2;
+    snprintf(options, sizeof options, "-d %s", paths[1]);
+    mecab_t *tagger = mecab_new2(options);
+    if (!tagger) return 1;
+    while (getline(&line, &room, file) > 0) {
+        line[strcspn(line, "\n")] = '\0';
+        const mecab_node_t *node = mecab_sparse_tonode(tagger, line);
+        if (!node) return 1;
+        for (; node; node = node->next) tell(node);
+    }
+    free(line);
+    fclose(file);
+    mecab_destroy(tagger);
+    return 0;
+}
