@@ -40,7 +40,9 @@ bool parse(mecab_model_t *model, mecab_lattice_t *lattice, bool nodes, fault *er
     if (!is_had(lattice, nodes, error) || !take_tables(model, lattice, error)) return false;
     const uint8_t *sentence = (const uint8_t *)lattice->sentence;
     uint32_t code = kumquatsieve_cut_text(&lattice->cutter, sentence, lattice->size, &lattice->word_count, &lattice->total);
-    if (code != KUMQUATSIEVE_OK) return fail_code(error, "sentence", code);
+    lattice->is_odd = is_odd(code);
+    if (code != KUMQUATSIEVE_OK && !lattice->is_odd) return fail_code(error, "sentence", code);
+    if (lattice->is_odd && !cut_odd(lattice, error)) return false;
     if (nodes && !make_nodes(lattice, error)) return false;
     lattice->is_cut = true;
     return true;

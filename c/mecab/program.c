@@ -16,7 +16,18 @@ static bool write_text(mecab_t *tagger, FILE *to, fault *error) {
     return fwrite(text->at, 1, text->length, to) == text->length || fail(error, "a write failed: %s", strerror(errno));
 }
 
-static int cut_lines(mecab_t *tagger, int from, FILE *to) {
+/* What is not UTF-8 in the lines that were cut. */
+typedef struct tally {
+    size_t bytes;
+    size_t lines;
+} tally;
+
+static void count_bad(tally *bad, const mecab_t *tagger) {
+    bad->bytes += tagger->lattice->bad_bytes;
+    bad->lines += tagger->lattice->bad_bytes > 0;
+}
+
+static int cut_lines(mecab_t *tagger, int from, FILE *to, tally *bad) {
     lines all = {.from = from};
     const char *line = NULL;
     size_t length = 0;
@@ -25,28 +36,31 @@ static int cut_lines(mecab_t *tagger, int from, FILE *to) {
     while ((is_good = next_line(&all, to, &line, &length, error)) && line) {
         is_good = mecab_sparse_tostr2(tagger, line, length) && write_text(tagger, to, error);
         if (!is_good) break;
+        count_bad(bad, tagger);
     }
     if (!is_good) fprintf(stderr, "mecab: line %zu: %s\n", all.number + (line == NULL), error->text);
     free_bytes(&all.held);
     return is_good ? 0 : 1;
 }
 
-static int cut_file(mecab_t *tagger, const char *path, FILE *to) {
-    if (strcmp(path, "-") == 0) return cut_lines(tagger, STDIN_FILENO, to);
+static int cut_file(mecab_t *tagger, const char *path, FILE *to, tally *bad) {
+    if (strcmp(path, "-") == 0) return cut_lines(tagger, STDIN_FILENO, to, bad);
     int from = open(path, O_RDONLY | O_CLOEXEC);
     if (from < 0) {
         fprintf(stderr, "mecab: %s: %s\n", path, strerror(errno));
         return 1;
     }
-    int status = cut_lines(tagger, from, to);
+    int status = cut_lines(tagger, from, to, bad);
     close(from);
     return status;
 }
 
 static int cut_files(mecab_t *tagger, int count, char **paths, FILE *to) {
+    static const char *const INPUT[] = {"-"};
+    tally bad = {0, 0};
     int status = 0;
-    if (count == 0) return cut_file(tagger, "-", to);
-    for (int i = 0; status == 0 && i < count; i++) status = cut_file(tagger, paths[i], to);
+    for (int i = 0; status == 0 && i < (count > 0 ? count : 1); i++) status = cut_file(tagger, count > 0 ? paths[i] : INPUT[0], to, &bad);
+    if (bad.bytes > 0) fprintf(stderr, "mecab: %zu bytes in %zu lines are not UTF-8, and were cut as U+FFFD\n", bad.bytes, bad.lines);
     return status;
 }
 
