@@ -5,7 +5,9 @@
 #include <sys/stat.h>
 
 /* Where an image's header says its sizes: right ids, left ids, tokens of the lexicon, unknown tokens behind those. (docs/FORMAT.md) */
-enum { RIGHT_AT = 16, LEFT_AT = 20, TOKENS_AT = 32, UNKNOWN_AT = 36, VERSION = 102 };
+enum { RIGHT_AT = 16, LEFT_AT = 20, TOKENS_AT = 32, UNKNOWN_AT = 36, HEADER = 104, VERSION = 102 };
+
+static const unsigned OF_MECAB = 0xef718f77U;
 
 /* What tells a file from others, and from what it was before. */
 typedef struct identity {
@@ -99,6 +101,14 @@ static unsigned number_at(const bytes *image, size_t at) {
     return of[0] | (unsigned)of[1] << 8 | (unsigned)of[2] << 16 | (unsigned)of[3] << 24;
 }
 
+/* MeCab's dictionaries begin with their size, exclusive or a number of MeCab's. */
+static bool fail_image(fault *error, const char *path, const bytes *image, uint32_t code) {
+    if (image->length < HEADER || (number_at(image, 0) ^ OF_MECAB) != image->length) return fail_code(error, path, code);
+    return fail(
+        error, "%s is a dictionary of MeCab's: `dictc user --dic IMG --out USER.img USER.csv` makes one of its source, kumquatsieve-import a system's", path
+    );
+}
+
 static bool add_info(mecab_dictionary_info_t **last, const char *path, const bytes *image, int type) {
     mecab_dictionary_info_t *info = calloc(1, sizeof *info);
     char *name = strdup(path);
@@ -126,7 +136,7 @@ static bool load(images *to, const char *path, size_t number, fault *error) {
         const uint8_t *at = (const uint8_t *)image.at;
         uint32_t code = number == 0 ? kumquatsieve_load(&to->cutter, at, image.length, &at_fault)
                                     : kumquatsieve_add_user(&to->cutter, at, image.length, &at_fault);
-        if (code != KUMQUATSIEVE_OK) is_loaded = fail_code(error, path, code);
+        if (code != KUMQUATSIEVE_OK) is_loaded = fail_image(error, path, &image, code);
         else to->token_counts[number] = (size_t)number_at(&image, TOKENS_AT) + number_at(&image, UNKNOWN_AT);
     }
     if (is_loaded && !add_info(last, path, &image, number == 0 ? MECAB_SYS_DIC : MECAB_USR_DIC)) is_loaded = fail_memory(error);
