@@ -1,6 +1,6 @@
 """Faults, as exceptions."""
 import ctypes
-from typing import Optional
+from typing import Optional, Tuple
 
 from ._library import LIBRARY, MEMORY
 
@@ -9,19 +9,27 @@ class Fault(Exception):
     """Why a call was refused.
 
     `code` and `name` are those of `jseg --explain`. `number` is the section, key, token or user dictionary that is at fault, and for a
-    format the byte in its text `part`; None where there is none.
+    format the byte in its text `part`; `place` is the line's number among those that were cut by one call, counted from 1. What there is
+    none of is None.
     """
 
-    def __init__(self, code: str, name: str, number: Optional[int] = None, part: Optional[str] = None) -> None:
-        place = [str(what) for what in (part, number) if what is not None]
-        super().__init__(" ".join([code, name, *place]))
+    def __init__(
+        self, code: str, name: str, number: Optional[int] = None, part: Optional[str] = None, place: Optional[int] = None
+    ) -> None:
+        # All of them are the exception's arguments, from which it is made again where it is unpickled.
+        super().__init__(code, name, number, part, place)
         self.code = code
         self.name = name
         self.number = number
         self.part = part
+        self.place = place
+
+    def __str__(self) -> str:
+        what = " ".join(str(word) for word in (self.code, self.name, self.part, self.number) if word is not None)
+        return what if self.place is None else f"line {self.place}: {what}"
 
 
-def words_of(code: int) -> "tuple[str, str]":
+def words_of(code: int) -> Tuple[str, str]:
     """The letter and number of a code, and its name."""
     room, needed = ctypes.create_string_buffer(64), ctypes.c_size_t()
     LIBRARY.kumquatsieve_fault(code, room, len(room), ctypes.addressof(needed))

@@ -1,0 +1,36 @@
+"""The images that the tests cut with: of the sample, which `tools/python-tests` compiles into the folder that a variable names."""
+import hashlib
+import os
+from pathlib import Path
+
+import pytest
+
+IMAGES = "KUMQUATSIEVE_TEST_IMAGES"
+
+
+@pytest.fixture(scope="session")
+def images() -> Path:
+    if IMAGES not in os.environ:
+        pytest.exit(f"{IMAGES} names no folder: run tools/python-tests", 2)
+    return Path(os.environ[IMAGES])
+
+
+@pytest.fixture(scope="session")
+def system(images: Path) -> str:
+    """The sample's image."""
+    return str(images / "system.img")
+
+
+@pytest.fixture(scope="session")
+def user(images: Path) -> str:
+    """The image of a user dictionary for it, of すもももも alone."""
+    return str(images / "user.img")
+
+
+@pytest.fixture(scope="session")
+def odd(system: str, tmp_path_factory: pytest.TempPathFactory) -> str:
+    """The sample's image with a line feed in a feature, which no source can have, and the digest of that."""
+    image = Path(system).read_bytes()[:-32].replace("名詞,もも".encode(), "名詞\nもも".encode())
+    path = tmp_path_factory.mktemp("odd") / "odd.img"
+    path.write_bytes(image + hashlib.sha256(image).digest())
+    return str(path)
