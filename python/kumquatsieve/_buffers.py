@@ -10,7 +10,7 @@ from ._library import LIBRARY, OK, SHORT_BUFFER, Record
 FIELDS = struct.Struct("@NNNNIHHhBB4x" if sizeof(Record) == 48 else "@NNNNIHHhBB")
 assert FIELDS.size == sizeof(Record)
 
-WORDS = LIBRARY.kumquatsieve_words
+WORDS = LIBRARY.words
 
 
 class Buffers:

@@ -1,30 +1,13 @@
 """Cuts lines into words."""
 import os
-import threading
-import weakref
-from ctypes import addressof, c_size_t, c_uint32, c_uint64
 from pathlib import Path
-from typing import Any, List, NamedTuple, Sequence, Tuple, Union
+from typing import Any, List, NamedTuple, Sequence, Union
 
-from ._buffers import FIELDS, Buffers
-from ._fault import raise_fault
-from ._library import LIBRARY, OK, PARTS, Handle
+from ._buffers import FIELDS
+from ._handle import CUT, DEFAULT, GROUPING, Handle, Texts, Told
+from ._handles import Handles
 
 Image = Union[bytes, str, "os.PathLike[str]"]
-Texts = Tuple[bytes, bytes, bytes, bytes]
-Told = Tuple[bytes, List[str], List[str]]
-
-GROUPING = 24
-DEFAULT: Texts = (b"%m\\t%H\\n", b"%m\\t%H\\n", b"", b"EOS\\n")
-WAKATI: Texts = (b"%m ", b"%m ", b"", b"\\n")
-NUMBERED = {0x4C03, 0x4C04, 0x4C05, 0x4C06, 0x4C07, 0x4F02, 0x4F03}
-
-# What tells all words of a line in one call: a line for each surface, or for each surface and each feature.
-SURFACES: Texts = (b"%m\\n", b"%m\\n", b"", b"")
-FEATURES: Texts = (b"%m\\n%H\\n", b"%m\\n%H\\n", b"", b"")
-
-CUT, CUT_TEXT = LIBRARY.kumquatsieve_cut, LIBRARY.kumquatsieve_cut_text
-PRINT, FEATURE = LIBRARY.kumquatsieve_copy_print, LIBRARY.kumquatsieve_copy_feature
 
 
 class Word(NamedTuple):
@@ -51,6 +34,16 @@ def bytes_of(image: Image) -> bytes:
     return image if isinstance(image, bytes) else Path(image).read_bytes()
 
 
+def loaded(image: Image, users: Sequence[Image]) -> Handle:
+    """A handle of a system dictionary with users' laid over it."""
+    handle = Handle()
+    system = bytes_of(image)
+    handle.load(system, len(system))
+    for user in map(bytes_of, users):
+        handle.add_user(user, len(user))
+    return handle
+
+
 def encoded(line: str) -> bytes:
     """A line in UTF-8. Half of a pair of surrogates is no character, and the library refuses what is made of it."""
     try:
@@ -62,49 +55,45 @@ def encoded(line: str) -> bytes:
 class Cutter:
     """Cuts lines by the image of a system dictionary, with users' laid over it. An image is its bytes, or the path of its file.
 
-    A cutter may be used by several threads, one after another; `share` makes one that cuts beside it over the same dictionaries.
+    Several threads may call one cutter at once, and a process may fork while they do. `share` and `copy.copy` make another cutter over the
+    same dictionaries. `close`, or the end of a `with`, gives back what the cutter holds.
     """
 
     def __init__(self, image: Image, users: Sequence[Image] = (), grouping: int = GROUPING) -> None:
-        self._begin()
-        self._load("load", bytes_of(image))
-        for user in users:
-            self._load("add_user", bytes_of(user))
+        self._handles = Handles(loaded(image, users))
         self.set_grouping(grouping)
 
-    def _begin(self) -> None:
-        self._handle = Handle()
-        self._at = addressof(self._handle)
-        self._buffers = Buffers()
-        self._lock = threading.Lock()
-        self._texts = DEFAULT
-        self.close = weakref.finalize(self, LIBRARY.kumquatsieve_free, self._handle)
-
-    def _load(self, call: str, image: bytes) -> None:
-        number = c_uint64()
-        code = getattr(LIBRARY, f"kumquatsieve_{call}")(self._at, image, len(image), addressof(number))
-        if code != OK:
-            raise_fault(code, number.value if code in NUMBERED else None)
-
     def share(self) -> "Cutter":
-        """Another cutter over the same dictionaries, with the same format and grouping."""
-        other = Cutter.__new__(Cutter)
-        other._begin()
-        with self._lock:
-            other._texts = self._texts
-            code = LIBRARY.kumquatsieve_share(other._at, self._at)
-        if code != OK:
-            raise_fault(code)
+        """Another cutter over the same dictionaries, with the same grouping. Each is closed by itself."""
+        other = type(self).__new__(type(self))
+        other._handles = Handles(self._handles.share())
         return other
 
+    __copy__ = share
+
+    def __deepcopy__(self, _: Any) -> "Cutter":
+        return self.share()
+
+    def __enter__(self) -> "Cutter":
+        return self
+
+    def __exit__(self, *_: object) -> None:
+        self.close()
+
+    def close(self) -> None:
+        """Gives back what the cutter holds, after the calls of other threads have ended. A later call is a ValueError."""
+        self._handles.close()
+
     def set_grouping(self, grouping: int) -> None:
-        """How many characters may follow the first one of a grouped unknown word, at most 1,000."""
+        """How many characters may follow the first one of a grouped unknown word, at most 1,000. It holds for the calls that begin later."""
         if not 0 <= grouping < 2**32:
             raise ValueError("grouping")
-        with self._lock:
-            code = LIBRARY.kumquatsieve_set_grouping(self._at, grouping)
-        if code != OK:
-            raise_fault(code)
+        handle = self._handles.take()
+        try:
+            handle.set_grouping(grouping)
+            self._handles.grouping = grouping
+        finally:
+            self._handles.give(handle)
 
     def cut(self, line: str) -> List[Word]:
         """The words of a line, which has no line feed."""
@@ -113,25 +102,20 @@ class Cutter:
 
     def told(self, text: bytes, call: Any) -> Told:
         """The records, the surfaces and the features of the words of a text in UTF-8, cut by one of the calls."""
-        with self._lock:
-            self._cut(call, text)
-            records = self._buffers.records_of(self._at)
-            lines = self._lines(FEATURES)
-            count = len(records) // FIELDS.size
-            if len(lines) == 2 * count + 1:
-                return records, lines[:-1:2], lines[1::2]
-            # A line feed stands in a surface or in a feature.
-            features = [self._buffers.text_of(FEATURE, self._at, number) for number in range(count)]
-        return records, [text[start:end].decode() for _, start, end, *_ in FIELDS.iter_unpack(records)], features
+        handle = self._handles.take()
+        try:
+            return handle.told(text, call)
+        finally:
+            self._handles.give(handle)
 
     def wakati(self, line: str) -> List[str]:
         """The surfaces of a line's words."""
         text = encoded(line)
-        with self._lock:
-            self._cut(CUT, text)
-            lines = self._lines(SURFACES)
-        lines.pop()
-        return lines
+        handle = self._handles.take()
+        try:
+            return handle.surfaces(text)
+        finally:
+            self._handles.give(handle)
 
     def format(
         self, line: str, node: Union[str, None] = None, unk: Union[str, None] = None, bos: str = "", eos: str = "EOS\\n"
@@ -143,33 +127,11 @@ class Cutter:
 
     def printed(self, text: bytes, texts: Texts, call: Any) -> str:
         """A text in UTF-8, cut by one of the calls, in the four texts of a format."""
-        with self._lock:
-            if texts is not self._texts:
-                self._set_format(texts)
-            self._cut(call, text)
-            return self._buffers.text_of(PRINT, self._at)
-
-    def _cut(self, call: Any, text: bytes) -> None:
-        buffers = self._buffers
-        code = call(self._at, text, len(text), buffers.count_at, buffers.total_at)
-        if code != OK:
-            raise_fault(code)
-
-    def _lines(self, texts: Texts) -> List[str]:
-        """The words that were cut last in a format whose texts end in line feeds, and the empty text behind the last one."""
-        if texts is not self._texts:
-            self._set_format(texts)
-        return self._buffers.text_of(PRINT, self._at).split("\n")
-
-    def _set_format(self, texts: Texts) -> None:
-        if texts == self._texts:
-            return
-        part, at = c_uint32(), c_size_t()
-        lengths = [piece for text in texts for piece in (text, len(text))]
-        code = LIBRARY.kumquatsieve_set_format(self._at, *lengths, addressof(part), addressof(at))
-        if code != OK:
-            raise_fault(code, at.value, PARTS[part.value])
-        self._texts = texts
+        handle = self._handles.take()
+        try:
+            return handle.printed(text, texts, call)
+        finally:
+            self._handles.give(handle)
 
 
 def words_of(text: bytes, records: bytes, surfaces: List[str], features: List[str]) -> List[Word]:

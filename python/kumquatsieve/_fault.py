@@ -32,7 +32,7 @@ class Fault(Exception):
 def words_of(code: int) -> Tuple[str, str]:
     """The letter and number of a code, and its name."""
     room, needed = ctypes.create_string_buffer(64), ctypes.c_size_t()
-    LIBRARY.kumquatsieve_fault(code, room, len(room), ctypes.addressof(needed))
+    LIBRARY.fault(code, room, len(room), ctypes.addressof(needed))
     letters, _, name = room.raw[: needed.value].decode().partition(" ")
     return letters, name
 

@@ -2,7 +2,8 @@
 import ctypes
 import os
 from pathlib import Path
-from typing import Any
+from types import SimpleNamespace
+from typing import Any, Dict, List
 
 NAME = "libkumquatsieve.so.0"
 VARIABLE = "KUMQUATSIEVE_LIBRARY"
@@ -12,7 +13,11 @@ MEMORY = 1
 SHORT_BUFFER = 0x4B07
 PARTS = ("node", "unk", "bos", "eos")
 
-class Handle(ctypes.Structure):
+# The calls that may take long, during which other threads run. During the others none does, so no fork of another thread's falls into one.
+LONG = ("load", "add_user", "cut", "cut_text", "copy_print")
+
+
+class Slot(ctypes.Structure):
     """What the library keeps of a cutter."""
 
     _fields_ = [("held", ctypes.c_bool), ("at", ctypes.c_void_p)]
@@ -41,16 +46,16 @@ def place() -> str:
     return os.environ.get(VARIABLE) or (str(beside) if beside.exists() else NAME)
 
 
-def arguments() -> dict:
+def arguments() -> Dict[str, List[Any]]:
     """The types of each call's arguments; a text is its bytes and their length. What a call writes is given by its address, which is made
     once: a pointer that is made for each call takes longer than many a call."""
     address, size = ctypes.c_void_p, ctypes.c_size_t
     text = [ctypes.c_char_p, size]
     return {
-        "load": [address, *text, address],
-        "add_user": [address, *text, address],
+        "load": [address, address, size, address],
+        "add_user": [address, address, size, address],
         "share": [address, address],
-        "free": [ctypes.POINTER(Handle)],
+        "free": [ctypes.POINTER(Slot)],
         "set_format": [address, *text * 4, address, address],
         "set_grouping": [address, ctypes.c_uint32],
         "cut": [address, *text, address, address],
@@ -62,17 +67,19 @@ def arguments() -> dict:
     }
 
 
-def load() -> Any:
-    """The library, with the types of its calls."""
+def load() -> SimpleNamespace:
+    """The library's calls by their names, with the types of their arguments."""
     try:
-        library = ctypes.CDLL(place())
+        alone, beside_others = ctypes.PyDLL(place()), ctypes.CDLL(place())
     except OSError as error:
         raise ImportError(f"{error}: build the library by tools/build-library, and name it in {VARIABLE}") from error
+    calls = {}
     for name, types in arguments().items():
-        call = getattr(library, f"kumquatsieve_{name}")
+        call = getattr(beside_others if name in LONG else alone, f"kumquatsieve_{name}")
         call.argtypes = types
         call.restype = None if name == "free" else ctypes.c_uint32
-    return library
+        calls[name] = call
+    return SimpleNamespace(**calls)
 
 
 LIBRARY = load()

@@ -5,7 +5,8 @@ from pathlib import Path
 from typing import List, Optional, Tuple
 
 from ._buffers import FIELDS
-from ._cutter import CUT_TEXT, DEFAULT, WAKATI, Cutter, Texts, Told, encoded
+from ._cutter import Cutter, encoded
+from ._handle import CUT_TEXT, DEFAULT, WAKATI, Texts, Told
 
 VARIABLE = "KUMQUATSIEVE_DICTIONARY"
 IMAGE = "kumquatsieve.img"

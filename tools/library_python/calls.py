@@ -128,8 +128,10 @@ def check_threads():
     same("after the first was closed", [LINE], others[0].wakati(LINE))
     try:
         first.wakati(LINE)
-    except Fault as fault:
-        same("a closed cutter", "K5", fault.code)
+    except ValueError as error:
+        same("a closed cutter", "the cutter is closed", str(error))
+    else:
+        sys.exit("a closed cutter: not refused")
 
 
 check_words()

@@ -1,0 +1,117 @@
+"""One cutter of the library's."""
+import weakref
+from ctypes import addressof, c_size_t, c_uint32, c_uint64
+from typing import Any, List, Tuple
+
+from ._buffers import FIELDS, Buffers
+from ._fault import raise_fault
+from ._library import LIBRARY, OK, PARTS, Slot
+
+Texts = Tuple[bytes, bytes, bytes, bytes]
+Told = Tuple[bytes, List[str], List[str]]
+
+GROUPING = 24
+DEFAULT: Texts = (b"%m\\t%H\\n", b"%m\\t%H\\n", b"", b"EOS\\n")
+WAKATI: Texts = (b"%m ", b"%m ", b"", b"\\n")
+NUMBERED = {0x4C03, 0x4C04, 0x4C05, 0x4C06, 0x4C07, 0x4F02, 0x4F03}
+
+# What tells all words of a line in one call: a line for each surface, or for each surface and each feature.
+SURFACES: Texts = (b"%m\\n", b"%m\\n", b"", b"")
+FEATURES: Texts = (b"%m\\n%H\\n", b"%m\\n%H\\n", b"", b"")
+
+CUT, CUT_TEXT = LIBRARY.cut, LIBRARY.cut_text
+PRINT, FEATURE = LIBRARY.copy_print, LIBRARY.copy_feature
+
+
+class Handle:
+    """A cutter of the library's, with the memory that its answers are written to. It is used by one thread at a time.
+
+    `close` gives back what it holds, and is called where nobody has the handle any more; but not when Python ends, since a thread may still
+    cut then.
+    """
+
+    def __init__(self) -> None:
+        self._slot = Slot()
+        self._at = addressof(self._slot)
+        self._buffers = Buffers()
+        self._texts = DEFAULT
+        self.grouping = GROUPING
+        self.close = weakref.finalize(self, LIBRARY.free, self._slot)
+        self.close.atexit = False
+
+    def load(self, image: Any, length: int) -> None:
+        """Fills an empty handle with a system dictionary."""
+        self._take_image(LIBRARY.load, image, length)
+
+    def add_user(self, image: Any, length: int) -> None:
+        """Lays a user dictionary over the others, before they are shared."""
+        self._take_image(LIBRARY.add_user, image, length)
+
+    def _take_image(self, call: Any, image: Any, length: int) -> None:
+        number = c_uint64()
+        code = call(self._at, image, length, addressof(number))
+        if code != OK:
+            raise_fault(code, number.value if code in NUMBERED else None)
+
+    def share(self) -> "Handle":
+        """Another handle over the same dictionaries, with the same format and grouping."""
+        other = Handle()
+        other._texts, other.grouping = self._texts, self.grouping
+        code = LIBRARY.share(other._at, self._at)
+        if code != OK:
+            raise_fault(code)
+        return other
+
+    def set_grouping(self, grouping: int) -> None:
+        """How many characters may follow the first one of a grouped unknown word."""
+        code = LIBRARY.set_grouping(self._at, grouping)
+        if code != OK:
+            raise_fault(code)
+        self.grouping = grouping
+
+    def told(self, text: bytes, call: Any) -> Told:
+        """The records, the surfaces and the features of the words of a text, cut by one of the calls."""
+        self._cut(call, text)
+        records = self._buffers.records_of(self._at)
+        lines = self._lines(FEATURES)
+        count = len(records) // FIELDS.size
+        if len(lines) == 2 * count + 1:
+            return records, lines[:-1:2], lines[1::2]
+        # A line feed stands in a surface or in a feature.
+        features = [self._buffers.text_of(FEATURE, self._at, number) for number in range(count)]
+        return records, [text[start:end].decode() for _, start, end, *_ in FIELDS.iter_unpack(records)], features
+
+    def surfaces(self, text: bytes) -> List[str]:
+        """The surfaces of a line's words."""
+        self._cut(CUT, text)
+        lines = self._lines(SURFACES)
+        lines.pop()
+        return lines
+
+    def printed(self, text: bytes, texts: Texts, call: Any) -> str:
+        """A text, cut by one of the calls, in the four texts of a format."""
+        self.set_format(texts)
+        self._cut(call, text)
+        return self._buffers.text_of(PRINT, self._at)
+
+    def _cut(self, call: Any, text: bytes) -> None:
+        buffers = self._buffers
+        code = call(self._at, text, len(text), buffers.count_at, buffers.total_at)
+        if code != OK:
+            raise_fault(code)
+
+    def _lines(self, texts: Texts) -> List[str]:
+        """The words that were cut last in a format whose texts end in line feeds, and the empty text behind the last one."""
+        self.set_format(texts)
+        return self._buffers.text_of(PRINT, self._at).split("\n")
+
+    def set_format(self, texts: Texts) -> None:
+        """Sets the four texts of the format, where they are others."""
+        if texts is self._texts or texts == self._texts:
+            return
+        part, at = c_uint32(), c_size_t()
+        lengths = [piece for text in texts for piece in (text, len(text))]
+        code = LIBRARY.set_format(self._at, *lengths, addressof(part), addressof(at))
+        if code != OK:
+            raise_fault(code, at.value, PARTS[part.value])
+        self._texts = texts
