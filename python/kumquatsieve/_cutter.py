@@ -1,13 +1,10 @@
 """Cuts lines into words."""
-import os
-from pathlib import Path
-from typing import Any, List, NamedTuple, Sequence, Union
+from typing import Any, Dict, List, NamedTuple, Sequence, Tuple, Type, Union
 
 from ._buffers import FIELDS
-from ._handle import CUT, DEFAULT, GROUPING, Handle, Texts, Told
+from ._handle import CUT, DEFAULT, GROUPING, Texts, Told
 from ._handles import Handles
-
-Image = Union[bytes, str, "os.PathLike[str]"]
+from ._loaded import LOADED, Image, Origin, origin_of
 
 
 class Word(NamedTuple):
@@ -29,21 +26,6 @@ class Word(NamedTuple):
     known: bool
 
 
-def bytes_of(image: Image) -> bytes:
-    """An image's bytes, or those of the file that is named."""
-    return image if isinstance(image, bytes) else Path(image).read_bytes()
-
-
-def loaded(image: Image, users: Sequence[Image]) -> Handle:
-    """A handle of a system dictionary with users' laid over it."""
-    handle = Handle()
-    system = bytes_of(image)
-    handle.load(system, len(system))
-    for user in map(bytes_of, users):
-        handle.add_user(user, len(user))
-    return handle
-
-
 def encoded(line: str) -> bytes:
     """A line in UTF-8. Half of a pair of surrogates is no character, and the library refuses what is made of it."""
     try:
@@ -57,19 +39,32 @@ class Cutter:
 
     Several threads may call one cutter at once, and a process may fork while they do. `share` and `copy.copy` make another cutter over the
     same dictionaries. `close`, or the end of a `with`, gives back what the cutter holds.
+
+    A cutter pickles as what it was made of, the paths of its images and its grouping. A process loads the images once for all cutters that it
+    gets so, and not at all where it has a cutter of them, as after a fork.
     """
 
     def __init__(self, image: Image, users: Sequence[Image] = (), grouping: int = GROUPING) -> None:
-        self._handles = Handles(loaded(image, users))
+        users = tuple(users)
+        self._origin = origin_of(image, users)
+        self._handles = LOADED.new(self._origin, image, users)
         self.set_grouping(grouping)
 
     def share(self) -> "Cutter":
         """Another cutter over the same dictionaries, with the same grouping. Each is closed by itself."""
         other = type(self).__new__(type(self))
+        other.__dict__.update(self.__dict__)
         other._handles = Handles(self._handles.share())
         return other
 
     __copy__ = share
+
+    def __reduce__(self) -> Tuple[Any, ...]:
+        if self._origin is None:
+            raise TypeError("a cutter of an image's bytes can't be pickled: make it of the image's path")
+        self._handles.share().close()  # what is closed says so
+        state = {name: value for name, value in self.__dict__.items() if name not in ("_origin", "_handles")}
+        return again, (type(self), self._origin, self._handles.grouping, state)
 
     def __deepcopy__(self, _: Any) -> "Cutter":
         return self.share()
@@ -122,7 +117,9 @@ class Cutter:
     ) -> str:
         """The text of a line in an output format of MeCab's: `node` for a known word, `unk` for an unknown one (as `node` where it isn't
         given), `bos` before the first and `eos` after the last. Without `node` a line for each word, with its feature."""
-        texts = tuple(map(encoded, (node, node if unk is None else unk, bos, eos))) if node is not None else DEFAULT
+        texts = DEFAULT
+        if node is not None:
+            texts = encoded(node), encoded(node if unk is None else unk), encoded(bos), encoded(eos)
         return self.printed(encoded(line), texts, CUT)
 
     def printed(self, text: bytes, texts: Texts, call: Any) -> str:
@@ -132,6 +129,16 @@ class Cutter:
             return handle.printed(text, texts, call)
         finally:
             self._handles.give(handle)
+
+
+def again(kind: Type[Cutter], origin: Origin, grouping: int, state: Dict[str, Any]) -> Cutter:
+    """The cutter that was pickled."""
+    cutter = kind.__new__(kind)
+    cutter._origin = Origin(*origin)
+    cutter._handles = LOADED.again(cutter._origin)
+    cutter.__dict__.update(state)
+    cutter.set_grouping(grouping)
+    return cutter
 
 
 def words_of(text: bytes, records: bytes, surfaces: List[str], features: List[str]) -> List[Word]:
