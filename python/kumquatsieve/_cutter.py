@@ -27,11 +27,21 @@ class Word(NamedTuple):
 
 
 def encoded(line: str) -> bytes:
-    """A line in UTF-8. Half of a pair of surrogates is no character, and the library refuses what is made of it."""
+    """A text in UTF-8. Half of a pair of surrogates is no character, and the library refuses what is made of it."""
     try:
         return line.encode()
     except UnicodeEncodeError:
         return line.encode("utf-8", "surrogatepass")
+    except AttributeError:
+        raise TypeError(f"a line is a str, not {type(line).__name__}") from None
+
+
+def line_of(line: str) -> bytes:
+    """A line in UTF-8 without its own end, a line feed or a carriage return and a line feed."""
+    text = encoded(line)
+    if text.endswith(b"\n"):
+        return text[:-2] if text.endswith(b"\r\n") else text[:-1]
+    return text
 
 
 class Cutter:
@@ -91,8 +101,8 @@ class Cutter:
             self._handles.give(handle)
 
     def cut(self, line: str) -> List[Word]:
-        """The words of a line, which has no line feed."""
-        text = encoded(line)
+        """The words of a line. Its own end, as a file's lines have it, is dropped; another line feed is refused."""
+        text = line_of(line)
         return words_of(text, *self.told(text, CUT))
 
     def told(self, text: bytes, call: Any) -> Told:
@@ -105,7 +115,7 @@ class Cutter:
 
     def wakati(self, line: str) -> List[str]:
         """The surfaces of a line's words."""
-        text = encoded(line)
+        text = line_of(line)
         handle = self._handles.take()
         try:
             return handle.surfaces(text)
@@ -120,7 +130,7 @@ class Cutter:
         texts = DEFAULT
         if node is not None:
             texts = encoded(node), encoded(node if unk is None else unk), encoded(bos), encoded(eos)
-        return self.printed(encoded(line), texts, CUT)
+        return self.printed(line_of(line), texts, CUT)
 
     def printed(self, text: bytes, texts: Texts, call: Any) -> str:
         """A text in UTF-8, cut by one of the calls, in the four texts of a format."""

@@ -4,6 +4,9 @@ from typing import Optional, Tuple
 
 from ._library import LIBRARY, MEMORY
 
+# What to do instead, by the code.
+ADVICE = {"K1": "this is more than one line, and each is cut by itself"}
+
 
 class Fault(Exception):
     """Why a call was refused.
@@ -26,6 +29,7 @@ class Fault(Exception):
 
     def __str__(self) -> str:
         what = " ".join(str(word) for word in (self.code, self.name, self.part, self.number) if word is not None)
+        what = f"{what}: {ADVICE[self.code]}" if self.code in ADVICE else what
         return what if self.place is None else f"line {self.place}: {what}"
 
 

@@ -27,9 +27,8 @@ class Key(NamedTuple):
 
 def origin_of(image: Image, users: Sequence[Image]) -> Optional[Origin]:
     """What a cutter of these images is made of; None where one is bytes."""
-    if isinstance(image, bytes) or any(isinstance(user, bytes) for user in users):
-        return None
-    return Origin(os.path.abspath(image), tuple(map(os.path.abspath, users)))
+    paths = [os.path.abspath(one) for one in (image, *users) if not isinstance(one, bytes)]
+    return Origin(paths[0], tuple(paths[1:])) if len(paths) == 1 + len(users) else None
 
 
 def key_of(origin: Origin) -> Key:

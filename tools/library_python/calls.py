@@ -27,7 +27,7 @@ FAULTS = [
     ("O2", 0, None, lambda: Cutter(SYSTEM, [SYSTEM])),
     ("K4", None, None, lambda: Cutter(SYSTEM, grouping=1001)),
     ("K1", None, None, lambda: Cutter(SYSTEM).cut("a\nb")),
-    ("K1", None, None, lambda: Cutter(SYSTEM).wakati("a\n")),
+    ("K1", None, None, lambda: Cutter(SYSTEM).wakati("\na")),
     ("G3", None, None, lambda: Cutter(SYSTEM).cut("a\ud800")),
     ("G4", None, None, lambda: Tagger(SYSTEM).parse("a" * (2**20 + 1))),
     ("P1", 0, "node", lambda: Cutter(SYSTEM).format(LINE, "\\q")),
