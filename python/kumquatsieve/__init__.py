@@ -2,7 +2,7 @@
 
     from kumquatsieve import Cutter
 
-    cutter = Cutter("/usr/local/share/kumquatsieve/ipadic.img")
+    cutter = Cutter("ipadic")
     for word in cutter.cut("すもももももももものうち"):
         print(word.surface, word.feature)
 
@@ -10,7 +10,8 @@
 """
 from ._cutter import Cutter, Word
 from ._fault import Fault
+from ._images import dictionaries
 from ._tagger import Node, Tagger
 
-__all__ = ["Cutter", "Fault", "Node", "Tagger", "Word"]
+__all__ = ["Cutter", "Fault", "Node", "Tagger", "Word", "dictionaries"]
 __version__ = "0.1.0"

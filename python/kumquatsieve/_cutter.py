@@ -1,10 +1,12 @@
 """Cuts lines into words."""
-from typing import Any, Dict, List, NamedTuple, Sequence, Tuple, Type, Union
+import os
+from typing import Any, Dict, List, NamedTuple, Optional, Sequence, Tuple, Type, Union
 
 from ._buffers import FIELDS
 from ._handle import CUT, DEFAULT, GROUPING, Texts, Told
 from ._handles import Handles
-from ._loaded import LOADED, Image, Origin, origin_of
+from ._images import Image, Origin, default, origin_of
+from ._loaded import LOADED
 
 
 class Word(NamedTuple):
@@ -45,17 +47,22 @@ def line_of(line: str) -> bytes:
 
 
 class Cutter:
-    """Cuts lines by the image of a system dictionary, with users' laid over it. An image is its bytes, or the path of its file.
+    """Cuts lines by the image of a system dictionary, with users' laid over it.
+
+    An image is a path, or the bare name of an installed one, as `jseg -d` has it, or bytes, or anything else with the buffer protocol. Without
+    one it is that which KUMQUATSIEVE_DICTIONARY names, or else the only one that is installed.
 
     Several threads may call one cutter at once, and a process may fork while they do. `share` and `copy.copy` make another cutter over the
     same dictionaries. `close`, or the end of a `with`, gives back what the cutter holds.
 
-    A cutter pickles as what it was made of, the paths of its images and its grouping. A process loads the images once for all cutters that it
+    A cutter pickles as what it was made of, the paths or names of its images and its grouping. A process loads the images once for all cutters that it
     gets so, and not at all where it has a cutter of them, as after a fork.
     """
 
-    def __init__(self, image: Image, users: Sequence[Image] = (), grouping: int = GROUPING) -> None:
-        users = tuple(users)
+    def __init__(self, image: Optional[Image] = None, users: Sequence[Image] = (), grouping: int = GROUPING) -> None:
+        if isinstance(users, (str, bytes, os.PathLike)):
+            raise TypeError("users are several images, in a list")
+        image, users = default() if image is None else image, tuple(users)
         self._origin = origin_of(image, users)
         self._handles = LOADED.new(self._origin, image, users)
         self.set_grouping(grouping)
@@ -71,7 +78,7 @@ class Cutter:
 
     def __reduce__(self) -> Tuple[Any, ...]:
         if self._origin is None:
-            raise TypeError("a cutter of an image's bytes can't be pickled: make it of the image's path")
+            raise TypeError("a cutter of an image's bytes can't be pickled: make it of the image's path or name")
         self._handles.share().close()  # what is closed says so
         state = {name: value for name, value in self.__dict__.items() if name not in ("_origin", "_handles")}
         return again, (type(self), self._origin, self._handles.grouping, state)

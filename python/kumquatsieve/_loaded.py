@@ -2,20 +2,11 @@
 import os
 import threading
 import weakref
-from pathlib import Path
-from typing import Dict, NamedTuple, Optional, Sequence, Tuple, Union
+from typing import Dict, NamedTuple, Optional, Sequence, Tuple
 
 from ._handle import Handle
 from ._handles import Handles
-
-Image = Union[bytes, str, "os.PathLike[str]"]
-
-
-class Origin(NamedTuple):
-    """The images that a cutter was made of, by their paths."""
-
-    image: str
-    users: Tuple[str, ...]
+from ._images import Image, Origin, hand
 
 
 class Key(NamedTuple):
@@ -25,29 +16,17 @@ class Key(NamedTuple):
     files: Tuple[Tuple[int, int, int, int], ...]
 
 
-def origin_of(image: Image, users: Sequence[Image]) -> Optional[Origin]:
-    """What a cutter of these images is made of; None where one is bytes."""
-    paths = [os.path.abspath(one) for one in (image, *users) if not isinstance(one, bytes)]
-    return Origin(paths[0], tuple(paths[1:])) if len(paths) == 1 + len(users) else None
-
-
 def key_of(origin: Origin) -> Key:
-    stats = map(os.stat, (origin.image, *origin.users))
+    stats = map(os.stat, origin.paths())
     return Key(origin, tuple((stat.st_dev, stat.st_ino, stat.st_size, stat.st_mtime_ns) for stat in stats))
-
-
-def bytes_of(image: Image) -> bytes:
-    """An image's bytes, or those of the file that is named."""
-    return image if isinstance(image, bytes) else Path(image).read_bytes()
 
 
 def load(image: Image, users: Sequence[Image]) -> Handle:
     """A handle of a system dictionary with users' laid over it."""
     handle = Handle()
-    system = bytes_of(image)
-    handle.load(system, len(system))
-    for user in map(bytes_of, users):
-        handle.add_user(user, len(user))
+    hand(image, handle.load)
+    for user in users:
+        hand(user, handle.add_user)
     return handle
 
 

@@ -1,15 +1,11 @@
 """Taggers in the manner of mecab-python3."""
-import os
 import shlex
-from pathlib import Path
 from typing import List, Optional, Tuple
 
 from ._buffers import FIELDS
 from ._cutter import Cutter, encoded
 from ._handle import CUT_TEXT, DEFAULT, WAKATI, Texts, Told
 
-VARIABLE = "KUMQUATSIEVE_DICTIONARY"
-IMAGE = "kumquatsieve.img"
 BOUNDARY = "BOS/EOS"
 
 # What MeCab calls its options, by the letter of each.
@@ -106,15 +102,6 @@ def options_of(words: str) -> List[Tuple[str, str]]:
     return options
 
 
-def image_of(name: Optional[str]) -> Path:
-    """The image that is named, or in the folder that is named, or else the one that the variable names."""
-    name = name or os.environ.get(VARIABLE)
-    if not name:
-        raise ValueError(f"no dictionary: name an image, or set {VARIABLE}")
-    path = Path(name)
-    return path / IMAGE if path.is_dir() else path
-
-
 def texts_of(options: dict) -> Texts:
     """The format that the options ask for. With -O wakati the four texts are not looked at."""
     kind = options.get("O", "")
@@ -136,7 +123,7 @@ class Tagger:
         chosen = dict(options)
         users = [path for letter, paths in options if letter == "u" for path in paths.split(",")]
         self._texts = texts_of(chosen)
-        self._cutter = Cutter(image_of(chosen.get("d")), users)
+        self._cutter = Cutter(chosen.get("d") or None, users)
 
     def parse(self, text: str) -> str:
         """The words of a text in the tagger's format; as the default has it, a line for each word and EOS. A line feed in the text is a

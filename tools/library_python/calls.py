@@ -35,7 +35,7 @@ FAULTS = [
     ("P2", 2, "node", lambda: Cutter(SYSTEM).format(LINE, "%m%q")),
     ("P2", 0, "eos", lambda: Tagger(f"-d {SYSTEM} -E %q").parse(LINE)),
 ]
-OPTIONS = [("", "no dictionary"), ("-Z", "no option"), (f"-d {SYSTEM} -O chasen", "no output format"), ("-d", "missing")]
+OPTIONS = [("-Z", "no option"), (f"-d {SYSTEM} -O chasen", "no output format"), ("-d", "missing")]
 TAGGERS = [
     (f"-d {SYSTEM}", PRINTED),
     (f"--dicdir={SYSTEM} -Owakati", WAKATI),

@@ -1,0 +1,132 @@
+"""Images by their paths, by their names, and in memory."""
+import mmap
+import os
+import shutil
+import stat
+import sys
+from ctypes import c_char
+from pathlib import Path
+from typing import Any, BinaryIO, Callable, Dict, List, NamedTuple, Optional, Sequence, Tuple, Union
+
+Image = Union[str, "os.PathLike[str]", bytes, bytearray, memoryview, mmap.mmap]
+
+VARIABLE = "KUMQUATSIEVE_DICTIONARY"
+IMAGE = "kumquatsieve.img"
+ENDING = ".img"
+
+# How the image of a system dictionary begins: what it is, its layout, and that it is no user's. (docs/FORMAT.md)
+MAGIC = b"MJDICT\r\n"
+KIND = slice(12, 16)
+SYSTEM = bytes(4)
+
+
+def folders() -> List[Path]:
+    """Where installed images are: beside the `jseg` that a shell runs, as that has it, then of this Python, of /usr/local and of /usr."""
+    jseg = shutil.which("jseg")
+    prefixes = [Path(jseg).resolve().parent.parent] if jseg else []
+    prefixes += map(Path, (sys.prefix, "/usr/local", "/usr"))
+    return [prefix / "share" / "kumquatsieve" for prefix in dict.fromkeys(prefixes)]
+
+
+def dictionaries() -> Dict[str, str]:
+    """The paths of the system dictionaries that are installed, by their names."""
+    found: Dict[str, str] = {}
+    for folder in folders():
+        for path in sorted(folder.glob("*" + ENDING)):
+            if is_system(path):
+                found.setdefault(path.stem, str(path))
+    return found
+
+
+def is_system(path: Path) -> bool:
+    """Whether a file begins as a system dictionary does. One that can't be read is none."""
+    try:
+        with open(path, "rb") as file:
+            begin = file.read(KIND.stop)
+    except OSError:
+        return False
+    return begin.startswith(MAGIC) and begin[KIND] == SYSTEM
+
+
+def path_of(image: Union[str, "os.PathLike[str]"]) -> str:
+    """The path of an image. A bare name that no file has is that of an installed one."""
+    name = os.fspath(image)
+    if "/" in name or is_file(name):
+        return name
+    for folder in folders():
+        path = str(folder / (name + ENDING))
+        if is_file(path):
+            return path
+    raise FileNotFoundError(f"{name}: no file, and no image of this name is installed; {told_installed(dictionaries())}")
+
+
+def is_file(path: str) -> bool:
+    """Whether there is something at a path, and no directory."""
+    return os.path.exists(path) and not os.path.isdir(path)
+
+
+def told_installed(installed: Dict[str, str]) -> str:
+    return f"installed are: {', '.join(installed)}" if installed else "none is installed, and kumquatsieve-import makes one"
+
+
+def default() -> str:
+    """The dictionary of a caller who names none: that of the variable, which may name a folder too, or the only one that is installed."""
+    name = os.environ.get(VARIABLE)
+    if name:
+        return os.path.join(name, IMAGE) if os.path.isdir(name) else name
+    installed = dictionaries()
+    if len(installed) == 1:
+        return next(iter(installed))
+    raise FileNotFoundError(f"no dictionary is named, by the call or by {VARIABLE}; {told_installed(installed)}")
+
+
+class Origin(NamedTuple):
+    """The images that a cutter was made of: a path, or the bare name of an installed one, which another machine may have elsewhere."""
+
+    image: str
+    users: Tuple[str, ...]
+
+    def paths(self) -> Tuple[str, ...]:
+        return tuple(map(path_of, (self.image, *self.users)))
+
+
+def origin_of(image: Image, users: Sequence[Image]) -> Optional[Origin]:
+    """What a cutter of these images is made of; None where one is in memory."""
+    names = [name_of(one) for one in (image, *users) if isinstance(one, (str, os.PathLike))]
+    return Origin(names[0], tuple(names[1:])) if len(names) == 1 + len(users) else None
+
+
+def name_of(image: Union[str, "os.PathLike[str]"]) -> str:
+    """The name of an installed image, or else a path that holds in every folder."""
+    name = os.fspath(image)
+    return os.path.abspath(name) if "/" in name or is_file(name) else name
+
+
+def hand(image: Image, take: Callable[[Any, int], None]) -> None:
+    """Hands an image's bytes and their length to a call of the library. Those of a file are mapped, and not read into memory of Python's."""
+    if isinstance(image, (str, os.PathLike)):
+        with open(path_of(image), "rb") as file:
+            take(*lent(bytes_of(file)))
+    else:
+        take(*lent(image))
+
+
+def bytes_of(file: BinaryIO) -> Any:
+    """The bytes of a file: mapped, with pages that could be written and never are; or read, where it can't be mapped."""
+    of = os.fstat(file.fileno())
+    if stat.S_ISREG(of.st_mode) and of.st_size > 0:
+        return mmap.mmap(file.fileno(), 0, access=mmap.ACCESS_COPY)
+    return file.read()
+
+
+def lent(image: Any) -> Tuple[Any, int]:
+    """Bytes in memory, as the library takes them, and their length. What may not be written has no address for ctypes, so it is copied."""
+    if isinstance(image, bytes):
+        return image, len(image)
+    try:
+        with memoryview(image) as view:
+            if view.readonly or not view.c_contiguous or view.nbytes == 0:
+                return view.tobytes(), view.nbytes
+            return (c_char * view.nbytes).from_buffer(image), view.nbytes
+    except TypeError:
+        raise TypeError(f"an image is a path, a name or bytes, not {type(image).__name__}") from None

@@ -1,0 +1,180 @@
+"""Images by path, by name, in memory, and without a word."""
+import array
+import mmap
+import os
+import pickle
+import shutil
+import sys
+from pathlib import Path
+
+import pytest
+
+import kumquatsieve
+from kumquatsieve import Cutter, Fault
+
+LINE = "すもももも"
+WORDS = ["すもも", "もも"]
+
+
+def mapped(path, access):
+    with open(path, "rb") as file:
+        return mmap.mmap(file.fileno(), 0, access=access)
+
+
+def read(path):
+    return Path(path).read_bytes()
+
+
+# What is made of a path.
+FORMS = {
+    "str": str,
+    "Path": Path,
+    "bytes": read,
+    "bytearray": lambda path: bytearray(read(path)),
+    "memoryview": lambda path: memoryview(read(path)),
+    "memoryview of a bytearray": lambda path: memoryview(bytearray(read(path))),
+    "every second byte": lambda path: memoryview(bytes(twice for byte in read(path) for twice in (byte, 0)))[::2],
+    "array": lambda path: array.array("B", read(path)),
+    "mmap to read": lambda path: mapped(path, mmap.ACCESS_READ),
+    "mmap to copy": lambda path: mapped(path, mmap.ACCESS_COPY),
+}
+
+
+@pytest.fixture
+def installed(tmp_path, monkeypatch):
+    """A prefix whose jseg a shell would run, and nothing installed beside it; a folder to stand in."""
+    prefix, here = tmp_path / "prefix", tmp_path / "here"
+    for folder in (prefix / "bin", prefix / "share" / "kumquatsieve", here):
+        folder.mkdir(parents=True)
+    jseg = prefix / "bin" / "jseg"
+    jseg.write_text("#!/bin/sh\n")
+    jseg.chmod(0o755)
+    monkeypatch.setenv("PATH", str(prefix / "bin"))
+    monkeypatch.delenv("KUMQUATSIEVE_DICTIONARY", raising=False)
+    monkeypatch.setattr(kumquatsieve._images, "folders", lambda: whole()[:1])
+    monkeypatch.chdir(here)
+    return prefix / "share" / "kumquatsieve"
+
+
+whole = kumquatsieve._images.folders
+
+
+@pytest.mark.parametrize("form", FORMS)
+def test_an_image_has_many_forms(system, user, form):
+    assert Cutter(FORMS[form](system)).wakati(LINE) == WORDS
+    assert Cutter(FORMS[form](system), [FORMS[form](user)]).wakati(LINE) == [LINE]
+
+
+def test_a_mapping_may_be_closed_after_the_load(system):
+    image = mapped(system, mmap.ACCESS_COPY)
+    cutter = Cutter(image)
+    image.close()
+    assert cutter.wakati(LINE) == WORDS
+
+
+@pytest.mark.parametrize("image", [1.5, 7, ["a"], object()])
+def test_what_is_no_image_is_named(image):
+    with pytest.raises(TypeError, match=f"not {type(image).__name__}"):
+        Cutter(image)
+
+
+def test_users_are_a_list(system, user):
+    with pytest.raises(TypeError, match="list"):
+        Cutter(system, user)
+
+
+@pytest.mark.parametrize("image", [b"", bytearray(), memoryview(b"")])
+def test_an_empty_image_is_refused(image):
+    with pytest.raises(Fault, match="L1 Truncated"):
+        Cutter(image)
+
+
+def test_an_empty_file_is_refused(tmp_path):
+    (tmp_path / "empty.img").touch()
+    with pytest.raises(Fault, match="L1 Truncated"):
+        Cutter(tmp_path / "empty.img")
+
+
+def test_a_pipe_is_read(system):
+    """What can't be mapped, as `<(zstd -dc image.zst)` of a shell."""
+    out, into = os.pipe()
+    if os.fork() == 0:
+        with open(into, "wb") as file:
+            file.write(read(system))
+        os._exit(0)
+    os.close(into)
+    assert Cutter(f"/dev/fd/{out}").wakati(LINE) == WORDS
+    os.close(out)
+    os.wait()
+
+
+def test_a_file_that_is_not_there(tmp_path):
+    with pytest.raises(FileNotFoundError, match="there.img"):
+        Cutter(tmp_path / "there.img")
+    with pytest.raises(IsADirectoryError):
+        Cutter(tmp_path)
+
+
+def test_a_bare_name_is_that_of_an_installed_image(system, user, installed):
+    shutil.copy(system, installed / "sample.img")
+    shutil.copy(user, installed / "words.img")
+    assert Cutter("sample").wakati(LINE) == WORDS
+    assert Cutter("sample", ["words"]).wakati(LINE) == [LINE]
+    again = pickle.dumps(Cutter("sample", ["words"]))
+    assert str(installed).encode() not in again
+    assert pickle.loads(again).wakati(LINE) == [LINE]
+
+
+def test_a_file_of_a_bare_name_comes_first_and_a_folder_does_not(system, user, installed):
+    shutil.copy(system, installed / "sample.img")
+    Path("sample").mkdir()
+    assert Cutter("sample").wakati(LINE) == WORDS
+    Path("sample").rmdir()
+    shutil.copy(user, "sample")
+    with pytest.raises(Fault, match="O1"):
+        Cutter("sample")
+
+
+@pytest.mark.parametrize("name", ["./sample", "sample.img", ""])
+def test_no_other_name_is_looked_up(system, installed, name):
+    shutil.copy(system, installed / "sample.img")
+    with pytest.raises(FileNotFoundError):
+        Cutter(name)
+
+
+def test_a_name_that_is_not_installed_lists_those_that_are(system, user, installed):
+    with pytest.raises(FileNotFoundError, match="none is installed.*kumquatsieve-import"):
+        Cutter("ipadic")
+    for name in ("unidic", "sample"):
+        shutil.copy(system, installed / f"{name}.img")
+    shutil.copy(user, installed / "words.img")
+    (installed / "broken.img").write_bytes(b"MJDICT")
+    (installed / "folder.img").mkdir()
+    with pytest.raises(FileNotFoundError, match="ipadic: .*installed are: sample, unidic$"):
+        Cutter("ipadic")
+    assert kumquatsieve.dictionaries() == {name: str(installed / f"{name}.img") for name in ("sample", "unidic")}
+
+
+def test_without_a_name_the_only_one_is_taken(system, user, installed):
+    with pytest.raises(FileNotFoundError, match="KUMQUATSIEVE_DICTIONARY.*none is installed"):
+        Cutter()
+    shutil.copy(system, installed / "sample.img")
+    shutil.copy(user, installed / "words.img")
+    assert Cutter(users=["words"]).wakati(LINE) == [LINE]
+    shutil.copy(system, installed / "unidic.img")
+    with pytest.raises(FileNotFoundError, match="installed are: sample, unidic"):
+        Cutter()
+
+
+@pytest.mark.parametrize("form", ["name", "path", "folder"])
+def test_without_a_name_the_variable_is_obeyed(system, installed, monkeypatch, form):
+    for name in ("sample", "kumquatsieve"):
+        shutil.copy(system, installed / f"{name}.img")
+    named = {"name": "sample", "path": str(installed / "sample.img"), "folder": str(installed)}
+    monkeypatch.setenv("KUMQUATSIEVE_DICTIONARY", named[form])
+    assert Cutter().wakati(LINE) == WORDS
+
+
+def test_the_folders_are_of_jseg_and_of_this_python(installed):
+    prefixes = [str(installed.parent.parent), *dict.fromkeys([sys.prefix, "/usr/local", "/usr"])]
+    assert whole() == [Path(prefix, "share", "kumquatsieve") for prefix in prefixes]
