@@ -8,10 +8,11 @@
 
 `Tagger` is in the manner of mecab-python3.
 """
-from ._cutter import Cutter, Word
+from ._cutter import Cutter
 from ._fault import Fault
 from ._images import dictionaries
 from ._tagger import Node, Tagger
+from ._words import Word, Words
 
-__all__ = ["Cutter", "Fault", "Node", "Tagger", "Word", "dictionaries"]
+__all__ = ["Cutter", "Fault", "Node", "Tagger", "Word", "Words", "dictionaries"]
 __version__ = "0.1.0"

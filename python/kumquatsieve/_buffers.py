@@ -30,6 +30,10 @@ class Buffers:
         self._records = (Record * count)()
         self._records_at, self._most, self._fields = addressof(self._records), count, memoryview(self._records).cast("B")
 
+    def total(self) -> int:
+        """The number that `total_at` has."""
+        return self._total.value
+
     def text_of(self, call: Any, *words: int) -> str:
         """The text that a call writes into a buffer, which is made longer where it has less room than is needed."""
         code = call(*words, self._text_at, self._room, self._length_at)

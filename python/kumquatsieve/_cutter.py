@@ -1,31 +1,13 @@
 """Cuts lines into words."""
 import os
-from typing import Any, Dict, List, NamedTuple, Optional, Sequence, Tuple, Type, Union
+from typing import Any, Dict, List, Optional, Sequence, Tuple, Type, Union
 
-from ._buffers import FIELDS
+from ._fields import names_beside
 from ._handle import CUT, DEFAULT, GROUPING, Texts, Told
 from ._handles import Handles
-from ._images import Image, Origin, default, origin_of
+from ._images import Image, Origin, default, origin_of, path_of
 from ._loaded import LOADED
-
-
-class Word(NamedTuple):
-    """A word of a line.
-
-    `start` and `end` are counted in characters of the line, `byte_start` and `byte_end` in bytes of its UTF-8. `left` and `right` are
-    context ids and `cost` is the word cost; `known` is False for an unknown word.
-    """
-
-    surface: str
-    feature: str
-    start: int
-    end: int
-    byte_start: int
-    byte_end: int
-    left: int
-    right: int
-    cost: int
-    known: bool
+from ._words import TAKEN, Words, words_of
 
 
 def encoded(line: str) -> bytes:
@@ -65,7 +47,13 @@ class Cutter:
         image, users = default() if image is None else image, tuple(users)
         self._origin = origin_of(image, users)
         self._handles = LOADED.new(self._origin, image, users)
+        self._names = names_beside(path_of(image), TAKEN) if isinstance(image, (str, os.PathLike)) else {}
         self.set_grouping(grouping)
+
+    @property
+    def fields(self) -> Tuple[str, ...]:
+        """The names of the features' fields that the dictionary names, in the file NAME.fields beside its image NAME.img."""
+        return tuple(self._names)
 
     def share(self) -> "Cutter":
         """Another cutter over the same dictionaries, with the same grouping. Each is closed by itself."""
@@ -107,13 +95,13 @@ class Cutter:
         finally:
             self._handles.give(handle)
 
-    def cut(self, line: str) -> List[Word]:
+    def cut(self, line: str) -> Words:
         """The words of a line. Its own end, as a file's lines have it, is dropped; another line feed is refused."""
         text = line_of(line)
-        return words_of(text, *self.told(text, CUT))
+        return words_of(text, self.told(text, CUT), self._names)
 
     def told(self, text: bytes, call: Any) -> Told:
-        """The records, the surfaces and the features of the words of a text in UTF-8, cut by one of the calls."""
+        """What the library tells of the words of a text in UTF-8, cut by one of the calls."""
         handle = self._handles.take()
         try:
             return handle.told(text, call)
@@ -156,16 +144,3 @@ def again(kind: Type[Cutter], origin: Origin, grouping: int, state: Dict[str, An
     cutter.__dict__.update(state)
     cutter.set_grouping(grouping)
     return cutter
-
-
-def words_of(text: bytes, records: bytes, surfaces: List[str], features: List[str]) -> List[Word]:
-    """The words of a text. Characters are counted from word to word."""
-    words, make = [], tuple.__new__
-    characters = behind = 0
-    for (_, start, end, _, _, left, right, cost, known, _), surface, feature in zip(FIELDS.iter_unpack(records), surfaces, features):
-        if behind != start:
-            characters += len(text[behind:start].decode())
-        after = characters + len(surface)
-        words.append(make(Word, (surface, feature, characters, after, start, end, left, right, cost, known == 1)))
-        characters, behind = after, end
-    return words

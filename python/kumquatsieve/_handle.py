@@ -1,23 +1,35 @@
 """One cutter of the library's."""
 import weakref
 from ctypes import addressof, c_size_t, c_uint32, c_uint64
-from typing import Any, List, Tuple
+from typing import Any, List, NamedTuple, Tuple
 
 from ._buffers import FIELDS, Buffers
 from ._fault import raise_fault
 from ._library import LIBRARY, OK, PARTS, Slot
 
 Texts = Tuple[bytes, bytes, bytes, bytes]
-Told = Tuple[bytes, List[str], List[str]]
+
+
+class Told(NamedTuple):
+    """What the library tells of a line: the cost of its path, and for each word the record, the surface, the feature and the path's cost."""
+
+    total: int
+    records: bytes
+    surfaces: List[str]
+    features: List[str]
+    totals: List[str]
+
+
 
 GROUPING = 24
 DEFAULT: Texts = (b"%m\\t%H\\n", b"%m\\t%H\\n", b"", b"EOS\\n")
 WAKATI: Texts = (b"%m ", b"%m ", b"", b"\\n")
 NUMBERED = {0x4C03, 0x4C04, 0x4C05, 0x4C06, 0x4C07, 0x4F02, 0x4F03}
 
-# What tells all words of a line in one call: a line for each surface, or for each surface and each feature.
+# What tells all words of a line in one call: a line for each surface, or for each surface, feature and cost of the path, or for each cost.
 SURFACES: Texts = (b"%m\\n", b"%m\\n", b"", b"")
-FEATURES: Texts = (b"%m\\n%H\\n", b"%m\\n%H\\n", b"", b"")
+WORDS: Texts = (b"%m\\n%H\\n%pc\\n", b"%m\\n%H\\n%pc\\n", b"", b"")
+TOTALS: Texts = (b"%pc\\n", b"%pc\\n", b"", b"")
 
 CUT, CUT_TEXT = LIBRARY.cut, LIBRARY.cut_text
 PRINT, FEATURE = LIBRARY.copy_print, LIBRARY.copy_feature
@@ -70,16 +82,18 @@ class Handle:
         self.grouping = grouping
 
     def told(self, text: bytes, call: Any) -> Told:
-        """The records, the surfaces and the features of the words of a text, cut by one of the calls."""
+        """What is told of the words of a text, cut by one of the calls."""
         self._cut(call, text)
+        total = self._buffers.total()
         records = self._buffers.records_of(self._at)
-        lines = self._lines(FEATURES)
+        lines = self._lines(WORDS)
         count = len(records) // FIELDS.size
-        if len(lines) == 2 * count + 1:
-            return records, lines[:-1:2], lines[1::2]
+        if len(lines) == 3 * count + 1:
+            return Told(total, records, lines[:-1:3], lines[1::3], lines[2::3])
         # A line feed stands in a surface or in a feature.
+        surfaces = [text[start:end].decode() for _, start, end, *_ in FIELDS.iter_unpack(records)]
         features = [self._buffers.text_of(FEATURE, self._at, number) for number in range(count)]
-        return records, [text[start:end].decode() for _, start, end, *_ in FIELDS.iter_unpack(records)], features
+        return Told(total, records, surfaces, features, self._lines(TOTALS)[:-1])
 
     def surfaces(self, text: bytes) -> List[str]:
         """The surfaces of a line's words."""

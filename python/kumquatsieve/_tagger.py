@@ -4,7 +4,7 @@ from typing import List, Optional, Tuple
 
 from ._buffers import FIELDS
 from ._cutter import Cutter, encoded
-from ._handle import CUT_TEXT, DEFAULT, WAKATI, Texts, Told
+from ._handle import CUT_TEXT, DEFAULT, WAKATI, Texts
 
 BOUNDARY = "BOS/EOS"
 
@@ -18,6 +18,9 @@ NAMES = {
     "--bos-format": "B",
     "--eos-format": "E",
 }
+
+# The records, the surfaces and the features of a text's words, its beginning and its end among them.
+Path = Tuple[bytes, List[str], List[str]]
 
 # The record of a text's beginning and end.
 NO_FIELDS = bytes(FIELDS.size)
@@ -34,7 +37,7 @@ class Node:
 
     __slots__ = ("_path", "_number")
 
-    def __init__(self, path: Told, number: int) -> None:
+    def __init__(self, path: Path, number: int) -> None:
         self._path = path
         self._number = number
 
@@ -132,6 +135,6 @@ class Tagger:
 
     def parseToNode(self, text: str) -> Node:
         """The node of a text's beginning, which leads by `next` to its words and its end."""
-        records, surfaces, features = self._cutter.told(encoded(text), CUT_TEXT)
-        path = NO_FIELDS + records + NO_FIELDS, ["", *surfaces, ""], [BOUNDARY, *features, BOUNDARY]
+        told = self._cutter.told(encoded(text), CUT_TEXT)
+        path = NO_FIELDS + told.records + NO_FIELDS, ["", *told.surfaces, ""], [BOUNDARY, *told.features, BOUNDARY]
         return Node(path, 0)

@@ -1,0 +1,153 @@
+"""Words of a line, by their attributes."""
+from typing import Any, Dict, Iterable, List, Optional, Tuple
+
+from ._buffers import FIELDS
+from ._fields import split
+from ._handle import Told
+from ._shown import html_of, table_of
+
+# What a table shows for a reading: the first of these names of fields that a dictionary has.
+READINGS = ("reading", "kana", "pron", "lForm")
+
+
+class Line:
+    """What the words of a line have in common: its text in UTF-8, what the library told, and the names of the dictionary's fields."""
+
+    __slots__ = ("text", "records", "surfaces", "totals", "names", "_places")
+
+    def __init__(self, text: bytes, told: Told, names: Dict[str, int]) -> None:
+        self.text, self.records, self.surfaces, self.totals, self.names = text, told.records, told.surfaces, told.totals, names
+        self._places: Optional[List[Tuple[int, int]]] = None
+
+    def record(self, number: int) -> Tuple[Any, ...]:
+        return FIELDS.unpack_from(self.records, number * FIELDS.size)
+
+    def place(self, number: int) -> Tuple[int, int]:
+        """Where a word begins and ends in characters."""
+        if self._places is None:
+            self._places = list(self._counted())
+        return self._places[number]
+
+    def _counted(self) -> Iterable[Tuple[int, int]]:
+        """Characters are counted from word to word."""
+        characters = behind = 0
+        for (_, start, end, *_), surface in zip(FIELDS.iter_unpack(self.records), self.surfaces):
+            characters += len(self.text[behind:start].decode())
+            yield characters, characters + len(surface)
+            characters, behind = characters + len(surface), end
+
+
+def of_record(number: int, what: str) -> Any:
+    """An attribute that is a field of the word's record, by its number among those of `Record`."""
+    return property(lambda word: word._line.record(word._number)[number], doc=what)
+
+
+class Word:
+    """A word of a line. What isn't its surface or its feature is looked up where it is asked for; a field of the feature that the dictionary
+    names is an attribute too, None where the feature of this word is shorter."""
+
+    __slots__ = ("surface", "feature", "_line", "_number", "_features")
+
+    surface: str
+    feature: str
+
+    def __init__(self, surface: str, feature: str, line: Line, number: int) -> None:
+        self.surface = surface
+        self.feature = feature
+        self._line = line
+        self._number = number
+
+    byte_start = of_record(1, "Where it begins in the line, in bytes of UTF-8.")
+    byte_end = of_record(2, "Where it ends in the line, in bytes of UTF-8.")
+    dictionary = of_record(3, "0 for the system's, 1 and more for the users' in their order.")
+    token = of_record(4, "The number of its entry in that dictionary; unknown words come behind the lexicon.")
+    left = of_record(5, "The left context id.")
+    right = of_record(6, "The right context id.")
+    cost = of_record(7, "The word cost.")
+    category = of_record(9, "The number of the first category of its first character, in the order of char.def.")
+
+    @property
+    def known(self) -> bool:
+        """Whether it is in a dictionary."""
+        return bool(self._line.record(self._number)[8])
+
+    @property
+    def start(self) -> int:
+        """Where it begins in the line, in characters."""
+        return self._line.place(self._number)[0]
+
+    @property
+    def end(self) -> int:
+        """Where it ends in the line, in characters."""
+        return self._line.place(self._number)[1]
+
+    @property
+    def total(self) -> int:
+        """The cost of the path up to and with this word."""
+        return int(self._line.totals[self._number])
+
+    @property
+    def features(self) -> List[str]:
+        """The fields of the feature, split once, by MeCab's quoting."""
+        try:
+            return self._features
+        except AttributeError:
+            self._features: List[str] = split(self.feature)
+            return self._features
+
+    def __getattr__(self, name: str) -> Optional[str]:
+        if name.startswith("_"):
+            raise AttributeError(name)
+        names = self._line.names
+        if name not in names:
+            named = ", ".join(names) or "none"
+            raise AttributeError(f"{name}: no attribute of a word, and no field that the dictionary names; it names {named}")
+        features, number = self.features, names[name]
+        return features[number] if number < len(features) else None
+
+    def __dir__(self) -> List[str]:
+        return [*object.__dir__(self), *self._line.names]
+
+    def _value(self) -> Tuple[Any, ...]:
+        return self.surface, self.feature, self._line.record(self._number)
+
+    def __eq__(self, other: object) -> bool:
+        return isinstance(other, Word) and self._value() == other._value()
+
+    def __hash__(self) -> int:
+        return hash(self._value())
+
+    def __repr__(self) -> str:
+        return f"<Word {self.surface} {self.feature} {self.start}:{self.end} cost {self.cost}{'' if self.known else ' unknown'}>"
+
+
+class Words(List[Word]):
+    """The words of a line, a list; `total` is the cost of their path. Shown, it is a table."""
+
+    __slots__ = ("total",)
+
+    total: int
+
+    def _columns(self) -> Tuple[List[str], List[List[str]]]:
+        names = self[0]._line.names if self else {}
+        reading = next((name for name in READINGS if name in names), None)
+        head = ["surface", *([reading] if reading else []), "feature", "cost", "total"]
+        return head, [[str(getattr(word, name) or "") if name == reading else str(getattr(word, name)) for name in head] for word in self]
+
+    def __repr__(self) -> str:
+        return table_of(*self._columns())
+
+    def _repr_html_(self) -> str:
+        return html_of(*self._columns())
+
+
+# Names that no field of a dictionary may have.
+TAKEN = frozenset(name for name in dir(Word) if not name.startswith("_"))
+
+
+def words_of(text: bytes, told: Told, names: Dict[str, int]) -> Words:
+    """The words of a line, of what a handle told of them."""
+    line = Line(text, told, names)
+    words = Words([Word(surface, feature, line, number) for number, (surface, feature) in enumerate(zip(told.surfaces, told.features))])
+    words.total = told.total
+    return words

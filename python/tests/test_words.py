@@ -1,0 +1,178 @@
+"""Words by their attributes, and what is shown of them."""
+import copy
+import pickle
+import shutil
+import sys
+from pathlib import Path
+
+import pytest
+
+from kumquatsieve import Cutter, Word
+from kumquatsieve._fields import split
+
+LINE = " すもももも  zz𠮷"
+# The words of that line over the sample's sources, which are small enough to add the costs by hand.
+ATTRIBUTES = {
+    "surface": ["すもも", "もも", "zz", "𠮷"],
+    "feature": ["名詞,すもも", "名詞,もも", "未知", "未知"],
+    "features": [["名詞", "すもも"], ["名詞", "もも"], ["未知"], ["未知"]],
+    "start": [1, 4, 8, 10],
+    "end": [4, 6, 10, 11],
+    "byte_start": [1, 10, 18, 20],
+    "byte_end": [10, 16, 20, 24],
+    "left": [1, 1, 1, 1],
+    "right": [1, 1, 1, 1],
+    "cost": [100, 30, 1000, 1000],
+    "total": [110, 147, 1154, 2161],
+    "known": [True, True, False, False],
+    "dictionary": [0, 0, 0, 0],
+    "category": [5, 5, 2, 0],
+}
+NAMED = {"pos": ["名詞", "名詞", "未知", "未知"], "reading": ["すもも", "もも", None, None]}
+# Features, and their fields as MeCab's %f tells them.
+FEATURES = [
+    ("い", 'x,"a,b",c', ["x", "a,b", "c"]),
+    ("ろ", 'x,"a""b",c', ["x", 'a"b', "c"]),
+    ("は", 'x, a,\tb, "c"', ["x", "a", "b", "c"]),
+    ("に", 'x,"a"z,b', ["x", "a", "b"]),
+    ("ほ", 'x,"a', ["x", "a"]),
+    ("へ", 'x,"",b', ["x", "", "b"]),
+    ("と", 'x,"a"",b', ["x", 'a",b']),
+    ("ち", 'x, "a" ,b', ["x", "a", "b"]),
+    ("り", 'x,a"b,c', ["x", 'a"b', "c"]),
+    ("る", 'x,"a,b""', ["x", 'a,b"']),
+]
+# A last field may be empty: a comma parts two fields.
+PLAIN = [("", [""]), ("x", ["x"]), ("x,", ["x", ""]), ("x,,", ["x", "", ""]), ('"",', ["", ""]), ("x, ", ["x", ""])]
+BAD_NAMES = ["pos,pos", "pos,cost", "pos,surface", "pos,_x", "pos,1", "pos reading", "pos\nreading", ""]
+
+
+@pytest.fixture(scope="module")
+def named(system, tmp_path_factory):
+    """The sample's image, whose fields have names."""
+    image = Path(shutil.copy(system, tmp_path_factory.mktemp("named") / "sample.img"))
+    image.with_suffix(".fields").write_text("pos,reading\n")
+    return image
+
+
+@pytest.mark.parametrize("name", ATTRIBUTES)
+def test_attributes(system, name):
+    assert [getattr(word, name) for word in Cutter(system).cut(LINE)] == ATTRIBUTES[name]
+
+
+def test_a_users_word_names_its_dictionary(system, user):
+    word, = Cutter(system, [user]).cut("すもももも")
+    assert (word.dictionary, word.token, word.cost, word.known) == (1, 0, -30000, True)
+
+
+def test_a_words_token_is_that_of_its_surface(system):
+    first, second, third = Cutter(system).cut("すもも もも すもも")
+    assert first.token == third.token != second.token
+
+
+def test_the_total_is_that_of_the_path(system):
+    cutter = Cutter(system)
+    assert [cutter.cut(line).total for line in ("", "すもも", LINE)] == [0, 115, 2166]
+
+
+def test_a_line_feed_in_a_feature(odd):
+    words = Cutter(odd).cut("すもももも")
+    assert [(word.surface, word.feature, word.total) for word in words] == [("すもも", "名詞,すもも", 110), ("もも", "名詞\nもも", 147)]
+    assert "名詞\\nもも" in repr(words)
+
+
+@pytest.mark.parametrize("line, feature, fields", FEATURES)
+def test_a_feature_is_split_as_mecab_does(images, line, feature, fields):
+    cutter = Cutter(images / "quoted.img")
+    word, = cutter.cut(line)
+    assert (word.feature, word.features) == (feature, fields)
+    printed = [cutter.format(line, f"%f[{number}]", eos="") for number in range(len(fields))]
+    assert printed == fields
+
+
+@pytest.mark.parametrize("feature, fields", PLAIN)
+def test_a_comma_parts_two_fields(feature, fields):
+    assert split(feature) == fields
+
+
+@pytest.mark.parametrize("name", NAMED)
+def test_fields_by_their_names(named, name):
+    cutter = Cutter(named)
+    assert cutter.fields == ("pos", "reading")
+    for one in (cutter, cutter.share(), pickle.loads(pickle.dumps(cutter))):
+        assert [getattr(word, name) for word in one.cut(LINE)] == NAMED[name]
+    assert name in dir(cutter.cut(LINE)[0])
+
+
+def test_fields_without_a_name(named):
+    named.with_suffix(".fields").write_text(",reading\n")
+    try:
+        cutter = Cutter(named)
+    finally:
+        named.with_suffix(".fields").write_text("pos,reading\n")
+    assert (cutter.fields, cutter.cut(LINE)[0].reading) == (("reading",), "すもも")
+
+
+def test_what_no_word_has_is_named(named, system):
+    with pytest.raises(AttributeError, match="lemma: .* names pos, reading"):
+        Cutter(named).cut(LINE)[0].lemma
+    with pytest.raises(AttributeError, match="names none"):
+        Cutter(system).cut(LINE)[0].lemma
+    with pytest.raises(AttributeError):
+        Cutter(system).cut(LINE)[0]._lemma
+    with pytest.raises(AttributeError):
+        Cutter(named).cut(LINE)[0].surfaces = "x"
+
+
+@pytest.mark.parametrize("names", BAD_NAMES)
+def test_names_that_fields_cannot_have(system, tmp_path, names):
+    image = Path(shutil.copy(system, tmp_path / "sample.img"))
+    image.with_suffix(".fields").write_text(names)
+    with pytest.raises(ValueError, match="sample.fields"):
+        Cutter(image)
+
+
+def test_words_are_values(named):
+    cutter = Cutter(named)
+    words, again = cutter.cut(LINE), cutter.cut(LINE)
+    assert words == again and hash(words[0]) == hash(again[0])
+    assert words[0] != words[1] and words[0] != "すもも"
+    assert len({*words, *again}) == 4
+    for one in (pickle.loads(pickle.dumps(words)), copy.copy(words), copy.deepcopy(words)):
+        assert (one, one.total) == (words, words.total)
+        assert [word.reading for word in one] == NAMED["reading"]
+    assert pickle.loads(pickle.dumps(words[1])).start == 4
+
+
+def test_a_word_is_light(system):
+    word = Cutter(system).cut("すもも")[0]
+    assert isinstance(word, Word) and not hasattr(word, "__dict__")
+    assert sys.getsizeof(word) <= 80
+
+
+def test_what_a_word_shows(system):
+    words = Cutter(system).cut(LINE)
+    assert repr(words[1]) == "<Word もも 名詞,もも 4:6 cost 30>"
+    assert repr(words[2]) == "<Word zz 未知 8:10 cost 1000 unknown>"
+
+
+def test_a_table_of_words(named):
+    assert repr(Cutter(named).cut(LINE)).splitlines() == [
+        "surface  reading  feature      cost  total",
+        "すもも   すもも   名詞,すもも   100    110",
+        "もも     もも     名詞,もも      30    147",
+        "zz                未知         1000   1154",
+        "𠮷                未知         1000   2161",
+    ]
+
+
+def test_a_table_without_readings(system):
+    assert repr(Cutter(system).cut("もも")).splitlines() == ["surface  feature    cost  total", "もも     名詞,もも    30     40"]
+    assert repr(Cutter(system).cut("")) == "surface  feature  cost  total"
+
+
+def test_a_table_of_html(named):
+    html = Cutter(named).cut("すもも<b>")._repr_html_()
+    assert html.startswith("<table><tr><th>surface</th><th>reading</th>")
+    assert "<tr><td>すもも</td><td>すもも</td><td>名詞,すもも</td><td>100</td><td>110</td></tr>" in html
+    assert "&lt;" in html and "<b>" not in html
