@@ -10,9 +10,11 @@
 """
 from ._cutter import Cutter
 from ._fault import Fault
+from ._formats import Format
 from ._images import dictionaries
+from ._lines import Lines
 from ._tagger import Node, Tagger
 from ._words import Word, Words
 
-__all__ = ["Cutter", "Fault", "Node", "Tagger", "Word", "Words", "dictionaries"]
+__all__ = ["Cutter", "Fault", "Format", "Lines", "Node", "Tagger", "Word", "Words", "dictionaries"]
 __version__ = "0.1.0"

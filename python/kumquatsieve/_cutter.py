@@ -1,31 +1,19 @@
 """Cuts lines into words."""
 import os
-from typing import Any, Dict, List, Optional, Sequence, Tuple, Type, Union
+from typing import Any, Callable, Dict, List, Optional, Sequence, Tuple, Type, TypeVar, Union
 
 from ._fields import names_beside
-from ._handle import CUT, DEFAULT, GROUPING, Texts, Told
+from ._formats import Format, texts_of
+from ._handle import CUT, DEFAULT, GROUPING, SPACED, Handle, Texts, Told
 from ._handles import Handles
 from ._images import Image, Origin, default, origin_of, path_of
+from ._lines import Answers, Lines, many_at_once, one_by_one
 from ._loaded import LOADED
+from ._sources import Source
+from ._texts import line_of
 from ._words import TAKEN, Words, words_of
 
-
-def encoded(line: str) -> bytes:
-    """A text in UTF-8. Half of a pair of surrogates is no character, and the library refuses what is made of it."""
-    try:
-        return line.encode()
-    except UnicodeEncodeError:
-        return line.encode("utf-8", "surrogatepass")
-    except AttributeError:
-        raise TypeError(f"a line is a str, not {type(line).__name__}") from None
-
-
-def line_of(line: str) -> bytes:
-    """A line in UTF-8 without its own end, a line feed or a carriage return and a line feed."""
-    text = encoded(line)
-    if text.endswith(b"\n"):
-        return text[:-2] if text.endswith(b"\r\n") else text[:-1]
-    return text
+T = TypeVar("T")
 
 
 class Cutter:
@@ -37,17 +25,23 @@ class Cutter:
     Several threads may call one cutter at once, and a process may fork while they do. `share` and `copy.copy` make another cutter over the
     same dictionaries. `close`, or the end of a `with`, gives back what the cutter holds.
 
-    A cutter pickles as what it was made of, the paths or names of its images and its grouping. A process loads the images once for all cutters that it
-    gets so, and not at all where it has a cutter of them, as after a fork.
+    `parse` and `parse_lines` print in the cutter's format: `"wakati"`, a `Format`, or else a line for each word, with its feature, and EOS.
+
+    A cutter pickles as what it was made of, the paths or names of its images, its grouping and its format. A process loads the images once
+    for all cutters that it gets so, and not at all where it has a cutter of them, as after a fork.
     """
 
-    def __init__(self, image: Optional[Image] = None, users: Sequence[Image] = (), grouping: int = GROUPING) -> None:
+    def __init__(
+        self, image: Optional[Image] = None, users: Sequence[Image] = (), grouping: int = GROUPING, format: Union[None, str, Format] = None
+    ) -> None:
         if isinstance(users, (str, bytes, os.PathLike)):
             raise TypeError("users are several images, in a list")
         image, users = default() if image is None else image, tuple(users)
         self._origin = origin_of(image, users)
         self._handles = LOADED.new(self._origin, image, users)
         self._names = names_beside(path_of(image), TAKEN) if isinstance(image, (str, os.PathLike)) else {}
+        self._texts = texts_of(format)
+        self._with_handle(lambda handle: handle.set_format(self._texts))
         self.set_grouping(grouping)
 
     @property
@@ -88,16 +82,21 @@ class Cutter:
         """How many characters may follow the first one of a grouped unknown word, at most 1,000. It holds for the calls that begin later."""
         if not 0 <= grouping < 2**32:
             raise ValueError("grouping")
+        self._with_handle(lambda handle: handle.set_grouping(grouping))
+        self._handles.grouping = grouping
+
+    def _with_handle(self, call: Callable[[Handle], T]) -> T:
         handle = self._handles.take()
         try:
-            handle.set_grouping(grouping)
-            self._handles.grouping = grouping
+            return call(handle)
         finally:
             self._handles.give(handle)
 
     def cut(self, line: str) -> Words:
         """The words of a line. Its own end, as a file's lines have it, is dropped; another line feed is refused."""
-        text = line_of(line)
+        return self._words(line_of(line))
+
+    def _words(self, text: bytes) -> Words:
         return words_of(text, self.told(text, CUT), self._names)
 
     def told(self, text: bytes, call: Any) -> Told:
@@ -117,15 +116,14 @@ class Cutter:
         finally:
             self._handles.give(handle)
 
-    def format(
-        self, line: str, node: Union[str, None] = None, unk: Union[str, None] = None, bos: str = "", eos: str = "EOS\\n"
-    ) -> str:
-        """The text of a line in an output format of MeCab's: `node` for a known word, `unk` for an unknown one (as `node` where it isn't
-        given), `bos` before the first and `eos` after the last. Without `node` a line for each word, with its feature."""
-        texts = DEFAULT
-        if node is not None:
-            texts = encoded(node), encoded(node if unk is None else unk), encoded(bos), encoded(eos)
-        return self.printed(line_of(line), texts, CUT)
+    def parse(self, line: str) -> str:
+        """The text of a line in the cutter's format."""
+        return self.printed(line_of(line), self._texts, CUT)
+
+    def format(self, line: str, node: Optional[str] = None, unk: Optional[str] = None, bos: str = "", eos: str = "EOS\\n") -> str:
+        """The text of a line in another format than the cutter's, whose parts are those of `Format`. Without `node` a line for each word,
+        with its feature."""
+        return self.printed(line_of(line), DEFAULT if node is None else texts_of(Format(node, unk, bos, eos)), CUT)
 
     def printed(self, text: bytes, texts: Texts, call: Any) -> str:
         """A text in UTF-8, cut by one of the calls, in the four texts of a format."""
@@ -134,6 +132,34 @@ class Cutter:
             return handle.printed(text, texts, call)
         finally:
             self._handles.give(handle)
+
+    def lines(self, source: Source, errors: str = "strict") -> Lines[Words]:
+        """The words of each line of a text, of a file or of an iterable of lines, as soon as the line is there.
+
+        A fault says the line's number in `place`. What is no UTF-8 is refused; with errors="replace" it is U+FFFD, as Python's decoder has
+        it, and `replaced` of the answer counts them.
+        """
+        return Lines(errors, one_by_one(source, self._words))
+
+    def wakati_lines(self, source: Source, errors: str = "strict") -> Lines[str]:
+        """The surfaces of each line with a blank between two, as `lines` has it, but about a megabyte of lines is read and cut at once."""
+        return Lines(errors, many_at_once(source, self._joined))
+
+    def parse_lines(self, source: Source, errors: str = "strict") -> Lines[str]:
+        """The text of each line in the cutter's format, as `wakati_lines` has it: joined, what `jseg` prints for the source."""
+        return Lines(errors, many_at_once(source, self._printed_lines))
+
+    def _printed_lines(self, lines: List[bytes], texts: Optional[Texts] = None) -> Answers[str]:
+        handle = self._handles.take()
+        try:
+            return handle.printed_lines(lines, texts or self._texts)
+        finally:
+            self._handles.give(handle)
+
+    def _joined(self, lines: List[bytes]) -> Answers[str]:
+        """Behind the last surface stands a blank too."""
+        answers, fault = self._printed_lines(lines, SPACED)
+        return [answer[:-1] for answer in answers], fault
 
 
 def again(kind: Type[Cutter], origin: Origin, grouping: int, state: Dict[str, Any]) -> Cutter:

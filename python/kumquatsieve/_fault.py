@@ -5,7 +5,7 @@ from typing import Optional, Tuple
 from ._library import LIBRARY, MEMORY
 
 # What to do instead, by the code.
-ADVICE = {"K1": "this is more than one line, and each is cut by itself"}
+ADVICE = {"K1": "this is more than one line; Cutter.lines, wakati_lines and parse_lines take many"}
 
 
 class Fault(Exception):

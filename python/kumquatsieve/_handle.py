@@ -1,10 +1,10 @@
 """One cutter of the library's."""
 import weakref
 from ctypes import addressof, c_size_t, c_uint32, c_uint64
-from typing import Any, List, NamedTuple, Tuple
+from typing import Any, List, NamedTuple, Optional, Tuple
 
 from ._buffers import FIELDS, Buffers
-from ._fault import raise_fault
+from ._fault import Fault, raise_fault
 from ._library import LIBRARY, OK, PARTS, Slot
 
 Texts = Tuple[bytes, bytes, bytes, bytes]
@@ -29,6 +29,7 @@ NUMBERED = {0x4C03, 0x4C04, 0x4C05, 0x4C06, 0x4C07, 0x4F02, 0x4F03}
 # What tells all words of a line in one call: a line for each surface, or for each surface, feature and cost of the path, or for each cost.
 SURFACES: Texts = (b"%m\\n", b"%m\\n", b"", b"")
 WORDS: Texts = (b"%m\\n%H\\n%pc\\n", b"%m\\n%H\\n%pc\\n", b"", b"")
+SPACED: Texts = (b"%m ", b"%m ", b"", b"")
 TOTALS: Texts = (b"%pc\\n", b"%pc\\n", b"", b"")
 
 CUT, CUT_TEXT = LIBRARY.cut, LIBRARY.cut_text
@@ -107,6 +108,18 @@ class Handle:
         self.set_format(texts)
         self._cut(call, text)
         return self._buffers.text_of(PRINT, self._at)
+
+    def printed_lines(self, lines: List[bytes], texts: Texts) -> Tuple[List[str], Optional[Exception]]:
+        """The text of each line in a format, up to the first line that is refused, and why it is."""
+        self.set_format(texts)
+        answers: List[str] = []
+        try:
+            for line in lines:
+                self._cut(CUT, line)
+                answers.append(self._buffers.text_of(PRINT, self._at))
+        except (Fault, MemoryError) as fault:
+            return answers, fault
+        return answers, None
 
     def _cut(self, call: Any, text: bytes) -> None:
         buffers = self._buffers

@@ -3,8 +3,9 @@ import shlex
 from typing import List, Optional, Tuple
 
 from ._buffers import FIELDS
-from ._cutter import Cutter, encoded
+from ._cutter import Cutter
 from ._handle import CUT_TEXT, DEFAULT, WAKATI, Texts
+from ._texts import encoded
 
 BOUNDARY = "BOS/EOS"
 

@@ -1,0 +1,63 @@
+"""What a cutter answers to many lines."""
+from typing import Callable, Generic, Iterator, List, Optional, Tuple, TypeVar
+
+from ._fault import Fault
+from ._sources import Source, lines_as_they_come, pieces
+from ._texts import Encoder
+
+T = TypeVar("T")
+
+# What the lines up to a fault gave, and the fault that ended them.
+Answers = Tuple[List[T], Optional[Exception]]
+
+
+class Lines(Generic[T]):
+    """What a cutter answers to each line of a source, an iterator. `replaced` is how many U+FFFD were put in so far for what is no UTF-8."""
+
+    def __init__(self, errors: str, begin: Callable[[Encoder], Iterator[T]]) -> None:
+        self._encoder = Encoder(errors)
+        self._running = begin(self._encoder)
+
+    def __iter__(self) -> Iterator[T]:
+        return self._running
+
+    def __next__(self) -> T:
+        return next(self._running)
+
+    @property
+    def replaced(self) -> int:
+        return self._encoder.replaced
+
+
+def one_by_one(source: Source, answer: Callable[[bytes], T]) -> Callable[[Encoder], Iterator[T]]:
+    """Each line's answer as soon as the line is there."""
+
+    def begin(encoder: Encoder) -> Iterator[T]:
+        for number, line in enumerate(lines_as_they_come(source, encoder), 1):
+            try:
+                answered = answer(line)
+            except Fault as fault:
+                raise placed(fault, number) from None
+            yield answered
+
+    return begin
+
+
+def many_at_once(source: Source, answer: Callable[[List[bytes]], Answers[T]]) -> Callable[[Encoder], Iterator[T]]:
+    """The answers of about a megabyte of lines at once. Those before a fault come before it."""
+
+    def begin(encoder: Encoder) -> Iterator[T]:
+        number = 0
+        for lines in pieces(source, encoder):
+            answers, fault = answer(lines)
+            yield from answers
+            number += len(answers)
+            if fault is not None:
+                raise placed(fault, number + 1) from None
+
+    return begin
+
+
+def placed(fault: Exception, number: int) -> Exception:
+    """A fault that says which line was refused."""
+    return Fault(fault.code, fault.name, fault.number, fault.part, number) if isinstance(fault, Fault) else fault

@@ -1,0 +1,95 @@
+"""Lines of texts, of files and of whatever has lines."""
+import mmap
+from typing import IO, Any, Iterable, Iterator, List, Union
+
+from ._texts import Encoder
+
+Text = Union[str, bytes, bytearray, memoryview, mmap.mmap]
+Source = Union[Text, IO[str], IO[bytes], Iterable[Union[str, bytes]]]
+
+TEXTS = (str, bytes, bytearray, memoryview, mmap.mmap)
+
+# How much is read at once, in characters or bytes, and from how many bytes on a line is too long for the library, its carriage return with it.
+PIECE = 1_000_000
+TOO_LONG = 2**20 + 2
+
+
+def lines_as_they_come(source: Source, encoder: Encoder) -> Iterator[bytes]:
+    """Each line without its end, when the source has it."""
+    if isinstance(source, TEXTS):
+        for lines in pieces(source, encoder):
+            yield from lines
+        return
+    for number, line in enumerate(source, 1):
+        yield of_line(line, number, encoder)
+
+
+def of_line(line: object, number: int, encoder: Encoder) -> bytes:
+    try:
+        return encoder.of_line(line)
+    except TypeError as error:
+        raise TypeError(f"line {number}: {error}") from None
+
+
+def pieces(source: Source, encoder: Encoder) -> Iterator[List[bytes]]:
+    """The lines without their ends, about a megabyte at a time."""
+    if isinstance(source, TEXTS):
+        return map(lines_of, whole_lines(slices(source), encoder))
+    if hasattr(source, "read"):
+        return map(lines_of, whole_lines(reads(source), encoder))
+    return batches(source, encoder)
+
+
+def slices(text: Any) -> Iterator[Any]:
+    return (text[at : at + PIECE] for at in range(0, len(text), PIECE))
+
+
+def reads(file: Any) -> Iterator[Any]:
+    while True:
+        part = file.read(PIECE)
+        if part is None:
+            raise BlockingIOError("the file has nothing to read now, and doesn't block")
+        if not part:
+            return
+        yield part
+
+
+def whole_lines(parts: Iterator[Any], encoder: Encoder) -> Iterator[bytes]:
+    """The text of the parts, cut behind line feeds. A line that is too long goes on as it is so far: the library refuses it."""
+    rest = b""
+    for part in parts:
+        text = rest + (encoder.of_text(part) if isinstance(part, str) else bytes(part))
+        end = text.rfind(b"\n") + 1
+        if end == 0 and len(text) > TOO_LONG:
+            end = len(text)
+        if end > 0:
+            yield encoder.of_bytes(text[:end])
+        rest = text[end:]
+    if rest:
+        yield encoder.of_bytes(rest)
+
+
+def lines_of(text: bytes) -> List[bytes]:
+    """The lines of a text without their ends."""
+    lines = text.split(b"\n")
+    last = lines.pop()
+    if b"\r" in text:
+        lines = [line[:-1] if line.endswith(b"\r") else line for line in lines]
+    return lines + [last] if last else lines
+
+
+def batches(lines: Iterable[Union[str, bytes]], encoder: Encoder) -> Iterator[List[bytes]]:
+    """Lines, so many at once that they are about a megabyte. Those before one that is none go first."""
+    batch: List[bytes] = []
+    size = 0
+    for number, line in enumerate(lines, 1):
+        try:
+            batch.append(of_line(line, number, encoder))
+        except TypeError:
+            yield batch
+            raise
+        size += len(batch[-1])
+        if size >= PIECE:
+            yield batch
+            batch, size = [], 0
+    yield batch

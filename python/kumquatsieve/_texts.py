@@ -1,0 +1,60 @@
+"""Texts and lines in UTF-8, as the library takes them."""
+import re
+
+SURROGATE = re.compile("[\ud800-\udfff]")
+ERRORS = ("strict", "replace")
+
+
+def encoded(text: str) -> bytes:
+    """A text in UTF-8. Half of a pair of surrogates is no character, and the library refuses what is made of it."""
+    try:
+        return text.encode()
+    except UnicodeEncodeError:
+        return text.encode("utf-8", "surrogatepass")
+    except AttributeError:
+        raise TypeError(f"a line is a str, not {type(text).__name__}") from None
+
+
+def line_of(line: str) -> bytes:
+    """A line in UTF-8 without its own end."""
+    return without_end(encoded(line))
+
+
+def without_end(line: bytes) -> bytes:
+    """A line without its own end, a line feed or a carriage return and a line feed."""
+    if line.endswith(b"\n"):
+        return line[:-2] if line.endswith(b"\r\n") else line[:-1]
+    return line
+
+
+class Encoder:
+    """Makes texts and bytes UTF-8. What is none is left to the library, which refuses it, or replaced by U+FFFD, which is counted."""
+
+    def __init__(self, errors: str) -> None:
+        if errors not in ERRORS:
+            raise ValueError(f"errors is {' or '.join(ERRORS)}, not {errors!r}")
+        self._replaces = errors == "replace"
+        self.replaced = 0
+
+    def of_text(self, text: str) -> bytes:
+        """A text, or a part of one."""
+        if self._replaces:
+            text, count = SURROGATE.subn("\ufffd", text)
+            self.replaced += count
+        return encoded(text)
+
+    def of_bytes(self, data: bytes) -> bytes:
+        """Whole lines, so that no character is in two parts. Each replacement is that of Python's decoder."""
+        if not self._replaces:
+            return data
+        text = data.decode("utf-8", "replace")
+        self.replaced += text.count("\ufffd") - data.count("\ufffd".encode())
+        return text.encode()
+
+    def of_line(self, line: object) -> bytes:
+        """One line, in either form, without its own end."""
+        if isinstance(line, str):
+            return without_end(self.of_text(line))
+        if isinstance(line, (bytes, bytearray, memoryview)):
+            return without_end(self.of_bytes(bytes(line)))
+        raise TypeError(f"a line is a str or bytes, not {type(line).__name__}")

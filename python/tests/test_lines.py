@@ -1,0 +1,199 @@
+"""Many lines: of texts, of files, of iterables; cut at once, or as they come."""
+import io
+import mmap
+import os
+import pickle
+
+import pytest
+
+from kumquatsieve import Cutter, Fault, Format, _sources
+
+LINES = ["すもももも", "", " すもももも  zz", "もも"]
+TEXT = "".join(line + "\n" for line in LINES)
+SURFACES = [["すもも", "もも"], [], ["すもも", "もも", "zz"], ["もも"]]
+JOINED = ["すもも もも", "", "すもも もも zz", "もも"]
+PRINTED = ["すもも\t名詞,すもも\nもも\t名詞,もも\nEOS\n", "EOS\n", "すもも\t名詞,すもも\nもも\t名詞,もも\nzz\t未知\nEOS\n", "もも\t名詞,もも\nEOS\n"]
+
+
+def mapped(text):
+    with open(os.memfd_create("text"), "w+b") as file:
+        file.write(text)
+        file.flush()
+        return mmap.mmap(file.fileno(), 0)
+
+
+SOURCES = {
+    "str": lambda text: text,
+    "bytes": str.encode,
+    "bytearray": lambda text: bytearray(text.encode()),
+    "memoryview": lambda text: memoryview(text.encode()),
+    "mmap": lambda text: mapped(text.encode()),
+    "a file of text": io.StringIO,
+    "a file of bytes": lambda text: io.BytesIO(text.encode()),
+    "lines": lambda text: text.split("\n")[:-1],
+    "lines with their ends": lambda text: text.splitlines(keepends=True),
+    "a generator of bytes": lambda text: (line for line in text.encode().splitlines(keepends=True)),
+}
+WAYS = {
+    "lines": (lambda cutter, source, **how: [[word.surface for word in words] for words in cutter.lines(source, **how)], SURFACES),
+    "wakati_lines": (lambda cutter, source, **how: list(cutter.wakati_lines(source, **how)), JOINED),
+    "parse_lines": (lambda cutter, source, **how: list(cutter.parse_lines(source, **how)), PRINTED),
+}
+BEGIN = {"lines": Cutter.lines, "wakati_lines": Cutter.wakati_lines, "parse_lines": Cutter.parse_lines}
+# Bytes that are no UTF-8. Their text is that of Python's decoder.
+BAD = [b"\xff", b"\xe3\x81", b"a\xc0\xafb", b"\xed\xa0\x80", b"\xf0\x9f\x8d", b"\xef\xbf\xbd\xff\xef\xbf\xbd", b"\x80\x80"]
+
+
+@pytest.fixture(scope="module")
+def cutter(system):
+    return Cutter(system)
+
+
+@pytest.mark.parametrize("piece", [1, 2, 7, 1_000_000])
+@pytest.mark.parametrize("source", SOURCES)
+@pytest.mark.parametrize("way", WAYS)
+def test_each_source_gives_its_lines(cutter, monkeypatch, way, source, piece):
+    monkeypatch.setattr(_sources, "PIECE", piece)
+    call, wanted = WAYS[way]
+    assert call(cutter, SOURCES[source](TEXT)) == wanted
+
+
+# A text without a line feed at its end, with carriage returns, with other ends that are none, and none at all.
+ENDS = [("もも", ["もも"]), ("もも\r\nもも\r\n", ["もも", "もも"]), ("もも\r", ["もも \r"]), ("\n\n", ["", ""]), ("", []), ("も\u2028も", ["も \u2028 も"])]
+
+
+@pytest.mark.parametrize("source", ["str", "bytes", "a file of bytes"])
+@pytest.mark.parametrize("text, joined", ENDS)
+def test_ends_of_lines(cutter, source, text, joined):
+    assert list(cutter.wakati_lines(SOURCES[source](text))) == joined
+    assert [" ".join(word.surface for word in words) for words in cutter.lines(SOURCES[source](text))] == joined
+
+
+@pytest.mark.parametrize("way", WAYS)
+@pytest.mark.parametrize("source", ["str", "a file of bytes", "lines"])
+def test_what_is_before_a_fault_comes_first(cutter, way, source):
+    answers = BEGIN[way](cutter, SOURCES[source]("もも\nもも\n" + "a" * (2**20 + 1) + "\nもも\n"))
+    assert len([next(answers), next(answers)]) == 2
+    with pytest.raises(Fault, match="line 3: G4") as fault:
+        next(answers)
+    assert fault.value.place == 3
+    with pytest.raises(StopIteration):
+        next(answers)
+
+
+@pytest.mark.parametrize("piece", [3, 1_000_000])
+@pytest.mark.parametrize("way", WAYS)
+@pytest.mark.parametrize("bad", BAD)
+def test_what_is_no_utf_8_is_refused_or_replaced(cutter, monkeypatch, way, bad, piece):
+    monkeypatch.setattr(_sources, "PIECE", piece)
+    text, call = b"a\n" + bad + b"\nb\n", BEGIN[way]
+    answers = call(cutter, io.BytesIO(text))
+    next(answers)
+    with pytest.raises(Fault, match="line 2: G3"):
+        next(answers)
+    answers = call(cutter, io.BytesIO(text), errors="replace")
+    mended = text.decode("utf-8", "replace")
+    assert list(answers) == list(call(cutter, mended))
+    assert answers.replaced == mended.count("\ufffd") - text.count("\ufffd".encode())
+
+
+@pytest.mark.parametrize("source", [lambda text: text, io.StringIO, lambda text: [text]])
+@pytest.mark.parametrize("way", WAYS)
+def test_half_of_a_pair_is_refused_or_replaced(cutter, way, source):
+    with pytest.raises(Fault, match="line 1: G3"):
+        next(BEGIN[way](cutter, source("a\udc80b\ud800")))
+    answers = BEGIN[way](cutter, source("a\udc80b\ud800"), errors="replace")
+    assert list(answers) == list(BEGIN[way](cutter, "a\ufffdb\ufffd"))
+    assert answers.replaced == 2
+
+
+@pytest.mark.parametrize("way", WAYS)
+def test_errors_has_two_values(cutter, way):
+    with pytest.raises(ValueError, match="strict or replace, not 'ignore'"):
+        BEGIN[way](cutter, TEXT, errors="ignore")
+
+
+@pytest.mark.parametrize("bad", [None, float("nan"), 3, ["もも"]])
+@pytest.mark.parametrize("way", WAYS)
+def test_what_is_no_line_is_named(cutter, way, bad):
+    """As a missing value in a column of pandas'."""
+    answers = BEGIN[way](cutter, ["もも", bad, "もも"])
+    next(answers)
+    with pytest.raises(TypeError, match=f"line 2: a line is a str or bytes, not {type(bad).__name__}"):
+        next(answers)
+
+
+@pytest.mark.parametrize("way", WAYS)
+def test_two_lines_for_one_are_refused(cutter, way):
+    with pytest.raises(Fault, match="line 2: K1"):
+        list(BEGIN[way](cutter, ["もも", "もも\nもも", "もも"]))
+
+
+def test_lines_come_as_soon_as_they_are_there(cutter):
+    """Each answer is there before the next line is asked for, as for a terminal."""
+    asked = []
+
+    def source():
+        for line in LINES:
+            asked.append(line)
+            yield line
+
+    for number, _ in enumerate(cutter.lines(source()), 1):
+        assert len(asked) == number
+
+
+@pytest.mark.parametrize("way", WAYS)
+def test_nothing_is_held_between_two_lines(system, monkeypatch, way):
+    """So a caller may close the cutter within the loop, which then says so."""
+    monkeypatch.setattr(_sources, "PIECE", 1)
+    cutter = Cutter(system)
+    answers = BEGIN[way](cutter, ["もも"] * 2)
+    next(answers)
+    cutter.close()
+    with pytest.raises(ValueError, match="closed"):
+        for _ in answers:
+            pass
+
+
+def test_a_reader_without_bytes_now(cutter):
+    class Waiting(io.RawIOBase):
+        def read(self, *_):
+            return None
+
+    with pytest.raises(BlockingIOError):
+        next(cutter.wakati_lines(Waiting()))
+
+
+FORMATS = [
+    (None, PRINTED[0]),
+    ("wakati", "すもも もも \n"),
+    (Format("%m/%f[0] ", eos="\\n"), "すもも/名詞 もも/名詞 \n"),
+    (Format("%m", unk="", bos="[", eos="]"), "[すもももも]"),
+    (("%m,", None, "", ""), "すもも,もも,"),
+]
+
+
+@pytest.mark.parametrize("format, printed", FORMATS)
+def test_the_cutters_format(system, format, printed):
+    first = Cutter(system, format=format)
+    for cutter in (first, first.share(), pickle.loads(pickle.dumps(first))):
+        assert cutter.wakati("すもももも\n") == ["すもも", "もも"]
+        assert cutter.parse("すもももも\n") == printed
+        assert list(cutter.parse_lines("すもももも\nすもももも")) == [printed, printed]
+        assert cutter.format("もも", "%m", eos="") == "もも"
+
+
+def test_formats_are_refused_when_the_cutter_is_made(system):
+    with pytest.raises(Fault, match="P2 BadItem eos 1"):
+        Cutter(system, format=Format("%m", eos=".%q"))
+    with pytest.raises(ValueError, match="'chasen' is no format"):
+        Cutter(system, format="chasen")
+
+
+def test_many_lines_are_what_one_line_gives(cutter):
+    """Over more than a megabyte, so that it comes in parts."""
+    lines = [line * (number % 5) for number in range(30_000) for line in LINES]
+    text = "\n".join(lines) + "\n"
+    assert len(text.encode()) > 2_000_000
+    assert list(cutter.wakati_lines(text)) == [" ".join(cutter.wakati(line)) for line in lines]
+    assert "".join(cutter.parse_lines(io.StringIO(text))) == "".join(map(cutter.parse, lines))
