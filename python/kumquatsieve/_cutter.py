@@ -81,7 +81,7 @@ class Cutter:
     def set_grouping(self, grouping: int) -> None:
         """How many characters may follow the first one of a grouped unknown word, at most 1,000. It holds for the calls that begin later."""
         if not 0 <= grouping < 2**32:
-            raise ValueError("grouping")
+            raise ValueError(f"grouping is 0 to 1,000, and not {grouping}")
         self._with_handle(lambda handle: handle.set_grouping(grouping))
         self._handles.grouping = grouping
 
