@@ -6,15 +6,14 @@
     for word in cutter.cut("すもももももももものうち"):
         print(word.surface, word.feature)
 
-`Tagger` is in the manner of mecab-python3.
+docs/PYTHON.md has all of it.
 """
 from ._cutter import Cutter
 from ._fault import Fault
 from ._formats import Format
 from ._images import dictionaries
 from ._lines import Lines
-from ._tagger import Node, Tagger
 from ._words import Word, Words
 
-__all__ = ["Cutter", "Fault", "Format", "Lines", "Node", "Tagger", "Word", "Words", "dictionaries"]
+__all__ = ["Cutter", "Fault", "Format", "Lines", "Word", "Words", "dictionaries"]
 __version__ = "0.1.0"

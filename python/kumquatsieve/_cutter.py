@@ -4,7 +4,7 @@ from typing import Any, Callable, Dict, List, Optional, Sequence, Tuple, Type, T
 
 from ._fields import names_beside
 from ._formats import Format, texts_of
-from ._handle import CUT, DEFAULT, GROUPING, SPACED, Handle, Texts, Told
+from ._handle import DEFAULT, GROUPING, SPACED, Handle, Texts
 from ._handles import Handles
 from ._images import Image, Origin, default, origin_of, path_of
 from ._lines import Answers, Lines, many_at_once, one_by_one
@@ -97,15 +97,12 @@ class Cutter:
         return self._words(line_of(line))
 
     def _words(self, text: bytes) -> Words:
-        return words_of(text, self.told(text, CUT), self._names)
-
-    def told(self, text: bytes, call: Any) -> Told:
-        """What the library tells of the words of a text in UTF-8, cut by one of the calls."""
         handle = self._handles.take()
         try:
-            return handle.told(text, call)
+            told = handle.told(text)
         finally:
             self._handles.give(handle)
+        return words_of(text, told, self._names)
 
     def wakati(self, line: str) -> List[str]:
         """The surfaces of a line's words."""
@@ -118,18 +115,17 @@ class Cutter:
 
     def parse(self, line: str) -> str:
         """The text of a line in the cutter's format."""
-        return self.printed(line_of(line), self._texts, CUT)
+        return self._printed(line_of(line), self._texts)
 
     def format(self, line: str, node: Optional[str] = None, unk: Optional[str] = None, bos: str = "", eos: str = "EOS\\n") -> str:
         """The text of a line in another format than the cutter's, whose parts are those of `Format`. Without `node` a line for each word,
         with its feature."""
-        return self.printed(line_of(line), DEFAULT if node is None else texts_of(Format(node, unk, bos, eos)), CUT)
+        return self._printed(line_of(line), DEFAULT if node is None else texts_of(Format(node, unk, bos, eos)))
 
-    def printed(self, text: bytes, texts: Texts, call: Any) -> str:
-        """A text in UTF-8, cut by one of the calls, in the four texts of a format."""
+    def _printed(self, text: bytes, texts: Texts) -> str:
         handle = self._handles.take()
         try:
-            return handle.printed(text, texts, call)
+            return handle.printed(text, texts)
         finally:
             self._handles.give(handle)
 

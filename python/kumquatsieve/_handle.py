@@ -32,8 +32,7 @@ WORDS: Texts = (b"%m\\n%H\\n%pc\\n", b"%m\\n%H\\n%pc\\n", b"", b"")
 SPACED: Texts = (b"%m ", b"%m ", b"", b"")
 TOTALS: Texts = (b"%pc\\n", b"%pc\\n", b"", b"")
 
-CUT, CUT_TEXT = LIBRARY.cut, LIBRARY.cut_text
-PRINT, FEATURE = LIBRARY.copy_print, LIBRARY.copy_feature
+CUT, PRINT, FEATURE = LIBRARY.cut, LIBRARY.copy_print, LIBRARY.copy_feature
 
 
 class Handle:
@@ -82,9 +81,9 @@ class Handle:
             raise_fault(code)
         self.grouping = grouping
 
-    def told(self, text: bytes, call: Any) -> Told:
-        """What is told of the words of a text, cut by one of the calls."""
-        self._cut(call, text)
+    def told(self, line: bytes) -> Told:
+        """What is told of the words of a line."""
+        self._cut(line)
         total = self._buffers.total()
         records = self._buffers.records_of(self._at)
         lines = self._lines(WORDS)
@@ -92,21 +91,21 @@ class Handle:
         if len(lines) == 3 * count + 1:
             return Told(total, records, lines[:-1:3], lines[1::3], lines[2::3])
         # A line feed stands in a surface or in a feature.
-        surfaces = [text[start:end].decode() for _, start, end, *_ in FIELDS.iter_unpack(records)]
+        surfaces = [line[start:end].decode() for _, start, end, *_ in FIELDS.iter_unpack(records)]
         features = [self._buffers.text_of(FEATURE, self._at, number) for number in range(count)]
         return Told(total, records, surfaces, features, self._lines(TOTALS)[:-1])
 
-    def surfaces(self, text: bytes) -> List[str]:
+    def surfaces(self, line: bytes) -> List[str]:
         """The surfaces of a line's words."""
-        self._cut(CUT, text)
+        self._cut(line)
         lines = self._lines(SURFACES)
         lines.pop()
         return lines
 
-    def printed(self, text: bytes, texts: Texts, call: Any) -> str:
-        """A text, cut by one of the calls, in the four texts of a format."""
+    def printed(self, line: bytes, texts: Texts) -> str:
+        """The text of a line in the four texts of a format."""
         self.set_format(texts)
-        self._cut(call, text)
+        self._cut(line)
         return self._buffers.text_of(PRINT, self._at)
 
     def printed_lines(self, lines: List[bytes], texts: Texts) -> Tuple[List[str], Optional[Exception]]:
@@ -115,15 +114,15 @@ class Handle:
         answers: List[str] = []
         try:
             for line in lines:
-                self._cut(CUT, line)
+                self._cut(line)
                 answers.append(self._buffers.text_of(PRINT, self._at))
         except (Fault, MemoryError) as fault:
             return answers, fault
         return answers, None
 
-    def _cut(self, call: Any, text: bytes) -> None:
+    def _cut(self, line: bytes) -> None:
         buffers = self._buffers
-        code = call(self._at, text, len(text), buffers.count_at, buffers.total_at)
+        code = CUT(self._at, line, len(line), buffers.count_at, buffers.total_at)
         if code != OK:
             raise_fault(code)
 

@@ -14,7 +14,7 @@ SHORT_BUFFER = 0x4B07
 PARTS = ("node", "unk", "bos", "eos")
 
 # The calls that may take long, during which other threads run. During the others none does, so no fork of another thread's falls into one.
-LONG = ("load", "add_user", "cut", "cut_text", "copy_print")
+LONG = ("load", "add_user", "cut", "copy_print")
 
 
 class Slot(ctypes.Structure):
@@ -59,7 +59,6 @@ def arguments() -> Dict[str, List[Any]]:
         "set_format": [address, *text * 4, address, address],
         "set_grouping": [address, ctypes.c_uint32],
         "cut": [address, *text, address, address],
-        "cut_text": [address, *text, address, address],
         "words": [address, size, address, size, address],
         "copy_feature": [address, size, address, size, address],
         "copy_print": [address, address, size, address],

@@ -1,4 +1,4 @@
-"""Cuts each line of standard input by one way of a module, and prints nothing: lines.py WAY DICTIONARY. The lines are read before."""
+"""Cuts the lines of standard input by one way of a module, and prints nothing: lines.py WAY DICTIONARY. The lines are read before."""
 import sys
 
 
@@ -14,7 +14,7 @@ def ours():
     return kumquatsieve
 
 
-def all_nodes(tagger):
+def over_nodes(tagger):
     """A function that walks over the nodes of a line, and looks at each one's surface and feature."""
 
     def walk(line):
@@ -26,24 +26,53 @@ def all_nodes(tagger):
     return walk
 
 
+def over_words(cutter):
+    """The same of the words of a line."""
+
+    def walk(line):
+        for word in cutter.cut(line):
+            word.surface, word.feature
+
+    return walk
+
+
+def each(call):
+    """A function that calls another one with each line of a text."""
+
+    def run(text):
+        for line in text.split("\n")[:-1]:
+            call(line)
+
+    return run
+
+
+def all_of(call):
+    """A function that calls another one with a text, and takes what it gives for each line."""
+
+    def run(text):
+        for _ in call(text):
+            pass
+
+    return run
+
+
 WAYS = {
-    "parse": lambda dictionary: ours().Tagger(f"-d {dictionary}").parse,
-    "parse, wakati": lambda dictionary: ours().Tagger(f"-d {dictionary} -O wakati").parse,
-    "wakati": lambda dictionary: ours().Cutter(dictionary).wakati,
-    "cut": lambda dictionary: ours().Cutter(dictionary).cut,
-    "parseToNode": lambda dictionary: all_nodes(ours().Tagger(f"-d {dictionary}")),
-    "MeCab: parse": lambda dictionary: mecabs(f"-r /dev/null -d {dictionary}").parse,
-    "MeCab: parse, wakati": lambda dictionary: mecabs(f"-r /dev/null -d {dictionary} -O wakati").parse,
-    "MeCab: wakati": lambda dictionary: lambda line, parse=mecabs(f"-r /dev/null -d {dictionary} -O wakati").parse: parse(line).split(),
-    "MeCab: parseToNode": lambda dictionary: all_nodes(mecabs(f"-r /dev/null -d {dictionary}")),
+    "parse": lambda dictionary: each(ours().Cutter(dictionary).parse),
+    "parse, wakati": lambda dictionary: each(ours().Cutter(dictionary, format="wakati").parse),
+    "parse_lines": lambda dictionary: all_of(ours().Cutter(dictionary).parse_lines),
+    "wakati": lambda dictionary: each(ours().Cutter(dictionary).wakati),
+    "wakati_lines": lambda dictionary: all_of(ours().Cutter(dictionary).wakati_lines),
+    "cut": lambda dictionary: each(over_words(ours().Cutter(dictionary))),
+    "MeCab: parse": lambda dictionary: each(mecabs(f"-r /dev/null -d {dictionary}").parse),
+    "MeCab: parse, wakati": lambda dictionary: each(mecabs(f"-r /dev/null -d {dictionary} -O wakati").parse),
+    "MeCab: wakati": lambda dictionary: each(lambda line, parse=mecabs(f"-r /dev/null -d {dictionary} -O wakati").parse: parse(line).split()),
+    "MeCab: parseToNode": lambda dictionary: each(over_nodes(mecabs(f"-r /dev/null -d {dictionary}"))),
 }
 
 
 def main():
     way, dictionary = sys.argv[1:]
-    call = WAYS[way](dictionary)
-    for line in sys.stdin.buffer.read().decode().split("\n")[:-1]:
-        call(line)
+    WAYS[way](dictionary)(sys.stdin.buffer.read().decode())
 
 
 main()

@@ -3,13 +3,12 @@ line feed for its comma."""
 import sys
 import threading
 
-from kumquatsieve import Cutter, Fault, Tagger
+from kumquatsieve import Cutter, Fault, Format
 from run_rows.images import OTHER_SIZES, REFUSED
 
 SYSTEM, USER, ODD = sys.argv[1:]
 LINE = "すもももも"
 PRINTED = "すもも\t名詞,すもも\nもも\t名詞,もも\nEOS\n"
-WAKATI = "すもも もも \n"
 # A line's words, each with its first and last character and bytes.
 LINES = [
     ("", []),
@@ -29,18 +28,11 @@ FAULTS = [
     ("K1", None, None, lambda: Cutter(SYSTEM).cut("a\nb")),
     ("K1", None, None, lambda: Cutter(SYSTEM).wakati("\na")),
     ("G3", None, None, lambda: Cutter(SYSTEM).cut("a\ud800")),
-    ("G4", None, None, lambda: Tagger(SYSTEM).parse("a" * (2**20 + 1))),
+    ("G4", None, None, lambda: Cutter(SYSTEM).parse("a" * (2**20 + 1))),
     ("P1", 0, "node", lambda: Cutter(SYSTEM).format(LINE, "\\q")),
     ("P3", 1, "node", lambda: Cutter(SYSTEM).format(LINE, "a%f[x]")),
     ("P2", 2, "node", lambda: Cutter(SYSTEM).format(LINE, "%m%q")),
-    ("P2", 0, "eos", lambda: Tagger(f"-d {SYSTEM} -E %q").parse(LINE)),
-]
-OPTIONS = [("-Z", "no option"), (f"-d {SYSTEM} -O chasen", "no output format"), ("-d", "missing")]
-TAGGERS = [
-    (f"-d {SYSTEM}", PRINTED),
-    (f"--dicdir={SYSTEM} -Owakati", WAKATI),
-    (f"-d {SYSTEM} -F '%m ' -E \\\\n", WAKATI),
-    (f"-d {SYSTEM} -u {USER} -O wakati", "すもももも \n"),
+    ("P2", 0, "eos", lambda: Cutter(SYSTEM, format=Format("%m", eos="%q"))),
 ]
 
 
@@ -83,29 +75,6 @@ def check_faults():
             same(f"fault {code}", (code, number, part), (fault.code, fault.number, fault.part))
         else:
             sys.exit(f"{code}: no fault")
-    for options, text in OPTIONS:
-        try:
-            Tagger(options)
-        except ValueError as error:
-            same(f"options {options!r}", True, text in str(error))
-        else:
-            sys.exit(f"options {options!r}: not refused")
-
-
-def check_taggers():
-    for options, text in TAGGERS:
-        same(f"parse with {options}", text, Tagger(options).parse(LINE))
-    same("parse lines", "すもも もも \n", Tagger(f"-d {SYSTEM} -O wakati").parse(" すもも  もも  "))
-    node, found = Tagger(SYSTEM).parseToNode(" すもももも"), []
-    while node:
-        found.append((node.surface, node.feature, node.stat, node.length, node.rlength))
-        node = node.next
-    words = [("すもも", "名詞,すもも", 0, 9, 10), ("もも", "名詞,もも", 0, 6, 6)]
-    same("nodes", [("", "BOS/EOS", 2, 0, 0), *words, ("", "BOS/EOS", 3, 0, 0)], found)
-    second = Tagger(SYSTEM).parseToNode(LINE).next.next
-    same("a node before", ("すもも", None), (second.prev.surface, second.prev.prev.prev))
-    same("its numbers", (1, 1), (second.lcAttr, second.rcAttr))
-    same("a node is the same again", (True, False), (second.prev.next == second, second.next == second))
 
 
 def check_threads():
@@ -136,6 +105,5 @@ def check_threads():
 
 check_words()
 check_faults()
-check_taggers()
 check_threads()
 print("Python: each call answers as docs/LIBRARY.md says")
