@@ -1,0 +1,35 @@
+"""The module itself: its version, what it exports, and where it finds the library."""
+import importlib.metadata
+import re
+import subprocess
+import sys
+from pathlib import Path
+
+import pytest
+
+import kumquatsieve
+
+TOP = Path(__file__).resolve().parent.parent.parent
+
+
+def test_the_version_is_that_of_the_programs():
+    about = (TOP / "crates" / "programs" / "src" / "about.rt").read_text()
+    assert re.search(r'VERSION: &str = "([0-9.]*)', about)[1] == kumquatsieve.__version__
+
+
+def test_what_is_installed_has_the_same_version():
+    """Where the module stands in its folder of the project there is nothing to compare."""
+    if Path(kumquatsieve.__file__).resolve().is_relative_to(TOP / "python"):
+        pytest.skip("the module is not installed")
+    assert importlib.metadata.version("kumquatsieve") == kumquatsieve.__version__
+
+
+def test_each_name_that_is_exported_is_there_and_says_what_it_is():
+    for name in kumquatsieve.__all__:
+        assert getattr(kumquatsieve, name).__doc__
+
+
+def test_a_library_that_is_not_there_is_named():
+    code = "import os; os.environ['KUMQUATSIEVE_LIBRARY'] = 'none.so'; import kumquatsieve"
+    done = subprocess.run([sys.executable, "-c", code], capture_output=True, text=True)
+    assert done.returncode == 1 and "ImportError: none.so" in done.stderr and "KUMQUATSIEVE_LIBRARY" in done.stderr
