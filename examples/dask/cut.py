@@ -1,0 +1,99 @@
+"""Cuts a file of many lines on the workers of dask.distributed, and writes what `jseg` would:
+
+    python3 cut.py [--scheduler ADDRESS | --workers N] [--format wakati] [--part BYTES] TEXT WORDS [DICTIONARY]
+
+Each worker reads its parts of TEXT by itself, so the path leads to the file on each of their machines, and the dictionary is installed there. A
+line that can't be cut ends the run with its number in the file, after the lines before it were written.
+"""
+import argparse
+import sys
+from collections import deque
+from typing import Deque, Iterator, List, Optional, TextIO, Tuple
+
+from distributed import Client, Future
+from kumquatsieve import Cutter, Fault
+
+
+# Some lines of a file: its path, their first byte and the one behind their last.
+Part = Tuple[str, int, int]
+
+
+def read(part: Part) -> bytes:
+    path, start, end = part
+    with open(path, "rb") as file:
+        file.seek(start)
+        return file.read(end - start)
+
+
+def parts_of(path: str, size: int) -> Iterator[Part]:
+    """A file in parts that end at line ends."""
+    with open(path, "rb") as file:
+        start, whole = 0, file.seek(0, 2)
+        while start < whole:
+            file.seek(start + size - 1)
+            file.readline()
+            end = min(file.tell(), whole)
+            yield path, start, end
+            start = end
+
+
+def cut(cutter: Cutter, part: Part) -> Tuple[str, Optional[Fault]]:
+    """What a part's lines give up to a fault, and the fault. The cutter comes pickled, and its worker loads the dictionary once."""
+    printed: List[str] = []
+    try:
+        for text in cutter.parse_lines(read(part)):
+            printed.append(text)
+    except Fault as fault:
+        return "".join(printed), fault
+    return "".join(printed), None
+
+
+def line_of(part: Part, fault: Fault) -> int:
+    """The number in the file of the line that is at fault."""
+    path, start, _ = part
+    lines = 0
+    with open(path, "rb") as file:
+        while file.tell() < start:
+            lines += file.read(min(start - file.tell(), 1_000_000)).count(b"\n")
+    return lines + (fault.place or 0)
+
+
+def cut_all(client: Client, cutter: Cutter, parts: Iterator[Part], words: str) -> None:
+    """Writes what all parts give, in order. No more of them are under way than keep the workers busy."""
+    most = 2 * sum(client.nthreads().values())
+    waiting: Deque[Tuple[Part, Future]] = deque()
+    with open(words, "w", encoding="utf-8", newline="\n") as out:
+        for part in parts:
+            if len(waiting) >= most:
+                write_first(waiting, out)
+            waiting.append((part, client.submit(cut, cutter, part, pure=False)))
+        while waiting:
+            write_first(waiting, out)
+
+
+def write_first(waiting: Deque[Tuple[Part, Future]], out: TextIO) -> None:
+    part, future = waiting.popleft()
+    printed, fault = future.result()
+    out.write(printed)
+    if fault is not None:
+        sys.exit(f"{part[0]}: line {line_of(part, fault)}: {fault.code} {fault.name}")
+
+
+def main() -> None:
+    options = argparse.ArgumentParser(description=__doc__, formatter_class=argparse.RawDescriptionHelpFormatter)
+    options.add_argument("--scheduler", help="of a cluster that runs; without it one of this machine is made")
+    options.add_argument("--workers", type=int, default=4, help="of the cluster that is made")
+    options.add_argument("--format", choices=["wakati"])
+    options.add_argument("--part", type=int, default=10_000_000, help="how many bytes a worker gets at once")
+    options.add_argument("text")
+    options.add_argument("words")
+    options.add_argument("dictionary", nargs="?")
+    given = options.parse_args()
+    made = {"address": given.scheduler} if given.scheduler else {"n_workers": given.workers, "threads_per_worker": 1, "dashboard_address": None}
+    cutter = Cutter(given.dictionary, format=given.format)
+    with Client(**made) as client:
+        cut_all(client, cutter, parts_of(given.text, given.part), given.words)
+
+
+if __name__ == "__main__":
+    main()
