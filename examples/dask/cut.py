@@ -2,8 +2,9 @@
 
     python3 cut.py [--scheduler ADDRESS | --workers N] [--format wakati] [--part BYTES] TEXT WORDS [DICTIONARY]
 
-Each worker reads its parts of TEXT by itself, so the path leads to the file on each of their machines, and the dictionary is installed there. A
-line that can't be cut ends the run with its number in the file, after the lines before it were written.
+Each worker reads its parts of TEXT by itself, so the path leads to the file on each of their machines, and the dictionary
+is installed there. A line that can't be cut ends the run with its number in the file, after the lines before it were
+written.
 """
 import argparse
 import sys
@@ -89,9 +90,9 @@ def main() -> None:
     options.add_argument("words")
     options.add_argument("dictionary", nargs="?")
     given = options.parse_args()
-    made = {"address": given.scheduler} if given.scheduler else {"n_workers": given.workers, "threads_per_worker": 1, "dashboard_address": None}
+    here = {"n_workers": given.workers, "threads_per_worker": 1, "dashboard_address": None}
     cutter = Cutter(given.dictionary, format=given.format)
-    with Client(**made) as client:
+    with Client(**({"address": given.scheduler} if given.scheduler else here)) as client:
         cut_all(client, cutter, parts_of(given.text, given.part), given.words)
 
 

@@ -19,8 +19,8 @@ T = TypeVar("T")
 class Cutter:
     """Cuts lines by the image of a system dictionary, with users' laid over it.
 
-    An image is a path, or the bare name of an installed one, as `jseg -d` has it, or bytes, or anything else with the buffer protocol. Without
-    one it is that which KUMQUATSIEVE_DICTIONARY names, or else the only one that is installed.
+    An image is a path, or the bare name of an installed one, as `jseg -d` has it, or bytes, or anything else with the buffer protocol.
+    Without one it is that which KUMQUATSIEVE_DICTIONARY names, or else the only one that is installed.
 
     Several threads may call one cutter at once, and a process may fork while they do. `share` and `copy.copy` make another cutter over the
     same dictionaries. `close`, or the end of a `with`, gives back what the cutter holds.
@@ -79,7 +79,8 @@ class Cutter:
         self._handles.close()
 
     def set_grouping(self, grouping: int) -> None:
-        """How many characters may follow the first one of a grouped unknown word, at most 1,000. It holds for the calls that begin later."""
+        """How many characters may follow the first one of a grouped unknown word, at most 1,000. It holds for the calls that begin
+        later."""
         if not 0 <= grouping < 2**32:
             raise ValueError(f"grouping is 0 to 1,000, and not {grouping}")
         self._with_handle(lambda handle: handle.set_grouping(grouping))
@@ -142,7 +143,8 @@ class Cutter:
         return Lines(errors, many_at_once(source, self._joined))
 
     def parse_lines(self, source: Source, errors: str = "strict") -> Lines[str]:
-        """The text of each line in the cutter's format, as `wakati_lines` has it: joined, what `jseg` prints for the source."""
+        """The text of each line in the cutter's format, as `wakati_lines` has it. Joined it is what `jseg` prints for the source, but for
+        carriage returns at line ends, which `jseg` takes for characters."""
         return Lines(errors, many_at_once(source, self._printed_lines))
 
     def _printed_lines(self, lines: List[bytes], texts: Optional[Texts] = None) -> Answers[str]:

@@ -6,8 +6,8 @@ from ._texts import encoded
 
 
 class Format(NamedTuple):
-    """An output format in MeCab's items and escapes: `node` for a known word, `unk` for an unknown one (as `node` where it isn't given), `bos`
-    before the first and `eos` after the last."""
+    """An output format in MeCab's items and escapes: `node` for a known word, `unk` for an unknown one (as `node` where it isn't given),
+    `bos` before the first and `eos` after the last."""
 
     node: str
     unk: Optional[str] = None

@@ -11,7 +11,8 @@ Texts = Tuple[bytes, bytes, bytes, bytes]
 
 
 class Told(NamedTuple):
-    """What the library tells of a line: the cost of its path, and for each word the record, the surface, the feature and the path's cost."""
+    """What the library tells of a line: the cost of its path, and for each word the record, the surface, the feature and the path's
+    cost."""
 
     total: int
     records: bytes

@@ -59,8 +59,8 @@ class Handles:
         return self._first.share()
 
     def close(self) -> None:
-        """Gives back what all of them hold, after the calls of other threads have ended. A call of this thread's own, out of which a handler
-        of signals may have come here, gives back its own handle."""
+        """Gives back what all of them hold, after the calls of other threads have ended. A call of this thread's own, out of which a
+        handler of signals may have come here, gives back its own handle."""
         with self._lock:
             self._closed = True
             self._first.close()

@@ -103,7 +103,8 @@ def name_of(image: Union[str, "os.PathLike[str]"]) -> str:
 
 
 def hand(image: Image, take: Callable[[Any, int], None]) -> None:
-    """Hands an image's bytes and their length to a call of the library. Those of a file are mapped, and not read into memory of Python's."""
+    """Hands an image's bytes and their length to a call of the library. Those of a file are mapped, and not read into memory of
+    Python's."""
     if isinstance(image, (str, os.PathLike)):
         with open(path_of(image), "rb") as file:
             take(*lent(bytes_of(file)))

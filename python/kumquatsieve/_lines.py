@@ -12,7 +12,8 @@ Answers = Tuple[List[T], Optional[Exception]]
 
 
 class Lines(Generic[T]):
-    """What a cutter answers to each line of a source, an iterator. `replaced` is how many U+FFFD were put in so far for what is no UTF-8."""
+    """What a cutter answers to each line of a source, an iterator. `replaced` is how many U+FFFD were put in so far for what is no
+    UTF-8."""
 
     def __init__(self, errors: str, begin: Callable[[Encoder], Iterator[T]]) -> None:
         self._encoder = Encoder(errors)

@@ -33,8 +33,8 @@ def load(image: Image, users: Sequence[Image]) -> Handle:
 class Loaded:
     """The dictionaries of this process, by the files that they were loaded from.
 
-    Those of cutters are known as long as the cutters are there. Those that a cutter from another process asked for are kept till this process
-    ends, so that they are loaded once, however many tasks bring the cutter.
+    Those of cutters are known as long as the cutters are there. Those that a cutter from another process asked for are kept till this
+    process ends, so that they are loaded once, however many tasks bring the cutter.
     """
 
     def __init__(self) -> None:

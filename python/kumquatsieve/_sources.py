@@ -9,7 +9,8 @@ Source = Union[Text, IO[str], IO[bytes], Iterable[Union[str, bytes]]]
 
 TEXTS = (str, bytes, bytearray, memoryview, mmap.mmap)
 
-# How much is read at once, in characters or bytes, and from how many bytes on a line is too long for the library, its carriage return with it.
+# How much is read at once, in characters or bytes, and from how many bytes on a line is too long for the library, its carriage return
+# with it.
 PIECE = 1_000_000
 TOO_LONG = 2**20 + 2
 

@@ -43,8 +43,8 @@ def of_record(number: int, what: str) -> Any:
 
 
 class Word:
-    """A word of a line. What isn't its surface or its feature is looked up where it is asked for; a field of the feature that the dictionary
-    names is an attribute too, None where the feature of this word is shorter."""
+    """A word of a line. What isn't its surface or its feature is looked up where it is asked for; a field of the feature that the
+    dictionary names is an attribute too, None where the feature of this word is shorter."""
 
     __slots__ = ("surface", "feature", "_line", "_number", "_features")
 

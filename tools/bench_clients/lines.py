@@ -36,6 +36,11 @@ def over_words(cutter):
     return walk
 
 
+def split(tagger):
+    """The surfaces of a line, of a tagger's text of them."""
+    return lambda line: tagger.parse(line).split()
+
+
 def each(call):
     """A function that calls another one with each line of a text."""
 
@@ -65,7 +70,7 @@ WAYS = {
     "cut": lambda dictionary: each(over_words(ours().Cutter(dictionary))),
     "MeCab: parse": lambda dictionary: each(mecabs(f"-r /dev/null -d {dictionary}").parse),
     "MeCab: parse, wakati": lambda dictionary: each(mecabs(f"-r /dev/null -d {dictionary} -O wakati").parse),
-    "MeCab: wakati": lambda dictionary: each(lambda line, parse=mecabs(f"-r /dev/null -d {dictionary} -O wakati").parse: parse(line).split()),
+    "MeCab: wakati": lambda dictionary: each(split(mecabs(f"-r /dev/null -d {dictionary} -O wakati"))),
     "MeCab: parseToNode": lambda dictionary: each(over_nodes(mecabs(f"-r /dev/null -d {dictionary}"))),
 }
 
