@@ -94,6 +94,24 @@ def test_closing_under_load_ends_each_thread(system):
     assert found == ["the cutter is closed"] * 4
 
 
+def resident():
+    """The bytes of memory that this process has."""
+    with open("/proc/self/statm") as file:
+        return int(file.read().split()[1]) * os.sysconf("SC_PAGESIZE")
+
+
+def test_closing_during_cuts_gives_all_memory_back(system):
+    """A cut of this line takes some 60 MB."""
+    sizes = []
+    for _ in range(8):
+        cutter = Cutter(system)
+        thread = begun(lambda: cutter.wakati(LONG))
+        cutter.close()
+        thread.join(WAIT)
+        sizes.append(resident())
+    assert sizes[-1] - sizes[1] < 60_000_000
+
+
 def test_a_handler_of_signals_may_close_and_cut(system):
     cutter, found = Cutter(system), []
 
