@@ -1,9 +1,11 @@
 """dictc compiles the folder of sources in UTF-8. What it says is told with the paths of the sources."""
 import os
 import re
+import selectors
 import shutil
 
 from .faults import FILE, MEMORY, Fault, shown
+from .telling import SECONDS
 
 # A line of `dictc -v` that says how far it is.
 STEP = re.compile(r"dictc: \d+\.\d+ s: (.*)")
@@ -19,22 +21,59 @@ def dictc_beside(own):
     return os.path.abspath(found)
 
 
+def lines_of(pipe, wait):
+    """The lines of a pipe, and meanwhile a call for each while without one."""
+    with selectors.DefaultSelector() as selector:
+        selector.register(pipe, selectors.EVENT_READ)
+        rest = b""
+        while True:
+            if not selector.select(SECONDS):
+                wait()
+                continue
+            data = os.read(pipe.fileno(), 1 << 16)
+            *lines, rest = (rest + data).split(b"\n")
+            yield from lines
+            if not data:
+                break
+    if rest:
+        yield rest
+
+
+def places_of(process, paths):
+    """How far a process is in the files that it has open, where the system tells that."""
+    folder = f"/proc/{process}"
+    try:
+        for number in os.listdir(f"{folder}/fd"):
+            path = os.readlink(os.fsencode(f"{folder}/fd/{number}"))
+            if path in paths:
+                with open(f"{folder}/fdinfo/{number}", encoding="ascii") as file:
+                    yield path, int(file.readline().split()[1])
+    except (OSError, ValueError, IndexError):
+        return
+
+
 class Compilation:
     """A run of dictc in a folder that has the sources by names of its own."""
 
     def __init__(self, names, teller):
         self.names = {name.decode(): shown(path) for name, path in names.items()}
+        self.sizes = {os.path.realpath(path): os.path.getsize(path) for path in names.values() if os.path.isfile(path)}
         self.pattern = re.compile("(?<![^ ])(" + "|".join(map(re.escape, self.names)) + ")(?=:)")
         self.teller = teller
 
     def with_paths(self, text):
         return self.pattern.sub(lambda found: self.names[found[1]], text)
 
-    def watch(self, lines):
+    def say_place(self, process):
+        """Says how far dictc is in what it reads, as in a matrix.def of gigabytes."""
+        for path, at in places_of(process, self.sizes) if self.teller.tells_steps else ():
+            self.teller.say_progress(f"dictc reads {shown(path)}", at, self.sizes[path])
+
+    def watch(self, child):
         """Tells the steps, and gives the other lines, which say a fault and why."""
         others = []
-        for line in lines:
-            text = line.decode("utf-8", "backslashreplace").rstrip("\n")
+        for line in lines_of(child.stderr, lambda: self.say_place(child.pid)):
+            text = line.decode("utf-8", "backslashreplace")
             step = STEP.fullmatch(text)
             if step:
                 self.teller.say_step(self.with_paths(step[1]))
@@ -49,7 +88,7 @@ class Compilation:
             child = workshop.start(words, folder)
         except OSError as error:
             raise Fault(FILE, f"{shown(words[0])}: {os.strerror(error.errno)}") from error
-        others = self.watch(child.stderr)
+        others = self.watch(child)
         counted = child.stdout.read().decode().rstrip("\n")
         status = child.wait()
         if status < 0:

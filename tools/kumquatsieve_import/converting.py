@@ -56,12 +56,18 @@ def converted(source, encoding):
         yield chunk, numbered(text, number, lines) if source.is_lexicon() else text, sorted(lines)
 
 
-def is_as_wanted(source, encoding):
+def is_as_wanted(source, encoding, teller):
     """Whether a source can be read where it stands. Of matrix.def only the beginning tells that."""
     if source.name == b"matrix.def":
         with naming(source.path), open(source.path, "rb") as file:
             return file.read(len(MARK)) != MARK
-    return all(chunk == text for chunk, text, _ in converted(source, encoding))
+    done = 0
+    for chunk, text, _ in converted(source, encoding):
+        if chunk != text:
+            return False
+        done += len(chunk)
+        teller.say_progress(f"looking at {shown(source.path)}", done, source.size)
+    return True
 
 
 def write_converted(source, encoding, target, teller):
@@ -80,7 +86,7 @@ def write_converted(source, encoding, target, teller):
 
 def make_utf_8(source, encoding, target, teller):
     """Makes the file, or a link to the source where that is UTF-8 already."""
-    if is_as_wanted(source, encoding):
+    if is_as_wanted(source, encoding, teller):
         with naming(target):
             os.symlink(os.path.abspath(source.path), target)
     else:

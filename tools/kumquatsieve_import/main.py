@@ -94,7 +94,8 @@ def imported(words, own, workshop, teller):
     """The status of an import."""
     try:
         choices = read_words(words)
-        teller.tells_steps = teller.tells_steps or choices.is_verbose
+        if choices.is_verbose:
+            teller.ask()
         if choices.wants_help:
             teller.report(USAGE)
             return 0
@@ -131,7 +132,7 @@ def run(words, own):
     signals.listen()
     try:
         try:
-            status = imported(words, own, workshop, Teller(False))
+            status = imported(words, own, workshop, Teller())
         finally:
             workshop.clean()
     except Ended as ended:

@@ -18,14 +18,18 @@ def write_all(descriptor, line):
 class Teller:
     """Prints the report, and with `-v` or on a terminal each step with what it has read and has to read."""
 
-    def __init__(self, is_asked):
+    def __init__(self):
         self.began = time.monotonic()
-        self.tells_steps = is_asked or is_terminal(2)
+        self.is_asked = False
+        self.tells_steps = is_terminal(2)
         self.left_out_lines = 0
         self.last = 0.0
 
     def seconds(self):
         return time.monotonic() - self.began
+
+    def ask(self):
+        self.is_asked = self.tells_steps = True
 
     def report(self, line):
         """A line on standard output."""
@@ -50,8 +54,9 @@ class Teller:
             self.say(f"{self.seconds():.2f} s: {text}")
 
     def say_progress(self, step, done, whole):
-        """As often as SECONDS says, and at a step's end."""
-        if self.tells_steps and (done >= whole or self.seconds() - self.last >= SECONDS):
+        """As often as SECONDS says, and with `-v` at a step's end."""
+        is_due = self.seconds() - self.last >= SECONDS or (self.is_asked and done >= whole)
+        if self.tells_steps and is_due:
             self.last = self.seconds()
             self.say_step(f"{step}: {done} of {whole} bytes")
 
