@@ -40,6 +40,7 @@ def all_fail(at):
 
 
 WORDS = FILES["lexicon.csv"].decode()
+N = "ん,1,1,5,X\n"
 ALPHA = b"\xce\xb1,1,1,5,X\n"
 KANA = b"\xb1,1,1,5,X\n"
 MIDDLE = b"\xe4\xb8\xad\xe4\xb8\xad,1,1,5,X\n"
@@ -89,6 +90,8 @@ ROWS = [
         {}, ("char.def:1: it is not UTF-8",)),
     Row("a file in another code", {**in_code("euc_jp"), "user.csv": "ん,1,1,5,X\n".encode()},
         err=f"dic/user.csv: 1 of 1 lines with more than ASCII are not EUC-JP: {MIXED}"),
+    Row("a large file in another code", in_code("euc_jp", A_csv=N.encode() * 200, z_csv=N.encode("euc_jp") * 1000), err=choice(
+        "UTF-8 fails first at dic/unk.def:1", *(f"{name} fails first at dic/A.csv:1" for name in ("EUC-JP", "EUC-JIS-2004", "CP932")))),
     Row("the wrong code named", FILES, err=f"dic/unk.def: 6 of 6 lines with more than ASCII are not EUC-JP: {MIXED}",
         options=("--encoding", "euc")),
     Row("UTF-16", {name: data if name == "matrix.def" else data.decode().encode("utf-16") for name, data in FILES.items()},

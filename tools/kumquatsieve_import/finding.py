@@ -95,7 +95,8 @@ class Finding:
         seen = sum(self.lines.values())
         for standing in self.standings:
             standing.look(source, number, chunk, telling)
-            standing.is_out = standing.is_out or (standing.count() > ENOUGH and standing.count() * 2 > seen)
+            if len(self.standings) > 1 and standing.count() > ENOUGH and standing.count() * 2 > seen:
+                standing.is_out = True
 
     def decided(self, told):
         """The standing of the encoding that is taken; None where that can't be decided."""
@@ -112,7 +113,7 @@ class Finding:
     def nearest(self, told):
         """The standing of the encoding in which by far most lines are, where there is one."""
         seen = sum(self.lines.values())
-        few = [one for one in self.standings if one.is_likely() and one.count() * 2 < seen]
+        few = [one for one in self.standings if one.is_likely() and not one.is_out and one.count() * 2 < seen]
         named = [one for one in few if one.encoding is told]
         if named:
             return named[0]
