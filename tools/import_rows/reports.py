@@ -62,6 +62,8 @@ SETTINGS = {"dicrc": b"bos-feature = X\n", "pos-id.def": "名詞 1\n".encode()}
 MISNUMBERED = b"a,,,,X\n\n\xff\na,1,1,5,X\nb,1,1,x,X\n" + "ん,1,1,5,X\n".encode() * 4
 MISNUMBERED_LEFT_OUT = f"left out: dic/user.csv:1: {EMPTY}\nleft out: dic/user.csv:3: it is not UTF-8\n"
 NO_CONVERTER = "this Python has no converter of euc_jp: it lacks a part of its library (Debian: apt install python3)"
+LONG = "x" * 251 + ".img"
+TOO_LONG = "whose name beside the image would be too long"
 ONLY_FOLDER = "so it is no folder of sources"
 ROWS = [
     Row("UTF-8", FILES, imported()),
@@ -82,6 +84,8 @@ ROWS = [
     Row("a fault's line", {**FILES, "user.csv": MISNUMBERED}, BEGUN + MISNUMBERED_LEFT_OUT, "dic/user.csv:5: S3 BadCost", 1),
     Row("an image of any bytes", FILES, imported(image=r"\xff.img"), words=("dic", b"\xff.img")),
     Row("a device", FILES, imported(image="/dev/null"), words=("dic", "/dev/null")),
+    Row("a long name", {**FILES, "dicrc": b"\n"}, imported(image=LONG).replace("3 entries", f"not kept: dicrc, {TOO_LONG}\n3 entries"),
+        words=("dic", LONG)),
     Row("old settings", {**FILES, "dicrc": b"\n"}, imported(kept="old.dicrc", removed="old.pos-id.def", image="old.img"),
         words=("dic", "old.img")),
     Row("no folder", *refused({}, "none is no folder", 3, "none", "new.img")),

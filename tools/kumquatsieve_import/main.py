@@ -65,9 +65,11 @@ class Import:
         """The new files of settings, and None for one that the folder has not."""
         found = {name: None for name in SETTINGS}
         for source in [] if self.place.is_device() else self.folder.settings:
-            if self.place.beside(source.name):
-                found[source.name] = os.path.join(beside, source.name)
-                write_converted(source, encoding, found[source.name], self.teller)
+            if self.place.beside(source.name) is None:
+                self.teller.report(f"not kept: {shown(source.name)}, whose name beside the image would be too long")
+                continue
+            found[source.name] = os.path.join(beside, source.name)
+            write_converted(source, encoding, found[source.name], self.teller)
         return found
 
     def compile(self, names, work, beside):
