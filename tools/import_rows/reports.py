@@ -81,7 +81,7 @@ ROWS = [
     Row("a name of any bytes", {**FILES, b"\xff\n.csv": "ん,1,1,5,X\n".encode()}, imported(entries=4)),
     Row("other names of any bytes", {**FILES, b"\xff\x1b": b""}, imported(others=r"\xff\u{1b}")),
     Row("no line feed", {**FILES, "user.csv": "ん,1,1,5,X".encode()}, imported(entries=4)),
-    Row("a fault's line", {**FILES, "user.csv": MISNUMBERED}, BEGUN + MISNUMBERED_LEFT_OUT, "dic/user.csv:5: S3 BadCost", 1),
+    Row("a fault's line", {**FILES, "user.csv": MISNUMBERED}, BEGUN + MISNUMBERED_LEFT_OUT, "dic/user.csv:5: S3 BadNumber", 1),
     Row("an image of any bytes", FILES, imported(image=r"\xff.img"), words=("dic", b"\xff.img")),
     Row("a device", FILES, imported(image="/dev/null"), words=("dic", "/dev/null")),
     Row("a long name", {**FILES, "dicrc": b"\n"}, imported(image=LONG).replace("3 entries", f"not kept: dicrc, {TOO_LONG}\n3 entries"),
