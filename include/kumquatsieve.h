@@ -2,27 +2,40 @@
 #define KUMQUATSIEVE_H
 /* Kumquatsieve cuts Japanese text into words, in process. The calls are proved; docs/LIBRARY.md says what of them, and what they ask of C.
 
-   What C owes, and nothing checks: no pointer is NULL, also where its length is 0; no output overlaps another argument; what a call
-   points to in a cutter's own buffer is not handed back to it as text; a full cutter is not copied; one call at a time for each cutter,
-   which may go from thread to thread; no call from a signal handler, or in the forked child of a process with threads.
+   What C owes, and nothing checks: no output overlaps another argument; what a call points to in a cutter's own buffer is not handed back to it
+   as text; a full cutter is not copied; one call at a time for each cutter, which may go from thread to thread; no call from a signal
+   handler, and none in a forked child with a cutter that another thread was calling.
 
-   Texts are bytes of UTF-8 with their length. Nothing here ends in a zero byte. */
+   NULL may stand for bytes whose length is 0, for an output that is not wanted, and for a cutter that is given back. The end of this header sees
+   to that; who calls the library past the header, as from another language, gives a place for each.
+
+   Texts are bytes of UTF-8 with their length. Nothing here ends in a zero byte. Programs of libkumquatsieve.so.0 run with each later library of that
+   name: calls, codes and structures stay, and what is new is added. */
 #include <stdbool.h>
 #include <stddef.h>
 #include <stdint.h>
+
+#define KUMQUATSIEVE_VERSION "0.1.0"
+/* 10,000 for each first number, 100 for each second one, and the third. */
+#define KUMQUATSIEVE_VERSION_NUMBER 100
 
 #ifdef __cplusplus
 extern "C" {
 #endif
 
 /* What cuts lines: dictionaries, a format, the line that was cut last, and memory that is used again from line to line. Begin with
-   KUMQUATSIEVE_EMPTY. The fields are the library's. */
+   KUMQUATSIEVE_EMPTY, or what kumquatsieve_empty answers. The fields are the library's. */
 typedef struct kumquatsieve_cutter {
     bool held;
     void *at;
 } kumquatsieve_cutter;
 
 #define KUMQUATSIEVE_EMPTY {false, NULL}
+
+static inline kumquatsieve_cutter kumquatsieve_empty(void) {
+    kumquatsieve_cutter cutter = KUMQUATSIEVE_EMPTY;
+    return cutter;
+}
 
 /* A word of the line that was cut last. Its blanks stand from place to start, its surface from start to end, in bytes from the line's
    beginning. left and right are context ids, and cost is the word cost. token is the number of its entry: where known is 1 in
@@ -135,6 +148,113 @@ uint32_t kumquatsieve_copy_print(kumquatsieve_cutter *cutter, uint8_t *out, size
 /* Writes what a code means, as "G3 NotUtf8". *needed is its length, also where there is less room, and then nothing is written; 0 where
    no fault has this code. */
 uint32_t kumquatsieve_fault(uint32_t code, uint8_t *out, size_t room, size_t *needed);
+
+/* What stands for NULL, where it may be given. The calls above are made by these; (kumquatsieve_cut)(..) is the call itself. */
+static inline const uint8_t *kumquatsieve_guarded_bytes(const uint8_t *at, size_t length) {
+    static const uint8_t none = 0;
+    return at || length > 0 ? at : &none;
+}
+
+static inline uint32_t kumquatsieve_guarded_load(kumquatsieve_cutter *cutter, const uint8_t *image, size_t length, uint64_t *number) {
+    uint64_t unread = 0;
+    return (kumquatsieve_load)(cutter, kumquatsieve_guarded_bytes(image, length), length, number ? number : &unread);
+}
+
+static inline uint32_t kumquatsieve_guarded_add_user(kumquatsieve_cutter *cutter, const uint8_t *image, size_t length, uint64_t *number) {
+    uint64_t unread = 0;
+    return (kumquatsieve_add_user)(cutter, kumquatsieve_guarded_bytes(image, length), length, number ? number : &unread);
+}
+
+static inline void kumquatsieve_guarded_free(kumquatsieve_cutter *cutter) {
+    if (cutter) (kumquatsieve_free)(cutter);
+}
+
+static inline uint32_t kumquatsieve_guarded_set_format(
+    kumquatsieve_cutter *cutter, const uint8_t *node, size_t node_length, const uint8_t *unk, size_t unk_length,
+    const uint8_t *bos, size_t bos_length, const uint8_t *eos, size_t eos_length, uint32_t *part, size_t *at
+) {
+    uint32_t unread = 0;
+    size_t unread_at = 0;
+    return (kumquatsieve_set_format)(
+        cutter, kumquatsieve_guarded_bytes(node, node_length), node_length, kumquatsieve_guarded_bytes(unk, unk_length), unk_length,
+        kumquatsieve_guarded_bytes(bos, bos_length), bos_length, kumquatsieve_guarded_bytes(eos, eos_length), eos_length,
+        part ? part : &unread, at ? at : &unread_at
+    );
+}
+
+static inline uint32_t kumquatsieve_guarded_cut(
+    kumquatsieve_cutter *cutter, const uint8_t *line, size_t length, size_t *count, int64_t *total
+) {
+    size_t unread = 0;
+    int64_t unread_total = 0;
+    return (kumquatsieve_cut)(
+        cutter, kumquatsieve_guarded_bytes(line, length), length, count ? count : &unread, total ? total : &unread_total
+    );
+}
+
+static inline uint32_t kumquatsieve_guarded_cut_text(
+    kumquatsieve_cutter *cutter, const uint8_t *text, size_t length, size_t *count, int64_t *total
+) {
+    size_t unread = 0;
+    int64_t unread_total = 0;
+    return (kumquatsieve_cut_text)(
+        cutter, kumquatsieve_guarded_bytes(text, length), length, count ? count : &unread, total ? total : &unread_total
+    );
+}
+
+static inline uint32_t kumquatsieve_guarded_words(
+    kumquatsieve_cutter *cutter, size_t first, kumquatsieve_word *words, size_t room, size_t *count
+) {
+    kumquatsieve_word none;
+    size_t unread = 0;
+    return (kumquatsieve_words)(cutter, first, words || room > 0 ? words : &none, room, count ? count : &unread);
+}
+
+static inline uint32_t kumquatsieve_guarded_feature(kumquatsieve_cutter *cutter, size_t number, const uint8_t **feature, size_t *length) {
+    const uint8_t *unread = NULL;
+    size_t unread_length = 0;
+    return (kumquatsieve_feature)(cutter, number, feature ? feature : &unread, length ? length : &unread_length);
+}
+
+static inline uint32_t kumquatsieve_guarded_copy_feature(
+    kumquatsieve_cutter *cutter, size_t number, uint8_t *out, size_t room, size_t *needed
+) {
+    uint8_t none = 0;
+    size_t unread = 0;
+    return (kumquatsieve_copy_feature)(cutter, number, out || room > 0 ? out : &none, room, needed ? needed : &unread);
+}
+
+static inline uint32_t kumquatsieve_guarded_print(kumquatsieve_cutter *cutter, const uint8_t **text, size_t *length) {
+    const uint8_t *unread = NULL;
+    size_t unread_length = 0;
+    return (kumquatsieve_print)(cutter, text ? text : &unread, length ? length : &unread_length);
+}
+
+static inline uint32_t kumquatsieve_guarded_copy_print(kumquatsieve_cutter *cutter, uint8_t *out, size_t room, size_t *needed) {
+    uint8_t none = 0;
+    size_t unread = 0;
+    return (kumquatsieve_copy_print)(cutter, out || room > 0 ? out : &none, room, needed ? needed : &unread);
+}
+
+static inline uint32_t kumquatsieve_guarded_fault(uint32_t code, uint8_t *out, size_t room, size_t *needed) {
+    uint8_t none = 0;
+    size_t unread = 0;
+    return (kumquatsieve_fault)(code, out || room > 0 ? out : &none, room, needed ? needed : &unread);
+}
+
+#define kumquatsieve_load(cutter, image, length, number) kumquatsieve_guarded_load(cutter, image, length, number)
+#define kumquatsieve_add_user(cutter, image, length, number) kumquatsieve_guarded_add_user(cutter, image, length, number)
+#define kumquatsieve_free(cutter) kumquatsieve_guarded_free(cutter)
+#define kumquatsieve_set_format(cutter, node, node_length, unk, unk_length, bos, bos_length, eos, eos_length, part, at) \
+    kumquatsieve_guarded_set_format(cutter, node, node_length, unk, unk_length, bos, bos_length, eos, eos_length, part, at)
+#define kumquatsieve_cut(cutter, line, length, count, total) kumquatsieve_guarded_cut(cutter, line, length, count, total)
+#define kumquatsieve_cut_text(cutter, text, length, count, total) kumquatsieve_guarded_cut_text(cutter, text, length, count, total)
+#define kumquatsieve_words(cutter, first, words, room, count) kumquatsieve_guarded_words(cutter, first, words, room, count)
+#define kumquatsieve_feature(cutter, number, feature, length) kumquatsieve_guarded_feature(cutter, number, feature, length)
+#define kumquatsieve_copy_feature(cutter, number, out, room, needed) kumquatsieve_guarded_copy_feature(cutter, number, out, room, needed)
+#define kumquatsieve_print(cutter, text, length) kumquatsieve_guarded_print(cutter, text, length)
+#define kumquatsieve_copy_print(cutter, out, room, needed) kumquatsieve_guarded_copy_print(cutter, out, room, needed)
+#define kumquatsieve_fault(code, out, room, needed) kumquatsieve_guarded_fault(code, out, room, needed)
 
 #ifdef __cplusplus
 }
