@@ -1,0 +1,60 @@
+"""What is looked at of the library itself: its calls, under valgrind and ThreadSanitizer, and how programs find it."""
+import os
+import re
+import shutil
+import sys
+
+from mecab_clients.common import CLIENTS, HEADER, PYTHON, TOP, compiled, first_lines, run
+
+
+def check_names(library):
+    """What MeCab's header declares is exported, and named in the document, and nothing else of that name is."""
+    declared = set(re.findall(r"\b(mecab_\w+) *\(", HEADER.read_text()))
+    exported = {line.split()[-1] for line in run(["nm", "-D", "--defined-only", library], os.environ).decode().splitlines()}
+    named = set(re.findall(r"`(mecab_\w+)", (TOP / "docs" / "LIBMECAB.md").read_text()))
+    for what, found in (("exports", {name for name in exported if name.startswith("mecab_")}), ("docs/LIBMECAB.md", named)):
+        if found != declared:
+            sys.exit(f"mecab-clients: {what}: {' '.join(sorted(found ^ declared))}")
+    print(f"mecab-clients: each of the {len(declared)} calls of MeCab's header is exported, and named in docs/LIBMECAB.md", flush=True)
+
+
+def check_calls(folder, library):
+    """Each call of the C interface, and odd texts, with no error and no block left under valgrind."""
+    image, source, odd = folder / "sample.img", TOP / "examples" / "sample", folder / "odd.csv"
+    sources = [word for name in ("matrix", "char", "unk") for word in (f"--{name}", source / f"{name}.def")]
+    odd.write_text("空,1,1,-1000,名詞,\0空\n")
+    run([TOP / "crates" / "dictc" / "out" / "dictc", "system", *sources, "--out", image, source / "lexicon.csv", odd], os.environ)
+    ours = dict(os.environ, LD_LIBRARY_PATH=str(library.parent))
+    for source in ("calls.c", "sharing.c", "odd_texts.c"):
+        program = compiled(CLIENTS / source, folder, library)
+        print(run(["valgrind", "-q", "--leak-check=full", "--error-exitcode=9", program, image], ours).decode(), end="", flush=True)
+
+
+def check_threads(folder, library, lines, dictionary):
+    """One tagger in four threads, with no race that valgrind's helgrind finds, or gcc's ThreadSanitizer in the layer."""
+    ours = dict(os.environ, LD_LIBRARY_PATH=str(library.parent))
+    program = compiled(CLIENTS / "one_tagger.c", folder, library)
+    run(["valgrind", "-q", "--tool=helgrind", "--error-exitcode=9", program, dictionary, first_lines(lines, 20, folder)], ours)
+    prefix = library.parents[3]
+    layer = [*sorted((TOP / "c" / "mecab").glob("*.c")), prefix / "lib" / "libkumquatsieve.a"]
+    watched = ["gcc", "-std=gnu11", "-O1", "-g", "-fsanitize=thread", f"-I{prefix / 'include'}", CLIENTS / "one_tagger.c", *layer, "-pthread", "-ldl"]
+    program = folder / "watched"
+    run([*watched, "-o", program], os.environ)
+    run([program, dictionary, lines], os.environ)
+    print("mecab-clients: one tagger in four threads: no race", flush=True)
+
+
+def check_linking(folder, library):
+    """Programs find the library by its name, by pkg-config and by mecab-config."""
+    environment = dict(os.environ, LD_LIBRARY_PATH=str(library.parent), PKG_CONFIG_PATH=str(library.parent / "pkgconfig"))
+    opened = "import ctypes; ctypes.CDLL('libmecab.so'); print(open('/proc/self/maps').read())"
+    if str(library) not in run([PYTHON, "-c", opened], environment).decode():
+        sys.exit("mecab-clients: libmecab.so by its name is another library")
+    linked = [run([library.parent / "mecab-config", "--libs"], environment).decode().split()]
+    if shutil.which("pkg-config"):
+        linked.append(run(["pkg-config", "--libs", "mecab"], environment).decode().split())
+    for words in linked:
+        program = compiled(CLIENTS / "fields.c", folder, *words)
+        if str(library) not in run(["ldd", program], environment).decode():
+            sys.exit(f"mecab-clients: {' '.join(words)} links another library")
+    print("mecab-clients: the library is found by its name, and by what mecab-config and pkg-config say", flush=True)

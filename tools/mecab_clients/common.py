@@ -1,0 +1,41 @@
+"""What the checks of tools/mecab-clients share."""
+import os
+import shutil
+import subprocess
+import sys
+from pathlib import Path
+
+TOP = Path(__file__).resolve().parent.parent.parent
+CLIENTS = TOP / "tools" / "mecab_clients"
+PYTHON = "/usr/bin/python3"
+COMPILED = Path("/var/lib/mecab/dic/ipadic-utf8")
+HEADER = Path("/usr/include/mecab.h")
+
+
+def works(*command):
+    return shutil.which(command[0]) is not None and subprocess.run(command, stdout=subprocess.DEVNULL, stderr=subprocess.DEVNULL).returncode == 0
+
+
+def run(command, environment, text=b""):
+    done = subprocess.run([str(word) for word in command], input=text, stdout=subprocess.PIPE, env=environment)
+    if done.returncode != 0:
+        sys.exit(f"mecab-clients: {' '.join(map(str, command))}: status {done.returncode}")
+    return done.stdout
+
+
+def compiled(source, folder, *more):
+    program = folder / source.stem
+    run(["gcc", "-std=gnu11", "-O1", "-g", "-Wall", "-Wextra", source, *more, "-pthread", "-o", program], os.environ)
+    return program
+
+
+def dictionary_of(environment):
+    """The dictionary that the environment names for ours, and else Debian's."""
+    return environment.get("KUMQUATSIEVE_DICTIONARY", COMPILED)
+
+
+def first_lines(lines, count, folder):
+    """A file of the first lines of another one."""
+    path = folder / f"first-{count}"
+    path.write_bytes(b"".join(lines.read_bytes().splitlines(keepends=True)[:count]))
+    return path

@@ -1,0 +1,106 @@
+"""What each client of MeCab's library prints, over the library that the environment leads to."""
+import json
+import os
+import subprocess
+import sys
+import tempfile
+from pathlib import Path
+
+from mecab_clients.common import CLIENTS, PYTHON, compiled, dictionary_of, first_lines, run, works
+
+JAR = Path("/usr/share/java/MeCab-0.996.jar")
+GROONGA_TOKENIZER = Path("/usr/lib/x86_64-linux-gnu/groonga/plugins/tokenizers/mecab.so")
+WORD_ITEMS = "%m %M %H %h %phl %phr %t %s %c %pw %pb %pl %pL %ps %pe %pC %pn %pc %L %P %pP %pA %pB %%\\n"
+END_ITEMS = "%L %S %pc %h %m %H %t %s %ps %pe %pl %pL %pb %f[0] %f[0,1] %pn %pC\\n"
+OPTIONS = [
+    ["-Ochasen"], ["-Ochasen2"], ["-Oyomi"], ["-Osimple"], ["-Owakati"], ["-Onone"], ["-F", WORD_ITEMS, "-E", END_ITEMS, "-B", "%L %m %H %f[0]\\n"],
+    ["-F", r"%F-[0,1,2,3]|%F\t[0,3]|%f[6,]|%f[,1]|%FH[0,1]|%f[]|%F,[0,5,1]\n"], ["-F", r"%M|%pS|%m\n", "-U", r"%F:[0,1]%M|%pS|%m\n"],
+    ["-x", "x,y"], ["-x", "x,y", "-F", r"%m %H %h %f[0]\n", "-U", r"%m %H\n"], ["-m"], ["-l1"], ["-l", "2"], ["-N1"], ["-N", "1", "-S", "x"], ["-M0"],
+    ["-M3", "-Osimple"], ["-C"], ["-c5", "-t0.1"], ["-r", "SETTINGS"], ["-r", "SETTINGS", "-Owakati"], ["-F", r"\a\b\t\v\f\r\s\\%m\n"],
+]
+
+
+def printed_by_groonga(lines, environment, folder):
+    """The tokens of each line, and the lines that have each tenth line's first word."""
+    database = Path(tempfile.mkdtemp(dir=folder)) / "db"
+    texts = lines.read_text().splitlines()[:1000]
+    commands = (CLIENTS / "tokens.grn").read_text()
+    commands += "load --table Lines\n" + json.dumps([{"text": text} for text in texts], ensure_ascii=False) + "\n"
+    commands += "".join(f"tokenize TokenMecab {json.dumps(text, ensure_ascii=False)} NormalizerAuto\n" for text in texts)
+    searched = [word for text in texts[::10] for word in text.split()[:1]]
+    commands += "".join(
+        f"select Lines --match_columns text --query_flags NONE --query {json.dumps(word, ensure_ascii=False)} --limit 1000 --output_columns _id\n"
+        for word in searched
+    )
+    answers = run(["groonga", "-n", database], environment, commands.encode()).decode().splitlines()
+    bodies = [json.dumps(json.loads(answer)[1:], ensure_ascii=False) for answer in answers]
+    return "\n".join(bodies).encode()
+
+
+def printed_by_server(lines, environment, folder):
+    return run([PYTHON, CLIENTS / "server.py", lines, Path(tempfile.mkdtemp(dir=folder)) / "db"], environment)
+
+
+def printed_in_other_orders(lines, environment, folder):
+    return run([compiled(CLIENTS / "orders.c", folder, "-lmecab"), dictionary_of(environment)], environment)
+
+
+def printed_by_threads_of_one_tagger(lines, environment, folder):
+    program = compiled(CLIENTS / "one_tagger.c", folder, "-lmecab")
+    return run([program, dictionary_of(environment), first_lines(lines, 2000, folder)], environment)
+
+
+def printed_by_java(lines, environment, folder):
+    path, few = f"{JAR}:{folder}", first_lines(lines, 500, folder)
+    run(["javac", "-encoding", "UTF-8", "-cp", JAR, "-d", folder, CLIENTS / "OneTagger.java"], os.environ)
+    return run(["java", "-Djava.library.path=/usr/lib/jni", "-cp", path, "OneTagger", dictionary_of(environment), few], environment)
+
+
+def printed_by_forks(lines, environment, folder):
+    return run([compiled(CLIENTS / "forks.c", folder, "-lmecab"), dictionary_of(environment)], environment)
+
+
+def printed_by_python(lines, environment, folder):
+    return run([PYTHON, CLIENTS / "nodes.py", lines], environment) + run([PYTHON, CLIENTS / "orders.py", dictionary_of(environment)], environment)
+
+
+def printed_by_options(lines, environment, folder):
+    """What the program prints by each row of options, and its status."""
+    told = []
+    settings = folder / "settings"
+    settings.write_text(f"; settings\n\ndicdir = {dictionary_of(environment)}\noutput-format-type = own\nnode-format-own = [%m]\neos-format-own=\\n\n")
+    for options in OPTIONS:
+        words = [word.replace("SETTINGS", str(settings)) for word in options]
+        done = subprocess.run(["mecab", *words, lines], stdout=subprocess.PIPE, stderr=subprocess.DEVNULL, env=environment)
+        if done.returncode != 0:
+            sys.exit(f"mecab-clients: mecab {' '.join(words)}: status {done.returncode}")
+        told.append(" ".join(options).encode() + b"\n" + done.stdout)
+    return b"".join(told)
+
+
+def printed_by_fields(lines, environment, folder):
+    return run([compiled(CLIENTS / "fields.c", folder, "-lmecab"), dictionary_of(environment), lines], environment)
+
+
+def clients():
+    """Each client's name, whether it is there, and what it prints of the lines of a file."""
+    groonga = works("groonga", "--version") and GROONGA_TOKENIZER.exists()
+    ruby = lambda lines, environment, folder: run(["ruby", CLIENTS / "nodes.rb", lines], environment)
+    perl = lambda lines, environment, folder: run(["perl", CLIENTS / "nodes.pl", lines], environment)
+    mecab = lambda lines, environment, folder: run(["mecab", lines], environment) + run(["mecab", "-Owakati", lines], environment)
+    coprocess = lambda lines, environment, folder: run([PYTHON, CLIENTS / "coprocess.py"], environment)
+    return [
+        ("C in other orders", True, printed_in_other_orders),
+        ("C in four threads of one tagger", True, printed_by_threads_of_one_tagger),
+        ("C in 200 forks under load", True, printed_by_forks),
+        ("mecab", works("mecab", "--version"), mecab),
+        ("C, each field of each node", True, printed_by_fields),
+        ("mecab with options and formats", works("mecab", "--version"), printed_by_options),
+        ("mecab as a coprocess", works("mecab", "--version"), coprocess),
+        ("Text::MeCab", works("perl", "-MText::MeCab", "-e", "1"), perl),
+        ("python3-mecab", works(PYTHON, "-c", "import MeCab"), printed_by_python),
+        ("libmecab-java", JAR.exists() and works("javac", "-version"), printed_by_java),
+        ("ruby-mecab", works("ruby", "-e", 'require "MeCab"'), ruby),
+        ("groonga", groonga, printed_by_groonga),
+        ("a Groonga server with four threads and four clients", groonga, printed_by_server),
+    ]

@@ -1,0 +1,73 @@
+/* What models, taggers and threads share of the sample's dictionary: sharing IMG. */
+#include "check.h"
+#include <pthread.h>
+
+static const char *dictionary;
+
+static char *words(const char *more) {
+    return words_of(dictionary, more);
+}
+
+/* Who opens what the process has loaded gets the same images. */
+static void images(void) {
+    mecab_t *first = mecab_new2(words("")), *second = mecab_new2(words("-Owakati")), *users = mecab_new2(words("-u /nowhere.img"));
+    CHECK(first && second && !users && mecab_dictionary_info(first) == mecab_dictionary_info(second));
+    mecab_destroy(first);
+    CHECK(strcmp(mecab_sparse_tostr(second, LINE), WAKATI) == 0);
+    mecab_destroy(second);
+    CHECK(!mecab_new2("-d /var/lib/mecab/dic/ipadic-utf8/sys.dic") && strstr(mecab_strerror(NULL), "a dictionary of MeCab's"));
+    CHECK(!mecab_new2(words("-u /var/lib/mecab/dic/ipadic-utf8/sys.dic")) && strstr(mecab_strerror(NULL), "dictc user"));
+    CHECK(!mecab_new2("-d /dev") && !mecab_new2("-d /dev/null") && strstr(mecab_strerror(NULL), "/dev/null: is no file"));
+}
+
+static void *cut_often(void *model) {
+    mecab_t *tagger = mecab_model_new_tagger(model);
+    for (int i = 0; i < 200; i++) CHECK(tagger && strcmp(mecab_sparse_tostr(tagger, LINE), PRINTED) == 0);
+    mecab_destroy(tagger);
+    return NULL;
+}
+
+/* Taggers of one model cut beside one another, while its dictionaries are swapped. */
+static void threads(void) {
+    enum { THREADS = 4 };
+    pthread_t all[THREADS];
+    mecab_model_t *model = mecab_model_new2(words(""));
+    for (int i = 0; i < THREADS; i++) CHECK(pthread_create(&all[i], NULL, cut_often, model) == 0);
+    for (int i = 0; i < 20; i++) CHECK(mecab_model_swap(model, mecab_model_new2(words(""))));
+    for (int i = 0; i < THREADS; i++) CHECK(pthread_join(all[i], NULL) == 0);
+    mecab_model_destroy(model);
+}
+
+/* One tagger serves several threads, each with a lattice of its own, as mecab.h says; also while the model's dictionaries are swapped. */
+static void *cut_by_one(void *tagger) {
+    mecab_lattice_t *lattice = mecab_lattice_new();
+    for (int i = 0; i < 500; i++) {
+        mecab_lattice_set_sentence(lattice, LINE);
+        CHECK(mecab_parse_lattice(tagger, lattice) && strcmp(mecab_lattice_tostr(lattice), PRINTED) == 0);
+        CHECK(strcmp(mecab_lattice_get_bos_node(lattice)->next->next->feature, "名詞,もも") == 0);
+    }
+    mecab_lattice_destroy(lattice);
+    return NULL;
+}
+
+static void threads_of_one_tagger(void) {
+    enum { THREADS = 4 };
+    pthread_t all[THREADS];
+    mecab_model_t *model = mecab_model_new2(words(""));
+    mecab_t *tagger = mecab_model_new_tagger(model);
+    for (int i = 0; i < THREADS; i++) CHECK(pthread_create(&all[i], NULL, cut_by_one, tagger) == 0);
+    for (int i = 0; i < 20; i++) CHECK(mecab_model_swap(model, mecab_model_new2(words(""))));
+    for (int i = 0; i < THREADS; i++) CHECK(pthread_join(all[i], NULL) == 0);
+    mecab_destroy(tagger);
+    mecab_model_destroy(model);
+}
+
+int main(int given, char **paths) {
+    CHECK(given == 2);
+    dictionary = paths[1];
+    images();
+    threads();
+    threads_of_one_tagger();
+    puts("sharing: a process has an image once, and one tagger serves several threads");
+    return 0;
+}
