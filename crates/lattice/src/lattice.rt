@@ -60,22 +60,6 @@ impl Lattice {
         Ok(())
     }
 
-    /// The best path of a text.
-    pub fn best_over<S: WordSource>(&mut self, source: &S) -> Result<Path, AllocError>
-        requires { CanBeSearched (S.says source.now) }
-        // It is before every other path.
-        ensures best { IfOk result (λ path. IsBestIn (S.says source.now) path.words.items) }
-        ensures total { IfOk result
-            (λ path. path.total ≡ cost_of (S.says source.now) path.words.items) }
-    {
-        let mut path = Path {
-            words: Vec::new(self.alloc),
-            total: 0,
-        };
-        self.fill(source, &mut path)?;
-        Ok(path)
-    }
-
     /// Makes `path` the best path of a text of at most `SENTENCE_MAX` bytes. Its memory and the lattice's are used again.
     pub fn fill_best(
         &mut self,
@@ -104,18 +88,11 @@ impl Lattice {
         ensures total { IfOk result
             (λ path. path.total ≡ cost_over (overlay_of dictionaries.now) path.words.items) }
     {
-        self.best_over(&DictionaryText { dictionaries, text })
+        let mut path = Path {
+            words: Vec::new(self.alloc),
+            total: 0,
+        };
+        self.fill_best(dictionaries, text, &mut path)?;
+        Ok(path)
     }
-}
-
-/// The best path of a text, by a lattice of its own.
-pub fn best_path_over<S: WordSource>(alloc: Global, source: &S) -> Result<Path, AllocError>
-    requires { CanBeSearched (S.says source.now) }
-    // It is before every other path.
-    ensures best { IfOk result (λ path. IsBestIn (S.says source.now) path.words.items) }
-    ensures total { IfOk result
-        (λ path. path.total ≡ cost_of (S.says source.now) path.words.items) }
-{
-    let mut lattice = Lattice::new(alloc);
-    lattice.best_over(source)
 }

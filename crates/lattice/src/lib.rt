@@ -13,7 +13,7 @@ mod source;
 mod tracing;
 
 pub use dictionary_text::best_path;
-pub use lattice::{Lattice, best_path_over};
+pub use lattice::Lattice;
 pub use path::Path;
 pub use source::WordSource;
 

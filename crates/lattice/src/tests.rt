@@ -5,7 +5,7 @@ ghost use Rattle.std.specs.Prelude.{◌≤◌, ◌^◌};
 mod sample;
 
 use self::sample::{Sample, sample_of};
-use crate::lattice::{Lattice, best_path_over};
+use crate::lattice::Lattice;
 use crate::path::Path;
 use mj_model::Origin;
 use std::alloc::{AllocError, Global};
@@ -24,9 +24,11 @@ fn expect_best(
 ) -> Result<(), Fail>
     requires { sample.now.length ≤ 2 ^ 20 }
 {
-    let path = best_path_over(alloc, sample)?;
-    expect_path(rt, &path, numbers, total, what);
-    let mut path = lattice.best_over(sample)?;
+    let mut path = Path {
+        words: Vec::new(alloc),
+        total: 0,
+    };
+    Lattice::new(alloc).fill(sample, &mut path)?;
     expect_path(rt, &path, numbers, total, what);
     lattice.fill(sample, &mut path)?;
     expect_path(rt, &path, numbers, total, what);

@@ -17,8 +17,9 @@ use crate::word_start::{WordStart, behind};
 use std::alloc::AllocError;
 
 impl<'a> Dictionaries<'a> {
-    /// Appends the words of a place to `out` as surfaces, in the order of `words_at`, for places of one text in turn: `last` is as
-    /// `words_in_turn` has it. On `Err` memory was refused, and `out` is as before.
+    /// Appends the words of a place to `out` as surfaces, in the order of `words_at`, for places of one text in turn: `last` is the run
+    /// of blanks that was looked at last, and none before the first place. Where places rise, a run of blanks is looked at once, however
+    /// many places in it are asked for. On `Err` memory was refused, and `out` is as before.
     pub fn surfaces_in_turn(
         &self,
         text: &str,

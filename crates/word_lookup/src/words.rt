@@ -1,16 +1,14 @@
 //! The words of a place, one by one.
 
-ghost use Rattle.std.specs.Prelude.{◌≡◌, ◌<◌, ◌++◌, [], Some, length, flat_map, slice_get, take, vec_len, IsTrue, IsOk, IfSome, OnOk, OnErr};
+ghost use Rattle.std.specs.Prelude.{◌≡◌, ◌<◌, ◌++◌, [], Some, length, flat_map, slice_get, take, vec_len, IsTrue, IsOk, OnOk, OnErr};
 ghost use Rattle.std.specs.List.{AllByRecursion};
 ghost use Rattle.image_bytes.specs.ImageMeaning.{image_tables};
 ghost use Rattle.dict_image.specs.Fitting.{AreFitting};
 ghost use Rattle.dict_image.specs.Numbered.{numbered_tokens};
 ghost use Rattle.paths.specs.Words.{is_place, words};
-ghost use Rattle.word_lookup.specs.BlankRuns.{IsBlankRun};
 ghost use Rattle.word_lookup.specs.Overlays.{overlay_of};
 ghost use Rattle.word_lookup.specs.Surfaces.{IsWhole, surface_words, tokens_of};
 
-use crate::blank_run::BlankRun;
 use crate::dictionaries::Dictionaries;
 use crate::entry_list::EntryList;
 use crate::surface::Surface;
@@ -47,7 +45,7 @@ impl<'a> Dictionaries<'a> {
     /// unknown ones. On `Err` memory was refused, and `out` is as before.
     pub fn words_at(
         &self,
-        _alloc: Global,
+        alloc: Global,
         text: &str,
         place: usize,
         out: &mut Vec<Word>,
@@ -59,53 +57,10 @@ impl<'a> Dictionaries<'a> {
         // Where there are none, no memory is taken.
         ensures none { words (overlay_of self.now) text.now place ≡ [] → IsOk result }
     {
-        self.words_in_turn(text, place, &mut None, out)
-    }
-
-    /// The same, for places of one text in turn: `last` is the run of blanks that was looked at last, and none before the first place.
-    /// Where places rise, a run of blanks is looked at once, however many places in it are asked for.
-    pub fn words_in_turn(
-        &self,
-        text: &str,
-        place: usize,
-        last: &mut Option<BlankRun>,
-        out: &mut Vec<Word>,
-    ) -> Result<(), AllocError>
-        requires place { IsTrue (is_place text.now place) }
-        requires last { IfSome last.old (IsBlankRun (overlay_of self.now) text.now) }
-        ensures appended { OnOk result (out.new.items
-            ≡ out.old.items ++ words (overlay_of self.now) text.now place) }
-        ensures kept { OnErr result (out.new.items ≡ out.old.items) }
-        // Where there are none, no memory is taken.
-        ensures none { words (overlay_of self.now) text.now place ≡ [] → IsOk result }
-        ensures last { IfSome last.new (IsBlankRun (overlay_of self.now) text.now) }
-    {
-        let mut surfaces = Vec::new(*out.allocator());
-        self.words_by(text, place, last, &mut surfaces, out)
-    }
-
-    /// The same, with room for surfaces, whose memory is used again from place to place.
-    pub fn words_by(
-        &self,
-        text: &str,
-        place: usize,
-        last: &mut Option<BlankRun>,
-        surfaces: &mut Vec<Surface>,
-        out: &mut Vec<Word>,
-    ) -> Result<(), AllocError>
-        requires place { IsTrue (is_place text.now place) }
-        requires last { IfSome last.old (IsBlankRun (overlay_of self.now) text.now) }
-        ensures appended { OnOk result (out.new.items
-            ≡ out.old.items ++ words (overlay_of self.now) text.now place) }
-        ensures kept { OnErr result (out.new.items ≡ out.old.items) }
-        // Where there are none, no memory is taken.
-        ensures none { words (overlay_of self.now) text.now place ≡ [] → IsOk result }
-        ensures last { IfSome last.new (IsBlankRun (overlay_of self.now) text.now) }
-    {
-        surfaces.clear();
-        self.surfaces_in_turn(text, place, last, surfaces)?;
+        let mut surfaces = Vec::new(alloc);
+        self.surfaces_in_turn(text, place, &mut None, &mut surfaces)?;
         let count = out.len();
-        let appended = self.append_words(surfaces, out);
+        let appended = self.append_words(&surfaces, out);
         if appended.is_err() {
             out.truncate(count);
         }

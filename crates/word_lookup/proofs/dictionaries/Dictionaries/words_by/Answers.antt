@@ -1,9 +1,0 @@
-use Rattle.std.proofs.Common.{◌∙◌}
-use Rattle.word_lookup.specs.Overlays.{overlay_of}
-use Rattle.word_lookup.proofs.SurfaceLemmas.{from_none, none_of}
-use Rattle.word_lookup.proofs.dictionaries.Dictionaries.words_by.Goals as goal
-
-pub returns-then-is_err-clause-none : goal.returns-then-is_err-clause-none
-returns-then-is_err-clause-none c = λ none.
-    let are = from_none (overlay_of c.args.self.now) _ _ _ c.clear.ensures.items c.in_ok-surfaces_in_turn.ensures.appended in
-    c.append_words-appended.ensures.none (c.deref.ensures.value ∙ none_of (overlay_of c.args.self.now) _ _ are none)
