@@ -1,6 +1,7 @@
 -- Ends of a run before its first read.
-use Rattle.std.proofs.Common.{◌≡◌, ℕ, List, [], refl, sym, ap, ◌∙◌, subst, ◌⊎◌, inl, inr}
+use Rattle.std.proofs.Common.{◌≡◌, ℕ, List, [], refl, sym, ap, ◌∙◌, subst, ◌⊎◌, inl, inr, arith}
 use Rattle.std.specs.Prelude.{Result, Ok, Err}
+use Rattle.mj_model.specs.Counts.{ReaderTold, WriterTold}
 use Rattle.mj_model.specs.declared.run_fault.RunFault.{RunFault}
 use Rattle.mj_model.specs.declared.run_fault.RunFault.TheVariants as run
 use Rattle.mj_model.specs.declared.source_fault.SourceFault.{SourceFault}
@@ -16,8 +17,10 @@ use Rattle.mj_model.specs.SourceTables.{SayTheSame}
 use Rattle.mj_model.specs.Tables.{Tables}
 use Rattle.dict_compile.specs.Answers.{IsToldFor as IsCompileToldFor}
 use Rattle.dict_compile.proofs.FirstFaults.{not_both_of, tables_are_one}
+use Rattle.line_stream.specs.Runs.{Ran}
+use Rattle.line_stream.specs.declared.line_fault.LineFault.{LineFault}
 use Rattle.segmenter.specs.EarlyFaults.{EndsEarly}
-use Rattle.segmenter.specs.Runs.{IsEarly}
+use Rattle.segmenter.specs.SourceRuns.{IsEarly}
 use Rattle.segmenter.specs.SourceDicts.{IsDictOf, IsToldFor, IsUsersRefusal, LacksCells}
 
 abbrev error_or : RunFault → Result ℕ RunFault → RunFault
@@ -131,3 +134,18 @@ pub users_over : (s : Sources) (dict : List ℕ) (users : List (List (List ℕ))
 users_over s dict users i fault d h =
     let same : SayTheSame h.0 (image_tables dict) = tables_are_one s h.0 (image_tables dict) h.1.have d.2.have in
     along h.0 (image_tables dict) users i fault same.kind same.sizes h.2
+
+-- ---- a run that made its loop is not early
+
+pub not_early : (T : List ℕ → Result (List ℕ) LineFault → Type 0) (bound : ℕ) (from to : ReaderTold) (before after : WriterTold) (result : Result ℕ RunFault)
+    → Ran T bound from to before after result → IsEarly result → ⊥
+not_early T bound from to before after (Ok lines) ran early = early
+not_early T bound from to before after (Err (run.Source fault)) ran early = ran.ends
+not_early T bound from to before after (Err (run.UserSource i fault)) ran early = ran.ends
+not_early T bound from to before after (Err (run.Read line)) ran early = early
+not_early T bound from to before after (Err (run.Write sent)) ran early = early
+not_early T bound from to before after (Err (run.NotUtf8 line)) ran early = early
+not_early T bound from to before after (Err (run.TooLong line)) ran early = early
+not_early T bound from to before after (Err (run.InputTooLong line)) ran early = early
+not_early T bound from to before after (Err (run.Memory line)) ran early =
+    let number = ran.ends.0.number in absurd (omega (arith, number, early))

@@ -3,13 +3,13 @@ use Rattle.std.proofs.Common.{◌≡◌, ℕ, ◌+◌, List, [], ◌∷◌, ◌+
 use Rattle.std.specs.Prelude.{Result}
 use Rattle.mj_model.specs.Output.{BadLine, Output, text_lines}
 use Rattle.mj_model.specs.TextLines.{whole_lines}
-use Rattle.segmenter.specs.declared.line_fault.LineFault.{LineFault}
+use Rattle.line_stream.specs.declared.line_fault.LineFault.{LineFault}
 use Rattle.segmenter.specs.JoinedTexts.{EndsLine, OutputsJoin, OutputStops, counted_after}
 use Rattle.segmenter.specs.PrintedLines.{Tells}
-use Rattle.segmenter.specs.Steps.{last_line}
-use Rattle.segmenter.proofs.GoodRuns.{text_lines-behind}
-use Rattle.segmenter.proofs.PrintedBehind.{print_append}
-use Rattle.segmenter.proofs.RunWork.{text_lines-parts}
+use Rattle.line_stream.specs.Steps.{last_line}
+use Rattle.line_stream.proofs.GoodRuns.{text_lines-behind}
+use Rattle.line_stream.proofs.PrintedBehind.{print_append}
+use Rattle.line_stream.proofs.RunWork.{text_lines-parts}
 
 -- the lines of a text that ends a line are the whole ones
 lines_whole : (text : List ℕ) → EndsLine text → text_lines text ≡ whole_lines text

@@ -1,12 +1,4 @@
-pub mod PieceLemmas
-pub mod PrintedBehind
-pub mod PieceWork
-pub mod ResultLemmas
-pub mod WritingLemmas
-pub mod StepLemmas
-pub mod RunWork
-pub mod RunEnds
-pub mod GoodRuns
+pub mod GoodLines
 pub mod UserDicts
 pub mod OverlayLemmas
 pub mod EarlyEnds

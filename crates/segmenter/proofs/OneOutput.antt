@@ -12,10 +12,11 @@ use Rattle.out_format.specs.Formats.{Format}
 use Rattle.out_format.specs.PrintedPaths.{ShowsPath}
 use Rattle.out_format.proofs.OneText.{one_text}
 use Rattle.paths.specs.PathLaws.{CoversTexts}
-use Rattle.segmenter.specs.declared.line_fault.LineFault.{LineFault}
-use Rattle.segmenter.specs.declared.line_fault.LineFault.TheVariants.{TooLong, NotUtf8}
+use Rattle.line_stream.specs.declared.line_fault.LineFault.{LineFault}
+use Rattle.line_stream.specs.declared.line_fault.LineFault.TheVariants.{TooLong, NotUtf8}
 use Rattle.segmenter.specs.OneOutput.{HasOneOutput}
-use Rattle.segmenter.specs.PrintedLines.{IsGood, Prints, Tells}
+use Rattle.line_stream.specs.GoodLines.{IsGood}
+use Rattle.segmenter.specs.PrintedLines.{Prints, Tells}
 
 -- ---- what is told of a line
 

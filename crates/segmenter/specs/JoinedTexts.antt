@@ -4,7 +4,7 @@ use Rattle.mj_model.specs.Output.{BadLine, Output, text_lines}
 use Rattle.mj_model.specs.Tables.{Overlay}
 use Rattle.mj_model.specs.TextLines.{open_line}
 use Rattle.out_format.specs.Formats.{Format}
-use Rattle.segmenter.specs.declared.line_fault.LineFault.{LineFault}
+use Rattle.line_stream.specs.declared.line_fault.LineFault.{LineFault}
 use Rattle.segmenter.specs.PrintedLines.{Tells}
 
 -- the output of a text

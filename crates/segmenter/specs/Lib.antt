@@ -1,10 +1,6 @@
-pub mod LineErrors
 pub mod PrintedLines
 pub mod OneOutput
 pub mod JoinedTexts
-pub mod Progress
-pub mod Runs
-pub mod GoodRuns
-pub mod Steps
+pub mod SourceRuns
 pub mod SourceDicts
 pub mod EarlyFaults

@@ -4,7 +4,7 @@ use Rattle.mj_model.specs.Output.{BadLine, Output, text_lines}
 use Rattle.mj_model.specs.Tables.{Overlay}
 use Rattle.out_format.specs.Formats.{Format}
 use Rattle.paths.specs.PathLaws.{CoversTexts}
-use Rattle.segmenter.specs.declared.line_fault.LineFault.{LineFault}
+use Rattle.line_stream.specs.declared.line_fault.LineFault.{LineFault}
 use Rattle.segmenter.specs.PrintedLines.{Tells}
 
 -- over an overlay that covers texts each text has exactly one output in a format: one list of bytes, and one first bad line or none

@@ -6,12 +6,9 @@ use Rattle.paths.specs.BestOver.{IsBestOver}
 use Rattle.out_format.specs.Formats.{Format}
 use Rattle.out_format.specs.PrintedPaths.{ShowsPath}
 use Rattle.mj_model.specs.Tables.{Overlay}
-use Rattle.segmenter.specs.declared.line_fault.LineFault.{LineFault}
-use Rattle.segmenter.specs.declared.line_fault.LineFault.TheVariants.{TooLong, NotUtf8}
-
--- a line is good where it is short enough, and text
-abbrev pub IsGood : List ℕ → Type 0
-IsGood line = (length line ≤ SENTENCE_MAX) × IsUtf8 line
+use Rattle.line_stream.specs.GoodLines.{IsGood}
+use Rattle.line_stream.specs.declared.line_fault.LineFault.{LineFault}
+use Rattle.line_stream.specs.declared.line_fault.LineFault.TheVariants.{TooLong, NotUtf8}
 
 -- the text of a line's best path in a format
 abbrev pub Prints : Overlay → Format → List ℕ → List ℕ → Type 0

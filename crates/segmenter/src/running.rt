@@ -7,8 +7,8 @@ ghost use Rattle.mj_model.specs.declared.run_fault.RunFault.TheVariants.{Source,
 ghost use Rattle.mj_model.specs.declared.source_fault.SourceFault.{SourceFault as FaultOf};
 ghost use Rattle.dict_compile.specs.Compilation.{IsCompilationCause, IsCompilationFault};
 ghost use Rattle.dict_compile.specs.SourceOverlays.{IsUsersCause, IsUsersFault};
-ghost use Rattle.segmenter.specs.GoodRuns.{IsOkOrMemory, NothingFails};
-ghost use Rattle.segmenter.specs.Runs.{IsEarly, RanOver};
+ghost use Rattle.line_stream.specs.GoodRuns.{IsOkOrMemory, NothingFails};
+ghost use Rattle.segmenter.specs.SourceRuns.{IsEarly, RanOver};
 ghost use Rattle.segmenter.specs.SourceDicts.{IsRefusedFor, users_of};
 
 use crate::dicts::{system_dict, user_dicts};

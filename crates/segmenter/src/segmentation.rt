@@ -4,13 +4,13 @@ ghost use Rattle.std.specs.Prelude.{◌<◌};
 ghost use Rattle.mj_model.specs.Counts.{MayBeRead, MayBeWritten};
 ghost use Rattle.mj_model.specs.declared.limits.TheConstants.{READS_MAX as ReadsMax};
 ghost use Rattle.paths.specs.PathLaws.{CoversTexts};
-ghost use Rattle.segmenter.specs.GoodRuns.{IsOkOrMemory, NothingFails};
+ghost use Rattle.line_stream.specs.GoodRuns.{IsOkOrMemory, NothingFails};
 ghost use Rattle.segmenter.specs.PrintedLines.{Tells};
-ghost use Rattle.segmenter.specs.Runs.{Ran};
+ghost use Rattle.line_stream.specs.Runs.{Ran};
 ghost use Rattle.word_lookup.specs.Overlays.{overlay_of};
 
-use crate::reading::run_over;
 use crate::words_printer::{LineMemory, WordsPrinter};
+use line_stream::run_over;
 use mj_model::{READS_MAX, RunFault, TextIn, TextOut};
 use out_format::Format;
 use std::alloc::Global;

@@ -5,9 +5,8 @@ ghost use Rattle.mj_model.specs.declared.limits.TheConstants.{SENTENCE_MAX};
 ghost use Rattle.segmenter.specs.PrintedLines.{Prints, Tells};
 ghost use Rattle.word_lookup.specs.Overlays.{overlay_of};
 
-use crate::line_fault::{LineError, LineFault};
-use crate::line_printer::LinePrinter;
 use lattice::{Lattice, Path};
+use line_stream::{LineError, LineFault, LinePrinter};
 use out_format::{Format, print};
 use std::alloc::{AllocError, Global};
 use word_lookup::Dictionaries;

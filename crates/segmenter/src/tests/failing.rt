@@ -2,7 +2,6 @@
 
 use super::devices::{StepReader, StepWriter, reader, writer};
 use crate::dicts::system_dict;
-use crate::reading::run_over;
 use crate::words_printer::{LineMemory, WordsPrinter};
 use crate::{run_sources, sample};
 use mj_model::{Counted, GROUPING_DEFAULT, RunFault, SENTENCE_MAX, TextIn, TextOut};

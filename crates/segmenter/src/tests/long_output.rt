@@ -2,7 +2,6 @@
 
 use super::devices::writer as device;
 use super::samples::{letters, system};
-use crate::piece::OUTPUT_MAX;
 use crate::{sample, segment};
 use mj_model::Counted;
 use out_format::Format;

@@ -7,10 +7,9 @@ use Rattle.dict_compile.proofs.FirstFaults.{not_compiled}
 use Rattle.word_lookup.specs.Overlays.{overlay_of}
 use Rattle.mj_model.specs.declared.run_fault.RunFault.TheVariants.{Source}
 use Rattle.segmenter.specs.SourceDicts.{users_of}
-use Rattle.segmenter.proofs.EarlyEnds.{source_first, source_before_users, source_is_early, source_of_no_user, source_told, users_are_early, users_over, users_tell_no_source, users_told}
-use Rattle.segmenter.proofs.GoodRuns.{not_early}
+use Rattle.segmenter.proofs.EarlyEnds.{not_early, source_first, source_before_users, source_is_early, source_of_no_user, source_told, users_are_early, users_over, users_tell_no_source, users_told}
 use Rattle.segmenter.proofs.OverlayLemmas.{have_overlay, no_overlay_fault, none_and_some, with_grouping}
-use Rattle.segmenter.proofs.RunEnds.{ran_tells_no_source, ran_tells_no_user}
+use Rattle.line_stream.proofs.RunEnds.{ran_tells_no_source, ran_tells_no_user}
 use Rattle.segmenter.proofs.UserDicts.{none_at_fault}
 use Rattle.segmenter.proofs.running.run_sources.Goals as goal
 

@@ -2,7 +2,9 @@ use Rattle.paths.proofs.CoveredTexts.{is_covered}
 use Rattle.word_lookup.specs.Overlays.{overlay_of}
 use Rattle.word_lookup.proofs.DictionaryLaws.{covers_all, has_words}
 use Rattle.mj_model.specs.declared.limits.TheConstants.{READS_MAX}
-use Rattle.segmenter.proofs.GoodRuns.{good_run}
+use Rattle.line_stream.proofs.GoodRuns.{good_run}
+use Rattle.segmenter.specs.PrintedLines.{Tells}
+use Rattle.segmenter.proofs.GoodLines.{not_good}
 use Rattle.segmenter.proofs.segmentation.segment.Goals as goal
 
 pub returns-clause-covered : goal.returns-clause-covered
@@ -10,4 +12,5 @@ returns-clause-covered g c = is_covered (overlay_of c.args.dictionaries.now) (ha
 
 pub returns-clause-succeeds : goal.returns-clause-succeeds
 returns-clause-succeeds g c = λ good.
-    good_run (overlay_of c.args.dictionaries.now) c.args.format.now READS_MAX _ _ _ _ c.run_over.result c.run_over.ensures.run good
+    let o = overlay_of c.args.dictionaries.now in let f = c.args.format.now in
+    good_run (Tells o f) (not_good o f) (λ line long. long) READS_MAX _ _ _ _ c.run_over.result c.run_over.ensures.run good

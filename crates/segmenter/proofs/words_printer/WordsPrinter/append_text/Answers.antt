@@ -3,7 +3,7 @@ use Rattle.std.specs.Prelude.{ℕ}
 use Rattle.out_format.specs.PrintedPaths.{ShowsPath}
 use Rattle.word_lookup.specs.Overlays.{overlay_of}
 use Rattle.segmenter.specs.PrintedLines.{Prints}
-use Rattle.segmenter.proofs.ResultLemmas.{on_ok_by}
+use Rattle.line_stream.proofs.ResultLemmas.{on_ok_by}
 use Rattle.segmenter.proofs.words_printer.WordsPrinter.append_text.Goals as goal
 
 pub returns-clause-printed : goal.returns-clause-printed

@@ -1,0 +1,182 @@
+-- Where nothing fails, a run answers Ok or Memory: each other answer has a cause.
+use Rattle.std.proofs.Common.{◌≡◌, ℕ, ◌+◌, ◌≤◌, ◌<◌, Bool, true, false, cond, List, [], ◌∷◌, ◌++◌, length, All, refl, sym, ap, ◌∙◌, subst, arith, append_assoc, append-nil, length-append, inl, inr}
+use Rattle.std.specs.Prelude.{Option, Some, None, Result, Ok, Err, nat_lt}
+use Rattle.std.proofs.lemmas.List.Elements.{All-head, All-tail, All-cons, All-nil, All-append}
+use Rattle.std.proofs.lemmas.Bool.{le-ltb}
+use Rattle.std.specs.List.{slice_split, onto_first}
+use Rattle.std.specs.Io.KnownBytes.{Consumes, IsAtEnd}
+use Rattle.mj_model.specs.Counts.{ReaderTold, WriterTold}
+use Rattle.mj_model.specs.declared.limits.TheConstants.{SENTENCE_MAX}
+use Rattle.mj_model.specs.declared.run_fault.RunFault.{RunFault}
+use Rattle.mj_model.specs.declared.run_fault.RunFault.TheVariants as run
+use Rattle.mj_model.specs.Bytes.{is_line_feed}
+use Rattle.mj_model.specs.Lines.{without_last_empty}
+use Rattle.mj_model.specs.Output.{Output, BadLine, text_lines}
+use Rattle.mj_model.specs.TextLines.{whole_lines, open_line}
+use Rattle.line_stream.specs.declared.line_fault.LineFault.{LineFault}
+use Rattle.line_stream.specs.declared.line_fault.LineFault.TheVariants.{TooLong, NotUtf8}
+use Rattle.line_stream.specs.GoodRuns.{NothingFails, IsOkOrMemory}
+use Rattle.line_stream.specs.GoodLines.{IsGood}
+use Rattle.line_stream.specs.Progress.{HasNoFeed}
+use Rattle.line_stream.specs.Runs.{Ran, both_told, has_ended, lines_read}
+use Rattle.line_stream.specs.Steps.{last_line}
+use Rattle.line_stream.proofs.PieceLemmas.{split_cons, whole_lines-append, open_line-append}
+use Rattle.line_stream.proofs.RunWork.{text_lines-parts, open_no_feed}
+
+-- ---- parts of a list of good lines
+
+front_all : (P : List ℕ → Type 0) (xs ys : List (List ℕ)) → All P (xs ++ ys) → All P xs
+front_all P [] ys h = All-nil P
+front_all P (x ∷ xs) ys h = All-cons P x xs (All-head P x (xs ++ ys) h) (front_all P xs ys (All-tail P x (xs ++ ys) h))
+
+back_all : (P : List ℕ → Type 0) (xs ys : List (List ℕ)) → All P (xs ++ ys) → All P ys
+back_all P [] ys h = h
+back_all P (x ∷ xs) ys h = back_all P xs ys (All-tail P x (xs ++ ys) h)
+
+-- ---- a text is the whole lines of a front, and the lines of what stands behind them
+
+pub text_lines-behind : (bytes rest : List ℕ) → text_lines (bytes ++ rest) ≡ whole_lines bytes ++ text_lines (open_line bytes ++ rest)
+text_lines-behind bytes rest =
+    let all = bytes ++ rest in
+    let behind = open_line bytes ++ rest in
+    text_lines-parts all
+    ∙ ap (λ z. z ++ last_line (open_line all)) (whole_lines-append bytes rest)
+    ∙ ap (λ o. (whole_lines bytes ++ whole_lines behind) ++ last_line o) (open_line-append bytes rest)
+    ∙ append_assoc (whole_lines bytes) (whole_lines behind) (last_line (open_line behind))
+    ∙ ap (λ z. whole_lines bytes ++ z) (sym (text_lines-parts behind))
+
+-- the first piece of bytes goes on over a front without an LF
+record GoesOn (front rest : List ℕ) : Type 0 where
+  first : List ℕ
+  more : List (List ℕ)
+  is : slice_split is_line_feed (front ++ rest) ≡ (front ++ first) ∷ more
+
+onto : (b : Bool) (c : ℕ) (x : List ℕ) (xss yss : List (List ℕ)) → b ≡ false → yss ≡ x ∷ xss → cond b ([] ∷ yss) (onto_first c yss) ≡ (c ∷ x) ∷ xss
+onto true c x xss yss e is = absurd (cc)
+onto false c x xss yss e is = ap (onto_first c) is
+
+goes_on : (front rest : List ℕ) → HasNoFeed front → GoesOn front rest
+goes_on [] rest none = let s = split_cons rest in record { first = s.first; more = s.more; is = s.is }
+goes_on (c ∷ cs) rest none =
+    let next = goes_on cs rest (All-tail (λ d. is_line_feed d ≡ false) c cs none) in
+    record {
+      first = next.first;
+      more = next.more;
+      is = onto (is_line_feed c) c (cs ++ next.first) next.more (slice_split is_line_feed (cs ++ rest))
+          (All-head (λ d. is_line_feed d ≡ false) c cs none) next.is;
+    }
+
+first_kept : (P : List ℕ → Type 0) (c : ℕ) (cs : List ℕ) (more : List (List ℕ)) → All P (without_last_empty ((c ∷ cs) ∷ more)) → P (c ∷ cs)
+first_kept P c cs [] h = All-head P (c ∷ cs) [] h
+first_kept P c cs (next ∷ more) h = All-head P (c ∷ cs) (without_last_empty (next ∷ more)) h
+
+front_short : (front rest : List ℕ) → HasNoFeed front → All IsGood (text_lines (front ++ rest)) → length front ≤ SENTENCE_MAX
+front_short [] rest none good = omega arith
+front_short (c ∷ cs) rest none good =
+    let next = goes_on (c ∷ cs) rest none in
+    let first = first_kept IsGood c (cs ++ next.first) next.more (subst (λ ps. All IsGood (without_last_empty ps)) next.is good) in
+    let short = first.0 in
+    let total = length-append (c ∷ cs) next.first in
+    omega (arith, short, total)
+
+-- what is read of a good text has no line that is too long
+open_short : (bytes rest : List ℕ) → All IsGood (text_lines (bytes ++ rest)) → length (open_line bytes) ≤ SENTENCE_MAX
+open_short bytes rest good =
+    front_short (open_line bytes) rest (open_no_feed bytes)
+    (back_all IsGood (whole_lines bytes) (text_lines (open_line bytes ++ rest)) (subst (λ ls. All IsGood ls) (text_lines-behind bytes rest) good))
+
+whole_good : (bytes rest : List ℕ) → All IsGood (text_lines (bytes ++ rest)) → All IsGood (whole_lines bytes)
+whole_good bytes rest good =
+    front_all IsGood (whole_lines bytes) (text_lines (open_line bytes ++ rest)) (subst (λ ls. All IsGood ls) (text_lines-behind bytes rest) good)
+
+read_good : (ended : Bool) (bytes rest : List ℕ) → (ended ≡ true → rest ≡ []) → All IsGood (text_lines (bytes ++ rest)) → All IsGood (lines_read ended bytes)
+read_good true bytes rest none good = subst (λ bs. All IsGood (text_lines bs)) (ap (λ r. bytes ++ r) (none refl) ∙ append-nil bytes) good
+read_good false bytes rest none good = whole_good bytes rest good
+
+abbrev IsShort : List ℕ → Type 0
+IsShort line = length line ≤ SENTENCE_MAX
+
+good_short : (lines : List (List ℕ)) → All IsGood lines → All IsShort lines
+good_short [] good = All-nil IsShort
+good_short (x ∷ xs) good = let head = All-head IsGood x xs good in All-cons IsShort x xs head.0 (good_short xs (All-tail IsGood x xs good))
+
+last_short : (tail : List ℕ) → length tail ≤ SENTENCE_MAX → All IsShort (last_line tail)
+last_short [] h = All-nil IsShort
+last_short (c ∷ cs) h = All-cons IsShort (c ∷ cs) [] h (All-nil IsShort)
+
+read_short : (bytes rest : List ℕ) → All IsGood (text_lines (bytes ++ rest)) → All IsShort (text_lines bytes)
+read_short bytes rest good =
+    subst (λ ls. All IsShort ls) (sym (text_lines-parts bytes))
+    (All-append IsShort (whole_lines bytes) (last_line (open_line bytes)) (good_short (whole_lines bytes) (whole_good bytes rest good))
+    (last_short (open_line bytes) (open_short bytes rest good)))
+
+-- ---- what is left of a told text
+
+record Cut (text bytes : List ℕ) (left : Option (List ℕ)) : Type 0 where
+  rest : List ℕ
+  parts : text ≡ bytes ++ rest
+  none : IsAtEnd left → rest ≡ []
+
+abbrev some_or : List ℕ → Option (List ℕ) → List ℕ
+some_or other None = other
+some_or other (Some xs) = xs
+
+cut_text : (before after : Option (List ℕ)) (text bytes : List ℕ) → before ≡ Some text → Consumes before after bytes → Cut text bytes after
+cut_text None after text bytes e h = absurd (cc)
+cut_text (Some xs) None text bytes e h = absurd h
+cut_text (Some xs) (Some ys) text bytes e h = let same : xs ≡ text = ap (some_or []) e in record { rest = ys; parts = sym same ∙ h; none = λ at_end. at_end }
+
+-- ---- a bad line among good ones
+
+module _ (T : List ℕ → Result (List ℕ) LineFault → Type 0)
+    (not_good : (line : List ℕ) (fault : LineFault) → T line (Err fault) → IsGood line → ⊥)
+    (too_long : (line : List ℕ) → T line (Err TooLong) → SENTENCE_MAX < length line) where
+  none_bad : (n : ℕ) (lines : List (List ℕ)) (out : List ℕ) (bad : BadLine LineFault) → All IsGood lines → Output T n lines out (Some bad) → ⊥
+  none_bad n [] out bad good h = let clash = h.1 in absurd (cc)
+  none_bad n (x ∷ xs) out bad good (inl h) = not_good x h.0 h.1 (All-head IsGood x xs good)
+  none_bad n (x ∷ xs) out bad good (inr h) = none_bad (n + 1) xs h.1 bad (All-tail IsGood x xs good) h.3
+
+  too_long_is : (line : List ℕ) (fault : LineFault) → fault ≡ TooLong → T line (Err fault) → SENTENCE_MAX < length line
+  too_long_is line fault e tells = too_long line (subst (λ x. T line (Err x)) e tells)
+
+  abbrev fault_or : LineFault → Option (BadLine LineFault) → LineFault
+  fault_or other None = other
+  fault_or other (Some bad) = bad.fault
+
+  none_too_long : (n : ℕ) (lines : List (List ℕ)) (out : List ℕ) (bad : BadLine LineFault) → bad.fault ≡ TooLong → All IsShort lines
+      → Output T n lines out (Some bad) → ⊥
+  none_too_long n [] out bad e short h = let clash = h.1 in absurd (cc)
+  none_too_long n (x ∷ xs) out bad e short (inl h) =
+      let same : bad.fault ≡ h.0 = ap (fault_or TooLong) h.3 in
+      let long = too_long_is x h.0 (sym same ∙ e) h.1 in
+      let low = All-head IsShort x xs short in
+      absurd (omega (arith, long, low))
+  none_too_long n (x ∷ xs) out bad e short (inr h) = none_too_long (n + 1) xs h.1 bad e (All-tail IsShort x xs short) h.3
+
+  -- ---- the answer
+
+  pub good_run : (bound : ℕ) (from to : ReaderTold) (before after : WriterTold) (result : Result ℕ RunFault)
+      → Ran T bound from to before after result → NothingFails bound from to before after → IsOkOrMemory result
+  good_run bound from to before after (Ok lines) ran g = tt
+  good_run bound from to before after (Err (run.Source fault)) ran g = ran.ends
+  good_run bound from to before after (Err (run.UserSource i fault)) ran g = ran.ends
+  good_run bound from to before after (Err (run.Read line)) ran g =
+      let failed = ran.ends.1.one_read in let none = g.no_failure.no_read in absurd (omega (arith, failed, none))
+  good_run bound from to before after (Err (run.Write sent)) ran g =
+      let failed = ran.ends.1.one_write in let none = g.no_failure.no_write in absurd (omega (arith, failed, none))
+  good_run bound from to before after (Err (run.NotUtf8 line)) ran g =
+      let ended = has_ended (both_told from before) (both_told to after) in
+      let cut = cut_text from.left to.left g.text ran.bytes g.told ran.read in
+      let good = subst (λ t. All IsGood (text_lines t)) cut.parts g.good in
+      none_bad 1 (lines_read ended ran.bytes) ran.written (record { number = line; fault = NotUtf8 })
+      (read_good ended ran.bytes cut.rest (λ e. cut.none (ran.to_the_end e)) good) ran.ends.0
+  good_run bound from to before after (Err (run.TooLong line)) ran g =
+      let cut = cut_text from.left to.left g.text ran.bytes g.told ran.read in
+      let good = subst (λ t. All IsGood (text_lines t)) cut.parts g.good in
+      none_too_long 1 (text_lines ran.bytes) ran.written (record { number = line; fault = TooLong }) refl
+      (read_short ran.bytes cut.rest good) ran.ends.0
+  good_run bound from to before after (Err (run.InputTooLong line)) ran g =
+      let ended = g.ends ran.ends.1 in
+      let no_end : has_ended (both_told from before) (both_told to after) ≡ false = ap (λ n. nat_lt from.ends n) ran.ends.0.no_end ∙ le-ltb from.ends from.ends (omega arith) in
+      absurd (let clash : true ≡ false = sym ended ∙ no_end in cc)
+  good_run bound from to before after (Err (run.Memory line)) ran g = tt

@@ -1,0 +1,9 @@
+pub mod PieceLemmas
+pub mod PrintedBehind
+pub mod PieceWork
+pub mod ResultLemmas
+pub mod WritingLemmas
+pub mod StepLemmas
+pub mod RunWork
+pub mod RunEnds
+pub mod GoodRuns

@@ -1,0 +1,6 @@
+pub mod LineErrors
+pub mod GoodLines
+pub mod Progress
+pub mod Steps
+pub mod Runs
+pub mod GoodRuns

@@ -1,0 +1,14 @@
+//! The loop over a stream of lines: read, print line by line, write. What a line prints is its printer's.
+#![tactic(auto)]
+
+mod line_fault;
+mod line_printer;
+mod piece;
+mod progress;
+mod reading;
+mod steps;
+mod writing;
+
+pub use line_fault::{LineError, LineFault};
+pub use line_printer::LinePrinter;
+pub use reading::{BUFFER, run_over};
