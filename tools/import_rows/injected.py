@@ -143,7 +143,9 @@ def wrong_by_signal(number, programs, folder):
     slow = work.parent / f"{number.name}.slow" / "bin"
     (slow / "dictc").write_text(SLOW)
     begun = folder / f"{number.name}.begun"
-    ran = subprocess.Popen(command(slow), cwd=work, env=environment(work, BEGUN=str(begun)), stdout=subprocess.DEVNULL)
+    # A caller in the background ignores some signals, and so would the import.
+    heard = lambda: signal.signal(number, signal.SIG_DFL)  # noqa: E731
+    ran = subprocess.Popen(command(slow), cwd=work, env=environment(work, BEGUN=str(begun)), stdout=subprocess.DEVNULL, preexec_fn=heard)
     while not begun.exists() and ran.poll() is None:
         time.sleep(0.01)
     ran.send_signal(number)
