@@ -7,6 +7,3 @@ mod row;
 mod token;
 
 pub use cells::{CELLS_MAX, Cells};
-
-#[cfg(test)]
-mod tests;

@@ -21,6 +21,3 @@ mod unk_table;
 pub use char_table::{CharTable, read_chars};
 pub use info_range::InfoRange;
 pub use unk_table::{UnkTable, read_unk};
-
-#[cfg(test)]
-mod tests;

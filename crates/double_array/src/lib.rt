@@ -25,6 +25,3 @@ pub use hits::Prefixes;
 pub use insertion::Inserted;
 pub use lookup::{get, prefixes};
 pub use walk::Hit;
-
-#[cfg(test)]
-mod tests;

@@ -32,6 +32,3 @@ pub use sorted_lexicon::SortedLexicon;
 pub use source_lexicon::SourceLexicon;
 pub use source_lines::lines;
 pub use words::Words;
-
-#[cfg(test)]
-mod tests;

@@ -10,6 +10,3 @@ mod standing;
 pub use matrix::Matrix;
 pub use read::read_matrix;
 pub use reader::MatrixReader;
-
-#[cfg(test)]
-mod tests;

@@ -44,6 +44,3 @@ pub use sources::Sources;
 pub use text_in::TextIn;
 pub use text_out::TextOut;
 pub use word::{Origin, Word};
-
-#[cfg(test)]
-mod tests;

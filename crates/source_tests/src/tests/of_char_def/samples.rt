@@ -1,6 +1,6 @@
 //! The sample's sources with further lines.
 
-use crate::{CharTable, read_chars};
+use char_def::{CharTable, read_chars};
 use mj_model::sample;
 use std::alloc::AllocError;
 use std::test::Fail;

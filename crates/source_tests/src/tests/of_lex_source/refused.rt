@@ -1,5 +1,5 @@
 //! Refused growths. A growth is refused where the tests run under `tools/refuse`, which looks for the line that says so.
-use crate::{SourceLexicon, append_field, field, read_lexicon};
+use lex_source::{SourceLexicon, append_field, field, read_lexicon};
 use mj_model::MatrixSizes;
 use mj_model::SourceKind::Memory;
 use std::test::Fail;

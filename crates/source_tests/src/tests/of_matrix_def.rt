@@ -2,7 +2,7 @@
 mod pieces;
 mod refused;
 
-use crate::read_matrix;
+use matrix_def::read_matrix;
 use mj_model::MatrixSizes;
 use mj_model::SourceKind::{BadHeader, BadRow, PairOutside, TooLarge};
 use std::test::Fail;

@@ -1,7 +1,7 @@
 //! Rows of lexicons, fields and numbers.
 mod refused;
 
-use crate::{
+use lex_source::{
     FilledLines, SourceLexicon, Words, append_field, context_id, cost, field, lines, number,
     read_lexicon,
 };

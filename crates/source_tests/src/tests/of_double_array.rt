@@ -3,8 +3,8 @@ mod access;
 mod growing;
 mod relocated;
 
-use crate::tests::access::{Counting, expect_hits, insert, value};
-use crate::{CellRead, DaFault, DoubleArray, Inserted};
+use self::access::{Counting, expect_hits, insert, value};
+use double_array::{CellRead, DaFault, DoubleArray, Inserted};
 use mj_model::NamedFault;
 use std::test::Fail;
 

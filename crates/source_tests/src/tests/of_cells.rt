@@ -1,6 +1,6 @@
 //! Rows of cells, and refused growths. A growth is refused where the tests run under `tools/refuse`,
 //! which looks for the line that says so.
-use crate::{CELLS_MAX, Cells};
+use cells::{CELLS_MAX, Cells};
 use std::alloc::{AllocError, Global};
 use std::test::Fail;
 

@@ -1,7 +1,7 @@
 //! Rows of `unk.def`.
 
 use super::samples::{chars_with, with_lines};
-use crate::{UnkTable, read_unk};
+use char_def::{UnkTable, read_unk};
 use mj_model::SourceKind::{BadNumber, MissingCategory, NoSuchCategory, TooFewFields};
 use mj_model::{MatrixSizes, SourceFault, sample};
 use std::test::Fail;

@@ -1,7 +1,7 @@
 //! Counted reads.
 
 use super::device::Device;
-use crate::{Counted, TextIn};
+use mj_model::{Counted, TextIn};
 use std::io::ErrorKind::{Interrupted, OutOfMemory, TimedOut};
 use std::io::Read;
 

@@ -1,5 +1,5 @@
 //! A `matrix.def` that comes in pieces says what it says as one slice.
-use crate::{Matrix, MatrixReader, read_matrix};
+use matrix_def::{Matrix, MatrixReader, read_matrix};
 use mj_model::SourceFault;
 use mj_model::SourceKind::{BadHeader, BadRow, PairOutside};
 use std::alloc::Global;

@@ -2,8 +2,8 @@
 //!
 //! The state `a` has the children 1, 2, 3 and its value, the root has `a` and `b`. A byte whose cell, from the base of `a`, is
 //! that of `b`, makes the two of the root move: `a` is one of them.
-use crate::tests::access::{insert, value};
-use crate::{CellRead, DoubleArray};
+use super::access::{insert, value};
+use double_array::{CellRead, DoubleArray};
 use std::test::Fail;
 
 const KEYS: [&[u8]; 5] = [b"a", b"b", b"a\x01", b"a\x02", b"a\x03"];

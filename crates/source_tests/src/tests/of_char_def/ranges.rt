@@ -1,7 +1,7 @@
 //! Ranges of code points with the same categories.
 
 use super::samples::with_lines;
-use crate::read_chars;
+use char_def::read_chars;
 use std::test::Fail;
 
 #[test]

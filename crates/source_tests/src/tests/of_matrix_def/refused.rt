@@ -1,5 +1,5 @@
 //! Refused growths. A growth is refused where the tests run under `tools/refuse`, which looks for the line that says so.
-use crate::read_matrix;
+use matrix_def::read_matrix;
 use mj_model::SourceKind::Memory;
 use std::test::Fail;
 

@@ -1,6 +1,6 @@
 //! Refused growths. A growth is refused where the tests run under `tools/refuse`, which looks for the line that says so.
 
-use crate::{CharTable, UnkTable, read_chars, read_unk};
+use char_def::{CharTable, UnkTable, read_chars, read_unk};
 use mj_model::SourceKind::Memory;
 use mj_model::{SourceFault, sample};
 use std::test::Fail;

@@ -1,7 +1,7 @@
 //! Rows of `char.def`.
 
 use super::samples::{chars_with, with_lines};
-use crate::read_chars;
+use char_def::read_chars;
 use mj_model::SourceKind::{BadLine, BadRange, NoDefault, NoSpace, Twice, UndefinedCategory};
 use mj_model::{Category, sample};
 use std::test::Fail;

@@ -1,6 +1,6 @@
 //! All pairs of `a` or `b` with a byte, inserted one after another.
-use crate::tests::access::{expect_hits, insert, value};
-use crate::{CellRead, DaFault, DoubleArray, Inserted};
+use super::access::{expect_hits, insert, value};
+use double_array::{CellRead, DaFault, DoubleArray, Inserted};
 use std::test::Fail;
 
 const KEYS: usize = 513;

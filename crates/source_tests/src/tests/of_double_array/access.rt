@@ -2,7 +2,7 @@
 ghost use Rattle.std.specs.Prelude.{◌≡◌};
 ghost use Rattle.double_array.specs.CellRules.{AreCells};
 
-use crate::{CellRead, DaFault, DoubleArray, Hit, Inserted, get, prefixes};
+use double_array::{CellRead, DaFault, DoubleArray, Hit, Inserted, get, prefixes};
 use std::cell::Cell;
 use std::process::Abort;
 

@@ -1,7 +1,7 @@
 //! Counted writes and flushes.
 
 use super::device::Device;
-use crate::{Counted, TextOut};
+use mj_model::{Counted, TextOut};
 use std::io::ErrorKind::{Interrupted, OutOfMemory, TimedOut};
 use std::io::Write;
 
