@@ -58,7 +58,7 @@ class Compilation:
     def __init__(self, names, teller):
         self.names = {name.decode(): shown(path) for name, path in names.items()}
         self.sizes = {os.path.realpath(path): os.path.getsize(path) for path in names.values() if os.path.isfile(path)}
-        self.pattern = re.compile("(?<![^ ])(" + "|".join(map(re.escape, self.names)) + ")(?=:)")
+        self.pattern = re.compile("(?<![^ ])(" + "|".join(map(re.escape, self.names)) + ")(?=:|$)")
         self.teller = teller
 
     def with_paths(self, text):

@@ -6,7 +6,7 @@ from .faults import of_file, shown
 
 PROGRAM = "kumquatsieve-import"
 # Between two lines of one step.
-SECONDS = 1.0
+SECONDS = 2.0
 
 
 def write_all(descriptor, line):
