@@ -18,7 +18,7 @@ from typing import NamedTuple, Optional
 from .running import in_code, lay
 
 SIGNALS = (signal.SIGHUP, signal.SIGINT, signal.SIGQUIT, signal.SIGTERM)
-MAKING = ("mkdir", "symlink", "link", "linkat", "rename", "chmod", "write", "fsync")
+MAKING = ("mkdir", "mkdirat", "symlink", "symlinkat", "link", "linkat", "rename", "renameat", "renameat2", "chmod", "fchmodat", "write", "fsync")
 OTHERS = ("unlink", "unlinkat", "rmdir", "pipe2", "vfork", "clone", "clone3", "close", "openat")
 SOURCES = in_code("euc_jp", a_csv="ん,1,1,5,X\n".encode("euc_jp") * 2 + b"\xa4,1,1,5,X\n", dicrc=b"new\n")
 SOURCES["pos-id.def"] = "名詞 1\n".encode("euc_jp")
