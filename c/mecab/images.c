@@ -105,7 +105,9 @@ static unsigned number_at(const bytes *image, size_t at) {
 static bool fail_image(fault *error, const char *path, const bytes *image, uint32_t code) {
     if (image->length < HEADER || (number_at(image, 0) ^ OF_MECAB) != image->length) return fail_code(error, path, code);
     return fail(
-        error, "%s is a dictionary of MeCab's: `dictc user --dic IMG --out USER.img USER.csv` makes one of its source, kumquatsieve-import a system's", path
+        error,
+        "%s is a dictionary of MeCab's: `dictc user --dic IMG --out USER.img USER.csv` makes one of a user's source, kumquatsieve-import a system's",
+        path
     );
 }
 

@@ -26,8 +26,8 @@ typedef struct tables {
     char *unk_feature;
 } tables;
 
-/* Which tables taggers take, and what is asked of them. It goes with the last of its holders: its owner, its taggers and its lattices. The
-   pointer to its tables is under the lock of lock.c; their number is told beside it, so that who has them already needs no lock. */
+/* Which tables taggers take, and what is asked of new ones. It goes with the last of its holders: its owner, its taggers and its lattices. All
+   but the texts is under the lock of lock.c; the number of its tables is told beside them, so that who has those already needs no lock. */
 struct mecab_model_t {
     atomic_ulong holders;
     tables *tables;

@@ -98,7 +98,8 @@ mecab_lattice_t *mecab_model_new_lattice(mecab_model_t *model) {
     return lattice;
 }
 
-/* The dictionaries of a model are exchanged for those of another, which goes; formats stay. (MeCab) Sentences that come later are cut by them. */
+/* A model takes the dictionaries of another, which goes, and what that asks of new taggers; formats stay. (MeCab) Sentences that come later are
+   cut by them. */
 int mecab_model_swap(mecab_model_t *model, mecab_model_t *other) {
     if (!is_given(model) || !is_given(other)) return 0;
     if (model == other) return fail(common_fault(), "a model is swapped for itself");
@@ -108,6 +109,8 @@ int mecab_model_swap(mecab_model_t *model, mecab_model_t *other) {
     model->number = model->tables->number;
     other->tables = kept;
     other->number = kept->number;
+    model->request = other->request;
+    model->theta = other->theta;
     unlock_shared();
     mecab_model_destroy(other);
     return 1;

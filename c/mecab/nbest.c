@@ -99,7 +99,8 @@ static bool print_one(mecab_lattice_t *lattice, const mecab_node_t *node, fault 
     if (!set_bytes(to, "", 0)) return fail_memory(error);
     if (lattice->model) return print_by_status(&lattice->model->texts, lattice, node, to, error);
     const char *feature = node->feature ? node->feature : "";
-    return (add_bytes(to, node->surface, node->length) && add_bytes(to, "\t", 1) && add_bytes(to, feature, strlen(feature))) || fail_memory(error);
+    bool is_put = add_bytes(to, node->surface, node->length) && add_bytes(to, "\t", 1) && add_bytes(to, feature, strlen(feature));
+    return is_put || fail_memory(error);
 }
 
 const char *text_of_node(mecab_lattice_t *lattice, const mecab_node_t *node) {

@@ -149,7 +149,8 @@ bool posid_of(const posids *of, const kumquatsieve_word *word, const char *featu
     _Atomic uint32_t *kept = NULL;
     *id = 0;
     if (!of) return true;
-    if (word->dictionary < of->dictionary_count && word->token < of->token_counts[word->dictionary]) kept = &of->ids[word->dictionary][word->token];
+    bool is_counted = word->dictionary < of->dictionary_count && word->token < of->token_counts[word->dictionary];
+    if (is_counted) kept = &of->ids[word->dictionary][word->token];
     uint32_t known = kept ? atomic_load_explicit(kept, memory_order_relaxed) : 0;
     if (known != 0) *id = (uint16_t)(known - 1);
     if (known != 0) return true;

@@ -6,7 +6,8 @@
 
 /* What MeCab's files can't set, since MeCab has a value of its own for each before it reads them. */
 static const char *const NOT_IN_FILES[] = {
-    "node-format", "unk-format", "bos-format", "eos-format", "eon-format", "lattice-level", "nbest", "max-grouping-size", "theta", "cost-factor",
+    "node-format", "unk-format", "bos-format", "eos-format", "eon-format", "lattice-level", "nbest", "max-grouping-size", "theta",
+    "cost-factor",
 };
 
 static setting *find(const settings *of, const char *name, size_t length) {
@@ -105,7 +106,7 @@ static bool read_lines(settings *to, FILE *file, const char *path, fault *error)
 /* What is set already stays as it is. */
 bool read_settings(settings *to, const char *path, fault *error) {
     FILE *file = fopen(path, "re");
-    if (!file) return fail(error, "no such file or directory: %s", path);
+    if (!file) return fail(error, "%s: %s", path, strerror(errno));
     bool is_read = read_lines(to, file, path, error);
     fclose(file);
     return is_read;

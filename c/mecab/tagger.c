@@ -14,8 +14,10 @@ mecab_t *open_tagger(mecab_model_t *model, fault *error) {
     }
     tagger->model = hold_model(model);
     tagger->lattice = lattice;
+    lock_shared();
     tagger->request = model->request;
     tagger->theta = model->theta;
+    unlock_shared();
     return tagger;
 }
 

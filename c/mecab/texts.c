@@ -80,7 +80,8 @@ static bool choose_own(format *to, const settings *from, const char *style, kumq
 bool choose_texts(format *to, const settings *from, kumquatsieve_cutter *cutter, fault *error) {
     const char *style = setting_of(from, "output-format-type");
     if (!style) style = "";
-    if (strcmp(style, "dump") == 0 || strcmp(style, "em") == 0) return fail(error, "output format type %s: not supported by libmecab over Kumquatsieve", style);
+    if (strcmp(style, "dump") == 0) return fail_left_out(error, "the output format type dump");
+    if (strcmp(style, "em") == 0) return fail_left_out(error, "the output format type em");
     bool chosen = true;
     if (strcmp(style, "wakati") == 0) *to = WAKATI;
     else if (strcmp(style, "none") == 0) *to = NONE;

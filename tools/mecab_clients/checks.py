@@ -37,9 +37,9 @@ def check_threads(folder, library, lines, dictionary):
     run(["valgrind", "-q", "--tool=helgrind", "--error-exitcode=9", program, dictionary, first_lines(lines, 20, folder)], ours)
     prefix = library.parents[3]
     layer = [*sorted((TOP / "c" / "mecab").glob("*.c")), prefix / "lib" / "libkumquatsieve.a"]
-    watched = ["gcc", "-std=gnu11", "-O1", "-g", "-fsanitize=thread", f"-I{prefix / 'include'}", CLIENTS / "one_tagger.c", *layer, "-pthread", "-ldl"]
     program = folder / "watched"
-    run([*watched, "-o", program], os.environ)
+    flags = ["-std=gnu11", "-O1", "-g", "-fsanitize=thread", f"-I{prefix / 'include'}", "-pthread"]
+    run(["gcc", *flags, CLIENTS / "one_tagger.c", *layer, "-ldl", "-o", program], os.environ)
     run([program, dictionary, lines], os.environ)
     print("mecab-clients: one tagger in four threads: no race", flush=True)
 

@@ -137,7 +137,8 @@ static void places(void) {
             if (node->isbest) printf("begins at %zu: %.*s %d\n", at, node->length, node->surface, node == mecab_lattice_get_eos_node(lattice));
         }
         for (mecab_node_t *node = mecab_lattice_get_end_nodes(lattice, at); node; node = node->enext) {
-            if (node->isbest && node->stat != MECAB_EOS_NODE) printf("ends at %zu: %.*s %d\n", at, node->length, node->surface, ends[0] == mecab_lattice_get_bos_node(lattice));
+            if (!node->isbest || node->stat == MECAB_EOS_NODE) continue;
+            printf("ends at %zu: %.*s %d\n", at, node->length, node->surface, ends[0] == mecab_lattice_get_bos_node(lattice));
         }
     }
     mecab_lattice_destroy(lattice);

@@ -68,7 +68,8 @@ def printed_by_options(lines, environment, folder):
     """What the program prints by each row of options, and its status."""
     told = []
     settings = folder / "settings"
-    settings.write_text(f"; settings\n\ndicdir = {dictionary_of(environment)}\noutput-format-type = own\nnode-format-own = [%m]\neos-format-own=\\n\n")
+    formats = "output-format-type = own\nnode-format-own = [%m]\neos-format-own=\\n\n"
+    settings.write_text(f"; settings\n\ndicdir = {dictionary_of(environment)}\n{formats}")
     for options in OPTIONS:
         words = [word.replace("SETTINGS", str(settings)) for word in options]
         done = subprocess.run(["mecab", *words, lines], stdout=subprocess.PIPE, stderr=subprocess.DEVNULL, env=environment)
