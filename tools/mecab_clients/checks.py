@@ -2,6 +2,7 @@
 import os
 import re
 import shutil
+import subprocess
 import sys
 
 from mecab_clients.common import CLIENTS, HEADER, PYTHON, TOP, compiled, first_lines, run
@@ -28,6 +29,26 @@ def check_calls(folder, library):
     for source in ("calls.c", "sharing.c", "odd_texts.c"):
         program = compiled(CLIENTS / source, folder, library)
         print(run(["valgrind", "-q", "--leak-check=full", "--error-exitcode=9", program, image], ours).decode(), end="", flush=True)
+
+
+def check_growths(folder, library):
+    """Each growth of the heap refused in turn: the call that wanted it says so, or does without."""
+    image, heap, report = folder / "sample.img", folder / "refuse.so", folder / "growths-told"
+    image.with_suffix(".dicrc").write_text("bos-feature = B,*\nnode-format-x = %m %F-[0,1] %h\\n\n")
+    image.with_suffix(".pos-id.def").write_text("名詞 3\n* 4\n")
+    run(["gcc", "-shared", "-fPIC", "-O1", TOP / "tools" / "refuse.c", "-o", heap, "-ldl"], os.environ)
+    program = compiled(CLIENTS / "growths.c", folder, library)
+    count = 0
+    for options in ("-C", "-Ox"):
+        for number in range(1, 10_000):
+            ours = dict(os.environ, LD_LIBRARY_PATH=str(library.parent), LD_PRELOAD=str(heap), REFUSE=str(number), REFUSE_REPORT=str(report))
+            status = subprocess.run([program, image, options], env=ours, stderr=subprocess.DEVNULL).returncode
+            if "refused 0" in report.read_text():
+                break
+            if status not in (0, 1):
+                sys.exit(f"mecab-clients: growth {number} refused, {options}: status {status}")
+            count += 1
+    print(f"mecab-clients: {count} growths, each refused in turn: none ends the program", flush=True)
 
 
 def check_threads(folder, library, lines, dictionary):

@@ -23,6 +23,24 @@ def told_refusals():
             print(options, "is refused")
 
 
+def told_requests():
+    """What taggers and lattices are asked for by options, and after a level was set."""
+    for more in ("", "-C", "-m", "-l0", "-l1", "-l2", "-N1", "-t0.5 -c7"):
+        tagger, model = MeCab.Tagger(f"{OPTIONS} {more}"), MeCab.Model(f"{OPTIONS} {more}")
+        print(more, tagger.request_type(), model.createTagger().request_type(), model.createLattice().request_type(), tagger.theta())
+        for level in (1, 2, 0):
+            tagger.set_lattice_level(level)
+            print(tagger.lattice_level(), tagger.request_type())
+
+
+def told_nodes(tagger):
+    """Nodes in a tagger's format."""
+    node = tagger.parseToNode("すもも  x")
+    while node:
+        print([tagger.formatNode(node)])
+        node = node.next
+
+
 def main():
     model, wakati = MeCab.Model(OPTIONS), MeCab.Tagger(OPTIONS + " -Owakati")
     tagger, lattice, own = model.createTagger(), model.createLattice(), MeCab.Lattice()
@@ -38,6 +56,9 @@ def main():
     own.set_sentence("もも")
     print(wakati.parse(own), own.toString())
     told_refusals()
+    told_requests()
+    for more in ("", "-Owakati", "-F%m,%h,%F-[0,1],%ps,%pb -U<%m> -B[%f[0] -E]%ps"):
+        told_nodes(MeCab.Tagger(f"{OPTIONS} {more}"))
     lattice.clear()
     print(lattice.is_available(), lattice.size(), tagger.parse(lattice))
 
