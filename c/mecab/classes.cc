@@ -1,5 +1,6 @@
 // MeCab's C++ interface over its C interface.
 #include "layer_cpp.h"
+#include <new>
 
 namespace {
 
@@ -122,9 +123,15 @@ public:
     mecab_model_t *at;
 };
 
-// Each has nothing where the C interface answers nothing.
+void give_back(mecab_t *at) { mecab_destroy(at); }
+void give_back(mecab_lattice_t *at) { mecab_lattice_destroy(at); }
+void give_back(mecab_model_t *at) { mecab_model_destroy(at); }
+
+// Each has nothing where the C interface answers nothing, or where there is no memory.
 template <typename Over, typename At> Over *over(At *at) {
-    return at != nullptr ? new Over(at) : nullptr;
+    Over *made = at != nullptr ? new (std::nothrow) Over(at) : nullptr;
+    if (made == nullptr) give_back(at);
+    return made;
 }
 
 }  // namespace
