@@ -88,6 +88,7 @@ def clients():
     groonga = works("groonga", "--version") and GROONGA_TOKENIZER.exists()
     ruby = lambda lines, environment, folder: run(["ruby", CLIENTS / "nodes.rb", lines], environment)
     perl = lambda lines, environment, folder: run(["perl", CLIENTS / "nodes.pl", lines], environment)
+    lattices = lambda lines, environment, folder: run(["perl", CLIENTS / "lattice.pl", first_lines(lines, 2000, folder)], environment)
     mecab = lambda lines, environment, folder: run(["mecab", lines], environment) + run(["mecab", "-Owakati", lines], environment)
     coprocess = lambda lines, environment, folder: run([PYTHON, CLIENTS / "coprocess.py"], environment)
     return [
@@ -99,6 +100,7 @@ def clients():
         ("mecab with options and formats", works("mecab", "--version"), printed_by_options),
         ("mecab as a coprocess", works("mecab", "--version"), coprocess),
         ("Text::MeCab", works("perl", "-MText::MeCab", "-e", "1"), perl),
+        ("MeCab.pm", works("perl", "-MMeCab", "-e", "1"), lattices),
         ("python3-mecab", works(PYTHON, "-c", "import MeCab"), printed_by_python),
         ("libmecab-java", JAR.exists() and works("javac", "-version"), printed_by_java),
         ("ruby-mecab", works("ruby", "-e", 'require "MeCab"'), ruby),
