@@ -11,6 +11,11 @@ static int report(const char *text) {
     return 1;
 }
 
+static int report_file(const char *path) {
+    fprintf(stderr, "mecab: %s: %s\n", path, strerror(errno));
+    return 1;
+}
+
 static bool write_text(mecab_t *tagger, FILE *to, fault *error) {
     const bytes *text = &tagger->lattice->printed;
     return fwrite(text->at, 1, text->length, to) == text->length || fail(error, "a write failed: %s", strerror(errno));
@@ -46,10 +51,7 @@ static int cut_lines(mecab_t *tagger, int from, FILE *to, tally *bad) {
 static int cut_file(mecab_t *tagger, const char *path, FILE *to, tally *bad) {
     if (strcmp(path, "-") == 0) return cut_lines(tagger, STDIN_FILENO, to, bad);
     int from = open(path, O_RDONLY | O_CLOEXEC);
-    if (from < 0) {
-        fprintf(stderr, "mecab: %s: %s\n", path, strerror(errno));
-        return 1;
-    }
+    if (from < 0) return report_file(path);
     int status = cut_lines(tagger, from, to, bad);
     close(from);
     return status;
@@ -87,7 +89,7 @@ static int run(settings *from) {
     FILE *to = tagger && path && *path ? fopen(path, "wbe") : stdout;
     int status = 0;
     if (!tagger) status = report(common_fault()->text);
-    else if (!to) status = report(path);
+    else if (!to) status = report_file(path);
     else status = cut_into(tagger, from, to);
     if (to && fflush(to) != 0 && status == 0) status = report("a write failed");
     if (to && to != stdout && fclose(to) != 0 && status == 0) status = report("a write failed");
