@@ -5,7 +5,6 @@ from typing import Any, Callable, Dict, List, Optional, Sequence, Tuple, Type, T
 from ._fields import names_beside
 from ._formats import Format, texts_of
 from ._handle import DEFAULT, GROUPING, SPACED, Handle, Texts
-from ._handles import Handles
 from ._images import Image, Origin, default, origin_of, path_of
 from ._lines import Answers, Lines, many_at_once, one_by_one
 from ._loaded import LOADED
@@ -53,7 +52,7 @@ class Cutter:
         """Another cutter over the same dictionaries, with the same grouping. Each is closed by itself."""
         other = type(self).__new__(type(self))
         other.__dict__.update(self.__dict__)
-        other._handles = Handles(self._handles.share())
+        other._handles = self._handles.share()
         return other
 
     __copy__ = share
@@ -61,7 +60,7 @@ class Cutter:
     def __reduce__(self) -> Tuple[Any, ...]:
         if self._origin is None:
             raise TypeError("a cutter of an image's bytes can't be pickled: make it of the image's path or name")
-        self._handles.share().close()  # what is closed says so
+        self._handles.look()
         state = {name: value for name, value in self.__dict__.items() if name not in ("_origin", "_handles")}
         return again, (type(self), self._origin, self._handles.grouping, state)
 

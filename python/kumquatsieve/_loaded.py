@@ -62,12 +62,12 @@ class Loaded:
             if kept is None or there != key:
                 kept = self._shared(key) or Handles(load(*origin))
                 self._kept[origin] = key, kept
-            return Handles(kept.share())
+            return kept.share()
 
     def _shared(self, key: Key) -> Optional[Handles]:
         """Handles over the dictionaries of a cutter that is there and not closed."""
         try:
-            return Handles(self._known[key].share())
+            return self._known[key].share()
         except (KeyError, ValueError):
             return None
 

@@ -17,7 +17,8 @@ def encoded(text: str) -> bytes:
 
 def line_of(line: str) -> bytes:
     """A line in UTF-8 without its own end."""
-    return without_end(encoded(line))
+    text = encoded(line)
+    return without_end(text) if b"\n" in text else text
 
 
 def without_end(line: bytes) -> bytes:

@@ -64,10 +64,10 @@ def test_close_waits_for_the_calls_that_run(system):
     threads = [begun(lambda: done.append("".join(cutter.wakati(LONG)))) for _ in range(2)]
     assert len(cutter._handles._used) == 2
     cutter.close()
-    assert cutter._handles._used == {} and cutter._handles._free == []
+    assert cutter._handles._used == {}
     for thread in threads:
         thread.join(WAIT)
-    assert done == [LONG, LONG]
+    assert done == [LONG, LONG] and cutter._handles._free == []
 
 
 def test_two_threads_close_at_once(system):
