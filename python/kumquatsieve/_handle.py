@@ -1,7 +1,7 @@
 """One cutter of the library's."""
 import weakref
 from ctypes import addressof, c_size_t, c_uint32, c_uint64
-from typing import Any, List, NamedTuple, Optional, Tuple
+from typing import Any, Iterator, List, Optional, Tuple
 
 from ._buffers import FIELDS, Buffers
 from ._fault import Fault, raise_fault
@@ -9,18 +9,8 @@ from ._library import LIBRARY, OK, PARTS, Slot
 
 Texts = Tuple[bytes, bytes, bytes, bytes]
 
-
-class Told(NamedTuple):
-    """What the library tells of a line: the cost of its path, and for each word the record, the surface, the feature and the path's
-    cost."""
-
-    total: int
-    records: bytes
-    surfaces: List[str]
-    features: List[str]
-    totals: List[str]
-
-
+# What the library tells of a line: the cost of its path, the records of its words, and the surface, the feature and the path's cost of each.
+Told = Tuple[int, bytes, List[str]]
 
 GROUPING = 24
 DEFAULT: Texts = (b"%m\\t%H\\n", b"%m\\t%H\\n", b"", b"EOS\\n")
@@ -88,13 +78,18 @@ class Handle:
         total = self._buffers.total()
         records = self._buffers.records_of(self._at)
         lines = self._lines(WORDS)
-        count = len(records) // FIELDS.size
-        if len(lines) == 3 * count + 1:
-            return Told(total, records, lines[:-1:3], lines[1::3], lines[2::3])
-        # A line feed stands in a surface or in a feature.
-        surfaces = [line[start:end].decode() for _, start, end, *_ in FIELDS.iter_unpack(records)]
-        features = [self._buffers.text_of(FEATURE, self._at, number) for number in range(count)]
-        return Told(total, records, surfaces, features, self._lines(TOTALS)[:-1])
+        lines.pop()
+        if FIELDS.size * len(lines) != 3 * len(records):
+            lines = list(self._told_apart(line, records))
+        return total, records, lines
+
+    def _told_apart(self, line: bytes, records: bytes) -> Iterator[str]:
+        """The same where a line feed stands in a feature."""
+        totals = self._lines(TOTALS)
+        for number, (_, start, end, *_) in enumerate(FIELDS.iter_unpack(records)):
+            yield line[start:end].decode()
+            yield self._buffers.text_of(FEATURE, self._at, number)
+            yield totals[number]
 
     def surfaces(self, line: bytes) -> List[str]:
         """The surfaces of a line's words."""

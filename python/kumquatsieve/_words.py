@@ -1,4 +1,5 @@
 """Words of a line, by their attributes."""
+from itertools import count, repeat
 from typing import Any, Dict, Iterable, List, Optional, Tuple
 
 from ._buffers import FIELDS
@@ -11,12 +12,12 @@ READINGS = ("reading", "kana", "pron", "lForm")
 
 
 class Line:
-    """What the words of a line have in common: its text in UTF-8, what the library told, and the names of the dictionary's fields."""
+    """What the words of a line have in common: its text in UTF-8, the library's records, and the names of the dictionary's fields."""
 
-    __slots__ = ("text", "records", "surfaces", "totals", "names", "_places")
+    __slots__ = ("text", "records", "names", "_places")
 
-    def __init__(self, text: bytes, told: Told, names: Dict[str, int]) -> None:
-        self.text, self.records, self.surfaces, self.totals, self.names = text, told.records, told.surfaces, told.totals, names
+    def __init__(self, text: bytes, records: bytes, names: Dict[str, int]) -> None:
+        self.text, self.records, self.names = text, records, names
         self._places: Optional[List[Tuple[int, int]]] = None
 
     def record(self, number: int) -> Tuple[Any, ...]:
@@ -31,10 +32,10 @@ class Line:
     def _counted(self) -> Iterable[Tuple[int, int]]:
         """Characters are counted from word to word."""
         characters = behind = 0
-        for (_, start, end, *_), surface in zip(FIELDS.iter_unpack(self.records), self.surfaces):
-            characters += len(self.text[behind:start].decode())
-            yield characters, characters + len(surface)
-            characters, behind = characters + len(surface), end
+        for _, start, end, *_ in FIELDS.iter_unpack(self.records):
+            begin = characters + len(self.text[behind:start].decode())
+            characters, behind = begin + len(self.text[start:end].decode()), end
+            yield begin, characters
 
 
 def of_record(number: int, what: str) -> Any:
@@ -46,14 +47,15 @@ class Word:
     """A word of a line. What isn't its surface or its feature is looked up where it is asked for; a field of the feature that the
     dictionary names is an attribute too, None where the feature of this word is shorter."""
 
-    __slots__ = ("surface", "feature", "_line", "_number", "_features")
+    __slots__ = ("surface", "feature", "_total", "_line", "_number", "_features")
 
     surface: str
     feature: str
 
-    def __init__(self, surface: str, feature: str, line: Line, number: int) -> None:
+    def __init__(self, surface: str, feature: str, total: str, line: Line, number: int) -> None:
         self.surface = surface
         self.feature = feature
+        self._total = total
         self._line = line
         self._number = number
 
@@ -84,7 +86,7 @@ class Word:
     @property
     def total(self) -> int:
         """The cost of the path up to and with this word."""
-        return int(self._line.totals[self._number])
+        return int(self._total)
 
     @property
     def features(self) -> List[str]:
@@ -147,7 +149,8 @@ TAKEN = frozenset(name for name in dir(Word) if not name.startswith("_"))
 
 def words_of(text: bytes, told: Told, names: Dict[str, int]) -> Words:
     """The words of a line, of what a handle told of them."""
-    line = Line(text, told, names)
-    words = Words([Word(surface, feature, line, number) for number, (surface, feature) in enumerate(zip(told.surfaces, told.features))])
-    words.total = told.total
+    total, records, texts = told
+    each = iter(texts)
+    words = Words(map(Word, each, each, each, repeat(Line(text, records, names)), count()))
+    words.total = total
     return words
