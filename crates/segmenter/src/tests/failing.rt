@@ -4,6 +4,7 @@ use super::devices::{StepReader, StepWriter, reader, writer};
 use crate::dicts::system_dict;
 use crate::words_printer::{LineMemory, WordsPrinter};
 use crate::{run_sources, sample};
+use line_stream::run_over;
 use mj_model::{Counted, GROUPING_DEFAULT, RunFault, SENTENCE_MAX, TextIn, TextOut};
 use out_format::Format;
 use std::alloc::{AllocError, Global};

@@ -8,6 +8,9 @@ use out_format::Format;
 use std::test::Fail;
 use word_lookup::Dictionaries;
 
+/// Where more bytes than these wait behind a line, they are written.
+const OUTPUT_MAX: usize = 1 << 20;
+
 #[test]
 fn written_in_pieces(rt: HostRuntime) -> Result<(), Fail> {
     #[rattlefmt::skip]
