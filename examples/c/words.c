@@ -27,7 +27,8 @@ int main(int given, char **arguments) {
     kumquatsieve_words(&cutter, 0, words, MOST, &count);
     for (size_t i = 0; i < count && i < MOST; i++) {
         kumquatsieve_feature(&cutter, i, &feature, &length);
-        printf("%.*s\t%.*s\n", (int)(words[i].end - words[i].start), line + words[i].start, (int)length, (const char *)feature);
+        int surface = (int)(words[i].end - words[i].start);
+        printf("%.*s\t%.*s\n", surface, line + words[i].start, (int)length, (const char *)feature);
     }
     kumquatsieve_free(&cutter);
     return 0;
