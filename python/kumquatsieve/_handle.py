@@ -100,18 +100,20 @@ class Handle:
 
     def printed(self, line: bytes, texts: Texts) -> str:
         """The text of a line in the four texts of a format."""
-        self.set_format(texts)
+        if texts is not self._texts:
+            self.set_format(texts)
         self._cut(line)
         return self._buffers.text_of(PRINT, self._at)
 
     def printed_lines(self, lines: List[bytes], texts: Texts) -> Tuple[List[str], Optional[Exception]]:
         """The text of each line in a format, up to the first line that is refused, and why it is."""
         self.set_format(texts)
+        cut, text_of, at = self._cut, self._buffers.text_of, self._at
         answers: List[str] = []
         try:
             for line in lines:
-                self._cut(line)
-                answers.append(self._buffers.text_of(PRINT, self._at))
+                cut(line)
+                answers.append(text_of(PRINT, at))
         except (Fault, MemoryError) as fault:
             return answers, fault
         return answers, None
@@ -124,12 +126,13 @@ class Handle:
 
     def _lines(self, texts: Texts) -> List[str]:
         """The words that were cut last in a format whose texts end in line feeds, and the empty text behind the last one."""
-        self.set_format(texts)
+        if texts is not self._texts:
+            self.set_format(texts)
         return self._buffers.text_of(PRINT, self._at).split("\n")
 
     def set_format(self, texts: Texts) -> None:
         """Sets the four texts of the format, where they are others."""
-        if texts is self._texts or texts == self._texts:
+        if texts == self._texts:
             return
         part, at = c_uint32(), c_size_t()
         lengths = [piece for text in texts for piece in (text, len(text))]

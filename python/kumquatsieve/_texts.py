@@ -17,7 +17,10 @@ def encoded(text: str) -> bytes:
 
 def line_of(line: str) -> bytes:
     """A line in UTF-8 without its own end."""
-    text = encoded(line)
+    try:
+        text = line.encode()
+    except (UnicodeEncodeError, AttributeError):
+        text = encoded(line)
     return without_end(text) if b"\n" in text else text
 
 
