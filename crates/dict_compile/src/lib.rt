@@ -20,6 +20,3 @@ pub use fault::CompileUserFault;
 pub use other_sources::{OtherSources, compile_others_watched};
 pub use user_compilation::{compile_user, compile_user_watched};
 pub use watch::{Step, Watch};
-
-#[cfg(test)]
-mod tests;

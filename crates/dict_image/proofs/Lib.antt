@@ -27,4 +27,3 @@ pub mod KeyFrontLemmas
 pub mod FrameLemmas
 pub mod StageLemmas
 pub mod StandLemmas
-pub mod KindLemmas

@@ -32,6 +32,3 @@ pub use hits::Prefixes;
 pub use ids_and_cost::IdsAndCost;
 pub use loading::load;
 pub use token_row::TokenRow;
-
-#[cfg(test)]
-mod tests;

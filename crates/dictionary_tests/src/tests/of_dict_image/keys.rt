@@ -1,0 +1,196 @@
+//! User images whose cells are made by hand, and the group that has no key.
+use super::images::{image, sealed};
+use dict_image::load;
+use mj_model::ImageFault::BadKey;
+use std::alloc::{AllocError, Global};
+use std::test::Fail;
+
+/// A step from a state by a byte to a state. State 0 is cell 0, and the base of state s is
+/// 1 + 257 s, so that no two steps share a cell.
+type Step = (u8, u8, u8);
+
+/// A state with a value, and its group.
+type Value = (u8, u8);
+
+fn base_of(state: u8) -> i64 {
+    257 * i64::from(state) + 1
+}
+
+/// The cell to which a step leads.
+fn cell_behind(from: u8, byte: u8) -> i64 {
+    257 * i64::from(from) + i64::from(byte) + 2
+}
+
+/// The cell of a state.
+fn cell_of(steps: &[Step], state: u8) -> i64 {
+    for (from, byte, to) in steps {
+        if *to == state {
+            return cell_behind(*from, *byte);
+        }
+    }
+    0
+}
+
+/// The base and the check of a cell.
+fn cell_at(steps: &[Step], values: &[Value], number: i64) -> (i64, i64) {
+    if number == 0 {
+        return (base_of(0), -2);
+    }
+    for (state, group) in values {
+        if base_of(*state) == number {
+            return (-1 - i64::from(*group), cell_of(steps, *state));
+        }
+    }
+    for (from, byte, to) in steps {
+        if cell_behind(*from, *byte) == number {
+            return (base_of(*to), cell_of(steps, *from));
+        }
+    }
+    (0, -1)
+}
+
+fn push_cell(bytes: &mut Vec<u8>, base: i64, check: i64) -> Result<(), AllocError> {
+    bytes.extend_from_slice(&base.to_le_bytes()[..4])?;
+    bytes.extend_from_slice(&check.to_le_bytes()[..4])
+}
+
+/// The cells of ten states.
+fn cells_of(alloc: Global, steps: &[Step], values: &[Value]) -> Result<Vec<u8>, AllocError> {
+    let mut bytes = Vec::new(alloc);
+    for number in 0..2571_i64 {
+        let (base, check) = cell_at(steps, values, number);
+        push_cell(&mut bytes, base, check)?;
+    }
+    Ok(bytes)
+}
+
+/// The cells of so many keys on one stem: the first is as many times U+0000, and each other one is one
+/// shorter. The state of n of them is cell 2 n, and its value stands in the next one.
+fn cells_of_nuls(alloc: Global, keys: u32) -> Result<Vec<u8>, AllocError> {
+    let mut bytes = Vec::new(alloc);
+    push_cell(&mut bytes, 1, -2)?;
+    push_cell(&mut bytes, 0, -1)?;
+    for number in 0..keys {
+        let before = 2 * i64::from(number);
+        push_cell(&mut bytes, before + 3, before)?;
+        push_cell(&mut bytes, i64::from(number) - i64::from(keys), before + 2)?;
+    }
+    Ok(bytes)
+}
+
+/// A user image of these cells, with one token for each group.
+fn user_image(alloc: Global, groups: u32, cells: &[u8]) -> Result<Vec<u8>, AllocError> {
+    let mut index = Vec::new(alloc);
+    let mut tokens = Vec::new(alloc);
+    index.extend_from_slice(b"\0\0\0\0")?;
+    for group in 0..groups {
+        index.extend_from_slice(&(group + 1).to_le_bytes())?;
+        tokens.extend_from_slice(b"\x01\0\x01\0\x01\0\0\0\0\0\0\0\x01\0\0\0")?;
+    }
+    let sections = [b"".as_slice(), b"", b"", b"", cells, &index, &tokens, b"X"];
+    sealed(
+        alloc,
+        &image(alloc, [3, 1, 2, 2, 0, groups, groups, 0], sections)?,
+    )
+}
+
+/// The state to which a step leads from another one: one that is there, or a new one.
+fn step(steps: &mut Vec<Step>, from: u8, byte: u8) -> Result<u8, AllocError> {
+    for (before, label, to) in steps.iter() {
+        if (*before, *label) == (from, byte) {
+            return Ok(*to);
+        }
+    }
+    let to = u8::try_from(steps.len().saturating_add(1)).unwrap_or(u8::MAX);
+    steps.push((from, byte, to))?;
+    Ok(to)
+}
+
+/// The state to which the bytes of a key lead. Steps that are missing are added.
+fn add_key(steps: &mut Vec<Step>, key: &[u8]) -> Result<u8, AllocError> {
+    let mut state = 0;
+    for byte in key {
+        state = step(steps, state, *byte)?;
+    }
+    Ok(state)
+}
+
+/// The image of keys, of which each has the next group.
+fn image_of_keys(alloc: Global, keys: &[&[u8]]) -> Result<Vec<u8>, AllocError> {
+    let mut steps = Vec::new(alloc);
+    let mut values = Vec::new(alloc);
+    let mut group = 0_u8;
+    for key in keys {
+        values.push((add_key(&mut steps, key)?, group))?;
+        group = group.saturating_add(1);
+    }
+    user_image(alloc, u32::from(group), &cells_of(alloc, &steps, &values)?)
+}
+
+#[test]
+fn keys_of_cells(rt: HostRuntime) -> Result<(), Fail> {
+    #[rattlefmt::skip]
+    let rows: [(&str, &[&[u8]], _); 19] = [
+        // (what, the keys in the order of their groups, the group without a key)
+        ("a",                           &[b"a"],                               None),
+        ("ab, a: one stem",             &[b"ab", b"a"],                        None),
+        ("U+007F, U+0080",              &[b"\x7F", b"\xC2\x80"],               None),
+        ("U+07FF, U+0800",              &[b"\xDF\xBF", b"\xE0\xA0\x80"],       None),
+        ("U+D7FF, U+E000",              &[b"\xED\x9F\xBF", b"\xEE\x80\x80"],   None),
+        ("U+10000",                     &[b"\xF0\x90\x80\x80"],               None),
+        ("U+40000",                     &[b"\xF1\x80\x80\x80"],               None),
+        ("U+10FFFF",                    &[b"\xF4\x8F\xBF\xBF"],               None),
+        ("no byte",                     &[b""],                                Some(0)),
+        ("C0 80: U+0000 in two bytes",  &[b"\xC0\x80"],                       Some(0)),
+        ("E0 9F BF: U+07FF in three",   &[b"\xE0\x9F\xBF"],                   Some(0)),
+        ("ED A0 80: a surrogate",       &[b"\xED\xA0\x80"],                   Some(0)),
+        ("F0 8F BF BF: U+FFFF in four", &[b"\xF0\x8F\xBF\xBF"],               Some(0)),
+        ("F4 90 80 80: past U+10FFFF",  &[b"\xF4\x90\x80\x80"],               Some(0)),
+        ("F5 begins no character",      &[b"\xF5\x80\x80\x80"],               Some(0)),
+        ("80 begins no character",      &[b"\x80"],                           Some(0)),
+        ("E3 81 82, E3 81, E3",         &[b"\xE3\x81\x82", b"\xE3\x81", b"\xE3"], Some(1)),
+        ("a, FF a, FF b",               &[b"a", b"\xFFa", b"\xFFb"],           Some(1)),
+        ("E3 a: a tail wanted; a E3",   &[b"a", b"\xE3a", b"a\xE3"],           Some(1)),
+    ];
+    for (what, keys, misfit) in rows {
+        let bytes = image_of_keys(rt.alloc(), keys)?;
+        let expected = misfit.map(|group| BadKey(group));
+        assert_eq!(rt; load(rt.alloc(), bytes).err(), expected, "{what}");
+    }
+    Ok(())
+}
+
+#[test]
+fn states_in_a_ring(rt: HostRuntime) -> Result<(), Fail> {
+    let alloc = rt.alloc();
+    #[rattlefmt::skip]
+    let rows: [(&str, &[Step], &[Value], u32); 2] = [
+        // (what, steps, values, the group without a key)
+        ("two states",              &[(1, b'a', 2), (2, b'b', 1)], &[(1, 0)],         0),
+        ("a, and one on its own",   &[(0, b'a', 1), (2, b'b', 2)], &[(1, 0), (2, 1)], 1),
+    ];
+    for (what, steps, values, group) in rows {
+        let groups = u32::try_from(values.len()).unwrap_or(0);
+        let bytes = user_image(alloc, groups, &cells_of(alloc, steps, values)?)?;
+        assert_eq!(rt; load(alloc, bytes).err(), Some(BadKey(group)), "{what}");
+    }
+    Ok(())
+}
+
+#[test]
+fn keys_on_a_long_stem(rt: HostRuntime) -> Result<(), Fail> {
+    let alloc = rt.alloc();
+    let rows = [
+        // (bytes of the longest key, the fault)
+        (1, None),
+        (2, None),
+        (65_535, None),
+        (65_536, Some(BadKey(0))),
+        (70_000, Some(BadKey(0))),
+    ];
+    for (longest, expected) in rows {
+        let bytes = user_image(alloc, longest, &cells_of_nuls(alloc, longest)?)?;
+        assert_eq!(rt; load(alloc, bytes).err(), expected, "{longest}");
+    }
+    Ok(())
+}

@@ -1,0 +1,124 @@
+//! System images of layouts 1 and 2, whose section 3 has an entry for each code point up to U+FFFE.
+use super::images::image;
+use super::questions::info_of;
+use dict_image::load;
+use mj_model::CharInfo;
+use mj_model::ImageFault::{self, BadSection};
+use std::alloc::{AllocError, Global};
+use std::test::Fail;
+
+/// The entry of category 0 alone.
+pub(crate) const ZERO: u32 = 1;
+/// The entry of category 1 alone.
+pub(crate) const ONE: u32 = 1 << 18 | 2;
+/// The entry of both categories, of which category 1 is the first.
+pub(crate) const BOTH: u32 = 1 << 18 | 3;
+
+/// Section 3: these code points have these entries, and all others up to U+FFFE have category 0.
+fn entries_with(alloc: Global, others: &[(u32, u32)]) -> Result<Vec<u8>, AllocError> {
+    let mut entries = Vec::new(alloc);
+    for code in 0..0xFFFF_u32 {
+        let other = others.iter().find(|other| other.0 == code);
+        let entry = other.map_or(ZERO, |other| other.1);
+        entries.extend_from_slice(&entry.to_le_bytes())?;
+    }
+    Ok(entries)
+}
+
+/// The system image of a layout, without a digest, with two categories, each with one unknown token, and no keys.
+pub(crate) fn two_categories(
+    alloc: Global,
+    layout: u32,
+    infos: &[u8],
+) -> Result<Vec<u8>, AllocError> {
+    let categories = b"\0\x01\0\x07DEFAULT\x01\0\0\x01A";
+    let index = b"\0\0\0\0\x01\0\0\0\x02\0\0\0";
+    let root = b"\x01\0\0\0\xfe\xff\xff\xff";
+    let keys = if layout == 1 { b"".as_slice() } else { root };
+    let tokens = b"\0\0\0\0\0\0\0\0\0\0\0\0\x01\0\0\0\0\0\0\0\0\0\0\0\0\0\0\0\x01\0\0\0";
+    #[rattlefmt::skip]
+    let sections = [b"\0\0".as_slice(), categories, infos, index, keys, b"\0\0\0\0", tokens, b"X"];
+    image(alloc, [layout, 0, 1, 1, 2, 0, 0, 2], sections)
+}
+
+#[test]
+fn categories_of_code_points(rt: HostRuntime) -> Result<(), Fail> {
+    let alloc = rt.alloc();
+    let infos = entries_with(alloc, &[(0, BOTH), (0x3042, ONE), (0xFFFE, ONE)])?;
+    #[rattlefmt::skip]
+    let rows = [
+        // (code point, its set of categories, the first of them)
+        ('\0',         3, 1),
+        ('\u{1}',      1, 0),
+        ('あ',         2, 1),
+        ('\u{FFFD}',   1, 0),
+        ('\u{FFFE}',   2, 1),
+        ('\u{FFFF}',   3, 1),
+        ('\u{10000}',  3, 1),
+        ('\u{10FFFF}', 3, 1),
+    ];
+    let first = load(alloc, two_categories(alloc, 1, &infos)?)?;
+    let second = load(alloc, two_categories(alloc, 2, &infos)?)?;
+    for (c, bits, head) in rows {
+        let expected = Some(CharInfo { bits, head });
+        let code = u32::from(c);
+        assert_eq!(rt; info_of(&first, c), expected, "layout 1, {code}");
+        assert_eq!(rt; info_of(&second, c), expected, "layout 2, {code}");
+    }
+    Ok(())
+}
+
+#[test]
+fn changed_entries(rt: HostRuntime) -> Result<(), Fail> {
+    #[rattlefmt::skip]
+    let rows: [(&str, &[(u32, u32)], Option<ImageFault>); 8] = [
+        // (what, code points and their entries, the fault)
+        ("both categories",                    &[(0, BOTH), (0xFFFE, ONE)],    None),
+        ("no category",                        &[(0, 0)],                      Some(BadSection(3))),
+        ("the first one not in the set",       &[(0x20, 2)],                   Some(BadSection(3))),
+        ("category 1 not in the set",          &[(0x20, 1 << 18 | 1)],         Some(BadSection(3))),
+        ("category 2 in the set",              &[(0x20, 5)],                   Some(BadSection(3))),
+        ("category 2 the first",               &[(0x20, 2 << 18 | 5)],         Some(BadSection(3))),
+        ("category 17 in the set of the last", &[(0xFFFE, 1 << 17 | 1)],       Some(BadSection(3))),
+        ("a first category of 14 bits",        &[(0xFFFE, 0x3FFF << 18 | 1)],  Some(BadSection(3))),
+    ];
+    for (what, others, expected) in rows {
+        let infos = entries_with(rt.alloc(), others)?;
+        let bytes = two_categories(rt.alloc(), 1, &infos)?;
+        assert_eq!(rt; load(rt.alloc(), bytes).err(), expected, "{what}");
+        let bytes = two_categories(rt.alloc(), 2, &infos)?;
+        assert_eq!(rt; load(rt.alloc(), bytes).err(), expected, "{what}");
+    }
+    Ok(())
+}
+
+#[test]
+fn other_sections_of_entries(rt: HostRuntime) -> Result<(), Fail> {
+    let alloc = rt.alloc();
+    let entries = entries_with(alloc, &[])?;
+    let one_fewer = entries.get(4..).unwrap_or(b"");
+    let mut one_more = Vec::from_slice(alloc, &entries)?;
+    one_more.extend_from_slice(b"\x01\0\0\0")?;
+    #[rattlefmt::skip]
+    let rows: [(&str, u32, &[u8], Option<ImageFault>); 9] = [
+        // (what, layout, section 3, the fault)
+        ("entries",   1, &entries,            None),
+        ("entries",   2, &entries,            None),
+        ("a range",   1, b"\0\0\0\0\x01\0\0\0", Some(BadSection(3))),
+        ("a range",   2, b"\0\0\0\0\x01\0\0\0", Some(BadSection(3))),
+        ("none",      1, b"",                 Some(BadSection(3))),
+        ("one fewer", 1, one_fewer,           Some(BadSection(3))),
+        ("one fewer", 2, one_fewer,           Some(BadSection(3))),
+        ("one more",  1, &one_more,           Some(BadSection(3))),
+        ("one more",  2, &one_more,           Some(BadSection(3))),
+    ];
+    for (what, layout, infos, expected) in rows {
+        let bytes = two_categories(alloc, layout, infos)?;
+        assert_eq!(rt;
+            load(alloc, bytes).err(),
+            expected,
+            "{what}, layout {layout}"
+        );
+    }
+    Ok(())
+}

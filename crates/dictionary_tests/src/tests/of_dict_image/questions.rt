@@ -1,0 +1,59 @@
+//! Questions to dictionaries.
+use super::plain_walk::reads_for;
+use dict_image::Dict;
+use mj_model::CharInfo;
+
+/// Whether these are the lengths of the keys that begin a text, each key with a first entry of this number, and there are no others.
+/// So many cells are read for them.
+pub(crate) fn are_prefixes(dict: &Dict, text: &str, expected: &[(usize, u32)], reads: u64) -> bool {
+    let mut prefixes = dict.prefixes(text);
+    for (length, token) in expected {
+        let Some((found, mut entries)) = prefixes.next() else {
+            return false;
+        };
+        if found != *length || entries.next().map(|entry| entry.token) != Some(*token) {
+            return false;
+        }
+    }
+    prefixes.next().is_none() && prefixes.reads() == reads
+}
+
+/// Whether the dictionary of an image answers all that can be asked of it, and reads the cells that the plain reader counts.
+pub(crate) fn answers_all(dict: &Dict, image: &[u8]) -> bool {
+    ["", "a", "ab", "も", "ももa", "\0"].iter().all(|text| has_prefixes(
+        dict,
+        text,
+        reads_for(image, text.as_bytes()),
+    ) && has_few_entries(dict, text))
+        && dict.known_token(0).is_some()
+        && dict.known_token(1).is_none()
+        && dict.unknown_token(0).is_none()
+}
+
+/// Whether a key has at most one entry.
+fn has_few_entries(dict: &Dict, key: &str) -> bool {
+    let mut entries = dict.entries(key);
+    entries.next();
+    entries.next().is_none()
+}
+
+/// Whether the keys that begin a text are ever longer ones within it, each with an entry, and so many cells are read for them.
+fn has_prefixes(dict: &Dict, text: &str, reads: u64) -> bool {
+    let mut prefixes = dict.prefixes(text);
+    let mut last = 0;
+    for (length, mut entries) in prefixes.by_ref() {
+        if length <= last || length > text.len() || entries.next().is_none() {
+            return false;
+        }
+        last = length;
+    }
+    prefixes.reads() == reads
+}
+
+/// The categories of a character, which a user dictionary does not tell.
+pub(crate) fn info_of(dict: &Dict, c: char) -> Option<CharInfo> {
+    if dict.is_user() {
+        return None;
+    }
+    Some(dict.info(c))
+}

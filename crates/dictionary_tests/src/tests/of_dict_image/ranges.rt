@@ -1,0 +1,70 @@
+//! System images of layout 3, whose section 3 has ranges of code points.
+use super::images::sealed;
+use super::older_system::{BOTH, ONE, ZERO, two_categories};
+use super::questions::info_of;
+use dict_image::load;
+use mj_model::CharInfo;
+use std::alloc::{AllocError, Global};
+use std::test::Fail;
+
+/// Section 3: the code points from each of these on have its entry.
+fn ranges_of(alloc: Global, ranges: &[(u32, u32)]) -> Result<Vec<u8>, AllocError> {
+    let mut bytes = Vec::new(alloc);
+    for (first, entry) in ranges {
+        bytes.extend_from_slice(&first.to_le_bytes())?;
+        bytes.extend_from_slice(&entry.to_le_bytes())?;
+    }
+    Ok(bytes)
+}
+
+/// Ranges of one code point, and ones that begin where the basic plane ends and behind it.
+#[rattlefmt::skip]
+const SHORT: [(u32, u32); 10] = [
+    (0, ZERO), (0x41, ONE), (0x42, ZERO), (0xD7FF, ONE), (0xE000, BOTH), (0xE001, ZERO),
+    (0xFFFF, ONE), (0x1_0000, BOTH), (0x1_0001, ZERO), (0x10_FFFF, ONE),
+];
+
+/// Ranges of which the second begins in the basic plane and ends behind it.
+const LONG: [(u32, u32); 3] = [(0, BOTH), (0xFFFE, ONE), (0x1_0001, ZERO)];
+
+#[test]
+fn categories_of_ranges(rt: HostRuntime) -> Result<(), Fail> {
+    let alloc = rt.alloc();
+    #[rattlefmt::skip]
+    let rows = [
+        // (code point, its set of categories and the first of them in short ranges, and in long ones)
+        ('\0',         (1, 0), (3, 1)),
+        ('@',          (1, 0), (3, 1)),
+        ('A',          (2, 1), (3, 1)),
+        ('B',          (1, 0), (3, 1)),
+        ('\u{D7FE}',   (1, 0), (3, 1)),
+        ('\u{D7FF}',   (2, 1), (3, 1)),
+        ('\u{E000}',   (3, 1), (3, 1)),
+        ('\u{E001}',   (1, 0), (3, 1)),
+        ('\u{FFFD}',   (1, 0), (3, 1)),
+        ('\u{FFFE}',   (1, 0), (2, 1)),
+        ('\u{FFFF}',   (2, 1), (2, 1)),
+        ('\u{10000}',  (3, 1), (2, 1)),
+        ('\u{10001}',  (1, 0), (1, 0)),
+        ('\u{10FFFE}', (1, 0), (1, 0)),
+        ('\u{10FFFF}', (2, 1), (1, 0)),
+    ];
+    let short = two_categories(alloc, 3, &ranges_of(alloc, &SHORT)?)?;
+    let long = two_categories(alloc, 3, &ranges_of(alloc, &LONG)?)?;
+    let short = load(alloc, sealed(alloc, &short)?)?;
+    let long = load(alloc, sealed(alloc, &long)?)?;
+    for (c, (bits, head), (long_bits, long_head)) in rows {
+        let code = u32::from(c);
+        assert_eq!(rt;
+            info_of(&short, c),
+            Some(CharInfo { bits, head }),
+            "short, {code}"
+        );
+        let expected = Some(CharInfo {
+            bits: long_bits,
+            head: long_head,
+        });
+        assert_eq!(rt; info_of(&long, c), expected, "long, {code}");
+    }
+    Ok(())
+}

@@ -1,0 +1,56 @@
+//! Lexicons of a few lines, images of theirs, and the sections of an image.
+ghost use Rattle.std.specs.Prelude.{◌≡◌, IfOk};
+
+use char_def::{read_chars, read_unk};
+use image_bytes::{HEADER_LENGTH, read_header, section_ends};
+use image_writer::write_system;
+use lex_source::{SortedLexicon, SourceLexicon};
+use matrix_def::read_matrix;
+use mj_model::{MatrixSizes, Sources, sample};
+use std::alloc::Global;
+use std::test::Fail;
+
+/// The lines of the sample's lexicon.
+pub const SAMPLE: &str = "\
+すもも,1,1,100,名詞,すもも
+も,1,1,20,助詞,も
+もも,1,1,30,名詞,もも
+";
+
+/// The dictionary of a lexicon's lines, whose ids lie within the sizes.
+pub fn sorted(alloc: Global, sizes: MatrixSizes, lines: &str) -> Result<SortedLexicon, Fail>
+    ensures { IfOk result (λ lexicon. lexicon.sizes ≡ sizes) }
+{
+    let mut lexicon = SourceLexicon::new(alloc, sizes);
+    lexicon.add(alloc, lines.as_bytes(), 0)?;
+    Ok(lexicon.sorted()?)
+}
+
+/// The image of a system dictionary of these sources and lines. The ids of the unknown entries have to lie within the sizes.
+pub fn system_image(alloc: Global, sources: &Sources<'_>, lines: &str) -> Result<Vec<u8>, Fail> {
+    let matrix = read_matrix(alloc, sources.matrix)?;
+    let chars = read_chars(alloc, sources.chars)?;
+    let unknown = read_unk(alloc, sources.unk, &chars)?;
+    if unknown.first_line_outside(matrix.sizes()).is_some() {
+        return Err("the ids of the unknown entries lie within the sizes")?;
+    }
+    let lexicon = sorted(alloc, matrix.sizes(), lines)?;
+    Ok(write_system(alloc, &matrix, &chars, &unknown, lexicon)?)
+}
+
+/// The image of the sample's sources.
+pub fn sample_image(alloc: Global) -> Result<Vec<u8>, Fail> {
+    system_image(alloc, &sample(), SAMPLE)
+}
+
+/// Section `k` of an image, counted from 1; none of bytes that are no image.
+pub fn section(image: &[u8], k: usize) -> &[u8] {
+    let empty = b"".as_slice();
+    if image.len() < HEADER_LENGTH || k == 0 || k > 8 {
+        return empty;
+    }
+    match section_ends(&read_header(image)) {
+        Some(ends) => image.get(ends[k - 1]..ends[k]).unwrap_or(empty),
+        None => empty,
+    }
+}

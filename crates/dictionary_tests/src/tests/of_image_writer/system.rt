@@ -1,0 +1,96 @@
+//! The image of the sample's sources, byte for byte but for the cells of its keys: six categories, numbered from 0, with an unknown
+//! entry each.
+use super::samples::{sample_image, section};
+use image_bytes::{DIGEST_LENGTH, HEADER_LENGTH, read_header};
+use sha2::{Digest, Sha256};
+use std::test::Fail;
+
+/// The header of the sample's image up to the lengths of its sections: layout 3, kind 0, 2 right and 2 left ids, 6 categories, 3
+/// groups, 3 tokens and 6 unknown entries.
+const HEADER: &[u8; 40] =
+    b"MJDICT\r\n\x03\0\0\0\0\0\0\0\x02\0\0\0\x02\0\0\0\x06\0\0\0\x03\0\0\0\x03\0\0\0\x06\0\0\0";
+
+/// The lengths of sections 1 to 4.
+const BEGIN_LENGTHS: &[u8; 32] =
+    b"\x08\0\0\0\0\0\0\0\x3e\0\0\0\0\0\0\0\x68\0\0\0\0\0\0\0\x1c\0\0\0\0\0\0\0";
+
+/// The lengths of sections 6 to 8.
+const END_LENGTHS: &[u8; 24] = b"\x10\0\0\0\0\0\0\0\x90\0\0\0\0\0\0\0\x2d\0\0\0\0\0\0\0";
+
+/// Sections 1 to 4: the costs of right id 0 and those of right id 1; the categories; the code point at which each range begins, with
+/// the set of its categories and the first of them; the first unknown entry of each category.
+const BEGIN: &[u8; 202] = b"\0\0\x0a\0\x05\0\x07\0\
+    \0\x01\0\x07DEFAULT\0\x01\0\x05SPACE\x01\x01\0\x05ALPHA\
+    \x01\x01\x02\x08KATAKANA\0\0\x02\x05KANJI\0\x01\x02\x08HIRAGANA\
+    \0\0\0\0\x01\0\0\0\x20\0\0\0\x02\0\x04\0\
+    \x21\0\0\0\x01\0\0\0\x41\0\0\0\x04\0\x08\0\
+    \x5b\0\0\0\x01\0\0\0\x61\0\0\0\x04\0\x08\0\
+    \x7b\0\0\0\x01\0\0\0\x41\x30\0\0\x20\0\x14\0\
+    \xa0\x30\0\0\x01\0\0\0\xa1\x30\0\0\x08\0\x0c\0\
+    \0\x31\0\0\x01\0\0\0\0\x4e\0\0\x10\0\x10\0\
+    \0\xa0\0\0\x01\0\0\0\
+    \x03\0\0\0\x04\0\0\0\x05\0\0\0\x06\0\0\0\x07\0\0\0\x08\0\0\0\x09\0\0\0";
+
+/// Section 6 and the tokens of the lexicon.
+const TOKENS: &[u8; 64] = b"\0\0\0\0\x01\0\0\0\x02\0\0\0\x03\0\0\0\
+    \x01\0\x01\0\x64\0\0\0\0\0\0\0\x10\0\0\0\
+    \x01\0\x01\0\x14\0\0\0\x10\0\0\0\x0a\0\0\0\
+    \x01\0\x01\0\x1e\0\0\0\x1a\0\0\0\x0d\0\0\0";
+
+/// The token of each unknown entry.
+const UNKNOWN_TOKEN: &[u8; 16] = b"\x01\0\x01\0\xe8\x03\0\0\x27\0\0\0\x06\0\0\0";
+
+#[test]
+fn sections_of_the_lexicon(rt: HostRuntime) -> Result<(), Fail> {
+    let image = sample_image(rt.alloc())?;
+    assert!(rt; image.len() >= HEADER_LENGTH);
+    assert_eq!(rt; read_header(&image).groups, 3);
+    let groups = b"\0\0\0\0\x01\0\0\0\x02\0\0\0\x03\0\0\0";
+    assert!(rt; section(&image, 6) == groups.as_slice());
+    let mut features = section(&image, 8);
+    assert_eq!(rt; features.len(), 45);
+    for feature in ["名詞,すもも", "助詞,も", "名詞,もも", "未知"] {
+        assert!(rt; features.starts_with(feature.as_bytes()), "{feature}");
+        features = features.get(feature.len()..).unwrap_or(b"");
+    }
+    assert!(rt; features.is_empty());
+    let tokens = [
+        // (what, left id, right id, cost, spare, place and length of the feature)
+        ("すもも", b"\x01\0\x01\0\x64\0\0\0\0\0\0\0\x10\0\0\0"),
+        ("も", b"\x01\0\x01\0\x14\0\0\0\x10\0\0\0\x0a\0\0\0"),
+        ("もも", b"\x01\0\x01\0\x1e\0\0\0\x1a\0\0\0\x0d\0\0\0"),
+        ("DEFAULT", b"\x01\0\x01\0\xe8\x03\0\0\x27\0\0\0\x06\0\0\0"),
+        ("SPACE", b"\x01\0\x01\0\xe8\x03\0\0\x27\0\0\0\x06\0\0\0"),
+        ("ALPHA", b"\x01\0\x01\0\xe8\x03\0\0\x27\0\0\0\x06\0\0\0"),
+        ("KATAKANA", b"\x01\0\x01\0\xe8\x03\0\0\x27\0\0\0\x06\0\0\0"),
+        ("KANJI", b"\x01\0\x01\0\xe8\x03\0\0\x27\0\0\0\x06\0\0\0"),
+        ("HIRAGANA", b"\x01\0\x01\0\xe8\x03\0\0\x27\0\0\0\x06\0\0\0"),
+    ];
+    assert_eq!(rt; section(&image, 7).len(), 16 * tokens.len());
+    for ((what, expected), token) in tokens.iter().zip(section(&image, 7).chunks(16)) {
+        assert!(rt; token == expected.as_slice(), "{what}");
+    }
+    Ok(())
+}
+
+#[test]
+fn the_whole_image(rt: HostRuntime) -> Result<(), Fail> {
+    let alloc = rt.alloc();
+    let image = sample_image(alloc)?;
+    let mut end = Vec::new(alloc);
+    end.extend_from_slice(TOKENS)?;
+    for _ in 0..6 {
+        end.extend_from_slice(UNKNOWN_TOKEN)?;
+    }
+    end.extend_from_slice("名詞,すもも助詞,も名詞,もも未知".as_bytes())?;
+
+    assert!(rt; image.starts_with(HEADER));
+    assert!(rt; image.get(40..72) == Some(BEGIN_LENGTHS.as_slice()));
+    assert!(rt; image.get(80..104) == Some(END_LENGTHS.as_slice()));
+    assert!(rt; image.get(104..306) == Some(BEGIN.as_slice()));
+
+    let body = &image[..image.len().saturating_sub(DIGEST_LENGTH)];
+    assert!(rt; body.ends_with(&end));
+    assert!(rt; image.ends_with(&Sha256::digest(body)));
+    Ok(())
+}

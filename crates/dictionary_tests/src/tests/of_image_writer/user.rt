@@ -1,0 +1,96 @@
+//! Images of small user dictionaries, byte for byte but for the cells of their keys.
+use super::samples::{section, sorted};
+use image_bytes::{DIGEST_LENGTH, HEADER_LENGTH};
+use image_writer::write_user;
+use mj_model::MatrixSizes;
+use sha2::{Digest, Sha256};
+use std::test::Fail;
+
+/// The first bytes of a user image: layout 3, kind 1.
+const BEGIN: &[u8; 16] = b"MJDICT\r\n\x03\0\0\0\x01\0\0\0";
+
+/// A user dictionary, and what its image says.
+#[derive(Clone, Copy)]
+struct Row<'a> {
+    what: &'a str,
+    sizes: MatrixSizes,
+    lines: &'a str,
+    /// The sizes, and how many categories, groups, tokens and unknown entries there are.
+    numbers: &'a [u8; 24],
+    /// The lengths of sections 6 to 8.
+    lengths: &'a [u8; 24],
+    groups: &'a [u8],
+    tokens: &'a [u8],
+    features: &'a [u8],
+}
+
+#[rattlefmt::skip]
+const ROWS: [Row<'static>; 3] = [
+    Row { what: "no lines", sizes: MatrixSizes { right: 1, left: 2 }, lines: "",
+        numbers: b"\x01\0\0\0\x02\0\0\0\0\0\0\0\0\0\0\0\0\0\0\0\0\0\0\0",
+        lengths: b"\x04\0\0\0\0\0\0\0\0\0\0\0\0\0\0\0\0\0\0\0\0\0\0\0",
+        groups: b"\0\0\0\0", tokens: b"", features: b"" },
+    Row { what: "one line", sizes: MatrixSizes { right: 2, left: 2 }, lines: "もも,1,1,1,X\n",
+        numbers: b"\x02\0\0\0\x02\0\0\0\0\0\0\0\x01\0\0\0\x01\0\0\0\0\0\0\0",
+        lengths: b"\x08\0\0\0\0\0\0\0\x10\0\0\0\0\0\0\0\x01\0\0\0\0\0\0\0",
+        groups: b"\0\0\0\0\x01\0\0\0", tokens: b"\x01\0\x01\0\x01\0\0\0\0\0\0\0\x01\0\0\0", features: b"X" },
+    Row { what: "two lines of a surface, and two of a feature", sizes: MatrixSizes { right: 5, left: 259 },
+        lines: "a,1,2,-5,X\na,3,4,6,YZ\nb,258,0,-32768,X\n",
+        numbers: b"\x05\0\0\0\x03\x01\0\0\0\0\0\0\x02\0\0\0\x03\0\0\0\0\0\0\0",
+        lengths: b"\x0c\0\0\0\0\0\0\0\x30\0\0\0\0\0\0\0\x03\0\0\0\0\0\0\0",
+        groups: b"\0\0\0\0\x02\0\0\0\x03\0\0\0",
+        tokens: b"\x01\0\x02\0\xfb\xff\0\0\0\0\0\0\x01\0\0\0\x03\0\x04\0\x06\0\0\0\x01\0\0\0\x02\0\0\0\x02\x01\0\0\0\x80\0\0\0\0\0\0\x01\0\0\0",
+        features: b"XYZ" },
+];
+
+#[test]
+fn sections_of_lexicons(rt: HostRuntime) -> Result<(), Fail> {
+    for row in ROWS {
+        #[rattlefmt::skip]
+        let Row { what, sizes, lines, numbers, groups, tokens, features, .. } = row;
+        let lexicon = sorted(rt.alloc(), sizes, lines)?;
+        let image = write_user(rt.alloc(), lexicon)?;
+        assert!(rt; image.get(28..32) == numbers.get(12..16), "{what}");
+        assert!(rt; section(&image, 6) == groups, "{what}");
+        assert!(rt; section(&image, 7) == tokens, "{what}");
+        assert!(rt; section(&image, 8) == features, "{what}");
+
+        // The root's base is not known; its check is -2.
+        let root_check: &[u8] = b"\xfe\xff\xff\xff";
+        let keys = section(&image, 5);
+        assert_eq!(rt; keys.len() % 8, 0, "{what}");
+        assert!(rt; keys.get(4..8) == Some(root_check), "{what}");
+    }
+    Ok(())
+}
+
+#[test]
+fn user_images(rt: HostRuntime) -> Result<(), Fail> {
+    for row in ROWS {
+        #[rattlefmt::skip]
+        let Row { what, sizes, lines, numbers, lengths, groups, tokens, features } = row;
+        let lexicon = sorted(rt.alloc(), sizes, lines)?;
+        let image = write_user(rt.alloc(), lexicon)?;
+        let mut end = Vec::new(rt.alloc());
+        for section in [groups, tokens, features] {
+            end.extend_from_slice(section)?;
+        }
+        let around = HEADER_LENGTH + DIGEST_LENGTH + end.len();
+        let cells = image.len().saturating_sub(around) as u64;
+        assert_eq!(rt; cells % 8, 0, "{what}");
+
+        // Sections 1 to 4 are empty; how many cells the keys have is not known.
+        let mut header = Vec::new(rt.alloc());
+        header.extend_from_slice(BEGIN)?;
+        header.extend_from_slice(numbers)?;
+        header.extend_from_slice(&[0; 32])?;
+        header.extend_from_slice(&cells.to_le_bytes())?;
+        header.extend_from_slice(lengths)?;
+        assert!(rt; image.starts_with(&header), "{what}");
+
+        let body = &image[..image.len().saturating_sub(DIGEST_LENGTH)];
+        assert!(rt; body.ends_with(&end), "{what}");
+        assert!(rt; image.ends_with(&Sha256::digest(body)), "{what}");
+    }
+    Ok(())
+}
