@@ -11,6 +11,3 @@ mod text;
 
 pub use cutter::Cutter;
 pub use fault::CutFault;
-
-#[cfg(test)]
-mod tests;

@@ -1,7 +1,7 @@
 //! Cutters that share dictionaries.
 
 use super::samples::{prints, sample_cutter, user_image};
-use crate::CutFault;
+use cutter::CutFault;
 use std::test::Fail;
 
 const MOMO: &str = "もも\t名詞,もも\nEOS\n";

@@ -1,6 +1,6 @@
 //! Codes, names and texts of faults.
 
-use crate::CutFault;
+use cutter::CutFault;
 use mj_model::{FormatFault, FormatKind, FormatPart, ImageFault, NamedFault, OverlayFault};
 use std::alloc::Global;
 use std::test::Fail;

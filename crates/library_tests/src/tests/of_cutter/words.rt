@@ -1,7 +1,7 @@
 //! Words, with their features, categories and costs.
 
 use super::samples::sample_cutter;
-use crate::{CutFault, Cutter};
+use cutter::{CutFault, Cutter};
 use std::alloc::Global;
 use std::test::Fail;
 

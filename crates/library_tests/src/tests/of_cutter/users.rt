@@ -1,7 +1,7 @@
 //! Users' dictionaries laid over the sample's.
 
 use super::samples::{prints, sample_cutter, sample_image, user_image};
-use crate::{CutFault, Cutter};
+use cutter::{CutFault, Cutter};
 use mj_model::OverlayFault;
 use std::test::Fail;
 

@@ -1,7 +1,7 @@
 //! Formats of printed paths.
 
 use super::samples::{prints, sample_cutter};
-use crate::CutFault;
+use cutter::CutFault;
 use mj_model::{FormatFault, FormatKind, FormatPart};
 use std::test::Fail;
 

@@ -1,6 +1,6 @@
 //! Cutters over the sample's dictionary.
 
-use crate::Cutter;
+use cutter::Cutter;
 use dict_compile::{compile, compile_user};
 use dict_image::load;
 use mj_model::sample;

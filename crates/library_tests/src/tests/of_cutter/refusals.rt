@@ -1,7 +1,7 @@
 //! Refused calls, and what they leave.
 
 use super::samples::{prints, sample_cutter, sample_image};
-use crate::{CutFault, Cutter};
+use cutter::{CutFault, Cutter};
 use mj_model::{GROUPING_MAX, ImageFault, SENTENCE_MAX};
 use std::test::Fail;
 
