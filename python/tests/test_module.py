@@ -13,7 +13,7 @@ TOP = Path(__file__).resolve().parent.parent.parent
 
 
 def test_the_version_is_that_of_the_programs():
-    about = (TOP / "crates" / "programs" / "src" / "about.rt").read_text()
+    about = (TOP / "crates" / "command_lines" / "src" / "about.rt").read_text()
     assert re.search(r'VERSION: &str = "([0-9.]*)', about)[1] == kumquatsieve.__version__
 
 

@@ -5,7 +5,7 @@ use std::fs::{self, Metadata};
 use std::io::{Error, ErrorKind};
 
 /// Why the file or directory at a path can't be read.
-#[derive(Clone, Copy, Debug, PartialEq, Eq)]
+#[derive(Clone, Copy)]
 pub enum FileTrouble {
     NotThere,
     IsDirectory,

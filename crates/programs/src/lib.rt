@@ -1,15 +1,11 @@
-//! What the programs share: files read and written whole, command lines, images, what is told.
+//! What the programs share: files read and written whole, images, what is told.
 #![tactic(auto)]
 
-mod about;
-mod command_line;
-mod explanation;
 mod fault;
 mod file_trouble;
 mod images;
 mod narrator;
 mod one_line;
-mod options_fault;
 mod program;
 mod reading;
 mod reporting;
@@ -18,22 +14,15 @@ mod stage;
 mod whole_file;
 mod writing;
 
-pub use about::{VERSION, explain_arg, explained, verbose_arg};
-pub use command_line::{found, needed_text, text_of, texts_of};
-pub use explanation::{Explanation, explanation_of};
 pub use fault::Fault;
 pub use file_trouble::FileTrouble;
 pub use images::{dictionaries_at, dictionary_at};
 pub use narrator::Narrator;
 pub use one_line::OneLine;
-pub use options_fault::OptionsFault;
 pub use program::run_program;
 pub use reading::{Pieces, ReadFault, read_into, read_whole};
 pub use reporting::report;
 pub use source_files::{SourceFiles, lexicon_path};
 pub use stage::Stage;
 pub use whole_file::{WholeFile, read_files, texts};
-pub use writing::write_file;
-
-#[cfg(test)]
-mod tests;
+pub use writing::{write_as, write_file};

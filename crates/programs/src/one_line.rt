@@ -3,7 +3,7 @@
 use std::fmt::{self, Display, Formatter, Write};
 
 /// A path as it is told, in one line: its control characters are escaped, as `\n` or `\u{1b}`.
-#[derive(Clone, Copy, Debug)]
+#[derive(Clone, Copy)]
 pub struct OneLine<'a>(pub &'a str);
 
 impl Display for OneLine<'_> {

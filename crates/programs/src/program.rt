@@ -1,9 +1,8 @@
 //! A program from its command line to its exit status.
 
-use crate::command_line::words_given;
 use crate::fault::Fault;
-use crate::options_fault::OptionsFault;
 use crate::reporting::report;
+use command_lines::{OptionsFault, words_given};
 use std::process::ExitCode;
 use std::string::String;
 
@@ -21,7 +20,21 @@ where
             Ok(()) => 0,
             Err(fault) => report(rt.alloc(), program, &fault, &mut rt.stderr()),
         },
-        Err(fault) => fault.tell(rt, program),
+        Err(fault) => tell(rt, program, &fault),
     };
     ExitCode::from(status)
+}
+
+/// Prints why there is nothing to do, and answers the exit status: that of `Fault::Output` where help can't be printed.
+fn tell(rt: &HostRuntime, program: &str, fault: &OptionsFault) -> u8 {
+    let fault = match fault {
+        OptionsFault::Help(text) if rt.print(text).is_err() => Fault::Output,
+        OptionsFault::Memory => Fault::Memory,
+        OptionsFault::Help(_) => return fault.status(),
+        OptionsFault::Bad(text) => {
+            let _ = rt.eprint(text);
+            return fault.status();
+        }
+    };
+    report(rt.alloc(), program, &fault, &mut rt.stderr())
 }

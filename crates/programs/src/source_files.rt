@@ -9,7 +9,7 @@ use crate::whole_file::WholeFile;
 use mj_model::{CHAR_FILE, FIRST_LEXICON_FILE, MATRIX_FILE, NO_FILE, UNK_FILE};
 
 /// The source files of a system dictionary. The lexicons stand in the order in which they are read.
-#[derive(Debug, Drop)]
+#[derive(Drop)]
 pub struct SourceFiles {
     pub matrix: WholeFile,
     pub chars: WholeFile,

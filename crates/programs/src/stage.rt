@@ -4,7 +4,7 @@ use crate::one_line::OneLine;
 use std::fmt::{self, Display, Formatter, Write};
 
 /// A step of a program's work. Sizes are in bytes.
-#[derive(Clone, Copy, Debug)]
+#[derive(Clone, Copy)]
 pub enum Stage<'a> {
     /// A file was read.
     Read {

@@ -11,7 +11,7 @@ use std::rt::Files;
 use std::string::String;
 
 /// A file that was read whole.
-#[derive(Debug, Drop)]
+#[derive(Drop)]
 pub struct WholeFile {
     pub path: String,
     pub bytes: Vec<u8>,

@@ -18,7 +18,7 @@ pub fn write_file(rt: &HostRuntime, path: &str, bytes: &[u8]) -> Result<(), Faul
 }
 
 /// As `write_file`, by the process of this number.
-pub(crate) fn write_as<R: Files + AllocGlobal>(
+pub fn write_as<R: Files + AllocGlobal>(
     rt: &R,
     process: u32,
     path: &str,

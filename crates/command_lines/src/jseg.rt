@@ -1,0 +1,9 @@
+//! The command line of `jseg`.
+
+mod choices;
+mod command;
+mod mecab_habits;
+mod rows;
+
+pub use choices::{Input, Options};
+pub use command::options;

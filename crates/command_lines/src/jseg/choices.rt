@@ -1,0 +1,34 @@
+//! What a command line of `jseg` asks for.
+
+use std::string::String;
+
+/// By what the text is cut.
+#[derive(PartialEq, Drop)]
+pub enum Input {
+    /// The images of a system dictionary and of user dictionaries laid over it.
+    Images { dic: String, users: Vec<String> },
+    /// The source files of this directory.
+    Sources(String),
+    /// The sample's sources.
+    Sample,
+}
+
+/// The choices of a command line, as given.
+#[derive(PartialEq, Drop)]
+pub struct Options {
+    pub input: Input,
+    /// How many characters may follow the first one of a grouped unknown word: 0 to 1,000, and 24 where it isn't given.
+    pub grouping: u16,
+    /// `wakati`, where the output format is chosen by name.
+    pub output: Option<String>,
+    /// The format of known words.
+    pub node: Option<String>,
+    /// The format of unknown words.
+    pub unk: Option<String>,
+    /// What is printed before the first word of a line.
+    pub bos: Option<String>,
+    /// What is printed behind the last word of a line.
+    pub eos: Option<String>,
+    /// Whether the program says on standard error what it does.
+    pub verbose: bool,
+}

@@ -1,0 +1,77 @@
+//! What is asked for by a command line of `jseg`.
+
+use super::choices::{Input, Options};
+use super::mecab_habits::{HABITS, habit_in};
+use super::rows::{INPUTS, ROWS};
+use crate::about::{VERSION, explained};
+use crate::options_fault::OptionsFault;
+use crate::row::with_rows;
+use crate::words::{found, text_of, texts_of};
+use clap::{ArgGroup, ArgMatches, Command};
+use mj_model::GROUPING_DEFAULT;
+use std::alloc::{AllocError, Global};
+use std::string::String;
+
+/// What is said where nothing says by what the text is to be cut.
+const NO_INPUT: &str = "one of -d IMG, --sources DIR and --sample has to be given";
+
+/// Reads the words that follow the program's name.
+pub fn options(alloc: Global, words: Vec<String>) -> Result<Options, OptionsFault> {
+    let matches = found(alloc, command(alloc)?, words.as_slice())?;
+    if let Some(answer) = explained(alloc, &matches) {
+        return Err(answer);
+    }
+    match habit_in(&matches) {
+        Some(instead) => Err(OptionsFault::wrong(alloc, instead)),
+        None => choices(alloc, &matches),
+    }
+}
+
+/// What the program takes.
+fn command<'a>(alloc: Global) -> Result<Command<'a>, AllocError> {
+    let command = Command::new(alloc, "jseg")
+        .about("Cuts the Japanese text on standard input into words")
+        .version(VERSION)
+        .override_usage("jseg [OPTIONS] <-d IMG|--sources DIR|--sample> < TEXT")
+        .no_binary_name(true);
+    let command = with_rows(alloc, with_rows(alloc, command, &ROWS)?, &HABITS)?;
+    command.group(input_group(alloc)?)
+}
+
+/// Of what the text is cut by only one is given.
+fn input_group<'a>(alloc: Global) -> Result<ArgGroup<'a>, AllocError> {
+    let [dic, sources, sample] = INPUTS;
+    ArgGroup::new(alloc, "input")
+        .arg(dic)?
+        .arg(sources)?
+        .arg(sample)
+}
+
+/// The choices that were found.
+fn choices(alloc: Global, matches: &ArgMatches<'_>) -> Result<Options, OptionsFault> {
+    let Some(input) = input(alloc, matches)? else {
+        return Err(OptionsFault::wrong(alloc, NO_INPUT));
+    };
+    Ok(Options {
+        input,
+        grouping: matches.get_one("grouping").unwrap_or(GROUPING_DEFAULT),
+        output: text_of(alloc, matches, "output")?,
+        node: text_of(alloc, matches, "node")?,
+        unk: text_of(alloc, matches, "unk")?,
+        bos: text_of(alloc, matches, "bos")?,
+        eos: text_of(alloc, matches, "eos")?,
+        verbose: matches.get_flag("verbose"),
+    })
+}
+
+/// By what the text is cut: an image, a directory or the sample; None where none is given.
+fn input(alloc: Global, matches: &ArgMatches<'_>) -> Result<Option<Input>, AllocError> {
+    if let Some(dic) = text_of(alloc, matches, "dic")? {
+        let users = texts_of(alloc, matches, "users")?;
+        return Ok(Some(Input::Images { dic, users }));
+    }
+    if let Some(dir) = text_of(alloc, matches, "sources")? {
+        return Ok(Some(Input::Sources(dir)));
+    }
+    Ok(matches.get_flag("sample").then_some(Input::Sample))
+}

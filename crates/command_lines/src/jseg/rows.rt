@@ -1,0 +1,43 @@
+//! What `jseg` takes.
+
+use crate::about::{EXPLAIN, VERBOSE};
+use crate::row::Name::{Letter, Long};
+use crate::row::{FLAG, Row, TEXT, Taken, VALUE, VALUES};
+use clap::builder::ValueParser;
+use mj_model::GROUPING_MAX;
+
+/// The ids of the options that say by what the text is cut. One of them is given.
+pub(super) const INPUTS: [&str; 3] = ["dic", "sources", "sample"];
+
+/// A number from 0 to `GROUPING_MAX`.
+const GROUPING: Taken = Taken {
+    parser: ValueParser::Signed(0, GROUPING_MAX as i64),
+    ..VALUE
+};
+
+/// The options, in the order of help.
+#[rattlefmt::skip]
+pub(super) static ROWS: [Row; 12] = [
+    Row { id: "dic", name: Letter('d'), taken: VALUE, values: &["IMG"], excluded: &[],
+        help: "Cut the text with the system dictionary of an image" },
+    Row { id: "users", name: Letter('u'), taken: VALUES, values: &["IMG"], excluded: &["sources", "sample"],
+        help: "Cut it with the user dictionary of an image too, with -d; may be given again" },
+    Row { id: "sources", name: Long("sources"), taken: VALUE, values: &["DIR"], excluded: &[],
+        help: "Cut the text with the sources of a directory: matrix.def, char.def, unk.def and every .csv" },
+    Row { id: "sample", name: Long("sample"), taken: FLAG, values: &[], excluded: &[],
+        help: "Cut the text with the sample's sources" },
+    Row { id: "grouping", name: Letter('M'), taken: GROUPING, values: &["N"], excluded: &[],
+        help: "How many characters may follow the first one of a grouped unknown word (24)" },
+    Row { id: "output", name: Letter('O'), taken: VALUE, values: &["NAME"], excluded: &[],
+        help: "An output format by its name: wakati, a line of surfaces with a blank after each" },
+    Row { id: "node", name: Letter('F'), taken: TEXT, values: &["FORMAT"], excluded: &[],
+        help: "The format of known words" },
+    Row { id: "unk", name: Letter('U'), taken: TEXT, values: &["FORMAT"], excluded: &[],
+        help: "The format of unknown words" },
+    Row { id: "bos", name: Letter('B'), taken: TEXT, values: &["FORMAT"], excluded: &[],
+        help: "What is printed before the first word of a line" },
+    Row { id: "eos", name: Letter('E'), taken: TEXT, values: &["FORMAT"], excluded: &[],
+        help: "What is printed after the last word of a line" },
+    VERBOSE,
+    EXPLAIN,
+];

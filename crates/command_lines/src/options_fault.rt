@@ -1,0 +1,74 @@
+//! Why a command line makes no choices.
+
+use clap::Error;
+use clap::error::ErrorKind as ParserKind;
+use std::alloc::{AllocError, Global};
+use std::io::{self, ErrorKind};
+use std::string::String;
+
+/// Why there are no choices.
+#[derive(Debug, Drop)]
+pub enum OptionsFault {
+    /// Help, the version or an explanation was asked for: the text to print on standard output, with status 0.
+    Help(String),
+    /// The command line is wrong: the text to print on standard error, with status 2.
+    Bad(String),
+    /// Memory was refused.
+    Memory,
+}
+
+impl OptionsFault {
+    /// The fault of words that can't be had: memory was refused, or an argument is not UTF-8.
+    pub fn of_words(alloc: Global, program: &str, error: &io::Error) -> OptionsFault {
+        if error.kind() == ErrorKind::OutOfMemory {
+            return OptionsFault::Memory;
+        }
+        match format!(in alloc; "{program}: an argument is not UTF-8\n") {
+            Ok(text) => OptionsFault::Bad(text),
+            Err(_) => OptionsFault::Memory,
+        }
+    }
+
+    /// The fault of a command line that the parser of words refuses, or help that it was asked for.
+    pub fn of_parser(alloc: Global, error: &Error) -> OptionsFault {
+        if error.kind() == ParserKind::OutOfMemory {
+            return OptionsFault::Memory;
+        }
+        match format!(in alloc; "{error}") {
+            Ok(text) if error.use_stderr() => OptionsFault::Bad(text),
+            Ok(text) => OptionsFault::Help(text),
+            Err(_) => OptionsFault::Memory,
+        }
+    }
+
+    /// The fault of a command line that is wrong in this way.
+    pub fn wrong(alloc: Global, message: &str) -> OptionsFault {
+        match format!(in alloc; "error: {message}\n\nFor more information, try '--help'.\n") {
+            Ok(text) => OptionsFault::Bad(text),
+            Err(_) => OptionsFault::Memory,
+        }
+    }
+
+    /// The text to print; empty where memory was refused.
+    pub fn text(&self) -> &str {
+        match self {
+            OptionsFault::Help(text) | OptionsFault::Bad(text) => text.as_str(),
+            OptionsFault::Memory => "",
+        }
+    }
+
+    /// The exit status.
+    pub fn status(&self) -> u8 {
+        match self {
+            OptionsFault::Help(_) => 0,
+            OptionsFault::Bad(_) => 2,
+            OptionsFault::Memory => 4,
+        }
+    }
+}
+
+impl From<AllocError> for OptionsFault {
+    fn from(_refused: AllocError) -> OptionsFault {
+        OptionsFault::Memory
+    }
+}

@@ -1,0 +1,86 @@
+//! Standard input is cut by the dictionary that the command line names.
+
+use crate::formatting::format_of;
+use crate::images::cut_by_images;
+use crate::source_directory::read_directory;
+use command_lines::jseg::{Input, Options};
+use mj_model::{Counted, GROUPING_MAX, NO_FILE, RunFault, Sources};
+use out_format::Format;
+use programs::{Fault, Narrator, Stage, texts};
+use segmenter::{run_sources, sample};
+use std::io::Write;
+
+/// How words are cut and printed, and what is said meanwhile.
+#[derive(Drop)]
+pub struct Manner<'a> {
+    pub grouping: u16,
+    pub format: Format,
+    pub narrator: Narrator<'a>,
+}
+
+/// Cuts standard input into words, and says what is done where that is asked for.
+pub fn cut(rt: &HostRuntime, options: &Options) -> Result<(), Fault> {
+    let narrator = Narrator::new(rt, "jseg", options.verbose);
+    let lines = cut_lines(rt, options, narrator);
+    match &lines {
+        Ok(lines) => narrator.say(Stage::Cut { lines: *lines }),
+        Err(fault) => narrator.say_why(fault),
+    }
+    lines.map(|_lines| ())
+}
+
+/// Cuts it, and answers how many lines it has.
+fn cut_lines(rt: &HostRuntime, options: &Options, narrator: Narrator<'_>) -> Result<u64, Fault> {
+    let manner = Manner {
+        grouping: options.grouping,
+        format: format_of(rt.alloc(), options).map_err(Fault::Format)?,
+        narrator,
+    };
+    match &options.input {
+        Input::Images { dic, users } => cut_by_images(rt, dic.as_str(), users, &manner),
+        Input::Sources(dir) => cut_by_directory(rt, dir.as_str(), &manner),
+        Input::Sample => cut_by(rt, &sample(), &manner).map_err(|fault| match fault {
+            RunFault::Source(fault) => {
+                let path = (fault.file != NO_FILE).then_some("sample");
+                Fault::of_source(rt.alloc(), path, fault)
+            }
+            fault => Fault::Run(fault),
+        }),
+    }
+}
+
+/// Cuts it by the sources of a directory.
+fn cut_by_directory(rt: &HostRuntime, dir: &str, manner: &Manner<'_>) -> Result<u64, Fault> {
+    let files = read_directory(rt, dir)?;
+    files.say(&manner.narrator);
+    let lexicons = texts(rt.alloc(), &files.lexicons)?;
+    let sources = Sources {
+        matrix: &files.matrix.bytes,
+        chars: &files.chars.bytes,
+        unk: &files.unk.bytes,
+        lexicons: &lexicons,
+    };
+    cut_by(rt, &sources, manner).map_err(|fault| match fault {
+        RunFault::Source(fault) => Fault::of_source(rt.alloc(), files.path(fault.file), fault),
+        fault => Fault::Run(fault),
+    })
+}
+
+/// Cuts it by sources, without users' ones. After a fault what was printed before is flushed.
+fn cut_by(rt: &HostRuntime, sources: &Sources<'_>, manner: &Manner<'_>) -> Result<u64, RunFault> {
+    let mut reader = Counted::new(rt.reader());
+    let mut writer = Counted::new(rt.stdout());
+    let cut = run_sources(
+        rt.alloc(),
+        sources,
+        &[],
+        manner.grouping.min(GROUPING_MAX),
+        &manner.format,
+        &mut reader,
+        &mut writer,
+    );
+    if cut.is_err() {
+        let _ = writer.flush();
+    }
+    cut
+}

@@ -1,0 +1,14 @@
+//! Command lines: what is chosen, and what is refused.
+
+mod dictc;
+mod jseg;
+mod words;
+
+use std::string::String;
+
+pub(crate) fn is_text(got: &Option<String>, wanted: Option<&str>) -> bool {
+    match got {
+        Some(text) => wanted == Some(text.as_str()),
+        None => wanted == None,
+    }
+}

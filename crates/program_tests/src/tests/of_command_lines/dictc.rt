@@ -1,0 +1,106 @@
+//! Command lines of `dictc`.
+
+use crate::tests::words;
+use command_lines::dictc::{Base, Options, options};
+use std::alloc::{AllocError, Global};
+use std::string::String;
+use std::test::Fail;
+
+/// What a command line asks for, with the image to write `o`. Lexicons stand in one text, with a
+/// blank between.
+#[derive(Clone, Copy)]
+enum Asked {
+    /// A system dictionary of the definitions `m`, `c` and `u` and of these lexicons.
+    System(&'static str),
+    /// The same, and what is done is to be said.
+    Told(&'static str),
+    /// A user dictionary for this system, of these lexicons.
+    User(&'static str, &'static str),
+}
+
+impl Asked {
+    fn options(self, alloc: Global) -> Result<Options, AllocError> {
+        let (base, lexicons) = match self {
+            Asked::System(lexicons) | Asked::Told(lexicons) => {
+                let definitions = Base::Definitions {
+                    matrix: String::from_str(alloc, "m")?,
+                    chars: String::from_str(alloc, "c")?,
+                    unk: String::from_str(alloc, "u")?,
+                };
+                (definitions, lexicons)
+            }
+            Asked::User(dic, lexicons) => (Base::System(String::from_str(alloc, dic)?), lexicons),
+        };
+        Ok(Options {
+            base,
+            out: String::from_str(alloc, "o")?,
+            lexicons: words(alloc, lexicons)?,
+            verbose: matches!(self, Asked::Told(_)),
+        })
+    }
+}
+
+#[test]
+fn command_lines(rt: HostRuntime) -> Result<(), Fail> {
+    use Asked::{System, Told, User};
+    #[rattlefmt::skip]
+    let rows = [
+        // (what, words, what is asked for)
+        ("a system", "system --matrix m --char c --unk u --out o a.csv", System("a.csv")),
+        ("options with =", "system b --out=o --unk=u a --char=c --matrix=m", System("b a")),
+        ("what is done", "system --matrix m --char c --unk u --out o -v a.csv", Told("a.csv")),
+        ("a user", "user --dic sys.img --out o a.csv", User("sys.img", "a.csv")),
+        ("a lexicon twice", "user --dic s --out o a b a", User("s", "a b a")),
+        ("a lexicon like an option", "user --dic s --out o -- --out", User("s", "--out")),
+    ];
+    for (what, given, asked) in rows {
+        match options(rt.alloc(), words(rt.alloc(), given)?) {
+            Ok(options) => assert!(rt; options == asked.options(rt.alloc())?, "{what}"),
+            Err(_) => assert!(rt; false, "{what}"),
+        }
+    }
+    Ok(())
+}
+
+#[test]
+fn command_lines_that_end_at_once(rt: HostRuntime) -> Result<(), Fail> {
+    const HELP: (u8, &str) = (0, "Usage: dictc");
+    const BAD: (u8, &str) = (2, "error");
+    #[rattlefmt::skip]
+    let rows = [
+        // (what, words, status and what is in the text)
+        ("help", "--help", HELP),
+        ("help for a system", "system --help", HELP),
+        ("help for a user", "user --help", HELP),
+        ("the version", "--version", (0, "layouts read: 1, 2, 3; written: 3")),
+        ("a code", "--explain L4", (0, "L4 BadSection\nMeaning: ")),
+        ("memory", "--explain Memory", (0, "Memory\nMeaning: ")),
+        ("no code", "--explain", BAD),
+        ("a code of none", "--explain l4", (2, "no fault has the code 'l4'")),
+        ("a name that is near", "systen", (2, "'system'")),
+        ("an option that is near", "system --matrx m", (2, "'--matrix'")),
+        ("nothing asked for", "", BAD),
+        ("another subcommand", "delete", BAD),
+        ("options alone", "--out o a", BAD),
+        ("a system without its options", "system a", BAD),
+        ("no matrix", "system --char c --unk u --out o a", BAD),
+        ("no lexicon", "system --matrix m --char c --unk u --out o", BAD),
+        ("a system's", "system --matrix m --char c --unk u --dic d --out o a", BAD),
+        ("a user for no system", "user --out o a", BAD),
+        ("a user without an image", "user --dic s a", BAD),
+        ("a user without a lexicon", "user --dic s --out o", BAD),
+        ("a user with a matrix", "user --dic s --matrix m --out o a", BAD),
+        ("an option twice", "user --dic s --dic s --out o a", BAD),
+        ("no value", "user --dic s a --out", BAD),
+    ];
+    for (what, given, (status, text)) in rows {
+        match options(rt.alloc(), words(rt.alloc(), given)?) {
+            Ok(_options) => assert!(rt; false, "{what}"),
+            Err(fault) => {
+                assert!(rt; fault.status() == status, "{what}");
+                assert!(rt; fault.text().contains(text), "{what}");
+            }
+        }
+    }
+    Ok(())
+}

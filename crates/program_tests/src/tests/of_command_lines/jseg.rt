@@ -1,0 +1,194 @@
+//! Command lines of `jseg`.
+
+use super::is_text;
+use crate::tests::words;
+use command_lines::jseg::{Input, options};
+use std::alloc::{AllocError, Global};
+use std::string::String;
+use std::test::Fail;
+
+/// What a command line asks for: images, a directory or the sample. Users' images stand in one
+/// text, with a blank between.
+#[derive(Clone, Copy)]
+enum Asked {
+    Images(&'static str, &'static str),
+    Directory(&'static str),
+    Sample,
+}
+
+impl Asked {
+    fn input(self, alloc: Global) -> Result<Input, AllocError> {
+        Ok(match self {
+            Asked::Images(dic, users) => Input::Images {
+                dic: String::from_str(alloc, dic)?,
+                users: words(alloc, users)?,
+            },
+            Asked::Directory(dir) => Input::Sources(String::from_str(alloc, dir)?),
+            Asked::Sample => Input::Sample,
+        })
+    }
+}
+
+#[test]
+fn command_lines(rt: HostRuntime) -> Result<(), Fail> {
+    use Asked::{Directory, Images, Sample};
+    #[rattlefmt::skip]
+    let rows = [
+        // (what, words, what is asked for, grouping)
+        ("the sample",                "--sample",            Sample,                     24),
+        ("a directory",               "--sources a/b",       Directory("a/b"),           24),
+        ("with =",                    "--sources=a",         Directory("a"),             24),
+        ("no grouping",               "--sample -M 0",       Sample,                     0),
+        ("grouping first",            "-M 25 --sample",      Sample,                     25),
+        ("grouping joined",           "--sample -M1000",     Sample,                     1000),
+        ("both",                      "--sources a -M 7",    Directory("a"),             7),
+        ("a system",                  "-d sys.img",          Images("sys.img", ""),      24),
+        ("a system joined",           "-dsys.img",           Images("sys.img", ""),      24),
+        ("with a user",               "-d sys.img -u u.img", Images("sys.img", "u.img"), 24),
+        ("with users in their order", "-u b -d s -u a -u b", Images("s", "b a b"),       24),
+        ("a format and a grouping",   "-d s -O wakati -M 3", Images("s", ""),            3),
+    ];
+    for (what, given, asked, grouping) in rows {
+        match options(rt.alloc(), words(rt.alloc(), given)?) {
+            Ok(options) => {
+                assert!(rt; options.input == asked.input(rt.alloc())?, "{what}");
+                assert!(rt; options.grouping == grouping, "{what}");
+            }
+            Err(_) => assert!(rt; false, "{what}"),
+        }
+    }
+    Ok(())
+}
+
+#[test]
+fn format_options(rt: HostRuntime) -> Result<(), Fail> {
+    #[rattlefmt::skip]
+    let rows: [(&str, &[&str], [Option<&str>; 5]); 5] = [
+        // (what, words behind --sample, the name and the four formats)
+        ("none", &[], [None; 5]),
+        ("all", &["-F", "a", "-U", "b", "-B", "c", "-E", "d"],
+            [None, Some("a"), Some("b"), Some("c"), Some("d")]),
+        ("empty, and with a hyphen", &["-F", "", "-E", "-%pc"],
+            [None, Some(""), None, None, Some("-%pc")]),
+        ("joined", &["-F%m\\n"], [None, Some("%m\\n"), None, None, None]),
+        ("a name", &["-O", "wakati", "-F", "%q"], [Some("wakati"), Some("%q"), None, None, None]),
+    ];
+    for (what, given, wanted) in rows {
+        let mut words = words(rt.alloc(), "--sample")?;
+        for word in given {
+            words.push(String::from_str(rt.alloc(), word)?)?;
+        }
+        let options = options(rt.alloc(), words)?;
+        let got = [
+            &options.output,
+            &options.node,
+            &options.unk,
+            &options.bos,
+            &options.eos,
+        ];
+        for (got, wanted) in got.iter().zip(wanted.iter()) {
+            assert!(rt; is_text(got, *wanted), "{what}");
+        }
+    }
+    Ok(())
+}
+
+#[test]
+fn help(rt: HostRuntime) -> Result<(), Fail> {
+    let Err(fault) = options(rt.alloc(), words(rt.alloc(), "--help")?) else {
+        assert!(rt; false, "it is no choice");
+        return Ok(());
+    };
+    assert!(rt; fault.status() == 0);
+    assert!(rt; fault.text().contains("--sources"));
+    Ok(())
+}
+
+/// What is answered about the program and its faults.
+#[test]
+fn answers(rt: HostRuntime) -> Result<(), Fail> {
+    #[rattlefmt::skip]
+    let rows = [
+        // (words, status, what is in the text)
+        ("--version",        0, "layouts read: 1, 2, 3; written: 3"),
+        ("--explain L4",     0, "L4 BadSection\nMeaning: "),
+        ("--explain=Memory", 0, "Memory\nMeaning: "),
+        ("--explain l4",     2, "no fault has the code 'l4'"),
+        ("--simple",         2, "'--sample'"),
+        ("--soures a",       2, "'--sources'"),
+    ];
+    for (given, status, text) in rows {
+        let Err(fault) = options(rt.alloc(), words(rt.alloc(), given)?) else {
+            assert!(rt; false, "{given}");
+            return Ok(());
+        };
+        assert!(rt; fault.status() == status, "{given}");
+        assert!(rt; fault.text().contains(text), "{given}");
+    }
+    Ok(())
+}
+
+/// What MeCab's users type first, and what they are told to do instead.
+/// Whether a command line ends with status 2 and with this in its text.
+fn is_refused(rt: &HostRuntime, given: &str, text: &str) -> Result<bool, Fail> {
+    let fault = options(rt.alloc(), words(rt.alloc(), given)?).err();
+    Ok(fault.is_some_and(|fault| fault.status() == 2 && fault.text().contains(text)))
+}
+
+#[test]
+fn mecab_habits(rt: HostRuntime) -> Result<(), Fail> {
+    #[rattlefmt::skip]
+    let rows = [
+        // (words, what is in the text)
+        ("sys.img text",              "jseg -d IMG < FILE"),
+        ("-d sys.img text",           "jseg -d IMG < FILE"),
+        ("-Ochasen",                  "for IPADIC write -F"),
+        ("-d sys.img -Ochasen",       "for IPADIC write -F"),
+        ("-d sys.img -O yomi",        "-F '%pS%f[7]' -U '%M' -E '\\n'"),
+        ("-d sys.img -Osimple",       "for IPADIC write -F"),
+        ("-d sys.img -O dump",        "-O takes wakati alone"),
+        ("-N2",                       "leave it out"),
+        ("-d sys.img -N 2 -b 100000", "leave it out"),
+        ("-d sys.img -b 100000",      "1,048,576"),
+        ("-d sys.img -o out.txt",     "> FILE"),
+        ("-r /dev/null -d sys.img",   "dicrc"),
+    ];
+    for (given, text) in rows {
+        assert!(rt; is_refused(&rt, given, text)?, "{given}");
+    }
+    Ok(())
+}
+
+#[test]
+fn wrong_command_lines(rt: HostRuntime) -> Result<(), Fail> {
+    let rows = [
+        // (what, words)
+        ("an image without a name", "-d"),
+        ("two system images", "-d a -d b"),
+        ("image and sample", "-d a --sample"),
+        ("image and directory", "-d a --sources b"),
+        ("a user alone", "-u a"),
+        ("a user of the sample", "--sample -u a"),
+        ("a user of a directory", "--sources a -u b"),
+        ("a user without a name", "-d a -u"),
+        ("nothing asked for", ""),
+        ("twice", "--sample --sample"),
+        ("two directories", "--sources a --sources b"),
+        ("directory and sample", "--sources a --sample"),
+        ("no directory", "--sources"),
+        ("unknown option", "--simple"),
+        ("a word", "--sample text"),
+        ("another name", "--sample -O yomi"),
+        ("a format twice", "--sample -F a -F b"),
+        ("grouping alone", "-M 3"),
+        ("grouping too large", "--sample -M 1001"),
+        ("grouping below 0", "--sample -M -1"),
+        ("grouping no number", "--sample -M x"),
+        ("grouping without a value", "--sample -M"),
+        ("grouping twice", "--sample -M 1 -M 2"),
+    ];
+    for (what, given) in rows {
+        assert!(rt; is_refused(&rt, given, "error")?, "{what}");
+    }
+    Ok(())
+}

@@ -1,0 +1,98 @@
+//! What is told of compilations.
+
+use dict_compile::{CompileUserFault, Compiled};
+use dictc_work::tell_counts;
+use mj_model::{NamedFault, SourceKind};
+use programs::Fault;
+use std::alloc::Global;
+use std::io::{self, ErrorKind, Write};
+use std::test::Fail;
+
+/// A writer that takes so many bytes in all, and whose flush may fail.
+#[derive(Drop)]
+struct Full {
+    room: usize,
+    flushes: bool,
+}
+
+impl Write for Full {
+    fn write(&mut self, buf: &[u8]) -> io::Result<usize> {
+        let taken = buf.len().min(self.room);
+        self.room -= taken;
+        if taken == 0 && !buf.is_empty() {
+            return Err(io::Error::from(ErrorKind::StorageFull));
+        }
+        Ok(taken)
+    }
+
+    fn flush(&mut self) -> io::Result<()> {
+        if self.flushes {
+            Ok(())
+        } else {
+            Err(io::Error::from(ErrorKind::StorageFull))
+        }
+    }
+}
+
+fn compiled(alloc: Global, entries: u64, skipped: u128) -> Compiled {
+    Compiled {
+        image: Vec::new(alloc),
+        entries,
+        skipped,
+    }
+}
+
+#[test]
+fn told_compilations(rt: HostRuntime) -> Result<(), Fail> {
+    #[rattlefmt::skip]
+    let rows = [
+        // (entries, skipped, line)
+        (0,       0,         "0 entries, 0 skipped\n"),
+        (3,       1,         "3 entries, 1 skipped\n"),
+        (392_127, u128::MAX, "392127 entries, 340282366920938463463374607431768211455 skipped\n"),
+    ];
+    for (entries, skipped, line) in rows {
+        let mut told = Vec::new(rt.alloc());
+        let counts = compiled(rt.alloc(), entries, skipped);
+        assert!(rt; tell_counts(&counts, &mut told).is_ok(), "{line}");
+        assert!(rt; told.as_slice() == line.as_bytes(), "{line}");
+    }
+    Ok(())
+}
+
+#[test]
+fn compilations_that_cannot_be_told(rt: HostRuntime) -> Result<(), Fail> {
+    let rows = [
+        // (what, room for bytes, whether it can be flushed, whether it is told)
+        ("room for all", 21, true, true),
+        ("no room", 0, true, false),
+        ("room for some", 5, true, false),
+        ("not flushed", 21, false, false),
+    ];
+    for (what, room, flushes, is_told) in rows {
+        let mut writer = Full { room, flushes };
+        let told = tell_counts(&compiled(rt.alloc(), 3, 1), &mut writer);
+        let fault = if is_told { None } else { Some(Fault::Output) };
+        assert!(rt; told.err() == fault, "{what}");
+    }
+    Ok(())
+}
+
+#[test]
+fn told_faults_of_users(rt: HostRuntime) -> Result<(), Fail> {
+    let source = CompileUserFault::Source(SourceKind::BadNumber.at(3, 7));
+    #[rattlefmt::skip]
+    let rows = [
+        // (fault, code, name, text)
+        (CompileUserFault::NotSystem, "O1", "NotSystem", "O1 NotSystem"),
+        (source,                      "S3", "BadNumber", "file 3, line 7: S3 BadNumber"),
+    ];
+    for (fault, code, name, text) in rows {
+        assert!(rt; fault.code() == code && fault.name() == name, "{text}");
+        assert!(rt;
+            format!(in rt.alloc(); "{fault}")?.as_str() == text,
+            "{text}"
+        );
+    }
+    Ok(())
+}

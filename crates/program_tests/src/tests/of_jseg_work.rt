@@ -1,0 +1,4 @@
+//! Files, and images at fault.
+
+mod directories;
+mod user_images;

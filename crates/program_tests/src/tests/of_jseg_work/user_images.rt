@@ -1,0 +1,51 @@
+//! Images of no use where they were given.
+
+use crate::tests::{new_directory, words};
+use dict_compile::{compile, compile_user};
+use jseg_work::overlay_fault;
+use mj_model::OverlayFault;
+use programs::{dictionary_at, report};
+use segmenter::sample;
+use std::fs;
+use std::test::Fail;
+use word_lookup::Dictionaries;
+
+#[test]
+fn user_image_as_the_system(rt: HostRuntime) -> Result<(), Fail> {
+    let dir = new_directory(&rt, "user_image")?;
+    let path = format!(in rt.alloc(); "{dir}/some.img")?;
+    fs::write(&rt, path.as_str(), compile(rt.alloc(), &sample())?.image)?;
+    let system = dictionary_at(&rt, path.as_str())?;
+    let user = compile_user(rt.alloc(), &system, &[b"a,1,1,1,X\n".as_slice()])?;
+    fs::write(&rt, path.as_str(), user.image)?;
+    let dictionary = dictionary_at(&rt, path.as_str())?;
+    fs::remove_dir_all(&rt, dir.as_str())?;
+    assert!(rt; dictionary.is_user());
+    let fault = Dictionaries::new(&dictionary, &[]).err();
+    assert!(rt; fault == Some(OverlayFault::NotSystem));
+    Ok(())
+}
+
+#[test]
+fn images_at_fault(rt: HostRuntime) -> Result<(), Fail> {
+    #[rattlefmt::skip]
+    let rows = [
+        // (fault, line)
+        (OverlayFault::NotSystem,     "jseg: s.img: O1 NotSystem\n"),
+        (OverlayFault::NotUser(0),    "jseg: a.img: O2 NotUser 0\n"),
+        (OverlayFault::NotUser(1),    "jseg: b.img: O2 NotUser 1\n"),
+        (OverlayFault::OtherSizes(0), "jseg: a.img: O3 OtherSizes 0\n"),
+        (OverlayFault::OtherSizes(1), "jseg: b.img: O3 OtherSizes 1\n"),
+    ];
+    let users = words(rt.alloc(), "a.img b.img")?;
+    for (fault, line) in rows {
+        let mut told = Vec::new(rt.alloc());
+        let fault = overlay_fault(rt.alloc(), "s.img", &users, fault);
+        assert!(rt;
+            report(rt.alloc(), "jseg", &fault, &mut told) == 1,
+            "{line}"
+        );
+        assert!(rt; told.as_slice() == line.as_bytes(), "{line}");
+    }
+    Ok(())
+}

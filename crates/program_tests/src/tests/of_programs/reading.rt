@@ -1,0 +1,64 @@
+//! Readers that are read to their end, and those that fail.
+
+use programs::{ReadFault, read_whole};
+use std::io::{self, ErrorKind, Read};
+use std::test::Fail;
+
+/// A reader that fails behind so many reads of one byte.
+#[derive(Drop)]
+struct Failing {
+    reads: usize,
+}
+
+impl Read for Failing {
+    fn read(&mut self, buf: &mut [u8]) -> io::Result<usize> {
+        if self.reads == 0 {
+            return Err(io::Error::from(ErrorKind::Interrupted));
+        }
+        self.reads -= 1;
+        Ok(buf.len().min(1))
+    }
+}
+
+#[test]
+fn readers_of_some_length(rt: HostRuntime) -> Result<(), Fail> {
+    let rows = [
+        // (bytes, reads, whether it ends within them)
+        (0, 1, true),
+        (0, 0, false),
+        (1, 2, true),
+        (1, 1, false),
+        (65_536, 2, true),
+        (65_537, 3, true),
+        (65_537, 2, false),
+        (200_000, 5, true),
+        (300_000, 6, true),
+        (300_000, 5, false),
+    ];
+    for (length, reads, ends) in rows {
+        let text = vec![in rt.alloc(); 7_u8; length]?;
+        let mut reader = text.as_slice();
+        match read_whole(rt.alloc(), &mut reader, reads) {
+            Ok(bytes) => assert!(rt; ends && bytes == text, "{length} in {reads}"),
+            Err(ReadFault::Endless) => assert!(rt; !ends, "{length} in {reads}"),
+            Err(_) => assert!(rt; false, "{length} in {reads}"),
+        }
+    }
+    Ok(())
+}
+
+#[test]
+fn failing_readers(rt: HostRuntime) -> Result<(), Fail> {
+    for reads in [0, 1, 5] {
+        let fault = read_whole(rt.alloc(), &mut Failing { reads }, 9).err();
+        let Some(ReadFault::Device(error)) = &fault else {
+            assert!(rt; false, "behind {reads} reads");
+            return Ok(());
+        };
+        assert!(rt;
+            error.kind() == ErrorKind::Interrupted,
+            "behind {reads} reads"
+        );
+    }
+    Ok(())
+}

@@ -1,0 +1,201 @@
+//! What is told of each fault, and the statuses.
+
+use command_lines::explanation_of;
+use mj_model::OverlayFault::{NotSystem, NotUser, OtherSizes};
+use mj_model::{
+    FormatFault, FormatKind, FormatPart, ImageFault, NO_FILE, NamedFault, OverlayFault, RunFault,
+    SourceKind,
+};
+use programs::{Fault, report};
+use std::alloc::{AllocError, Global};
+use std::string::String;
+use std::test::Fail;
+
+/// Whether a text has a fault's code and then its name, and want of memory its name alone.
+fn has_words<F: NamedFault + Drop>(alloc: Global, text: &str, fault: F) -> Result<bool, Fail> {
+    if fault.code() == "Memory" {
+        return Ok(text == fault.name());
+    }
+    let words = format!(in alloc; "{} {}", fault.code(), fault.name())?;
+    Ok(text.contains(words.as_str()))
+}
+
+/// Whether a fault is told in this line behind each program's name, with this status.
+fn is_told(alloc: Global, fault: &Fault, line: &str, status: u8) -> Result<bool, Fail> {
+    for program in ["dictc", "jseg"] {
+        let mut told = Vec::new(alloc);
+        let text = format!(in alloc; "{program}: {line}\n")?;
+        if report(alloc, program, fault, &mut told) != status
+            || told.as_slice() != text.as_bytes()
+        {
+            return Ok(false);
+        }
+    }
+    Ok(true)
+}
+
+/// A fault, with the paths of the rows.
+#[derive(Clone, Copy)]
+enum Told {
+    /// Of line 7 of a lexicon.
+    Source(SourceKind),
+    /// Of the sources together, which may be told with a path.
+    Sources(SourceKind),
+    Misplaced(SourceKind),
+    Image(ImageFault),
+    Overlay(OverlayFault),
+    Format(usize, FormatKind),
+    FormatMemory,
+    Run(RunFault),
+    File,
+    Output,
+    Memory,
+}
+
+impl Told {
+    fn fault(self, alloc: Global) -> Result<Fault, AllocError> {
+        Ok(match self {
+            Told::Source(kind) => Fault::of_source(alloc, Some("a/b.csv"), kind.at(3, 7)),
+            Told::Sources(kind) => Fault::of_source(alloc, None, kind.at(NO_FILE, 0)),
+            Told::Misplaced(kind) => {
+                Fault::Source(String::from_str(alloc, "a/b.csv")?, kind.at(NO_FILE, 0))
+            }
+            Told::Image(fault) => Fault::Image(String::from_str(alloc, "s.img")?, fault),
+            Told::Overlay(fault) => Fault::of_overlay(alloc, "u.img", fault),
+            Told::Format(at, kind) => {
+                let part = FormatPart::Node;
+                Fault::Format(FormatFault::Bad { part, at, kind })
+            }
+            Told::FormatMemory => Fault::Format(FormatFault::Memory),
+            Told::Run(fault) => Fault::Run(fault),
+            Told::File => Fault::File(String::from_str(alloc, "a/x.csv")?),
+            Told::Output => Fault::Output,
+            Told::Memory => Fault::Memory,
+        })
+    }
+}
+
+#[test]
+fn told_faults(rt: HostRuntime) -> Result<(), Fail> {
+    let alloc = rt.alloc();
+    #[rattlefmt::skip]
+    let rows = [
+        // (fault, line behind the program's name, status)
+        (Told::Source(SourceKind::NotUtf8),             "a/b.csv:7: S1 NotUtf8",           1),
+        (Told::Source(SourceKind::TooFewFields),        "a/b.csv:7: S2 TooFewFields",      1),
+        (Told::Source(SourceKind::BadNumber),           "a/b.csv:7: S3 BadNumber",         1),
+        (Told::Source(SourceKind::SurfaceTooLong),      "a/b.csv:7: S4 SurfaceTooLong",    1),
+        (Told::Source(SourceKind::TooManyEntries),      "a/b.csv:7: S5 TooMany",           1),
+        (Told::Source(SourceKind::BadHeader),           "a/b.csv:7: M1 BadHeader",         1),
+        (Told::Source(SourceKind::BadRow),              "a/b.csv:7: M2 BadRow",            1),
+        (Told::Source(SourceKind::PairOutside),         "a/b.csv:7: M3 PairOutside",       1),
+        (Told::Source(SourceKind::TooLarge),            "a/b.csv:7: M4 TooLarge",          1),
+        (Told::Source(SourceKind::BadLine),             "a/b.csv:7: C1 BadLine",           1),
+        (Told::Source(SourceKind::BadRange),            "a/b.csv:7: C2 BadRange",          1),
+        (Told::Source(SourceKind::Twice),               "a/b.csv:7: C3 Twice",             1),
+        (Told::Source(SourceKind::UndefinedCategory),   "a/b.csv:7: C4 NoSuchCategory",    1),
+        (Told::Source(SourceKind::TooManyCategories),   "a/b.csv:7: C5 TooMany",           1),
+        (Told::Source(SourceKind::NoDefault),           "a/b.csv:7: C6 NoDefault",         1),
+        (Told::Source(SourceKind::NoSpace),             "a/b.csv:7: C7 NoSpace",           1),
+        (Told::Source(SourceKind::NoSuchCategory),      "a/b.csv:7: U1 NoSuchCategory",    1),
+        (Told::Source(SourceKind::MissingCategory(4)),  "a/b.csv:7: U2 MissingCategory 4", 1),
+        (Told::Source(SourceKind::IdOutside),           "a/b.csv:7: I1 IdOutside",         1),
+        (Told::Source(SourceKind::ArrayFull),           "I2 ArrayFull",                    1),
+        (Told::Sources(SourceKind::ArrayFull),          "I2 ArrayFull",                    1),
+        (Told::Misplaced(SourceKind::ArrayFull),        "I2 ArrayFull",                    1),
+        (Told::Sources(SourceKind::FeaturesTooLarge),   "I3 FeaturesTooLarge",             1),
+        (Told::Misplaced(SourceKind::FeaturesTooLarge), "I3 FeaturesTooLarge",             1),
+        (Told::Source(SourceKind::Memory),              "Memory",                          4),
+        (Told::Misplaced(SourceKind::Memory),           "Memory",                          4),
+        (Told::Image(ImageFault::Truncated),            "s.img: L1 Truncated",             1),
+        (Told::Image(ImageFault::BadMagic),             "s.img: L2 BadMagic",              1),
+        (Told::Image(ImageFault::BadLayout(9)),         "s.img: L3 BadLayout 9",           1),
+        (Told::Image(ImageFault::BadSection(5)),        "s.img: L4 BadSection 5",          1),
+        (Told::Image(ImageFault::BadKey(70_000)),       "s.img: L5 BadKey 70000",          1),
+        (Told::Image(ImageFault::BadToken(12)),         "s.img: L6 BadToken 12",           1),
+        (Told::Image(ImageFault::BadText(u32::MAX)),    "s.img: L7 BadText 4294967295",    1),
+        (Told::Image(ImageFault::Digest),               "s.img: L8 Digest",                1),
+        (Told::Image(ImageFault::Memory),               "Memory",                          4),
+        (Told::Overlay(NotSystem),                      "u.img: O1 NotSystem",             1),
+        (Told::Overlay(NotUser(0)),                     "u.img: O2 NotUser 0",             1),
+        (Told::Overlay(OtherSizes(12)),                 "u.img: O3 OtherSizes 12",         1),
+        (Told::Format(1, FormatKind::BadEscape),        "P1 BadEscape 1",                  2),
+        (Told::Format(16, FormatKind::BadItem),         "P2 BadItem 16",                   2),
+        (Told::Format(0, FormatKind::BadIndex),         "P3 BadIndex 0",                   2),
+        (Told::FormatMemory,                            "Memory",                          4),
+        (Told::Run(RunFault::Read(2)),                  "line 2: G1 Read",                 3),
+        (Told::Run(RunFault::Write(1 << 64)),           "G2 Write 18446744073709551616",   3),
+        (Told::Run(RunFault::NotUtf8(3)),               "line 3: G3 NotUtf8",              1),
+        (Told::Run(RunFault::TooLong(1)),               "line 1: G4 TooLong",              1),
+        (Told::Run(RunFault::InputTooLong(9)),          "line 9: G5 InputTooLong",         1),
+        (Told::Run(RunFault::Memory(5)),                "Memory",                          4),
+        (Told::File,                                    "a/x.csv: F1 File",                3),
+        (Told::Output,                                  "F2 Output",                       3),
+        (Told::Memory,                                  "Memory",                          4),
+    ];
+    for (told, line, status) in &rows {
+        let fault = told.fault(alloc)?;
+        assert!(rt; is_told(alloc, &fault, line, *status)?, "{line}");
+        assert!(rt; has_words(alloc, line, &fault)?, "{line}");
+        assert!(rt; is_explained(&fault), "{line}");
+    }
+    Ok(())
+}
+
+/// Whether a fault has an explanation, by its code and name.
+fn is_explained(fault: &Fault) -> bool {
+    explanation_of(fault.code()).is_some_and(|found| found.code == fault.code()
+        && found.name == fault.name())
+}
+
+/// Faults of sources without a path, and the ones that carry them.
+#[test]
+fn carried_sources(rt: HostRuntime) -> Result<(), Fail> {
+    let alloc = rt.alloc();
+    let rows = [
+        // (fault, text)
+        (SourceKind::TooManyEntries, "file 4, line 12: S5 TooMany"),
+        (
+            SourceKind::MissingCategory(4),
+            "file 4, line 12: U2 MissingCategory 4",
+        ),
+    ];
+    for (kind, text) in &rows {
+        let fault = kind.at(4, 12);
+        assert!(rt; has_words(alloc, text, *kind)?, "{text}");
+        assert!(rt; has_words(alloc, text, fault)?, "{text}");
+        assert!(rt; format!(in alloc; "{fault}")?.as_str() == *text, "{text}");
+        for run in [RunFault::Source(fault), RunFault::UserSource(1, fault)] {
+            assert!(rt; has_words(alloc, text, run)?, "{text}");
+            assert!(rt; format!(in alloc; "{run}")?.as_str() == *text, "{text}");
+        }
+    }
+    Ok(())
+}
+
+/// A path is told in one line.
+#[test]
+fn escaped_paths(rt: HostRuntime) -> Result<(), Fail> {
+    let alloc = rt.alloc();
+    let rows = [
+        // (path, as it is told)
+        ("もも é", "もも é"),
+        ("a\\n", "a\\n"),
+        ("a\nb\r\t", "a\\nb\\r\\t"),
+        ("\u{1b}[1m\u{7f}", "\\u{1b}[1m\\u{7f}"),
+        ("\u{85}\0", "\\u{85}\\u{0}"),
+    ];
+    for (path, told) in &rows {
+        let bad = SourceKind::BadNumber.at(3, 7);
+        let source = Fault::of_source(alloc, Some(path), bad);
+        let overlay = Fault::of_overlay(alloc, path, NotSystem);
+        let image = Fault::Image(String::from_str(alloc, path)?, ImageFault::Truncated);
+        let file = Fault::File(String::from_str(alloc, path)?);
+        let text = format!(in alloc; "{source}; {overlay}; {image}; {file}")?;
+        let wanted = format!(in alloc;
+            "{told}:7: S3 BadNumber; {told}: O1 NotSystem; {told}: L1 Truncated; {told}: F1 File"
+        )?;
+        assert!(rt; text == wanted, "{told}");
+    }
+    Ok(())
+}
