@@ -7,4 +7,3 @@ pub mod Links
 pub mod Choice
 pub mod Growth
 pub mod Finish
-pub mod SampleLemmas

@@ -1,5 +1,4 @@
 pub mod Nodes
 pub mod Ends
 pub mod Lattice
-pub mod Sample
 pub mod SearchedText

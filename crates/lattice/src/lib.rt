@@ -16,6 +16,3 @@ pub use dictionary_text::best_path;
 pub use lattice::Lattice;
 pub use path::Path;
 pub use source::WordSource;
-
-#[cfg(test)]
-mod tests;

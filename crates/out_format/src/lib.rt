@@ -21,6 +21,3 @@ mod word_in_path;
 pub use format::Format;
 pub use mj_model::{FormatFault, FormatKind, FormatPart};
 pub use printing::print;
-
-#[cfg(test)]
-mod tests;

@@ -1,22 +1,59 @@
-//! Sources and texts with their output, words of places, and devices that fail.
+//! The bound on reads. That of the public calls is so great that no test reaches it, so this asks the loop itself.
 
-mod best_paths;
-mod characters;
-mod devices;
-mod expected_words;
-mod failing;
-mod faults;
-mod formats;
-mod growths;
-mod long_output;
-mod older_images;
-mod older_layouts;
-mod older_systems;
-mod overlays;
-mod refusals;
-mod rows;
-mod runs;
-mod samples;
-mod starved;
-mod users;
-mod words;
+use crate::dicts::system_dict;
+use crate::sample;
+use crate::words_printer::{LineMemory, WordsPrinter};
+use line_stream::run_over;
+use mj_model::{Counted, RunFault};
+use out_format::Format;
+use std::io;
+use std::io::Read;
+use std::test::Fail;
+use word_lookup::Dictionaries;
+
+/// Gives a byte a read.
+#[derive(Drop)]
+struct ByteByByte<'a> {
+    bytes: &'a [u8],
+}
+
+impl Read for ByteByByte<'_> {
+    fn read(&mut self, buf: &mut [u8]) -> io::Result<usize> {
+        let bytes = self.bytes;
+        let most = bytes.len().min(1).min(buf.len());
+        buf[..most].copy_from_slice(&bytes[..most]);
+        self.bytes = &bytes[most..];
+        Ok(most)
+    }
+}
+
+#[test]
+fn bound_on_reads(rt: HostRuntime) -> Result<(), Fail> {
+    let format = Format::default_of(rt.alloc())?;
+    #[rattlefmt::skip]
+    let rows = [
+        // (what, text, answer)
+        ("no end in 4 reads",  "ab\ncd\n", Err(RunFault::InputTooLong(2))),
+        ("the end at the 4th", "ab\n",     Ok(1)),
+    ];
+    for (what, text, answer) in rows {
+        let system = system_dict(rt.alloc(), &sample())?;
+        let printer = WordsPrinter {
+            alloc: rt.alloc(),
+            dictionaries: Dictionaries::new(&system, &[])?,
+            format: &format,
+        };
+        let mut kept = LineMemory::new(rt.alloc());
+        let mut input = Counted::new(ByteByByte {
+            bytes: text.as_bytes(),
+        });
+        let mut out = Counted::new(Vec::new(rt.alloc()));
+        let got = run_over(rt.alloc(), &printer, &mut kept, &mut input, &mut out, 4);
+        assert!(rt; got == answer, "{what}");
+        assert!(rt;
+            out.get_ref().as_slice() == "ab\t未知\nEOS\n".as_bytes(),
+            "{what}"
+        );
+    }
+    Ok(())
+}
