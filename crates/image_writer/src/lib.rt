@@ -27,3 +27,6 @@ mod user;
 pub use fault::LexiconFault;
 pub use system::write_system;
 pub use user::write_user;
+
+#[cfg(test)]
+mod tests;

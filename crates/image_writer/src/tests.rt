@@ -1,0 +1,3 @@
+//! The bytes of an image that is made by hand, which no public call fixes.
+
+mod frame;
