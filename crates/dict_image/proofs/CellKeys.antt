@@ -1,13 +1,13 @@
 -- The keys of groups in cells: two groups never have one key, since a key has one value in the cells.
 use Rattle.std.specs.Prelude.{IsUtf8}
 use Rattle.std.proofs.Common.{◌≡◌, ℕ, ◌<◌, List, Some, sym, ◌∙◌, subst}
-use Rattle.double_array.specs.CellMap.{Cell, walk, codes_of, value_of}
-use Rattle.double_array.specs.CellRules.{MeetsRules}
+use Rattle.cell_walk.specs.CellMap.{Cell, walk, codes_of, value_of}
+use Rattle.cell_walk.specs.CellRules.{MeetsRules}
 use Rattle.image_bytes.specs.ImageFaults.{HasKey}
 use Rattle.image_bytes.specs.ImageSections.{StandsOnce, key_of}
 use Rattle.mj_model.proofs.Basics.{same_negsuc}
-use Rattle.double_array.proofs.CellWalks.{value_parts, step_child, walk_is_one}
-use Rattle.double_array.proofs.KeyWalks.{same_key}
+use Rattle.cell_walk.proofs.CellWalks.{value_parts, step_child, walk_is_one}
+use Rattle.cell_walk.proofs.KeyWalks.{same_key}
 use Rattle.image_bytes.proofs.ImageKeys.{key_state, key_is}
 use Rattle.dict_image.specs.Groups.{AreGroups}
 

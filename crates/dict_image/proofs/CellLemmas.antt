@@ -1,7 +1,7 @@
 -- Which cells the rules allow.
 use Rattle.std.proofs.Common.{◌≡◌, ℕ, ◌+◌, ◌<◌, ◌≤◌, pos, List, length, Option, Some, None, MatchOption, sym, ap, ◌∙◌, subst}
-use Rattle.double_array.specs.CellMap.{Cell as CellOf, base, check}
-use Rattle.double_array.specs.CellRules.{IsUsed}
+use Rattle.cell_walk.specs.CellMap.{Cell as CellOf, base, check}
+use Rattle.cell_walk.specs.CellRules.{IsUsed}
 use Rattle.mj_model.proofs.Basics.{same_pos}
 use Rattle.dict_image.specs.Cells.{IsDistance, IsChildAt}
 

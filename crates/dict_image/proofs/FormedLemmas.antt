@@ -1,7 +1,7 @@
 -- What a well-formed image gives, test by test.
 use Rattle.std.proofs.Common.{◌≡◌, ℕ, ◌*◌, ◌<◌, ◌≤◌, List, [], ◌∷◌, ◌++◌, length, refl, arith, subst}
 use Rattle.std.specs.Prelude.{IsUtf8}
-use Rattle.double_array.specs.CellRules.{AreCells}
+use Rattle.cell_walk.specs.CellRules.{AreCells}
 use Rattle.image_bytes.specs.ImageBytes.{header_of, kind_of, all_tokens, section, section_end, total_length}
 use Rattle.image_bytes.specs.declared.layout.KeyForm.{KeyForm}
 use Rattle.image_bytes.specs.declared.layout.KeyForm.TheVariants as key

@@ -8,8 +8,8 @@ use Rattle.std.specs.Str.{bytes_eq}
 use Rattle.std.proofs.lemmas.Slice.Eq.{bytes_eq-Decides}
 use Rattle.std.proofs.lemmas.Bool.{cases_eq, cases_lt}
 use Rattle.std.proofs.lemmas.List.{append-nil, append_assoc, length-append, length-take-le, nil_from_length, take-append-drop, take_all, take_more, get_or_past}
-use Rattle.double_array.specs.CellMap.{codes_of}
-use Rattle.double_array.proofs.KeyWalks.{code_of_end, length-codes_of}
+use Rattle.cell_walk.specs.CellMap.{codes_of}
+use Rattle.cell_walk.proofs.KeyWalks.{code_of_end, length-codes_of}
 use Rattle.image_bytes.specs.OlderSections.{IsListedKey, listed_key, listed_number}
 use Rattle.dict_image.specs.KeyPlaces.{KeyList}
 use Rattle.dict_image.specs.ListedHits.{BeginsWith, CodesRise, IsFirstFrom, IsRangeOf, code_at}

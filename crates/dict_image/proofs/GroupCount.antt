@@ -6,7 +6,7 @@ use Rattle.std.proofs.lemmas.List.FromFn.{length-map-range_with_len, get_or-map-
 use Rattle.std.proofs.lemmas.List.Folds.{Any-from_list_any}
 use Rattle.std.proofs.lemmas.Map.Keys.{IsDistinct-from_apart}
 use Rattle.std.proofs.lemmas.Map.Steps.{length-le_from_distinct_below}
-use Rattle.double_array.specs.CellMap.{Cell, base}
+use Rattle.cell_walk.specs.CellMap.{Cell, base}
 use Rattle.image_bytes.specs.ImageSections.{value_cell}
 use Rattle.mj_model.proofs.Basics.{same_negsuc}
 use Rattle.image_bytes.proofs.ImageKeys.{value_cell_is}

@@ -5,8 +5,8 @@ use Rattle.std.proofs.lemmas.List.{length-append, length-set, length-replicate, 
 use Rattle.std.proofs.lemmas.Option.{same_Some, none-some}
 use Rattle.std.proofs.lemmas.Str.{IsUtf8-nil}
 use Rattle.mj_model.specs.declared.limits.TheConstants.{SURFACE_MAX}
-use Rattle.double_array.specs.CellMap.{Cell, step, walk}
-use Rattle.double_array.proofs.CellWalks.{walk_more, walk_none}
+use Rattle.cell_walk.specs.CellMap.{Cell, step, walk}
+use Rattle.cell_walk.proofs.CellWalks.{walk_more, walk_none}
 use Rattle.dict_image.specs.declared.check.key_front.KeyFront.{KeyFront}
 use Rattle.dict_image.specs.declared.check.stand.Stand.{Stand}
 use Rattle.dict_image.specs.declared.check.stand.Stand.TheVariants.{Between, OneTail, TwoTails, ThreeTails, AfterE0, AfterEd, AfterF0, AfterF4, Broken}

@@ -2,12 +2,12 @@
 use Rattle.std.proofs.Common.{◌≡◌, ◌≢◌, ℕ, zero, suc, ◌+◌, ◌-◌, ◌<◌, ◌≤◌, ◌↔◌, ℤ, pos, negsuc, Bool, List, [], ◌∷◌, ◌++◌, length, map, reverse, Some, IsUtf8, IsTrue, sym, ap, ◌∙◌, refl, arith, subst}
 use Rattle.std.proofs.lemmas.List.{length-append, length-map, length-reverse, reverse-append}
 use Rattle.mj_model.specs.declared.limits.TheConstants.{SURFACE_MAX}
-use Rattle.double_array.specs.CellMap.{Cell, base, check, step, walk, codes_of}
-use Rattle.double_array.specs.CellRules.{IsBaseAfter, MeetsRules}
+use Rattle.cell_walk.specs.CellMap.{Cell, base, check, step, walk, codes_of}
+use Rattle.cell_walk.specs.CellRules.{IsBaseAfter, MeetsRules}
 use Rattle.image_bytes.specs.ImageFaults.{HasKey}
 use Rattle.image_bytes.specs.ImageSections.{StandsOnce, IsKeyOf, bytes_to}
 use Rattle.mj_model.proofs.Basics.{same_pos}
-use Rattle.double_array.proofs.CellWalks.{child_of, step_named, walk_append, walk_first, walk_is_one, walk_none, walk_one, walk_more, value_parts, value_from}
+use Rattle.cell_walk.proofs.CellWalks.{child_of, step_named, walk_append, walk_first, walk_is_one, walk_none, walk_one, walk_more, value_parts, value_from}
 use Rattle.image_bytes.proofs.ImageKeys.{walk_same, key_state, bytes_back, bytes_of_key}
 use Rattle.dict_image.proofs.ValueLemmas.{root_within}
 use Rattle.dict_image.specs.declared.check.key_front.KeyFront.{KeyFront}

@@ -1,6 +1,6 @@
 -- Looking a key up, by the form of the keys.
 use Rattle.std.proofs.Common.{◌≡◌, ℕ, ◌^◌, ◌≤◌, List, sym, ap, ◌∙◌, arith}
-use Rattle.double_array.specs.CellMap.{prefixes_of}
+use Rattle.cell_walk.specs.CellMap.{prefixes_of}
 use Rattle.image_bytes.specs.declared.layout.KeyForm.{KeyForm}
 use Rattle.image_bytes.specs.declared.layout.KeyForm.TheVariants as key
 use Rattle.image_bytes.specs.ImageBytes.{header_of}

@@ -2,7 +2,7 @@
 use Rattle.std.proofs.Common.{◌≡◌, ◌⊎◌, ℕ, ◌<◌, pos, negsuc, Bool, true, false, List, length, slice_index, inl, inr, ap, ◌∙◌, arith, subst}
 use Rattle.std.proofs.lemmas.Bool.{cases_lt}
 use Rattle.std.proofs.lemmas.List.{get_or_past}
-use Rattle.double_array.specs.CellMap.{Cell, free_cell, base, check}
+use Rattle.cell_walk.specs.CellMap.{Cell, free_cell, base, check}
 use Rattle.dict_image.specs.Values.{IsRoot, HoldEach, ArePlaces, IsScanned}
 
 pub not_both : (b : Bool) → b ≡ true → b ≡ false → ⊥

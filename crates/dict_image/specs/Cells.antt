@@ -1,7 +1,7 @@
 -- A cell as it was read, and what it may be.
 use Rattle.std.specs.Prelude.{◌≡◌, ◌⊎◌, ℕ, ◌+◌, ◌<◌, ◌≤◌, ℤ, pos, negsuc, List, length}
-use Rattle.double_array.specs.CellMap.{Cell as CellOf, free_cell, cell_at, base, check}
-use Rattle.double_array.specs.CellRules.{IsUsed}
+use Rattle.cell_walk.specs.CellMap.{Cell as CellOf, free_cell, cell_at, base, check}
+use Rattle.cell_walk.specs.CellRules.{IsUsed}
 use Rattle.dict_image.specs.declared.check.cell.Signed.{Signed}
 use Rattle.dict_image.specs.declared.check.cell.Signed.TheVariants.{Natural, Negative}
 use Rattle.dict_image.specs.declared.check.cell.Cell.{Cell}

@@ -3,8 +3,8 @@ use Rattle.std.specs.Prelude.{◌≡◌, ◌⊎◌, ℕ, ◌<◌, ◌≤◌, Lis
 use Rattle.std.specs.Borrow.{Bor}
 use Rattle.mj_model.specs.declared.image_fault.ImageFault.{ImageFault}
 use Rattle.mj_model.specs.declared.image_fault.ImageFault.TheVariants.{Memory}
-use Rattle.double_array.specs.CellMap.{Cell}
-use Rattle.double_array.specs.CellRules.{IsBaseAfter, IsUsed}
+use Rattle.cell_walk.specs.CellMap.{Cell}
+use Rattle.cell_walk.specs.CellRules.{IsBaseAfter, IsUsed}
 use Rattle.image_bytes.specs.declared.header.Header.{Header}
 use Rattle.image_bytes.specs.Headers.{AreEnds}
 use Rattle.image_bytes.specs.ImageBytes.{header_of, section, section_end}

@@ -1,7 +1,7 @@
 -- What is known of the bytes that lead to cells.
 use Rattle.std.specs.Prelude.{◌≡◌, ℕ, suc, ◌<◌, ◌≤◌, List, length, map, Option, Some, None, MatchOption, slice_index_or}
 use Rattle.mj_model.specs.declared.limits.TheConstants.{SURFACE_MAX}
-use Rattle.double_array.specs.CellMap.{Cell, walk}
+use Rattle.cell_walk.specs.CellMap.{Cell, walk}
 use Rattle.dict_image.specs.declared.check.key_front.KeyFront.{KeyFront}
 use Rattle.dict_image.specs.Stands.{Stands}
 

@@ -1,7 +1,7 @@
 -- The keys that begin a text, by layout.
 use Rattle.std.specs.Prelude.{ℕ, List, []}
-use Rattle.double_array.specs.CellMap.{Cell}
-use Rattle.double_array.specs.HitsSeen.{HitsSeen}
+use Rattle.cell_walk.specs.CellMap.{Cell}
+use Rattle.cell_walk.specs.HitsSeen.{HitsSeen}
 use Rattle.image_bytes.specs.declared.layout.KeyForm.{KeyForm}
 use Rattle.image_bytes.specs.declared.layout.KeyForm.TheVariants as key
 use Rattle.image_bytes.specs.ImageSections.{stored_cells}

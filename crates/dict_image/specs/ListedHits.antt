@@ -1,7 +1,7 @@
 -- The listed keys that begin a text.
 use Rattle.std.specs.Prelude.{◌≡◌, ℕ, ◌+◌, ◌-◌, ◌<◌, ◌≤◌, List, ◌++◌, length, take, slice_index, filter_map}
 use Rattle.std.specs.List.{range_with_len}
-use Rattle.double_array.specs.CellMap.{codes_of}
+use Rattle.cell_walk.specs.CellMap.{codes_of}
 use Rattle.image_bytes.specs.OlderSections.{listed_key, listed_number}
 use Rattle.dict_image.specs.declared.listed_range.Begun.{Begun}
 use Rattle.dict_image.specs.Groups.{hit_in}

@@ -1,6 +1,6 @@
 -- The surfaces of a lexicon that begin a text.
 use Rattle.std.specs.Prelude.{ℕ, nat_lt, Bool, List, length, map, filter, take}
-use Rattle.double_array.specs.CellMap.{Cell}
+use Rattle.cell_walk.specs.CellMap.{Cell}
 use Rattle.image_bytes.specs.ImageMeaning.{LexiconSections, entries_under, tokens_in}
 use Rattle.mj_model.specs.Lists.{up_to}
 use Rattle.mj_model.specs.Tables.{Token, Lexeme}

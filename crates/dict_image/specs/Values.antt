@@ -1,7 +1,7 @@
 -- Where the values of groups stand in cells.
 use Rattle.std.specs.Prelude.{◌≡◌, ◌⊎◌, ℕ, ◌<◌, pos, negsuc, List, length, slice_index}
-use Rattle.double_array.specs.CellMap.{Cell, base, check}
-use Rattle.double_array.specs.CellRules.{MeetsRules}
+use Rattle.cell_walk.specs.CellMap.{Cell, base, check}
+use Rattle.cell_walk.specs.CellRules.{MeetsRules}
 use Rattle.image_bytes.specs.ImageSections.{StandsOnce}
 use Rattle.dict_image.specs.Cells.{IsAllowed}
 

@@ -1,6 +1,6 @@
 -- States, and the way back over them to a cell of which something is known.
 use Rattle.std.specs.Prelude.{◌≡◌, ℕ, ◌<◌, ◌≤◌, pos, List, [], ◌∷◌, length, reverse}
-use Rattle.double_array.specs.CellMap.{Cell, base, check}
+use Rattle.cell_walk.specs.CellMap.{Cell, base, check}
 use Rattle.dict_image.specs.declared.check.keys.KnownCell.{KnownCell}
 use Rattle.dict_image.specs.KeyFronts.{IsFrontOf}
 

@@ -24,7 +24,7 @@ use crate::info_table::InfoTable;
 use crate::key_hits::KeyHits;
 use crate::keys::{KeyTable, Keys};
 use crate::listed_keys::ListedKeys;
-use double_array::{CellRead, get, prefixes};
+use cell_walk::{CellRead, get, prefixes};
 use image_bytes::Section::{Features, Groups, Tokens};
 use image_bytes::{Header, ImageCells, Section, section_bytes};
 use mj_model::{Category, MatrixSizes};

@@ -2,8 +2,8 @@
 ghost use Rattle.std.specs.Prelude.{◌≡◌, ◌+◌, ◌*◌, ◌<◌, ◌≤◌, [], length, map, option_map};
 ghost use Rattle.std.specs.List.{AllByRecursion};
 ghost use Rattle.std.specs.Iterator.{YieldsFirstBy, item_count};
-ghost use Rattle.double_array.specs.Reads.{walk_reads};
-ghost use Rattle.double_array.specs.Walking.{walked_to};
+ghost use Rattle.cell_walk.specs.Reads.{walk_reads};
+ghost use Rattle.cell_walk.specs.Walking.{walked_to};
 ghost use Rattle.image_bytes.specs.ImageBytes.{header_of, section as section_of};
 ghost use Rattle.image_bytes.specs.ImageMeaning.{image_tables, lexicon_sections};
 ghost use Rattle.image_bytes.specs.Layouts.{key_form};

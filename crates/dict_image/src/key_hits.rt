@@ -1,13 +1,13 @@
 //! The iterator over the keys that begin a text, by layout.
 ghost use Rattle.std.specs.Prelude.{◌≡◌, ◌+◌, ◌*◌, ◌≤◌, length, option_map};
 ghost use Rattle.std.specs.Iterator.{YieldsFirstBy};
-ghost use Rattle.double_array.specs.Reads.{walk_reads};
-ghost use Rattle.double_array.specs.Walking.{walked_to};
+ghost use Rattle.cell_walk.specs.Reads.{walk_reads};
+ghost use Rattle.cell_walk.specs.Walking.{walked_to};
 ghost use Rattle.dict_image.specs.KeyHits.{hits_seen};
 
 use crate::dict::Dict;
 use crate::listed_hits::ListedHits;
-use double_array::{Hit, Prefixes as Hits};
+use cell_walk::{Hit, Prefixes as Hits};
 
 /// The keys that begin a text, the shortest first, with their groups.
 #[derive(Drop)]

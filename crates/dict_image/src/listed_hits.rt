@@ -1,12 +1,12 @@
 //! The iterator over the listed keys that begin a text.
 ghost use Rattle.std.specs.Prelude.{◌≡◌, option_map};
 ghost use Rattle.std.specs.Iterator.{YieldsFirstBy, item_count};
-ghost use Rattle.double_array.specs.Walking.{walked_to};
+ghost use Rattle.cell_walk.specs.Walking.{walked_to};
 ghost use Rattle.dict_image.specs.ListedHits.{HaveBegun, listed_hits_behind};
 
 use crate::listed_keys::ListedKeys;
 use crate::listed_range::Begun;
-use double_array::Hit;
+use cell_walk::Hit;
 use std::marker::Model;
 
 /// The listed keys that begin a text, the shortest first. Those that begin with the bytes gone over so far are at hand, so that a byte more

@@ -1,6 +1,6 @@
 //! The listed keys that begin with the first bytes of a text, a byte at a time.
 ghost use Rattle.std.specs.Prelude.{◌≡◌, ◌+◌, ◌<◌, ◌≤◌, length, take, slice_index};
-ghost use Rattle.double_array.specs.CellMap.{codes_of};
+ghost use Rattle.cell_walk.specs.CellMap.{codes_of};
 ghost use Rattle.image_bytes.specs.OlderSections.{listed_number};
 ghost use Rattle.dict_image.specs.ListedHits.{CodesRise, HaveBegun, IsFirstFrom};
 

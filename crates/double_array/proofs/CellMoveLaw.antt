@@ -5,10 +5,10 @@
 use Rattle.std.proofs.Common.{◌≡◌, ℕ, zero, suc, ◌+◌, ◌-◌, ◌<◌, ◌≤◌, ℤ, pos, negsuc, ◌+ℤ◌, List, [], ◌∷◌, length, Some, ◌⊎◌, inl, inr, sym, ap, ◌∙◌, refl, arith, subst}
 use Rattle.std.proofs.lemmas.Bool.{cases_eq, cases_lt}
 use Rattle.std.proofs.lemmas.Option.{same_Some}
-use Rattle.double_array.specs.CellMap.{Cell, free_cell, cell_at, base, check, step, walk, value_of, codes_of, HasSameMap}
-use Rattle.double_array.specs.CellRules.{IsBaseAfter, IsUsed, MeetsRules, AreOnKeys}
+use Rattle.cell_walk.specs.CellMap.{Cell, free_cell, cell_at, base, check, step, walk, value_of, codes_of, HasSameMap}
+use Rattle.cell_walk.specs.CellRules.{IsBaseAfter, IsUsed, MeetsRules, AreOnKeys}
 use Rattle.double_array.specs.CellMoves.{IsApart, IsMove, IsKept, MovesKeepTheMap}
-use Rattle.double_array.proofs.CellWalks.{step_parts, step_from, step_place, step_named, step_at, IsChild, child_of, walk_one, walk_none, walk_first, leads_back, no_way_back, value_parts, value_from, same_value}
+use Rattle.cell_walk.proofs.CellWalks.{step_parts, step_from, step_place, step_named, step_at, IsChild, child_of, walk_one, walk_none, walk_first, leads_back, no_way_back, value_parts, value_from, same_value}
 use Rattle.mj_model.proofs.Basics.{same_pos}
 
 pub cases_pos : (z : ℤ) (s : ℕ) → (z ≡ pos s) ⊎ (z ≡ pos s → ⊥)

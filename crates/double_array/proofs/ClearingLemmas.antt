@@ -2,9 +2,9 @@
 use Rattle.std.proofs.Common.{◌≡◌, ◌≢◌, ℕ, zero, suc, ◌+◌, ◌-◌, ◌≤◌, pos, negsuc, Bool, true, List, [], ◌∷◌, ◌++◌, length, set, Some, None, ◌⊎◌, inl, inr, sym, ap, ◌∙◌, refl, arith}
 use Rattle.std.proofs.lemmas.List.{append-nil}
 use Rattle.std.proofs.lemmas.Option.{same_Some, none-some}
-use Rattle.double_array.specs.CellMap.{Cell, free_cell, cell_at, base, check, step, walk, codes_of, value_of}
+use Rattle.cell_walk.specs.CellMap.{Cell, free_cell, cell_at, base, check, step, walk, codes_of, value_of}
 use Rattle.double_array.specs.CellMoves.{IsMove, IsApart, IsKept}
-use Rattle.double_array.proofs.CellWalks.{step_named, step_place, IsChild, child_of, walk_none, walk_first, walk_append, value_parts}
+use Rattle.cell_walk.proofs.CellWalks.{step_named, step_place, IsChild, child_of, walk_none, walk_first, walk_append, value_parts}
 use Rattle.double_array.proofs.CellMoveLaw.{free_no_check, free_no_base, Renames, renamed_base, all_is_kept, walk_renamed}
 use Rattle.double_array.specs.Pool.{Pool}
 use Rattle.double_array.specs.Family.{HasCode, FitsAt}

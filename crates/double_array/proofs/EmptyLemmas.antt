@@ -1,9 +1,9 @@
 -- The empty array: the root and free cells.
 use Rattle.std.proofs.Common.{◌≡◌, ℕ, zero, suc, ◌<◌, ◌≤◌, pos, negsuc, List, [], ◌∷◌, Some, None, inl, inr, sym, ap, ◌∙◌, arith}
 use Rattle.std.proofs.lemmas.Option.{same_Some}
-use Rattle.double_array.specs.CellMap.{Cell, base, check, walk, codes_of, value_of}
-use Rattle.double_array.specs.CellRules.{MeetsRules}
-use Rattle.double_array.proofs.CellWalks.{step_named, walk_first, walk_none, value_parts, no_value}
+use Rattle.cell_walk.specs.CellMap.{Cell, base, check, walk, codes_of, value_of}
+use Rattle.cell_walk.specs.CellRules.{MeetsRules}
+use Rattle.cell_walk.proofs.CellWalks.{step_named, walk_first, walk_none, value_parts, no_value}
 use Rattle.double_array.proofs.CellMoveLaw.{free_no_check}
 use Rattle.mj_model.proofs.Basics.{same_pos}
 use Rattle.double_array.specs.Pool.{Pool, IsEmpty}

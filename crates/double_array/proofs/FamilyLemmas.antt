@@ -3,7 +3,7 @@ use Rattle.std.proofs.Common.{◌≡◌, ◌≢◌, ℕ, ◌+◌, ◌<◌, ◌�
 use Rattle.std.proofs.lemmas.Bool.{cases_eq}
 use Rattle.std.proofs.lemmas.List.{length-set, get_or-set_same, get_or-set_other}
 use Rattle.std.proofs.lemmas.Option.{slice_get-get_or, get_or_from_slice_get, slice_get_within}
-use Rattle.double_array.specs.CellMap.{Cell, base, check}
+use Rattle.cell_walk.specs.CellMap.{Cell, base, check}
 use Rattle.double_array.specs.Built.{IsBuilt, values}
 use Rattle.double_array.specs.Family.{FitsAt, HasCode}
 use Rattle.double_array.specs.Moves.{IsFamilyOf, IsRelocation}

@@ -5,9 +5,9 @@ use Rattle.std.specs.Result.{OnOk, is_ok}
 use Rattle.std.proofs.lemmas.Bool.{cases_eq, cases_lt}
 use Rattle.std.proofs.lemmas.List.{length-set}
 use Rattle.std.proofs.lemmas.Option.{none-some}
-use Rattle.double_array.specs.CellMap.{Cell, cell_at, base, check, step, walk, codes_of, value_of, HasSameMap, IsMapWith}
-use Rattle.double_array.specs.CellRules.{IsBaseAfter}
-use Rattle.double_array.proofs.CellWalks.{step_parts, step_from, step_named, step_place, step_child, named_within, walk_none, walk_more, value_from}
+use Rattle.cell_walk.specs.CellMap.{Cell, cell_at, base, check, step, walk, codes_of, value_of, HasSameMap, IsMapWith}
+use Rattle.cell_walk.specs.CellRules.{IsBaseAfter}
+use Rattle.cell_walk.proofs.CellWalks.{step_parts, step_from, step_named, step_place, step_child, named_within, walk_none, walk_more, value_from}
 use Rattle.mj_model.proofs.Basics.{same_pos}
 use Rattle.double_array.specs.declared.insertion.Reached.{Reached}
 use Rattle.double_array.specs.Pool.{Pool, IsGrown, IsInUse}
@@ -17,7 +17,7 @@ use Rattle.double_array.specs.Tail.{IsReady}
 use Rattle.double_array.specs.Insertion.{IsReached, HasRoom}
 use Rattle.double_array.proofs.RoomLemmas.{begun_same}
 use Rattle.double_array.proofs.SeenLemmas.{at_same}
-use Rattle.double_array.proofs.KeyWalks.{length-codes_of, code_of_byte, code_of_end, codes_end, walk_take_more, no_value_by_stop}
+use Rattle.cell_walk.proofs.KeyWalks.{length-codes_of, code_of_byte, code_of_end, codes_end, walk_take_more, no_value_by_stop}
 use Rattle.double_array.proofs.Valued.{walk_same, map_same, keys_same, rules_same, valued_others, valued_rules, value_replaced, keys_valued}
 
 -- ---- steps

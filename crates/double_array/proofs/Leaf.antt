@@ -3,14 +3,14 @@ use Rattle.std.proofs.Common.{◌≡◌, ◌≢◌, ℕ, ◌+◌, ◌<◌, ◌�
 use Rattle.std.proofs.lemmas.Bool.{cases_eq}
 use Rattle.std.proofs.lemmas.List.{length-set, append_assoc}
 use Rattle.std.proofs.lemmas.Option.{same_Some}
-use Rattle.double_array.specs.CellMap.{Cell, free_cell, cell_at, base, check, step, walk, codes_of, value_of, HasSameMap, IsMapWith}
-use Rattle.double_array.specs.CellRules.{IsBaseAfter, MeetsRules, IsOnKey, AreOnKeys}
-use Rattle.double_array.proofs.CellWalks.{step_parts, step_from, step_named, step_at, child_of, walk_one, walk_none, walk_first, walk_more, walk_is_one, leads_back, IsValueAt, value_parts, value_from, same_value}
+use Rattle.cell_walk.specs.CellMap.{Cell, free_cell, cell_at, base, check, step, walk, codes_of, value_of, HasSameMap, IsMapWith}
+use Rattle.cell_walk.specs.CellRules.{IsBaseAfter, MeetsRules, IsOnKey, AreOnKeys}
+use Rattle.cell_walk.proofs.CellWalks.{step_parts, step_from, step_named, step_at, child_of, walk_one, walk_none, walk_first, walk_more, walk_is_one, leads_back, IsValueAt, value_parts, value_from, same_value}
 use Rattle.double_array.proofs.CellMoveLaw.{free_no_check, free_no_base}
 use Rattle.mj_model.proofs.Basics.{same_pos}
 use Rattle.double_array.specs.Tail.{IsOnWay, AreOnKeysOrWay}
 use Rattle.double_array.proofs.SeenLemmas.{at_same, at_other}
-use Rattle.double_array.proofs.KeyWalks.{same_key}
+use Rattle.cell_walk.proofs.KeyWalks.{same_key}
 use Rattle.double_array.proofs.Moving.{based_within}
 
 module _ (values : ℕ) (old : List Cell) (s c t from : ℕ) (z : ℤ) (rules : MeetsRules values old) (based : base old s ≡ pos from) (some : 1 ≤ from) (near : c ≤ 256) (place : t ≡ from + c)

@@ -1,10 +1,4 @@
-pub mod CellWalks
 pub mod CellMoveLaw
-pub mod StepLemmas
-pub mod ReadLemmas
-pub mod WalkLemmas
-pub mod KeyWalks
-pub mod HitLemmas
 pub mod SeenLemmas
 pub mod RingLemmas
 pub mod RingWrites

@@ -4,7 +4,7 @@ use Rattle.std.specs.List.{range_with_len, sum}
 use Rattle.std.proofs.lemmas.Bool.{cases_eq}
 use Rattle.mj_model.proofs.Basics.{same_pos}
 use Rattle.std.proofs.lemmas.List.FromFn.{sum_by-map-range_with_len_more}
-use Rattle.double_array.specs.CellMap.{Cell, free_cell, cell_at, base, check, step, step_to, if_named}
+use Rattle.cell_walk.specs.CellMap.{Cell, free_cell, cell_at, base, check, step, step_to, if_named}
 use Rattle.double_array.specs.CellMoves.{IsMove}
 use Rattle.double_array.specs.Built.{values, IsBuilt}
 use Rattle.double_array.specs.Family.{FitsAt, HasCode}
@@ -13,10 +13,10 @@ use Rattle.double_array.specs.Moves.{HasFamily, IsFamilyOf}
 use Rattle.double_array.specs.Pool.{Pool, IsInUse}
 use Rattle.double_array.specs.Pool.IsInUse.{is_root, is_named}
 use Rattle.double_array.specs.Tail.{AreKept, IsReady}
-use Rattle.double_array.proofs.CellWalks.{child_of, step_at}
+use Rattle.cell_walk.proofs.CellWalks.{child_of, step_at}
 use Rattle.double_array.proofs.ClearingLemmas.{has_code, in_use}
 use Rattle.double_array.proofs.SeenLemmas.{at_same, at_other}
-use Rattle.double_array.proofs.StepLemmas.{no_step}
+use Rattle.cell_walk.proofs.StepLemmas.{no_step}
 
 -- ---- children, code by code
 

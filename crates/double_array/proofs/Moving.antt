@@ -2,10 +2,10 @@
 use Rattle.std.proofs.Common.{◌≡◌, ◌≢◌, ℕ, zero, suc, ◌+◌, ◌<◌, ◌≤◌, ℤ, pos, negsuc, Bool, true, false, Option, None, List, [], ◌∷◌, length, set, slice_get, Some, ◌⊎◌, inl, inr, sym, ap, ◌∙◌, refl, arith, subst}
 use Rattle.std.proofs.lemmas.Bool.{cases_eq, cases_lt}
 use Rattle.std.proofs.lemmas.List.{length-set, get_or_past}
-use Rattle.double_array.specs.CellMap.{Cell, free_cell, cell_at, base, check, step, walk}
-use Rattle.double_array.specs.CellRules.{IsUsed, IsBaseAfter}
+use Rattle.cell_walk.specs.CellMap.{Cell, free_cell, cell_at, base, check, step, walk}
+use Rattle.cell_walk.specs.CellRules.{IsUsed, IsBaseAfter}
 use Rattle.double_array.specs.CellMoves.{IsMove}
-use Rattle.double_array.proofs.CellWalks.{step_named, step_place, step_at, child_of, step_child, no_way_back, walk_one, walk_none}
+use Rattle.cell_walk.proofs.CellWalks.{step_named, step_place, step_at, child_of, step_child, no_way_back, walk_one, walk_none}
 use Rattle.double_array.proofs.CellMoveLaw.{walked, free_no_check, free_no_base, cases_pos}
 use Rattle.mj_model.proofs.Basics.{same_pos}
 use Rattle.double_array.specs.Family.{HasCode}

@@ -8,7 +8,7 @@ use Rattle.std.proofs.Common.{◌≡◌, ◌≢◌, ℕ, ◌+◌, ◌-◌, ◌<�
 use Rattle.std.proofs.lemmas.Bool.{cases_eq, cases_lt}
 use Rattle.std.proofs.lemmas.List.{length-set, length-append, length-replicate, get_or_append_left, get_or-append_right, get_or-replicate, get_or_past}
 use Rattle.std.proofs.lemmas.Option.{slice_get-get_or, get_or_from_slice_get, slice_get_within}
-use Rattle.double_array.specs.CellMap.{Cell, free_cell, cell_at, base, check}
+use Rattle.cell_walk.specs.CellMap.{Cell, free_cell, cell_at, base, check}
 use Rattle.mj_model.proofs.Basics.{same_pos}
 use Rattle.double_array.specs.Seen.{hidden, hide, seen}
 use Rattle.double_array.specs.Ring.{HasLinks, IsOnRing, IsRing, AreLinked}

@@ -2,7 +2,7 @@
 use Rattle.std.proofs.Common.{◌≡◌, ◌≢◌, ℕ, zero, suc, ◌<◌, pos, negsuc, neg_ℤ, List, length, ◌⊎◌, inl, inr, sym, ap, ◌∙◌, refl, arith, subst}
 use Rattle.std.proofs.lemmas.Bool.{cases_eq, cases_lt}
 use Rattle.std.proofs.lemmas.List.{get_or_past}
-use Rattle.double_array.specs.CellMap.{Cell, free_cell, base, check}
+use Rattle.cell_walk.specs.CellMap.{Cell, free_cell, base, check}
 use Rattle.mj_model.proofs.Basics.{same_pos}
 use Rattle.double_array.specs.Ring.{HasLinks, IsOnRing, IsRing}
 use Rattle.double_array.specs.Ring.IsOnRing.{first, further}

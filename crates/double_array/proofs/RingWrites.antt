@@ -2,7 +2,7 @@
 use Rattle.std.proofs.Common.{◌≡◌, ◌≢◌, ℕ, zero, suc, ◌+◌, ◌<◌, ◌≤◌, ℤ, pos, negsuc, neg_ℤ, List, length, set, inl, inr, sym, ap, ◌∙◌, refl, arith, subst}
 use Rattle.std.proofs.lemmas.Bool.{cases_eq}
 use Rattle.std.proofs.lemmas.List.{length-set, set-get_or}
-use Rattle.double_array.specs.CellMap.{Cell, free_cell, cell_at, base, check}
+use Rattle.cell_walk.specs.CellMap.{Cell, free_cell, cell_at, base, check}
 use Rattle.mj_model.proofs.Basics.{same_pos}
 use Rattle.double_array.specs.Seen.{hide, seen}
 use Rattle.double_array.specs.Ring.{HasLinks, IsRing, AreLinked}

@@ -2,7 +2,7 @@
 use Rattle.std.proofs.Common.{◌≡◌, ℕ, zero, suc, ◌+◌, ◌<◌, ◌≤◌, pos, List, length, Some, ◌⊎◌, inl, inr, sym, ap, ◌∙◌, arith, subst}
 use Rattle.mj_model.proofs.Basics.{same_pos}
 use Rattle.std.proofs.lemmas.Bool.{cases_lt}
-use Rattle.double_array.specs.CellMap.{Cell, free_cell, cell_at, base, step}
+use Rattle.cell_walk.specs.CellMap.{Cell, free_cell, cell_at, base, step}
 use Rattle.double_array.specs.Built.{HasUsed, IsBuilt}
 use Rattle.std.specs.Prelude.{Result, Ok, Err}
 use Rattle.std.specs.Result.{OnErr, OnOk}
@@ -11,7 +11,7 @@ use Rattle.double_array.specs.Moved.{HasSpace}
 use Rattle.double_array.specs.Pool.{Pool, IsLowered}
 use Rattle.double_array.specs.Pool.IsInUse.{is_root, is_named}
 use Rattle.double_array.proofs.CellMoveLaw.{free_no_check}
-use Rattle.double_array.proofs.CellWalks.{step_named, step_place}
+use Rattle.cell_walk.proofs.CellWalks.{step_named, step_place}
 use Rattle.double_array.proofs.ClearingLemmas.{has_child, has_child_there}
 
 pub begun_same : (old new : List Cell) → ((i : ℕ) → cell_at new i ≡ cell_at old i) → HasUsed old ⊎ (base old 0 ≡ pos 2) → HasUsed new ⊎ (base new 0 ≡ pos 2)

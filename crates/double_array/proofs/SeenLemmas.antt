@@ -2,7 +2,7 @@
 use Rattle.std.proofs.Common.{◌≡◌, ◌≢◌, ℕ, zero, suc, ◌<◌, ℤ, pos, negsuc, neg_ℤ, List, [], ◌∷◌, length, set, map, inl, inr, sym, ap, ◌∙◌, refl, arith}
 use Rattle.std.proofs.lemmas.Bool.{cases_eq}
 use Rattle.std.proofs.lemmas.List.{get_or-set_same, get_or-set_other, length-set, length-map, ext_get_or}
-use Rattle.double_array.specs.CellMap.{Cell, free_cell, cell_at, base, check}
+use Rattle.cell_walk.specs.CellMap.{Cell, free_cell, cell_at, base, check}
 use Rattle.double_array.specs.Seen.{hidden, hide, seen}
 
 pub at_same : (cells : List Cell) (i : ℕ) (x : Cell) → i < length cells → cell_at (set cells i x) i ≡ x

@@ -2,14 +2,14 @@
 use Rattle.std.proofs.Common.{◌≡◌, ◌≢◌, ℕ, suc, ◌+◌, ◌<◌, ◌≤◌, max, ℤ, pos, negsuc, List, [], length, set, take, drop, get_or, Some, inl, inr, sym, ap, ◌∙◌, refl, arith, subst}
 use Rattle.std.proofs.lemmas.Bool.{cases_eq}
 use Rattle.std.proofs.lemmas.List.{length-set, set-set}
-use Rattle.double_array.specs.CellMap.{Cell, free_cell, cell_at, base, check, walk, codes_of, HasSameMap, IsMapWith}
-use Rattle.double_array.specs.CellRules.{IsBaseAfter}
+use Rattle.cell_walk.specs.CellMap.{Cell, free_cell, cell_at, base, check, walk, codes_of, HasSameMap, IsMapWith}
+use Rattle.cell_walk.specs.CellRules.{IsBaseAfter}
 use Rattle.mj_model.proofs.Basics.{same_pos}
 use Rattle.double_array.specs.Pool.{Pool}
 use Rattle.double_array.specs.Built.{values, AreBases, IsBuilt}
 use Rattle.double_array.specs.Tail.{IsReady, IsStateAdded}
 use Rattle.double_array.proofs.SeenLemmas.{at_same, at_other}
-use Rattle.double_array.proofs.KeyWalks.{length-codes_of, code_of_byte, code_of_end, split_at, codes_end, walk_take_more}
+use Rattle.cell_walk.proofs.KeyWalks.{length-codes_of, code_of_byte, code_of_end, split_at, codes_end, walk_take_more}
 use Rattle.double_array.proofs.Leaf.{leaf_at, leaf_others, leaf_step, walk_stays, leaf_rules, state_keeps_map, value_is_set, leaf_on_way, on_way_is_on_key}
 
 -- ---- a state is added

@@ -1,7 +1,7 @@
 -- The cells of a double array between two calls.
 use Rattle.std.specs.Prelude.{◌≡◌, ℕ, ◌+◌, ◌-◌, ◌<◌, ◌≤◌, ◌^◌, ◌⊎◌, pos, List, Some, length}
-use Rattle.double_array.specs.CellMap.{Cell, free_cell, cell_at, base, check, walk, HasSameMap}
-use Rattle.double_array.specs.CellRules.{MeetsRules, AreOnKeys}
+use Rattle.cell_walk.specs.CellMap.{Cell, free_cell, cell_at, base, check, walk, HasSameMap}
+use Rattle.cell_walk.specs.CellRules.{MeetsRules, AreOnKeys}
 use Rattle.double_array.specs.Pool.{Pool}
 
 -- all values are below this number

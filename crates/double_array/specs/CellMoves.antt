@@ -1,7 +1,7 @@
 -- Moves of a state's children to another base.
 use Rattle.std.specs.Prelude.{◌≡◌, ℕ, ◌+◌, ◌<◌, ◌≤◌, pos, List, Some, length}
-use Rattle.double_array.specs.CellMap.{Cell, free_cell, cell_at, base, check, step, HasSameMap}
-use Rattle.double_array.specs.CellRules.{MeetsRules, AreOnKeys}
+use Rattle.cell_walk.specs.CellMap.{Cell, free_cell, cell_at, base, check, step, HasSameMap}
+use Rattle.cell_walk.specs.CellRules.{MeetsRules, AreOnKeys}
 
 -- a cell that a move of s to base b leaves as it is: neither s, nor a child, nor a child's new cell, nor a child's child
 pub record IsApart (old : List Cell) (s b i : ℕ) : Type 0 where

@@ -1,6 +1,6 @@
 -- Families of codes: for each code whether it belongs to the family.
 use Rattle.std.specs.Prelude.{◌≡◌, ℕ, ◌+◌, true, Bool, List, slice_get, Some}
-use Rattle.double_array.specs.CellMap.{Cell, free_cell, cell_at}
+use Rattle.cell_walk.specs.CellMap.{Cell, free_cell, cell_at}
 
 -- a code of the family
 abbrev pub HasCode : List Bool → ℕ → Type 0

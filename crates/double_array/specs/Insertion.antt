@@ -1,6 +1,6 @@
 -- An insertion, step by step.
 use Rattle.std.specs.Prelude.{◌≡◌, ℕ, ◌+◌, ◌<◌, ◌≤◌, pos, List, Some, None, length, take, slice_index}
-use Rattle.double_array.specs.CellMap.{Cell, cell_at, base, step, walk, codes_of}
+use Rattle.cell_walk.specs.CellMap.{Cell, cell_at, base, step, walk, codes_of}
 use Rattle.double_array.specs.declared.insertion.Reached.{Reached}
 use Rattle.double_array.specs.Pool.{Pool}
 use Rattle.double_array.specs.Built.{IsBuilt}

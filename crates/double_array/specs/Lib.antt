@@ -1,11 +1,4 @@
-pub mod CellMap
-pub mod CellRules
 pub mod CellMoves
-pub mod Steps
-pub mod HitsSeen
-pub mod Reads
-pub mod Hits
-pub mod Walking
 pub mod Seen
 pub mod Ring
 pub mod Pool

@@ -1,7 +1,7 @@
 -- How many cells an insertion moves, and when it makes the array longer.
 use Rattle.std.specs.Prelude.{◌≡◌, ◌≢◌, ℕ, ◌+◌, ◌≤◌, pos, ◌⊎◌, if◌then◌else◌, is_some, List, map, length}
 use Rattle.std.specs.List.{range_with_len, sum}
-use Rattle.double_array.specs.CellMap.{Cell, base, check, step}
+use Rattle.cell_walk.specs.CellMap.{Cell, base, check, step}
 use Rattle.double_array.specs.Pool.{IsInUse}
 
 -- one for a code on which a step leads from a state

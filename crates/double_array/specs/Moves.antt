@@ -1,7 +1,7 @@
 -- A relocation on its way: some children of a state have moved.
 use Rattle.std.specs.Prelude.{◌≡◌, ◌≢◌, ℕ, ◌+◌, ◌<◌, ◌≤◌, ℤ, pos, negsuc, Bool, List, length}
-use Rattle.double_array.specs.CellMap.{Cell, free_cell, cell_at, base, check}
-use Rattle.double_array.specs.CellRules.{MeetsRules, AreOnKeys}
+use Rattle.cell_walk.specs.CellMap.{Cell, free_cell, cell_at, base, check}
+use Rattle.cell_walk.specs.CellRules.{MeetsRules, AreOnKeys}
 use Rattle.double_array.specs.Family.{HasCode, FitsAt}
 
 -- the family is that of the children of a state, whose base is from

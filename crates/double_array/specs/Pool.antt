@@ -1,6 +1,6 @@
 -- A pool of cells, the free ones on a ring.
 use Rattle.std.specs.Prelude.{◌≡◌, ℕ, ◌+◌, ◌⊎◌, ◌<◌, ◌≤◌, ◌^◌, pos, negsuc, List, Option, MatchOption, length}
-use Rattle.double_array.specs.CellMap.{Cell, free_cell, cell_at, check}
+use Rattle.cell_walk.specs.CellMap.{Cell, free_cell, cell_at, check}
 use Rattle.double_array.specs.Seen.{seen}
 use Rattle.double_array.specs.Ring.{HasLinks, IsRing, AreLinked}
 

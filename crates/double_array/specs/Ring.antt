@@ -1,6 +1,6 @@
 -- The ring of the free cells. A free cell holds the number of the next one as its base, and minus that of the one before as its check.
 use Rattle.std.specs.Prelude.{◌≡◌, ℕ, ◌<◌, pos, neg_ℤ, List}
-use Rattle.double_array.specs.CellMap.{Cell, free_cell, cell_at, base, check}
+use Rattle.cell_walk.specs.CellMap.{Cell, free_cell, cell_at, base, check}
 use Rattle.double_array.specs.Seen.{seen}
 
 -- a cell with links

@@ -1,6 +1,6 @@
 -- The cells as they are seen from outside: the links of free cells are hidden.
 use Rattle.std.specs.Prelude.{ℤ, pos, negsuc, List, [], ◌∷◌, map}
-use Rattle.double_array.specs.CellMap.{Cell, free_cell}
+use Rattle.cell_walk.specs.CellMap.{Cell, free_cell}
 
 abbrev pub hidden : ℤ → ℤ → Cell
 hidden base (pos check) = (base, pos check)

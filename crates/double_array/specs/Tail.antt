@@ -1,7 +1,7 @@
 -- The end of a new key, on its way into the cells.
 use Rattle.std.specs.Prelude.{◌≡◌, ℕ, ◌+◌, ◌-◌, ◌≤◌, ◌^◌, ◌⊎◌, ◌++◌, max, pos, List, Some, length, take, slice_set, slice_index}
-use Rattle.double_array.specs.CellMap.{Cell, free_cell, cell_at, base, check, walk, codes_of}
-use Rattle.double_array.specs.CellRules.{MeetsRules, IsOnKey}
+use Rattle.cell_walk.specs.CellMap.{Cell, free_cell, cell_at, base, check, walk, codes_of}
+use Rattle.cell_walk.specs.CellRules.{MeetsRules, IsOnKey}
 use Rattle.double_array.specs.Pool.{Pool, IsInUse}
 use Rattle.double_array.specs.Built.{values, AreBases}
 

@@ -1,6 +1,6 @@
 //! A free cell for a step that a state lacks.
 ghost use Rattle.std.specs.Prelude.{◌≡◌, ◌≢◌, ℕ, ◌+◌, ◌<◌, ◌≤◌, pos, None, length};
-ghost use Rattle.double_array.specs.CellMap.{base as base_of, check as check_of, step as step_of};
+ghost use Rattle.cell_walk.specs.CellMap.{base as base_of, check as check_of, step as step_of};
 ghost use Rattle.double_array.specs.Built.{CanClear, IsBuilt, IsCleared};
 ghost use Rattle.double_array.specs.Moved.{HaveMoved};
 ghost use Rattle.double_array.specs.Moves.{HasFamily, IsFamilyOf};

@@ -1,15 +1,15 @@
 //! The double array under insertion.
 ghost use Rattle.std.specs.Prelude.{◌≡◌, ℕ, ◌+◌, ◌-◌, ◌<◌, ◌≤◌, ◌^◌, List, None, length, IsSome, IfOk, IfErr, OnOk, OnErr};
-ghost use Rattle.double_array.specs.CellMap.{value_of, IsMapWith};
-ghost use Rattle.double_array.specs.CellRules.{AreCells, AreOnKeys};
+ghost use Rattle.cell_walk.specs.CellMap.{value_of, IsMapWith};
+ghost use Rattle.cell_walk.specs.CellRules.{AreCells, AreOnKeys};
 ghost use Rattle.double_array.specs.Moved.{HasSpace, HaveMoved};
 ghost use Rattle.mj_model.specs.declared.limits.TheConstants.{SURFACE_MAX as SurfaceMax};
 ghost use Rattle.double_array.specs.declared.fault.DaFault.TheVariants.{Full};
 
-use crate::cell_read::CellRead;
 use crate::fault::DaFault;
 use crate::insertion::{Inserted, insert_key};
 use crate::pool::CellPool;
+use cell_walk::CellRead;
 use std::alloc::{AllocError, Global};
 use std::marker::Model;
 
@@ -25,7 +25,7 @@ pub struct DoubleArray {
 
 impl Model for DoubleArray {
     ghost use Rattle.std.specs.Prelude.{List};
-    ghost use Rattle.double_array.specs.CellMap.{Cell};
+    ghost use Rattle.cell_walk.specs.CellMap.{Cell};
     ghost use Rattle.double_array.specs.Built.{IsBuilt};
 
     ghost Value = { List Cell };

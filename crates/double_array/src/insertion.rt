@@ -1,6 +1,6 @@
 //! Insertion of a key into a pool of cells.
 ghost use Rattle.std.specs.Prelude.{◌≡◌, ℕ, ◌+◌, ◌<◌, ◌≤◌, ◌^◌, pos, negsuc, None, length, slice_set, false, IsTrue, IsSome, IfOk, IfErr, OnOk, OnErr};
-ghost use Rattle.double_array.specs.CellMap.{base as base_of, check as check_of, step as step_of, value_of, IsMapWith};
+ghost use Rattle.cell_walk.specs.CellMap.{base as base_of, check as check_of, step as step_of, value_of, IsMapWith};
 ghost use Rattle.double_array.specs.Built.{IsBuilt, values};
 ghost use Rattle.double_array.specs.Insertion.{IsReached, HasRoom};
 ghost use Rattle.double_array.specs.Moved.{HasSpace, HaveMoved};

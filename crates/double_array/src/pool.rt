@@ -1,6 +1,6 @@
 //! The cells of a double array, with the free ones on a ring.
 ghost use Rattle.std.specs.Prelude.{◌≡◌, ◌≢◌, ◌+◌, ◌<◌, ◌≤◌, ◌^◌, ℕ, pos, max, ◌↔◌, IsTrue, length, slice_get, slice_set, Some, IfOk, OnOk, OnErr};
-ghost use Rattle.double_array.specs.CellMap.{free_cell, cell_at, base as base_of, check as check_of};
+ghost use Rattle.cell_walk.specs.CellMap.{free_cell, cell_at, base as base_of, check as check_of};
 ghost use Rattle.double_array.specs.Family.{FitsAt};
 ghost use Rattle.double_array.specs.Ring.{HasLinks, IsRing};
 ghost use Rattle.double_array.specs.Pool.{IsInUse, IsLowered, IsParent, IsGrown, IsEmpty, IsNew, IsPool};

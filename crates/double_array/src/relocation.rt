@@ -1,6 +1,6 @@
 //! Relocation: the children of a state move to another base. (Aoe 1989)
 ghost use Rattle.std.specs.Prelude.{◌≡◌, ◌≢◌, ℕ, ◌+◌, ◌<◌, ◌≤◌, ◌^◌, max, pos, length};
-ghost use Rattle.double_array.specs.CellMap.{free_cell, cell_at, base as base_of, check as check_of};
+ghost use Rattle.cell_walk.specs.CellMap.{free_cell, cell_at, base as base_of, check as check_of};
 ghost use Rattle.double_array.specs.CellMoves.{IsMove};
 ghost use Rattle.double_array.specs.Family.{HasCode, FitsAt};
 ghost use Rattle.double_array.specs.Built.{IsBuilt, AreBases};

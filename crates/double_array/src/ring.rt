@@ -1,7 +1,7 @@
 //! The ring of the free cells, which is doubly linked. A free cell holds the number of the next one as its base, and minus
 //! that of the one before as its check. Cell `LIST` is always on the ring, so the ring is never empty.
 ghost use Rattle.std.specs.Prelude.{◌≡◌, ◌≢◌, ◌^◌, ◌<◌, ◌≤◌, ℕ, pos, neg_ℤ, length, slice_set};
-ghost use Rattle.double_array.specs.CellMap.{free_cell, cell_at, base as base_of, check as check_of};
+ghost use Rattle.cell_walk.specs.CellMap.{free_cell, cell_at, base as base_of, check as check_of};
 ghost use Rattle.double_array.specs.Seen.{seen};
 ghost use Rattle.double_array.specs.Ring.{HasLinks, IsRing, AreLinked};
 

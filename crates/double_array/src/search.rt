@@ -4,7 +4,7 @@
 //! Where none fits, the family goes behind all used cells, where it always has room. (This project's own choice; Aoe 1989
 //! looks through the whole list.)
 ghost use Rattle.std.specs.Prelude.{◌≡◌, ℕ, ◌+◌, ◌<◌, ◌≤◌, ◌^◌, length, IsTrue};
-ghost use Rattle.double_array.specs.CellMap.{free_cell, cell_at};
+ghost use Rattle.cell_walk.specs.CellMap.{free_cell, cell_at};
 ghost use Rattle.double_array.specs.Seen.{seen};
 ghost use Rattle.double_array.specs.Ring.{HasLinks};
 ghost use Rattle.double_array.specs.Pool.{IsPool};

@@ -1,6 +1,6 @@
 //! The end of a key that is new: a cell for each code, each a child of the one before.
 ghost use Rattle.std.specs.Prelude.{◌≡◌, ◌+◌, ◌-◌, ◌<◌, ◌≤◌, ◌^◌, max, pos, negsuc, length, slice_set, slice_index};
-ghost use Rattle.double_array.specs.CellMap.{free_cell, cell_at, codes_of, IsMapWith};
+ghost use Rattle.cell_walk.specs.CellMap.{free_cell, cell_at, codes_of, IsMapWith};
 ghost use Rattle.double_array.specs.Built.{IsBuilt, values};
 ghost use Rattle.double_array.specs.Tail.{AreKept, IsReady, IsStateAdded};
 

@@ -4,7 +4,7 @@ use Rattle.std.specs.Prelude.{Some, slice_get}
 use Rattle.std.proofs.Math.Nat.{mul-div-le}
 use Rattle.std.proofs.lemmas.List.FromFn.{length-map-range_with_len, get_or-map-range_with_len}
 use Rattle.std.proofs.lemmas.Option.{slice_get-get_or}
-use Rattle.double_array.specs.CellMap.{free_cell}
+use Rattle.cell_walk.specs.CellMap.{free_cell}
 use Rattle.image_bytes.specs.ImageSections.{stored_cell, stored_cells}
 
 pub cell_count : (bytes : List ℕ) → length (stored_cells bytes) ≡ length bytes / 8

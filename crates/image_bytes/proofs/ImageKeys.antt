@@ -7,10 +7,10 @@ use Rattle.std.proofs.lemmas.Option.{same_Some}
 use Rattle.std.proofs.lemmas.List.{get_or_past}
 use Rattle.std.proofs.lemmas.List.Sums.{position_or_len_is}
 use Rattle.mj_model.specs.declared.limits.TheConstants.{SURFACE_MAX}
-use Rattle.double_array.specs.CellMap.{Cell, free_cell, cell_at, base, check, step, walk, codes_of}
-use Rattle.double_array.specs.CellRules.{MeetsRules}
+use Rattle.cell_walk.specs.CellMap.{Cell, free_cell, cell_at, base, check, step, walk, codes_of}
+use Rattle.cell_walk.specs.CellRules.{MeetsRules}
 use Rattle.image_bytes.specs.ImageSections.{StandsOnce, IsKeyOf, state_in, byte_after, bytes_to, is_value, value_cell, key_of}
-use Rattle.double_array.proofs.CellWalks.{step_place, step_named, child_of, walk_one, walk_none, walk_first, value_parts}
+use Rattle.cell_walk.proofs.CellWalks.{step_place, step_named, child_of, walk_one, walk_none, walk_first, value_parts}
 
 -- ---- walks in two parts
 

@@ -5,7 +5,7 @@ use Rattle.mj_model.specs.declared.image_fault.ImageFault.{ImageFault}
 use Rattle.mj_model.specs.declared.image_fault.ImageFault.TheVariants.{Truncated, BadMagic, BadLayout, BadSection, BadKey, BadToken, BadText, Digest}
 use Rattle.mj_model.specs.declared.limits.TheConstants.{ENTRIES_MAX, CATEGORIES_MAX}
 use Rattle.mj_model.specs.Connection.{AreMatrixSizes}
-use Rattle.double_array.specs.CellMap.{Cell}
+use Rattle.cell_walk.specs.CellMap.{Cell}
 use Rattle.image_bytes.specs.declared.header.Header.{Header}
 use Rattle.image_bytes.specs.declared.layout.InfoForm.{InfoForm}
 use Rattle.image_bytes.specs.declared.layout.InfoForm.TheVariants as info

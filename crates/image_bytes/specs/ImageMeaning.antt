@@ -1,7 +1,7 @@
 -- The tables that the bytes of a well-formed image mean.
 use Rattle.std.specs.Prelude.{ℕ, suc, ◌-◌, nat_lt, ℤ, pos, List, [], map, flat_map, if◌then◌else◌, bytes_eq, filter, Option}
 use Rattle.std.specs.List.{range_with_len}
-use Rattle.double_array.specs.CellMap.{value_of}
+use Rattle.cell_walk.specs.CellMap.{value_of}
 use Rattle.mj_model.specs.declared.category.CharInfo.{CharInfo}
 use Rattle.mj_model.specs.CharDef.{NamedCategory}
 use Rattle.mj_model.specs.Connection.{is_pair}

@@ -4,8 +4,8 @@ use Rattle.std.specs.List.{range_with_len, position_or_len}
 use Rattle.std.specs.Option.{option_map_or}
 use Rattle.mj_model.specs.declared.category.CharInfo.{CharInfo}
 use Rattle.mj_model.specs.declared.limits.TheConstants.{SURFACE_MAX}
-use Rattle.double_array.specs.CellMap.{Cell, base, check, value_of}
-use Rattle.double_array.specs.CellRules.{MeetsRules}
+use Rattle.cell_walk.specs.CellMap.{Cell, base, check, value_of}
+use Rattle.cell_walk.specs.CellRules.{MeetsRules}
 use Rattle.mj_model.specs.CharDef.{IsInfoOf, IsStorable, NamedCategory, code_point_max}
 use Rattle.mj_model.specs.declared.matrix_sizes.MatrixSizes.{MatrixSizes}
 use Rattle.image_bytes.specs.ImageBytes.{number_at, signed_2_at, signed_4_at}

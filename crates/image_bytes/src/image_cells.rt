@@ -3,7 +3,7 @@ ghost use Rattle.std.specs.Prelude.{◌≡◌, ◌≤◌, ◌+◌, ◌*◌, leng
 ghost use Rattle.image_bytes.specs.ImageSections.{stored_cell, stored_cells};
 
 use crate::numbers::i32_at;
-use double_array::CellRead;
+use cell_walk::CellRead;
 
 /// Cells of 8 bytes each, base and check, read where they lie.
 #[derive(Clone, Copy, Debug, Drop)]

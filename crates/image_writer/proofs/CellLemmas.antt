@@ -11,7 +11,7 @@ use Rattle.std.proofs.lemmas.Option.{get_or_from_slice_get}
 use mir.Val.{SFits}
 use Rattle.byteorder.specs.Endian.{little_bytes}
 use Rattle.byteorder.specs.Numbers.{length-bytes_low_first}
-use Rattle.double_array.specs.CellMap.{Cell, cell_at, free_cell}
+use Rattle.cell_walk.specs.CellMap.{Cell, cell_at, free_cell}
 use Rattle.image_bytes.specs.ImageBytes.{signed_4_at}
 use Rattle.image_bytes.specs.ImageSections.{stored_cell, stored_cells}
 use Rattle.image_writer.specs.TokenBytes.{cell_bytes_of}

@@ -13,7 +13,7 @@ use Rattle.std.proofs.lemmas.List.{get_or_append_left, get_or_push, get_or_past,
 use Rattle.std.proofs.lemmas.Option.{same_Some, none-some}
 use Rattle.std.proofs.lemmas.Slice.Eq.{bytes_eq-Decides}
 use Rattle.std.proofs.lemmas.Map.Text.{is_eq-slice_cmp}
-use Rattle.double_array.specs.CellMap.{Cell, value_of, IsMapWith}
+use Rattle.cell_walk.specs.CellMap.{Cell, value_of, IsMapWith}
 use Rattle.mj_model.specs.Dictionary.{surface_of}
 use Rattle.mj_model.specs.Lexicon.{Row}
 use Rattle.image_writer.specs.Entries.{surface_at, no_row}

@@ -11,7 +11,7 @@ use Rattle.std.proofs.lemmas.Bool.{cases_lt, false_from_ne_true}
 use Rattle.std.proofs.lemmas.List.{get_or-map, length-map, length-take, get_or-take, take_more, take-append-drop}
 use Rattle.std.proofs.lemmas.List.Folds.{list_any_none}
 use Rattle.std.proofs.lemmas.Slice.Eq.{bytes_eq-Decides}
-use Rattle.double_array.specs.CellMap.{Cell, value_of, IsMapWith}
+use Rattle.cell_walk.specs.CellMap.{Cell, value_of, IsMapWith}
 use Rattle.image_bytes.specs.ImageBounds.{each_once, most_cells, cells_max}
 use Rattle.mj_model.specs.Dictionary.{surface_of, lexeme_of}
 use Rattle.mj_model.specs.declared.entry.Record.{Record}

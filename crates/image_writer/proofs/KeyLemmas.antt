@@ -5,15 +5,15 @@ use Rattle.std.proofs.lemmas.Bool.{cases_lt}
 use Rattle.std.proofs.lemmas.List.{get_or_past}
 use Rattle.std.proofs.lemmas.Option.{same_Some}
 use Rattle.mj_model.specs.declared.entry.Record.{Record}
-use Rattle.double_array.specs.CellMap.{Cell, free_cell, base, check, walk, codes_of, value_of}
-use Rattle.double_array.specs.CellRules.{AreCells, AreOnKeys, IsBaseAfter, MeetsRules}
+use Rattle.cell_walk.specs.CellMap.{Cell, free_cell, base, check, walk, codes_of, value_of}
+use Rattle.cell_walk.specs.CellRules.{AreCells, AreOnKeys, IsBaseAfter, MeetsRules}
 use Rattle.image_bytes.specs.ImageBounds.{cells_max}
 use Rattle.image_bytes.specs.ImageFaults.{HasKey}
 use Rattle.image_bytes.specs.ImageSections.{IsKeyOf, StandsOnce, index_at, key_of, stored_cells}
 use Rattle.mj_model.specs.declared.matrix_sizes.MatrixSizes.{MatrixSizes}
 use Rattle.mj_model.specs.Lexicon.{Row, rows_of}
 use Rattle.lex_source.specs.Lexicons.{IsLexiconRow}
-use Rattle.double_array.proofs.CellWalks.{child_of, step_named, walk_append, walk_first, value_parts}
+use Rattle.cell_walk.proofs.CellWalks.{child_of, step_named, walk_append, walk_first, value_parts}
 use Rattle.image_writer.specs.declared.groups.Groups.{Groups}
 use Rattle.image_writer.specs.declared.keys.KeyBytes.{KeyBytes}
 use Rattle.image_writer.specs.Entries.{no_row, surface_at}

@@ -1,6 +1,6 @@
 -- The groups of a lexicon in the order of its surfaces: a group is the entries of one surface, side by side.
 use Rattle.std.specs.Prelude.{◌≡◌, ◌≢◌, ℕ, suc, ◌+◌, ◌-◌, ◌<◌, ◌≤◌, ◌⊎◌, List, length, map, take, sum_by, slice_index_or, Some}
-use Rattle.double_array.specs.CellMap.{Cell, value_of}
+use Rattle.cell_walk.specs.CellMap.{Cell, value_of}
 use Rattle.image_bytes.specs.ImageBounds.{each_once}
 use Rattle.mj_model.specs.Dictionary.{surface_of}
 use Rattle.image_bytes.specs.ImageSections.{index_at, key_of, stored_cells}

@@ -1,6 +1,6 @@
 -- When the parts of an image are refused.
 use Rattle.std.specs.Prelude.{◌≡◌, ℕ, ◌+◌, ◌<◌, ◌≤◌, List, length, sum_by}
-use Rattle.double_array.specs.CellMap.{Cell}
+use Rattle.cell_walk.specs.CellMap.{Cell}
 use Rattle.mj_model.specs.Lexicon.{Row}
 use Rattle.image_bytes.specs.ImageBounds.{cells_max, each_once, feature_bytes_end, most_cells}
 use Rattle.image_writer.specs.declared.fault.LexiconFault.{LexiconFault}

@@ -3,7 +3,7 @@ use Rattle.std.specs.Prelude.{◌≡◌, ℕ, ◌<◌, ◌^◌, ℤ, List, ◌++
 use Rattle.std.specs.Int.{w16, w32, cast_unsigned}
 use Rattle.std.specs.Int.RustNames.{FitsSigned}
 use Rattle.byteorder.specs.Endian.{little_bytes}
-use Rattle.double_array.specs.CellMap.{Cell}
+use Rattle.cell_walk.specs.CellMap.{Cell}
 use Rattle.image_bytes.specs.ImageSections.{StoredToken}
 
 -- a token with these ids and this cost, and the place and the length of its feature

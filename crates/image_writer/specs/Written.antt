@@ -1,6 +1,6 @@
 -- Numbers and cells that are written one behind another.
 use Rattle.std.specs.Prelude.{◌≡◌, ℕ, ◌*◌, ◌<◌, List, length}
-use Rattle.double_array.specs.CellMap.{Cell, cell_at}
+use Rattle.cell_walk.specs.CellMap.{Cell, cell_at}
 use Rattle.image_bytes.specs.ImageSections.{index_at, stored_cell}
 
 -- the bytes are the first numbers of a sequence, 4 bytes each

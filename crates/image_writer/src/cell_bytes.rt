@@ -1,12 +1,13 @@
 //! The cells of the keys as bytes.
 ghost use Rattle.std.specs.Prelude.{◌≡◌, ◌≤◌, ◌*◌, length, IfOk, OnOk};
-ghost use Rattle.double_array.specs.CellRules.{AreCells, AreOnKeys};
+ghost use Rattle.cell_walk.specs.CellRules.{AreCells, AreOnKeys};
 ghost use Rattle.image_bytes.specs.ImageBounds.{cells_max};
 ghost use Rattle.image_bytes.specs.ImageSections.{stored_cells};
 ghost use Rattle.image_writer.specs.TokenBytes.{cell_bytes_of};
 
 use byteorder::{ByteOrder, LittleEndian};
-use double_array::{CellRead, DoubleArray};
+use cell_walk::CellRead;
+use double_array::DoubleArray;
 use std::alloc::{AllocError, Global};
 
 /// The cells, 8 bytes each.

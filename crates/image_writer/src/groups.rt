@@ -1,6 +1,6 @@
 //! The groups of a lexicon: the entries of one surface, side by side.
 ghost use Rattle.std.specs.Prelude.{◌≡◌, ◌≢◌, ◌<◌, ◌≤◌, ◌+◌, ◌-◌, ◌^◌, ◌++◌, ◌∷◌, [], ◌↔◌, length, IsTrue, IfOk, IfErr, OnOk};
-ghost use Rattle.double_array.specs.CellMap.{IsMapWith};
+ghost use Rattle.cell_walk.specs.CellMap.{IsMapWith};
 ghost use Rattle.mj_model.specs.Lexicon.{rows_of};
 ghost use Rattle.mj_model.specs.declared.limits.TheConstants.{SURFACE_MAX as SurfaceMax};
 ghost use Rattle.image_writer.specs.Groups.{AreGrouped, BeginsGroup};

@@ -1,11 +1,11 @@
 //! A cell of the keys, and what the rules allow it to be.
 ghost use Rattle.std.specs.Prelude.{◌≡◌, ℕ, ◌<◌, pos, length, MatchOption};
-ghost use Rattle.double_array.specs.CellMap.{cell_at, check as check_of};
+ghost use Rattle.cell_walk.specs.CellMap.{cell_at, check as check_of};
 ghost use Rattle.image_bytes.specs.ImageSections.{stored_cells};
 ghost use Rattle.dict_image.specs.Cells.{number, cell_of, IsDistance};
 ghost use Rattle.dict_image.specs.Checks.{IsCodeOf, IsRoleAfter, IsRoleOf};
 
-use double_array::CellRead;
+use cell_walk::CellRead;
 use image_bytes::ImageCells;
 
 /// A number with a sign.

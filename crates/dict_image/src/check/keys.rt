@@ -1,8 +1,8 @@
 //! The keys of an image's groups, each found from the cell of the group's value. No cell is walked
 //! twice: what is known of the bytes that lead to it is noted.
 ghost use Rattle.std.specs.Prelude.{◌≡◌, ℕ, ◌↔◌, pos, negsuc, suc, Some, IsTrue, IfOk, MatchOption};
-ghost use Rattle.double_array.specs.CellMap.{base as base_of, check as check_of, step};
-ghost use Rattle.double_array.specs.CellRules.{AreCells};
+ghost use Rattle.cell_walk.specs.CellMap.{base as base_of, check as check_of, step};
+ghost use Rattle.cell_walk.specs.CellRules.{AreCells};
 ghost use Rattle.image_bytes.specs.ImageFaults.{HasKey};
 ghost use Rattle.image_bytes.specs.ImageSections.{StandsOnce, stored_cells};
 ghost use Rattle.dict_image.specs.Checks.{IsLeastOrNone};
@@ -12,7 +12,7 @@ ghost use Rattle.dict_image.specs.Ways.{IsState, IsWayBack};
 
 use crate::check::cell::{Signed, read_cell};
 use crate::check::key_front::KeyFront;
-use double_array::CellRead;
+use cell_walk::CellRead;
 use image_bytes::ImageCells;
 use mj_model::SURFACE_MAX;
 use std::alloc::{AllocError, Global};

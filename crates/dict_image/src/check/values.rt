@@ -5,7 +5,8 @@ ghost use Rattle.dict_image.specs.Checks.{HoldEachAt, HoldGroupsAt};
 ghost use Rattle.dict_image.specs.Values.{IsRoot, HoldEach, IsScanned};
 
 use crate::check::cell::{Role, Signed, read_cell, role_of};
-use double_array::{CELLS_MAX, CellRead};
+use cell_walk::CellRead;
+use cells::CELLS_MAX;
 use image_bytes::ImageCells;
 use std::alloc::{AllocError, Global};
 

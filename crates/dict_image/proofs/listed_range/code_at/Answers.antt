@@ -1,7 +1,7 @@
 use Rattle.std.proofs.Common.{◌+◌, ◌<◌, ℕ, length, sym, ap, ◌∙◌}
 use Rattle.std.proofs.lemmas.Bool.{ltb-false, ltb-true}
 use Rattle.std.proofs.lemmas.List.{get_or_read}
-use Rattle.double_array.proofs.KeyWalks.{code_of_byte}
+use Rattle.cell_walk.proofs.KeyWalks.{code_of_byte}
 use Rattle.dict_image.proofs.FrontLemmas.{code_past}
 use Rattle.dict_image.proofs.listed_range.code_at.Goals as goal
 

@@ -1,7 +1,7 @@
 use Rattle.std.proofs.Common.{◌≡◌, ◌+◌, pos, ap, sym, ◌∙◌, refl}
 use Rattle.std.proofs.lemmas.Option.{none-some}
-use Rattle.double_array.specs.CellMap.{check}
-use Rattle.double_array.proofs.CellWalks.{step_at}
+use Rattle.cell_walk.specs.CellMap.{check}
+use Rattle.cell_walk.proofs.CellWalks.{step_at}
 use Rattle.double_array.proofs.clearing.clear_way.Goals as goal
 
 pub move_other-requires-clause-apart : goal.move_other-requires-clause-apart

@@ -1,5 +1,5 @@
 use Rattle.std.proofs.Common.{◌≡◌, ◌+◌, ◌≤◌, pos, true, false, ap, sym, subst, ◌∙◌, inr}
-use Rattle.double_array.specs.CellMap.{check}
+use Rattle.cell_walk.specs.CellMap.{check}
 use Rattle.double_array.specs.CellMoves.{IsMove}
 use Rattle.double_array.proofs.CellMoveLaw.{Renames}
 use Rattle.double_array.specs.Built.{values}

@@ -1,6 +1,6 @@
 use Rattle.std.proofs.Common.{arith, ◌+◌, List, subst, sym}
 use Rattle.std.proofs.lemmas.Bool.{le-leb}
-use Rattle.double_array.specs.CellMap.{Cell}
+use Rattle.cell_walk.specs.CellMap.{Cell}
 use Rattle.double_array.specs.Moved.{HasSpace}
 use Rattle.double_array.proofs.RoomLemmas.{lowered_built, room_by_space}
 use Rattle.double_array.proofs.insertion.has_room.Goals as goal

@@ -1,7 +1,7 @@
 use Rattle.std.proofs.Common.{◌≡◌, None, Result, Ok, Err, length, negsuc, sym, ap, ◌∙◌}
 use Rattle.std.proofs.lemmas.List.{length-set}
 use Rattle.std.specs.Prelude.{OnErr}
-use Rattle.double_array.specs.CellMap.{value_of}
+use Rattle.cell_walk.specs.CellMap.{value_of}
 use Rattle.double_array.proofs.TailLemmas.{map_then}
 use Rattle.double_array.proofs.InsertionLemmas.{end_in_use, end_within, end_holds, end_replaced, end_value, end_built, absent, none_still, ready, map_before}
 use Rattle.double_array.proofs.MovedLemmas.{in_place, moved_in_all}

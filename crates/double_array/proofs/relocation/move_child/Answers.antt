@@ -2,8 +2,8 @@ use Rattle.std.proofs.Common.{rules, arith, ◌≡◌, ℤ, set, pos, ap, subst,
 use mir.Val.{SFits}
 use Rattle.std.proofs.lemmas.Int.{to_z-of_z}
 use Rattle.std.proofs.lemmas.Option.{get_or_from_slice_get}
-use Rattle.double_array.specs.CellMap.{Cell, free_cell, base}
-use Rattle.double_array.proofs.CellWalks.{named_within}
+use Rattle.cell_walk.specs.CellMap.{Cell, free_cell, base}
+use Rattle.cell_walk.proofs.CellWalks.{named_within}
 use Rattle.double_array.specs.Moves.{AreChildrenRenamed}
 use Rattle.double_array.proofs.Moving.{child_moved_by}
 use Rattle.double_array.proofs.relocation.move_child.Goals as goal

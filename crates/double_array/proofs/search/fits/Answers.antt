@@ -1,7 +1,7 @@
 use Rattle.std.proofs.Common.{rules, arith, ◌≡◌, ℕ, ◌+◌, below_more, w32}
 use mir.Val.{SFits}
 use Rattle.std.proofs.lemmas.Option.{slice_get_within}
-use Rattle.double_array.specs.CellMap.{free_cell, cell_at}
+use Rattle.cell_walk.specs.CellMap.{free_cell, cell_at}
 use Rattle.double_array.specs.Seen.{seen}
 use Rattle.double_array.specs.Family.{HasCode}
 use Rattle.double_array.proofs.PoolLemmas.{free_by_check, no_code}

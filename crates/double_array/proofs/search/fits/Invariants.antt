@@ -1,5 +1,5 @@
 use Rattle.std.proofs.Common.{◌≡◌, ℕ, ◌+◌, ◌<◌}
-use Rattle.double_array.specs.CellMap.{free_cell, cell_at}
+use Rattle.cell_walk.specs.CellMap.{free_cell, cell_at}
 use Rattle.double_array.specs.Seen.{seen}
 use Rattle.double_array.specs.Family.{HasCode}
 use Rattle.double_array.proofs.search.fits.Given as goal

@@ -1,5 +1,5 @@
 use Rattle.std.proofs.Common.{arith, ◌≡◌, ◌+◌, ◌-◌, ap, ◌∙◌}
-use Rattle.double_array.specs.CellMap.{cell_at}
+use Rattle.cell_walk.specs.CellMap.{cell_at}
 use Rattle.double_array.specs.Seen.{seen}
 use Rattle.double_array.proofs.PoolLemmas.{linked_is_free}
 use Rattle.double_array.proofs.search.search_cell.Goals as goal

@@ -1,5 +1,5 @@
 use Rattle.std.proofs.Common.{arith, List, ◌+◌, pos, refl, ap, ◌∙◌}
-use Rattle.double_array.specs.CellMap.{Cell, check}
+use Rattle.cell_walk.specs.CellMap.{Cell, check}
 use Rattle.double_array.specs.Pool.IsInUse.{is_named}
 use Rattle.double_array.proofs.SeenLemmas.{at_same}
 use Rattle.double_array.proofs.TailLemmas.{state_added}

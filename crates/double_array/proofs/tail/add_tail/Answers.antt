@@ -1,7 +1,7 @@
 use Rattle.std.proofs.Common.{arith, ◌≡◌, ◌<◌, ◌≤◌, ℕ, length, get_or, subst, ◌∙◌}
-use Rattle.double_array.specs.CellMap.{codes_of}
+use Rattle.cell_walk.specs.CellMap.{codes_of}
 use Rattle.double_array.specs.Tail.{IsReady}
-use Rattle.double_array.proofs.KeyWalks.{code_of_byte}
+use Rattle.cell_walk.proofs.KeyWalks.{code_of_byte}
 use Rattle.double_array.proofs.TailLemmas.{ready_more, map_on, long_on, value_added, built_again, map_then}
 use Rattle.double_array.proofs.MovedLemmas.{kept_more, wanted_inner}
 use Rattle.double_array.proofs.tail.add_tail.Goals as goal

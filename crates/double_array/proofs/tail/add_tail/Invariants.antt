@@ -1,5 +1,5 @@
 use Rattle.std.proofs.Common.{◌≡◌, length}
-use Rattle.double_array.specs.CellMap.{HasSameMap}
+use Rattle.cell_walk.specs.CellMap.{HasSameMap}
 use Rattle.double_array.specs.Tail.{AreKept, IsReady}
 use Rattle.double_array.proofs.tail.add_tail.Given as goal
 

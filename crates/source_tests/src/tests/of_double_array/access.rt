@@ -1,6 +1,6 @@
 //! Insertion and lookup, as the rows ask for them.
 ghost use Rattle.std.specs.Prelude.{◌≡◌};
-ghost use Rattle.double_array.specs.CellRules.{AreCells};
+ghost use Rattle.cell_walk.specs.CellRules.{AreCells};
 
 use double_array::{CellRead, DaFault, DoubleArray, Hit, Inserted, get, prefixes};
 use std::cell::Cell;

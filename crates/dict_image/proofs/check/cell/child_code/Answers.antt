@@ -1,5 +1,5 @@
 use Rattle.std.proofs.Common.{ap, ◌∙◌, subst, ℕ, ◌<◌}
-use Rattle.double_array.specs.CellMap.{Cell as CellOf}
+use Rattle.cell_walk.specs.CellMap.{Cell as CellOf}
 use Rattle.image_bytes.specs.ImageSections.{stored_cells}
 use Rattle.dict_image.specs.Cells.{number}
 use Rattle.dict_image.proofs.CellLemmas.{child_by}

@@ -1,5 +1,5 @@
 use Rattle.std.proofs.Common.{subst, slice_index, eq-eqb}
-use Rattle.double_array.specs.CellMap.{base}
+use Rattle.cell_walk.specs.CellMap.{base}
 use Rattle.image_bytes.specs.ImageSections.{stored_cells}
 use Rattle.dict_image.specs.Cells.{IsBaseRole}
 use Rattle.dict_image.proofs.ValueLemmas.{stands_twice}

@@ -1,7 +1,7 @@
 use Rattle.std.proofs.Common.{List, ap, ◌∙◌}
-use Rattle.double_array.specs.CellMap.{Cell}
-use Rattle.double_array.specs.Reads.{walk_reads}
-use Rattle.double_array.proofs.ReadLemmas.{no_reads}
+use Rattle.cell_walk.specs.CellMap.{Cell}
+use Rattle.cell_walk.specs.Reads.{walk_reads}
+use Rattle.cell_walk.proofs.ReadLemmas.{no_reads}
 use Rattle.dict_image.specs.KeyHits.{hits_seen}
 use Rattle.dict_image.specs.Prefixes.{PrefixesSeen}
 use Rattle.dict_image.proofs.hits.Prefixes.reads.Goals as goal

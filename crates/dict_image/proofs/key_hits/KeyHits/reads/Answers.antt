@@ -1,6 +1,6 @@
 use Rattle.std.proofs.Common.{ap, sym, ◌∙◌}
-use Rattle.double_array.specs.Reads.{walk_reads}
-use Rattle.double_array.proofs.ReadLemmas.{no_reads}
+use Rattle.cell_walk.specs.Reads.{walk_reads}
+use Rattle.cell_walk.proofs.ReadLemmas.{no_reads}
 use Rattle.dict_image.specs.KeyHits.{hits_seen}
 use Rattle.dict_image.specs.declared.key_hits.KeyHits.{KeyHits}
 use Rattle.dict_image.proofs.key_hits.KeyHits.reads.Goals as goal

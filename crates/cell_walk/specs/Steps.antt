@@ -1,0 +1,16 @@
+-- States with their bases, and steps between them.
+use Rattle.std.specs.Prelude.{◌≡◌, ℕ, ℤ, pos, List, Option, None, Some, MatchOption}
+use Rattle.cell_walk.specs.CellMap.{Cell, base, check, step}
+use Rattle.cell_walk.specs.declared.steps.Place.{Place}
+
+-- the base is that of the state
+abbrev pub IsAt : List Cell → Place → Type 0
+IsAt cells place = base cells place.state ≡ pos place.base
+
+-- the base of a cell, if its check is the state
+abbrev pub IsChildBase : List Cell → ℕ → ℕ → Option ℤ → Type 0
+IsChildBase cells state i found = MatchOption found (check cells i ≡ pos state → ⊥) (λ z. (check cells i ≡ pos state) × (base cells i ≡ z))
+
+-- the place that a step leads to
+abbrev pub IsStepTo : List Cell → ℕ → ℕ → Option Place → Type 0
+IsStepTo cells state code found = MatchOption found (step cells state code ≡ None) (λ place. (step cells state code ≡ Some place.state) × IsAt cells place)

@@ -1,0 +1,88 @@
+//! Steps from state to state. One function reads the cells, and counts.
+ghost use Rattle.std.specs.Prelude.{◌≡◌, ◌+◌, ◌<◌, ◌^◌, pos, None, Some, slice_get};
+ghost use Rattle.cell_walk.specs.CellRules.{AreCells};
+ghost use Rattle.cell_walk.specs.Hits.{value_here};
+ghost use Rattle.cell_walk.specs.Reads.{reads_at, step_reads};
+ghost use Rattle.cell_walk.specs.Steps.{IsAt, IsChildBase, IsStepTo};
+
+use crate::cell_read::CellRead;
+
+/// A state, by the number of its cell, with its base.
+#[derive(Clone, Copy, Debug, Drop)]
+pub(crate) struct Place {
+    pub state: usize,
+    pub base: u32,
+}
+
+/// The cell of a number, if there is one. A walk reads each cell through this call, which counts it.
+fn read<C: CellRead>(cells: &C, i: usize, reads: &mut u64) -> Option<(i32, i32)>
+    requires { reads.old + 1 < 2 ^ 64 }
+    ensures cell { result ≡ slice_get (C.cells cells.now) i }
+    ensures reads { reads.new ≡ reads.old + reads_at (C.cells cells.now) (pos i) }
+{
+    if i >= cells.len() {
+        return None;
+    }
+    *reads += 1;
+    Some(cells.cell(i))
+}
+
+/// The base of a cell, if it is a child of this state.
+fn child<C: CellRead>(cells: &C, state: usize, i: usize, reads: &mut u64) -> Option<i32>
+    requires { reads.old + 1 < 2 ^ 64 }
+    ensures child { IsChildBase (C.cells cells.now) state i result }
+    ensures reads { reads.new ≡ reads.old + reads_at (C.cells cells.now) (pos i) }
+{
+    let (base, check) = read(cells, i, reads)?;
+    if check >= 0 && check as usize == state {
+        Some(base)
+    } else {
+        None
+    }
+}
+
+/// The state from which all walks begin.
+pub(crate) fn root<C: CellRead>(cells: &C, reads: &mut u64) -> Place
+    requires cells { AreCells (C.cells cells.now) }
+    requires reads { reads.old + 1 < 2 ^ 64 }
+    ensures root { result.state ≡ 0 }
+    ensures base { IsAt (C.cells cells.now) result }
+    ensures reads { reads.new ≡ reads.old + reads_at (C.cells cells.now) (pos 0) }
+{
+    match read(cells, 0, reads) {
+        Some((base, _)) => Place {
+            state: 0,
+            base: base as u32,
+        },
+        None => unreachable!(),
+    }
+}
+
+/// The step on a byte.
+pub(crate) fn step<C: CellRead>(cells: &C, from: Place, byte: u8, reads: &mut u64) -> Option<Place>
+    requires cells { AreCells (C.cells cells.now) }
+    requires from { IsAt (C.cells cells.now) from }
+    requires reads { reads.old + 1 < 2 ^ 64 }
+    ensures step { IsStepTo (C.cells cells.now) from.state (byte + 1) result }
+    ensures reads { reads.new
+        ≡ reads.old + step_reads (C.cells cells.now) from.state (byte + 1) }
+{
+    let state = from.base as usize + byte as usize + 1;
+    let base = child(cells, from.state, state, reads)?;
+    Some(Place {
+        state,
+        base: base as u32,
+    })
+}
+
+/// The value of the key that leads to a state, if it has one.
+pub(crate) fn value_at<C: CellRead>(cells: &C, from: Place, reads: &mut u64) -> Option<u32>
+    requires cells { AreCells (C.cells cells.now) }
+    requires from { IsAt (C.cells cells.now) from }
+    requires reads { reads.old + 1 < 2 ^ 64 }
+    ensures value { result ≡ value_here (C.cells cells.now) from.state }
+    ensures reads { reads.new ≡ reads.old + step_reads (C.cells cells.now) from.state 0 }
+{
+    let base = child(cells, from.state, from.base as usize, reads)?;
+    Some(-(base + 1) as u32)
+}
