@@ -1,3 +1,4 @@
+pub mod CallWords
 pub mod Codes
 pub mod Owned
 pub mod Handles

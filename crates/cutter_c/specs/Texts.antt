@@ -1,21 +1,17 @@
 -- The texts of codes.
 use Rattle.std.specs.Prelude.{ℕ, List, [], ◌∷◌, ◌++◌, codes, ◌==◌, if◌then◌else◌}
 use Rattle.mj_model.specs.FaultWords.{Words}
-use Rattle.cutter.specs.FaultWords.{cut_words}
-use Rattle.cutter_c.specs.Codes.{cut_code, memory}
+use Rattle.cutter_c.specs.CallWords.{call_words}
+use Rattle.cutter_c.specs.Codes.{call_code, memory}
 use Rattle.cutter_c.specs.declared.fault.CallFault.{CallFault}
-use Rattle.cutter_c.specs.declared.fault.CallFault.TheVariants as call
 
 -- the words of a fault as one text
 abbrev pub text_of : Words → List ℕ
 text_of words = words.code ++ 0x20 ∷ words.name
 
--- the text of a fault; want of memory has a name alone
+-- the text of a fault; refused memory has a name alone
 abbrev pub fault_text : CallFault → List ℕ
-fault_text (call.Cut fault) = if cut_code fault == memory then codes "Memory" else text_of (cut_words fault)
-fault_text call.EmptyCutter = codes "K5 EmptyCutter"
-fault_text call.FullCutter = codes "K6 FullCutter"
-fault_text call.ShortBuffer = codes "K7 ShortBuffer"
+fault_text fault = if call_code fault == memory then codes "Memory" else text_of (call_words fault)
 
 -- the text of a code; nothing where no fault has it
 abbrev pub text_at : ℕ → List ℕ

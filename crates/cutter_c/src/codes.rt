@@ -1,11 +1,11 @@
-//! Faults as C is told of them: a code, and a number where a fault has one.
+//! Faults as C is told of them: a code, and a number where a fault has one. The header has the codes by name.
 
 ghost use Rattle.std.specs.Prelude.{◌≡◌};
-ghost use Rattle.cutter_c.specs.Codes.{call_code, cut_code, cut_number, format_code, image_code, image_number, overlay_code, overlay_number, told_code, told_number};
+ghost use Rattle.cutter_c.specs.Codes.{call_code, code_in, cut_number, image_number, overlay_number, told_code, told_number};
 
 use crate::fault::CallFault;
 use cutter::CutFault;
-use mj_model::{FormatFault, FormatKind, ImageFault, OverlayFault};
+use mj_model::{ImageFault, NamedFault, OverlayFault};
 
 /// The call did what it is for.
 pub const OK: u32 = 0;
@@ -13,83 +13,20 @@ pub const OK: u32 = 0;
 /// Memory was refused.
 pub const MEMORY: u32 = 1;
 
-/// The code of an image's fault.
-fn code_of_image(fault: ImageFault) -> u32
-    ensures { result ≡ image_code fault }
-{
-    match fault {
-        ImageFault::Truncated => 0x4c01,
-        ImageFault::BadMagic => 0x4c02,
-        ImageFault::BadLayout(_) => 0x4c03,
-        ImageFault::BadSection(_) => 0x4c04,
-        ImageFault::BadKey(_) => 0x4c05,
-        ImageFault::BadToken(_) => 0x4c06,
-        ImageFault::BadText(_) => 0x4c07,
-        ImageFault::Digest => 0x4c08,
-        ImageFault::Memory => MEMORY,
-    }
-}
-
-/// The code of an overlay's fault.
-fn code_of_overlay(fault: OverlayFault) -> u32
-    ensures { result ≡ overlay_code fault }
-{
-    match fault {
-        OverlayFault::NotSystem => 0x4f01,
-        OverlayFault::NotUser(_) => 0x4f02,
-        OverlayFault::OtherSizes(_) => 0x4f03,
-    }
-}
-
-/// The code of a format's fault.
-fn code_of_format(fault: FormatFault) -> u32
-    ensures { result ≡ format_code fault }
-{
-    match fault {
-        FormatFault::Bad {
-            kind: FormatKind::BadEscape,
-            ..
-        } => 0x5001,
-        FormatFault::Bad {
-            kind: FormatKind::BadItem,
-            ..
-        } => 0x5002,
-        FormatFault::Bad {
-            kind: FormatKind::BadIndex,
-            ..
-        } => 0x5003,
-        FormatFault::Memory => MEMORY,
-    }
-}
-
-/// The code of a cutter's fault: its letter and its number.
-pub fn code_of_cut(fault: CutFault) -> u32
-    ensures { result ≡ cut_code fault }
-{
-    match fault {
-        CutFault::Image(fault) => code_of_image(fault),
-        CutFault::Overlay(fault) => code_of_overlay(fault),
-        CutFault::Format(fault) => code_of_format(fault),
-        CutFault::NotUtf8 => 0x4703,
-        CutFault::TooLong => 0x4704,
-        CutFault::LineFeed(_) => 0x4b01,
-        CutFault::NothingCut => 0x4b02,
-        CutFault::Shared => 0x4b03,
-        CutFault::BadGrouping => 0x4b04,
-        CutFault::NoWord(_) => 0x4b08,
-        CutFault::Memory => MEMORY,
-    }
-}
-
-/// The code of a call's fault.
+/// The code of a call's fault: its letter and its number.
 pub fn code_of(fault: CallFault) -> u32
     ensures { result ≡ call_code fault }
 {
-    match fault {
-        CallFault::Cut(fault) => code_of_cut(fault),
-        CallFault::EmptyCutter => 0x4b05,
-        CallFault::FullCutter => 0x4b06,
-        CallFault::ShortBuffer => 0x4b07,
+    code_number(fault.code().as_bytes())
+}
+
+/// A letter as the second byte, and a digit as the first: 0x4c01 of `L1`. What has more than both is refused memory.
+fn code_number(code: &[u8]) -> u32
+    ensures { result ≡ code_in code.now }
+{
+    match code {
+        [letter, digit] => 256 * u32::from(*letter) + u32::from(digit.saturating_sub(b'0')),
+        _ => MEMORY,
     }
 }
 

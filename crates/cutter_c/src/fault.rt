@@ -1,6 +1,7 @@
 //! Why a call of C's is refused.
 
 use cutter::CutFault;
+use mj_model::NamedFault;
 
 /// Why a call of C's is refused: by the cutter, or for what C passed.
 #[derive(Clone, Copy, Debug, PartialEq, Eq, Drop)]
@@ -13,6 +14,21 @@ pub enum CallFault {
     FullCutter,
     /// The buffer has less room than is needed.
     ShortBuffer,
+}
+
+impl NamedFault for CallFault {
+    ghost use Rattle.cutter_c.specs.CallWords.{call_words};
+
+    ghost words_of = { call_words };
+
+    fn words(self) -> (&'static str, &'static str) {
+        match self {
+            CallFault::Cut(fault) => fault.words(),
+            CallFault::EmptyCutter => ("K5", "EmptyCutter"),
+            CallFault::FullCutter => ("K6", "FullCutter"),
+            CallFault::ShortBuffer => ("K7", "ShortBuffer"),
+        }
+    }
 }
 
 impl From<CutFault> for CallFault {
