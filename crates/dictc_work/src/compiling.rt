@@ -58,23 +58,19 @@ fn compile_files(
         Base::Definitions { matrix, chars, unk } => {
             let costs = MatrixFile::read(rt, matrix.as_str())?;
             let files = SourceFiles {
-                matrix: WholeFile {
-                    path: String::from_str(rt.alloc(), matrix.as_str())?,
-                    bytes: Vec::new(rt.alloc()),
-                },
+                matrix: String::from_str(rt.alloc(), matrix.as_str())?,
                 chars: WholeFile::read(rt, chars.as_str())?,
                 unk: WholeFile::read(rt, unk.as_str())?,
                 lexicons: read_files(rt, &options.lexicons)?,
             };
-            narrator.say_read(matrix.as_str(), costs.bytes, &costs.first);
-            files.say_others(narrator);
+            files.say(narrator, costs.bytes, &costs.first);
             compile_sources(rt.alloc(), costs, &files, narrator)
         }
         Base::System(dic) => compile_user_files(rt, dic.as_str(), &options.lexicons, narrator),
     }
 }
 
-/// Compiles a system dictionary. `files` lack the bytes of `matrix.def`.
+/// Compiles a system dictionary of the costs of `matrix.def` and of the other files.
 fn compile_sources(
     alloc: Global,
     costs: MatrixFile,

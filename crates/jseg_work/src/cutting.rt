@@ -2,7 +2,7 @@
 
 use crate::formatting::format_of;
 use crate::images::cut_by_images;
-use crate::source_directory::read_directory;
+use crate::source_directory::{Directory, read_directory};
 use command_lines::jseg::{Input, Options};
 use mj_model::{Counted, GROUPING_MAX, NO_FILE, RunFault, Sources};
 use out_format::Format;
@@ -51,11 +51,11 @@ fn cut_lines(rt: &HostRuntime, options: &Options, narrator: Narrator<'_>) -> Res
 
 /// Cuts it by the sources of a directory.
 fn cut_by_directory(rt: &HostRuntime, dir: &str, manner: &Manner<'_>) -> Result<u64, Fault> {
-    let files = read_directory(rt, dir)?;
-    files.say(&manner.narrator);
+    let Directory { matrix, files } = read_directory(rt, dir)?;
+    files.say(&manner.narrator, matrix.len(), &matrix);
     let lexicons = texts(rt.alloc(), &files.lexicons)?;
     let sources = Sources {
-        matrix: &files.matrix.bytes,
+        matrix: &matrix,
         chars: &files.chars.bytes,
         unk: &files.unk.bytes,
         lexicons: &lexicons,

@@ -11,4 +11,4 @@ mod source_directory;
 pub use cutting::cut;
 pub use images::overlay_fault;
 pub use inputs::options_given;
-pub use source_directory::read_directory;
+pub use source_directory::{Directory, read_directory};

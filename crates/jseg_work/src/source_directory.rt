@@ -5,13 +5,25 @@ use std::alloc::Global;
 use std::string::String;
 use std::{fs, io};
 
+/// The files of a source directory, all of them read whole.
+#[derive(Drop)]
+pub struct Directory {
+    /// The bytes of `matrix.def`.
+    pub matrix: Vec<u8>,
+    pub files: SourceFiles,
+}
+
 /// Reads `matrix.def`, `char.def`, `unk.def`, the directory, and then each file whose name ends with `.csv`, in byte order.
-pub fn read_directory(rt: &HostRuntime, dir: &str) -> Result<SourceFiles, Fault> {
-    Ok(SourceFiles {
-        matrix: read_named(rt, dir, "matrix.def")?,
-        chars: read_named(rt, dir, "char.def")?,
-        unk: read_named(rt, dir, "unk.def")?,
-        lexicons: read_files(rt, &lexicon_paths(rt, dir)?)?,
+pub fn read_directory(rt: &HostRuntime, dir: &str) -> Result<Directory, Fault> {
+    let matrix = read_named(rt, dir, "matrix.def")?;
+    Ok(Directory {
+        matrix: matrix.bytes,
+        files: SourceFiles {
+            matrix: matrix.path,
+            chars: read_named(rt, dir, "char.def")?,
+            unk: read_named(rt, dir, "unk.def")?,
+            lexicons: read_files(rt, &lexicon_paths(rt, dir)?)?,
+        },
     })
 }
 

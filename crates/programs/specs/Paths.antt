@@ -3,10 +3,14 @@ use Rattle.std.specs.Prelude.{◌≡◌, ℕ, List, Option, Some, None, MatchOpt
 use Rattle.std.specs.Borrow.{Bor}
 use Rattle.programs.specs.declared.whole_file.WholeFile.{WholeFile}
 
+-- this path was found
+abbrev pub IsFound : List ℕ → Option (Bor (List ℕ)) → Type 0
+IsFound path None = ⊥
+IsFound path (Some found) = found.now ≡ path
+
 -- a file's path was found
 abbrev pub IsPathOf : WholeFile → Option (Bor (List ℕ)) → Type 0
-IsPathOf file None = ⊥
-IsPathOf file (Some path) = path.now ≡ string_bytes file.path
+IsPathOf file = IsFound (string_bytes file.path)
 
 -- the path of a file by its number, if there is one
 abbrev pub IsLexiconPath : List WholeFile → ℕ → Option (Bor (List ℕ)) → Type 0

@@ -1,17 +1,19 @@
 //! The source files of a dictionary.
 
-ghost use Rattle.std.specs.Prelude.{◌≡◌, ◌⊎◌, ◌-◌, ◌≤◌, ◌<◌, None};
+ghost use Rattle.std.specs.Prelude.{◌≡◌, ◌⊎◌, ◌-◌, ◌≤◌, ◌<◌, None, string_bytes};
 ghost use Rattle.mj_model.specs.declared.source_fault.TheConstants.{CHAR_FILE as CharFile, FIRST_LEXICON_FILE as FirstLexiconFile, MATRIX_FILE as MatrixFile, NO_FILE as NoFile, UNK_FILE as UnkFile};
-ghost use Rattle.programs.specs.Paths.{IsLexiconPath, IsPathOf};
+ghost use Rattle.programs.specs.Paths.{IsFound, IsLexiconPath, IsPathOf};
 
 use crate::narrator::Narrator;
 use crate::whole_file::WholeFile;
 use mj_model::{CHAR_FILE, FIRST_LEXICON_FILE, MATRIX_FILE, NO_FILE, UNK_FILE};
+use std::string::String;
 
-/// The source files of a system dictionary. The lexicons stand in the order in which they are read.
+/// The source files of a system dictionary: the path of `matrix.def`, which need not be in memory as a whole, and the others, which are. The
+/// lexicons stand in the order in which they are read.
 #[derive(Drop)]
 pub struct SourceFiles {
-    pub matrix: WholeFile,
+    pub matrix: String,
     pub chars: WholeFile,
     pub unk: WholeFile,
     pub lexicons: Vec<WholeFile>,
@@ -20,7 +22,7 @@ pub struct SourceFiles {
 impl SourceFiles {
     /// The path of the file with a number, which a source's fault tells; None where no file has it.
     pub fn path(&self, number: u32) -> Option<&str>
-        ensures matrix { number ≡ MatrixFile → IsPathOf self.now.matrix result }
+        ensures matrix { number ≡ MatrixFile → IsFound (string_bytes self.now.matrix) result }
         ensures chars { number ≡ CharFile → IsPathOf self.now.chars result }
         ensures unk { number ≡ UnkFile → IsPathOf self.now.unk result }
         ensures lexicon { FirstLexiconFile ≤ number → number < NoFile
@@ -28,21 +30,16 @@ impl SourceFiles {
         ensures no_file { number ≡ NoFile → result ≡ None }
     {
         match number {
-            MATRIX_FILE => Some(self.matrix.path.as_str()),
+            MATRIX_FILE => Some(self.matrix.as_str()),
             CHAR_FILE => Some(self.chars.path.as_str()),
             UNK_FILE => Some(self.unk.path.as_str()),
             lexicon => lexicon_path(&self.lexicons, lexicon),
         }
     }
 
-    /// Says that each was read.
-    pub fn say(&self, narrator: &Narrator<'_>) {
-        narrator.say_source(&self.matrix);
-        self.say_others(narrator);
-    }
-
-    /// Says that each but `matrix.def` was read.
-    pub fn say_others(&self, narrator: &Narrator<'_>) {
+    /// Says that each was read: `matrix.def`, which has so many bytes and begins with these, and the others.
+    pub fn say(&self, narrator: &Narrator<'_>, bytes: usize, first: &[u8]) {
+        narrator.say_read(self.matrix.as_str(), bytes, first);
         narrator.say_source(&self.chars);
         narrator.say_source(&self.unk);
         for lexicon in &self.lexicons {

@@ -1,7 +1,7 @@
 //! Source directories that are read, and those that can't be.
 
 use crate::tests::new_directory;
-use jseg_work::read_directory;
+use jseg_work::{Directory, read_directory};
 use programs::Fault;
 use std::test::Fail;
 use std::{fs, io};
@@ -30,13 +30,13 @@ fn source_directories(rt: HostRuntime) -> Result<(), Fail> {
     }
     let read = read_directory(&rt, dir.as_str());
     fs::remove_dir_all(&rt, dir.as_str())?;
-    let Ok(files) = read else {
+    let Ok(Directory { matrix, files }) = read else {
         assert!(rt; false, "the directory is read");
         return Ok(());
     };
     assert!(rt; files.lexicons.len() == 3);
     let bytes = [
-        &files.matrix.bytes,
+        &matrix,
         &files.chars.bytes,
         &files.unk.bytes,
         &files.lexicons[0].bytes,

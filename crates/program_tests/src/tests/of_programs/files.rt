@@ -65,7 +65,7 @@ fn paths_of_sources(rt: HostRuntime) -> Result<(), Fail> {
     lexicons.push(file(alloc, "a.csv", 4)?)?;
     lexicons.push(file(alloc, "b.csv", 5)?)?;
     let files = SourceFiles {
-        matrix: file(alloc, "matrix.def", 1)?,
+        matrix: String::from_str(alloc, "matrix.def")?,
         chars: file(alloc, "char.def", 2)?,
         unk: file(alloc, "unk.def", 3)?,
         lexicons,
