@@ -1,22 +1,30 @@
 -- Dictionaries that are laid over one another.
-use Rattle.std.proofs.Common.{◌≡◌, ℕ, List, [], ◌∷◌, ◌++◌, map, sym, ap, ◌∙◌}
+use Rattle.std.proofs.Common.{◌≡◌, ℕ, List, [], ◌∷◌, ◌++◌, map, subst, sym, ap, ◌∙◌}
 use Rattle.std.specs.Prelude.{Result, Ok, Err, Option, None, OnOk, OnErr}
 use Rattle.image_bytes.specs.ImageMeaning.{image_tables}
 use Rattle.mj_model.specs.declared.overlay_fault.OverlayFault.{OverlayFault}
 use Rattle.mj_model.specs.Tables.{Overlay}
 use Rattle.word_lookup.specs.Overlays.{fault_of_images, overlay_by_default}
-use Rattle.cutter.specs.Cutters.{Images, overlay_in, with_user}
+use Rattle.cutter.specs.Cutters.{GoOver, Images, overlay_in, with_user}
 
 -- the same images have the same fault
 pub same_fault : (system same : List ℕ) (users others : List (List ℕ)) (fault : Option OverlayFault) → system ≡ same → users ≡ others
     → fault_of_images system users ≡ fault → fault_of_images same others ≡ fault
 same_fault system same users others fault a b h = sym (λ i. fault_of_images (a i) (b i)) ∙ h
 
--- after a user was added or refused, the dictionaries have no fault
-pub still_fit : {T E : Type 0} (r : Result T E) (system : List ℕ) (before after with_new : List (List ℕ)) → OnOk r (after ≡ with_new) → OnErr r (after ≡ before)
-    → OnOk r (fault_of_images system with_new ≡ None) → fault_of_images system before ≡ None → fault_of_images system after ≡ None
-still_fit (Ok x) system before after with_new added kept fits old = ap (fault_of_images system) added ∙ fits
-still_fit (Err e) system before after with_new added kept fits old = ap (fault_of_images system) kept ∙ old
+-- what is so of the users with a new one, and was so of those before, is so of the users after one was added or refused
+pub still_so : {T E : Type 0} (r : Result T E) (Is : List (List ℕ) → Type 0) (before after with_new : List (List ℕ)) → OnOk r (after ≡ with_new) → OnErr r (after ≡ before)
+    → OnOk r (Is with_new) → Is before → Is after
+still_so (Ok x) Is before after with_new added kept fits old = subst Is (sym added) fits
+still_so (Err e) Is before after with_new added kept fits old = subst Is (sym kept) old
+
+-- the users that go over a system's dictionary with a new one have no fault
+pub fits_if : {T E : Type 0} (r : Result T E) (images : Images) (system : List ℕ) (users : List (List ℕ)) (user bytes : List ℕ)
+    → record { system = system; users = users } ≡ images → user ≡ bytes → OnOk r (GoOver system (users ++ user ∷ []))
+    → OnOk r (fault_of_images images.system (images.users ++ bytes ∷ []) ≡ None)
+fits_if (Ok x) images system users user bytes is same go =
+    same_fault system images.system (users ++ user ∷ []) (images.users ++ bytes ∷ []) None (λ i. (is i).system) (λ i. (is i).users ++ same i ∷ []) go.no_fault
+fits_if (Err e) images system users user bytes is same go = tt
 
 pub user_added : {T E : Type 0} (r : Result T E) (images : Images) (system : List ℕ) (users after : List (List ℕ)) (user bytes : List ℕ)
     → record { system = system; users = users } ≡ images → user ≡ bytes → OnOk r (after ≡ users ++ user ∷ [])

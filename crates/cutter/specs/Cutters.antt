@@ -11,11 +11,18 @@ use Rattle.out_format.specs.PrintedPaths.{ShowsPath, first_category}
 use Rattle.out_format.specs.Texts.{default_texts}
 use Rattle.paths.specs.BestOver.{IsBestOver, cost_over}
 use Rattle.paths.specs.Blanks.{chars_from}
+use Rattle.word_lookup.specs.Fitting.{IsOverlay}
+use Rattle.word_lookup.specs.Overlays.{fault_of_images}
 
 -- the images of a system's dictionary and of users' dictionaries, in the order in which they were laid over it
 pub record Images : Type 0 where
   pub system : List ℕ
   pub users : List (List ℕ)
+
+-- the dictionaries of users go over a system's: no fault is found, and the search has what it asks
+pub record GoOver (system : List ℕ) (users : List (List ℕ)) : Type 0 where
+  pub no_fault : fault_of_images system users ≡ None
+  pub fitting : IsOverlay (image_tables system) (map image_tables users)
 
 -- a text that was cut: the words of its path, and what the path costs
 pub record Cut : Type 0 where

@@ -6,6 +6,8 @@ use Rattle.mj_model.specs.declared.image_fault.ImageFault.{ImageFault}
 use Rattle.mj_model.specs.declared.image_fault.ImageFault.TheVariants as image
 use Rattle.mj_model.specs.FaultWords.{Words, format_words}
 use Rattle.mj_model.specs.ImageFaultWords.{image_words, overlay_words}
+use Rattle.line_stream.specs.declared.line_fault.LineFault.{LineFault}
+use Rattle.line_stream.specs.declared.line_fault.LineFault.TheVariants.{TooLong, NotUtf8}
 use Rattle.cutter.specs.declared.fault.CutFault.{CutFault}
 use Rattle.cutter.specs.declared.fault.CutFault.TheVariants as cut
 
@@ -26,6 +28,11 @@ cut_words cut.Memory = record { code = codes "Memory"; name = codes "Memory" }
 abbrev pub told_of_image : ImageFault → CutFault
 told_of_image image.Memory = cut.Memory
 told_of_image fault = cut.Image fault
+
+-- the fault of a line
+abbrev pub told_of_line : LineFault → CutFault
+told_of_line TooLong = cut.TooLong
+told_of_line NotUtf8 = cut.NotUtf8
 
 -- the fault of a format
 abbrev pub told_of_format : FormatFault → CutFault

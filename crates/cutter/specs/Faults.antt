@@ -1,11 +1,13 @@
 -- When the calls of a cutter are refused, and with which fault. Want of memory may come in any call that takes some.
-use Rattle.std.specs.Prelude.{◌≡◌, ℕ, ◌<◌, ◌≤◌, List, [], ◌∷◌, ◌++◌, length, Some, None, Err, IsUtf8, slice_get}
+use Rattle.std.specs.Prelude.{◌≡◌, ℕ, ◌<◌, List, [], ◌∷◌, ◌++◌, Some, None, Err, slice_get}
 use Rattle.std.specs.Option.{IsSomeAnd}
 use Rattle.memchr.specs.Find.{IsFirstByte}
 use Rattle.image_bytes.specs.ImageFaults.{IsImageFault, IsWellFormed}
+use Rattle.line_stream.specs.declared.line_fault.LineFault.TheVariants.{TooLong, NotUtf8}
+use Rattle.line_stream.specs.GoodLines.{IsBad}
 use Rattle.mj_model.specs.Bytes.{is_line_feed}
 use Rattle.mj_model.specs.declared.image_fault.ImageFault.{ImageFault}
-use Rattle.mj_model.specs.declared.limits.TheConstants.{GROUPING_MAX, SENTENCE_MAX}
+use Rattle.mj_model.specs.declared.limits.TheConstants.{GROUPING_MAX}
 use Rattle.out_format.specs.Formats.{FormatTexts, IsFormat}
 use Rattle.word_lookup.specs.Overlays.{fault_of_images}
 use Rattle.cutter.specs.declared.fault.CutFault.{CutFault}
@@ -19,21 +21,12 @@ IsImage image = IsWellFormed image
 unfoldable pub IsFaultOf : List ℕ → ImageFault → Type 0
 IsFaultOf image fault = IsImageFault image fault
 
--- a text that may be cut: UTF-8 of at most so many bytes
-pub record IsText (bytes : List ℕ) : Type 0 where
-  pub short : length bytes ≤ SENTENCE_MAX
-  pub is_utf8 : IsUtf8 bytes
-
--- the fault of bytes that are no such text
-abbrev pub IsTextFault : List ℕ → CutFault → Type 0
-IsTextFault bytes cut.TooLong = SENTENCE_MAX < length bytes
-IsTextFault bytes cut.NotUtf8 = (length bytes ≤ SENTENCE_MAX) × (IsUtf8 bytes → ⊥)
-IsTextFault bytes fault = ⊥
-
--- why a text is not cut
+-- why a text is not cut: it is too long, or else no text
 abbrev pub IsTextRefusal : List ℕ → CutFault → Type 0
 IsTextRefusal bytes cut.Memory = Unit {0}
-IsTextRefusal bytes fault = IsTextFault bytes fault
+IsTextRefusal bytes cut.TooLong = IsBad bytes TooLong
+IsTextRefusal bytes cut.NotUtf8 = IsBad bytes NotUtf8
+IsTextRefusal bytes fault = ⊥
 
 -- a text is one line: no byte is an LF
 abbrev pub IsOneLine : List ℕ → Type 0

@@ -1,7 +1,7 @@
 -- What is kept of a cut, as contracts see it.
 use Rattle.std.specs.Prelude.{ℕ, Bool, if◌then◌else◌, List, Option, Some, None}
 use Rattle.std.specs.Borrow.{Bor}
-use Rattle.lattice.specs.declared.path.Path.{Path}
+use Rattle.paths.specs.declared.path.Path.{Path}
 use Rattle.cutter.specs.Cutters.{Cut}
 
 -- a text with its path

@@ -2,19 +2,20 @@
 
 ghost use Rattle.std.specs.Prelude.{◌≡◌, ◌≤◌, Some, IfOk, IfErr, OnOk, OnErr};
 ghost use Rattle.cutter.specs.Cutters.{GrowsByFeature, HasCategory, IsCutOver, OfCut, ShowsCut, overlay_held};
-ghost use Rattle.cutter.specs.Faults.{IsFeatureRefusal, IsLineRefusal, IsNothingCut, IsOneLine, IsPrintRefusal, IsText, IsTextRefusal, IsWordRefusal};
+ghost use Rattle.cutter.specs.Faults.{IsFeatureRefusal, IsLineRefusal, IsNothingCut, IsOneLine, IsPrintRefusal, IsTextRefusal, IsWordRefusal};
 ghost use Rattle.cutter.specs.Kept.{cut_lent};
+ghost use Rattle.line_stream.specs.GoodLines.{IsGood};
 ghost use Rattle.mj_model.specs.Lists.{GrowsBy};
 ghost use Rattle.mj_model.specs.declared.limits.TheConstants.{GROUPING_MAX as GroupingMax};
 
 use crate::categories::category_at;
 use crate::cutter::Cutter;
 use crate::fault::CutFault;
-use crate::text::text_of;
-use lattice::Path;
+use line_stream::text_of;
 use memchr::memchr;
 use mj_model::Word;
 use out_format::print;
+use paths::Path;
 
 impl Cutter {
     /// Cuts a line, which has no LF, into the words of its best path. A refused line leaves what was cut before it.
@@ -22,7 +23,7 @@ impl Cutter {
         ensures best { OnOk result (OfCut self.new (λ c. c.text ≡ line.now)) }
         ensures others { self.new ≡ record self.old { cut = self.new.cut } }
         ensures one_line { OnOk result (IsOneLine line.now) }
-        ensures accepted { OnOk result (IsText line.now) }
+        ensures accepted { OnOk result (IsGood line.now) }
         ensures refused { IfErr result (IsLineRefusal line.now) }
         ensures kept { OnErr result (self.new ≡ self.old) }
     {
@@ -36,7 +37,7 @@ impl Cutter {
     pub fn cut_text(&mut self, text: &[u8]) -> Result<(), CutFault>
         ensures best { OnOk result (OfCut self.new (λ c. c.text ≡ text.now)) }
         ensures others { self.new ≡ record self.old { cut = self.new.cut } }
-        ensures accepted { OnOk result (IsText text.now) }
+        ensures accepted { OnOk result (IsGood text.now) }
         ensures refused { IfErr result (IsTextRefusal text.now) }
         ensures kept { OnErr result (self.new ≡ self.old) }
     {

@@ -2,6 +2,7 @@
 
 ghost use Rattle.std.specs.Prelude.{◌≡◌};
 
+use line_stream::LineFault;
 use mj_model::{FormatFault, ImageFault, NamedFault, OverlayFault};
 use std::alloc::{AllocError, AllocFailed};
 use thiserror::Error;
@@ -76,6 +77,20 @@ impl From<ImageFault> for CutFault {
         match fault {
             ImageFault::Memory => CutFault::Memory,
             _ => CutFault::Image(fault),
+        }
+    }
+}
+
+impl From<LineFault> for CutFault {
+    ghost use Rattle.std.specs.Prelude.{◌≡◌};
+    ghost use Rattle.cutter.specs.FaultWords.{told_of_line};
+
+    ghost from_gives = { λ fault told. told ≡ told_of_line fault };
+
+    fn from(fault: LineFault) -> CutFault {
+        match fault {
+            LineFault::TooLong => CutFault::TooLong,
+            LineFault::NotUtf8 => CutFault::NotUtf8,
         }
     }
 }

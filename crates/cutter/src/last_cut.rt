@@ -7,7 +7,8 @@ ghost use Rattle.cutter.specs.Cutters.{IsCutOver};
 ghost use Rattle.cutter.specs.Kept.{lent_if};
 ghost use Rattle.word_lookup.specs.Overlays.{overlay_of};
 
-use lattice::{Lattice, Path};
+use lattice::Lattice;
+use paths::Path;
 use std::alloc::{AllocError, Global};
 use std::marker::Model;
 use std::mem;

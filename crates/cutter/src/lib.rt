@@ -7,7 +7,6 @@ mod cutting;
 mod fault;
 mod last_cut;
 mod owned_dictionaries;
-mod text;
 
 pub use cutter::Cutter;
 pub use fault::CutFault;

@@ -1,7 +1,7 @@
 //! A system's dictionary and users' dictionaries that fit it, with their images.
 
 ghost use Rattle.std.specs.Prelude.{◌≡◌, ◌≤◌, ◌∷◌, ◌++◌, [], None, take, vec_len, IfOk, IfErr, OnOk, OnErr};
-ghost use Rattle.cutter.specs.Cutters.{overlay_in, with_user};
+ghost use Rattle.cutter.specs.Cutters.{GoOver, overlay_in, with_user};
 ghost use Rattle.cutter.specs.Faults.{IsAddRefusal, IsImage, IsLoadRefusal, IsUserRefusal};
 ghost use Rattle.mj_model.specs.declared.limits.TheConstants.{GROUPING_MAX};
 ghost use Rattle.word_lookup.specs.Overlays.{fault_of_images, overlay_of};
@@ -20,15 +20,13 @@ pub struct OwnedDictionaries {
 }
 
 impl Model for OwnedDictionaries {
-    ghost use Rattle.std.specs.Prelude.{◌≡◌, None};
-    ghost use Rattle.cutter.specs.Cutters.{Images};
-    ghost use Rattle.word_lookup.specs.Overlays.{fault_of_images};
+    ghost use Rattle.cutter.specs.Cutters.{GoOver, Images};
 
     ghost Value = { Images };
 
     ghost view = { λ d. record { system = d.system; users = d.users.items } };
 
-    ghost invariant = { λ d. fault_of_images d.system d.users.items ≡ None };
+    ghost invariant = { λ d. GoOver d.system d.users.items };
 }
 
 impl OwnedDictionaries {
@@ -50,10 +48,7 @@ impl OwnedDictionaries {
         requires { grouping ≤ GROUPING_MAX }
         ensures { overlay_of result ≡ overlay_in self.now grouping }
     {
-        let Ok(dictionaries) = Dictionaries::new(&self.system, &self.users) else {
-            unreachable!()
-        };
-        dictionaries.with_grouping(grouping)
+        Dictionaries::over(&self.system, &self.users).with_grouping(grouping)
     }
 
     /// Lays the dictionary of a user's image over the others.
@@ -74,8 +69,7 @@ impl OwnedDictionaries {
 fn add_checked(system: &Dict, users: &mut Vec<Dict>, user: Dict) -> Result<(), CutFault>
     ensures added { OnOk result (users.new.items ≡ users.old.items ++ user ∷ []) }
     ensures kept { OnErr result (users.new.items ≡ users.old.items) }
-    ensures accepted { OnOk result
-        (fault_of_images system.now (users.old.items ++ user ∷ []) ≡ None) }
+    ensures accepted { OnOk result (GoOver system.now (users.old.items ++ user ∷ [])) }
     ensures refused { IfErr result (IsAddRefusal system.now (users.old.items ++ user ∷ [])) }
 {
     let count = users.len();
@@ -90,8 +84,7 @@ fn add_checked(system: &Dict, users: &mut Vec<Dict>, user: Dict) -> Result<(), C
 fn add_and_check(system: &Dict, users: &mut Vec<Dict>, user: Dict) -> Result<(), CutFault>
     ensures added { OnOk result (users.new.items ≡ users.old.items ++ user ∷ []) }
     ensures front { take (vec_len users.old) users.new.items ≡ users.old.items }
-    ensures accepted { OnOk result
-        (fault_of_images system.now (users.old.items ++ user ∷ []) ≡ None) }
+    ensures accepted { OnOk result (GoOver system.now (users.old.items ++ user ∷ [])) }
     ensures refused { IfErr result (IsAddRefusal system.now (users.old.items ++ user ∷ [])) }
 {
     users.push(user)?;

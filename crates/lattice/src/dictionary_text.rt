@@ -10,9 +10,9 @@ ghost use Rattle.word_lookup.specs.Overlays.{overlay_of};
 ghost use Rattle.word_lookup.specs.Surfaces.{surface_words};
 
 use crate::lattice::Lattice;
-use crate::path::Path;
 use crate::source::WordSource;
 use mj_model::Word;
+use paths::Path;
 use std::alloc::{AllocError, Global};
 use word_lookup::{BlankRun, Dictionaries, Surface};
 

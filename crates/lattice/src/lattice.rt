@@ -8,10 +8,10 @@ ghost use Rattle.word_lookup.specs.Overlays.{overlay_of};
 
 use crate::building::{Nodes, Room, build};
 use crate::dictionary_text::DictionaryText;
-use crate::path::Path;
 use crate::source::WordSource;
 use crate::tracing::trace_best;
 use mj_model::Word;
+use paths::Path;
 use std::alloc::{AllocError, Global};
 use std::mem;
 use word_lookup::Dictionaries;

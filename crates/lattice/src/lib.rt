@@ -8,11 +8,10 @@ mod joining;
 mod joins;
 mod lattice;
 mod node;
-mod path;
 mod source;
 mod tracing;
 
 pub use dictionary_text::best_path;
 pub use lattice::Lattice;
-pub use path::Path;
+pub use paths::Path;
 pub use source::WordSource;

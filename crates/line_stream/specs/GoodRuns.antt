@@ -22,11 +22,5 @@ pub record NothingFails (bound : ℕ) (from to : ReaderTold) (before after : Wri
 -- the number of lines, or want of memory
 abbrev pub IsOkOrMemory : Result ℕ RunFault → Type 0
 IsOkOrMemory (Ok lines) = Unit {0}
-IsOkOrMemory (Err (run.Source fault)) = ⊥
-IsOkOrMemory (Err (run.UserSource i fault)) = ⊥
-IsOkOrMemory (Err (run.Read line)) = ⊥
-IsOkOrMemory (Err (run.Write sent)) = ⊥
-IsOkOrMemory (Err (run.NotUtf8 line)) = ⊥
-IsOkOrMemory (Err (run.TooLong line)) = ⊥
-IsOkOrMemory (Err (run.InputTooLong line)) = ⊥
 IsOkOrMemory (Err (run.Memory line)) = Unit {0}
+IsOkOrMemory (Err fault) = ⊥

@@ -7,8 +7,10 @@ mod piece;
 mod progress;
 mod reading;
 mod steps;
+mod text;
 mod writing;
 
 pub use line_fault::{LineError, LineFault};
 pub use line_printer::LinePrinter;
 pub use reading::{BUFFER, run_over};
+pub use text::text_of;

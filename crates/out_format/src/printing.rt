@@ -13,8 +13,8 @@ use crate::format::Format;
 use crate::line::Line;
 use crate::shows_items::append_parts;
 use crate::word_in_path::WordInPath;
-use lattice::Path;
 use mj_model::Word;
+use paths::Path;
 use std::alloc::{AllocError, Global};
 use word_lookup::Dictionaries;
 

@@ -2,3 +2,6 @@
 #![tactic(auto)]
 
 pub mod laws;
+mod path;
+
+pub use path::Path;

@@ -27,25 +27,15 @@ users_of users = map (λ (lexicons : Bor (List (Bor (List ℕ)))). lexicons_of l
 
 -- why the users' lexicons are refused: for want of memory, or for a fault of one of them
 abbrev pub IsUsersRefusal : Tables → List (List (List ℕ)) → RunFault → Type 0
-IsUsersRefusal system users (run.Source fault) = ⊥
 IsUsersRefusal system users (run.UserSource i fault) = IsOfUser (IsUserCause system) system users i fault
-IsUsersRefusal system users (run.Read line) = ⊥
-IsUsersRefusal system users (run.Write sent) = ⊥
-IsUsersRefusal system users (run.NotUtf8 line) = ⊥
-IsUsersRefusal system users (run.TooLong line) = ⊥
-IsUsersRefusal system users (run.InputTooLong line) = ⊥
 IsUsersRefusal system users (run.Memory line) = line ≡ 0
+IsUsersRefusal system users fault = ⊥
 
 -- a fault of want of cells
 abbrev pub LacksCells : RunFault → Type 0
 LacksCells (run.Source fault) = fault.kind ≡ ArrayFull
 LacksCells (run.UserSource i fault) = fault.kind ≡ ArrayFull
-LacksCells (run.Read line) = ⊥
-LacksCells (run.Write sent) = ⊥
-LacksCells (run.NotUtf8 line) = ⊥
-LacksCells (run.TooLong line) = ⊥
-LacksCells (run.InputTooLong line) = ⊥
-LacksCells (run.Memory line) = ⊥
+LacksCells fault = ⊥
 
 -- this fault is told, or want of memory before the first read, or of cells
 abbrev pub IsToldFor : RunFault → RunFault → Type 0

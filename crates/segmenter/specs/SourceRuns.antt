@@ -25,9 +25,5 @@ abbrev pub IsEarly : Result ℕ RunFault → Type 0
 IsEarly (Ok lines) = ⊥
 IsEarly (Err (run.Source fault)) = Unit {0}
 IsEarly (Err (run.UserSource i fault)) = Unit {0}
-IsEarly (Err (run.Read line)) = ⊥
-IsEarly (Err (run.Write sent)) = ⊥
-IsEarly (Err (run.NotUtf8 line)) = ⊥
-IsEarly (Err (run.TooLong line)) = ⊥
-IsEarly (Err (run.InputTooLong line)) = ⊥
 IsEarly (Err (run.Memory line)) = line ≡ 0
+IsEarly (Err fault) = ⊥

@@ -5,9 +5,10 @@ ghost use Rattle.mj_model.specs.declared.limits.TheConstants.{SENTENCE_MAX};
 ghost use Rattle.segmenter.specs.PrintedLines.{Prints, Tells};
 ghost use Rattle.word_lookup.specs.Overlays.{overlay_of};
 
-use lattice::{Lattice, Path};
-use line_stream::{LineError, LineFault, LinePrinter};
+use lattice::Lattice;
+use line_stream::{LineError, LinePrinter, text_of};
 use out_format::{Format, print};
+use paths::Path;
 use std::alloc::{AllocError, Global};
 use word_lookup::Dictionaries;
 
@@ -51,9 +52,7 @@ impl<'d, 'f> LinePrinter for WordsPrinter<'d, 'f> {
         line: &[u8],
         out: &mut Vec<u8>,
     ) -> Result<(), LineError> {
-        let Ok(text) = simdutf8::basic::from_utf8(line) else {
-            return Err(LineError::Bad(LineFault::NotUtf8));
-        };
+        let text = text_of(line)?;
         self.append_text(kept, text, out)?;
         Ok(())
     }

@@ -39,6 +39,8 @@ impl<'a> Dictionaries<'a> {
         ensures overlay { IfOk result (λ d. overlay_of d
             ≡ overlay_by_default system.now users.now) }
         ensures accepted { OnOk result (fault_of_images system.now users.now ≡ None) }
+        ensures fitting { OnOk result
+            (IsOverlay (image_tables system.now) (map image_tables users.now)) }
         ensures refused { IfErr result (λ fault. fault_of_images system.now users.now
             ≡ Some fault) }
     {
@@ -46,12 +48,21 @@ impl<'a> Dictionaries<'a> {
             return Err(OverlayFault::NotSystem);
         }
         check_users(users, system.matrix_sizes())?;
-        Ok(Dictionaries {
+        Ok(Dictionaries::over(system, users))
+    }
+
+    /// The same of dictionaries that were found to fit: they are not looked at again.
+    #[tactic(auto, unfolding(crate::specs::Overlays::overlay_of))]
+    pub fn over(system: &'a Dict, users: &'a [Dict]) -> Dictionaries<'a>
+        requires { IsOverlay (image_tables system.now) (map image_tables users.now) }
+        ensures { overlay_of result ≡ overlay_by_default system.now users.now }
+    {
+        Dictionaries {
             system,
             users,
             grouping: GROUPING_DEFAULT,
             space: system.info(' '),
-        })
+        }
     }
 
     /// With another grouping.

@@ -1,8 +1,9 @@
 use Rattle.std.proofs.lemmas.Result.{err_from_is_err_and}
 use Rattle.std.proofs.Common.{[], ◌∷◌, ◌++◌}
+use Rattle.cutter.specs.Cutters.{GoOver}
 use Rattle.cutter.specs.Faults.{IsImage}
 use Rattle.cutter.proofs.FaultLemmas.{add_refused, user_refused}
-use Rattle.cutter.proofs.OverlayLemmas.{none_added, still_fit, user_added}
+use Rattle.cutter.proofs.OverlayLemmas.{fits_if, none_added, still_so, user_added}
 use Rattle.cutter.proofs.ResultLemmas.{on_ok}
 use Rattle.cutter.proofs.owned_dictionaries.OwnedDictionaries.add.Goals as goal
 
@@ -13,8 +14,8 @@ returns-in_err-user-clause-refused c =
 
 pub invariant_of-self : goal.invariant_of-self
 invariant_of-self c =
-    still_fit c.add_checked.result c.self.inside.system c.self.inside.users.items c.add_checked.new.users.items (c.self.inside.users.items ++ c.in_ok-user.user ∷ []) c.add_checked.ensures.added
-    c.add_checked.ensures.kept c.add_checked.ensures.accepted c.self.invariant
+    still_so c.add_checked.result (GoOver c.self.inside.system) c.self.inside.users.items c.add_checked.new.users.items
+    (c.self.inside.users.items ++ c.in_ok-user.user ∷ []) c.add_checked.ensures.added c.add_checked.ensures.kept c.add_checked.ensures.accepted c.self.invariant
 
 pub returns-clause-added : goal.returns-clause-added
 returns-clause-added c =
@@ -33,3 +34,8 @@ returns-clause-refused c =
 pub returns-clause-kept : goal.returns-clause-kept
 returns-clause-kept c =
     none_added c.add_checked.result c.args.self.now c.self.inside.system c.self.inside.users.items c.add_checked.new.users.items c.self.view_is c.add_checked.ensures.kept
+
+pub returns-clause-fits : goal.returns-clause-fits
+returns-clause-fits c =
+    fits_if c.add_checked.result c.args.self.now c.self.inside.system c.self.inside.users.items c.in_ok-user.user c.args.image.items c.self.view_is c.in_ok-user.ensures.dict
+    c.add_checked.ensures.accepted

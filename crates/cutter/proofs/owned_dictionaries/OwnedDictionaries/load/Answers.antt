@@ -1,5 +1,6 @@
 use Rattle.std.proofs.lemmas.Result.{err_from_is_err_and}
-use Rattle.std.proofs.Common.{[], ◌∙◌}
+use Rattle.std.proofs.Common.{[], subst, ◌∙◌}
+use Rattle.cutter.specs.Cutters.{GoOver}
 use Rattle.std.specs.Prelude.{None, Some}
 use Rattle.cutter.specs.Faults.{IsImage}
 use Rattle.cutter.proofs.FaultLemmas.{load_refused}
@@ -23,7 +24,7 @@ returns-in_err-new-clause-refused c =
 
 pub invariant_of-result : goal.invariant_of-result
 invariant_of-result c =
-    same_fault c.in_ok-system.system c.in_ok-system.system c.deref.result.now c.new-users.result.items None (λ i. c.in_ok-system.system) c.deref.ensures.value c.in_ok-new.ensures.accepted
+    subst (GoOver c.in_ok-system.system) c.deref.ensures.value (record { no_fault = c.in_ok-new.ensures.accepted; fitting = c.in_ok-new.ensures.fitting })
 
 pub returns-clause-loaded : goal.returns-clause-loaded
 returns-clause-loaded c = λ i. record { system = c.in_ok-system.ensures.dict i; users = c.new-users.ensures.items i }
