@@ -10,11 +10,11 @@ ghost use Rattle.word_lookup.specs.Overlays.{overlay_of};
 ghost use Rattle.word_lookup.specs.Surfaces.{surface_words};
 
 use crate::lattice::Lattice;
-use crate::source::WordSource;
 use mj_model::Word;
-use paths::Path;
+use path_search::WordSource;
+use paths::{BlankRun, Path, Surface};
 use std::alloc::{AllocError, Global};
-use word_lookup::{BlankRun, Dictionaries, Surface};
+use word_lookup::Dictionaries;
 
 /// A text over dictionaries.
 #[derive(Drop)]

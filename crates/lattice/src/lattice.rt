@@ -3,31 +3,21 @@
 ghost use Rattle.std.specs.Prelude.{◌≡◌, ◌≤◌, length, IfOk, OnOk, OnErr};
 ghost use Rattle.mj_model.specs.declared.limits.TheConstants.{SENTENCE_MAX};
 ghost use Rattle.paths.specs.BestOver.{IsBestOver, cost_over};
-ghost use Rattle.lattice.specs.SearchedText.{CanBeSearched, IsBestIn, cost_of};
+ghost use Rattle.path_search.specs.SearchedText.{CanBeSearched, IsBestIn, cost_of};
 ghost use Rattle.word_lookup.specs.Overlays.{overlay_of};
 
-use crate::building::{Nodes, Room, build};
 use crate::dictionary_text::DictionaryText;
-use crate::source::WordSource;
-use crate::tracing::trace_best;
-use mj_model::Word;
+use path_search::{Search, WordSource};
 use paths::Path;
 use std::alloc::{AllocError, Global};
-use std::mem;
 use word_lookup::Dictionaries;
 
-/// Finds best paths, and keeps its memory from text to text.
-///
-/// The search is Viterbi's (IEEE Transactions on Information Theory 13 (2), 1967), as in MeCab, and
-/// linear in the nodes and the connections between them. Each call begins anew, so one that was
-/// refused memory leaves a lattice as good as new.
+/// Finds best paths, and keeps its memory from text to text. Each call begins anew, so one that was refused memory leaves a lattice as
+/// good as new.
 #[derive(Debug, Drop)]
 pub struct Lattice {
     alloc: Global,
-    nodes: Nodes,
-    room: Room,
-    /// The words of the best path.
-    best: Vec<Word>,
+    search: Search,
 }
 
 impl Lattice {
@@ -35,9 +25,7 @@ impl Lattice {
     pub fn new(alloc: Global) -> Lattice {
         Lattice {
             alloc,
-            nodes: Nodes::new(alloc),
-            room: Room::new(alloc),
-            best: Vec::new(alloc),
+            search: Search::new(alloc),
         }
     }
 
@@ -53,11 +41,7 @@ impl Lattice {
         ensures words_kept { OnErr result (path.new.words.items ≡ path.old.words.items) }
         ensures total_kept { OnErr result (path.new.total ≡ path.old.total) }
     {
-        build(source, &mut self.nodes, &mut self.room)?;
-        let total = trace_best(source, &self.nodes, &mut self.room.ends, &mut self.best)?;
-        mem::swap(&mut path.words, &mut self.best);
-        path.total = total;
-        Ok(())
+        self.search.fill(source, path)
     }
 
     /// Makes `path` the best path of a text of at most `SENTENCE_MAX` bytes. Its memory and the lattice's are used again.

@@ -3,6 +3,7 @@ pub mod Blanks
 pub mod KnownWords
 pub mod UnknownSpans
 pub mod Words
+pub mod Surfaces
 pub mod Paths
 pub mod Cost
 pub mod Order

@@ -11,10 +11,10 @@ use Rattle.mj_model.specs.declared.word.Word.{Word}
 use Rattle.mj_model.specs.declared.word.Origin.TheVariants.{Known}
 use Rattle.mj_model.specs.Bounds.{IsWithin}
 use Rattle.paths.specs.Searchable.{IsSearchable}
-use Rattle.word_lookup.specs.declared.surface.Surface.{Surface}
-use Rattle.word_lookup.specs.Surfaces.{AreSurfacesOf, IsWhole, StandsWith}
+use Rattle.paths.specs.declared.surface.Surface.{Surface}
+use Rattle.paths.specs.Surfaces.{AreSurfacesOf, IsWhole, StandsWith}
 use Rattle.text_tests.specs.Sample.{lies_at, numbered, sample_connection, sample_surfaces, sample_words, surface_of, words_numbered}
-use Rattle.lattice.proofs.Pushed.{get_from_Contains}
+use Rattle.path_search.proofs.Pushed.{get_from_Contains}
 
 -- a word that lies at the place, with a number of at least k
 record Lies (k len p : ℕ) (w : Word) : Type 0 where

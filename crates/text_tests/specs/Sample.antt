@@ -3,8 +3,8 @@ use Rattle.std.specs.Prelude.{ℕ, ℤ, ◌+◌, ◌∷◌, ◌++◌, [], pos, n
 use Rattle.std.specs.Option.{option_map_or}
 use Rattle.mj_model.specs.declared.word.Word.{Word}
 use Rattle.mj_model.specs.declared.word.Origin.TheVariants.{Known}
-use Rattle.word_lookup.specs.declared.entry_list.EntryList.TheVariants.{Categories}
-use Rattle.word_lookup.specs.declared.surface.Surface.{Surface}
+use Rattle.paths.specs.declared.entry_list.EntryList.TheVariants.{Categories}
+use Rattle.paths.specs.declared.surface.Surface.{Surface}
 
 -- the word begins at the place, is not empty, ends in the text and has a word cost of at most three digits
 abbrev pub lies_at : ℕ → ℕ → Word → Bool

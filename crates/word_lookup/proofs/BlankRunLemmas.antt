@@ -12,7 +12,7 @@ use Rattle.paths.specs.Blanks.{chars_from, skip, space}
 use Rattle.paths.specs.Run.{bytes_of, run}
 use Rattle.paths.specs.Words.{is_place}
 use Rattle.paths.proofs.CharBytes.{bytes_within}
-use Rattle.word_lookup.specs.declared.blank_run.BlankRun.{BlankRun}
+use Rattle.paths.specs.declared.blank_run.BlankRun.{BlankRun}
 use Rattle.word_lookup.specs.BlankRuns.{IsBlankRun, begins_with_blank}
 use Rattle.word_lookup.proofs.PlaceLemmas.{place_within, text_there}
 

@@ -12,7 +12,7 @@ use Rattle.paths.specs.KnownWords.{word_of, known_word, entries_of_length, known
 use Rattle.mj_model.specs.Tables.{Lexeme, Token}
 use Rattle.mj_model.proofs.Members.{in_up_to}
 use Rattle.dict_image.specs.Prefixes.{has_entries, prefix_at, prefixes_in}
-use Rattle.word_lookup.specs.declared.entry_list.EntryList.TheVariants.{Lexicon}
+use Rattle.paths.specs.declared.entry_list.EntryList.TheVariants.{Lexicon}
 use Rattle.word_lookup.specs.EntryWords.{entry_word}
 
 -- the words of a surface that begins the text

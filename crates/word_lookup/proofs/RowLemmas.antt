@@ -15,9 +15,10 @@ use Rattle.dict_image.specs.Fitting.{AreFitting}
 use Rattle.dict_image.specs.Numbered.{numbered_tokens, unknown_tokens}
 use Rattle.dict_image.specs.Prefixes.{has_entries, prefix_at, prefixes_in}
 use Rattle.dict_image.specs.Seen.{ids_and_cost_of}
-use Rattle.word_lookup.specs.declared.entry_list.EntryList.{EntryList}
-use Rattle.word_lookup.specs.declared.surface.Surface.{Surface}
-use Rattle.word_lookup.specs.EntryWords.{entry_word, origin_in}
+use Rattle.paths.specs.declared.entry_list.EntryList.{EntryList}
+use Rattle.paths.specs.declared.surface.Surface.{Surface}
+use Rattle.paths.specs.Surfaces.{origin_in}
+use Rattle.word_lookup.specs.EntryWords.{entry_word}
 use Rattle.word_lookup.specs.Surfaces.{surface_words, tokens_of, word_with}
 
 -- an entry stands at the place of its number

@@ -10,12 +10,13 @@ use Rattle.mj_model.specs.declared.word.Word.{Word}
 use Rattle.mj_model.specs.Tables.{Overlay, Token}
 use Rattle.mj_model.proofs.Basics.{all_append}
 use Rattle.paths.specs.Words.{is_empty, unknown}
-use Rattle.word_lookup.specs.declared.entry_list.EntryList.{EntryList}
-use Rattle.word_lookup.specs.declared.surface.Surface.{Surface}
+use Rattle.paths.specs.declared.entry_list.EntryList.{EntryList}
+use Rattle.paths.specs.declared.surface.Surface.{Surface}
 use Rattle.word_lookup.specs.declared.word_start.WordStart.{WordStart}
 use Rattle.dict_image.specs.declared.token_row.TokenRow.{TokenRow}
 use Rattle.word_lookup.specs.EntryWords.{entry_word}
-use Rattle.word_lookup.specs.Surfaces.{AreSurfacesOf, GrowsByWords, IsWhole, StandsWith, surface_words, tokens_of}
+use Rattle.paths.specs.Surfaces.{AreSurfacesOf, IsWhole, StandsWith}
+use Rattle.word_lookup.specs.Surfaces.{GrowsByWords, surface_words, tokens_of}
 use Rattle.word_lookup.specs.SurfacesHere.{surface_here}
 use Rattle.word_lookup.proofs.AppendLemmas.{front_kept}
 use Rattle.word_lookup.proofs.RowLemmas.{StandsAtNumber, row_is}

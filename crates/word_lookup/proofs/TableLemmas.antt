@@ -12,8 +12,8 @@ use Rattle.paths.specs.KnownWords.{known_from, known_in}
 use Rattle.dict_image.specs.Fitting.{AreFitting}
 use Rattle.dict_image.specs.Numbered.{numbered_tokens}
 use Rattle.word_lookup.specs.declared.dictionaries.Dictionaries.{Dictionaries}
-use Rattle.word_lookup.specs.declared.entry_list.EntryList.{EntryList}
-use Rattle.word_lookup.specs.declared.entry_list.EntryList.TheVariants.{Lexicon}
+use Rattle.paths.specs.declared.entry_list.EntryList.{EntryList}
+use Rattle.paths.specs.declared.entry_list.EntryList.TheVariants.{Lexicon}
 use Rattle.word_lookup.specs.Fitting.{IsUserOf}
 use Rattle.word_lookup.specs.Overlays.{overlay_of}
 use Rattle.word_lookup.specs.Surfaces.{all_tables, tokens_of}

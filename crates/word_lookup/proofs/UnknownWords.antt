@@ -11,10 +11,10 @@ use Rattle.paths.specs.KnownWords.{word_of}
 use Rattle.paths.specs.Run.{bytes_of}
 use Rattle.mj_model.specs.Tables.{Overlay, Token}
 use Rattle.paths.specs.Words.{unknown_word}
-use Rattle.word_lookup.specs.declared.entry_list.EntryList.TheVariants.{Categories}
+use Rattle.paths.specs.declared.entry_list.EntryList.TheVariants.{Categories}
 use Rattle.word_lookup.specs.declared.run.Run.{Run}
 use Rattle.word_lookup.specs.declared.spans.Spans.{Spans}
-use Rattle.word_lookup.specs.declared.surface.Surface.{Surface}
+use Rattle.paths.specs.declared.surface.Surface.{Surface}
 use Rattle.word_lookup.specs.EntryWords.{entry_word}
 use Rattle.word_lookup.specs.Spans.{grouped_spans, spans_in}
 use Rattle.word_lookup.specs.Surfaces.{GrowsByWords}

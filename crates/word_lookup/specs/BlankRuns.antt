@@ -4,7 +4,7 @@ use Rattle.mj_model.specs.Tables.{Overlay}
 use Rattle.paths.specs.Blanks.{skip, space}
 use Rattle.paths.specs.Run.{run}
 use Rattle.paths.specs.Words.{is_place}
-use Rattle.word_lookup.specs.declared.blank_run.BlankRun.{BlankRun}
+use Rattle.paths.specs.declared.blank_run.BlankRun.{BlankRun}
 
 -- a text begins with a blank
 abbrev pub begins_with_blank : Overlay → List ℕ → Bool

@@ -1,16 +1,16 @@
 -- Words of a place as surfaces: entries of one list whose numbers follow one another.
-use Rattle.std.specs.Prelude.{◌≡◌, ℕ, ◌<◌, List, [], ◌∷◌, length, map, flat_map, take, drop, slice_get}
-use Rattle.std.specs.List.{AllByRecursion}
+use Rattle.std.specs.Prelude.{ℕ, List, [], ◌∷◌, map, take, drop, slice_get}
 use Rattle.std.specs.Option.{option_map_or}
 use Rattle.mj_model.specs.declared.word.Word.{Word}
 use Rattle.mj_model.specs.Lists.{GrowsBy}
 use Rattle.mj_model.specs.Tables.{Overlay, Tables, Token}
 use Rattle.dict_image.specs.declared.ids_and_cost.IdsAndCost.{IdsAndCost}
 use Rattle.dict_image.specs.Numbered.{numbered_tokens}
-use Rattle.word_lookup.specs.declared.entry_list.EntryList.{EntryList}
-use Rattle.word_lookup.specs.declared.entry_list.EntryList.TheVariants.{Lexicon, Categories}
-use Rattle.word_lookup.specs.declared.surface.Surface.{Surface}
-use Rattle.word_lookup.specs.EntryWords.{entry_word, origin_in}
+use Rattle.paths.specs.declared.entry_list.EntryList.{EntryList}
+use Rattle.paths.specs.declared.entry_list.EntryList.TheVariants.{Lexicon, Categories}
+use Rattle.paths.specs.declared.surface.Surface.{Surface}
+use Rattle.paths.specs.Surfaces.{AreSurfacesOf, origin_in}
+use Rattle.word_lookup.specs.EntryWords.{entry_word}
 
 -- the tables of a system and then of its users
 abbrev pub all_tables : Overlay → List Tables
@@ -29,23 +29,6 @@ surface_words o s = map (entry_word s.list s.place s.start s.end) (take s.count 
 abbrev pub word_with : Surface → ℕ → IdsAndCost → Word
 word_with s token ids =
     record { place = s.place; start = s.start; end = s.end; left = ids.left; right = ids.right; cost = ids.cost; origin = origin_in s.list token }
-
--- a word stands where a surface does
-pub record StandsWith (s : Surface) (w : Word) : Type 0 where
-  pub place : w.place ≡ s.place
-  pub start : w.start ≡ s.start
-  pub end : w.end ≡ s.end
-
--- a surface has as many words as it says, at least one, and each stands where it does
-pub record IsWhole (words_of : Surface → List Word) (s : Surface) : Type 0 where
-  pub count_is : length (words_of s) ≡ s.count
-  pub some : 0 < s.count
-  pub stand : AllByRecursion (StandsWith s) (words_of s)
-
--- the words of these surfaces, joined in order, are these words
-pub record AreSurfacesOf (words_of : Surface → List Word) (words : List Word) (surfaces : List Surface) : Type 0 where
-  pub joined : flat_map words_of surfaces ≡ words
-  pub whole : AllByRecursion (IsWhole words_of) surfaces
 
 -- surfaces were appended whose words are these
 abbrev pub GrowsByWords : Overlay → List Word → List Surface → List Surface → Type 0

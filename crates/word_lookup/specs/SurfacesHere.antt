@@ -1,8 +1,8 @@
 -- Surfaces that begin where the words of a place do.
 use Rattle.std.specs.Prelude.{ℕ}
 use Rattle.dict_image.specs.declared.token_row.TokenRow.{TokenRow}
-use Rattle.word_lookup.specs.declared.entry_list.EntryList.{EntryList}
-use Rattle.word_lookup.specs.declared.surface.Surface.{Surface}
+use Rattle.paths.specs.declared.entry_list.EntryList.{EntryList}
+use Rattle.paths.specs.declared.surface.Surface.{Surface}
 use Rattle.word_lookup.specs.declared.word_start.WordStart.{WordStart}
 
 -- that of a row of entries

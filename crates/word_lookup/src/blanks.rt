@@ -6,10 +6,10 @@ ghost use Rattle.paths.specs.Words.{is_place};
 ghost use Rattle.word_lookup.specs.BlankRuns.{IsBlankRun, begins_with_blank};
 ghost use Rattle.word_lookup.specs.Overlays.{overlay_of};
 
-use crate::blank_run::BlankRun;
 use crate::dictionaries::Dictionaries;
 use crate::run::run_up_to;
 use crate::word_start::behind;
+use paths::BlankRun;
 
 impl<'a> Dictionaries<'a> {
     /// The place behind the blanks of a place, in bytes.

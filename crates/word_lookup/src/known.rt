@@ -6,9 +6,8 @@ ghost use Rattle.word_lookup.specs.Surfaces.{GrowsByWords};
 ghost use Rattle.word_lookup.specs.WordsHere.{all_known_here, known_here, lexicon_of};
 
 use crate::dictionaries::Dictionaries;
-use crate::entry_list::EntryList;
-use crate::surface::Surface;
 use crate::word_start::WordStart;
+use paths::{EntryList, Surface};
 use std::alloc::AllocError;
 
 impl<'a> Dictionaries<'a> {

@@ -8,12 +8,11 @@ ghost use Rattle.word_lookup.specs.Overlays.{overlay_of};
 ghost use Rattle.word_lookup.specs.Surfaces.{GrowsByWords};
 ghost use Rattle.word_lookup.specs.WordsHere.{unknown_here};
 
-use crate::blank_run::BlankRun;
 use crate::dictionaries::Dictionaries;
 use crate::spans::spans_from;
-use crate::surface::Surface;
 use crate::unknown_entries::UnknownEntries;
 use crate::word_start::{WordStart, behind};
+use paths::{BlankRun, Surface};
 use std::alloc::AllocError;
 
 impl<'a> Dictionaries<'a> {

@@ -9,10 +9,9 @@ ghost use Rattle.word_lookup.specs.UnknownEntries.{entries_of};
 ghost use Rattle.word_lookup.specs.WordsHere.{spans_here, unknown_up_to};
 
 use crate::dictionaries::Dictionaries;
-use crate::entry_list::EntryList;
 use crate::spans::Spans;
-use crate::surface::Surface;
 use crate::word_start::WordStart;
+use paths::{EntryList, Surface};
 use std::alloc::AllocError;
 
 /// The unknown entries of a category of a system dictionary.

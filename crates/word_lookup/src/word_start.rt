@@ -4,9 +4,8 @@ ghost use Rattle.std.specs.Prelude.{◌≡◌, ◌+◌, ◌<◌, ◌^◌, length
 ghost use Rattle.std.proofs.Props.{props};
 ghost use Rattle.paths.specs.Words.{is_place};
 
-use crate::entry_list::EntryList;
-use crate::surface::Surface;
 use dict_image::TokenRow;
+use paths::{EntryList, Surface};
 
 /// Where the surfaces of a place's words begin, in bytes of the text, and the text from there on.
 #[derive(Clone, Copy)]

@@ -5,15 +5,15 @@ ghost use Rattle.std.specs.List.{AllByRecursion};
 ghost use Rattle.image_bytes.specs.ImageMeaning.{image_tables};
 ghost use Rattle.dict_image.specs.Fitting.{AreFitting};
 ghost use Rattle.dict_image.specs.Numbered.{numbered_tokens};
+ghost use Rattle.paths.specs.Surfaces.{IsWhole};
 ghost use Rattle.paths.specs.Words.{is_place, words};
 ghost use Rattle.word_lookup.specs.Overlays.{overlay_of};
-ghost use Rattle.word_lookup.specs.Surfaces.{IsWhole, surface_words, tokens_of};
+ghost use Rattle.word_lookup.specs.Surfaces.{surface_words, tokens_of, word_with as word_of_surface};
 
 use crate::dictionaries::Dictionaries;
-use crate::entry_list::EntryList;
-use crate::surface::Surface;
-use dict_image::Dict;
+use dict_image::{Dict, IdsAndCost};
 use mj_model::Word;
+use paths::{EntryList, Surface};
 use std::alloc::{AllocError, Global};
 
 impl<'a> Dictionaries<'a> {
@@ -25,7 +25,7 @@ impl<'a> Dictionaries<'a> {
     {
         let dict = self.listed(surface.list);
         let token = surface.first + i;
-        surface.word_with(token, dict.ids_and_cost(token))
+        word_with(surface, token, dict.ids_and_cost(token))
     }
 
     /// The dictionary of a list that has entries.
@@ -92,5 +92,20 @@ impl<'a> Dictionaries<'a> {
             out.push(self.word(surface, i))?;
         }
         Ok(())
+    }
+}
+
+/// The word of a surface whose entry has this number, ids and cost.
+fn word_with(surface: &Surface, token: u32, ids: IdsAndCost) -> Word
+    ensures { result ≡ word_of_surface surface.now token ids }
+{
+    Word {
+        place: surface.place,
+        start: surface.start,
+        end: surface.end,
+        left: ids.left,
+        right: ids.right,
+        cost: ids.cost,
+        origin: surface.list.origin(token),
     }
 }

@@ -4,7 +4,7 @@ use Rattle.image_bytes.specs.ImageMeaning.{image_tables}
 use Rattle.paths.specs.KnownWords.{known_in}
 use Rattle.mj_model.specs.Tables.{Lexeme, Token}
 use Rattle.dict_image.specs.Prefixes.{PrefixesSeen, prefixes_in}
-use Rattle.word_lookup.specs.declared.entry_list.EntryList.TheVariants.{Lexicon}
+use Rattle.paths.specs.declared.entry_list.EntryList.TheVariants.{Lexicon}
 use Rattle.word_lookup.specs.Overlays.{overlay_of}
 use Rattle.word_lookup.specs.Surfaces.{all_tables, tokens_of}
 use Rattle.word_lookup.proofs.KnownFound.{prefix_words, known_by_prefixes}

@@ -1,6 +1,7 @@
 use Rattle.std.proofs.Common.{rules, ◌∙◌}
 use Rattle.word_lookup.specs.Overlays.{overlay_of}
-use Rattle.word_lookup.specs.Surfaces.{IsWhole, surface_words}
+use Rattle.paths.specs.Surfaces.{IsWhole}
+use Rattle.word_lookup.specs.Surfaces.{surface_words}
 use Rattle.word_lookup.proofs.AppendLemmas.{front_kept}
 use Rattle.word_lookup.proofs.WordLemmas.{holds_at, one_surface_more}
 use Rattle.word_lookup.proofs.dictionaries.Dictionaries.append_words.Goals as goal

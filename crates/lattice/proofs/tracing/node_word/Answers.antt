@@ -1,5 +1,0 @@
-use Rattle.lattice.proofs.RunNodes.{node_has_word}
-use Rattle.lattice.proofs.tracing.node_word.Goals as goal
-
-pub returns : goal.returns
-returns g c = node_has_word (g.S.WordSource.says c.args.source.now).surface_words c.args.runs.now c.requires.runs c.args.number c.args.node c.word.result c.requires.node c.word.ensures

@@ -1,0 +1,15 @@
+use Rattle.std.proofs.Common.{◌+◌, ◌≤◌, length}
+use Rattle.path_search.specs.Ends.{StandFor}
+use Rattle.path_search.specs.SearchedText.{nodes_in}
+use Rattle.path_search.proofs.ends.add_run_ends.Given as goal
+
+-- the nodes from this one on were appended
+abbrev pub invariant-loop-left : goal.invariant-loop-left
+invariant-loop-left g l = record {
+  within : l.left ≤ l.run.surface.count;
+  among : l.run.from + l.left ≤ length l.backs;
+  stand : StandFor (nodes_in (g.S.WordSource.says l.source) l.runs l.backs) l.run.surface.end (l.run.from + l.left) l.ends.items;
+}
+
+abbrev pub decreases-loop-left : goal.decreases-loop-left
+decreases-loop-left g l = l.left

@@ -1,0 +1,98 @@
+-- What the search is told of a text, as one record.
+use Rattle.std.specs.Prelude.{◌≡◌, ℕ, ℤ, ◌+◌, ◌++◌, List, length, take, reverse, flat_map, slice_get, Some}
+use Rattle.std.specs.Option.{option_map_or}
+use Rattle.mj_model.specs.declared.word.Word.{Word}
+use Rattle.paths.specs.Best.{IsBestPath}
+use Rattle.paths.specs.Cost.{path_cost}
+use Rattle.paths.specs.Searchable.{IsSearchable}
+use Rattle.paths.specs.declared.blank_run.BlankRun.{BlankRun}
+use Rattle.paths.specs.declared.surface.Surface.{Surface}
+use Rattle.paths.specs.Surfaces.{AreSurfacesOf}
+use Rattle.path_search.specs.declared.building.Nodes.{Nodes}
+use Rattle.path_search.specs.declared.node.Run.{Run}
+use Rattle.path_search.specs.declared.node.Backpointer.{Backpointer}
+use Rattle.path_search.specs.Nodes.{AreLinked, AreRuns, HaveRights, Node, node_words, nodes_of}
+use Rattle.path_search.specs.Lattice.{IsLattice}
+
+-- a text's length in bytes, the words of each place in their order, the words of a surface, the connection cost of a right id and the
+-- next word's left id, where a character begins or the text ends, which ids lie within the connection table's sizes, and what is a run
+-- of its blanks
+pub record SearchedText : Type 1 where
+  pub text_length : ℕ
+  pub words : ℕ → List Word
+  pub surface_words : Surface → List Word
+  pub connection : ℕ → ℕ → ℤ
+  pub is_place : ℕ → Type 0
+  pub is_pair : ℕ → ℕ → Type 0
+  pub is_blank_run : BlankRun → Type 0
+
+-- it has what the search asks of a text
+abbrev pub CanBeSearched : SearchedText → Type 0
+CanBeSearched t = IsSearchable t.is_place t.is_pair t.words t.connection t.text_length
+
+-- the best of its paths
+abbrev pub IsBestIn : SearchedText → List Word → Type 0
+IsBestIn t path = IsBestPath t.words t.connection path
+
+-- what a path costs there
+abbrev pub cost_of : SearchedText → List Word → ℤ
+cost_of t path = path_cost t.connection path
+
+-- the nodes of its words, by run
+abbrev pub nodes_in : SearchedText → List Run → List Backpointer → List Node
+nodes_in t runs backs = nodes_of (node_words t.surface_words runs) backs
+
+-- the nodes are its words of the places before p, and those of place p from the k-th on, that some chain reaches
+abbrev pub IsLatticeOf : SearchedText → List Node → ℕ → ℕ → Type 0
+IsLatticeOf t nodes p k = IsLattice t.words t.connection nodes p k
+
+-- the nodes are its words of the places before p that some chain reaches
+abbrev pub IsLatticeTo : SearchedText → List Node → ℕ → Type 0
+IsLatticeTo t nodes p = IsLatticeOf t nodes p (length (t.words p))
+
+-- the nodes are its words of the places before p, and those of place p from a word on, that some chain reaches
+abbrev pub IsLatticeFrom : SearchedText → List Node → ℕ → Word → Type 0
+IsLatticeFrom t nodes p w = (k : ℕ) × (slice_get (t.words p) k ≡ Some w) × IsLatticeOf t nodes p k
+
+-- the nodes are its words of the places before p, and those of place p after a word, that some chain reaches
+abbrev pub IsLatticeAfter : SearchedText → List Node → ℕ → Word → Type 0
+IsLatticeAfter t nodes p w = (k : ℕ) × (slice_get (t.words p) k ≡ Some w) × IsLatticeOf t nodes p (k + 1)
+
+-- of each node of the runs something is kept
+abbrev pub AreAllKept : SearchedText → List Run → List Backpointer → Type 0
+AreAllKept t runs backs = length backs ≡ length (node_words t.surface_words runs)
+
+-- the runs are runs of its surfaces, linked by their ends and by the heads of its places, and of each of their nodes something is kept
+pub record AreKept (t : SearchedText) (runs : List Run) (backs : List Backpointer) (heads : List ℕ) : Type 0 where
+  pub runs_are : AreRuns t.surface_words runs
+  pub all : AreAllKept t runs backs
+  pub rights : HaveRights (node_words t.surface_words runs) backs
+  pub linked : AreLinked runs heads
+  pub places : length heads ≡ t.text_length + 1
+
+-- the same of nodes as one value
+abbrev pub AreKeptIn : SearchedText → Nodes → Type 0
+AreKeptIn t ns = AreKept t ns.runs.items ns.backs.items ns.heads.items
+
+abbrev pub kept_nodes : SearchedText → Nodes → List Node
+kept_nodes t ns = nodes_in t ns.runs.items ns.backs.items
+
+-- the nodes of the surface with this number come next: its run is the last one, and nothing is kept of its nodes yet
+pub record NextAt (t : SearchedText) (surfaces : List Surface) (number : ℕ) (runs : List Run) (backs : List Backpointer) : Type 0 where
+  pub surface : Surface
+  pub here : slice_get surfaces number ≡ Some surface
+  pub before : List Word
+  pub words : node_words t.surface_words runs ≡ before ++ reverse (t.surface_words surface)
+  pub none_yet : length backs ≡ length before
+
+-- the surfaces are those of the words of a place
+abbrev pub AreSurfacesAt : SearchedText → ℕ → List Surface → Type 0
+AreSurfacesAt t place surfaces = AreSurfacesOf t.surface_words (t.words place) surfaces
+
+-- how many words of a place stand before word i of a surface, by the surface's number
+abbrev pub words_before : SearchedText → List Surface → ℕ → ℕ → ℕ
+words_before t surfaces number i = length (flat_map t.surface_words (take number surfaces)) + i
+
+-- how many words a surface has, by its number
+abbrev pub word_count : List Surface → ℕ → ℕ
+word_count surfaces number = option_map_or (λ (s : Surface). s.count) (slice_get surfaces number) 0

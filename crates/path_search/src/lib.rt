@@ -1,0 +1,14 @@
+//! The search for the best path through the words of a text, over any source of words.
+#![tactic(auto)]
+
+mod building;
+mod ends;
+mod joining;
+mod joins;
+mod node;
+mod search;
+mod source;
+mod tracing;
+
+pub use search::Search;
+pub use source::WordSource;

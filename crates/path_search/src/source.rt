@@ -1,0 +1,45 @@
+//! Where the search takes words and connection costs from.
+
+ghost use Rattle.std.specs.Prelude.{◌≡◌, ◌<◌, slice_get, IfSome, OnOk, OnErr, Some};
+ghost use Rattle.mj_model.specs.Lists.{GrowsBy};
+ghost use Rattle.paths.specs.Surfaces.{IsWhole};
+ghost use Rattle.path_search.specs.SearchedText.{AreSurfacesAt, SearchedText};
+
+use mj_model::Word;
+use paths::{BlankRun, Surface};
+use std::alloc::AllocError;
+
+/// A text over dictionaries: the words of each place as surfaces, and the cost of each connection.
+pub trait WordSource {
+    /// The text's length, its words, those of its surfaces, its connections, its places, its pairs of ids and its runs of blanks.
+    ghost says: { Self → SearchedText };
+
+    /// In bytes.
+    fn length(&self) -> usize
+        ensures { result ≡ (says self.now).text_length };
+
+    /// Appends the words of a place to `out` as surfaces. `last` is the run of blanks that was looked at last, and none before the
+    /// first place.
+    fn surfaces_at(
+        &self,
+        place: usize,
+        last: &mut Option<BlankRun>,
+        out: &mut Vec<Surface>,
+    ) -> Result<(), AllocError>
+        requires place { (says self.now).is_place place }
+        requires last { IfSome last.old (says self.now).is_blank_run }
+        ensures appended { OnOk result
+            (GrowsBy (AreSurfacesAt (says self.now) place) out.old.items out.new.items) }
+        ensures kept { OnErr result (out.new.items ≡ out.old.items) }
+        ensures last { IfSome last.new (says self.now).is_blank_run };
+
+    /// Word `i` of a surface.
+    fn word(&self, surface: &Surface, i: u32) -> Word
+        requires surface { IsWhole (says self.now).surface_words surface.now }
+        requires within { i < surface.now.count }
+        ensures { slice_get ((says self.now).surface_words surface.now) i ≡ Some result };
+
+    fn connection_cost(&self, right: u16, left: u16) -> i16
+        requires { (says self.now).is_pair right left }
+        ensures { result ≡ (says self.now).connection right left };
+}
