@@ -8,8 +8,9 @@ use Rattle.image_bytes.specs.declared.header.Header.{Header}
 use Rattle.image_bytes.specs.ImageBytes.{number_at, header_of, section}
 use Rattle.image_bytes.specs.ImageMeaning.{image_categories}
 use Rattle.image_bytes.specs.ImageSections.{AreCategories, category_bytes, first_category, categories_in}
-use Rattle.dict_image.specs.Categories.{HasFirst, HasFront, behind_first, bytes_from, listed_categories}
-use Rattle.dict_image.specs.Held.{IsImage}
+use Rattle.dict_image.specs.Categories.{HasFirst, HasFront, bytes_from, listed_categories}
+use Rattle.image_check.specs.CheckedCategories.{behind_first}
+use Rattle.image_check.specs.Outlines.{IsImage}
 use Rattle.dict_image.proofs.FormedLemmas.{categories_are, system_of_categories}
 
 -- ---- numbers of one byte

@@ -13,7 +13,7 @@ use Rattle.image_bytes.specs.ImageSections.{AreCosts, stored_cost}
 use Rattle.mj_model.specs.Tables.{System}
 use Rattle.dict_image.specs.declared.cost_table.CostTable.{CostTable}
 use Rattle.dict_image.specs.CostTables.{AreRows, GrowsByRow, IsCostTable}
-use Rattle.dict_image.specs.Held.{IsImage}
+use Rattle.image_check.specs.Outlines.{IsImage}
 use Rattle.dict_image.proofs.FormedLemmas.{costs_are}
 
 -- ---- a cost more

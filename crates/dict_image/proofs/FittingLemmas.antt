@@ -24,7 +24,7 @@ use Rattle.image_bytes.specs.ImageSections.{AreRanges, IsIndex, StoredRange, ran
 use Rattle.mj_model.specs.Tables.{System, Token, Lexeme, HasApartTokens}
 use Rattle.mj_model.proofs.Basics.{all_append, both_parts}
 use Rattle.dict_image.specs.Fitting.{AreBytes, AreFitting, IsFitting}
-use Rattle.dict_image.specs.Held.{IsImage}
+use Rattle.image_check.specs.Outlines.{IsImage}
 use Rattle.image_bytes.specs.ImageSections.{range_count}
 use Rattle.dict_image.proofs.CategoryLemmas.{count_of_image}
 use Rattle.dict_image.proofs.FormedLemmas.{few_categories, groups_are, infos_are, is_header, system_of_categories, token_fits, unknown_are}

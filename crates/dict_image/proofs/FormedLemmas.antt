@@ -2,31 +2,20 @@
 use Rattle.std.proofs.Common.{◌≡◌, ℕ, ◌*◌, ◌<◌, ◌≤◌, List, [], ◌∷◌, ◌++◌, length, refl, arith, subst}
 use Rattle.std.specs.Prelude.{IsUtf8}
 use Rattle.cell_walk.specs.CellRules.{AreCells}
-use Rattle.image_bytes.specs.ImageBytes.{header_of, kind_of, all_tokens, section, section_end, total_length}
+use Rattle.image_bytes.specs.ImageBytes.{header_of, kind_of, all_tokens, section}
 use Rattle.image_bytes.specs.declared.layout.KeyForm.{KeyForm}
 use Rattle.image_bytes.specs.declared.layout.KeyForm.TheVariants as key
-use Rattle.image_bytes.specs.ImageFaults.{Test, PassAll, IsWellFormed, IsHeader, AreCounts, AreInfos, SystemAlone, key_tests, token_tests}
+use Rattle.image_bytes.specs.ImageFaults.{Test, PassAll, IsHeader, AreCounts, AreInfos, SystemAlone, key_tests, token_tests}
 use Rattle.image_bytes.specs.ImageMeaning.{group_in, key_in, lexicon_sections}
 use Rattle.image_bytes.specs.ImageSections.{AreCosts, AreCategories, IsIndex, stored_cells, stored_token, FitsSizes}
 use Rattle.image_bytes.specs.Layouts.{info_form, key_form}
 use Rattle.mj_model.specs.Tables.{Kind, System, User}
-use Rattle.dict_image.specs.Held.{IsImage, HoldTokens}
+use Rattle.dict_image.specs.Held.{HoldTokens}
+use Rattle.image_check.specs.Outlines.{IsImage}
 use Rattle.dict_image.specs.Groups.{AreGroups}
 use Rattle.dict_image.proofs.CellKeys.{AreKeys, groups_of_cells, text_of_cells}
 use Rattle.dict_image.proofs.LexiconLemmas.{HasGroups}
 use Rattle.dict_image.proofs.ListedOrder.{groups_of_list, text_of_list}
-
-pub is_formed : (bytes : List ℕ) → IsImage bytes → IsWellFormed bytes
-unfolding IsImage
-is_formed bytes w = w
-
-pub from_formed : (bytes : List ℕ) → IsWellFormed bytes → IsImage bytes
-unfolding IsImage
-from_formed bytes w = w
-
-pub sections_within : (bytes : List ℕ) → IsImage bytes → section_end (header_of bytes) 8 ≤ length bytes
-unfolding IsImage
-sections_within bytes w = let total : total_length (header_of bytes) ≤ length bytes = w.1.1.1.0 in omega (arith, total)
 
 pub is_header : (bytes : List ℕ) → IsImage bytes → IsHeader (header_of bytes)
 unfolding IsImage

@@ -11,7 +11,7 @@ use Rattle.std.proofs.lemmas.List.{append-nil, append_assoc, length-append, leng
 use Rattle.cell_walk.specs.CellMap.{codes_of}
 use Rattle.cell_walk.proofs.KeyWalks.{code_of_end, length-codes_of}
 use Rattle.image_bytes.specs.OlderSections.{IsListedKey, listed_key, listed_number}
-use Rattle.dict_image.specs.KeyPlaces.{KeyList}
+use Rattle.dict_image.specs.KeyLists.{KeyList}
 use Rattle.dict_image.specs.ListedHits.{BeginsWith, CodesRise, IsFirstFrom, IsRangeOf, code_at}
 use Rattle.dict_image.proofs.ListedOrder.{found_number, groups_of_list, key_above, longer_not_below, order}
 

@@ -6,7 +6,7 @@ use Rattle.image_bytes.specs.ImageBytes.{header_of, kind_of, section}
 use Rattle.image_bytes.specs.ImageFaults.{AreInfos}
 use Rattle.image_bytes.specs.Layouts.{info_form}
 use Rattle.mj_model.specs.Tables.{System}
-use Rattle.dict_image.specs.Held.{IsImage}
+use Rattle.image_check.specs.Outlines.{IsImage}
 use Rattle.dict_image.specs.Infos.{AreReadable}
 use Rattle.dict_image.proofs.FormedLemmas.{few_categories, infos_are}
 use Rattle.dict_image.proofs.RangeLemmas.{in_order}

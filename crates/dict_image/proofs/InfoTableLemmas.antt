@@ -7,7 +7,7 @@ use Rattle.image_bytes.specs.ImageBytes.{header_of, kind_of, number_at, section}
 use Rattle.image_bytes.specs.ImageSections.{range_at, range_count}
 use Rattle.image_bytes.specs.Layouts.{info_form}
 use Rattle.dict_image.specs.declared.info_table.InfoTable.{InfoTable}
-use Rattle.dict_image.specs.Held.{IsImage}
+use Rattle.image_check.specs.Outlines.{IsImage}
 use Rattle.dict_image.specs.Infos.{AreReadable}
 use Rattle.dict_image.specs.InfoTables.{AreFirstEntries, IsEntryOf, IsInfoTable, basic_plane, plane_start}
 use Rattle.dict_image.specs.Ranges.{AreInOrder, IsLastUpTo}

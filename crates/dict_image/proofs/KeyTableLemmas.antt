@@ -6,8 +6,8 @@ use Rattle.image_bytes.specs.declared.layout.KeyForm.TheVariants as key
 use Rattle.image_bytes.specs.ImageBytes.{header_of}
 use Rattle.image_bytes.specs.ImageSections.{stored_cells}
 use Rattle.dict_image.specs.Groups.{hits_in}
-use Rattle.dict_image.specs.Held.{IsImage}
-use Rattle.dict_image.specs.KeyPlaces.{KeyList}
+use Rattle.image_check.specs.Outlines.{IsImage}
+use Rattle.dict_image.specs.KeyLists.{KeyList}
 use Rattle.dict_image.specs.ListedHits.{listed_hits_behind}
 use Rattle.dict_image.proofs.FormedLemmas.{is_header}
 use Rattle.dict_image.proofs.ListedHitLemmas.{all_hits}

@@ -1,5 +1,4 @@
 pub mod ListedOrder
-pub mod StartLemmas
 pub mod KeyTableLemmas
 pub mod ListedHitLemmas
 pub mod FrontLemmas
@@ -17,13 +16,3 @@ pub mod ProgressLemmas
 pub mod FittingLemmas
 pub mod NumberLemmas
 pub mod NumberedTokens
-pub mod CheckedCategories
-pub mod CellLemmas
-pub mod ValueLemmas
-pub mod GroupCount
-pub mod KeyLemmas
-pub mod StretchLemmas
-pub mod KeyFrontLemmas
-pub mod FrameLemmas
-pub mod StageLemmas
-pub mod StandLemmas

@@ -6,7 +6,7 @@ use Rattle.std.specs.Option.{option_map}
 use Rattle.image_bytes.specs.OlderSections.{listed_number}
 use Rattle.mj_model.specs.Lists.{up_to}
 use Rattle.dict_image.specs.Groups.{hit_in}
-use Rattle.dict_image.specs.KeyPlaces.{KeyList}
+use Rattle.dict_image.specs.KeyLists.{KeyList}
 use Rattle.dict_image.specs.ListedHits.{listed_hits_behind}
 
 abbrev number_in : KeyList → List ℕ → Option ℕ

@@ -9,7 +9,7 @@ use Rattle.image_bytes.specs.ImageSections.{IsIndex, index_at, token_from}
 use Rattle.mj_model.specs.Lists.{AreApart, StandsIn}
 use Rattle.mj_model.specs.Tables.{HasApartTokens, HasText, Lexeme, Token}
 use Rattle.mj_model.proofs.Basics.{all_append}
-use Rattle.dict_image.specs.Held.{IsImage}
+use Rattle.image_check.specs.Outlines.{IsImage}
 use Rattle.dict_image.proofs.FormedLemmas.{groups_are, texts_are}
 
 -- ---- numbers that follow one another

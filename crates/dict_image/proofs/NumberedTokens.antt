@@ -14,7 +14,7 @@ use Rattle.image_bytes.specs.ImageMeaning.{LexiconSections, entries_of_group, im
 use Rattle.image_bytes.specs.ImageSections.{IsIndex, index_at, token_from}
 use Rattle.mj_model.specs.Lists.{up_to}
 use Rattle.mj_model.specs.Tables.{Lexeme, Token, Kind, System, User}
-use Rattle.dict_image.specs.Held.{IsImage}
+use Rattle.image_check.specs.Outlines.{IsImage}
 use Rattle.dict_image.specs.Numbered.{numbered_tokens, unknown_tokens}
 use Rattle.dict_image.proofs.CategoryLemmas.{count_of_image}
 use Rattle.dict_image.proofs.FormedLemmas.{groups_are, is_header, unknown_are}

@@ -1,14 +1,11 @@
 -- The names of categories, where categories stand in their section, and what they say.
-use Rattle.std.specs.Prelude.{ℕ, zero, suc, ◌+◌, ◌≤◌, List, length, drop, map}
+use Rattle.std.specs.Prelude.{ℕ, zero, suc, ◌+◌, ◌≤◌, List, length, map}
 use Rattle.mj_model.specs.CharDef.{NamedCategory}
 use Rattle.mj_model.specs.declared.category.Category.{Category}
 use Rattle.image_bytes.specs.ImageBytes.{number_at}
 use Rattle.image_bytes.specs.ImageMeaning.{image_categories}
 use Rattle.image_bytes.specs.ImageSections.{categories_in}
-
--- the bytes behind the first category
-abbrev pub behind_first : List ℕ → List ℕ
-behind_first bytes = drop (4 + number_at 1 bytes 3) bytes
+use Rattle.image_check.specs.CheckedCategories.{behind_first}
 
 -- the bytes from category i on
 abbrev pub bytes_from : ℕ → List ℕ → List ℕ

@@ -2,8 +2,8 @@
 use Rattle.std.specs.Prelude.{◌≡◌, ℕ, List}
 use Rattle.image_bytes.specs.declared.layout.KeyForm.{KeyForm}
 use Rattle.image_bytes.specs.declared.layout.KeyForm.TheVariants as key
-use Rattle.dict_image.specs.declared.keys.KeyTable.{KeyTable}
-use Rattle.dict_image.specs.declared.keys.KeyTable.TheVariants as table
+use Rattle.dict_image.specs.declared.key_table.KeyTable.{KeyTable}
+use Rattle.dict_image.specs.declared.key_table.KeyTable.TheVariants as table
 
 -- they are those of a section of this form
 abbrev pub IsTableOf : KeyForm → ℕ → List ℕ → KeyTable → Type 0

@@ -6,7 +6,7 @@ pub mod Infos
 pub mod InfoTables
 pub mod CostTables
 pub mod Categories
-pub mod KeyPlaces
+pub mod KeyLists
 pub mod Groups
 pub mod KeyTables
 pub mod ListedHits
@@ -14,12 +14,3 @@ pub mod KeyHits
 pub mod Prefixes
 pub mod Numbered
 pub mod Fitting
-pub mod CheckedRanges
-pub mod CheckedCategories
-pub mod Cells
-pub mod Values
-pub mod KeyFronts
-pub mod Ways
-pub mod Stretches
-pub mod Stands
-pub mod Checks

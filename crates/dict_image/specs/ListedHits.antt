@@ -5,7 +5,7 @@ use Rattle.cell_walk.specs.CellMap.{codes_of}
 use Rattle.image_bytes.specs.OlderSections.{listed_key, listed_number}
 use Rattle.dict_image.specs.declared.listed_range.Begun.{Begun}
 use Rattle.dict_image.specs.Groups.{hit_in}
-use Rattle.dict_image.specs.KeyPlaces.{KeyList}
+use Rattle.dict_image.specs.KeyLists.{KeyList}
 
 -- those that are longer than n bytes, the shortest first: their lengths, and their numbers
 abbrev pub listed_hits_behind : KeyList → List ℕ → ℕ → List (ℕ × ℕ)

@@ -1,7 +1,8 @@
 //! The section of categories.
 ghost use Rattle.std.specs.Prelude.{◌≡◌, ◌+◌, length, IfOk, IsUtf8};
 ghost use Rattle.image_bytes.specs.ImageSections.{first_category};
-ghost use Rattle.dict_image.specs.Categories.{HasFirst, HasFront, behind_first, bytes_from, listed_categories};
+ghost use Rattle.dict_image.specs.Categories.{HasFirst, HasFront, bytes_from, listed_categories};
+ghost use Rattle.image_check.specs.CheckedCategories.{behind_first};
 
 use crate::entry_ref::text;
 use mj_model::Category;

@@ -5,7 +5,6 @@ ghost use Rattle.image_bytes.specs.ImageSections.{AreCosts};
 ghost use Rattle.mj_model.specs.Tables.{System};
 ghost use Rattle.dict_image.specs.CostTables.{AreRows, GrowsByRow, IsCostTable};
 
-use crate::check::header::is_user;
 use crate::costs::cost_at;
 use image_bytes::Header;
 use mj_model::MatrixSizes;
@@ -34,7 +33,7 @@ pub(crate) fn cost_table_of(
     ensures { IfOk result (λ table. IsCostTable header.now.sizes costs.now table) }
 {
     let sizes = header.sizes;
-    if is_user(header) || pairs(sizes) > COPIED_MAX {
+    if header.is_user() || pairs(sizes) > COPIED_MAX {
         return Ok(CostTable::InSection);
     }
     Ok(CostTable::InRows(cost_rows(alloc, costs, sizes)?))

@@ -1,5 +1,5 @@
 //! A dictionary: the bytes of a well-formed image.
-ghost use Rattle.std.specs.Prelude.{◌≡◌, ℕ, ◌<◌, List};
+ghost use Rattle.std.specs.Prelude.{◌≡◌, ℕ, ◌<◌, List, IfOk};
 ghost use Rattle.image_bytes.specs.ImageBytes.{all_tokens, header_of, kind_of, section as section_of};
 ghost use Rattle.image_bytes.specs.ImageFaults.{IsWellFormed};
 ghost use Rattle.image_bytes.specs.ImageMeaning.{group_in, image_tables, image_token, tokens_in};
@@ -9,77 +9,65 @@ ghost use Rattle.image_bytes.specs.Sections.{number_of};
 ghost use Rattle.dict_image.specs.Fitting.{AreFitting};
 ghost use Rattle.image_bytes.specs.Layouts.{info_form, key_form};
 ghost use Rattle.dict_image.specs.Groups.{hits_in};
-ghost use Rattle.dict_image.specs.Held.{IsDict, IsImage};
+ghost use Rattle.image_check.specs.Outlines.{IsImage, IsOutline};
 ghost use Rattle.dict_image.specs.CostTables.{IsCostTable};
 ghost use Rattle.dict_image.specs.InfoTables.{IsInfoTable};
 ghost use Rattle.dict_image.specs.KeyHits.{hits_seen, key_cells};
 ghost use Rattle.dict_image.specs.KeyTables.{IsTableOf};
 ghost use Rattle.dict_image.specs.Seen.{token_seen};
 
-use crate::check::Outline;
 use crate::cost_table::CostTable;
 use crate::entries::Entries;
 use crate::entry_ref::{EntryRef, token_at};
 use crate::info_table::InfoTable;
 use crate::key_hits::KeyHits;
-use crate::keys::{KeyTable, Keys};
+use crate::key_table::KeyTable;
 use crate::listed_keys::ListedKeys;
+use crate::lookup_tables::{LookupTables, lookup_tables_of};
 use cell_walk::{CellRead, get, prefixes};
 use image_bytes::Section::{Features, Groups, Tokens};
 use image_bytes::{Header, ImageCells, Section, section_bytes};
+use image_check::{Keys, Outline};
 use mj_model::{Category, MatrixSizes};
+use std::alloc::{AllocError, Global};
 use std::marker::Model;
 
 /// A dictionary, as the bytes of its image, which are read where they lie.
 #[derive(Drop)]
 pub struct Dict {
     bytes: Vec<u8>,
-    header: Header,
-    /// Where the header and sections 1 to 8 end.
-    ends: [usize; 9],
-    keys: Keys,
-    costs: CostTable,
-    infos: InfoTable,
-    categories: Vec<Category>,
+    outline: Outline,
+    tables: LookupTables,
 }
 
 impl Model for Dict {
     ghost use Rattle.std.specs.Prelude.{ℕ, List};
     ghost use Rattle.dict_image.specs.Fitting.{AreFitting};
-    ghost use Rattle.dict_image.specs.Held.{IsDict};
+    ghost use Rattle.dict_image.specs.Held.{AreLookupTables};
+    ghost use Rattle.image_check.specs.Outlines.{IsOutline};
 
     ghost Value = { List ℕ };
 
     ghost view = { λ d. d.bytes.items };
 
-    ghost invariant = { λ d. IsDict d.bytes.items d.header d.ends d.keys d.costs d.infos
-        d.categories.items };
+    ghost invariant = { λ d. record {
+      outline : IsOutline d.bytes.items d.outline;
+      tables : AreLookupTables d.bytes.items d.tables;
+    } };
 }
 
 impl Dict {
-    /// The dictionary of a well-formed image with its outline. It takes no memory.
-    pub(crate) fn over(bytes: Vec<u8>, outline: Outline) -> Dict
-        requires { IsDict bytes.items outline.header outline.ends outline.keys
-            outline.costs outline.infos outline.categories.items }
-        ensures { result ≡ bytes.items }
+    /// The dictionary of a well-formed image with its outline. Its lookup tables take memory.
+    pub(crate) fn over(alloc: Global, bytes: Vec<u8>, outline: Outline) -> Result<Dict, AllocError>
+        requires { IsOutline bytes.items outline }
+        ensures { IfOk result (λ dict. dict ≡ bytes.items) }
     {
-        let Outline {
-            header,
-            ends,
-            keys,
-            costs,
-            infos,
-            categories,
-        } = outline;
-        Dict {
+        let tables = lookup_tables_of(alloc, &bytes, &outline)?;
+        Ok(Dict {
             bytes,
-            header,
-            ends,
-            keys,
-            costs,
-            infos,
-            categories,
-        }
+            outline,
+            tables,
+        })
     }
 
     /// Whether it is a user dictionary, which has a lexicon alone.
@@ -113,7 +101,7 @@ impl Dict {
         ensures numbers { result.now ≡ header_of self.now }
         ensures formed { IsImage self.now }
     {
-        &self.header
+        &self.outline.header
     }
 
     /// The bytes of a section.
@@ -121,7 +109,7 @@ impl Dict {
         ensures section { result.now ≡ section_of self.now (number_of section) }
         ensures formed { IsImage self.now }
     {
-        section_bytes(&self.bytes, &self.ends, section)
+        section_bytes(&self.bytes, &self.outline.ends, section)
     }
 
     /// Where connection costs are looked up.
@@ -129,7 +117,7 @@ impl Dict {
         ensures table { IsCostTable (header_of self.now).sizes (section_of self.now 1) result.now }
         ensures formed { IsImage self.now }
     {
-        &self.costs
+        &self.tables.costs
     }
 
     /// Where the categories of code points are looked up.
@@ -138,7 +126,7 @@ impl Dict {
             (info_form (header_of self.now).layout) (section_of self.now 3) result.now }
         ensures formed { IsImage self.now }
     {
-        &self.infos
+        &self.tables.infos
     }
 
     /// What the categories say, by their numbers.
@@ -146,7 +134,7 @@ impl Dict {
         ensures categories { result.now ≡ (image_tables self.now).categories }
         ensures formed { IsImage self.now }
     {
-        &self.categories
+        &self.tables.categories
     }
 
     /// The keys, to look one up.
@@ -155,7 +143,7 @@ impl Dict {
             (section_of self.now 5) result }
         ensures formed { IsImage self.now }
     {
-        match &self.keys {
+        match &self.outline.keys {
             Keys::Listed(starts) => {
                 KeyTable::Listed(ListedKeys::new(self.section(Section::Keys), starts))
             }

@@ -8,7 +8,6 @@ ghost use Rattle.dict_image.specs.Infos.{AreReadable};
 ghost use Rattle.dict_image.specs.InfoTables.{AreOfPlane, IsInfoTable, plane_start};
 ghost use Rattle.dict_image.specs.Ranges.{AreInOrder};
 
-use crate::check::header::is_user;
 use crate::infos::info_of;
 use crate::ranges::info_at;
 use image_bytes::{Header, InfoForm, u32_at};
@@ -38,7 +37,7 @@ pub(crate) fn info_table_of(
     ensures { IfOk result
         (λ table. IsInfoTable (kind_of header.now) (info_form header.now.layout) infos.now table) }
 {
-    if is_user(header) {
+    if header.is_user() {
         return Ok(InfoTable::InSection);
     }
     match header.info_form() {

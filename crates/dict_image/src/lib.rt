@@ -2,7 +2,6 @@
 #![tactic(auto)]
 
 mod categories;
-mod check;
 mod cost_table;
 mod costs;
 mod dict;
@@ -13,13 +12,14 @@ mod ids_and_cost;
 mod info_table;
 mod infos;
 mod key_hits;
-mod keys;
+mod key_table;
 mod laws;
 mod listed_hits;
 mod listed_keys;
 mod listed_range;
 mod loading;
 mod lookup;
+mod lookup_tables;
 mod numbered;
 mod ranges;
 mod system;
@@ -30,5 +30,5 @@ pub use entries::Entries;
 pub use entry_ref::EntryRef;
 pub use hits::Prefixes;
 pub use ids_and_cost::IdsAndCost;
-pub use loading::load;
+pub use loading::{load, load_written};
 pub use token_row::TokenRow;

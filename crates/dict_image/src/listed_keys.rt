@@ -1,7 +1,8 @@
 //! Listed keys, looked up in the image's own bytes.
 ghost use Rattle.std.specs.Prelude.{◌≡◌, ℕ, ◌^◌, ◌<◌, ◌≤◌, length};
 ghost use Rattle.image_bytes.specs.OlderSections.{BeginWithKey, IsListedKey, front_key, listed_key, listed_number};
-ghost use Rattle.dict_image.specs.KeyPlaces.{AreStarts, IsFirstNotBelow};
+ghost use Rattle.image_check.specs.KeyPlaces.{AreStarts};
+ghost use Rattle.dict_image.specs.KeyLists.{IsFirstNotBelow};
 
 use image_bytes::u16_at;
 use std::marker::Model;
@@ -15,7 +16,8 @@ pub(crate) struct ListedKeys<'a> {
 
 impl<'a> Model for ListedKeys<'a> {
     ghost use Rattle.std.specs.Prelude.{◌≤◌, ◌^◌, length};
-    ghost use Rattle.dict_image.specs.KeyPlaces.{AreStarts, KeyList};
+    ghost use Rattle.image_check.specs.KeyPlaces.{AreStarts};
+    ghost use Rattle.dict_image.specs.KeyLists.{KeyList};
 
     ghost Value = { KeyList };
 

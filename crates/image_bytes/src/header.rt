@@ -1,6 +1,7 @@
 //! The header of an image.
-ghost use Rattle.std.specs.Prelude.{◌≡◌, ◌≤◌, length};
-ghost use Rattle.image_bytes.specs.ImageBytes.{header_of, header_length};
+ghost use Rattle.std.specs.Prelude.{◌≡◌, ◌≤◌, false, length, IsTrue};
+ghost use Rattle.image_bytes.specs.ImageBytes.{header_of, header_length, kind_of};
+ghost use Rattle.mj_model.specs.Tables.{System, User};
 
 use crate::numbers::{u32_at, u64_at};
 use mj_model::MatrixSizes;
@@ -33,6 +34,16 @@ pub struct Header {
     /// Unknown entries.
     pub unknown: u32,
     pub lengths: [u64; 8],
+}
+
+impl Header {
+    /// Whether the dictionary is a user's.
+    pub fn is_user(&self) -> bool
+        ensures user { IsTrue result → kind_of self.now ≡ User }
+        ensures system { result ≡ false → kind_of self.now ≡ System }
+    {
+        self.kind == 1
+    }
 }
 
 /// The numbers of the first 104 bytes, behind the magic.

@@ -2,6 +2,6 @@ pub mod GoodLines
 pub mod UserDicts
 pub mod OverlayLemmas
 pub mod EarlyEnds
-pub mod LoadedLemmas
+pub mod AnswerLemmas
 pub mod OneOutput
 pub mod JoinedTexts

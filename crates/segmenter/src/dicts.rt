@@ -2,13 +2,11 @@
 
 ghost use Rattle.std.specs.Prelude.{◌≡◌, ℕ, ◌++◌, ◌∷◌, [], IfOk, IfErr, OnOk};
 ghost use Rattle.std.specs.List.{AllZip};
-ghost use Rattle.mj_model.specs.declared.image_fault.ImageFault.TheVariants.{Memory as MemoryOfImage};
 ghost use Rattle.mj_model.specs.declared.run_fault.RunFault.TheVariants.{UserSource};
 ghost use Rattle.mj_model.specs.declared.source_fault.SourceFault.{SourceFault as FaultOf};
 ghost use Rattle.mj_model.specs.declared.source_fault.SourceKind.TheVariants.{Memory};
 ghost use Rattle.dict_compile.specs.Compilation.{IsCompilationCause, IsCompilationFault, IsUserCause, IsUserFault};
 ghost use Rattle.mj_model.specs.FirstFault.{IsRefusal};
-ghost use Rattle.image_bytes.specs.ImageFaults.{IsWellFormed};
 ghost use Rattle.image_bytes.specs.ImageMeaning.{image_tables};
 ghost use Rattle.dict_compile.specs.SourceOverlays.{IsOfUser};
 ghost use Rattle.mj_model.specs.Tables.{System};
@@ -17,8 +15,8 @@ ghost use Rattle.segmenter.specs.SourceDicts.{IsDictOf, IsUserDictOf, IsUsersRef
 
 use crate::early_fault::early_end;
 use dict_compile::{CompileUserFault, compile, compile_user};
-use dict_image::{Dict, load};
-use mj_model::{ImageFault, RunFault, SourceFault, Sources};
+use dict_image::{Dict, load_written};
+use mj_model::{RunFault, SourceFault, Sources};
 use std::alloc::{AllocError, Global};
 
 /// The dictionary of sources.
@@ -30,7 +28,7 @@ pub(crate) fn system_dict(alloc: Global, sources: &Sources<'_>) -> Result<Dict, 
         → IsCompileRefusedFor fault result }
 {
     let compiled = compile(alloc, sources)?;
-    Ok(loaded(alloc, compiled.image)?)
+    Ok(load_written(alloc, compiled.image)?)
 }
 
 /// The user dictionary of lexicons.
@@ -46,7 +44,7 @@ fn user_dict(alloc: Global, system: &Dict, lexicons: &[&[u8]]) -> Result<Dict, S
         Err(CompileUserFault::Source(fault)) => return Err(fault),
         Err(CompileUserFault::NotSystem) => unreachable!(),
     };
-    Ok(loaded(alloc, compiled.image)?)
+    Ok(load_written(alloc, compiled.image)?)
 }
 
 /// The user dictionaries of each user's lexicons, up to the first fault.
@@ -82,19 +80,4 @@ fn add(dicts: &mut Vec<Dict>, dict: Dict) -> Result<(), AllocError>
 {
     dicts.push(dict)?;
     Ok(())
-}
-
-/// The dictionary of a well-formed image, which is refused for want of memory alone.
-fn loaded(alloc: Global, image: Vec<u8>) -> Result<Dict, AllocError>
-    requires { IsWellFormed image.items }
-    ensures { IfOk result (λ dict. dict ≡ image.items) }
-{
-    load(alloc, image).map_err(want_of_memory)
-}
-
-/// What a load that was refused memory is refused for.
-fn want_of_memory(_fault: ImageFault) -> AllocError
-    requires { _fault ≡ MemoryOfImage }
-{
-    AllocError
 }

@@ -14,17 +14,23 @@ returns-in_err-compiled-clause-first c = λ fault h.
     let p = err_from_is_err_and c.from_residual.result c.from_residual.ensures.1 in
     rw (p.1, p.2) (c.in_err-compiled.ensures.first fault h)
 
-pub returns-in_err-loaded-clause-refused : goal.returns-in_err-loaded-clause-refused
-returns-in_err-loaded-clause-refused c =
-    let p = err_from_is_err_and c.from_residual-in_err-loaded.result c.from_residual-in_err-loaded.ensures.1 in
+pub load_written-requires-clause-formed : goal.load_written-requires-clause-formed
+load_written-requires-clause-formed c = c.in_ok-compiled.ensures.compiled.compiled.well_formed
+
+pub load_written-requires-clause-layout : goal.load_written-requires-clause-layout
+load_written-requires-clause-layout c = c.in_ok-compiled.ensures.compiled.compiled.layout
+
+pub returns-in_err-load_written-clause-refused : goal.returns-in_err-load_written-clause-refused
+returns-in_err-load_written-clause-refused c =
+    let p = err_from_is_err_and c.from_residual-in_err-load_written.result c.from_residual-in_err-load_written.ensures.1 in
     rw p.1 (inl p.2)
 
-pub returns-in_err-loaded-clause-first : goal.returns-in_err-loaded-clause-first
-returns-in_err-loaded-clause-first c = λ fault h.
+pub returns-in_err-load_written-clause-first : goal.returns-in_err-load_written-clause-first
+returns-in_err-load_written-clause-first c = λ fault h.
     let compiled = c.in_ok-compiled.compiled in
     absurd (not_compiled c.args.sources.now compiled.image.items compiled.entries compiled.skipped fault c.in_ok-compiled.ensures.compiled h)
 
 pub returns-clause-dict : goal.returns-clause-dict
 returns-clause-dict c =
     let compiled = c.in_ok-compiled.compiled in
-    subst (IsDictOf c.args.sources.now) (sym c.in_ok-loaded.ensures) (compiled.entries, compiled.skipped, c.in_ok-compiled.ensures.compiled)
+    subst (IsDictOf c.args.sources.now) (sym c.in_ok-load_written.ensures) (compiled.entries, compiled.skipped, c.in_ok-compiled.ensures.compiled)

@@ -3,7 +3,7 @@ use Rattle.std.specs.List.{AllZip}
 use Rattle.image_bytes.specs.ImageMeaning.{image_tables}
 use Rattle.mj_model.specs.declared.run_fault.RunFault.TheVariants.{UserSource}
 use Rattle.segmenter.specs.SourceDicts.{IsUserDictOf, users_of}
-use Rattle.segmenter.proofs.LoadedLemmas.{when_ok}
+use Rattle.segmenter.proofs.AnswerLemmas.{when_ok}
 use Rattle.segmenter.proofs.UserDicts.{none_at_fault, user_first, user_more, user_refused, users_end}
 use Rattle.segmenter.proofs.dicts.user_dicts.Goals as goal
 

@@ -6,4 +6,4 @@ use Rattle.dict_image.proofs.dict.Dict.info_table.Goals as goal
 
 pub returns-clause-table : goal.returns-clause-table
 returns-clause-table c =
-    subst (λ (bytes : List ℕ). IsInfoTable (kind_of (header_of bytes)) (info_form (header_of bytes).layout) (section bytes 3) c.self.inside.infos) c.self.view_is c.self.invariant.infos_are
+    subst (λ (bytes : List ℕ). IsInfoTable (kind_of (header_of bytes)) (info_form (header_of bytes).layout) (section bytes 3) c.self.inside.tables.infos) c.self.view_is c.self.invariant.tables.infos_are

@@ -2,7 +2,7 @@ use Rattle.std.proofs.Common.{◌≡◌, Bool, true, false, cond, eqb, ap, ◌�
 use Rattle.image_bytes.specs.declared.header.Header.{Header}
 use Rattle.mj_model.specs.Overlays.{is_user}
 use Rattle.mj_model.specs.Tables.{System, User}
-use Rattle.dict_image.proofs.FormedLemmas.{is_formed}
+use Rattle.image_check.proofs.OutlineLemmas.{is_formed}
 use Rattle.dict_image.proofs.dict.Dict.is_user.Goals as goal
 
 flag_is : (b : Bool) → b ≡ is_user (cond b User System)

@@ -1,6 +1,9 @@
+use Rattle.std.proofs.Common.{subst}
+use Rattle.dict_image.specs.Held.{AreLookupTables}
 use Rattle.dict_image.proofs.dict.Dict.over.Goals as goal
 
 pub invariant_of-result : goal.invariant_of-result
-invariant_of-result c =
-    let r = c.requires in
-    record { formed = r.formed; header_is = r.header_is; ends_are = r.ends_are; keys_are = r.keys_are; costs_are = r.costs_are; infos_are = r.infos_are; categories_are = r.categories_are }
+invariant_of-result c = record {
+  outline = c.requires;
+  tables = subst (λ bytes. AreLookupTables bytes c.in_ok-tables.tables) c.deref.ensures.value c.in_ok-tables.ensures;
+}

@@ -1,7 +1,7 @@
 use Rattle.std.proofs.Common.{ℕ, ◌≡◌, ◌≢◌, ◌+◌, ◌-◌, ◌/◌, ◌<◌, List, subst, ap, ◌∙◌, arith}
 use Rattle.std.specs.declared.cmp.Ordering.TheVariants.{Less}
 use Rattle.image_bytes.specs.OlderSections.{IsListedKey, listed_key}
-use Rattle.dict_image.specs.KeyPlaces.{KeyList}
+use Rattle.dict_image.specs.KeyLists.{KeyList}
 use Rattle.dict_image.proofs.ListedOrder.{below_up_to, is_less, not_less, order}
 use Rattle.dict_image.proofs.listed_keys.ListedKeys.first_not_below.Goals as goal
 

@@ -1,6 +1,6 @@
 use Rattle.std.proofs.Common.{ℕ, ◌<◌, subst}
 use Rattle.image_bytes.specs.OlderSections.{IsListedKey}
-use Rattle.dict_image.specs.KeyPlaces.{KeyList}
+use Rattle.dict_image.specs.KeyLists.{KeyList}
 use Rattle.dict_image.proofs.listed_keys.ListedKeys.len.Goals as goal
 
 pub returns-clause-listed : goal.returns-clause-listed

@@ -1,6 +1,0 @@
-use Rattle.image_bytes.specs.ImageSections.{stored_cells}
-use Rattle.dict_image.specs.Values.{IsScanned}
-use Rattle.dict_image.proofs.check.values.scan.Given as goal
-
-abbrev pub invariant-loop-t : goal.invariant-loop-t
-invariant-loop-t l = IsScanned l.groups (stored_cells l.cells.bytes.now) l.t l.places.items

@@ -1,0 +1,12 @@
+pub mod OutlineLemmas
+pub mod StartLemmas
+pub mod CheckedCategories
+pub mod CellLemmas
+pub mod ValueLemmas
+pub mod GroupCount
+pub mod KeyLemmas
+pub mod StretchLemmas
+pub mod KeyFrontLemmas
+pub mod FrameLemmas
+pub mod StageLemmas
+pub mod StandLemmas

@@ -1,0 +1,11 @@
+pub mod KeyPlaces
+pub mod Outlines
+pub mod CheckedRanges
+pub mod CheckedCategories
+pub mod Cells
+pub mod Values
+pub mod KeyFronts
+pub mod Ways
+pub mod Stretches
+pub mod Stands
+pub mod Checks
