@@ -8,7 +8,7 @@ use Rattle.paths.specs.Searchable.{IsSearchable}
 use Rattle.paths.specs.declared.blank_run.BlankRun.{BlankRun}
 use Rattle.paths.specs.declared.surface.Surface.{Surface}
 use Rattle.paths.specs.Surfaces.{AreSurfacesOf}
-use Rattle.path_search.specs.declared.building.Nodes.{Nodes}
+use Rattle.path_search.specs.declared.nodes.Nodes.{Nodes}
 use Rattle.path_search.specs.declared.node.Run.{Run}
 use Rattle.path_search.specs.declared.node.Backpointer.{Backpointer}
 use Rattle.path_search.specs.Nodes.{AreLinked, AreRuns, HaveRights, Node, node_words, nodes_of}

@@ -6,6 +6,8 @@ mod ends;
 mod joining;
 mod joins;
 mod node;
+mod nodes;
+mod place;
 mod search;
 mod source;
 mod tracing;

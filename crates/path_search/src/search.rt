@@ -3,7 +3,8 @@
 ghost use Rattle.std.specs.Prelude.{◌≡◌, OnOk, OnErr};
 ghost use Rattle.path_search.specs.SearchedText.{CanBeSearched, IsBestIn, cost_of};
 
-use crate::building::{Nodes, Room, build};
+use crate::building::{Room, build};
+use crate::nodes::Nodes;
 use crate::source::WordSource;
 use crate::tracing::trace_best;
 use mj_model::Word;

@@ -5,7 +5,7 @@ ghost use Rattle.path_search.specs.Nodes.{AreRuns, HasNode, IsLastHead, node_wor
 ghost use Rattle.path_search.specs.Lattice.{LinksGoBack, IsBelow, Traces};
 ghost use Rattle.path_search.specs.SearchedText.{AreAllKept, AreKeptIn, CanBeSearched, IsBestIn, IsLatticeTo, cost_of, kept_nodes, nodes_in};
 
-use crate::building::Nodes;
+use crate::nodes::Nodes;
 use crate::ends::gather;
 use crate::joining::least;
 use crate::node::{BOUNDARY_ID, Backpointer, End, Run, linked};

@@ -1,11 +1,12 @@
-use Rattle.std.proofs.Common.{arith, ◌<◌, List, length, refl, sym, subst, ◌∙◌}
+use Rattle.std.proofs.Common.{arith, ◌<◌, ◌++◌, List, length, refl, sym, subst, ap, ◌∙◌}
 use Rattle.std.proofs.lemmas.Option.{slice_get_read}
 use Rattle.path_search.specs.declared.node.Backpointer.{Backpointer}
 use Rattle.path_search.specs.declared.node.End.{End}
 use Rattle.path_search.specs.declared.node.Run.{Run}
 use Rattle.path_search.specs.Ends.{AreEnds}
 use Rattle.path_search.specs.Nodes.{IsLatest, link_of}
-use Rattle.path_search.specs.SearchedText.{nodes_in}
+use Rattle.paths.specs.declared.surface.Surface.{Surface}
+use Rattle.path_search.specs.SearchedText.{AreSurfacesAt, nodes_in}
 use Rattle.path_search.proofs.Choice.{some_reached}
 use Rattle.path_search.proofs.Growth.{not_reached, reached_place}
 use Rattle.path_search.proofs.building.add_place.Goals as goal
@@ -44,8 +45,8 @@ gather-requires-clause-head g c =
     subst (IsLatest c.deref.result.now c.args.place (length c.deref.result.now)) (sym c.linked.ensures)
     (subst (λ (xs : List Run). IsLatest xs c.args.place (length xs) (link_of c.index-head.result.now)) (sym c.deref.ensures.value) (kept.linked.heads_latest c.args.place c.index-head.result.now at))
 
-pub add_surfaces-requires-clause-some : goal.add_surfaces-requires-clause-some
-add_surfaces-requires-clause-some g c =
+pub add_surfaces-requires-clause-place : goal.add_surfaces-requires-clause-place
+add_surfaces-requires-clause-place g c =
     let t = g.S.WordSource.says c.args.source.now in
     let nodes = c.args.nodes.now in
     let heads = nodes.heads.items in
@@ -57,6 +58,12 @@ add_surfaces-requires-clause-some g c =
     let are : AreEnds (nodes_in t nodes.runs.items nodes.backs.items) c.args.place ends =
     subst (λ (bs : List Backpointer). AreEnds (nodes_in t nodes.runs.items bs) c.args.place ends) c.deref-2.ensures.value
     (subst (λ (rs : List Run). AreEnds (nodes_in t rs c.deref-2.result.now) c.args.place ends) c.deref.ensures.value c.in_ok-gather.ensures) in
-    subst (λ (xs : List End). 0 < length xs) (sym c.deref-4.ensures.value)
+    let grown = c.in_ok-surfaces_at.ensures.appended in
+    record {
+      source = c.requires.source;
+      within = c.requires.place;
+      surfaces = subst (AreSurfacesAt t c.args.place) (sym (c.deref-3.ensures.value ∙ grown.2 ∙ ap (λ (xs : List Surface). xs ++ grown.0) c.clear.ensures.items)) grown.1;
+      some = subst (λ (xs : List End). 0 < length xs) (sym c.deref-4.ensures.value)
     (some_reached t.surface_words nodes.runs.items nodes.backs.items c.args.place (length nodes.runs.items) c.index-head.result.now ends kept.runs_are kept.all (sym c.is_reached.ensures ∙ c.if-not-is_reached.false)
-    (kept.linked.heads_latest c.args.place c.index-head.result.now at) are)
+    (kept.linked.heads_latest c.args.place c.index-head.result.now at) are);
+    }

@@ -8,16 +8,16 @@ use Rattle.path_search.specs.SearchedText.{IsLatticeOf, nodes_in, words_before}
 use Rattle.path_search.proofs.Links.{links_on}
 use Rattle.path_search.proofs.RunNodes.{nodes_stay, rights_stay, runs_push, words_push}
 use Rattle.path_search.proofs.WordNumbers.{no_surface, surface_ends, whole_at}
-use Rattle.path_search.proofs.building.add_surface.Goals as goal
+use Rattle.path_search.proofs.place.Place.add_surface.Goals as goal
 
 pub index-requires : goal.index-requires
 index-requires g c =
     let t = g.S.WordSource.says c.args.source.now in
     let nodes = c.args.nodes.now in
-    let surfaces = c.args.surfaces.now in
+    let surfaces = c.args.self.now.surfaces.now in
     let s = get_or surfaces c.args.number no_surface in
     let kept = c.requires.kept in
-    let end = surface_ends t c.args.place surfaces c.requires.surfaces c.requires.source.source c.args.number no_surface c.requires.number in
+    let end = surface_ends t c.args.self.now.start surfaces c.requires.place.surfaces c.requires.place.source.source c.args.number no_surface c.requires.number in
     let long = kept.places in
     let ok = nodes.heads.ok in
     omega (arith, end, long, ok.0)
@@ -26,10 +26,10 @@ pub add_run-requires : goal.add_run-requires
 add_run-requires g c =
     let t = g.S.WordSource.says c.args.source.now in
     let nodes = c.args.nodes.now in
-    let surfaces = c.args.surfaces.now in
+    let surfaces = c.args.self.now.surfaces.now in
     let s = get_or surfaces c.args.number no_surface in
     let kept = c.requires.kept in
-    let end = surface_ends t c.args.place surfaces c.requires.surfaces c.requires.source.source c.args.number no_surface c.requires.number in
+    let end = surface_ends t c.args.self.now.start surfaces c.requires.place.surfaces c.requires.place.source.source c.args.number no_surface c.requires.number in
     let long = kept.places in
     let whole = ap length c.deref_mut.ensures.value in
     record { end = omega (arith, end, long, whole) }
@@ -38,7 +38,7 @@ pub add_words-requires-clause-next : goal.add_words-requires-clause-next
 add_words-requires-clause-next g c =
     let t = g.S.WordSource.says c.args.source.now in
     let nodes = c.args.nodes.now in
-    let surfaces = c.args.surfaces.now in
+    let surfaces = c.args.self.now.surfaces.now in
     let s = get_or surfaces c.args.number no_surface in
     let kept = c.requires.kept in
     let run : Run = record { surface = s; from = c.len.result; next = c.index.result.now } in
@@ -55,7 +55,7 @@ pub add_words-requires-clause-rights : goal.add_words-requires-clause-rights
 add_words-requires-clause-rights g c =
     let t = g.S.WordSource.says c.args.source.now in
     let nodes = c.args.nodes.now in
-    let s = get_or c.args.surfaces.now c.args.number no_surface in
+    let s = get_or c.args.self.now.surfaces.now c.args.number no_surface in
     let kept = c.requires.kept in
     let run : Run = record { surface = s; from = c.len.result; next = c.index.result.now } in
     let runs_now : c.deref.result.now ≡ nodes.runs.items ++ run ∷ [] = c.deref.ensures.value ∙ c.in_ok-add_run.ensures.runs in
@@ -65,31 +65,31 @@ pub add_words-requires-clause-lattice : goal.add_words-requires-clause-lattice
 add_words-requires-clause-lattice g c =
     let t = g.S.WordSource.says c.args.source.now in
     let nodes = c.args.nodes.now in
-    let surfaces = c.args.surfaces.now in
+    let surfaces = c.args.self.now.surfaces.now in
     let s = get_or surfaces c.args.number no_surface in
     let kept = c.requires.kept in
     let run : Run = record { surface = s; from = c.len.result; next = c.index.result.now } in
     let runs_now : c.deref.result.now ≡ nodes.runs.items ++ run ∷ [] = c.deref.ensures.value ∙ c.in_ok-add_run.ensures.runs in
     let same = ap (λ (rs : List Run). nodes_in t rs nodes.backs.items) runs_now ∙ nodes_stay t.surface_words nodes.runs.items run nodes.backs.items kept.all in
-    subst (λ (ns : List Node). IsLatticeOf t ns c.args.place (words_before t surfaces (c.args.number + 1) 0)) (sym same) c.requires.lattice
+    subst (λ (ns : List Node). IsLatticeOf t ns c.args.self.now.start (words_before t surfaces (c.args.number + 1) 0)) (sym same) c.requires.lattice
 
 pub add_words-requires-clause-ends : goal.add_words-requires-clause-ends
 add_words-requires-clause-ends g c =
     let t = g.S.WordSource.says c.args.source.now in
     let nodes = c.args.nodes.now in
-    let surfaces = c.args.surfaces.now in
+    let surfaces = c.args.self.now.surfaces.now in
     let s = get_or surfaces c.args.number no_surface in
     let kept = c.requires.kept in
     let run : Run = record { surface = s; from = c.len.result; next = c.index.result.now } in
     let runs_now : c.deref.result.now ≡ nodes.runs.items ++ run ∷ [] = c.deref.ensures.value ∙ c.in_ok-add_run.ensures.runs in
     let same = ap (λ (rs : List Run). nodes_in t rs nodes.backs.items) runs_now ∙ nodes_stay t.surface_words nodes.runs.items run nodes.backs.items kept.all in
-    subst (λ (ns : List Node). AreEnds ns c.args.place c.args.ends.now) (sym same) c.requires.ends
+    subst (λ (ns : List Node). AreEnds ns c.args.self.now.start c.args.self.now.ends.now) (sym same) c.requires.ends
 
 pub returns-clause-kept : goal.returns-clause-kept
 returns-clause-kept g c =
     let t = g.S.WordSource.says c.args.source.now in
     let nodes = c.args.nodes.now in
-    let surfaces = c.args.surfaces.now in
+    let surfaces = c.args.self.now.surfaces.now in
     let s = get_or surfaces c.args.number no_surface in
     let kept = c.requires.kept in
     let run : Run = record { surface = s; from = c.len.result; next = c.index.result.now } in
@@ -97,7 +97,7 @@ returns-clause-kept g c =
     let heads = nodes.heads.items in
     let ok = nodes.heads.ok in
     let long = kept.places in
-    let end = surface_ends t c.args.place surfaces c.requires.surfaces c.requires.source.source c.args.number no_surface c.requires.number in
+    let end = surface_ends t c.args.self.now.start surfaces c.requires.place.surfaces c.requires.place.source.source c.args.number no_surface c.requires.number in
     let within : s.end < length heads = omega (arith, end, long) in
     let at : slice_get heads s.end ≡ Some run.next = slice_get_read heads (length heads) s.end c.index.result.now refl within c.index.ensures in
     let more : length (nodes.runs.items ++ run ∷ []) ≡ suc (length nodes.runs.items) = let n = length_push nodes.runs.items run in omega (arith, n) in
@@ -105,7 +105,7 @@ returns-clause-kept g c =
     let size = ap length set_heads ∙ length-set heads s.end (suc (length nodes.runs.items)) in
     let heads_now = take_at c.add_run.new.heads (drop (length c.add_run.new.heads) heads) nodes.heads.len (size ∙ sym ok.0) ∙ set_heads in
     let from = c.len.ensures ∙ nodes.backs.ok.0 ∙ kept.all in
-    let whole = whole_at t c.args.place surfaces c.requires.surfaces c.args.number no_surface c.requires.number in
+    let whole = whole_at t c.args.self.now.start surfaces c.requires.place.surfaces c.args.number no_surface c.requires.number in
     let runs_are = subst (AreRuns t.surface_words) (sym c.in_ok-add_run.ensures.runs) (runs_push t.surface_words nodes.runs.items run kept.runs_are whole from) in
     let linked = links_on nodes.runs.items heads run kept.linked at in
     let all = c.in_ok-add_words.ensures.all ∙ ap (λ (rs : List Run). length (node_words t.surface_words rs)) c.deref.ensures.value in

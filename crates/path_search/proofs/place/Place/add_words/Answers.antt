@@ -6,32 +6,32 @@ use Rattle.path_search.specs.Nodes.{node_words}
 use Rattle.path_search.specs.SearchedText.{IsLatticeOf, nodes_in, words_before}
 use Rattle.path_search.proofs.RunNodes.{next_word}
 use Rattle.path_search.proofs.WordNumbers.{count_at, next_surface, no_surface, whole_at, word_at}
-use Rattle.path_search.proofs.building.add_words.Goals as goal
+use Rattle.path_search.proofs.place.Place.add_words.Goals as goal
 
 pub loop-i-init : goal.loop-i-init
 loop-i-init g c =
     let t = g.S.WordSource.says c.args.source.now in
-    let surfaces = c.args.surfaces.now in
+    let surfaces = c.args.self.now.surfaces.now in
     let s = get_or surfaces c.args.number no_surface in
     let count = count_at surfaces c.args.number no_surface c.requires.number in
-    let last = next_surface t c.args.place surfaces c.requires.surfaces c.args.number c.requires.number in
+    let last = next_surface t c.args.self.now.start surfaces c.requires.place.surfaces c.args.number c.requires.number in
     let next = c.requires.next in
     let same : next.surface ≡ s = same_Some next.surface s (sym next.here ∙ slice_get-get_or surfaces c.args.number no_surface c.requires.number) in
-    let own = ap (λ (x : Surface). length (reverse (t.surface_words x))) same ∙ length-reverse (t.surface_words s) ∙ (whole_at t c.args.place surfaces c.requires.surfaces c.args.number no_surface c.requires.number).count_is in
+    let own = ap (λ (x : Surface). length (reverse (t.surface_words x))) same ∙ length-reverse (t.surface_words s) ∙ (whole_at t c.args.self.now.start surfaces c.requires.place.surfaces c.args.number no_surface c.requires.number).count_is in
     let long = ap length next.words ∙ length-append next.before (reverse (t.surface_words next.surface)) in
     let yet = next.none_yet in
     record {
       within = omega (arith, count);
       left = omega (arith, own, long, yet);
       rights = c.requires.rights;
-      lattice = subst (IsLatticeOf t (nodes_in t c.args.runs.now c.args.backs.now.items) c.args.place) (last ∙ ap (words_before t surfaces c.args.number) count) c.requires.lattice;
+      lattice = subst (IsLatticeOf t (nodes_in t c.args.runs.now c.args.backs.now.items) c.args.self.now.start) (last ∙ ap (words_before t surfaces c.args.number) count) c.requires.lattice;
       ends = c.requires.ends;
       joins = c.requires.joins;
     }
 
 pub word-word-requires-clause-within : goal.word-word-requires-clause-within
 word-word-requires-clause-within g c =
-    let count = count_at c.args.surfaces.now c.args.number no_surface c.requires.number in
+    let count = count_at c.args.self.now.surfaces.now c.args.number no_surface c.requires.number in
     let low = c.loop-i.invariant.within in
     let some = c.loop-i-test.true in
     omega (arith, count, low, some)
@@ -39,7 +39,7 @@ word-word-requires-clause-within g c =
 pub add_word-requires-clause-next : goal.add_word-requires-clause-next
 add_word-requires-clause-next g c =
     let t = g.S.WordSource.says c.args.source.now in
-    let surfaces = c.args.surfaces.now in
+    let surfaces = c.args.self.now.surfaces.now in
     let s = get_or surfaces c.args.number no_surface in
     let next = c.requires.next in
     let same : s ≡ next.surface = same_Some s next.surface (sym (slice_get-get_or surfaces c.args.number no_surface c.requires.number) ∙ next.here) in
@@ -53,27 +53,27 @@ add_word-requires-clause-next g c =
 pub add_word-requires-clause-lattice : goal.add_word-requires-clause-lattice
 add_word-requires-clause-lattice g c =
     let t = g.S.WordSource.says c.args.source.now in
-    let surfaces = c.args.surfaces.now in
+    let surfaces = c.args.self.now.surfaces.now in
     let i = c.loop-i.i - 1 in
     let word = c.word-word.result in
     let k = words_before t surfaces c.args.number i in
     let some = c.loop-i-test.true in
     let same : words_before t surfaces c.args.number c.loop-i.i ≡ k + 1 = omega (arith, some) in (
       k,
-      word_at t c.args.place surfaces c.requires.surfaces c.args.number i no_surface word c.requires.number c.word-word.ensures,
-      subst (IsLatticeOf t (nodes_in t c.args.runs.now c.loop-i.backs.items) c.args.place) same c.loop-i.invariant.lattice,
+      word_at t c.args.self.now.start surfaces c.requires.place.surfaces c.args.number i no_surface word c.requires.number c.word-word.ensures,
+      subst (IsLatticeOf t (nodes_in t c.args.runs.now c.loop-i.backs.items) c.args.self.now.start) same c.loop-i.invariant.lattice,
     )
 
 pub loop-i-preserved : goal.loop-i-preserved
 loop-i-preserved g c =
     let t = g.S.WordSource.says c.args.source.now in
-    let surfaces = c.args.surfaces.now in
+    let surfaces = c.args.self.now.surfaces.now in
     let i = c.loop-i.i - 1 in
     let word = c.word-word.result in
     let k = words_before t surfaces c.args.number i in
-    let at = word_at t c.args.place surfaces c.requires.surfaces c.args.number i no_surface word c.requires.number c.word-word.ensures in
+    let at = word_at t c.args.self.now.start surfaces c.requires.place.surfaces c.args.number i no_surface word c.requires.number c.word-word.ensures in
     let grown = c.in_ok-add_word.ensures.lattice in
-    let same : grown.0 ≡ k = c.requires.source.source.are.distinct c.args.place grown.0 k word grown.1 at in
+    let same : grown.0 ≡ k = c.requires.place.source.source.are.distinct c.args.self.now.start grown.0 k word grown.1 at in
     let within = c.loop-i.invariant.within in
     let left = c.loop-i.invariant.left in
     let some = c.loop-i-test.true in
@@ -82,7 +82,7 @@ loop-i-preserved g c =
       within = omega (arith, within);
       left = omega (arith, left, some, one);
       rights = c.in_ok-add_word.ensures.rights;
-      lattice = subst (IsLatticeOf t (nodes_in t c.args.runs.now c.add_word.new.backs.items) c.args.place) same grown.2;
+      lattice = subst (IsLatticeOf t (nodes_in t c.args.runs.now c.add_word.new.backs.items) c.args.self.now.start) same grown.2;
       ends = c.in_ok-add_word.ensures.ends;
       joins = c.in_ok-add_word.ensures.joins;
     }

@@ -2,17 +2,17 @@ use Rattle.std.proofs.Common.{◌≡◌, ◌+◌, ◌≤◌, length}
 use Rattle.path_search.specs.Ends.{AreEnds, AreLeast}
 use Rattle.path_search.specs.Nodes.{HaveRights, node_words}
 use Rattle.path_search.specs.SearchedText.{IsLatticeOf, nodes_in, word_count, words_before}
-use Rattle.path_search.proofs.building.add_words.Given as goal
+use Rattle.path_search.proofs.place.Place.add_words.Given as goal
 
 -- the nodes of the words from the i-th on were added
 abbrev pub invariant-loop-i : goal.invariant-loop-i
 invariant-loop-i g l = record {
-  within : l.i ≤ word_count l.surfaces l.number;
+  within : l.i ≤ word_count l.self.surfaces.now l.number;
   left : length l.backs.items + l.i ≡ length (node_words (g.S.WordSource.says l.source).surface_words l.runs);
   rights : HaveRights (node_words (g.S.WordSource.says l.source).surface_words l.runs) l.backs.items;
-  lattice : IsLatticeOf (g.S.WordSource.says l.source) (nodes_in (g.S.WordSource.says l.source) l.runs l.backs.items) l.place (words_before (g.S.WordSource.says l.source) l.surfaces l.number l.i);
-  ends : AreEnds (nodes_in (g.S.WordSource.says l.source) l.runs l.backs.items) l.place l.ends;
-  joins : AreLeast (g.S.WordSource.says l.source).connection l.ends l.joins.found.items;
+  lattice : IsLatticeOf (g.S.WordSource.says l.source) (nodes_in (g.S.WordSource.says l.source) l.runs l.backs.items) l.self.start (words_before (g.S.WordSource.says l.source) l.self.surfaces.now l.number l.i);
+  ends : AreEnds (nodes_in (g.S.WordSource.says l.source) l.runs l.backs.items) l.self.start l.self.ends.now;
+  joins : AreLeast (g.S.WordSource.says l.source).connection l.self.ends.now l.joins.found.items;
 }
 
 abbrev pub decreases-loop-i : goal.decreases-loop-i

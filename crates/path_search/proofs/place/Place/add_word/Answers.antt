@@ -7,14 +7,14 @@ use Rattle.path_search.proofs.Choice.{all_followed, least_joins, small_join, sma
 use Rattle.path_search.proofs.EndsLemmas.{ends_past}
 use Rattle.path_search.proofs.Growth.{grows, word_goes_on, word_there}
 use Rattle.path_search.proofs.RunNodes.{nodes_push, rights_push}
-use Rattle.path_search.proofs.building.add_word.Goals as goal
+use Rattle.path_search.proofs.place.Place.add_word.Goals as goal
 
 pub join-requires-clause-totals : goal.join-requires-clause-totals
 join-requires-clause-totals g c =
     let t = g.S.WordSource.says c.args.source.now in
     let nodes = nodes_in t c.args.runs.now c.args.backs.now.items in
     let k = c.requires.lattice.0 in
-    small_totals t.words t.connection t.text_length c.requires.source.source nodes c.args.place (k + 1) c.args.place c.args.ends.now c.requires.source.short c.requires.lattice.2 c.requires.ends
+    small_totals t.words t.connection t.text_length c.requires.place.source.source nodes c.args.self.now.start (k + 1) c.args.self.now.start c.args.self.now.ends.now c.requires.place.source.short c.requires.lattice.2 c.requires.ends
 
 pub join-requires-clause-pairs : goal.join-requires-clause-pairs
 join-requires-clause-pairs g c =
@@ -22,9 +22,9 @@ join-requires-clause-pairs g c =
     let nodes = nodes_in t c.args.runs.now c.args.backs.now.items in
     let word = c.args.word.now in
     let k = c.requires.lattice.0 in
-    let there = word_there t.words t.connection t.text_length c.requires.source.source c.args.place k word c.requires.lattice.1 in
-    all_followed t.words t.connection t.text_length c.requires.source.source t.is_pair
-    nodes c.args.place (k + 1) c.args.place word.left c.args.ends.now (c.requires.source.word_follows c.args.place word there) c.requires.lattice.2 c.requires.ends
+    let there = word_there t.words t.connection t.text_length c.requires.place.source.source c.args.self.now.start k word c.requires.lattice.1 in
+    all_followed t.words t.connection t.text_length c.requires.place.source.source t.is_pair
+    nodes c.args.self.now.start (k + 1) c.args.self.now.start word.left c.args.self.now.ends.now (c.requires.place.source.word_follows c.args.self.now.start word there) c.requires.lattice.2 c.requires.ends
 
 pub after-requires : goal.after-requires
 after-requires g c =
@@ -33,8 +33,8 @@ after-requires g c =
     let word = c.args.word.now in
     let k = c.requires.lattice.0 in
     let found = c.in_ok-found.found in
-    let joins = least_joins t.words t.connection t.text_length c.requires.source.source nodes c.args.place (k + 1) c.args.place word.left c.args.ends.now found c.requires.lattice.2 (omega arith) c.requires.ends c.in_ok-found.ensures.join in
-    small_join t.words t.connection t.text_length c.requires.source.source nodes c.args.place word.left found c.requires.source.short c.requires.place joins
+    let joins = least_joins t.words t.connection t.text_length c.requires.place.source.source nodes c.args.self.now.start (k + 1) c.args.self.now.start word.left c.args.self.now.ends.now found c.requires.lattice.2 (omega arith) c.requires.ends c.in_ok-found.ensures.join in
+    small_join t.words t.connection t.text_length c.requires.place.source.source nodes c.args.self.now.start word.left found c.requires.place.source.short c.requires.place.within joins
 
 pub returns-clause-lattice : goal.returns-clause-lattice
 returns-clause-lattice g c =
@@ -44,13 +44,13 @@ returns-clause-lattice g c =
     let k = c.requires.lattice.0 in
     let found = c.in_ok-found.found in
     let words = node_words t.surface_words c.args.runs.now in
-    let joins = least_joins t.words t.connection t.text_length c.requires.source.source nodes c.args.place (k + 1) c.args.place word.left c.args.ends.now found c.requires.lattice.2 (omega arith) c.requires.ends c.in_ok-found.ensures.join in
+    let joins = least_joins t.words t.connection t.text_length c.requires.place.source.source nodes c.args.self.now.start (k + 1) c.args.self.now.start word.left c.args.self.now.ends.now found c.requires.lattice.2 (omega arith) c.requires.ends c.in_ok-found.ensures.join in
     let pushed : nodes_of words c.push.new.self.items ≡ nodes ++ node_of word found ∷ [] =
     ap (nodes_of words) c.in_ok-push.ensures.items ∙ nodes_push words c.args.backs.now.items word c.after.result c.requires.next ∙ ap (λ (x : Node). nodes ++ x ∷ []) c.after.ensures.node in (
       k,
       c.requires.lattice.1,
-      subst (λ (xs : List Node). IsLattice t.words t.connection xs c.args.place k) (sym pushed)
-          (grows t.words t.connection t.text_length c.requires.source.source nodes c.args.place k word found c.requires.lattice.1 joins c.requires.lattice.2),
+      subst (λ (xs : List Node). IsLattice t.words t.connection xs c.args.self.now.start k) (sym pushed)
+          (grows t.words t.connection t.text_length c.requires.place.source.source nodes c.args.self.now.start k word found c.requires.lattice.1 joins c.requires.lattice.2),
     )
 
 pub returns-clause-ends : goal.returns-clause-ends
@@ -63,8 +63,8 @@ returns-clause-ends g c =
     let words = node_words t.surface_words c.args.runs.now in
     let pushed : nodes_of words c.push.new.self.items ≡ nodes ++ node_of word found ∷ [] =
     ap (nodes_of words) c.in_ok-push.ensures.items ∙ nodes_push words c.args.backs.now.items word c.after.result c.requires.next ∙ ap (λ (x : Node). nodes ++ x ∷ []) c.after.ensures.node in
-    let on = word_goes_on t.words t.connection t.text_length c.requires.source.source c.args.place k word c.requires.lattice.1 in
-    subst (λ (xs : List Node). AreEnds xs c.args.place c.args.ends.now) (sym pushed) (ends_past nodes c.args.place c.args.ends.now (node_of word found) on c.requires.ends)
+    let on = word_goes_on t.words t.connection t.text_length c.requires.place.source.source c.args.self.now.start k word c.requires.lattice.1 in
+    subst (λ (xs : List Node). AreEnds xs c.args.self.now.start c.args.self.now.ends.now) (sym pushed) (ends_past nodes c.args.self.now.start c.args.self.now.ends.now (node_of word found) on c.requires.ends)
 
 pub returns-clause-rights : goal.returns-clause-rights
 returns-clause-rights g c =

@@ -1,0 +1,181 @@
+//! The words of a place, as they are added to the nodes.
+
+ghost use Rattle.std.specs.Prelude.{◌≡◌, ◌+◌, ◌<◌, ◌++◌, ◌∷◌, [], slice_set, slice_get, length, OnOk, Some};
+ghost use Rattle.path_search.specs.Ends.{AreEnds, AreLeast};
+ghost use Rattle.path_search.specs.Nodes.{HaveRights, node_words};
+ghost use Rattle.path_search.specs.Places.{IsLatticeFromSurface, IsPlaceOf};
+ghost use Rattle.path_search.specs.SearchedText.{AreAllKept, AreKeptIn, IsLatticeAfter, IsLatticeFrom, IsLatticeTo, NextAt, kept_nodes, nodes_in};
+
+use crate::joining::join;
+use crate::joins::Joins;
+use crate::node::{Backpointer, End, Run};
+use crate::nodes::Nodes;
+use crate::source::WordSource;
+use mj_model::Word;
+use paths::Surface;
+use std::alloc::AllocError;
+
+/// A place to which some chain leads, with the surfaces of its words and the ends of the chains to it. `start` is its byte offset.
+#[derive(Clone, Copy, Drop)]
+pub struct Place<'a> {
+    pub start: usize,
+    pub surfaces: &'a [Surface],
+    pub ends: &'a [End],
+}
+
+impl Place<'_> {
+    /// Adds the words of the place to the nodes, the last one first, each after the best chain to it.
+    pub fn add_surfaces<S: WordSource>(
+        &self,
+        source: &S,
+        nodes: &mut Nodes,
+        joins: &mut Joins,
+    ) -> Result<(), AllocError>
+        requires place { IsPlaceOf (S.says source.now) self.now }
+        requires kept { AreKeptIn (S.says source.now) nodes.old }
+        requires lattice { IsLatticeTo (S.says source.now)
+            (kept_nodes (S.says source.now) nodes.old) self.now.start }
+        requires ends { AreEnds (kept_nodes (S.says source.now) nodes.old)
+            self.now.start self.now.ends.now }
+        requires joins { AreLeast (S.says source.now).connection
+            self.now.ends.now joins.old.found.items }
+        ensures kept { OnOk result (AreKeptIn (S.says source.now) nodes.new) }
+        ensures lattice { OnOk result (IsLatticeTo (S.says source.now)
+            (kept_nodes (S.says source.now) nodes.new) (self.now.start + 1)) }
+    {
+        let mut number = self.surfaces.len();
+        while 0 < number {
+            number -= 1;
+            self.add_surface(source, nodes, number, joins)?;
+        }
+        Ok(())
+    }
+
+    /// The same of one surface, by its number.
+    fn add_surface<S: WordSource>(
+        &self,
+        source: &S,
+        nodes: &mut Nodes,
+        number: usize,
+        joins: &mut Joins,
+    ) -> Result<(), AllocError>
+        requires place { IsPlaceOf (S.says source.now) self.now }
+        requires number { number < length self.now.surfaces.now }
+        requires kept { AreKeptIn (S.says source.now) nodes.old }
+        requires lattice { IsLatticeFromSurface (S.says source.now)
+            (kept_nodes (S.says source.now) nodes.old) self.now (number + 1) }
+        requires ends { AreEnds (kept_nodes (S.says source.now) nodes.old)
+            self.now.start self.now.ends.now }
+        requires joins { AreLeast (S.says source.now).connection
+            self.now.ends.now joins.old.found.items }
+        ensures kept { OnOk result (AreKeptIn (S.says source.now) nodes.new) }
+        ensures lattice { OnOk result (IsLatticeFromSurface (S.says source.now)
+            (kept_nodes (S.says source.now) nodes.new) self.now number) }
+        ensures ends { OnOk result (AreEnds (kept_nodes (S.says source.now) nodes.new)
+            self.now.start self.now.ends.now) }
+        ensures joins { OnOk result (AreLeast (S.says source.now).connection
+            self.now.ends.now joins.new.found.items) }
+    {
+        let surface = self.surfaces[number];
+        let run = Run {
+            surface,
+            from: nodes.backs.len(),
+            next: nodes.heads[surface.end],
+        };
+        add_run(&mut nodes.runs, &mut nodes.heads, run)?;
+        self.add_words(source, &nodes.runs, &mut nodes.backs, number, joins)?;
+        Ok(())
+    }
+
+    /// Adds the nodes of the last run, whose surface has this number: those of its words, the last one first, each after the best chain
+    /// to it.
+    fn add_words<S: WordSource>(
+        &self,
+        source: &S,
+        runs: &[Run],
+        backs: &mut Vec<Backpointer>,
+        number: usize,
+        joins: &mut Joins,
+    ) -> Result<(), AllocError>
+        requires place { IsPlaceOf (S.says source.now) self.now }
+        requires number { number < length self.now.surfaces.now }
+        requires next { NextAt (S.says source.now) self.now.surfaces.now number
+            runs.now backs.old.items }
+        requires rights { HaveRights (node_words (S.says source.now).surface_words runs.now)
+            backs.old.items }
+        requires lattice { IsLatticeFromSurface (S.says source.now)
+            (nodes_in (S.says source.now) runs.now backs.old.items) self.now (number + 1) }
+        requires ends { AreEnds (nodes_in (S.says source.now) runs.now backs.old.items)
+            self.now.start self.now.ends.now }
+        requires joins { AreLeast (S.says source.now).connection
+            self.now.ends.now joins.old.found.items }
+        ensures all { OnOk result (AreAllKept (S.says source.now) runs.now backs.new.items) }
+        ensures rights { OnOk result
+            (HaveRights (node_words (S.says source.now).surface_words runs.now) backs.new.items) }
+        ensures lattice { OnOk result (IsLatticeFromSurface (S.says source.now)
+            (nodes_in (S.says source.now) runs.now backs.new.items) self.now number) }
+        ensures ends { OnOk result (AreEnds
+            (nodes_in (S.says source.now) runs.now backs.new.items)
+            self.now.start self.now.ends.now) }
+        ensures joins { OnOk result (AreLeast (S.says source.now).connection
+            self.now.ends.now joins.new.found.items) }
+    {
+        let surface = self.surfaces[number];
+        let mut i = surface.count;
+        while 0 < i {
+            i -= 1;
+            let word = source.word(&surface, i);
+            self.add_word(source, runs, backs, &word, joins)?;
+        }
+        Ok(())
+    }
+
+    /// Adds the node of a word, after the best chain to it.
+    fn add_word<S: WordSource>(
+        &self,
+        source: &S,
+        runs: &[Run],
+        backs: &mut Vec<Backpointer>,
+        word: &Word,
+        joins: &mut Joins,
+    ) -> Result<(), AllocError>
+        requires place { IsPlaceOf (S.says source.now) self.now }
+        requires next { slice_get (node_words (S.says source.now).surface_words runs.now)
+            (length backs.old.items) ≡ Some word.now }
+        requires rights { HaveRights (node_words (S.says source.now).surface_words runs.now)
+            backs.old.items }
+        requires lattice { IsLatticeAfter (S.says source.now)
+            (nodes_in (S.says source.now) runs.now backs.old.items) self.now.start word.now }
+        requires ends { AreEnds (nodes_in (S.says source.now) runs.now backs.old.items)
+            self.now.start self.now.ends.now }
+        requires joins { AreLeast (S.says source.now).connection
+            self.now.ends.now joins.old.found.items }
+        ensures one { OnOk result (length backs.new.items ≡ length backs.old.items + 1) }
+        ensures rights { OnOk result
+            (HaveRights (node_words (S.says source.now).surface_words runs.now) backs.new.items) }
+        ensures lattice { OnOk result (IsLatticeFrom (S.says source.now)
+            (nodes_in (S.says source.now) runs.now backs.new.items) self.now.start word.now) }
+        ensures ends { OnOk result (AreEnds
+            (nodes_in (S.says source.now) runs.now backs.new.items)
+            self.now.start self.now.ends.now) }
+        ensures joins { OnOk result (AreLeast (S.says source.now).connection
+            self.now.ends.now joins.new.found.items) }
+    {
+        let found = join(source, self.ends, joins, word.left)?;
+        backs.push(Backpointer::after(&found, word))?;
+        Ok(())
+    }
+}
+
+/// Adds a run, which becomes the head of the place where it ends.
+fn add_run(runs: &mut Vec<Run>, heads: &mut [usize], run: Run) -> Result<(), AllocError>
+    requires end { run.surface.end < length heads.old }
+    ensures runs { OnOk result (runs.new.items ≡ runs.old.items ++ run ∷ []) }
+    ensures heads { OnOk result
+        (heads.new ≡ slice_set heads.old run.surface.end (length runs.new.items)) }
+{
+    let end = run.surface.end;
+    runs.push(run)?;
+    heads[end] = runs.len();
+    Ok(())
+}
