@@ -16,10 +16,6 @@ pub sections_within : (bytes : List ℕ) → IsImage bytes → section_end (head
 unfolding IsImage
 sections_within bytes w = let total : total_length (header_of bytes) ≤ length bytes = w.1.1.1.0 in omega (arith, total)
 
--- the header lies in the bytes
-pub header_within : (bytes : List ℕ) → IsWellFormed bytes → header_length ≤ length bytes
-header_within bytes w = w.0
-
 -- the end of the sections of bytes that lie in memory is a number of 64 bits
 pub ends_fit : (bytes : List ℕ) → IsWellFormed bytes → length bytes < 2 ^ 64 → 2 ^ 64 ≤ section_end (header_of bytes) 8 → ⊥
 ends_fit bytes w few far = let within = sections_within bytes (from_formed bytes w) in omega (arith, within, few, far)

@@ -20,12 +20,12 @@ use Rattle.paths.specs.ChainsBack.{IsChainTo, last_right, cost_to, joined, Holds
 use Rattle.path_search.specs.Ends.{AreEnds, HasSmallTotal, IsFollowedBy, IsLeast, StandFor, bos_end, end_cost, end_of}
 use Rattle.paths.specs.declared.surface.Surface.{Surface}
 use Rattle.path_search.specs.declared.node.Backpointer.{Backpointer}
-use Rattle.path_search.specs.declared.node.Run.{Run}
-use Rattle.path_search.specs.Nodes.{AreRuns, IsLatest, Node, link_of, node_words, nodes_of, reached}
+use Rattle.path_search.specs.declared.node.Bundle.{Bundle}
+use Rattle.path_search.specs.Nodes.{AreBundles, IsLatest, Node, link_of, node_words, nodes_of, reached}
 use Rattle.path_search.specs.Lattice.{IsDone, IsLattice, IsJoin, NoChain, Traces}
 use Rattle.paths.specs.Searchable.{MayFollow}
 use Rattle.paths.proofs.ChainsBackLemmas.{best_empty, best_among}
-use Rattle.path_search.proofs.RunNodes.{run_node}
+use Rattle.path_search.proofs.BundleNodes.{bundle_node}
 
 -- BOS alone
 only_bos : (r : ℕ) (e : End) → slice_get (bos_end ∷ []) r ≡ Some e → bos_end ≡ e
@@ -209,9 +209,9 @@ some_bos nodes ends place start (inl bos) = let e = ap length bos.1 in omega (ar
 some_bos nodes ends place start (inr (above, h)) = absurd (omega (arith, start, above))
 
 -- so there are at a place that some chain reaches
-pub some_reached : (f : Surface → List Word) (runs : List Run) (backs : List Backpointer) (place bound head : ℕ) (ends : List End) → AreRuns f runs → length backs ≡ length (node_words f runs)
-    → reached place head ≡ true → IsLatest runs place bound (link_of head) → AreEnds (nodes_of (node_words f runs) backs) place ends → 0 < length ends
-some_reached f runs backs place bound zero ends runs_are all it_is latest are = some_bos (nodes_of (node_words f runs) backs) ends place (eqb-true place 0 it_is) are
-some_reached f runs backs place bound (suc i) ends runs_are all it_is latest are =
-    let node = run_node f runs runs_are backs all i latest.1.0 latest.1.1 in
-    some_end (nodes_of (node_words f runs) backs) place latest.1.0.from node.0 ends node.1 (node.2 ∙ latest.1.2) are
+pub some_reached : (f : Surface → List Word) (bundles : List Bundle) (backs : List Backpointer) (place bound head : ℕ) (ends : List End) → AreBundles f bundles → length backs ≡ length (node_words f bundles)
+    → reached place head ≡ true → IsLatest bundles place bound (link_of head) → AreEnds (nodes_of (node_words f bundles) backs) place ends → 0 < length ends
+some_reached f bundles backs place bound zero ends bundles_are all it_is latest are = some_bos (nodes_of (node_words f bundles) backs) ends place (eqb-true place 0 it_is) are
+some_reached f bundles backs place bound (suc i) ends bundles_are all it_is latest are =
+    let node = bundle_node f bundles bundles_are backs all i latest.1.0 latest.1.1 in
+    some_end (nodes_of (node_words f bundles) backs) place latest.1.0.from node.0 ends node.1 (node.2 ∙ latest.1.2) are

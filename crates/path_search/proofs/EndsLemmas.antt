@@ -1,4 +1,4 @@
--- The ends of a place, gathered along its runs, and with one more node.
+-- The ends of a place, gathered along its bundles, and with one more node.
 use Rattle.std.proofs.Common.{◌≡◌, ℕ, ◌+◌, ◌<◌, ◌≤◌, List, [], ◌∷◌, ◌++◌, Some, None, Option, length, get_or, suc, inl, inr, sym, ap, ◌∙◌, subst, arith, slice_get}
 use Rattle.std.proofs.lemmas.Bool.{cases_lt}
 use Rattle.std.proofs.lemmas.List.{take_all}
@@ -7,33 +7,33 @@ use Rattle.mj_model.specs.declared.word.Word.{Word}
 use Rattle.paths.specs.declared.surface.Surface.{Surface}
 use Rattle.path_search.specs.declared.node.Backpointer.{Backpointer}
 use Rattle.path_search.specs.declared.node.End.{End}
-use Rattle.path_search.specs.declared.node.Run.{Run}
-use Rattle.path_search.specs.Nodes.{AreRuns, IsLatest, LinksAreLatest, Node, link_of, node_words, nodes_of}
+use Rattle.path_search.specs.declared.node.Bundle.{Bundle}
+use Rattle.path_search.specs.Nodes.{AreBundles, IsLatest, LinksAreLatest, Node, link_of, node_words, nodes_of}
 use Rattle.path_search.specs.Lattice.{IsBelow}
 use Rattle.path_search.specs.Ends.{AreEnds, IsNodeEnd, StandFor, end_of}
 use Rattle.path_search.proofs.Pushed.{get_push_old, get_push_new, get_push_cases}
-use Rattle.path_search.proofs.RunNodes.{next_run, node_run, nodes_length, start, starts_rise}
+use Rattle.path_search.proofs.BundleNodes.{next_bundle, node_bundle, nodes_length, start, starts_rise}
 
 -- how far a link is from the beginning
 abbrev pub link_size : Option ℕ → ℕ
 link_size None = 0
 link_size (Some i) = suc i
 
-latest_below : (runs : List Run) (place before : ℕ) (link : Option ℕ) → IsLatest runs place before link → link_size link ≤ before
-latest_below runs place before None h = omega arith
-latest_below runs place before (Some i) h = let l = h.0 in omega (arith, l)
+latest_below : (bundles : List Bundle) (place before : ℕ) (link : Option ℕ) → IsLatest bundles place before link → link_size link ≤ before
+latest_below bundles place before None h = omega arith
+latest_below bundles place before (Some i) h = let l = h.0 in omega (arith, l)
 
 -- links lead back
-pub next_smaller : (runs : List Run) (i : ℕ) (d : Run) → LinksAreLatest runs → i < length runs → link_size (link_of (get_or runs i d).next) < suc i
-next_smaller runs i d links within =
-    let n = get_or runs i d in
-    let l = latest_below runs n.surface.end i (link_of n.next) (links i n (slice_get-get_or runs i d within)) in
+pub next_smaller : (bundles : List Bundle) (i : ℕ) (d : Bundle) → LinksAreLatest bundles → i < length bundles → link_size (link_of (get_or bundles i d).next) < suc i
+next_smaller bundles i d links within =
+    let n = get_or bundles i d in
+    let l = latest_below bundles n.surface.end i (link_of n.next) (links i n (slice_get-get_or bundles i d within)) in
     omega (arith, l)
 
--- a link leads to one of the runs
-pub latest_is_there : (runs : List Run) (place before : ℕ) (link : Option ℕ) → IsLatest runs place before link → IsBelow link (length runs)
-latest_is_there runs place before None h = tt
-latest_is_there runs place before (Some i) h = slice_get_within runs i h.1.0 h.1.1
+-- a link leads to one of the bundles
+pub latest_is_there : (bundles : List Bundle) (place before : ℕ) (link : Option ℕ) → IsLatest bundles place before link → IsBelow link (length bundles)
+latest_is_there bundles place before None h = tt
+latest_is_there bundles place before (Some i) h = slice_get_within bundles i h.1.0 h.1.1
 
 module _ (nodes : List Node) (place : ℕ) where
   none_yet : (ends : List End) → ends ≡ [] → StandFor nodes place (length nodes) ends
@@ -122,80 +122,80 @@ module _ (nodes : List Node) (place : ℕ) where
   ends_past ends y behind (inl bos) = inl bos
   ends_past ends y behind (inr (above, h)) = inr (above, stand_past ends y (λ e. omega (arith, e)) h)
 
--- ---- the walk along runs
+-- ---- the walk along bundles
 
--- the ends so far, which are those of the nodes of the runs from a number on, and where the next link leads
-pub record Gathered (f : Surface → List Word) (runs : List Run) (backs : List Backpointer) (place : ℕ) (ends : List End) (link : Option ℕ) : Type 0 where
+-- the ends so far, which are those of the nodes of the bundles from a number on, and where the next link leads
+pub record Gathered (f : Surface → List Word) (bundles : List Bundle) (backs : List Backpointer) (place : ℕ) (ends : List End) (link : Option ℕ) : Type 0 where
   pub from : ℕ
-  pub latest : IsLatest runs place from link
-  pub stand : StandFor (nodes_of (node_words f runs) backs) place (start f runs from) ends
+  pub latest : IsLatest bundles place from link
+  pub stand : StandFor (nodes_of (node_words f bundles) backs) place (start f bundles from) ends
 
-module _ (f : Surface → List Word) (runs : List Run) (are : AreRuns f runs) (backs : List Backpointer) (all : length backs ≡ length (node_words f runs)) (place : ℕ) where
+module _ (f : Surface → List Word) (bundles : List Bundle) (are : AreBundles f bundles) (backs : List Backpointer) (all : length backs ≡ length (node_words f bundles)) (place : ℕ) where
   abbrev nodes : List Node
-  nodes = nodes_of (node_words f runs) backs
+  nodes = nodes_of (node_words f bundles) backs
 
   abbrev Walk : List End → Option ℕ → Type 0
-  Walk ends link = Gathered f runs backs place ends link
+  Walk ends link = Gathered f bundles backs place ends link
 
-  pub walk_starts : (ends : List End) (head : Option ℕ) → ends ≡ [] → IsLatest runs place (length runs) head → Walk ends head
+  pub walk_starts : (ends : List End) (head : Option ℕ) → ends ≡ [] → IsLatest bundles place (length bundles) head → Walk ends head
   walk_starts ends head e latest =
-      let long = nodes_length (node_words f runs) backs (omega (arith, all)) in
-      let last = ap (λ (rs : List Run). length (node_words f rs)) (take_all (length runs) runs (omega arith)) in
-      let same : length nodes ≡ start f runs (length runs) = omega (arith, long, last, all) in
-      record { from = length runs; latest = latest; stand = subst (λ (n : ℕ). StandFor nodes place n ends) same (none_yet nodes place ends e) }
+      let long = nodes_length (node_words f bundles) backs (omega (arith, all)) in
+      let last = ap (λ (rs : List Bundle). length (node_words f rs)) (take_all (length bundles) bundles (omega arith)) in
+      let same : length nodes ≡ start f bundles (length bundles) = omega (arith, long, last, all) in
+      record { from = length bundles; latest = latest; stand = subst (λ (n : ℕ). StandFor nodes place n ends) same (none_yet nodes place ends e) }
 
-  -- no node between belongs to a run that ends at the place
-  none_between : (low from : ℕ) → ((q : ℕ) (run : Run) → low ≤ q → q < from → slice_get runs q ≡ Some run → run.surface.end ≡ place → ⊥)
-      → (k : ℕ) (m : Node) → start f runs low ≤ k → k < start f runs from → slice_get nodes k ≡ Some m → m.word.end ≡ place → ⊥
+  -- no node between belongs to a bundle that ends at the place
+  none_between : (low from : ℕ) → ((q : ℕ) (bundle : Bundle) → low ≤ q → q < from → slice_get bundles q ≡ Some bundle → bundle.surface.end ≡ place → ⊥)
+      → (k : ℕ) (m : Node) → start f bundles low ≤ k → k < start f bundles from → slice_get nodes k ≡ Some m → m.word.end ≡ place → ⊥
   none_between low from none k m above below at there =
-      let q = node_run f runs are backs all k m at in
+      let q = node_bundle f bundles are backs all k m at in
       let h = q.1 in
-      let first = are.from q.0 h.run h.here in
-      let next = next_run f runs are q.0 h.run h.here in
+      let first = are.from q.0 h.bundle h.here in
+      let next = next_bundle f bundles are q.0 h.bundle h.here in
       let lower = h.from in
       let upper = h.within in
       elim (cases_lt q.0 low) [
-        | inl less ↦ let rise = starts_rise f runs (q.0 + 1) low (omega (arith, less)) in absurd (omega (arith, rise, next, upper, above))
+        | inl less ↦ let rise = starts_rise f bundles (q.0 + 1) low (omega (arith, less)) in absurd (omega (arith, rise, next, upper, above))
         | inr more ↦ elim (cases_lt q.0 from) [
-          | inl within ↦ none q.0 h.run more within h.here (sym q.2 ∙ there)
-          | inr after ↦ let rise = starts_rise f runs from q.0 after in absurd (omega (arith, rise, first, lower, below))
+          | inl within ↦ none q.0 h.bundle more within h.here (sym q.2 ∙ there)
+          | inr after ↦ let rise = starts_rise f bundles from q.0 after in absurd (omega (arith, rise, first, lower, below))
         ]
       ]
 
-  -- the ends so far are those from after the next run on
-  pub before_turn : (ends : List End) (i : ℕ) (run : Run) → slice_get runs i ≡ Some run → Walk ends (Some i) → StandFor nodes place (run.from + run.surface.count) ends
-  before_turn ends i run at w =
+  -- the ends so far are those from after the next bundle on
+  pub before_turn : (ends : List End) (i : ℕ) (bundle : Bundle) → slice_get bundles i ≡ Some bundle → Walk ends (Some i) → StandFor nodes place (bundle.from + bundle.surface.count) ends
+  before_turn ends i bundle at w =
       let l = w.latest in
-      let next = next_run f runs are i run at in
-      let rise = starts_rise f runs (i + 1) w.from (let less = l.0 in omega (arith, less)) in
+      let next = next_bundle f bundles are i bundle at in
+      let rise = starts_rise f bundles (i + 1) w.from (let less = l.0 in omega (arith, less)) in
       subst (λ (n : ℕ). StandFor nodes place n ends) next
-      (stand_lower nodes place ends (start f runs (i + 1)) (start f runs w.from) rise (none_between (i + 1) w.from (λ q r more less. l.2 q r (omega (arith, more)) less)) w.stand)
+      (stand_lower nodes place ends (start f bundles (i + 1)) (start f bundles w.from) rise (none_between (i + 1) w.from (λ q r more less. l.2 q r (omega (arith, more)) less)) w.stand)
 
   -- and with its own it is passed
-  pub after_turn : (ends after : List End) (i : ℕ) (run : Run) → LinksAreLatest runs → slice_get runs i ≡ Some run → Walk ends (Some i) → StandFor nodes place run.from after → Walk after (link_of run.next)
-  after_turn ends after i run links at w stand =
+  pub after_turn : (ends after : List End) (i : ℕ) (bundle : Bundle) → LinksAreLatest bundles → slice_get bundles i ≡ Some bundle → Walk ends (Some i) → StandFor nodes place bundle.from after → Walk after (link_of bundle.next)
+  after_turn ends after i bundle links at w stand =
       let l = w.latest in
-      let there : run.surface.end ≡ place = ap (λ (r : Run). r.surface.end) (same_Some run l.1.0 (sym at ∙ l.1.1)) ∙ l.1.2 in
+      let there : bundle.surface.end ≡ place = ap (λ (r : Bundle). r.surface.end) (same_Some bundle l.1.0 (sym at ∙ l.1.1)) ∙ l.1.2 in
       record {
         from = i;
-        latest = subst (λ (p : ℕ). IsLatest runs p i (link_of run.next)) there (links i run at);
-        stand = subst (λ (n : ℕ). StandFor nodes place n after) (are.from i run at) stand;
+        latest = subst (λ (p : ℕ). IsLatest bundles p i (link_of bundle.next)) there (links i bundle at);
+        stand = subst (λ (n : ℕ). StandFor nodes place n after) (are.from i bundle at) stand;
       }
 
-  -- the next run ends at the place
-  pub ends_here : (ends : List End) (i : ℕ) (run : Run) → slice_get runs i ≡ Some run → Walk ends (Some i) → run.surface.end ≡ place
-  ends_here ends i run at w = let l = w.latest in ap (λ (r : Run). r.surface.end) (same_Some run l.1.0 (sym at ∙ l.1.1)) ∙ l.1.2
+  -- the next bundle ends at the place
+  pub ends_here : (ends : List End) (i : ℕ) (bundle : Bundle) → slice_get bundles i ≡ Some bundle → Walk ends (Some i) → bundle.surface.end ≡ place
+  ends_here ends i bundle at w = let l = w.latest in ap (λ (r : Bundle). r.surface.end) (same_Some bundle l.1.0 (sym at ∙ l.1.1)) ∙ l.1.2
 
-  pub below_there : (ends : List End) (link : Option ℕ) → Walk ends link → IsBelow link (length runs)
-  below_there ends link w = latest_is_there runs place w.from link w.latest
+  pub below_there : (ends : List End) (link : Option ℕ) → Walk ends link → IsBelow link (length bundles)
+  below_there ends link w = latest_is_there bundles place w.from link w.latest
 
-  pub run_there : (ends : List End) (link : Option ℕ) (i : ℕ) → link ≡ Some i → Walk ends link → i < length runs
-  run_there ends link i is w = subst (λ (o : Option ℕ). IsBelow o (length runs)) is (below_there ends link w)
+  pub bundle_there : (ends : List End) (link : Option ℕ) (i : ℕ) → link ≡ Some i → Walk ends link → i < length bundles
+  bundle_there ends link i is w = subst (λ (o : Option ℕ). IsBelow o (length bundles)) is (below_there ends link w)
 
   pub gathered_at : (ends : List End) (link other : Option ℕ) → link ≡ other → Walk ends link → Walk ends other
   gathered_at ends link other is w = subst (λ (o : Option ℕ). Walk ends o) is w
 
   pub walk_ends : (ends : List End) (link : Option ℕ) → link ≡ None → Walk ends link → StandFor nodes place 0 ends
   walk_ends ends link is w =
-      let none = subst (λ (o : Option ℕ). IsLatest runs place w.from o) is w.latest in
-      stand_lower nodes place ends 0 (start f runs w.from) (omega arith) (none_between 0 w.from (λ q r more less. none q r less)) w.stand
+      let none = subst (λ (o : Option ℕ). IsLatest bundles place w.from o) is w.latest in
+      stand_lower nodes place ends 0 (start f bundles w.from) (omega arith) (none_between 0 w.from (λ q r more less. none q r less)) w.stand

@@ -9,8 +9,8 @@ use Rattle.path_search.specs.declared.node.Join.{Join}
 use Rattle.path_search.specs.Ends.{AreEnds}
 use Rattle.paths.specs.declared.surface.Surface.{Surface}
 use Rattle.path_search.specs.declared.node.Backpointer.{Backpointer}
-use Rattle.path_search.specs.declared.node.Run.{Run}
-use Rattle.path_search.specs.Nodes.{AreLinked, AreRuns, IsLastHead, IsLatest, Node, link_of, node_words, nodes_of}
+use Rattle.path_search.specs.declared.node.Bundle.{Bundle}
+use Rattle.path_search.specs.Nodes.{AreLinked, AreBundles, IsLastHead, IsLatest, Node, link_of, node_words, nodes_of}
 use Rattle.paths.specs.Best.{IsSource, IsBestPath}
 use Rattle.paths.specs.Cost.{path_cost}
 use Rattle.paths.specs.ChainsBack.{IsChainTo, joined}
@@ -19,7 +19,7 @@ use Rattle.std.proofs.lemmas.List.{reverse-reverse}
 use Rattle.paths.proofs.ChainsBackLemmas.{best_path_from, cost_reversed}
 use Rattle.path_search.proofs.Choice.{some_bos, some_end}
 use Rattle.path_search.proofs.Links.{below_all, traced_same}
-use Rattle.path_search.proofs.RunNodes.{node_run, run_node}
+use Rattle.path_search.proofs.BundleNodes.{node_bundle, bundle_node}
 
 module _ (words : ℕ → List Word) (conn : ℕ → ℕ → ℤ) (len : ℕ) (source : IsSource words conn len) where
   abbrev pub Lattice : List Node → ℕ → ℕ → Type 0
@@ -33,9 +33,9 @@ module _ (words : ℕ → List Word) (conn : ℕ → ℕ → ℤ) (len : ℕ) (s
       l.complete w ws (refl, c.1, c.2) (inl (omega (arith, go, end)))
 
   -- where the last head is, the last node ends
-  pub last_is : (f : Surface → List Word) (runs : List Run) (backs : List Backpointer) (heads : List ℕ) (k last : ℕ) → IsLattice words conn (nodes_of (node_words f runs) backs) len k → AreRuns f runs → length backs ≡ length (node_words f runs)
-      → AreLinked runs heads → length heads ≡ len + 1 → IsLastHead heads last → IsLastEnd (nodes_of (node_words f runs) backs) last
-  last_is f runs backs heads k last l are all linked long is = record {
+  pub last_is : (f : Surface → List Word) (bundles : List Bundle) (backs : List Backpointer) (heads : List ℕ) (k last : ℕ) → IsLattice words conn (nodes_of (node_words f bundles) backs) len k → AreBundles f bundles → length backs ≡ length (node_words f bundles)
+      → AreLinked bundles heads → length heads ≡ len + 1 → IsLastHead heads last → IsLastEnd (nodes_of (node_words f bundles) backs) last
+  last_is f bundles backs heads k last l are all linked long is = record {
     each = λ i m at. elim (cases_lt last m.word.end) [
       | inl less ↦
           let b = l.best i m at in
@@ -43,15 +43,15 @@ module _ (words : ℕ → List Word) (conn : ℕ → ℕ → ℤ) (len : ℕ) (s
           let within : m.word.end < length heads = omega (arith, low, long) in
           let here = slice_get-get_or heads m.word.end 0 within in
           let none = is.none_later m.word.end (get_or heads m.word.end 0) (omega arith) here in
-          let q = node_run f runs are backs all i m at in
-          absurd (subst (λ (h : ℕ). IsLatest runs m.word.end (length runs) (link_of h)) none (linked.heads_latest m.word.end (get_or heads m.word.end 0) here) q.0 q.1.run (slice_get_within runs q.0 q.1.run q.1.here) q.1.here (sym q.2))
+          let q = node_bundle f bundles are backs all i m at in
+          absurd (subst (λ (h : ℕ). IsLatest bundles m.word.end (length bundles) (link_of h)) none (linked.heads_latest m.word.end (get_or heads m.word.end 0) here) q.0 q.1.bundle (slice_get_within bundles q.0 q.1.bundle q.1.here) q.1.here (sym q.2))
       | inr more ↦ more
     ];
     reached = elim is.reached [
       | inl start ↦ inl start
       | inr at ↦
           let latest = linked.heads_latest last (suc at.0) at.1 in
-          let node = run_node f runs are backs all at.0 latest.1.0 latest.1.1 in
+          let node = bundle_node f bundles are backs all at.0 latest.1.0 latest.1.1 in
           inr (latest.1.0.from, node.0, node.1, node.2 ∙ latest.1.2)
     ];
   }

@@ -10,14 +10,14 @@ use Rattle.paths.specs.Best.{IsSource}
 use Rattle.paths.specs.ChainsBack.{IsChainTo, IsBestTo}
 use Rattle.paths.specs.declared.surface.Surface.{Surface}
 use Rattle.path_search.specs.declared.node.Backpointer.{Backpointer}
-use Rattle.path_search.specs.declared.node.Run.{Run}
-use Rattle.path_search.specs.Nodes.{AreLinked, AreRuns, Node, link_of, node_words, nodes_of, reached}
+use Rattle.path_search.specs.declared.node.Bundle.{Bundle}
+use Rattle.path_search.specs.Nodes.{AreLinked, AreBundles, Node, link_of, node_words, nodes_of, reached}
 use Rattle.path_search.specs.Lattice.{IsBestNode, IsDone, IsLattice, IsJoin, NoChain, node_of}
 use Rattle.paths.specs.Searchable.{StaysOnPlaces}
 use Rattle.path_search.proofs.Pushed.{get_push_old, get_push_new, get_push_cases, get_from_Contains, Contains_from_get}
 use Rattle.path_search.proofs.Links.{traces_push, below_all}
 use Rattle.path_search.proofs.Choice.{none_leads}
-use Rattle.path_search.proofs.RunNodes.{node_run, run_node}
+use Rattle.path_search.proofs.BundleNodes.{node_bundle, bundle_node}
 
 module _ (words : ℕ → List Word) (conn : ℕ → ℕ → ℤ) (len : ℕ) (source : IsSource words conn len) where
   abbrev pub Lattice : List Node → ℕ → ℕ → Type 0
@@ -139,12 +139,12 @@ module _ (words : ℕ → List Word) (conn : ℕ → ℕ → ℤ) (len : ℕ) (s
   -- ---- places that some chain reaches
 
   -- a place with a head is where some word ends, or the beginning
-  pub reached_place : (is_place : ℕ → Type 0) (f : Surface → List Word) (runs : List Run) (backs : List Backpointer) (heads : List ℕ) (p k place head : ℕ) → StaysOnPlaces is_place words → AreRuns f runs → length backs ≡ length (node_words f runs)
-      → Lattice (nodes_of (node_words f runs) backs) p k → AreLinked runs heads → slice_get heads place ≡ Some head → reached place head ≡ true → is_place place
-  reached_place is_place f runs backs heads p k place zero stays are all l linked at yes_it_is = subst is_place (sym (eqb-true place 0 yes_it_is)) stays.begins
-  reached_place is_place f runs backs heads p k place (suc i) stays are all l linked at yes_it_is =
+  pub reached_place : (is_place : ℕ → Type 0) (f : Surface → List Word) (bundles : List Bundle) (backs : List Backpointer) (heads : List ℕ) (p k place head : ℕ) → StaysOnPlaces is_place words → AreBundles f bundles → length backs ≡ length (node_words f bundles)
+      → Lattice (nodes_of (node_words f bundles) backs) p k → AreLinked bundles heads → slice_get heads place ≡ Some head → reached place head ≡ true → is_place place
+  reached_place is_place f bundles backs heads p k place zero stays are all l linked at yes_it_is = subst is_place (sym (eqb-true place 0 yes_it_is)) stays.begins
+  reached_place is_place f bundles backs heads p k place (suc i) stays are all l linked at yes_it_is =
       let latest = linked.heads_latest place (suc i) at in
-      let node = run_node f runs are backs all i latest.1.0 latest.1.1 in
+      let node = bundle_node f bundles are backs all i latest.1.0 latest.1.1 in
       let b = l.best latest.1.0.from node.0 node.1 in
       subst is_place (node.2 ∙ latest.1.2) (stays.word_ends_there node.0.word.place node.0.word b.is_word)
 
@@ -166,13 +166,13 @@ module _ (words : ℕ → List Word) (conn : ℕ → ℕ → ℤ) (len : ℕ) (s
   }
 
   -- a place without a head is passed over
-  pub not_reached : (f : Surface → List Word) (runs : List Run) (backs : List Backpointer) (heads : List ℕ) (p head : ℕ) → AreRuns f runs → length backs ≡ length (node_words f runs)
-      → Lattice (nodes_of (node_words f runs) backs) p (length (words p)) → AreLinked runs heads → slice_get heads p ≡ Some head → reached p head ≡ false → Lattice (nodes_of (node_words f runs) backs) (p + 1) (length (words (p + 1)))
-  not_reached f runs backs heads p (suc i) are all l linked at it_is_not = absurd (cc)
-  not_reached f runs backs heads p zero are all l linked at it_is_not =
-      let nodes = nodes_of (node_words f runs) backs in
+  pub not_reached : (f : Surface → List Word) (bundles : List Bundle) (backs : List Backpointer) (heads : List ℕ) (p head : ℕ) → AreBundles f bundles → length backs ≡ length (node_words f bundles)
+      → Lattice (nodes_of (node_words f bundles) backs) p (length (words p)) → AreLinked bundles heads → slice_get heads p ≡ Some head → reached p head ≡ false → Lattice (nodes_of (node_words f bundles) backs) (p + 1) (length (words (p + 1)))
+  not_reached f bundles backs heads p (suc i) are all l linked at it_is_not = absurd (cc)
+  not_reached f bundles backs heads p zero are all l linked at it_is_not =
+      let nodes = nodes_of (node_words f bundles) backs in
       let above : 0 < p = let n = eqb-false p 0 it_is_not in omega (arith, n) in
       let latest = linked.heads_latest p 0 at in
       passes nodes p (none_leads words conn len source nodes p (length (words p)) p l (omega arith) above (λ k m here there.
-      let q = node_run f runs are backs all k m here in
-      latest q.0 q.1.run (slice_get_within runs q.0 q.1.run q.1.here) q.1.here (sym q.2 ∙ there))) l
+      let q = node_bundle f bundles are backs all k m here in
+      latest q.0 q.1.bundle (slice_get_within bundles q.0 q.1.bundle q.1.here) q.1.here (sym q.2 ∙ there))) l

@@ -1,6 +1,6 @@
 pub mod Pushed
 pub mod WordNumbers
-pub mod RunNodes
+pub mod BundleNodes
 pub mod EndsLemmas
 pub mod Least
 pub mod Links

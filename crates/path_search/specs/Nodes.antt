@@ -1,9 +1,9 @@
--- Nodes, as they are kept: runs, one for each surface of a place, with links from one to the next that ends where it ends.
+-- Nodes, as they are kept: bundles, one for each surface of a place, with links from one to the next that ends where it ends.
 use Rattle.std.specs.Prelude.{◌≡◌, ℕ, zero, suc, ℤ, ◌+◌, ◌<◌, ◌≤◌, ◌⊎◌, List, [], ◌∷◌, slice_get, Option, Some, None, Bool, true, length, nat_eq, take, reverse, flat_map}
 use Rattle.mj_model.specs.declared.word.Word.{Word}
 use Rattle.paths.specs.declared.surface.Surface.{Surface}
 use Rattle.paths.specs.Surfaces.{IsWhole}
-use Rattle.path_search.specs.declared.node.Run.{Run}
+use Rattle.path_search.specs.declared.node.Bundle.{Bundle}
 use Rattle.path_search.specs.declared.node.Backpointer.{Backpointer}
 
 -- a node: a word, the cost of the best chain up to and with it, and the number of the node before it in that chain
@@ -31,42 +31,42 @@ nodes_of (w ∷ ws) (b ∷ bs) = kept_node w b ∷ nodes_of ws bs
 abbrev pub HaveRights : List Word → List Backpointer → Type 0
 HaveRights ws bs = (i : ℕ) (w : Word) (b : Backpointer) → slice_get ws i ≡ Some w → slice_get bs i ≡ Some b → b.right ≡ w.right
 
--- the words of a run, the last one of its surface first
-abbrev pub run_words : (Surface → List Word) → Run → List Word
-run_words words_of run = reverse (words_of run.surface)
+-- the words of a bundle, the last one of its surface first
+abbrev pub bundle_words : (Surface → List Word) → Bundle → List Word
+bundle_words words_of bundle = reverse (words_of bundle.surface)
 
--- the words of one run after another
-abbrev pub node_words : (Surface → List Word) → List Run → List Word
-node_words words_of runs = flat_map (run_words words_of) runs
+-- the words of one bundle after another
+abbrev pub node_words : (Surface → List Word) → List Bundle → List Word
+node_words words_of bundles = flat_map (bundle_words words_of) bundles
 
--- the surfaces of runs have the words that they say, and the nodes of each run follow those of the runs before it
-pub record AreRuns (words_of : Surface → List Word) (runs : List Run) : Type 0 where
-  pub whole : (number : ℕ) (run : Run) → slice_get runs number ≡ Some run → IsWhole words_of run.surface
-  pub from : (number : ℕ) (run : Run) → slice_get runs number ≡ Some run → run.from ≡ length (node_words words_of (take number runs))
+-- the surfaces of bundles have the words that they say, and the nodes of each bundle follow those of the bundles before it
+pub record AreBundles (words_of : Surface → List Word) (bundles : List Bundle) : Type 0 where
+  pub whole : (number : ℕ) (bundle : Bundle) → slice_get bundles number ≡ Some bundle → IsWhole words_of bundle.surface
+  pub from : (number : ℕ) (bundle : Bundle) → slice_get bundles number ≡ Some bundle → bundle.from ≡ length (node_words words_of (take number bundles))
 
--- the run with this number has the node
-pub record HasNode (runs : List Run) (number node : ℕ) : Type 0 where
-  pub run : Run
-  pub here : slice_get runs number ≡ Some run
-  pub from : run.from ≤ node
-  pub within : node < run.from + run.surface.count
+-- the bundle with this number has the node
+pub record HasNode (bundles : List Bundle) (number node : ℕ) : Type 0 where
+  pub bundle : Bundle
+  pub here : slice_get bundles number ≡ Some bundle
+  pub from : bundle.from ≤ node
+  pub within : node < bundle.from + bundle.surface.count
 
--- the link leads to the latest run before a number that ends at the place, if any does
-abbrev pub IsLatest : List Run → ℕ → ℕ → Option ℕ → Type 0
-IsLatest runs place before None = (k : ℕ) (m : Run) → k < before → slice_get runs k ≡ Some m → m.surface.end ≡ place → ⊥
-IsLatest runs place before (Some i) =
+-- the link leads to the latest bundle before a number that ends at the place, if any does
+abbrev pub IsLatest : List Bundle → ℕ → ℕ → Option ℕ → Type 0
+IsLatest bundles place before None = (k : ℕ) (m : Bundle) → k < before → slice_get bundles k ≡ Some m → m.surface.end ≡ place → ⊥
+IsLatest bundles place before (Some i) =
     (i < before)
-    × ((n : Run) × (slice_get runs i ≡ Some n) × (n.surface.end ≡ place))
-    × ((k : ℕ) (m : Run) → i < k → k < before → slice_get runs k ≡ Some m → m.surface.end ≡ place → ⊥)
+    × ((n : Bundle) × (slice_get bundles i ≡ Some n) × (n.surface.end ≡ place))
+    × ((k : ℕ) (m : Bundle) → i < k → k < before → slice_get bundles k ≡ Some m → m.surface.end ≡ place → ⊥)
 
--- each run's link leads to the latest run before it that ends where it ends
-abbrev pub LinksAreLatest : List Run → Type 0
-LinksAreLatest runs = (i : ℕ) (n : Run) → slice_get runs i ≡ Some n → IsLatest runs n.surface.end i (link_of n.next)
+-- each bundle's link leads to the latest bundle before it that ends where it ends
+abbrev pub LinksAreLatest : List Bundle → Type 0
+LinksAreLatest bundles = (i : ℕ) (n : Bundle) → slice_get bundles i ≡ Some n → IsLatest bundles n.surface.end i (link_of n.next)
 
--- each run's link, and the head of each place, lead to the latest run that ends there
-pub record AreLinked (runs : List Run) (heads : List ℕ) : Type 0 where
-  pub links : LinksAreLatest runs
-  pub heads_latest : (place head : ℕ) → slice_get heads place ≡ Some head → IsLatest runs place (length runs) (link_of head)
+-- each bundle's link, and the head of each place, lead to the latest bundle that ends there
+pub record AreLinked (bundles : List Bundle) (heads : List ℕ) : Type 0 where
+  pub links : LinksAreLatest bundles
+  pub heads_latest : (place head : ℕ) → slice_get heads place ≡ Some head → IsLatest bundles place (length bundles) (link_of head)
 
 -- some chain leads to a place with this head
 abbrev pub reached : ℕ → ℕ → Bool

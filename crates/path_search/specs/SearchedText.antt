@@ -9,13 +9,13 @@ use Rattle.paths.specs.declared.blank_run.BlankRun.{BlankRun}
 use Rattle.paths.specs.declared.surface.Surface.{Surface}
 use Rattle.paths.specs.Surfaces.{AreSurfacesOf}
 use Rattle.path_search.specs.declared.nodes.Nodes.{Nodes}
-use Rattle.path_search.specs.declared.node.Run.{Run}
+use Rattle.path_search.specs.declared.node.Bundle.{Bundle}
 use Rattle.path_search.specs.declared.node.Backpointer.{Backpointer}
-use Rattle.path_search.specs.Nodes.{AreLinked, AreRuns, HaveRights, Node, node_words, nodes_of}
+use Rattle.path_search.specs.Nodes.{AreLinked, AreBundles, HaveRights, Node, node_words, nodes_of}
 use Rattle.path_search.specs.Lattice.{IsLattice}
 
 -- a text's length in bytes, the words of each place in their order, the words of a surface, the connection cost of a right id and the
--- next word's left id, where a character begins or the text ends, which ids lie within the connection table's sizes, and what is a run
+-- next word's left id, where a character begins or the text ends, which ids lie within the connection table's sizes, and what is a bundle
 -- of its blanks
 pub record SearchedText : Type 1 where
   pub text_length : ℕ
@@ -38,9 +38,9 @@ IsBestIn t path = IsBestPath t.words t.connection path
 abbrev pub cost_of : SearchedText → List Word → ℤ
 cost_of t path = path_cost t.connection path
 
--- the nodes of its words, by run
-abbrev pub nodes_in : SearchedText → List Run → List Backpointer → List Node
-nodes_in t runs backs = nodes_of (node_words t.surface_words runs) backs
+-- the nodes of its words, by bundle
+abbrev pub nodes_in : SearchedText → List Bundle → List Backpointer → List Node
+nodes_in t bundles backs = nodes_of (node_words t.surface_words bundles) backs
 
 -- the nodes are its words of the places before p, and those of place p from the k-th on, that some chain reaches
 abbrev pub IsLatticeOf : SearchedText → List Node → ℕ → ℕ → Type 0
@@ -58,31 +58,31 @@ IsLatticeFrom t nodes p w = (k : ℕ) × (slice_get (t.words p) k ≡ Some w) ×
 abbrev pub IsLatticeAfter : SearchedText → List Node → ℕ → Word → Type 0
 IsLatticeAfter t nodes p w = (k : ℕ) × (slice_get (t.words p) k ≡ Some w) × IsLatticeOf t nodes p (k + 1)
 
--- of each node of the runs something is kept
-abbrev pub AreAllKept : SearchedText → List Run → List Backpointer → Type 0
-AreAllKept t runs backs = length backs ≡ length (node_words t.surface_words runs)
+-- of each node of the bundles something is kept
+abbrev pub AreAllKept : SearchedText → List Bundle → List Backpointer → Type 0
+AreAllKept t bundles backs = length backs ≡ length (node_words t.surface_words bundles)
 
--- the runs are runs of its surfaces, linked by their ends and by the heads of its places, and of each of their nodes something is kept
-pub record AreKept (t : SearchedText) (runs : List Run) (backs : List Backpointer) (heads : List ℕ) : Type 0 where
-  pub runs_are : AreRuns t.surface_words runs
-  pub all : AreAllKept t runs backs
-  pub rights : HaveRights (node_words t.surface_words runs) backs
-  pub linked : AreLinked runs heads
+-- the bundles are bundles of its surfaces, linked by their ends and by the heads of its places, and of each of their nodes something is kept
+pub record AreKept (t : SearchedText) (bundles : List Bundle) (backs : List Backpointer) (heads : List ℕ) : Type 0 where
+  pub bundles_are : AreBundles t.surface_words bundles
+  pub all : AreAllKept t bundles backs
+  pub rights : HaveRights (node_words t.surface_words bundles) backs
+  pub linked : AreLinked bundles heads
   pub places : length heads ≡ t.text_length + 1
 
 -- the same of nodes as one value
 abbrev pub AreKeptIn : SearchedText → Nodes → Type 0
-AreKeptIn t ns = AreKept t ns.runs.items ns.backs.items ns.heads.items
+AreKeptIn t ns = AreKept t ns.bundles.items ns.backs.items ns.heads.items
 
 abbrev pub kept_nodes : SearchedText → Nodes → List Node
-kept_nodes t ns = nodes_in t ns.runs.items ns.backs.items
+kept_nodes t ns = nodes_in t ns.bundles.items ns.backs.items
 
--- the nodes of the surface with this number come next: its run is the last one, and nothing is kept of its nodes yet
-pub record NextAt (t : SearchedText) (surfaces : List Surface) (number : ℕ) (runs : List Run) (backs : List Backpointer) : Type 0 where
+-- the nodes of the surface with this number come next: its bundle is the last one, and nothing is kept of its nodes yet
+pub record NextAt (t : SearchedText) (surfaces : List Surface) (number : ℕ) (bundles : List Bundle) (backs : List Backpointer) : Type 0 where
   pub surface : Surface
   pub here : slice_get surfaces number ≡ Some surface
   pub before : List Word
-  pub words : node_words t.surface_words runs ≡ before ++ reverse (t.surface_words surface)
+  pub words : node_words t.surface_words bundles ≡ before ++ reverse (t.surface_words surface)
   pub none_yet : length backs ≡ length before
 
 -- the surfaces are those of the words of a place

@@ -33,7 +33,7 @@ impl Room {
 }
 
 /// Makes the nodes of all words that some chain reaches, and for each place the number of the
-/// latest run that ends there.
+/// latest bundle that ends there.
 pub fn build<S: WordSource>(
     source: &S,
     nodes: &mut Nodes,
@@ -46,7 +46,7 @@ pub fn build<S: WordSource>(
         (S.says source.now).text_length) }
 {
     let length = source.length();
-    nodes.runs.clear();
+    nodes.bundles.clear();
     nodes.backs.clear();
     nodes.heads.clear();
     nodes.heads.resize(length + 1, 0)?;
@@ -84,7 +84,7 @@ fn add_place<S: WordSource>(
     source.surfaces_at(place, last, &mut room.surfaces)?;
     gather(
         source,
-        &nodes.runs,
+        &nodes.bundles,
         &nodes.backs,
         linked(head),
         place,

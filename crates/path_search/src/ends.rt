@@ -2,10 +2,10 @@
 
 ghost use Rattle.std.specs.Prelude.{◌≡◌, ◌+◌, ◌<◌, ◌^◌, [], length, Contains, OnOk};
 ghost use Rattle.path_search.specs.Ends.{AreEnds, StandFor};
-ghost use Rattle.path_search.specs.Nodes.{AreRuns, HaveRights, IsLatest, LinksAreLatest, node_words};
+ghost use Rattle.path_search.specs.Nodes.{AreBundles, HaveRights, IsLatest, LinksAreLatest, node_words};
 ghost use Rattle.path_search.specs.SearchedText.{AreAllKept, nodes_in};
 
-use crate::node::{BOUNDARY_ID, Backpointer, End, Run, linked};
+use crate::node::{BOUNDARY_ID, Backpointer, Bundle, End, linked};
 use crate::source::WordSource;
 use std::alloc::AllocError;
 
@@ -17,78 +17,78 @@ const BOS: End = End {
 };
 
 /// Fills `ends` with the ends of a place, in the order in which they are preferred where costs are equal. `head` leads to the latest of
-/// the runs that end there.
+/// the bundles that end there.
 pub fn gather<S: WordSource>(
     source: &S,
-    runs: &[Run],
+    bundles: &[Bundle],
     backs: &[Backpointer],
     head: Option<usize>,
     place: usize,
     ends: &mut Vec<End>,
 ) -> Result<(), AllocError>
-    requires runs { AreRuns (S.says source.now).surface_words runs.now }
-    requires all { AreAllKept (S.says source.now) runs.now backs.now }
-    requires rights { HaveRights (node_words (S.says source.now).surface_words runs.now) backs.now }
-    requires links { LinksAreLatest runs.now }
-    requires head { IsLatest runs.now place (length runs.now) head }
+    requires bundles { AreBundles (S.says source.now).surface_words bundles.now }
+    requires all { AreAllKept (S.says source.now) bundles.now backs.now }
+    requires rights { HaveRights (node_words (S.says source.now).surface_words bundles.now) backs.now }
+    requires links { LinksAreLatest bundles.now }
+    requires head { IsLatest bundles.now place (length bundles.now) head }
     ensures { OnOk result
-        (AreEnds (nodes_in (S.says source.now) runs.now backs.now) place ends.new.items) }
+        (AreEnds (nodes_in (S.says source.now) bundles.now backs.now) place ends.new.items) }
 {
     ends.clear();
     if place == 0 {
         ends.push(BOS)?;
         return Ok(());
     }
-    add_ends(source, runs, backs, head, place, ends)
+    add_ends(source, bundles, backs, head, place, ends)
 }
 
 /// Appends the nodes that end at a place, the latest first.
 fn add_ends<S: WordSource>(
     source: &S,
-    runs: &[Run],
+    bundles: &[Bundle],
     backs: &[Backpointer],
     head: Option<usize>,
     place: usize,
     ends: &mut Vec<End>,
 ) -> Result<(), AllocError>
-    requires runs { AreRuns (S.says source.now).surface_words runs.now }
-    requires all { AreAllKept (S.says source.now) runs.now backs.now }
-    requires rights { HaveRights (node_words (S.says source.now).surface_words runs.now) backs.now }
-    requires links { LinksAreLatest runs.now }
-    requires head { IsLatest runs.now place (length runs.now) head }
+    requires bundles { AreBundles (S.says source.now).surface_words bundles.now }
+    requires all { AreAllKept (S.says source.now) bundles.now backs.now }
+    requires rights { HaveRights (node_words (S.says source.now).surface_words bundles.now) backs.now }
+    requires links { LinksAreLatest bundles.now }
+    requires head { IsLatest bundles.now place (length bundles.now) head }
     requires none { ends.old.items ≡ [] }
     ensures { OnOk result
-        (StandFor (nodes_in (S.says source.now) runs.now backs.now) place 0 ends.new.items) }
+        (StandFor (nodes_in (S.says source.now) bundles.now backs.now) place 0 ends.new.items) }
 {
     let mut link = head;
     while let Some(i) = link {
-        add_run_ends(source, runs, backs, &runs[i], ends)?;
-        link = linked(runs[i].next);
+        add_bundle_ends(source, bundles, backs, &bundles[i], ends)?;
+        link = linked(bundles[i].next);
     }
     Ok(())
 }
 
-/// Appends the nodes of a run, the latest first: its words in their order.
-fn add_run_ends<S: WordSource>(
+/// Appends the nodes of a bundle, the latest first: its words in their order.
+fn add_bundle_ends<S: WordSource>(
     source: &S,
-    runs: &[Run],
+    bundles: &[Bundle],
     backs: &[Backpointer],
-    run: &Run,
+    bundle: &Bundle,
     ends: &mut Vec<End>,
 ) -> Result<(), AllocError>
-    requires runs { AreRuns (S.says source.now).surface_words runs.now }
-    requires all { AreAllKept (S.says source.now) runs.now backs.now }
-    requires rights { HaveRights (node_words (S.says source.now).surface_words runs.now) backs.now }
-    requires run { Contains runs.now run.now }
-    requires later { StandFor (nodes_in (S.says source.now) runs.now backs.now)
-        run.now.surface.end (run.now.from + run.now.surface.count) ends.old.items }
-    ensures { OnOk result (StandFor (nodes_in (S.says source.now) runs.now backs.now)
-        run.now.surface.end run.now.from ends.new.items) }
+    requires bundles { AreBundles (S.says source.now).surface_words bundles.now }
+    requires all { AreAllKept (S.says source.now) bundles.now backs.now }
+    requires rights { HaveRights (node_words (S.says source.now).surface_words bundles.now) backs.now }
+    requires bundle { Contains bundles.now bundle.now }
+    requires later { StandFor (nodes_in (S.says source.now) bundles.now backs.now)
+        bundle.now.surface.end (bundle.now.from + bundle.now.surface.count) ends.old.items }
+    ensures { OnOk result (StandFor (nodes_in (S.says source.now) bundles.now backs.now)
+        bundle.now.surface.end bundle.now.from ends.new.items) }
 {
-    let mut left = run.surface.count;
+    let mut left = bundle.surface.count;
     while 0 < left {
         left -= 1;
-        let number = run.from + left as usize;
+        let number = bundle.from + left as usize;
         ends.push(node_end(number, &backs[number]))?;
     }
     Ok(())

@@ -13,16 +13,16 @@ pub const BOUNDARY_ID: u16 = 0;
 
 /// The nodes of the words of one surface at one place, the last word's first.
 ///
-/// `from` is the number of the first of them, counted from 0. `next` is the number of the latest of the runs before it that end where
+/// `from` is the number of the first of them, counted from 0. `next` is the number of the latest of the bundles before it that end where
 /// it ends, counted from 1, and 0 where there is none.
 #[derive(Clone, Copy, Debug, Drop)]
-pub struct Run {
+pub struct Bundle {
     pub surface: Surface,
     pub from: usize,
     pub next: usize,
 }
 
-/// What is kept of a node: its word is that of its run.
+/// What is kept of a node: its word is that of its bundle.
 ///
 /// `total` is the cost of the best chain from BOS up to and with the word. `before` is the number
 /// of the node before it in that chain, counted from 1, and 0 where there is none. `right` is the

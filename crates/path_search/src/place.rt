@@ -8,7 +8,7 @@ ghost use Rattle.path_search.specs.SearchedText.{AreAllKept, AreKeptIn, IsLattic
 
 use crate::joining::join;
 use crate::joins::Joins;
-use crate::node::{Backpointer, End, Run};
+use crate::node::{Backpointer, Bundle, End};
 use crate::nodes::Nodes;
 use crate::source::WordSource;
 use mj_model::Word;
@@ -77,22 +77,22 @@ impl Place<'_> {
             self.now.ends.now joins.new.found.items) }
     {
         let surface = self.surfaces[number];
-        let run = Run {
+        let bundle = Bundle {
             surface,
             from: nodes.backs.len(),
             next: nodes.heads[surface.end],
         };
-        add_run(&mut nodes.runs, &mut nodes.heads, run)?;
-        self.add_words(source, &nodes.runs, &mut nodes.backs, number, joins)?;
+        add_bundle(&mut nodes.bundles, &mut nodes.heads, bundle)?;
+        self.add_words(source, &nodes.bundles, &mut nodes.backs, number, joins)?;
         Ok(())
     }
 
-    /// Adds the nodes of the last run, whose surface has this number: those of its words, the last one first, each after the best chain
+    /// Adds the nodes of the last bundle, whose surface has this number: those of its words, the last one first, each after the best chain
     /// to it.
     fn add_words<S: WordSource>(
         &self,
         source: &S,
-        runs: &[Run],
+        bundles: &[Bundle],
         backs: &mut Vec<Backpointer>,
         number: usize,
         joins: &mut Joins,
@@ -100,22 +100,22 @@ impl Place<'_> {
         requires place { IsPlaceOf (S.says source.now) self.now }
         requires number { number < length self.now.surfaces.now }
         requires next { NextAt (S.says source.now) self.now.surfaces.now number
-            runs.now backs.old.items }
-        requires rights { HaveRights (node_words (S.says source.now).surface_words runs.now)
+            bundles.now backs.old.items }
+        requires rights { HaveRights (node_words (S.says source.now).surface_words bundles.now)
             backs.old.items }
         requires lattice { IsLatticeFromSurface (S.says source.now)
-            (nodes_in (S.says source.now) runs.now backs.old.items) self.now (number + 1) }
-        requires ends { AreEnds (nodes_in (S.says source.now) runs.now backs.old.items)
+            (nodes_in (S.says source.now) bundles.now backs.old.items) self.now (number + 1) }
+        requires ends { AreEnds (nodes_in (S.says source.now) bundles.now backs.old.items)
             self.now.start self.now.ends.now }
         requires joins { AreLeast (S.says source.now).connection
             self.now.ends.now joins.old.found.items }
-        ensures all { OnOk result (AreAllKept (S.says source.now) runs.now backs.new.items) }
+        ensures all { OnOk result (AreAllKept (S.says source.now) bundles.now backs.new.items) }
         ensures rights { OnOk result
-            (HaveRights (node_words (S.says source.now).surface_words runs.now) backs.new.items) }
+            (HaveRights (node_words (S.says source.now).surface_words bundles.now) backs.new.items) }
         ensures lattice { OnOk result (IsLatticeFromSurface (S.says source.now)
-            (nodes_in (S.says source.now) runs.now backs.new.items) self.now number) }
+            (nodes_in (S.says source.now) bundles.now backs.new.items) self.now number) }
         ensures ends { OnOk result (AreEnds
-            (nodes_in (S.says source.now) runs.now backs.new.items)
+            (nodes_in (S.says source.now) bundles.now backs.new.items)
             self.now.start self.now.ends.now) }
         ensures joins { OnOk result (AreLeast (S.says source.now).connection
             self.now.ends.now joins.new.found.items) }
@@ -125,7 +125,7 @@ impl Place<'_> {
         while 0 < i {
             i -= 1;
             let word = source.word(&surface, i);
-            self.add_word(source, runs, backs, &word, joins)?;
+            self.add_word(source, bundles, backs, &word, joins)?;
         }
         Ok(())
     }
@@ -134,29 +134,29 @@ impl Place<'_> {
     fn add_word<S: WordSource>(
         &self,
         source: &S,
-        runs: &[Run],
+        bundles: &[Bundle],
         backs: &mut Vec<Backpointer>,
         word: &Word,
         joins: &mut Joins,
     ) -> Result<(), AllocError>
         requires place { IsPlaceOf (S.says source.now) self.now }
-        requires next { slice_get (node_words (S.says source.now).surface_words runs.now)
+        requires next { slice_get (node_words (S.says source.now).surface_words bundles.now)
             (length backs.old.items) ≡ Some word.now }
-        requires rights { HaveRights (node_words (S.says source.now).surface_words runs.now)
+        requires rights { HaveRights (node_words (S.says source.now).surface_words bundles.now)
             backs.old.items }
         requires lattice { IsLatticeAfter (S.says source.now)
-            (nodes_in (S.says source.now) runs.now backs.old.items) self.now.start word.now }
-        requires ends { AreEnds (nodes_in (S.says source.now) runs.now backs.old.items)
+            (nodes_in (S.says source.now) bundles.now backs.old.items) self.now.start word.now }
+        requires ends { AreEnds (nodes_in (S.says source.now) bundles.now backs.old.items)
             self.now.start self.now.ends.now }
         requires joins { AreLeast (S.says source.now).connection
             self.now.ends.now joins.old.found.items }
         ensures one { OnOk result (length backs.new.items ≡ length backs.old.items + 1) }
         ensures rights { OnOk result
-            (HaveRights (node_words (S.says source.now).surface_words runs.now) backs.new.items) }
+            (HaveRights (node_words (S.says source.now).surface_words bundles.now) backs.new.items) }
         ensures lattice { OnOk result (IsLatticeFrom (S.says source.now)
-            (nodes_in (S.says source.now) runs.now backs.new.items) self.now.start word.now) }
+            (nodes_in (S.says source.now) bundles.now backs.new.items) self.now.start word.now) }
         ensures ends { OnOk result (AreEnds
-            (nodes_in (S.says source.now) runs.now backs.new.items)
+            (nodes_in (S.says source.now) bundles.now backs.new.items)
             self.now.start self.now.ends.now) }
         ensures joins { OnOk result (AreLeast (S.says source.now).connection
             self.now.ends.now joins.new.found.items) }
@@ -167,15 +167,19 @@ impl Place<'_> {
     }
 }
 
-/// Adds a run, which becomes the head of the place where it ends.
-fn add_run(runs: &mut Vec<Run>, heads: &mut [usize], run: Run) -> Result<(), AllocError>
-    requires end { run.surface.end < length heads.old }
-    ensures runs { OnOk result (runs.new.items ≡ runs.old.items ++ run ∷ []) }
+/// Adds a bundle, which becomes the head of the place where it ends.
+fn add_bundle(
+    bundles: &mut Vec<Bundle>,
+    heads: &mut [usize],
+    bundle: Bundle,
+) -> Result<(), AllocError>
+    requires end { bundle.surface.end < length heads.old }
+    ensures bundles { OnOk result (bundles.new.items ≡ bundles.old.items ++ bundle ∷ []) }
     ensures heads { OnOk result
-        (heads.new ≡ slice_set heads.old run.surface.end (length runs.new.items)) }
+        (heads.new ≡ slice_set heads.old bundle.surface.end (length bundles.new.items)) }
 {
-    let end = run.surface.end;
-    runs.push(run)?;
-    heads[end] = runs.len();
+    let end = bundle.surface.end;
+    bundles.push(bundle)?;
+    heads[end] = bundles.len();
     Ok(())
 }

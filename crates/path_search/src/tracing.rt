@@ -1,14 +1,14 @@
 //! The way back through a lattice, from its end.
 
 ghost use Rattle.std.specs.Prelude.{◌≡◌, ◌<◌, ◌≤◌, length, slice_get, take, IfOk, OnOk, Some};
-ghost use Rattle.path_search.specs.Nodes.{AreRuns, HasNode, IsLastHead, node_words};
+ghost use Rattle.path_search.specs.Nodes.{AreBundles, HasNode, IsLastHead, node_words};
 ghost use Rattle.path_search.specs.Lattice.{LinksGoBack, IsBelow, Traces};
 ghost use Rattle.path_search.specs.SearchedText.{AreAllKept, AreKeptIn, CanBeSearched, IsBestIn, IsLatticeTo, cost_of, kept_nodes, nodes_in};
 
-use crate::nodes::Nodes;
 use crate::ends::gather;
 use crate::joining::least;
-use crate::node::{BOUNDARY_ID, Backpointer, End, Run, linked};
+use crate::node::{BOUNDARY_ID, Backpointer, Bundle, End, linked};
+use crate::nodes::Nodes;
 use crate::source::WordSource;
 use mj_model::Word;
 use std::alloc::AllocError;
@@ -30,7 +30,7 @@ pub fn trace_best<S: WordSource>(
     let last = last_end(&nodes.heads);
     gather(
         source,
-        &nodes.runs,
+        &nodes.bundles,
         &nodes.backs,
         linked(nodes.heads[last]),
         last,
@@ -38,7 +38,7 @@ pub fn trace_best<S: WordSource>(
     )?;
     let found = least(source, ends, BOUNDARY_ID);
     let from = linked(found.before);
-    words_back(source, &nodes.runs, &nodes.backs, from, words)?;
+    words_back(source, &nodes.bundles, &nodes.backs, from, words)?;
     words.reverse();
     Ok(found.cost)
 }
@@ -59,56 +59,56 @@ fn last_end(heads: &[usize]) -> usize
 
 /// Fills `words` with those from a link back, the last word first.
 ///
-/// Runs are looked at from the last one back, each once.
+/// Bundles are looked at from the last one back, each once.
 fn words_back<S: WordSource>(
     source: &S,
-    runs: &[Run],
+    bundles: &[Bundle],
     backs: &[Backpointer],
     from: Option<usize>,
     words: &mut Vec<Word>,
 ) -> Result<(), AllocError>
-    requires runs { AreRuns (S.says source.now).surface_words runs.now }
-    requires all { AreAllKept (S.says source.now) runs.now backs.now }
-    requires links { LinksGoBack (nodes_in (S.says source.now) runs.now backs.now) }
+    requires bundles { AreBundles (S.says source.now).surface_words bundles.now }
+    requires all { AreAllKept (S.says source.now) bundles.now backs.now }
+    requires links { LinksGoBack (nodes_in (S.says source.now) bundles.now backs.now) }
     requires from { IsBelow from (length backs.now) }
     ensures { OnOk result
-        (Traces (nodes_in (S.says source.now) runs.now backs.now) from words.new.items) }
+        (Traces (nodes_in (S.says source.now) bundles.now backs.now) from words.new.items) }
 {
     words.clear();
     let mut link = from;
-    let mut behind = runs.len();
+    let mut behind = bundles.len();
     while let Some(i) = link {
-        let number = run_of(source, runs, behind, i);
-        words.push(node_word(source, runs, number, i))?;
+        let number = bundle_of(source, bundles, behind, i);
+        words.push(node_word(source, bundles, number, i))?;
         link = backs[i].link();
         behind = number + 1;
     }
     Ok(())
 }
 
-/// The number of the run that has a node, which is one of the first `behind` runs.
-fn run_of<S: WordSource>(source: &S, runs: &[Run], behind: usize, node: usize) -> usize
-    requires runs { AreRuns (S.says source.now).surface_words runs.now }
-    requires behind { behind ≤ length runs.now }
+/// The number of the bundle that has a node, which is one of the first `behind` bundles.
+fn bundle_of<S: WordSource>(source: &S, bundles: &[Bundle], behind: usize, node: usize) -> usize
+    requires bundles { AreBundles (S.says source.now).surface_words bundles.now }
+    requires behind { behind ≤ length bundles.now }
     requires node { node
-        < length (node_words (S.says source.now).surface_words (take behind runs.now)) }
-    ensures { HasNode runs.now result node }
+        < length (node_words (S.says source.now).surface_words (take behind bundles.now)) }
+    ensures { HasNode bundles.now result node }
 {
     let mut number = behind - 1;
-    while node < runs[number].from {
+    while node < bundles[number].from {
         number -= 1;
     }
     number
 }
 
-/// The word of a node of a run.
-fn node_word<S: WordSource>(source: &S, runs: &[Run], number: usize, node: usize) -> Word
-    requires runs { AreRuns (S.says source.now).surface_words runs.now }
-    requires node { HasNode runs.now number node }
-    ensures { slice_get (node_words (S.says source.now).surface_words runs.now) node
+/// The word of a node of a bundle.
+fn node_word<S: WordSource>(source: &S, bundles: &[Bundle], number: usize, node: usize) -> Word
+    requires bundles { AreBundles (S.says source.now).surface_words bundles.now }
+    requires node { HasNode bundles.now number node }
+    ensures { slice_get (node_words (S.says source.now).surface_words bundles.now) node
         ≡ Some result }
 {
-    let run = &runs[number];
-    let after_it = run.surface.count - 1 - (node - run.from) as u32;
-    source.word(&run.surface, after_it)
+    let bundle = &bundles[number];
+    let after_it = bundle.surface.count - 1 - (node - bundle.from) as u32;
+    source.word(&bundle.surface, after_it)
 }

@@ -6,20 +6,20 @@ use Rattle.path_search.specs.SearchedText.{nodes_in}
 use Rattle.path_search.proofs.Choice.{all_followed, least_joins, small_join, small_totals}
 use Rattle.path_search.proofs.EndsLemmas.{ends_past}
 use Rattle.path_search.proofs.Growth.{grows, word_goes_on, word_there}
-use Rattle.path_search.proofs.RunNodes.{nodes_push, rights_push}
+use Rattle.path_search.proofs.BundleNodes.{nodes_push, rights_push}
 use Rattle.path_search.proofs.place.Place.add_word.Goals as goal
 
 pub join-requires-clause-totals : goal.join-requires-clause-totals
 join-requires-clause-totals g c =
     let t = g.S.WordSource.says c.args.source.now in
-    let nodes = nodes_in t c.args.runs.now c.args.backs.now.items in
+    let nodes = nodes_in t c.args.bundles.now c.args.backs.now.items in
     let k = c.requires.lattice.0 in
     small_totals t.words t.connection t.text_length c.requires.place.source.source nodes c.args.self.now.start (k + 1) c.args.self.now.start c.args.self.now.ends.now c.requires.place.source.short c.requires.lattice.2 c.requires.ends
 
 pub join-requires-clause-pairs : goal.join-requires-clause-pairs
 join-requires-clause-pairs g c =
     let t = g.S.WordSource.says c.args.source.now in
-    let nodes = nodes_in t c.args.runs.now c.args.backs.now.items in
+    let nodes = nodes_in t c.args.bundles.now c.args.backs.now.items in
     let word = c.args.word.now in
     let k = c.requires.lattice.0 in
     let there = word_there t.words t.connection t.text_length c.requires.place.source.source c.args.self.now.start k word c.requires.lattice.1 in
@@ -29,7 +29,7 @@ join-requires-clause-pairs g c =
 pub after-requires : goal.after-requires
 after-requires g c =
     let t = g.S.WordSource.says c.args.source.now in
-    let nodes = nodes_in t c.args.runs.now c.args.backs.now.items in
+    let nodes = nodes_in t c.args.bundles.now c.args.backs.now.items in
     let word = c.args.word.now in
     let k = c.requires.lattice.0 in
     let found = c.in_ok-found.found in
@@ -39,11 +39,11 @@ after-requires g c =
 pub returns-clause-lattice : goal.returns-clause-lattice
 returns-clause-lattice g c =
     let t = g.S.WordSource.says c.args.source.now in
-    let nodes = nodes_in t c.args.runs.now c.args.backs.now.items in
+    let nodes = nodes_in t c.args.bundles.now c.args.backs.now.items in
     let word = c.args.word.now in
     let k = c.requires.lattice.0 in
     let found = c.in_ok-found.found in
-    let words = node_words t.surface_words c.args.runs.now in
+    let words = node_words t.surface_words c.args.bundles.now in
     let joins = least_joins t.words t.connection t.text_length c.requires.place.source.source nodes c.args.self.now.start (k + 1) c.args.self.now.start word.left c.args.self.now.ends.now found c.requires.lattice.2 (omega arith) c.requires.ends c.in_ok-found.ensures.join in
     let pushed : nodes_of words c.push.new.self.items ≡ nodes ++ node_of word found ∷ [] =
     ap (nodes_of words) c.in_ok-push.ensures.items ∙ nodes_push words c.args.backs.now.items word c.after.result c.requires.next ∙ ap (λ (x : Node). nodes ++ x ∷ []) c.after.ensures.node in (
@@ -56,11 +56,11 @@ returns-clause-lattice g c =
 pub returns-clause-ends : goal.returns-clause-ends
 returns-clause-ends g c =
     let t = g.S.WordSource.says c.args.source.now in
-    let nodes = nodes_in t c.args.runs.now c.args.backs.now.items in
+    let nodes = nodes_in t c.args.bundles.now c.args.backs.now.items in
     let word = c.args.word.now in
     let k = c.requires.lattice.0 in
     let found = c.in_ok-found.found in
-    let words = node_words t.surface_words c.args.runs.now in
+    let words = node_words t.surface_words c.args.bundles.now in
     let pushed : nodes_of words c.push.new.self.items ≡ nodes ++ node_of word found ∷ [] =
     ap (nodes_of words) c.in_ok-push.ensures.items ∙ nodes_push words c.args.backs.now.items word c.after.result c.requires.next ∙ ap (λ (x : Node). nodes ++ x ∷ []) c.after.ensures.node in
     let on = word_goes_on t.words t.connection t.text_length c.requires.place.source.source c.args.self.now.start k word c.requires.lattice.1 in
@@ -69,5 +69,5 @@ returns-clause-ends g c =
 pub returns-clause-rights : goal.returns-clause-rights
 returns-clause-rights g c =
     let t = g.S.WordSource.says c.args.source.now in
-    let words = node_words t.surface_words c.args.runs.now in
+    let words = node_words t.surface_words c.args.bundles.now in
     subst (HaveRights words) (sym c.in_ok-push.ensures.items) (rights_push words c.args.backs.now.items c.args.word.now c.after.result c.requires.next c.after.ensures.right c.requires.rights)

@@ -4,7 +4,7 @@ use Rattle.std.proofs.lemmas.Option.{same_Some, slice_get-get_or}
 use Rattle.paths.specs.declared.surface.Surface.{Surface}
 use Rattle.path_search.specs.Nodes.{node_words}
 use Rattle.path_search.specs.SearchedText.{IsLatticeOf, nodes_in, words_before}
-use Rattle.path_search.proofs.RunNodes.{next_word}
+use Rattle.path_search.proofs.BundleNodes.{next_word}
 use Rattle.path_search.proofs.WordNumbers.{count_at, next_surface, no_surface, whole_at, word_at}
 use Rattle.path_search.proofs.place.Place.add_words.Goals as goal
 
@@ -24,7 +24,7 @@ loop-i-init g c =
       within = omega (arith, count);
       left = omega (arith, own, long, yet);
       rights = c.requires.rights;
-      lattice = subst (IsLatticeOf t (nodes_in t c.args.runs.now c.args.backs.now.items) c.args.self.now.start) (last ∙ ap (words_before t surfaces c.args.number) count) c.requires.lattice;
+      lattice = subst (IsLatticeOf t (nodes_in t c.args.bundles.now c.args.backs.now.items) c.args.self.now.start) (last ∙ ap (words_before t surfaces c.args.number) count) c.requires.lattice;
       ends = c.requires.ends;
       joins = c.requires.joins;
     }
@@ -48,7 +48,7 @@ add_word-requires-clause-next g c =
     let at : slice_get (t.surface_words next.surface) i ≡ Some word = subst (λ (x : Surface). slice_get (t.surface_words x) i ≡ Some word) same c.word-word.ensures in
     let left = c.loop-i.invariant.left in
     let some = c.loop-i-test.true in
-    next_word (node_words t.surface_words c.args.runs.now) next.before (t.surface_words next.surface) (length c.loop-i.backs.items) i word next.words at (omega (arith, left, some))
+    next_word (node_words t.surface_words c.args.bundles.now) next.before (t.surface_words next.surface) (length c.loop-i.backs.items) i word next.words at (omega (arith, left, some))
 
 pub add_word-requires-clause-lattice : goal.add_word-requires-clause-lattice
 add_word-requires-clause-lattice g c =
@@ -61,7 +61,7 @@ add_word-requires-clause-lattice g c =
     let same : words_before t surfaces c.args.number c.loop-i.i ≡ k + 1 = omega (arith, some) in (
       k,
       word_at t c.args.self.now.start surfaces c.requires.place.surfaces c.args.number i no_surface word c.requires.number c.word-word.ensures,
-      subst (IsLatticeOf t (nodes_in t c.args.runs.now c.loop-i.backs.items) c.args.self.now.start) same c.loop-i.invariant.lattice,
+      subst (IsLatticeOf t (nodes_in t c.args.bundles.now c.loop-i.backs.items) c.args.self.now.start) same c.loop-i.invariant.lattice,
     )
 
 pub loop-i-preserved : goal.loop-i-preserved
@@ -82,7 +82,7 @@ loop-i-preserved g c =
       within = omega (arith, within);
       left = omega (arith, left, some, one);
       rights = c.in_ok-add_word.ensures.rights;
-      lattice = subst (IsLatticeOf t (nodes_in t c.args.runs.now c.add_word.new.backs.items) c.args.self.now.start) same grown.2;
+      lattice = subst (IsLatticeOf t (nodes_in t c.args.bundles.now c.add_word.new.backs.items) c.args.self.now.start) same grown.2;
       ends = c.in_ok-add_word.ensures.ends;
       joins = c.in_ok-add_word.ensures.joins;
     }

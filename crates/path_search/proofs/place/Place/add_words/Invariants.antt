@@ -8,10 +8,10 @@ use Rattle.path_search.proofs.place.Place.add_words.Given as goal
 abbrev pub invariant-loop-i : goal.invariant-loop-i
 invariant-loop-i g l = record {
   within : l.i ≤ word_count l.self.surfaces.now l.number;
-  left : length l.backs.items + l.i ≡ length (node_words (g.S.WordSource.says l.source).surface_words l.runs);
-  rights : HaveRights (node_words (g.S.WordSource.says l.source).surface_words l.runs) l.backs.items;
-  lattice : IsLatticeOf (g.S.WordSource.says l.source) (nodes_in (g.S.WordSource.says l.source) l.runs l.backs.items) l.self.start (words_before (g.S.WordSource.says l.source) l.self.surfaces.now l.number l.i);
-  ends : AreEnds (nodes_in (g.S.WordSource.says l.source) l.runs l.backs.items) l.self.start l.self.ends.now;
+  left : length l.backs.items + l.i ≡ length (node_words (g.S.WordSource.says l.source).surface_words l.bundles);
+  rights : HaveRights (node_words (g.S.WordSource.says l.source).surface_words l.bundles) l.backs.items;
+  lattice : IsLatticeOf (g.S.WordSource.says l.source) (nodes_in (g.S.WordSource.says l.source) l.bundles l.backs.items) l.self.start (words_before (g.S.WordSource.says l.source) l.self.surfaces.now l.number l.i);
+  ends : AreEnds (nodes_in (g.S.WordSource.says l.source) l.bundles l.backs.items) l.self.start l.self.ends.now;
   joins : AreLeast (g.S.WordSource.says l.source).connection l.self.ends.now l.joins.found.items;
 }
 
