@@ -1,6 +1,6 @@
 -- What a well-formed image says of where its parts lie.
 use Rattle.std.proofs.Common.{ℕ, ◌<◌, ◌≤◌, ◌^◌, List, length, arith}
-use Rattle.image_bytes.specs.ImageBytes.{header_of, header_length, section_end, total_length}
+use Rattle.image_bytes.specs.ImageBytes.{header_of, section_end, total_length}
 use Rattle.image_bytes.specs.ImageFaults.{IsWellFormed}
 use Rattle.image_check.specs.Outlines.{IsImage}
 
