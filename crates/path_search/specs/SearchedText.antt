@@ -62,6 +62,10 @@ IsLatticeAfter t nodes p w = (k : ℕ) × (slice_get (t.words p) k ≡ Some w) �
 abbrev pub AreAllKept : SearchedText → List Bundle → List Backpointer → Type 0
 AreAllKept t bundles backs = length backs ≡ length (node_words t.surface_words bundles)
 
+-- the right id that is kept of each node is that of its word
+abbrev pub AreRightsKept : SearchedText → List Bundle → List Backpointer → Type 0
+AreRightsKept t bundles backs = HaveRights (node_words t.surface_words bundles) backs
+
 -- the bundles are bundles of its surfaces, linked by their ends and by the heads of its places, and of each of their nodes something is kept
 pub record AreKept (t : SearchedText) (bundles : List Bundle) (backs : List Backpointer) (heads : List ℕ) : Type 0 where
   pub bundles_are : AreBundles t.surface_words bundles

@@ -2,8 +2,8 @@
 
 ghost use Rattle.std.specs.Prelude.{◌≡◌, ◌+◌, ◌<◌, ◌^◌, [], length, Contains, OnOk};
 ghost use Rattle.path_search.specs.Ends.{AreEnds, StandFor};
-ghost use Rattle.path_search.specs.Nodes.{AreBundles, HaveRights, IsLatest, LinksAreLatest, node_words};
-ghost use Rattle.path_search.specs.SearchedText.{AreAllKept, nodes_in};
+ghost use Rattle.path_search.specs.Nodes.{AreBundles, IsLatest, LinksAreLatest};
+ghost use Rattle.path_search.specs.SearchedText.{AreAllKept, AreRightsKept, nodes_in};
 
 use crate::node::{BOUNDARY_ID, Backpointer, Bundle, End, linked};
 use crate::source::WordSource;
@@ -28,7 +28,7 @@ pub fn gather<S: WordSource>(
 ) -> Result<(), AllocError>
     requires bundles { AreBundles (S.says source.now).surface_words bundles.now }
     requires all { AreAllKept (S.says source.now) bundles.now backs.now }
-    requires rights { HaveRights (node_words (S.says source.now).surface_words bundles.now) backs.now }
+    requires rights { AreRightsKept (S.says source.now) bundles.now backs.now }
     requires links { LinksAreLatest bundles.now }
     requires head { IsLatest bundles.now place (length bundles.now) head }
     ensures { OnOk result
@@ -53,7 +53,7 @@ fn add_ends<S: WordSource>(
 ) -> Result<(), AllocError>
     requires bundles { AreBundles (S.says source.now).surface_words bundles.now }
     requires all { AreAllKept (S.says source.now) bundles.now backs.now }
-    requires rights { HaveRights (node_words (S.says source.now).surface_words bundles.now) backs.now }
+    requires rights { AreRightsKept (S.says source.now) bundles.now backs.now }
     requires links { LinksAreLatest bundles.now }
     requires head { IsLatest bundles.now place (length bundles.now) head }
     requires none { ends.old.items ≡ [] }
@@ -78,7 +78,7 @@ fn add_bundle_ends<S: WordSource>(
 ) -> Result<(), AllocError>
     requires bundles { AreBundles (S.says source.now).surface_words bundles.now }
     requires all { AreAllKept (S.says source.now) bundles.now backs.now }
-    requires rights { HaveRights (node_words (S.says source.now).surface_words bundles.now) backs.now }
+    requires rights { AreRightsKept (S.says source.now) bundles.now backs.now }
     requires bundle { Contains bundles.now bundle.now }
     requires later { StandFor (nodes_in (S.says source.now) bundles.now backs.now)
         bundle.now.surface.end (bundle.now.from + bundle.now.surface.count) ends.old.items }

@@ -2,9 +2,9 @@
 
 ghost use Rattle.std.specs.Prelude.{◌≡◌, ◌+◌, ◌<◌, ◌++◌, ◌∷◌, [], slice_set, slice_get, length, OnOk, Some};
 ghost use Rattle.path_search.specs.Ends.{AreEnds, AreLeast};
-ghost use Rattle.path_search.specs.Nodes.{HaveRights, node_words};
+ghost use Rattle.path_search.specs.Nodes.{node_words};
 ghost use Rattle.path_search.specs.Places.{IsLatticeFromSurface, IsPlaceOf};
-ghost use Rattle.path_search.specs.SearchedText.{AreAllKept, AreKeptIn, IsLatticeAfter, IsLatticeFrom, IsLatticeTo, NextAt, kept_nodes, nodes_in};
+ghost use Rattle.path_search.specs.SearchedText.{AreAllKept, AreKeptIn, AreRightsKept, IsLatticeAfter, IsLatticeFrom, IsLatticeTo, NextAt, kept_nodes, nodes_in};
 
 use crate::joining::join;
 use crate::joins::Joins;
@@ -101,8 +101,7 @@ impl Place<'_> {
         requires number { number < length self.now.surfaces.now }
         requires next { NextAt (S.says source.now) self.now.surfaces.now number
             bundles.now backs.old.items }
-        requires rights { HaveRights (node_words (S.says source.now).surface_words bundles.now)
-            backs.old.items }
+        requires rights { AreRightsKept (S.says source.now) bundles.now backs.old.items }
         requires lattice { IsLatticeFromSurface (S.says source.now)
             (nodes_in (S.says source.now) bundles.now backs.old.items) self.now (number + 1) }
         requires ends { AreEnds (nodes_in (S.says source.now) bundles.now backs.old.items)
@@ -111,7 +110,7 @@ impl Place<'_> {
             self.now.ends.now joins.old.found.items }
         ensures all { OnOk result (AreAllKept (S.says source.now) bundles.now backs.new.items) }
         ensures rights { OnOk result
-            (HaveRights (node_words (S.says source.now).surface_words bundles.now) backs.new.items) }
+            (AreRightsKept (S.says source.now) bundles.now backs.new.items) }
         ensures lattice { OnOk result (IsLatticeFromSurface (S.says source.now)
             (nodes_in (S.says source.now) bundles.now backs.new.items) self.now number) }
         ensures ends { OnOk result (AreEnds
@@ -142,8 +141,7 @@ impl Place<'_> {
         requires place { IsPlaceOf (S.says source.now) self.now }
         requires next { slice_get (node_words (S.says source.now).surface_words bundles.now)
             (length backs.old.items) ≡ Some word.now }
-        requires rights { HaveRights (node_words (S.says source.now).surface_words bundles.now)
-            backs.old.items }
+        requires rights { AreRightsKept (S.says source.now) bundles.now backs.old.items }
         requires lattice { IsLatticeAfter (S.says source.now)
             (nodes_in (S.says source.now) bundles.now backs.old.items) self.now.start word.now }
         requires ends { AreEnds (nodes_in (S.says source.now) bundles.now backs.old.items)
@@ -152,7 +150,7 @@ impl Place<'_> {
             self.now.ends.now joins.old.found.items }
         ensures one { OnOk result (length backs.new.items ≡ length backs.old.items + 1) }
         ensures rights { OnOk result
-            (HaveRights (node_words (S.says source.now).surface_words bundles.now) backs.new.items) }
+            (AreRightsKept (S.says source.now) bundles.now backs.new.items) }
         ensures lattice { OnOk result (IsLatticeFrom (S.says source.now)
             (nodes_in (S.says source.now) bundles.now backs.new.items) self.now.start word.now) }
         ensures ends { OnOk result (AreEnds
