@@ -26,7 +26,7 @@ use crate::listed_keys::ListedKeys;
 use crate::lookup_tables::{LookupTables, lookup_tables_of};
 use cell_walk::{CellRead, get, prefixes};
 use image_bytes::Section::{Features, Groups, Tokens};
-use image_bytes::{Header, ImageCells, Section, section_bytes};
+use image_bytes::{DictKind, Header, ImageCells, Section, section_bytes};
 use image_check::{Keys, Outline};
 use mj_model::{Category, MatrixSizes};
 use std::alloc::{AllocError, Global};
@@ -75,7 +75,7 @@ impl Dict {
         ensures kind { result ≡ is_user (image_tables self.now).kind }
         ensures formed { IsWellFormed self.now }
     {
-        self.header().kind == 1
+        matches!(self.header().kind, DictKind::User)
     }
 
     /// How many right ids and left ids its connection table has. Of each dictionary it is true besides that its tables are as a

@@ -1,13 +1,14 @@
 -- An image's bytes: a header, eight sections without a gap, and in layout 3 a digest. Numbers are little-endian. (The layout is this
 -- project's own.)
-use Rattle.std.specs.Prelude.{ℕ, ◌+◌, ◌*◌, ◌-◌, ◌==◌, if◌then◌else◌, ℤ, List, take, drop, map, sum, slice_range}
+use Rattle.std.specs.Prelude.{ℕ, ◌+◌, ◌*◌, ◌-◌, ℤ, List, take, drop, map, sum, slice_range}
 use Rattle.std.specs.Int.{w16, w32, cast_signed}
 use Rattle.std.specs.List.{range_with_len}
 use Rattle.byteorder.specs.Endian.{little_number}
 use Rattle.image_bytes.specs.declared.header.Header.{Header}
 use Rattle.image_bytes.specs.declared.header.TheConstants.{HEADER_LENGTH, MAGIC}
+use Rattle.image_bytes.specs.DictKinds.{kind_meant, kind_numbered}
 use Rattle.image_bytes.specs.Layouts.{behind_sections}
-use Rattle.mj_model.specs.Tables.{Kind, System, User}
+use Rattle.mj_model.specs.Tables.{Kind}
 
 -- the number in the n bytes from a place on; a byte past the end counts as 0
 abbrev pub number_at : ℕ → List ℕ → ℕ → ℕ
@@ -27,12 +28,12 @@ image_magic = MAGIC
 abbrev pub header_length : ℕ
 header_length = HEADER_LENGTH
 
--- the header: the layout; 0 for a system dictionary, 1 for a user's; the sizes of the connection table; how many categories, groups (distinct
--- surfaces), tokens of the lexicon and unknown tokens there are; the lengths of sections 1 to 8 in bytes
+-- the header: the layout; the kind of the dictionary; the sizes of the connection table; how many categories, groups (distinct surfaces),
+-- tokens of the lexicon and unknown tokens there are; the lengths of sections 1 to 8 in bytes
 abbrev pub header_of : List ℕ → Header
 header_of bytes = record {
   layout = number_at 4 bytes 8;
-  kind = number_at 4 bytes 12;
+  kind = kind_numbered (number_at 4 bytes 12);
   sizes = record { right = number_at 4 bytes 16; left = number_at 4 bytes 20 };
   categories = number_at 4 bytes 24;
   groups = number_at 4 bytes 28;
@@ -43,7 +44,7 @@ header_of bytes = record {
 
 -- a user dictionary, or else a system's
 abbrev pub kind_of : Header → Kind
-kind_of h = if h.kind == 1 then User else System
+kind_of h = kind_meant h.kind
 
 -- how many tokens there are, those of the lexicon and then the unknown ones
 abbrev pub all_tokens : Header → ℕ

@@ -7,6 +7,7 @@ use Rattle.mj_model.specs.declared.limits.TheConstants.{ENTRIES_MAX, CATEGORIES_
 use Rattle.mj_model.specs.Connection.{AreMatrixSizes}
 use Rattle.cell_walk.specs.CellMap.{Cell}
 use Rattle.image_bytes.specs.declared.header.Header.{Header}
+use Rattle.image_bytes.specs.DictKinds.{IsKind}
 use Rattle.image_bytes.specs.declared.layout.InfoForm.{InfoForm}
 use Rattle.image_bytes.specs.declared.layout.InfoForm.TheVariants as info
 use Rattle.image_bytes.specs.declared.layout.KeyForm.{KeyForm}
@@ -66,7 +67,7 @@ AreCounts User categories unknown = (categories ≡ 0) × (unknown ≡ 0)
 
 -- the numbers of a header are within their bounds
 pub record IsHeader (h : Header) : Type 0 where
-  pub is_kind : h.kind ≤ 1
+  pub is_kind : IsKind h.kind
   pub sizes_allowed : AreMatrixSizes h.sizes
   pub counts : AreCounts (kind_of h) h.categories h.unknown
   pub groups_have_tokens : h.groups ≤ h.tokens

@@ -1,4 +1,5 @@
 pub mod Layouts
+pub mod DictKinds
 pub mod ImageBytes
 pub mod ImageSections
 pub mod OlderSections

@@ -3,6 +3,7 @@ ghost use Rattle.std.specs.Prelude.{◌≡◌, ◌≤◌, false, length, IsTrue}
 ghost use Rattle.image_bytes.specs.ImageBytes.{header_of, header_length, kind_of};
 ghost use Rattle.mj_model.specs.Tables.{System, User};
 
+use crate::kind::DictKind;
 use crate::numbers::{u32_at, u64_at};
 use mj_model::MatrixSizes;
 
@@ -23,8 +24,7 @@ pub const FEATURE_BYTES_END: usize = 1 << 32;
 #[derive(Clone, Copy, Debug, Drop)]
 pub struct Header {
     pub layout: u32,
-    /// 0 for a system dictionary, 1 for a user's.
-    pub kind: u32,
+    pub kind: DictKind,
     pub sizes: MatrixSizes,
     pub categories: u32,
     /// Distinct surfaces.
@@ -42,7 +42,7 @@ impl Header {
         ensures user { IsTrue result → kind_of self.now ≡ User }
         ensures system { result ≡ false → kind_of self.now ≡ System }
     {
-        self.kind == 1
+        matches!(self.kind, DictKind::User)
     }
 }
 
@@ -53,7 +53,7 @@ pub fn read_header(bytes: &[u8]) -> Header
 {
     Header {
         layout: u32_at(bytes, 8),
-        kind: u32_at(bytes, 12),
+        kind: DictKind::of_number(u32_at(bytes, 12)),
         sizes: MatrixSizes {
             right: u32_at(bytes, 16),
             left: u32_at(bytes, 20),

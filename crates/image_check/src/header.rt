@@ -31,7 +31,7 @@ fn is_header(header: &Header) -> bool
         unknown,
         ..
     } = *header;
-    kind <= 1
+    kind.is_known()
         && sizes.are_allowed()
         && are_counts(header)
         && groups <= tokens

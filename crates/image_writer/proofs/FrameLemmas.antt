@@ -16,6 +16,9 @@ use Rattle.sha2.specs.Sha256.{sha256}
 use Rattle.image_bytes.specs.ImageBytes.{header_length, header_of, image_magic, number_at, section, section_end, section_start}
 use Rattle.image_bytes.specs.Layouts.{behind_sections}
 use Rattle.image_bytes.specs.declared.header.Header.{Header}
+use Rattle.image_bytes.specs.declared.kind.DictKind.{DictKind}
+use Rattle.image_bytes.specs.declared.kind.DictKind.TheVariants as dict
+use Rattle.image_bytes.specs.DictKinds.{IsKind, kind_numbered, number_of_kind}
 use Rattle.image_writer.specs.Frames.{AreShort, AreSmall, IsFramed, IsHeaderFor, all_sections, header_bytes, length_bytes, number_bytes, number_list}
 use Rattle.image_writer.specs.Places.{joined_texts}
 use Rattle.image_writer.specs.StoredTables.{cost_section}
@@ -66,6 +69,12 @@ section_in front (s ∷ sections) rest (suc k) less =
     rw (grouped, at k, at (suc k)) (section_in (front ++ s) sections rest k (omega (arith, less)))
 
 -- ---- a whole image
+
+-- the number of a kind names it
+same_kind : (kind : DictKind) → IsKind kind → kind_numbered (number_of_kind kind) ≡ kind
+same_kind dict.System is = refl
+same_kind dict.User is = refl
+same_kind (dict.Other n) is = absurd is
 
 module _ (h : Header) (sections : List (List ℕ)) (eight : length sections ≡ 8) (is_for : IsHeaderFor sections h) (small : AreSmall (number_list h)) (short : AreShort h.lengths) where
   abbrev pub header : List ℕ
@@ -119,7 +128,7 @@ module _ (h : Header) (sections : List (List ℕ)) (eight : length sections ≡ 
     header_is : header_of image ≡ h
     header_is = λ i. record {
       layout = number_is 0 (omega (arith)) i;
-      kind = number_is 1 (omega (arith)) i;
+      kind = (ap kind_numbered (number_is 1 (omega (arith))) ∙ same_kind h.kind is_for.kind) i;
       sizes = record { right = number_is 2 (omega (arith)) i; left = number_is 3 (omega (arith)) i };
       categories = number_is 4 (omega (arith)) i;
       groups = number_is 5 (omega (arith)) i;

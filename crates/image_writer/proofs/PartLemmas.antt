@@ -5,6 +5,8 @@ use Rattle.std.proofs.lemmas.Option.{slice_get-get_or}
 use Rattle.mj_model.specs.declared.limits.TheConstants.{ENTRIES_MAX}
 use Rattle.mj_model.specs.declared.matrix_sizes.MatrixSizes.{MatrixSizes}
 use Rattle.image_bytes.specs.declared.header.Header.{Header}
+use Rattle.image_bytes.specs.declared.kind.DictKind.{DictKind}
+use Rattle.image_bytes.specs.DictKinds.{IsKind}
 use Rattle.image_bytes.specs.declared.layout.TheConstants.{LAYOUT}
 use Rattle.image_bytes.specs.ImageBytes.{kind_of}
 use Rattle.image_bytes.specs.ImageFaults.{AreCounts, IsHeader, IsWellFormed, PassAll, SystemAlone}
@@ -22,7 +24,7 @@ use Rattle.image_writer.proofs.FormedLemmas.{eight_of, at, formed_of, part_tests
 use Rattle.image_writer.proofs.RowLemmas.{count_all, ids_within}
 
 -- the header of an image with these entries
-abbrev pub header_with : ℕ → MatrixSizes → ℕ → List Row → List (List Row) → List ℕ → List ℕ → List ℕ → List ℕ → LexiconBytes → Header
+abbrev pub header_with : DictKind → MatrixSizes → ℕ → List Row → List (List Row) → List ℕ → List ℕ → List ℕ → List ℕ → LexiconBytes → Header
 header_with kind sizes categories rows unknown costs named ranges index bytes = record {
   layout = LAYOUT;
   kind = kind;
@@ -34,9 +36,9 @@ header_with kind sizes categories rows unknown costs named ranges index bytes = 
   lengths = map length (sections_with costs named ranges index bytes);
 }
 
-module _ (number : ℕ) (sizes : MatrixSizes) (count : ℕ) (rows : List Row) (unknown : List (List Row)) (costs categories ranges index : List ℕ) (bytes : LexiconBytes) where
+module _ (whose : DictKind) (sizes : MatrixSizes) (count : ℕ) (rows : List Row) (unknown : List (List Row)) (costs categories ranges index : List ℕ) (bytes : LexiconBytes) where
   abbrev pub header : Header
-  header = header_with number sizes count rows unknown costs categories ranges index bytes
+  header = header_with whose sizes count rows unknown costs categories ranges index bytes
 
   abbrev pub sections : List (List ℕ)
   sections = sections_with costs categories ranges index bytes
@@ -49,7 +51,7 @@ module _ (number : ℕ) (sizes : MatrixSizes) (count : ℕ) (rows : List Row) (u
 
   -- the numbers are within their bounds, and the sections are those of the entries
   pub record AreParts : Type 0 where
-    pub is_kind : number ≤ 1
+    pub is_kind : IsKind whose
     pub sizes_fit : AreMatrixSizes sizes
     pub counts : AreCounts kind count (sum_by length unknown)
     pub entries : AreLexiconRows (record { sizes = sizes; rows = rows })

@@ -8,6 +8,7 @@ use Rattle.image_bytes.specs.Layouts.{key_form}
 use Rattle.mj_model.specs.Lexicon.{Row}
 use Rattle.mj_model.specs.Tables.{User}
 use Rattle.image_bytes.specs.declared.header.Header.{Header}
+use Rattle.image_bytes.specs.declared.kind.DictKind.TheVariants as dict
 use Rattle.image_writer.specs.Frames.{IsFramed, sections_with}
 use Rattle.image_writer.specs.declared.lexicon_bytes.LexiconBytes.{LexiconBytes}
 use Rattle.image_writer.specs.Entries.{lexemes_of, tokens_of}
@@ -26,15 +27,15 @@ module _ (sizes : MatrixSizes) (rows : List Row) (bytes : LexiconBytes) where
     pub lexicon : AreSections rows [] bytes
 
   abbrev pub header : Header
-  header = header_with 1 sizes 0 rows [] [] [] [] [] bytes
+  header = header_with dict.User sizes 0 rows [] [] [] [] [] bytes
 
   abbrev pub sections : List (List ℕ)
   sections = sections_with [] [] [] [] bytes
 
   module _ (parts : AreUserParts) (image : List ℕ) (framed : IsFramed header sections image) where
-    are_parts : AreParts 1 sizes 0 rows [] [] [] [] [] bytes
+    are_parts : AreParts dict.User sizes 0 rows [] [] [] [] [] bytes
     are_parts = record {
-      is_kind = omega (arith);
+      is_kind = tt;
       sizes_fit = parts.sizes_fit;
       counts = (refl, refl);
       entries = parts.entries;
@@ -49,7 +50,7 @@ module _ (sizes : MatrixSizes) (rows : List Row) (bytes : LexiconBytes) where
 
     pub user_image : IsUserImage sizes rows image
     user_image = record {
-      well_formed = well_formed 1 sizes 0 rows [] [] [] [] [] bytes are_parts image framed;
+      well_formed = well_formed dict.User sizes 0 rows [] [] [] [] [] bytes are_parts image framed;
       layout = ap (λ (h : Header). h.layout) framed.header;
       kind = from_parts header sections image framed (λ h ss. kind_of h ≡ User) refl;
       sizes_kept = ap (λ (h : Header). h.sizes) framed.header;

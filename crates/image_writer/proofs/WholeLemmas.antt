@@ -1,10 +1,11 @@
 -- A whole image of a system dictionary.
-use Rattle.std.proofs.Common.{◌≡◌, ℕ, ◌+◌, ◌≤◌, List, [], length, refl, sym, ap, ◌∙◌, subst, arith}
+use Rattle.std.proofs.Common.{◌≡◌, ℕ, ◌+◌, ◌≤◌, List, [], length, refl, sym, ap, ◌∙◌, subst}
 use Rattle.std.specs.Prelude.{pos, if◌then◌else◌, map, nat_lt, sum_by}
 use Rattle.mj_model.specs.declared.limits.TheConstants.{ENTRIES_MAX}
 use Rattle.mj_model.specs.CharDef.{NamedCategory}
 use Rattle.mj_model.specs.Connection.{is_pair}
 use Rattle.image_bytes.specs.declared.header.Header.{Header}
+use Rattle.image_bytes.specs.declared.kind.DictKind.TheVariants as dict
 use Rattle.image_bytes.specs.ImageBytes.{kind_of}
 use Rattle.image_bytes.specs.ImageMeaning.{info_in, lexicon_in, tokens_in}
 use Rattle.image_bytes.specs.Layouts.{info_form, key_form}
@@ -53,15 +54,15 @@ module _ (m : CostTable) (chars : CharCategories) (unknown : List (List Row)) (r
     pub lexicon : AreSections rows unknown bytes
 
   abbrev pub header : Header
-  header = header_with 0 m.sizes (length chars.categories) rows unknown costs categories ranges index bytes
+  header = header_with dict.System m.sizes (length chars.categories) rows unknown costs categories ranges index bytes
 
   abbrev pub sections : List (List ℕ)
   sections = sections_with costs categories ranges index bytes
 
   module _ (parts : AreSystemParts) (image : List ℕ) (framed : IsFramed header sections image) where
-    are_parts : AreParts 0 m.sizes (length chars.categories) rows unknown costs categories ranges index bytes
+    are_parts : AreParts dict.System m.sizes (length chars.categories) rows unknown costs categories ranges index bytes
     are_parts = record {
-      is_kind = omega (arith);
+      is_kind = tt;
       sizes_fit = parts.matrix.sizes;
       counts = (parts.chars_formed.some, parts.chars_formed.few);
       entries = parts.entries;
@@ -89,7 +90,7 @@ module _ (m : CostTable) (chars : CharCategories) (unknown : List (List Row)) (r
 
     pub system_image : IsSystemImage m chars unknown rows image
     system_image = record {
-      well_formed = well_formed 0 m.sizes (length chars.categories) rows unknown costs categories ranges index bytes are_parts image framed;
+      well_formed = well_formed dict.System m.sizes (length chars.categories) rows unknown costs categories ranges index bytes are_parts image framed;
       layout = ap (λ (h : Header). h.layout) framed.header;
       tables = from_parts header sections image framed (λ h ss. SayTheSame (tables_in h ss) (tables_with m chars unknown rows)) same_tables;
       categories = from_parts header sections image framed (λ h ss. categories_in h.categories (at ss 1) ≡ chars.categories) parts.categories_are.categories;

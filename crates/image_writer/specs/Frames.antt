@@ -4,6 +4,7 @@ use Rattle.std.specs.List.{AllByRecursion}
 use Rattle.byteorder.specs.Endian.{little_bytes}
 use Rattle.image_bytes.specs.declared.header.Header.{Header}
 use Rattle.image_bytes.specs.declared.layout.TheConstants.{LAYOUT}
+use Rattle.image_bytes.specs.DictKinds.{IsKind, number_of_kind}
 use Rattle.image_bytes.specs.ImageBytes.{header_of, image_magic, section, total_length}
 use Rattle.image_bytes.specs.ImageFaults.{HasDigest}
 use Rattle.std.specs.Borrow.{Bor}
@@ -13,7 +14,7 @@ use Rattle.image_writer.specs.StoredTables.{cost_section}
 
 -- the numbers of 4 bytes, in their order
 abbrev pub number_list : Header → List ℕ
-number_list h = h.layout ∷ h.kind ∷ h.sizes.right ∷ h.sizes.left ∷ h.categories ∷ h.groups ∷ h.tokens ∷ h.unknown ∷ []
+number_list h = h.layout ∷ number_of_kind h.kind ∷ h.sizes.right ∷ h.sizes.left ∷ h.categories ∷ h.groups ∷ h.tokens ∷ h.unknown ∷ []
 
 abbrev pub number_bytes : Header → List ℕ
 number_bytes h = flat_map (little_bytes 4) (number_list h)
@@ -33,9 +34,10 @@ AreSmall numbers = AllByRecursion (λ n. n < 2 ^ 32) numbers
 abbrev pub AreShort : List ℕ → Type 0
 AreShort lengths = AllByRecursion (λ n. n < 2 ^ 64) lengths
 
--- a header of the layout that is written, with the lengths of these sections
+-- a header of the layout that is written, of one of the two kinds, with the lengths of these sections
 pub record IsHeaderFor (sections : List (List ℕ)) (h : Header) : Type 0 where
   pub layout : h.layout ≡ LAYOUT
+  pub kind : IsKind h.kind
   pub lengths : h.lengths ≡ map length sections
 
 -- the sections of an image: costs, six that stand as they are, and features one behind another

@@ -25,7 +25,7 @@ fn append_numbers(header: Header, image: &mut Vec<u8>) -> Result<(), AllocError>
     LittleEndian::write_u32_into(
         &[
             header.layout,
-            header.kind,
+            header.kind.number(),
             header.sizes.right,
             header.sizes.left,
             header.categories,

@@ -13,7 +13,7 @@ use crate::lexicon_bytes::LexiconBytes;
 use crate::ranges::write_ranges;
 use crate::unknown_index::{unknown_count, write_unknown_index};
 use char_def::{CharTable, UnkTable};
-use image_bytes::{Header, LAYOUT};
+use image_bytes::{DictKind, Header, LAYOUT};
 use lex_source::SortedLexicon;
 use matrix_def::Matrix;
 use std::alloc::Global;
@@ -54,7 +54,7 @@ pub fn write_system<'a>(
     } = made;
     let header = Header {
         layout: LAYOUT,
-        kind: 0,
+        kind: DictKind::System,
         sizes: matrix.sizes(),
         categories: count as u32,
         groups: group_count,

@@ -7,7 +7,7 @@ ghost use Rattle.image_writer.specs.UserImages.{IsUserImage};
 use crate::fault::LexiconFault;
 use crate::frame::{section_lengths, write_image};
 use crate::lexicon::write_user_lexicon;
-use image_bytes::{Header, LAYOUT};
+use image_bytes::{DictKind, Header, LAYOUT};
 use lex_source::SortedLexicon;
 use std::alloc::Global;
 
@@ -26,7 +26,7 @@ pub fn write_user(alloc: Global, lexicon: SortedLexicon<'_>) -> Result<Vec<u8>, 
     let made = write_user_lexicon(alloc, lexicon)?;
     let header = Header {
         layout: LAYOUT,
-        kind: 1,
+        kind: DictKind::User,
         sizes,
         categories: 0,
         groups: made.group_count,

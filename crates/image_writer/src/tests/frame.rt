@@ -1,6 +1,6 @@
 //! A user image of the one surface `a`.
 use crate::frame::write_image;
-use image_bytes::{Header, LAYOUT};
+use image_bytes::{DictKind, Header, LAYOUT};
 use mj_model::MatrixSizes;
 use sha2::{Digest, Sha256};
 use std::test::Fail;
@@ -9,7 +9,7 @@ use std::test::Fail;
 /// bytes.
 const HEADER: Header = Header {
     layout: LAYOUT,
-    kind: 1,
+    kind: DictKind::User,
     sizes: MatrixSizes { right: 2, left: 2 },
     categories: 0,
     groups: 1,

@@ -6,6 +6,7 @@ use Rattle.mj_model.specs.declared.matrix_sizes.MatrixSizes.{MatrixSizes}
 use Rattle.mj_model.specs.Lexicon.{Row, row_of}
 use Rattle.lex_source.specs.Lexicons.{AreLexiconRows}
 use Rattle.image_bytes.specs.declared.header.Header.{Header}
+use Rattle.image_bytes.specs.declared.kind.DictKind.TheVariants as dict
 use Rattle.image_bytes.specs.declared.layout.TheConstants.{LAYOUT}
 use Rattle.image_writer.specs.Frames.{IsFramed, sections_with}
 use Rattle.image_writer.specs.Places.{joined_texts}
@@ -50,7 +51,7 @@ returns-clause-image c =
     (λ i. (
       record {
         layout = LAYOUT;
-        kind = 0;
+        kind = dict.System;
         sizes = c.sizes.ensures.sizes i;
         categories = c.count-count.ensures.count i;
         groups = made.group_count;
@@ -73,4 +74,4 @@ write_image-requires c =
     ∷ c.deref-7.ensures.value i ∷ c.deref-8.ensures.value i ∷ joined_texts (c.deref-9.ensures.value i) ∷ [] in
     let lengths : c.section_lengths-lengths.result ≡ map length (sections_with costs c.in_ok-categories.categories.items c.in_ok-ranges.ranges.items c.in_ok-index.index.items made) =
     c.section_lengths-lengths.ensures ∙ λ i. map length (sections_with costs (c.deref.ensures.value i) (c.deref-2.ensures.value i) (c.deref-3.ensures.value i) made) in
-    record { layout = refl; lengths = lengths ∙ ap (map length) (sym listed) }
+    record { layout = refl; kind = tt; lengths = lengths ∙ ap (map length) (sym listed) }

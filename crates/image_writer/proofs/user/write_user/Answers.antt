@@ -3,6 +3,7 @@ use Rattle.std.proofs.lemmas.List.{length-map}
 use Rattle.mj_model.specs.declared.matrix_sizes.MatrixSizes.{MatrixSizes}
 use Rattle.mj_model.specs.Lexicon.{Row, row_of}
 use Rattle.image_bytes.specs.declared.header.Header.{Header}
+use Rattle.image_bytes.specs.declared.kind.DictKind.TheVariants as dict
 use Rattle.image_bytes.specs.declared.layout.TheConstants.{LAYOUT}
 use Rattle.image_writer.specs.Frames.{IsFramed, sections_with}
 use Rattle.image_writer.specs.Places.{joined_texts}
@@ -26,7 +27,7 @@ returns-clause-image c =
     (λ i. (
       record {
         layout = LAYOUT;
-        kind = 1;
+        kind = dict.User;
         sizes = c.sizes-sizes.ensures i;
         categories = 0;
         groups = made.group_count;

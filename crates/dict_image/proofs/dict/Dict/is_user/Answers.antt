@@ -1,16 +1,23 @@
-use Rattle.std.proofs.Common.{◌≡◌, Bool, true, false, cond, eqb, ap, ◌∙◌, refl}
+use Rattle.std.proofs.Common.{◌≡◌, false, ap, ◌∙◌, refl}
 use Rattle.image_bytes.specs.declared.header.Header.{Header}
+use Rattle.image_bytes.specs.declared.kind.DictKind.{DictKind}
+use Rattle.image_bytes.specs.declared.kind.DictKind.TheVariants as dict
+use Rattle.image_bytes.specs.DictKinds.{kind_meant}
+use Rattle.image_bytes.specs.ImageBytes.{kind_of}
 use Rattle.mj_model.specs.Overlays.{is_user}
-use Rattle.mj_model.specs.Tables.{System, User}
 use Rattle.image_check.proofs.OutlineLemmas.{is_formed}
 use Rattle.dict_image.proofs.dict.Dict.is_user.Goals as goal
 
-flag_is : (b : Bool) → b ≡ is_user (cond b User System)
-flag_is true = refl
-flag_is false = refl
+pub returns-in-User-clause-formed : goal.returns-in-User-clause-formed
+returns-in-User-clause-formed c = is_formed c.args.self.now c.header.ensures.formed
 
-pub returns-clause-kind : goal.returns-clause-kind
-returns-clause-kind c = ap (λ (h : Header). eqb h.kind 1) c.header.ensures.numbers ∙ flag_is _
+no_user : (kind : DictKind) → (kind ≡ dict.User → ⊥) → false ≡ is_user (kind_meant kind)
+no_user dict.System other = refl
+no_user dict.User other = absurd (other refl)
+no_user (dict.Other n) other = refl
 
-pub returns-clause-formed : goal.returns-clause-formed
-returns-clause-formed c = is_formed c.args.self.now c.header.ensures.formed
+pub returns-in_default : goal.returns-in_default
+returns-in_default c = record {
+  kind = no_user c.header.result.now.kind c.in_default.not-User ∙ ap (λ (h : Header). is_user (kind_of h)) c.header.ensures.numbers;
+  formed = is_formed c.args.self.now c.header.ensures.formed;
+}
