@@ -1,0 +1,64 @@
+"""What bash and zsh complete by the files of this folder: each is asked itself, in a folder that has a file and a folder."""
+import os
+import pty
+import subprocess
+import sys
+from pathlib import Path
+
+HERE = Path(__file__).resolve().parent
+FILE, FOLDER = "a-file", "a-folder"
+# What a function asks readline for, which is not there, is noted, with whether it has found anything itself.
+OF_BASH = r"""
+. "$1"
+shift
+asked=()
+compopt() { asked+=("$2"); }
+COMP_WORDS=("$@")
+COMP_CWORD=$(($# - 1))
+function=$(complete -p "${1##*/}") && function=${function##*-F } && ${function%% *}
+printf '%s\n' "${COMPREPLY[@]}" "compopt ${asked[*]}"
+"""
+# What readline adds then: files or folders where nothing was found, or folders to what was.
+WHERE_NOTHING = {"default": {FILE, FOLDER}, "dirnames": {FOLDER}}
+ALWAYS = {"plusdirs": {FOLDER}}
+
+
+def of_bash(words, folder):
+    """What bash completes after these words, of which the last one has begun."""
+    asked = ["bash", "--norc", "-c", OF_BASH, "bash", HERE / "kumquatsieve.bash", *words]
+    done = subprocess.run(asked, capture_output=True, text=True, cwd=folder)
+    if done.returncode != 0 or done.stderr:
+        sys.exit(f"bash can't complete {' '.join(words)}: {done.stderr}")
+    *found, noted = filter(None, done.stdout.split("\n"))
+    added = ALWAYS if found else {**ALWAYS, **WHERE_NOTHING}
+    return set(found).union(*(added.get(word, ()) for word in noted.split()[1:]))
+
+
+def of_zsh(words, folder):
+    """What zsh completes after these words, of which the last one has begun. They are typed on a terminal."""
+    answer = folder.parent / "asked"
+    process, terminal = pty.fork()
+    if process == 0:
+        os.chdir(folder)
+        os.environ |= {"ASKED": str(answer), "COMPLETIONS": str(HERE), "HOME": str(folder.parent), "TERM": "dumb"}
+        os.execvp("zsh", ["zsh", "-f", "-i"])
+    os.write(terminal, f". {HERE}/asked.zsh\n{' '.join(words)}\x18".encode())
+    printed = printed_on(terminal)
+    os.waitpid(process, 0)
+    os.close(terminal)
+    if not answer.exists():
+        sys.exit(f"zsh can't complete {' '.join(words)}: {printed.decode(errors='replace')}")
+    found = set(filter(None, answer.read_text().split("\n")))
+    answer.unlink()
+    return found
+
+
+def printed_on(terminal):
+    """What is printed on a terminal until its program ends."""
+    printed = b""
+    try:
+        while more := os.read(terminal, 4096):
+            printed += more
+    except OSError:
+        pass
+    return printed
