@@ -34,6 +34,16 @@ def of_bash(words, folder):
     return set(found).union(*(added.get(word, ()) for word in noted.split()[1:]))
 
 
+def has_terminals():
+    """Whether the machine gives a terminal to who asks for one."""
+    try:
+        for end in pty.openpty():
+            os.close(end)
+    except OSError:
+        return False
+    return True
+
+
 def of_zsh(words, folder):
     """What zsh completes after these words, of which the last one has begun. They are typed on a terminal."""
     answer = folder.parent / "asked"

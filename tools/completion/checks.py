@@ -7,7 +7,7 @@ from kumquatsieve_import.command_line import NAMES
 from kumquatsieve_import.encodings import CHOICES
 from run_rows.codes import codes_of_programs
 
-from .asked import FILE, FOLDER, of_bash, of_zsh
+from .asked import FILE, FOLDER, has_terminals, of_bash, of_zsh
 
 FILES, FOLDERS, NOTHING = {FILE, FOLDER}, {FOLDER}, set()
 CODES = {code.split()[0] for code in codes_of_programs()}
@@ -39,7 +39,7 @@ ROWS = [
 
 def faults(helped):
     """What is completed and should not be, or the other way round. `helped` has for each command line what its help lists; the rows follow."""
-    shells = {"bash": of_bash, **({"zsh": of_zsh} if shutil.which("zsh") else {})}
+    shells = {"bash": of_bash, **({"zsh": of_zsh} if shutil.which("zsh") and has_terminals() else {})}
     rows = [*helped, *ROWS]
     found = []
     with tempfile.TemporaryDirectory() as made:
@@ -49,7 +49,7 @@ def faults(helped):
             for shell, completed in shells.items():
                 differ = {word.replace(made, "PREFIX") for word in completed(words, folder)} ^ set(wanted)
                 found += [f"{shell}, after {line!r}: {word!r} is {'not ' * (word in wanted)}completed" for word in sorted(differ)]
-    left_out = "" if "zsh" in shells else ", and not by zsh, which is not there"
+    left_out = "" if "zsh" in shells else ", and not by zsh, for want of it or of a terminal"
     return found, f"{len(rows)} command lines completed by {' and by '.join(shells)}{left_out}"
 
 

@@ -1,5 +1,5 @@
 """Which image the program mecab takes, and which settings it refuses: rows of what is named where. Each row has a folder of its own, in which
-HERE stands for the folder."""
+HERE stands for the folder, and USER for a user dictionary that MeCab has compiled."""
 import os
 import subprocess
 import sys
@@ -17,6 +17,7 @@ class Row:
     said: str = ""
 
 
+IPADIC, INDEX = "/usr/share/mecab/dic/ipadic", "/usr/lib/mecab/mecab-dict-index"
 A, B = {"KUMQUATSIEVE_DICTIONARY": "HERE/a.img"}, {"MECABRC": "HERE/rc"}
 OF_C = {"home/.mecabrc": "dicdir = HERE/c.img\n"}
 ROWS = [
@@ -35,13 +36,22 @@ ROWS = [
     Row("a line without =", ["-r", "HERE/rc"], {"rc": "dicdir = HERE/b.img\nwakati\n"}, said="rc: line 2: no `=` in wakati"),
     Row("a dicrc without =", ["-d", "HERE/a.img"], {"a.dicrc": "cost-factor 800\n"}, said="a.dicrc: line 1: no `=`"),
     Row("a pos-id.def without a number", ["-d", "HERE/a.img"], {"a.dicrc": "", "a.pos-id.def": "* 1\n名詞 x\n"}, said="a.pos-id.def: line 2: "),
+    Row("a user dictionary of MeCab's", ["-d", "HERE/a.img", "-u", "USER"], said="user.dic is a dictionary of MeCab's: `dictc user --dic IMG "),
     Row("partial parsing in a file", ["-r", "HERE/rc"], {"rc": "dicdir = HERE/b.img\npartial = 1\n"}, said="partial parsing is not supported"),
 ]
 
 
+def compile_user(path):
+    """A user dictionary of a word, as MeCab has it: its first bytes are those of a file of its size."""
+    source = path.with_suffix(".csv")
+    source.write_text("ももも,1285,1285,1,名詞,ももも\n")
+    words = [INDEX, "-d", IPADIC, "-u", path, "-f", "UTF-8", "-t", "UTF-8", source]
+    subprocess.run(words, check=True, stdout=subprocess.DEVNULL, stderr=subprocess.DEVNULL)
+
+
 def told(row, folder, sample, library):
     """The program's status, and what it prints of its dictionary or says."""
-    here = lambda text: text.replace("HERE", str(folder))
+    here = lambda text: text.replace("HERE", str(folder)).replace("USER", str(folder.parent / "user.dic"))
     for path in ("a.img", "b.img", "c.img", "with/kumquatsieve.img"):
         (folder / path).parent.mkdir(parents=True, exist_ok=True)
         (folder / path).write_bytes(sample.read_bytes())
@@ -56,6 +66,7 @@ def told(row, folder, sample, library):
 
 
 def check_settings(folder, library):
+    compile_user(folder / "user.dic")
     for number, row in enumerate(ROWS):
         own = folder / f"settings-{number}"
         status, printed, said = told(row, own, folder / "sample.img", library)
