@@ -26,16 +26,24 @@ pub const NONE: &[Expected] = &[];
 
 /// Whether these are the entries of a key, and there are no others.
 pub fn are_entries(dict: &Dict, key: &str, expected: &[Expected]) -> bool {
-    let entries = dict.entries(key);
-    entries
-        .map(|entry| (
-            entry.token,
-            entry.left,
-            entry.right,
-            entry.cost,
-            entry.feature,
-        ))
-        .eq(expected.iter().copied())
+    let mut entries = dict.entries(key);
+    for wanted in expected {
+        match entries.next() {
+            Some(found) if is_entry(&found, wanted) => {}
+            _ => return false,
+        }
+    }
+    entries.next().is_none()
+}
+
+/// Whether an entry has this number, these ids, this cost and this feature.
+pub fn is_entry(found: &EntryRef<'_>, expected: &Expected) -> bool {
+    let (token, left, right, cost, feature) = *expected;
+    found.token == token
+        && found.left == left
+        && found.right == right
+        && found.cost == cost
+        && found.feature == feature
 }
 
 /// The bytes with another one at a place.

@@ -23,6 +23,23 @@ fn sealed_with(alloc: Global, image: &[u8], at: usize, byte: u8) -> Result<Vec<u
     Ok(new)
 }
 
+/// From where places are counted.
+#[derive(Clone, Copy)]
+enum Place {
+    After(usize),
+    Before(usize),
+}
+
+impl Place {
+    /// The place so far from there.
+    fn at(self, distance: usize) -> usize {
+        match self {
+            Place::After(start) => start.saturating_add(distance),
+            Place::Before(end) => end.saturating_sub(distance),
+        }
+    }
+}
+
 /// What is changed, a place, the byte that stands there then, and the fault that is told of it.
 type Row = (&'static str, usize, u8, Option<ImageFault>);
 
@@ -30,10 +47,12 @@ type Row = (&'static str, usize, u8, Option<ImageFault>);
 fn expect_faults(
     rt: &(impl Abort + Alloc<A = Global>),
     image: &[u8],
+    place: Place,
     rows: &[Row],
 ) -> Result<(), Fail> {
-    for (what, at, byte, fault) in rows {
-        let changed = sealed_with(rt.alloc(), image, *at, *byte)?;
+    for (what, distance, byte, fault) in rows {
+        let at = place.at(*distance);
+        let changed = sealed_with(rt.alloc(), image, at, *byte)?;
         assert_eq!(rt; load(rt.alloc(), changed).err(), *fault, "{what}");
     }
     Ok(())
@@ -44,79 +63,97 @@ fn system_image(alloc: Global) -> Result<Vec<u8>, Fail> {
     Ok(compile(alloc, &sample())?.image)
 }
 
+/// Changes of the sample's image, with a digest of its bytes then.
+#[rattlefmt::skip]
+static CHANGES: [Row; 9] = [
+    ("no change",                         0,   b'M', None),
+    ("byte 0",                            0,   0,    Some(BadMagic)),
+    ("layout 9",                          8,   9,    Some(BadLayout(9))),
+    ("kind 2",                            12,  2,    Some(BadSection(0))),
+    ("a cost",                            104, 1,    None),
+    ("INVOKE 2",                          112, 2,    Some(BadSection(2))),
+    ("the first range from code point 1", 174, 1,    Some(BadSection(3))),
+    ("two equal first code points",       182, 0,    Some(BadSection(3))),
+    ("cell 0 has check -1",               310, 255,  Some(BadSection(5))),
+];
+
 #[test]
 fn changes_before_the_digest(rt: HostRuntime) -> Result<(), Fail> {
     let image = system_image(rt.alloc())?;
     let first_ranges = b"\0\0\0\0\x01\0\0\0\x20\0\0\0".as_slice();
     assert!(rt; image.get(174..186) == Some(first_ranges));
-    #[rattlefmt::skip]
-    let rows: [Row; 9] = [
-        ("no change",                         0,   b'M', None),
-        ("byte 0",                            0,   0,    Some(BadMagic)),
-        ("layout 9",                          8,   9,    Some(BadLayout(9))),
-        ("kind 2",                            12,  2,    Some(BadSection(0))),
-        ("a cost",                            104, 1,    None),
-        ("INVOKE 2",                          112, 2,    Some(BadSection(2))),
-        ("the first range from code point 1", 174, 1,    Some(BadSection(3))),
-        ("two equal first code points",       182, 0,    Some(BadSection(3))),
-        ("cell 0 has check -1",               310, 255,  Some(BadSection(5))),
-    ];
-    expect_faults(&rt, &image, &rows)
+    expect_faults(&rt, &image, Place::After(0), &CHANGES)
 }
+
+/// Changes of the sample's image, with its first digest.
+#[rattlefmt::skip]
+static BEHIND_THE_DIGEST: [(&str, usize, u8, ImageFault); 5] = [
+    // (what, place, byte, fault)
+    ("byte 0",                            0,    0,     BadMagic),
+    ("layout 9",                          8,    9,     BadLayout(9)),
+    ("kind 1",                            12,   1,     BadDigest),
+    ("a cost",                            104,  1,     BadDigest),
+    ("the first range from code point 1", 174,  1,     BadDigest),
+];
 
 #[test]
 fn changes_behind_the_digest(rt: HostRuntime) -> Result<(), Fail> {
     let image = system_image(rt.alloc())?;
     let last = image.len().saturating_sub(1);
     let other = image.last().map_or(0, |byte| !*byte);
-    #[rattlefmt::skip]
-    let rows = [
-        // (what, place, byte, fault)
-        ("byte 0",                            0,    0,     BadMagic),
-        ("layout 9",                          8,    9,     BadLayout(9)),
-        ("kind 1",                            12,   1,     BadDigest),
-        ("a cost",                            104,  1,     BadDigest),
-        ("the first range from code point 1", 174,  1,     BadDigest),
-        ("the last byte",                     last, other, BadDigest),
-    ];
-    for (what, at, byte, fault) in rows {
-        let changed = with_byte(rt.alloc(), &image, at, byte)?;
-        assert_eq!(rt; load(rt.alloc(), changed).err(), Some(fault), "{what}");
+    for (what, at, byte, fault) in &BEHIND_THE_DIGEST {
+        let changed = with_byte(rt.alloc(), &image, *at, *byte)?;
+        assert_eq!(rt; load(rt.alloc(), changed).err(), Some(*fault), "{what}");
     }
+    let changed = with_byte(rt.alloc(), &image, last, other)?;
+    assert_eq!(rt;
+        load(rt.alloc(), changed).err(),
+        Some(BadDigest),
+        "the last byte"
+    );
     Ok(())
+}
+
+/// Lengths of the image's header, and of less.
+static LENGTHS: [usize; 4] = [0, 103, 104, 136];
+
+/// Whether so many bytes of an image are told to be too few.
+fn is_truncated(alloc: Global, image: &[u8], length: usize) -> Result<bool, AllocError> {
+    let front = Vec::from_slice(alloc, image.get(..length).unwrap_or(b""))?;
+    Ok(load(alloc, front).err() == Some(Truncated))
 }
 
 #[test]
 fn other_lengths(rt: HostRuntime) -> Result<(), Fail> {
     let mut image = system_image(rt.alloc())?;
-    let rows = [0, 103, 104, 136, image.len().saturating_sub(1)];
-    for length in rows {
-        let front = Vec::from_slice(rt.alloc(), image.get(..length).unwrap_or(b""))?;
-        let fault = load(rt.alloc(), front).err();
-        assert_eq!(rt; (length, fault), (length, Some(Truncated)));
+    for length in &LENGTHS {
+        assert!(rt; is_truncated(rt.alloc(), &image, *length)?, "{length}");
     }
+    let length = image.len().saturating_sub(1);
+    assert!(rt; is_truncated(rt.alloc(), &image, length)?, "{length}");
     image.push(0)?;
     let fault = load(rt.alloc(), image).err();
     assert_eq!(rt; fault, Some(BadSection(9)));
     Ok(())
 }
 
+/// Changes of the image of a user dictionary of one token. Places are counted back from the digest.
+#[rattlefmt::skip]
+static OF_THE_TOKEN: [Row; 8] = [
+    ("no change",            1,  b'X', None),
+    ("left id 2",            17, 2,    Some(BadToken(0))),
+    ("right id 2",           15, 2,    Some(BadToken(0))),
+    ("cost 2",               13, 2,    None),
+    ("a byte of the zero",   11, 1,    Some(BadToken(0))),
+    ("feature length 2",     5,  2,    Some(BadText(0))),
+    ("feature not UTF-8",    1,  0xff, Some(BadText(0))),
+    ("group 0 from token 1", 25, 1,    Some(BadSection(6))),
+];
+
 #[test]
 fn changes_of_the_token(rt: HostRuntime) -> Result<(), Fail> {
     let system = sample_dict(rt.alloc())?;
     let image = compile_user(rt.alloc(), &system, &[b"a,1,1,1,X\n".as_slice()])?.image;
     let behind = image.len().saturating_sub(DIGEST);
-    let back = |bytes: usize| behind.saturating_sub(bytes);
-    #[rattlefmt::skip]
-    let rows: [Row; 8] = [
-        ("no change",            back(1),  b'X', None),
-        ("left id 2",            back(17), 2,    Some(BadToken(0))),
-        ("right id 2",           back(15), 2,    Some(BadToken(0))),
-        ("cost 2",               back(13), 2,    None),
-        ("a byte of the zero",   back(11), 1,    Some(BadToken(0))),
-        ("feature length 2",     back(5),  2,    Some(BadText(0))),
-        ("feature not UTF-8",    back(1),  0xff, Some(BadText(0))),
-        ("group 0 from token 1", back(25), 1,    Some(BadSection(6))),
-    ];
-    expect_faults(&rt, &image, &rows)
+    expect_faults(&rt, &image, Place::Before(behind), &OF_THE_TOKEN)
 }

@@ -1,10 +1,24 @@
 //! Compiled system dictionaries.
 use crate::tests::samples::{Expected, NONE, are_entries, sample_dict, with_lexicons};
 use dict_compile::compile;
-use dict_image::{Dict, load};
+use dict_image::{Dict, Entries, load};
 use mj_model::{MatrixSizes, Sources, sample};
 use std::alloc::Global;
 use std::test::Fail;
+
+/// Keys of the sample, with their entries.
+#[rattlefmt::skip]
+static SUMOMO: [(&str, &[Expected]); 8] = [
+    // (key, entries)
+    ("すもも", &[(0, 1, 1, 100, "名詞,すもも")]),
+    ("も", &[(1, 1, 1, 20, "助詞,も")]),
+    ("もも", &[(2, 1, 1, 30, "名詞,もも")]),
+    ("", NONE),
+    ("す", NONE),
+    ("すも", NONE),
+    ("ももも", NONE),
+    ("x", NONE),
+];
 
 #[test]
 fn sumomo(rt: HostRuntime) -> Result<(), Fail> {
@@ -13,18 +27,7 @@ fn sumomo(rt: HostRuntime) -> Result<(), Fail> {
     let dict = load(rt.alloc(), compiled.image)?;
     assert!(rt; !dict.is_user());
     assert_eq!(rt; dict.matrix_sizes(), MatrixSizes { right: 2, left: 2 });
-    let rows: [(&str, &[Expected]); 8] = [
-        // (key, entries)
-        ("すもも", &[(0, 1, 1, 100, "名詞,すもも")]),
-        ("も", &[(1, 1, 1, 20, "助詞,も")]),
-        ("もも", &[(2, 1, 1, 30, "名詞,もも")]),
-        ("", NONE),
-        ("す", NONE),
-        ("すも", NONE),
-        ("ももも", NONE),
-        ("x", NONE),
-    ];
-    for (key, entries) in rows {
+    for (key, entries) in &SUMOMO {
         assert!(rt; are_entries(&dict, key, entries), "{key}");
     }
     Ok(())
@@ -33,6 +36,14 @@ fn sumomo(rt: HostRuntime) -> Result<(), Fail> {
 /// A surface that begins a text: its length in bytes, and the feature of its first entry.
 type Prefix = (usize, &'static str);
 
+/// Whether the next entry has this feature.
+fn begins_with(entries: &mut Entries<'_>, feature: &str) -> bool {
+    match entries.next() {
+        Some(entry) => entry.feature == feature,
+        None => false,
+    }
+}
+
 /// Whether these are the surfaces that begin a text, and there are no others.
 fn are_prefixes(dict: &Dict, text: &str, expected: &[Prefix]) -> bool {
     let mut prefixes = dict.prefixes(text);
@@ -40,26 +51,28 @@ fn are_prefixes(dict: &Dict, text: &str, expected: &[Prefix]) -> bool {
         let Some((found, mut entries)) = prefixes.next() else {
             return false;
         };
-        let first = entries.next().map(|entry| entry.feature);
-        if found != *length || first != Some(*feature) {
+        if found != *length || !begins_with(&mut entries, feature) {
             return false;
         }
     }
     prefixes.next().is_none()
 }
 
+/// Texts with the surfaces that begin them.
+#[rattlefmt::skip]
+static TEXTS: [(&str, &[Prefix]); 5] = [
+    // (text, the surfaces that begin it)
+    ("すもももも", &[(9, "名詞,すもも")]),
+    ("もももも", &[(3, "助詞,も"), (6, "名詞,もも")]),
+    ("もす", &[(3, "助詞,も")]),
+    ("す", &[]),
+    ("", &[]),
+];
+
 #[test]
 fn surfaces_that_begin_a_text(rt: HostRuntime) -> Result<(), Fail> {
     let dict = sample_dict(rt.alloc())?;
-    let rows: [(&str, &[Prefix]); 5] = [
-        // (text, the surfaces that begin it)
-        ("すもももも", &[(9, "名詞,すもも")]),
-        ("もももも", &[(3, "助詞,も"), (6, "名詞,もも")]),
-        ("もす", &[(3, "助詞,も")]),
-        ("す", &[]),
-        ("", &[]),
-    ];
-    for (text, expected) in rows {
+    for (text, expected) in &TEXTS {
         assert!(rt; are_prefixes(&dict, text, expected), "{text}");
     }
     Ok(())
@@ -80,26 +93,28 @@ fn compiled(
     Ok((compiled.entries, compiled.skipped, same))
 }
 
+/// Two lexicons, and what their dictionary has.
+#[rattlefmt::skip]
+static TWO_LEXICONS: [(&str, &str, &str, u64, u128, &str, &[Expected]); 11] = [
+    // (what, the two lexicons, how many entries, how many skipped lines, a key, its entries)
+    ("same_surface_twice", "a,1,1,10,X\na,1,1,10,Y\n", "", 2, 0, "a", &[(0, 1, 1, 10, "X"), (1, 1, 1, 10, "Y")]),
+    ("features in falling order", "a,1,1,10,Y\nb,1,1,10,Z\na,1,1,10,X\n", "", 3, 0, "a", &[(0, 1, 1, 10, "Y"), (1, 1, 1, 10, "X")]),
+    ("one surface in each", "b,1,1,9,Z\na,0,1,30,Y\n", "a,1,0,-5,X\n", 3, 0, "a", &[(0, 0, 1, 30, "Y"), (1, 1, 0, -5, "X")]),
+    ("lexicon_lines", "\n,1,1,5,X\nも,1,1,20,Y\r\n", "", 1, 1, "も", &[(0, 1, 1, 20, "Y")]),
+    ("skipped lines in both", ",1,1,5,X\n,9,9,5,X\na,1,1,10,X\n", "b,1,1,10,Y\n,1,1,5,X\n", 2, 3, "b", &[(1, 1, 1, 10, "Y")]),
+    ("skipped lines alone", ",1,1,5,X\n", ",1,1,5,X\n", 0, 2, "", NONE),
+    ("empty_lexicon", "", "", 0, 0, "も", NONE),
+    ("blank lines", "\n\r\n", "\n", 0, 0, "も", NONE),
+    ("quoted_fields", "\"a,b\",1,1,10,X\n\"a\"\"b\",1,1,10,Y\n", "", 2, 0, "a,b", &[(1, 1, 1, 10, "X")]),
+    ("least and greatest cost", "a,1,1,-32768,X\na,1,1,32767,X\n", "", 2, 0, "a", &[(0, 1, 1, -32768, "X"), (1, 1, 1, 32767, "X")]),
+    ("beyond the basic plane", "𠮷,1,1,10,X\nも,1,1,20,Y\n", "", 2, 0, "𠮷", &[(1, 1, 1, 10, "X")]),
+];
+
 #[test]
 fn two_lexicons(rt: HostRuntime) -> Result<(), Fail> {
-    #[rattlefmt::skip]
-    let rows: [(&str, &str, &str, u64, u128, &str, &[Expected]); 11] = [
-        // (what, the two lexicons, how many entries, how many skipped lines, a key, its entries)
-        ("same_surface_twice", "a,1,1,10,X\na,1,1,10,Y\n", "", 2, 0, "a", &[(0, 1, 1, 10, "X"), (1, 1, 1, 10, "Y")]),
-        ("features in falling order", "a,1,1,10,Y\nb,1,1,10,Z\na,1,1,10,X\n", "", 3, 0, "a", &[(0, 1, 1, 10, "Y"), (1, 1, 1, 10, "X")]),
-        ("one surface in each", "b,1,1,9,Z\na,0,1,30,Y\n", "a,1,0,-5,X\n", 3, 0, "a", &[(0, 0, 1, 30, "Y"), (1, 1, 0, -5, "X")]),
-        ("lexicon_lines", "\n,1,1,5,X\nも,1,1,20,Y\r\n", "", 1, 1, "も", &[(0, 1, 1, 20, "Y")]),
-        ("skipped lines in both", ",1,1,5,X\n,9,9,5,X\na,1,1,10,X\n", "b,1,1,10,Y\n,1,1,5,X\n", 2, 3, "b", &[(1, 1, 1, 10, "Y")]),
-        ("skipped lines alone", ",1,1,5,X\n", ",1,1,5,X\n", 0, 2, "", NONE),
-        ("empty_lexicon", "", "", 0, 0, "も", NONE),
-        ("blank lines", "\n\r\n", "\n", 0, 0, "も", NONE),
-        ("quoted_fields", "\"a,b\",1,1,10,X\n\"a\"\"b\",1,1,10,Y\n", "", 2, 0, "a,b", &[(1, 1, 1, 10, "X")]),
-        ("least and greatest cost", "a,1,1,-32768,X\na,1,1,32767,X\n", "", 2, 0, "a", &[(0, 1, 1, -32768, "X"), (1, 1, 1, 32767, "X")]),
-        ("beyond the basic plane", "𠮷,1,1,10,X\nも,1,1,20,Y\n", "", 2, 0, "𠮷", &[(1, 1, 1, 10, "X")]),
-    ];
-    for (what, first, second, count, skipped, key, entries) in rows {
+    for (what, first, second, count, skipped, key, entries) in &TWO_LEXICONS {
         let answer = compiled(rt.alloc(), first, second, key, entries)?;
-        assert_eq!(rt; answer, (count, skipped, true), "{what}");
+        assert_eq!(rt; answer, (*count, *skipped, true), "{what}");
     }
     Ok(())
 }
@@ -114,16 +129,18 @@ fn no_lexicon(rt: HostRuntime) -> Result<(), Fail> {
     Ok(())
 }
 
+/// Connection tables.
+#[rattlefmt::skip]
+static COSTS: [(&str, &str, u32, u32, &[u8]); 3] = [
+    // (what, matrix.def, right ids, left ids, the costs of each right id in turn)
+    ("asymmetric_matrix", "2 3\n0 2 100\n1 0 9\n", 2, 3, b"\0\0\0\0\x64\0\x09\0\0\0\0\0"),
+    ("negative cost", "2 2\n0 0 -434\n", 2, 2, b"\x4e\xfe\0\0\0\0\0\0"),
+    ("a pair twice", "2 2\n0 1 3\n0 1 4\n", 2, 2, b"\0\0\x04\0\0\0\0\0"),
+];
+
 #[test]
 fn connection_costs(rt: HostRuntime) -> Result<(), Fail> {
-    #[rattlefmt::skip]
-    let rows = [
-        // (what, matrix.def, right ids, left ids, the costs of each right id in turn)
-        ("asymmetric_matrix", "2 3\n0 2 100\n1 0 9\n", 2, 3, b"\0\0\0\0\x64\0\x09\0\0\0\0\0".as_slice()),
-        ("negative cost", "2 2\n0 0 -434\n", 2, 2, b"\x4e\xfe\0\0\0\0\0\0"),
-        ("a pair twice", "2 2\n0 1 3\n0 1 4\n", 2, 2, b"\0\0\x04\0\0\0\0\0"),
-    ];
-    for (what, matrix, right, left, costs) in rows {
+    for (what, matrix, right, left, costs) in &COSTS {
         let lexicons = ["も,1,1,20,X\n".as_bytes()];
         let sources = Sources {
             matrix: matrix.as_bytes(),
@@ -133,7 +150,10 @@ fn connection_costs(rt: HostRuntime) -> Result<(), Fail> {
         let table = compiled.image.get(104..).unwrap_or(b"");
         assert!(rt; table.starts_with(costs), "{what}");
         let dict = load(rt.alloc(), compiled.image)?;
-        let sizes = MatrixSizes { right, left };
+        let sizes = MatrixSizes {
+            right: *right,
+            left: *left,
+        };
         assert_eq!(rt; dict.matrix_sizes(), sizes, "{what}");
         assert!(rt; are_entries(&dict, "も", &[(0, 1, 1, 20, "X")]), "{what}");
     }

@@ -2,41 +2,43 @@
 use dict_compile::compile;
 use lex_source::lines;
 use mj_model::SourceKind::{
-    BadHeader, BadNumber, BadRange, BadRow, IdOutside, MissingCategory, NoDefault, NoSpace,
+    self, BadHeader, BadNumber, BadRange, BadRow, IdOutside, MissingCategory, NoDefault, NoSpace,
     NoSuchCategory, PairOutside, TooFewFields, TooLarge, Twice, UndefinedCategory,
 };
 use mj_model::{Sources, sample};
 use std::alloc::{AllocError, Global};
 use std::test::Fail;
 
+/// A connection table and two lexicons.
+#[rattlefmt::skip]
+static LEXICONS: [(&str, &str, &str, &str, u32, u64, SourceKind); 14] = [
+    // (what, matrix, first lexicon, second lexicon, file, line, kind)
+    ("asymmetric_matrix", "2 3", "も,1,2,20,X\n", "", 3, 1, IdOutside),
+    ("a left id outside", "2 3", "も,2,1,20,X\nも,3,0,20,X\n", "", 3, 2, IdOutside),
+    ("in the second lexicon", "2 3", "も,2,1,20,X\n", "も,1,2,20,X\n", 4, 1, IdOutside),
+    ("in both lexicons", "2 3", "も,1,2,20,X\n", "も,1,x,20,X\n", 3, 1, IdOutside),
+    ("a line before its ids", "2 2", "も,5,1,20,X\nも,1,1,x,X\n", "", 3, 2, BadNumber),
+    ("cost too low", "2 2", "も,1,1,-32769,X\n", "", 3, 1, BadNumber),
+    ("cost too high", "2 2", "", "も,1,1,32768,X\n", 4, 1, BadNumber),
+    ("open quote", "2 2", "\"ab,1,1,10,X\n", "", 3, 1, TooFewFields),
+    ("dear row", "2 2\n0 0 40000", "", "", 0, 2, BadRow),
+    ("row outside", "2 2\n2 0 1", "", "", 0, 2, PairOutside),
+    ("header of 0", "0 2", "", "", 0, 1, BadHeader),
+    ("no header", "", "", "", 0, 0, BadHeader),
+    ("too large", "65535 65535", "", "", 0, 1, TooLarge),
+    ("matrix before lexicon", "0 2", "も,1,1,x,X\n", "", 0, 1, BadHeader),
+];
+
 #[test]
 fn matrix_and_lexicons(rt: HostRuntime) {
-    #[rattlefmt::skip]
-    let rows = [
-        // (what, matrix, first lexicon, second lexicon, file, line, kind)
-        ("asymmetric_matrix", "2 3", "も,1,2,20,X\n", "", 3, 1, IdOutside),
-        ("a left id outside", "2 3", "も,2,1,20,X\nも,3,0,20,X\n", "", 3, 2, IdOutside),
-        ("in the second lexicon", "2 3", "も,2,1,20,X\n", "も,1,2,20,X\n", 4, 1, IdOutside),
-        ("in both lexicons", "2 3", "も,1,2,20,X\n", "も,1,x,20,X\n", 3, 1, IdOutside),
-        ("a line before its ids", "2 2", "も,5,1,20,X\nも,1,1,x,X\n", "", 3, 2, BadNumber),
-        ("cost too low", "2 2", "も,1,1,-32769,X\n", "", 3, 1, BadNumber),
-        ("cost too high", "2 2", "", "も,1,1,32768,X\n", 4, 1, BadNumber),
-        ("open quote", "2 2", "\"ab,1,1,10,X\n", "", 3, 1, TooFewFields),
-        ("dear row", "2 2\n0 0 40000", "", "", 0, 2, BadRow),
-        ("row outside", "2 2\n2 0 1", "", "", 0, 2, PairOutside),
-        ("header of 0", "0 2", "", "", 0, 1, BadHeader),
-        ("no header", "", "", "", 0, 0, BadHeader),
-        ("too large", "65535 65535", "", "", 0, 1, TooLarge),
-        ("matrix before lexicon", "0 2", "も,1,1,x,X\n", "", 0, 1, BadHeader),
-    ];
-    for (what, matrix, first, second, file, line, kind) in rows {
+    for (what, matrix, first, second, file, line, kind) in &LEXICONS {
         let sources = Sources {
             matrix: matrix.as_bytes(),
             lexicons: &[first.as_bytes(), second.as_bytes()],
             ..sample()
         };
         let fault = compile(rt.alloc(), &sources).err();
-        assert_eq!(rt; fault, Some(kind.at(file, line)), "{what}");
+        assert_eq!(rt; fault, Some(kind.at(*file, *line)), "{what}");
     }
 }
 
@@ -58,18 +60,22 @@ fn edited(
     Ok(kept)
 }
 
+/// What begins no line.
+const ALL: &str = "none";
+
+/// Sources without some lines.
+#[rattlefmt::skip]
+static MISSING: [(&str, &str, &str, u32, SourceKind); 4] = [
+    // (what, what lines of char.def and of unk.def are left out, file, kind)
+    ("no SPACE",         "SPACE",   ALL,     1, NoSpace),
+    ("no unknown KANJI", ALL,       "KANJI", 2, MissingCategory(4)),
+    ("both",             "SPACE",   "KANJI", 1, NoSpace),
+    ("no DEFAULT",       "DEFAULT", ALL,     1, NoDefault),
+];
+
 #[test]
 fn missing_categories(rt: HostRuntime) -> Result<(), Fail> {
-    let all = "none";
-    #[rattlefmt::skip]
-    let rows = [
-        // (what, what lines of char.def and of unk.def are left out, file, kind)
-        ("no SPACE",         "SPACE",   all,     1, NoSpace),
-        ("no unknown KANJI", all,       "KANJI", 2, MissingCategory(4)),
-        ("both",             "SPACE",   "KANJI", 1, NoSpace),
-        ("no DEFAULT",       "DEFAULT", all,     1, NoDefault),
-    ];
-    for (what, no_chars, no_unknown, file, kind) in rows {
+    for (what, no_chars, no_unknown, file, kind) in &MISSING {
         let chars = edited(rt.alloc(), sample().chars, no_chars, "")?;
         let unk = edited(rt.alloc(), sample().unk, no_unknown, "")?;
         let sources = Sources {
@@ -78,28 +84,32 @@ fn missing_categories(rt: HostRuntime) -> Result<(), Fail> {
             ..sample()
         };
         let fault = compile(rt.alloc(), &sources).err();
-        assert_eq!(rt; fault, Some(kind.at(file, 0)), "{what}");
+        assert_eq!(rt; fault, Some(kind.at(*file, 0)), "{what}");
     }
     Ok(())
 }
 
+const BAD_COST: &str = "も,1,1,x,X\n";
+
+const BAD_ID: &str = "KANJI,2,1,1000,X\n";
+
+/// Two files at fault.
+#[rattlefmt::skip]
+static IN_TWO_FILES: [(&str, &str, &str, &str, &str, u32, u64, SourceKind); 8] = [
+    // (what, matrix, a further line of char.def, one of unk.def, the lexicon, file, line, kind)
+    ("matrix, char.def", "2 2 2", "0x4E00..0x9FFF\n", "", "", 0, 1, BadHeader),
+    ("matrix, unk.def", "2 2\n0 2 0", "", BAD_ID, "", 0, 2, PairOutside),
+    ("matrix, lexicon", "2 2\n0 0", "", "", BAD_COST, 0, 2, BadRow),
+    ("char.def, unk.def", "2 2", "0x9FFF..0x4E00 KANJI\n", BAD_ID, "", 1, 13, BadRange),
+    ("char.def, lexicon", "2 2", "KANJI 0 0 2\n", "", BAD_COST, 1, 13, Twice),
+    ("a category, lexicon", "2 2", "0x3007 OTHER\n", "", BAD_COST, 1, 13, UndefinedCategory),
+    ("an id of unk.def, lexicon", "2 2", "", BAD_ID, BAD_COST, 2, 7, IdOutside),
+    ("a name, lexicon", "2 2", "", "OTHER,1,1,1,X\n", BAD_COST, 2, 7, NoSuchCategory),
+];
+
 #[test]
 fn faults_in_two_files(rt: HostRuntime) -> Result<(), Fail> {
-    let bad_cost = "も,1,1,x,X\n";
-    let bad_id = "KANJI,2,1,1000,X\n";
-    #[rattlefmt::skip]
-    let rows = [
-        // (what, matrix, a further line of char.def, one of unk.def, the lexicon, file, line, kind)
-        ("matrix, char.def", "2 2 2", "0x4E00..0x9FFF\n", "", "", 0, 1, BadHeader),
-        ("matrix, unk.def", "2 2\n0 2 0", "", bad_id, "", 0, 2, PairOutside),
-        ("matrix, lexicon", "2 2\n0 0", "", "", bad_cost, 0, 2, BadRow),
-        ("char.def, unk.def", "2 2", "0x9FFF..0x4E00 KANJI\n", bad_id, "", 1, 13, BadRange),
-        ("char.def, lexicon", "2 2", "KANJI 0 0 2\n", "", bad_cost, 1, 13, Twice),
-        ("a category, lexicon", "2 2", "0x3007 OTHER\n", "", bad_cost, 1, 13, UndefinedCategory),
-        ("an id of unk.def, lexicon", "2 2", "", bad_id, bad_cost, 2, 7, IdOutside),
-        ("a name, lexicon", "2 2", "", "OTHER,1,1,1,X\n", bad_cost, 2, 7, NoSuchCategory),
-    ];
-    for (what, matrix, further, unknown, lexicon, file, line, kind) in rows {
+    for (what, matrix, further, unknown, lexicon, file, line, kind) in &IN_TWO_FILES {
         let chars = edited(rt.alloc(), sample().chars, "none", further)?;
         let unk = edited(rt.alloc(), sample().unk, "none", unknown)?;
         let sources = Sources {
@@ -109,7 +119,7 @@ fn faults_in_two_files(rt: HostRuntime) -> Result<(), Fail> {
             lexicons: &[lexicon.as_bytes()],
         };
         let fault = compile(rt.alloc(), &sources).err();
-        assert_eq!(rt; fault, Some(kind.at(file, line)), "{what}");
+        assert_eq!(rt; fault, Some(kind.at(*file, *line)), "{what}");
     }
     Ok(())
 }

@@ -3,7 +3,7 @@ use super::watched::Told;
 use crate::tests::samples::with_lexicons;
 use dict_compile::{Compiled, Step, compile, compile_watched};
 use lex_source::SourceLexicon;
-use mj_model::SourceKind::{BadNumber, IdOutside, MissingCategory};
+use mj_model::SourceKind::{self, BadNumber, IdOutside, MissingCategory};
 use mj_model::{MatrixSizes, SourceFault, Sources};
 use std::test::Fail;
 
@@ -26,53 +26,76 @@ fn last_line(rt: &HostRuntime, first: &str, second: &str) -> Result<Option<u64>,
     Ok(sorted.records().last().map(|record| record.line))
 }
 
+/// Lexicons that are accepted.
+#[rattlefmt::skip]
+static ACCEPTED: [(&str, &str, &str, u64, Option<u64>, u128); 4] = [
+    // (what, the two lexicons, how many records, the line of the last one, how many skipped lines)
+    ("empty_lexicon", "", "", 0, None, 0),
+    ("lexicon_lines", "\n,1,1,5,X\nも,1,1,20,Y\r\n", "", 1, Some(3), 1),
+    ("greatest ids", "も,2,1,20,X\n", "も,0,0,20,X\n", 2, Some(1), 0),
+    ("skipped ids outside", ",9,9,5,X\n", "\n,1,1,5,X\na,1,1,5,X\n", 1, Some(3), 2),
+];
+
 #[test]
 fn accepted_lexicons(rt: HostRuntime) -> Result<(), Fail> {
-    #[rattlefmt::skip]
-    let rows = [
-        // (what, the two lexicons, how many records, the line of the last one, how many skipped lines)
-        ("empty_lexicon", "", "", 0, None, 0),
-        ("lexicon_lines", "\n,1,1,5,X\nも,1,1,20,Y\r\n", "", 1, Some(3), 1),
-        ("greatest ids", "も,2,1,20,X\n", "も,0,0,20,X\n", 2, Some(1), 0),
-        ("skipped ids outside", ",9,9,5,X\n", "\n,1,1,5,X\na,1,1,5,X\n", 1, Some(3), 2),
-    ];
-    for (what, first, second, count, line, skipped) in rows {
+    for (what, first, second, count, line, skipped) in &ACCEPTED {
         let read = read(&rt, first, second)?;
         let last = last_line(&rt, first, second)?;
         let told = (read.entries, last, read.skipped);
-        assert_eq!(rt; told, (count, line, skipped), "{what}");
+        assert_eq!(rt; told, (*count, *line, *skipped), "{what}");
     }
     Ok(())
 }
 
+/// Lexicons that are refused.
+#[rattlefmt::skip]
+static REFUSED: [(&str, &str, &str, u32, u64, SourceKind); 4] = [
+    // (what, the two lexicons, file, line, kind)
+    ("a left id outside",     "も,3,1,20,X\n",             "",                  3, 1, IdOutside),
+    ("a right id outside",    "も,2,1,20,X\n",             "\nも,1,2,20,X\n",   4, 2, IdOutside),
+    ("a line before its ids", "も,5,1,20,X\nも,1,1,x,X\n", "",                  3, 2, BadNumber),
+    ("in both",               "も,5,1,20,X\n",             "も,1,1,x,X\n",      3, 1, IdOutside),
+];
+
 #[test]
 fn refused_lexicons(rt: HostRuntime) {
-    #[rattlefmt::skip]
-    let rows = [
-        // (what, the two lexicons, file, line, kind)
-        ("a left id outside",     "も,3,1,20,X\n",             "",                  3, 1, IdOutside),
-        ("a right id outside",    "も,2,1,20,X\n",             "\nも,1,2,20,X\n",   4, 2, IdOutside),
-        ("a line before its ids", "も,5,1,20,X\nも,1,1,x,X\n", "",                  3, 2, BadNumber),
-        ("in both",               "も,5,1,20,X\n",             "も,1,1,x,X\n",      3, 1, IdOutside),
-    ];
-    for (what, first, second, file, line, kind) in rows {
+    for (what, first, second, file, line, kind) in &REFUSED {
         let fault = read(&rt, first, second).err();
-        assert_eq!(rt; fault, Some(kind.at(file, line)), "{what}");
+        assert_eq!(rt; fault, Some(kind.at(*file, *line)), "{what}");
     }
 }
 
+/// Unknown entries of both categories.
+const UNKNOWN: &str = "DEFAULT,1,2,9,X\nSPACE,0,0,9,X\n";
+
+/// A fault's kind, file and line.
+type At = (SourceKind, u32, u64);
+
+/// The fault, if there is one.
+fn fault_at(at: Option<At>) -> Option<SourceFault> {
+    let (kind, file, line) = at?;
+    Some(kind.at(file, line))
+}
+
+/// The first steps of those sources that are accepted.
+static FIRST_STEPS: [Step; 2] = [
+    Step::MatrixRead(MatrixSizes { right: 3, left: 3 }),
+    Step::CategoriesRead(2),
+];
+
+/// Sources of two categories.
+#[rattlefmt::skip]
+static ALL_SOURCES: [(&str, &str, &str, Option<At>); 4] = [
+    // (what, unk.def, lexicon, the fault)
+    ("accepted", UNKNOWN, "も,2,1,20,X\n,1,1,1,X\n", None),
+    ("an unknown id", "DEFAULT,1,2,9,X\nSPACE,3,0,9,X\n", "も,3,1,20,X\n", Some((IdOutside, 2, 2))),
+    ("no unknown SPACE", "DEFAULT,1,2,9,X\n", "", Some((MissingCategory(1), 2, 0))),
+    ("an id", "DEFAULT,1,1,9,X\nSPACE,0,0,9,X\n", "も,1,3,20,X\n", Some((IdOutside, 3, 1))),
+];
+
 #[test]
 fn all_sources(rt: HostRuntime) {
-    let unknown = "DEFAULT,1,2,9,X\nSPACE,0,0,9,X\n";
-    #[rattlefmt::skip]
-    let rows = [
-        // (what, unk.def, lexicon, the fault)
-        ("accepted", unknown, "も,2,1,20,X\n,1,1,1,X\n", None),
-        ("an unknown id", "DEFAULT,1,2,9,X\nSPACE,3,0,9,X\n", "も,3,1,20,X\n", Some(IdOutside.at(2, 2))),
-        ("no unknown SPACE", "DEFAULT,1,2,9,X\n", "", Some(MissingCategory(1).at(2, 0))),
-        ("an id", "DEFAULT,1,1,9,X\nSPACE,0,0,9,X\n", "も,1,3,20,X\n", Some(IdOutside.at(3, 1))),
-    ];
-    for (what, unknown, lexicon, expected) in rows {
+    for (what, unknown, lexicon, expected) in &ALL_SOURCES {
         let sources = Sources {
             matrix: b"3 3\n0 2 100\n",
             chars: b"DEFAULT 0 1 0\nSPACE 0 1 0\n0x0020 SPACE\n",
@@ -83,12 +106,10 @@ fn all_sources(rt: HostRuntime) {
         match compile_watched(rt.alloc(), &sources, &mut told) {
             Ok(compiled) => {
                 assert!(rt; expected.is_none(), "{what}");
-                let sizes = MatrixSizes { right: 3, left: 3 };
-                let read = [Step::MatrixRead(sizes), Step::CategoriesRead(2)];
-                assert!(rt; told.steps.starts_with(&read), "{what}");
+                assert!(rt; told.steps.starts_with(&FIRST_STEPS), "{what}");
                 assert_eq!(rt; (compiled.entries, compiled.skipped), (1, 1), "{what}");
             }
-            Err(fault) => assert_eq!(rt; Some(fault), expected, "{what}"),
+            Err(fault) => assert_eq!(rt; Some(fault), fault_at(*expected), "{what}"),
         }
     }
 }

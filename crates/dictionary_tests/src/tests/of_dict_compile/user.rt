@@ -1,12 +1,12 @@
 //! Compiled user dictionaries.
 use crate::tests::samples::{Expected, NONE, are_entries, sample_dict};
-use dict_compile::CompileUserFault::{NotSystem, Source};
+use dict_compile::CompileUserFault::{self, NotSystem, Source};
 use dict_compile::{compile, compile_user};
 use dict_image::{Dict, load};
 use mj_model::SourceKind::{
     self, ArrayFull, BadNumber, FeaturesTooLarge, IdOutside, Memory, NotUtf8, TooFewFields,
 };
-use mj_model::{MatrixSizes, NamedFault, Sources, sample};
+use mj_model::{MatrixSizes, NamedFault, SourceFault, Sources, sample};
 use std::alloc::Global;
 use std::test::Fail;
 
@@ -30,25 +30,39 @@ fn compiled(
     Ok((compiled.entries, compiled.skipped, same))
 }
 
+/// Two lexicons, and what their dictionary has.
+#[rattlefmt::skip]
+static USERS: [(&str, &str, &str, u64, u128, &str, &[Expected]); 6] = [
+    // (what, the two lexicons, how many entries, how many skipped lines, a key, its entries)
+    ("user_dictionary", LINE, "", 1, 0, "もも", &[(0, 1, 1, 1, "名詞,ユーザ")]),
+    ("no entry of the system", LINE, "", 1, 0, "も", NONE),
+    ("one surface in each", "b,1,1,9,Z\na,0,1,30,Y\n", "a,1,0,-5,X\n", 3, 0, "a", &[(0, 0, 1, 30, "Y"), (1, 1, 0, -5, "X")]),
+    ("empty lexicons", "", "", 0, 0, "もも", NONE),
+    ("skipped lines in both", ",1,1,5,X\n,1,1,5,X\n", "a,1,1,5,X\n,1,1,5,X\n", 1, 3, "a", &[(0, 1, 1, 5, "X")]),
+    ("a byte order mark is a surface's", "\u{feff}a,1,1,5,X\n", "", 1, 0, "a", NONE),
+];
+
 #[test]
 fn user_dictionary(rt: HostRuntime) -> Result<(), Fail> {
     let system = sample_dict(rt.alloc())?;
-    #[rattlefmt::skip]
-    let rows: [(&str, &str, &str, u64, u128, &str, &[Expected]); 6] = [
-        // (what, the two lexicons, how many entries, how many skipped lines, a key, its entries)
-        ("user_dictionary", LINE, "", 1, 0, "もも", &[(0, 1, 1, 1, "名詞,ユーザ")]),
-        ("no entry of the system", LINE, "", 1, 0, "も", NONE),
-        ("one surface in each", "b,1,1,9,Z\na,0,1,30,Y\n", "a,1,0,-5,X\n", 3, 0, "a", &[(0, 0, 1, 30, "Y"), (1, 1, 0, -5, "X")]),
-        ("empty lexicons", "", "", 0, 0, "もも", NONE),
-        ("skipped lines in both", ",1,1,5,X\n,1,1,5,X\n", "a,1,1,5,X\n,1,1,5,X\n", 1, 3, "a", &[(0, 1, 1, 5, "X")]),
-        ("a byte order mark is a surface's", "\u{feff}a,1,1,5,X\n", "", 1, 0, "a", NONE),
-    ];
-    for (what, first, second, count, skipped, key, entries) in rows {
+    for (what, first, second, count, skipped, key, entries) in &USERS {
         let answer = compiled(rt.alloc(), &system, first, second, key, entries)?;
-        assert_eq!(rt; answer, (count, skipped, true), "{what}");
+        assert_eq!(rt; answer, (*count, *skipped, true), "{what}");
     }
     Ok(())
 }
+
+const ACCEPTED: &str = "もも,2,1,1,X\n";
+
+/// Two lexicons that are refused.
+#[rattlefmt::skip]
+static REFUSED: [(&str, &str, &str, u32, u64, SourceKind); 4] = [
+    // (what, the two lexicons, file, line, kind)
+    ("a right id outside",    "もも,1,2,1,X\n", "",                       3, 1, IdOutside),
+    ("a left id outside",     ACCEPTED, "もも,1,1,1,X\nもも,3,1,1,X\n",   4, 2, IdOutside),
+    ("a line before its ids", "もも,3,1,1,X\nもも,1,1,x,X\n", "",         3, 2, BadNumber),
+    ("in both",               "もも,1,1,1\n", "もも,1,1,x,X\n",           3, 1, TooFewFields),
+];
 
 #[test]
 fn refused_lexicons(rt: HostRuntime) -> Result<(), Fail> {
@@ -57,57 +71,52 @@ fn refused_lexicons(rt: HostRuntime) -> Result<(), Fail> {
         ..sample()
     };
     let system = load(rt.alloc(), compile(rt.alloc(), &sources)?.image)?;
-    let accepted = "もも,2,1,1,X\n";
-    #[rattlefmt::skip]
-    let rows = [
-        // (what, the two lexicons, file, line, kind)
-        ("a right id outside",    "もも,1,2,1,X\n", "",                       3, 1, IdOutside),
-        ("a left id outside",     accepted, "もも,1,1,1,X\nもも,3,1,1,X\n",   4, 2, IdOutside),
-        ("a line before its ids", "もも,3,1,1,X\nもも,1,1,x,X\n", "",         3, 2, BadNumber),
-        ("in both",               "もも,1,1,1\n", "もも,1,1,x,X\n",           3, 1, TooFewFields),
-    ];
-    for (what, first, second, file, line, kind) in rows {
+    for (what, first, second, file, line, kind) in &REFUSED {
         let lexicons = [first.as_bytes(), second.as_bytes()];
         let fault = compile_user(rt.alloc(), &system, &lexicons).err();
-        assert_eq!(rt; fault, Some(Source(kind.at(file, line))), "{what}");
+        assert_eq!(rt; fault, Some(Source(kind.at(*file, *line))), "{what}");
     }
-    let compiled = compile_user(rt.alloc(), &system, &[accepted.as_bytes()])?;
+    let compiled = compile_user(rt.alloc(), &system, &[ACCEPTED.as_bytes()])?;
     let sizes = load(rt.alloc(), compiled.image)?.matrix_sizes();
     assert_eq!(rt; sizes, MatrixSizes { right: 2, left: 3 });
     Ok(())
 }
+
+/// Lexicons for a user dictionary.
+#[rattlefmt::skip]
+static LEXICONS: [(&str, &str); 2] = [
+    // (what, lexicon)
+    ("an accepted line", LINE),
+    ("a refused line", "もも,1,1,x,X\n"),
+];
 
 #[test]
 fn for_a_user_dictionary(rt: HostRuntime) -> Result<(), Fail> {
     let system = sample_dict(rt.alloc())?;
     let compiled = compile_user(rt.alloc(), &system, &[LINE.as_bytes()])?;
     let user = load(rt.alloc(), compiled.image)?;
-    let rows = [
-        // (what, lexicon)
-        ("an accepted line", LINE),
-        ("a refused line", "もも,1,1,x,X\n"),
-    ];
-    for (what, lexicon) in rows {
+    for (what, lexicon) in &LEXICONS {
         let fault = compile_user(rt.alloc(), &user, &[lexicon.as_bytes()]).err();
         assert_eq!(rt; fault, Some(NotSystem), "{what}");
     }
     Ok(())
 }
 
+/// Faults with their codes and names.
+#[rattlefmt::skip]
+static FAULTS: [(CompileUserFault, &str, &str); 6] = [
+    // (fault, code, name)
+    (NotSystem,                   "O1",     "NotSystem"),
+    (Source(SourceFault { file: 3, line: 1, kind: NotUtf8 }),          "S1",     "NotUtf8"),
+    (Source(SourceFault { file: 3, line: 1, kind: IdOutside }),        "I1",     "IdOutside"),
+    (Source(SourceFault { file: 3, line: 1, kind: ArrayFull }),        "I2",     "ArrayFull"),
+    (Source(SourceFault { file: 3, line: 1, kind: FeaturesTooLarge }), "I3",     "FeaturesTooLarge"),
+    (Source(SourceFault { file: 3, line: 1, kind: Memory }),           "Memory", "Memory"),
+];
+
 #[test]
 fn codes_and_names(rt: HostRuntime) {
-    let of_source = |kind: SourceKind| Source(kind.at(3, 1));
-    #[rattlefmt::skip]
-    let rows = [
-        // (fault, code, name)
-        (NotSystem,                   "O1",     "NotSystem"),
-        (of_source(NotUtf8),          "S1",     "NotUtf8"),
-        (of_source(IdOutside),        "I1",     "IdOutside"),
-        (of_source(ArrayFull),        "I2",     "ArrayFull"),
-        (of_source(FeaturesTooLarge), "I3",     "FeaturesTooLarge"),
-        (of_source(Memory),           "Memory", "Memory"),
-    ];
-    for (fault, code, name) in rows {
-        assert_eq!(rt; (fault.code(), fault.name()), (code, name));
+    for (fault, code, name) in &FAULTS {
+        assert_eq!(rt; (fault.code(), fault.name()), (*code, *name));
     }
 }

@@ -34,23 +34,33 @@ impl Watch for Told {
 
 const LEXICONS: &[&[u8]] = &[b"a,1,1,5,X\nb,1,1,5,X\n,1,1,5,X\n", b"c,1,1,5,X\n"];
 
-const READ: [Step; 3] = [
+/// The steps of a system before its lexicons.
+static BEFORE: [Step; 3] = [
+    Step::MatrixRead(MatrixSizes { right: 2, left: 2 }),
+    Step::CategoriesRead(6),
+    Step::UnknownRead,
+];
+
+/// The steps of the lexicons.
+static READ: [Step; 3] = [
     Step::LexiconRead { entries: 2 },
     Step::LexiconRead { entries: 3 },
     Step::Sorted { entries: 3 },
 ];
 
+/// Whether these are the steps, one list behind another.
+fn are_steps(told: &Told, before: &[Step], then: &[Step]) -> bool {
+    told.steps.len() == before.len().saturating_add(then.len())
+        && told.steps.starts_with(before)
+        && told.steps.ends_with(then)
+}
+
 #[test]
 fn steps_of_a_system(rt: HostRuntime) -> Result<(), Fail> {
     let mut told = Told::nothing(rt.alloc());
     compile_watched(rt.alloc(), &with_lexicons(LEXICONS), &mut told)?;
-    let before = [
-        Step::MatrixRead(MatrixSizes { right: 2, left: 2 }),
-        Step::CategoriesRead(6),
-        Step::UnknownRead,
-    ];
     assert!(rt; !told.refused);
-    assert!(rt; told.steps.iter().eq(before.iter().chain(READ.iter())));
+    assert!(rt; are_steps(&told, &BEFORE, &READ));
 
     // The same where the costs were read before.
     let Sources {
@@ -68,7 +78,7 @@ fn steps_of_a_system(rt: HostRuntime) -> Result<(), Fail> {
     let mut told = Told::nothing(rt.alloc());
     let compiled = compile_others_watched(rt.alloc(), costs, &others, &mut told)?;
     assert_eq!(rt; (compiled.entries, compiled.skipped), (3, 1));
-    assert!(rt; told.steps.iter().eq(before.iter().chain(READ.iter())));
+    assert!(rt; are_steps(&told, &BEFORE, &READ));
     Ok(())
 }
 
@@ -78,7 +88,7 @@ fn steps_of_a_user(rt: HostRuntime) -> Result<(), Fail> {
     let mut told = Told::nothing(rt.alloc());
     compile_user_watched(rt.alloc(), &system, LEXICONS, &mut told)?;
     assert!(rt; !told.refused);
-    assert!(rt; told.steps.iter().eq(READ.iter()));
+    assert!(rt; are_steps(&told, &[], &READ));
     Ok(())
 }
 

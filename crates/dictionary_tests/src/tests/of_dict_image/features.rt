@@ -1,45 +1,46 @@
 //! The user image of the one surface `a` with other features.
 use super::images::{one_surface_with, sealed};
 use dict_image::load;
-use mj_model::ImageFault::BadText;
+use mj_model::ImageFault::{self, BadText};
 use std::test::Fail;
+
+/// Features, and the parts of them that tokens have.
+#[rattlefmt::skip]
+static PARTS: [(&str, &[u8], &[(u8, u8)], Option<ImageFault>); 25] = [
+    // (what, the features, where each token's begins and its length, the fault)
+    ("one behind another",         b"X\xe3\x81\x82Y", &[(0, 1), (1, 3), (4, 1)],    None),
+    ("overlapping",                b"X\xe3\x81\x82Y", &[(0, 5), (0, 4), (1, 4), (1, 3)], None),
+    ("begins inside a character",  b"X\xe3\x81\x82Y", &[(2, 3)],                    Some(BadText(0))),
+    ("ends inside a character",    b"X\xe3\x81\x82Y", &[(0, 3)],                    Some(BadText(0))),
+    ("a byte of a character",      b"X\xe3\x81\x82Y", &[(2, 1)],                    Some(BadText(0))),
+    ("empty inside a character",   b"X\xe3\x81\x82Y", &[(2, 0)],                    None),
+    ("the second of two",          b"X\xe3\x81\x82Y", &[(0, 1), (0, 2)],            Some(BadText(1))),
+    ("ends before a stray byte",   b"X\x80Y",         &[(0, 1)],                    None),
+    ("begins behind a stray byte", b"X\x80Y",         &[(2, 1)],                    None),
+    ("a stray byte inside",        b"X\x80Y",         &[(0, 3)],                    Some(BadText(0))),
+    ("ends behind a stray byte",   b"X\x80Y",         &[(0, 2)],                    Some(BadText(0))),
+    ("begins at a stray byte",     b"X\x80Y",         &[(1, 2)],                    Some(BadText(0))),
+    ("empty before a stray byte",  b"X\x80Y",         &[(1, 0)],                    None),
+    ("empty among stray bytes",    b"\x80\xff\x80",   &[(1, 0), (2, 0)],            None),
+    ("between stray bytes",        b"\x80\xe3\x81\x82\xff", &[(1, 3)],                    None),
+    ("over the second stray byte", b"\x80X\xffY",     &[(1, 3)],                    Some(BadText(0))),
+    ("before a cut-off character", b"X\xe3\x81",      &[(0, 1)],                    None),
+    ("a cut-off character",        b"X\xe3\x81",      &[(0, 3)],                    Some(BadText(0))),
+    ("the first byte of one",      b"X\xe3\x81",      &[(0, 2)],                    Some(BadText(0))),
+    ("behind a cut-off character", b"\xe3\x81X",      &[(2, 1)],                    None),
+    ("a surrogate",                b"\xed\xa0\x80",   &[(0, 3)],                    Some(BadText(0))),
+    ("a slash in two bytes",       b"\xc0\xaf",       &[(0, 2)],                    Some(BadText(0))),
+    ("empty at the end",           b"X",              &[(1, 0)],                    None),
+    ("a byte past the end",        b"X",              &[(0, 2)],                    Some(BadText(0))),
+    ("empty past the end",         b"X",              &[(2, 0)],                    Some(BadText(0))),
+];
 
 #[test]
 fn parts_of_the_features(rt: HostRuntime) -> Result<(), Fail> {
-    #[rattlefmt::skip]
-    let rows: [(&str, &[u8], &[(u8, u8)], _); 25] = [
-        // (what, the features, where each token's begins and its length, the token of the fault)
-        ("one behind another",         b"X\xe3\x81\x82Y", &[(0, 1), (1, 3), (4, 1)],    None),
-        ("overlapping",                b"X\xe3\x81\x82Y", &[(0, 5), (0, 4), (1, 4), (1, 3)], None),
-        ("begins inside a character",  b"X\xe3\x81\x82Y", &[(2, 3)],                    Some(0)),
-        ("ends inside a character",    b"X\xe3\x81\x82Y", &[(0, 3)],                    Some(0)),
-        ("a byte of a character",      b"X\xe3\x81\x82Y", &[(2, 1)],                    Some(0)),
-        ("empty inside a character",   b"X\xe3\x81\x82Y", &[(2, 0)],                    None),
-        ("the second of two",          b"X\xe3\x81\x82Y", &[(0, 1), (0, 2)],            Some(1)),
-        ("ends before a stray byte",   b"X\x80Y",         &[(0, 1)],                    None),
-        ("begins behind a stray byte", b"X\x80Y",         &[(2, 1)],                    None),
-        ("a stray byte inside",        b"X\x80Y",         &[(0, 3)],                    Some(0)),
-        ("ends behind a stray byte",   b"X\x80Y",         &[(0, 2)],                    Some(0)),
-        ("begins at a stray byte",     b"X\x80Y",         &[(1, 2)],                    Some(0)),
-        ("empty before a stray byte",  b"X\x80Y",         &[(1, 0)],                    None),
-        ("empty among stray bytes",    b"\x80\xff\x80",   &[(1, 0), (2, 0)],            None),
-        ("between stray bytes",        b"\x80\xe3\x81\x82\xff", &[(1, 3)],                    None),
-        ("over the second stray byte", b"\x80X\xffY",     &[(1, 3)],                    Some(0)),
-        ("before a cut-off character", b"X\xe3\x81",      &[(0, 1)],                    None),
-        ("a cut-off character",        b"X\xe3\x81",      &[(0, 3)],                    Some(0)),
-        ("the first byte of one",      b"X\xe3\x81",      &[(0, 2)],                    Some(0)),
-        ("behind a cut-off character", b"\xe3\x81X",      &[(2, 1)],                    None),
-        ("a surrogate",                b"\xed\xa0\x80",   &[(0, 3)],                    Some(0)),
-        ("a slash in two bytes",       b"\xc0\xaf",       &[(0, 2)],                    Some(0)),
-        ("empty at the end",           b"X",              &[(1, 0)],                    None),
-        ("a byte past the end",        b"X",              &[(0, 2)],                    Some(0)),
-        ("empty past the end",         b"X",              &[(2, 0)],                    Some(0)),
-    ];
-    for (what, features, places, misfit) in rows {
+    for (what, features, places, expected) in &PARTS {
         let body = one_surface_with(rt.alloc(), places, features)?;
         let bytes = sealed(rt.alloc(), &body)?;
-        let expected = misfit.map(|token| BadText(token));
-        assert_eq!(rt; load(rt.alloc(), bytes).err(), expected, "{what}");
+        assert_eq!(rt; load(rt.alloc(), bytes).err(), *expected, "{what}");
     }
     Ok(())
 }

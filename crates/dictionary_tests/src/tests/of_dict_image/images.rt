@@ -3,7 +3,7 @@ use sha2::{Digest, Sha256};
 use std::alloc::{AllocError, Global};
 
 /// The user image of layout 1 with the one surface `もも`: 137 bytes, and the feature `X`.
-pub(crate) const LAYOUT_1: [u8; 137] =
+pub(crate) static LAYOUT_1: [u8; 137] =
     *b"MJDICT\r\n\x01\0\0\0\x01\0\0\0\x02\0\0\0\x02\0\0\0\0\0\0\0\x01\0\0\0\x01\0\0\0\0\0\0\0\
     \0\0\0\0\0\0\0\0\0\0\0\0\0\0\0\0\0\0\0\0\0\0\0\0\0\0\0\0\0\0\0\0\
     \x08\0\0\0\0\0\0\0\x08\0\0\0\0\0\0\0\x10\0\0\0\0\0\0\0\x01\0\0\0\0\0\0\0\

@@ -1,7 +1,7 @@
 //! User images whose cells are made by hand, and the group that has no key.
 use super::images::{image, sealed};
 use dict_image::load;
-use mj_model::ImageFault::BadKey;
+use mj_model::ImageFault::{self, BadKey};
 use std::alloc::{AllocError, Global};
 use std::test::Fail;
 
@@ -127,70 +127,76 @@ fn image_of_keys(alloc: Global, keys: &[&[u8]]) -> Result<Vec<u8>, AllocError> {
     user_image(alloc, u32::from(group), &cells_of(alloc, &steps, &values)?)
 }
 
+/// Keys, of which one may be none that is allowed.
+#[rattlefmt::skip]
+static KEYS: [(&str, &[&[u8]], Option<ImageFault>); 19] = [
+    // (what, the keys in the order of their groups, the fault)
+    ("a",                           &[b"a"],                               None),
+    ("ab, a: one stem",             &[b"ab", b"a"],                        None),
+    ("U+007F, U+0080",              &[b"\x7F", b"\xC2\x80"],               None),
+    ("U+07FF, U+0800",              &[b"\xDF\xBF", b"\xE0\xA0\x80"],       None),
+    ("U+D7FF, U+E000",              &[b"\xED\x9F\xBF", b"\xEE\x80\x80"],   None),
+    ("U+10000",                     &[b"\xF0\x90\x80\x80"],               None),
+    ("U+40000",                     &[b"\xF1\x80\x80\x80"],               None),
+    ("U+10FFFF",                    &[b"\xF4\x8F\xBF\xBF"],               None),
+    ("no byte",                     &[b""],                                Some(BadKey(0))),
+    ("C0 80: U+0000 in two bytes",  &[b"\xC0\x80"],                       Some(BadKey(0))),
+    ("E0 9F BF: U+07FF in three",   &[b"\xE0\x9F\xBF"],                   Some(BadKey(0))),
+    ("ED A0 80: a surrogate",       &[b"\xED\xA0\x80"],                   Some(BadKey(0))),
+    ("F0 8F BF BF: U+FFFF in four", &[b"\xF0\x8F\xBF\xBF"],               Some(BadKey(0))),
+    ("F4 90 80 80: past U+10FFFF",  &[b"\xF4\x90\x80\x80"],               Some(BadKey(0))),
+    ("F5 begins no character",      &[b"\xF5\x80\x80\x80"],               Some(BadKey(0))),
+    ("80 begins no character",      &[b"\x80"],                           Some(BadKey(0))),
+    ("E3 81 82, E3 81, E3",         &[b"\xE3\x81\x82", b"\xE3\x81", b"\xE3"], Some(BadKey(1))),
+    ("a, FF a, FF b",               &[b"a", b"\xFFa", b"\xFFb"],           Some(BadKey(1))),
+    ("E3 a: a tail wanted; a E3",   &[b"a", b"\xE3a", b"a\xE3"],           Some(BadKey(1))),
+];
+
 #[test]
 fn keys_of_cells(rt: HostRuntime) -> Result<(), Fail> {
-    #[rattlefmt::skip]
-    let rows: [(&str, &[&[u8]], _); 19] = [
-        // (what, the keys in the order of their groups, the group without a key)
-        ("a",                           &[b"a"],                               None),
-        ("ab, a: one stem",             &[b"ab", b"a"],                        None),
-        ("U+007F, U+0080",              &[b"\x7F", b"\xC2\x80"],               None),
-        ("U+07FF, U+0800",              &[b"\xDF\xBF", b"\xE0\xA0\x80"],       None),
-        ("U+D7FF, U+E000",              &[b"\xED\x9F\xBF", b"\xEE\x80\x80"],   None),
-        ("U+10000",                     &[b"\xF0\x90\x80\x80"],               None),
-        ("U+40000",                     &[b"\xF1\x80\x80\x80"],               None),
-        ("U+10FFFF",                    &[b"\xF4\x8F\xBF\xBF"],               None),
-        ("no byte",                     &[b""],                                Some(0)),
-        ("C0 80: U+0000 in two bytes",  &[b"\xC0\x80"],                       Some(0)),
-        ("E0 9F BF: U+07FF in three",   &[b"\xE0\x9F\xBF"],                   Some(0)),
-        ("ED A0 80: a surrogate",       &[b"\xED\xA0\x80"],                   Some(0)),
-        ("F0 8F BF BF: U+FFFF in four", &[b"\xF0\x8F\xBF\xBF"],               Some(0)),
-        ("F4 90 80 80: past U+10FFFF",  &[b"\xF4\x90\x80\x80"],               Some(0)),
-        ("F5 begins no character",      &[b"\xF5\x80\x80\x80"],               Some(0)),
-        ("80 begins no character",      &[b"\x80"],                           Some(0)),
-        ("E3 81 82, E3 81, E3",         &[b"\xE3\x81\x82", b"\xE3\x81", b"\xE3"], Some(1)),
-        ("a, FF a, FF b",               &[b"a", b"\xFFa", b"\xFFb"],           Some(1)),
-        ("E3 a: a tail wanted; a E3",   &[b"a", b"\xE3a", b"a\xE3"],           Some(1)),
-    ];
-    for (what, keys, misfit) in rows {
+    for (what, keys, expected) in &KEYS {
         let bytes = image_of_keys(rt.alloc(), keys)?;
-        let expected = misfit.map(|group| BadKey(group));
-        assert_eq!(rt; load(rt.alloc(), bytes).err(), expected, "{what}");
+        assert_eq!(rt; load(rt.alloc(), bytes).err(), *expected, "{what}");
     }
     Ok(())
 }
+
+/// Cells that lead to one another.
+#[rattlefmt::skip]
+static RINGS: [(&str, &[Step], &[Value], u32); 2] = [
+    // (what, steps, values, the group without a key)
+    ("two states",              &[(1, b'a', 2), (2, b'b', 1)], &[(1, 0)],         0),
+    ("a, and one on its own",   &[(0, b'a', 1), (2, b'b', 2)], &[(1, 0), (2, 1)], 1),
+];
 
 #[test]
 fn states_in_a_ring(rt: HostRuntime) -> Result<(), Fail> {
     let alloc = rt.alloc();
-    #[rattlefmt::skip]
-    let rows: [(&str, &[Step], &[Value], u32); 2] = [
-        // (what, steps, values, the group without a key)
-        ("two states",              &[(1, b'a', 2), (2, b'b', 1)], &[(1, 0)],         0),
-        ("a, and one on its own",   &[(0, b'a', 1), (2, b'b', 2)], &[(1, 0), (2, 1)], 1),
-    ];
-    for (what, steps, values, group) in rows {
+    for (what, steps, values, group) in &RINGS {
         let groups = u32::try_from(values.len()).unwrap_or(0);
         let bytes = user_image(alloc, groups, &cells_of(alloc, steps, values)?)?;
-        assert_eq!(rt; load(alloc, bytes).err(), Some(BadKey(group)), "{what}");
+        assert_eq!(rt; load(alloc, bytes).err(), Some(BadKey(*group)), "{what}");
     }
     Ok(())
 }
 
+/// Numbers of keys on one stem.
+#[rattlefmt::skip]
+static STEMS: [(u32, Option<ImageFault>); 5] = [
+    // (bytes of the longest key, the fault)
+    (1, None),
+    (2, None),
+    (65_535, None),
+    (65_536, Some(BadKey(0))),
+    (70_000, Some(BadKey(0))),
+];
+
 #[test]
 fn keys_on_a_long_stem(rt: HostRuntime) -> Result<(), Fail> {
     let alloc = rt.alloc();
-    let rows = [
-        // (bytes of the longest key, the fault)
-        (1, None),
-        (2, None),
-        (65_535, None),
-        (65_536, Some(BadKey(0))),
-        (70_000, Some(BadKey(0))),
-    ];
-    for (longest, expected) in rows {
-        let bytes = user_image(alloc, longest, &cells_of_nuls(alloc, longest)?)?;
-        assert_eq!(rt; load(alloc, bytes).err(), expected, "{longest}");
+    for (longest, expected) in &STEMS {
+        let bytes = user_image(alloc, *longest, &cells_of_nuls(alloc, *longest)?)?;
+        assert_eq!(rt; load(alloc, bytes).err(), *expected, "{longest}");
     }
     Ok(())
 }

@@ -21,46 +21,48 @@ const VALUE_TWICE: &[Change<'_>] = &[
     (128, b"\xff\xff\xff\xff\x32\0\0\0"),
 ];
 
-/// Section 5 begins at byte 104, so that cell n stands at 104 + 8 n.
+/// Changes of the image. Section 5 begins at byte 104, so that cell n stands at 104 + 8 n.
+#[rattlefmt::skip]
+static CHANGES: [Row; 17] = [
+    ("no change",                &[],                                   None),
+    ("cell 1 is (-1, 98)",       &[(112, b"\xff\xff\xff\xff\x62\0\0\0")], Some(BadSection(5))),
+    ("cell 1 is (-2, 99)",       &[(112, b"\xfe\xff\xff\xff\x63\0\0\0")], Some(BadSection(5))),
+    ("cell 1 is (0, -1)",        &[(112, b"\0\0\0\0\xff\xff\xff\xff")], Some(BadSection(5))),
+    ("cell 99 is (1, 99)",       &[(896, b"\x01\0\0\0\x63\0\0\0")],     Some(BadKey(0))),
+    ("cell 0 is (1, 0)",         &[(104, b"\x01\0\0\0\0\0\0\0")],       Some(BadSection(5))),
+    ("right id 2",               &[(914, b"\x02")],                     Some(BadToken(0))),
+    ("feature length 2",         &[(924, b"\x02")],                     Some(BadText(0))),
+    ("cell 2 is (5, 99)",        &[(120, b"\x05\0\0\0\x63\0\0\0")],     None),
+    ("cell 50 is (1, 50): a ring", &[(504, b"\x01\0\0\0\x32\0\0\0")],     None),
+    ("value 0 in cells 1 and 3", VALUE_TWICE,                           Some(BadSection(5))),
+    ("cell 3 is (-1, 99)",       &[(128, b"\xff\xff\xff\xff\x63\0\0\0")], Some(BadSection(5))),
+    ("cell 5 is (0, -2)",        &[(144, b"\0\0\0\0\xfe\xff\xff\xff")], Some(BadSection(5))),
+    ("cell 5 is (1, 100)",       &[(144, b"\x01\0\0\0\x64\0\0\0")],     Some(BadSection(5))),
+    ("half a cell at the end",   &[(72, b"\x1c"), (80, b"\x0c")],       Some(BadSection(5))),
+    ("layout 1: cells are no keys", &[(8, b"\x01")],                       Some(BadSection(5))),
+    ("layout 3: 32 bytes missing", &[(8, b"\x03")],                       Some(Truncated)),
+];
+
 #[test]
 fn changes_of_layout_2(rt: HostRuntime) -> Result<(), Fail> {
     let bytes = layout_2(rt.alloc())?;
     assert_eq!(rt; bytes.len(), 929);
-    #[rattlefmt::skip]
-    let rows: [Row<'_>; 17] = [
-        ("no change",                &[],                                   None),
-        ("cell 1 is (-1, 98)",       &[(112, b"\xff\xff\xff\xff\x62\0\0\0")], Some(BadSection(5))),
-        ("cell 1 is (-2, 99)",       &[(112, b"\xfe\xff\xff\xff\x63\0\0\0")], Some(BadSection(5))),
-        ("cell 1 is (0, -1)",        &[(112, b"\0\0\0\0\xff\xff\xff\xff")], Some(BadSection(5))),
-        ("cell 99 is (1, 99)",       &[(896, b"\x01\0\0\0\x63\0\0\0")],     Some(BadKey(0))),
-        ("cell 0 is (1, 0)",         &[(104, b"\x01\0\0\0\0\0\0\0")],       Some(BadSection(5))),
-        ("right id 2",               &[(914, b"\x02")],                     Some(BadToken(0))),
-        ("feature length 2",         &[(924, b"\x02")],                     Some(BadText(0))),
-        ("cell 2 is (5, 99)",        &[(120, b"\x05\0\0\0\x63\0\0\0")],     None),
-        ("cell 50 is (1, 50): a ring", &[(504, b"\x01\0\0\0\x32\0\0\0")],     None),
-        ("value 0 in cells 1 and 3", VALUE_TWICE,                           Some(BadSection(5))),
-        ("cell 3 is (-1, 99)",       &[(128, b"\xff\xff\xff\xff\x63\0\0\0")], Some(BadSection(5))),
-        ("cell 5 is (0, -2)",        &[(144, b"\0\0\0\0\xfe\xff\xff\xff")], Some(BadSection(5))),
-        ("cell 5 is (1, 100)",       &[(144, b"\x01\0\0\0\x64\0\0\0")],     Some(BadSection(5))),
-        ("half a cell at the end",   &[(72, b"\x1c"), (80, b"\x0c")],       Some(BadSection(5))),
-        ("layout 1: cells are no keys", &[(8, b"\x01")],                       Some(BadSection(5))),
-        ("layout 3: 32 bytes missing", &[(8, b"\x03")],                       Some(Truncated)),
-    ];
-    expect_faults(&rt, &bytes, false, &rows)
+    expect_faults(&rt, &bytes, false, &CHANGES)
 }
 
 /// A cell of which no key has need, and a ring of one state on no key.
+#[rattlefmt::skip]
+static NEEDLESS: [(&str, Change<'_>); 2] = [
+    // (what, bytes from a place on)
+    ("cell 2 is (5, 99)",  (120, b"\x05\0\0\0\x63\0\0\0")),
+    ("cell 50 is (1, 50)", (504, b"\x01\0\0\0\x32\0\0\0")),
+];
+
 #[test]
 fn needless_cells_of_layout_2(rt: HostRuntime) -> Result<(), Fail> {
     let bytes = layout_2(rt.alloc())?;
-    #[rattlefmt::skip]
-    let rows: [(&str, Change<'_>); 2] = [
-        // (what, bytes from a place on)
-        ("cell 2 is (5, 99)",  (120, b"\x05\0\0\0\x63\0\0\0")),
-        ("cell 50 is (1, 50)", (504, b"\x01\0\0\0\x32\0\0\0")),
-    ];
-    for (what, change) in rows {
-        let dict = load(rt.alloc(), changed(rt.alloc(), &bytes, &[change])?)?;
+    for (what, change) in &NEEDLESS {
+        let dict = load(rt.alloc(), changed(rt.alloc(), &bytes, &[*change])?)?;
         assert!(rt; are_entries(&dict, "a", &[(0, 1, 1, 1, "X")]), "{what}");
     }
     Ok(())
@@ -85,17 +87,20 @@ fn with_state(alloc: Global, state: u8) -> Result<Vec<u8>, AllocError> {
     image(alloc, [2, 1, 2, 2, 0, 1, 1, 0], sections)
 }
 
+/// Keys of one byte.
+#[rattlefmt::skip]
+static STATES: [(&str, u8, Option<ImageFault>); 3] = [
+    // (what, the state of the key, the fault)
+    ("the key 0x61", 99, None),
+    ("the key 0x7F", 129, None),
+    ("the key 0x80, which is not UTF-8", 130, Some(BadKey(0))),
+];
+
 #[test]
 fn keys_of_200_cells(rt: HostRuntime) -> Result<(), Fail> {
-    let rows: [(&str, u8, Option<ImageFault>); 3] = [
-        // (what, the state of the key, the fault)
-        ("the key 0x61", 99, None),
-        ("the key 0x7F", 129, None),
-        ("the key 0x80, which is not UTF-8", 130, Some(BadKey(0))),
-    ];
-    for (what, state, expected) in rows {
-        let bytes = with_state(rt.alloc(), state)?;
-        assert_eq!(rt; load(rt.alloc(), bytes).err(), expected, "{what}");
+    for (what, state, expected) in &STATES {
+        let bytes = with_state(rt.alloc(), *state)?;
+        assert_eq!(rt; load(rt.alloc(), bytes).err(), *expected, "{what}");
     }
     Ok(())
 }

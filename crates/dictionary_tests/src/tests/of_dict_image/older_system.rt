@@ -1,8 +1,7 @@
 //! System images of layouts 1 and 2, whose section 3 has an entry for each code point up to U+FFFE.
 use super::images::image;
-use super::questions::info_of;
+use super::questions::has_info;
 use dict_image::load;
-use mj_model::CharInfo;
 use mj_model::ImageFault::{self, BadSection};
 use std::alloc::{AllocError, Global};
 use std::test::Fail;
@@ -14,13 +13,21 @@ pub(crate) const ONE: u32 = 1 << 18 | 2;
 /// The entry of both categories, of which category 1 is the first.
 pub(crate) const BOTH: u32 = 1 << 18 | 3;
 
+/// The entry of a code point: one of these, or else that of category 0.
+fn entry_of(others: &[(u32, u32)], code: u32) -> u32 {
+    for (other, entry) in others {
+        if *other == code {
+            return *entry;
+        }
+    }
+    ZERO
+}
+
 /// Section 3: these code points have these entries, and all others up to U+FFFE have category 0.
 fn entries_with(alloc: Global, others: &[(u32, u32)]) -> Result<Vec<u8>, AllocError> {
     let mut entries = Vec::new(alloc);
     for code in 0..0xFFFF_u32 {
-        let other = others.iter().find(|other| other.0 == code);
-        let entry = other.map_or(ZERO, |other| other.1);
-        entries.extend_from_slice(&entry.to_le_bytes())?;
+        entries.extend_from_slice(&entry_of(others, code).to_le_bytes())?;
     }
     Ok(entries)
 }
@@ -41,82 +48,89 @@ pub(crate) fn two_categories(
     image(alloc, [layout, 0, 1, 1, 2, 0, 0, 2], sections)
 }
 
+/// Code points with their categories.
+#[rattlefmt::skip]
+static CODE_POINTS: [(char, (u32, u8)); 8] = [
+    // (code point, its set of categories, the first of them)
+    ('\0',         (3, 1)),
+    ('\u{1}',      (1, 0)),
+    ('あ',         (2, 1)),
+    ('\u{FFFD}',   (1, 0)),
+    ('\u{FFFE}',   (2, 1)),
+    ('\u{FFFF}',   (3, 1)),
+    ('\u{10000}',  (3, 1)),
+    ('\u{10FFFF}', (3, 1)),
+];
+
 #[test]
 fn categories_of_code_points(rt: HostRuntime) -> Result<(), Fail> {
     let alloc = rt.alloc();
     let infos = entries_with(alloc, &[(0, BOTH), (0x3042, ONE), (0xFFFE, ONE)])?;
-    #[rattlefmt::skip]
-    let rows = [
-        // (code point, its set of categories, the first of them)
-        ('\0',         3, 1),
-        ('\u{1}',      1, 0),
-        ('あ',         2, 1),
-        ('\u{FFFD}',   1, 0),
-        ('\u{FFFE}',   2, 1),
-        ('\u{FFFF}',   3, 1),
-        ('\u{10000}',  3, 1),
-        ('\u{10FFFF}', 3, 1),
-    ];
     let first = load(alloc, two_categories(alloc, 1, &infos)?)?;
     let second = load(alloc, two_categories(alloc, 2, &infos)?)?;
-    for (c, bits, head) in rows {
-        let expected = Some(CharInfo { bits, head });
-        let code = u32::from(c);
-        assert_eq!(rt; info_of(&first, c), expected, "layout 1, {code}");
-        assert_eq!(rt; info_of(&second, c), expected, "layout 2, {code}");
+    for (c, info) in &CODE_POINTS {
+        let code = u32::from(*c);
+        assert!(rt; has_info(&first, *c, *info), "layout 1, {code}");
+        assert!(rt; has_info(&second, *c, *info), "layout 2, {code}");
     }
     Ok(())
 }
 
+/// Changed entries of code points.
+#[rattlefmt::skip]
+static CHANGED: [(&str, &[(u32, u32)], Option<ImageFault>); 8] = [
+    // (what, code points and their entries, the fault)
+    ("both categories",                    &[(0, BOTH), (0xFFFE, ONE)],    None),
+    ("no category",                        &[(0, 0)],                      Some(BadSection(3))),
+    ("the first one not in the set",       &[(0x20, 2)],                   Some(BadSection(3))),
+    ("category 1 not in the set",          &[(0x20, 1 << 18 | 1)],         Some(BadSection(3))),
+    ("category 2 in the set",              &[(0x20, 5)],                   Some(BadSection(3))),
+    ("category 2 the first",               &[(0x20, 2 << 18 | 5)],         Some(BadSection(3))),
+    ("category 17 in the set of the last", &[(0xFFFE, 1 << 17 | 1)],       Some(BadSection(3))),
+    ("a first category of 14 bits",        &[(0xFFFE, 0x3FFF << 18 | 1)],  Some(BadSection(3))),
+];
+
 #[test]
 fn changed_entries(rt: HostRuntime) -> Result<(), Fail> {
-    #[rattlefmt::skip]
-    let rows: [(&str, &[(u32, u32)], Option<ImageFault>); 8] = [
-        // (what, code points and their entries, the fault)
-        ("both categories",                    &[(0, BOTH), (0xFFFE, ONE)],    None),
-        ("no category",                        &[(0, 0)],                      Some(BadSection(3))),
-        ("the first one not in the set",       &[(0x20, 2)],                   Some(BadSection(3))),
-        ("category 1 not in the set",          &[(0x20, 1 << 18 | 1)],         Some(BadSection(3))),
-        ("category 2 in the set",              &[(0x20, 5)],                   Some(BadSection(3))),
-        ("category 2 the first",               &[(0x20, 2 << 18 | 5)],         Some(BadSection(3))),
-        ("category 17 in the set of the last", &[(0xFFFE, 1 << 17 | 1)],       Some(BadSection(3))),
-        ("a first category of 14 bits",        &[(0xFFFE, 0x3FFF << 18 | 1)],  Some(BadSection(3))),
-    ];
-    for (what, others, expected) in rows {
+    for (what, others, expected) in &CHANGED {
         let infos = entries_with(rt.alloc(), others)?;
         let bytes = two_categories(rt.alloc(), 1, &infos)?;
-        assert_eq!(rt; load(rt.alloc(), bytes).err(), expected, "{what}");
+        assert_eq!(rt; load(rt.alloc(), bytes).err(), *expected, "{what}");
         let bytes = two_categories(rt.alloc(), 2, &infos)?;
-        assert_eq!(rt; load(rt.alloc(), bytes).err(), expected, "{what}");
+        assert_eq!(rt; load(rt.alloc(), bytes).err(), *expected, "{what}");
     }
     Ok(())
 }
+
+/// All bytes of the entries.
+const ALL: usize = usize::MAX;
+
+/// Sections 3 that are made of the entries.
+#[rattlefmt::skip]
+static OTHER_SECTIONS: [(&str, u32, usize, &[u8], Option<ImageFault>); 9] = [
+    // (what, layout, how many bytes of the entries are left out in front, the bytes behind them, the fault)
+    ("entries",   1, 0,   b"",                 None),
+    ("entries",   2, 0,   b"",                 None),
+    ("a range",   1, ALL, b"\0\0\0\0\x01\0\0\0", Some(BadSection(3))),
+    ("a range",   2, ALL, b"\0\0\0\0\x01\0\0\0", Some(BadSection(3))),
+    ("none",      1, ALL, b"",                 Some(BadSection(3))),
+    ("one fewer", 1, 4,   b"",                 Some(BadSection(3))),
+    ("one fewer", 2, 4,   b"",                 Some(BadSection(3))),
+    ("one more",  1, 0,   b"\x01\0\0\0",      Some(BadSection(3))),
+    ("one more",  2, 0,   b"\x01\0\0\0",      Some(BadSection(3))),
+];
 
 #[test]
 fn other_sections_of_entries(rt: HostRuntime) -> Result<(), Fail> {
     let alloc = rt.alloc();
     let entries = entries_with(alloc, &[])?;
-    let one_fewer = entries.get(4..).unwrap_or(b"");
-    let mut one_more = Vec::from_slice(alloc, &entries)?;
-    one_more.extend_from_slice(b"\x01\0\0\0")?;
-    #[rattlefmt::skip]
-    let rows: [(&str, u32, &[u8], Option<ImageFault>); 9] = [
-        // (what, layout, section 3, the fault)
-        ("entries",   1, &entries,            None),
-        ("entries",   2, &entries,            None),
-        ("a range",   1, b"\0\0\0\0\x01\0\0\0", Some(BadSection(3))),
-        ("a range",   2, b"\0\0\0\0\x01\0\0\0", Some(BadSection(3))),
-        ("none",      1, b"",                 Some(BadSection(3))),
-        ("one fewer", 1, one_fewer,           Some(BadSection(3))),
-        ("one fewer", 2, one_fewer,           Some(BadSection(3))),
-        ("one more",  1, &one_more,           Some(BadSection(3))),
-        ("one more",  2, &one_more,           Some(BadSection(3))),
-    ];
-    for (what, layout, infos, expected) in rows {
-        let bytes = two_categories(alloc, layout, infos)?;
+    for (what, layout, left_out, behind, expected) in &OTHER_SECTIONS {
+        let mut infos = Vec::from_slice(alloc, entries.get(*left_out..).unwrap_or(b""))?;
+        infos.extend_from_slice(behind)?;
+        let bytes = two_categories(alloc, *layout, &infos)?;
         assert_eq!(rt;
             load(alloc, bytes).err(),
-            expected,
+            *expected,
             "{what}, layout {layout}"
         );
     }

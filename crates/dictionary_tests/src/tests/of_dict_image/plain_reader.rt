@@ -10,21 +10,37 @@ use std::str::from_utf8;
 
 /// The first fault of a user image of layout 1 or 2, and None of a well-formed one. Of the digest of layout 3 it knows nothing.
 pub(crate) fn first_fault(alloc: Global, bytes: &[u8]) -> Result<Option<ImageFault>, AllocError> {
-    let found = frame_fault(bytes)
-        .or_else(|| header_fault(bytes))
-        .or_else(|| system_fault(bytes));
-    if found.is_some() {
-        return Ok(found);
+    if let Some(fault) = front_fault(bytes) {
+        return Ok(Some(fault));
     }
     let keys = if number_at(bytes, 8, 4) == 1 {
         listed_fault(bytes)
     } else {
         cells_fault(alloc, bytes)?
     };
-    Ok(
-        keys.or_else(|| groups_fault(bytes))
-            .or_else(|| tokens_fault(bytes)),
-    )
+    match keys {
+        Some(fault) => Ok(Some(fault)),
+        None => Ok(lexicon_fault(bytes)),
+    }
+}
+
+/// The header, and sections 1 to 4.
+fn front_fault(bytes: &[u8]) -> Option<ImageFault> {
+    if let Some(fault) = frame_fault(bytes) {
+        return Some(fault);
+    }
+    match header_fault(bytes) {
+        Some(fault) => Some(fault),
+        None => system_fault(bytes),
+    }
+}
+
+/// Sections 6 to 8.
+fn lexicon_fault(bytes: &[u8]) -> Option<ImageFault> {
+    match groups_fault(bytes) {
+        Some(fault) => Some(fault),
+        None => tokens_fault(bytes),
+    }
 }
 
 /// The little-endian number in so many bytes from a place on.
@@ -69,6 +85,11 @@ pub(crate) fn section(bytes: &[u8], k: usize) -> &[u8] {
     bytes.get(start as usize..end as usize).unwrap_or(b"")
 }
 
+/// Where the header, the sections and a digest of so many bytes end.
+fn total_with(bytes: &[u8], digest: u64) -> Option<u64> {
+    end_of(bytes, 8)?.checked_add(digest)
+}
+
 /// The length of the header, the magic, the layout and the length of all.
 pub(crate) fn frame_fault(bytes: &[u8]) -> Option<ImageFault> {
     if bytes.len() < 104 {
@@ -82,9 +103,8 @@ pub(crate) fn frame_fault(bytes: &[u8]) -> Option<ImageFault> {
         return Some(BadLayout(layout));
     }
     let digest = if layout == 3 { 32 } else { 0 };
-    let total = end_of(bytes, 8).and_then(|end| end.checked_add(digest));
     let length = bytes.len() as u64;
-    match total {
+    match total_with(bytes, digest) {
         Some(total) if total == length => None,
         Some(total) if total < length => Some(BadSection(9)),
         _ => Some(Truncated),
@@ -185,12 +205,24 @@ fn is_cell(cells: &[u8], groups: i64, number: i64) -> bool {
     }
 }
 
+/// The base of a cell, if it is there.
+fn base_of(cells: &[u8], number: i64) -> Option<i64> {
+    let (base, _) = cell(cells, number)?;
+    Some(base)
+}
+
+/// The check of a cell, if it is there.
+fn check_of(cells: &[u8], number: i64) -> Option<i64> {
+    let (_, check) = cell(cells, number)?;
+    Some(check)
+}
+
 /// How many cells hold a value, and one of them.
 fn value_cells(cells: &[u8], value: i64) -> (usize, i64) {
     let mut count = 0_usize;
     let mut place = 0;
     for number in 1..(cells.len() / 8) as i64 {
-        if cell(cells, number).map(|found| found.0) == Some((-1_i64).wrapping_sub(value)) {
+        if base_of(cells, number) == Some((-1_i64).wrapping_sub(value)) {
             count = count.saturating_add(1);
             place = number;
         }
@@ -200,24 +232,33 @@ fn value_cells(cells: &[u8], value: i64) -> (usize, i64) {
 
 /// Whether the root and all other cells are allowed.
 fn are_cells(cells: &[u8], groups: i64) -> bool {
-    let root = cell(cells, 0);
-    let has_root = root.is_some_and(|(base, check)| base >= 0 && check == -2);
-    has_root
+    base_of(cells, 0).unwrap_or(-1) >= 0
+        && check_of(cells, 0) == Some(-2)
         && cells.len() % 8 == 0
         && cells.len() / 8 <= 1 << 30
-        && (1..(cells.len() / 8) as i64).all(|number| is_cell(cells, groups, number))
+        && are_cells_behind(cells, groups)
+}
+
+/// Whether all cells behind the root are allowed.
+fn are_cells_behind(cells: &[u8], groups: i64) -> bool {
+    for number in 1..(cells.len() / 8) as i64 {
+        if !is_cell(cells, groups, number) {
+            return false;
+        }
+    }
+    true
 }
 
 /// The key of the value in a cell, its last byte first. None where the checks don't lead to the root.
 fn key_back(alloc: Global, cells: &[u8], place: i64) -> Result<Option<Vec<u8>>, AllocError> {
     let mut key = Vec::new(alloc);
-    let mut state = cell(cells, place).map_or(-1, |found| found.1);
+    let mut state = check_of(cells, place).unwrap_or(-1);
     for _ in 0..cells.len() {
         if state == 0 {
             return Ok(Some(key));
         }
-        let check = cell(cells, state).map_or(-1, |found| found.1);
-        let base = cell(cells, check).map_or(0, |found| found.0);
+        let check = check_of(cells, state).unwrap_or(-1);
+        let base = base_of(cells, check).unwrap_or(0);
         let byte = state.wrapping_sub(base).wrapping_sub(1);
         key.push(u8::try_from(byte).unwrap_or(0xff))?;
         state = check;
@@ -234,12 +275,21 @@ fn has_key(alloc: Global, cells: &[u8], place: i64) -> Result<bool, AllocError> 
     Ok(!key.is_empty() && key.len() <= 65_535 && from_utf8(&key).is_ok())
 }
 
+/// Whether each of so many values stands in one cell.
+fn stand_once(cells: &[u8], groups: u32) -> bool {
+    for value in 0..groups {
+        if value_cells(cells, i64::from(value)).0 != 1 {
+            return false;
+        }
+    }
+    true
+}
+
 /// Section 5 of layout 2: the cells, each value in one of them, and then the keys.
 fn cells_fault(alloc: Global, bytes: &[u8]) -> Result<Option<ImageFault>, AllocError> {
     let cells = section(bytes, 5);
     let groups = u32_at(bytes, 28);
-    let stands_once = |value: u32| value_cells(cells, i64::from(value)).0 == 1;
-    if !are_cells(cells, i64::from(groups)) || !(0..groups).all(stands_once) {
+    if !are_cells(cells, i64::from(groups)) || !stand_once(cells, groups) {
         return Ok(Some(BadSection(5)));
     }
     for value in 0..groups {
@@ -250,14 +300,28 @@ fn cells_fault(alloc: Global, bytes: &[u8]) -> Result<Option<ImageFault>, AllocE
     Ok(None)
 }
 
+/// Entry `i` of section 6.
+fn entry_at(index: &[u8], i: usize) -> u32 {
+    u32_at(index, i.saturating_mul(4))
+}
+
+/// Whether each of so many entries of section 6 lies below the next one.
+fn rises(index: &[u8], groups: usize) -> bool {
+    for i in 0..groups {
+        if entry_at(index, i) >= entry_at(index, i.saturating_add(1)) {
+            return false;
+        }
+    }
+    true
+}
+
 /// Section 6: it rises from 0 to the number of tokens.
 fn groups_fault(bytes: &[u8]) -> Option<ImageFault> {
     let index = section(bytes, 6);
     let groups = u32_at(bytes, 28) as usize;
-    let at = |i: usize| number_at(index, i.saturating_mul(4), 4);
     let fills = index.len() == groups.saturating_add(1).saturating_mul(4);
-    let rises = (0..groups).all(|i| at(i) < at(i.saturating_add(1)));
-    if fills && rises && at(0) == 0 && at(groups) == number_at(bytes, 32, 4) {
+    let last = entry_at(index, groups);
+    if fills && rises(index, groups) && entry_at(index, 0) == 0 && last == u32_at(bytes, 32) {
         None
     } else {
         Some(BadSection(6))
@@ -271,26 +335,40 @@ fn tokens_fault(bytes: &[u8]) -> Option<ImageFault> {
     if tokens.len() != (count as usize).saturating_mul(16) {
         return Some(BadSection(7));
     }
-    if let Some(token) = (0..count).find(|token| !fits_sizes(bytes, *token)) {
-        return Some(BadToken(token));
+    for token in 0..count {
+        if !fits_sizes(bytes, token) {
+            return Some(BadToken(token));
+        }
     }
-    if let Some(token) = (0..count).find(|token| !has_feature(bytes, *token)) {
-        return Some(BadText(token));
+    features_fault(bytes, count)
+}
+
+/// Section 8: the features of so many tokens.
+fn features_fault(bytes: &[u8], count: u32) -> Option<ImageFault> {
+    for token in 0..count {
+        if !has_feature(bytes, token) {
+            return Some(BadText(token));
+        }
     }
     None
 }
 
 /// Whether the ids of a token lie below the sizes, and its spare bytes are 0.
 fn fits_sizes(bytes: &[u8], token: u32) -> bool {
+    let tokens = section(bytes, 7);
     let at = (token as usize).saturating_mul(16);
-    let id = |by: usize| number_at(section(bytes, 7), at.saturating_add(by), 2);
-    id(0) < number_at(bytes, 20, 4) && id(2) < number_at(bytes, 16, 4) && id(6) == 0
+    number_at(tokens, at, 2) < number_at(bytes, 20, 4)
+        && number_at(tokens, at.saturating_add(2), 2) < number_at(bytes, 16, 4)
+        && number_at(tokens, at.saturating_add(6), 2) == 0
 }
 
 /// Whether the feature of a token lies in section 8, and is UTF-8.
 fn has_feature(bytes: &[u8], token: u32) -> bool {
     let at = (token as usize).saturating_mul(16);
-    let number = |by: usize| u32_at(section(bytes, 7), at.saturating_add(by)) as usize;
-    let feature = section(bytes, 8).get(number(8)..number(8).saturating_add(number(12)));
-    feature.is_some_and(|text| from_utf8(text).is_ok())
+    let start = u32_at(section(bytes, 7), at.saturating_add(8)) as usize;
+    let length = u32_at(section(bytes, 7), at.saturating_add(12)) as usize;
+    match section(bytes, 8).get(start..start.saturating_add(length)) {
+        Some(feature) => from_utf8(feature).is_ok(),
+        None => false,
+    }
 }

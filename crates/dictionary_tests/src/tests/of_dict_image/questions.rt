@@ -1,7 +1,15 @@
 //! Questions to dictionaries.
 use super::plain_walk::reads_for;
-use dict_image::Dict;
+use dict_image::{Dict, Entries};
 use mj_model::CharInfo;
+
+/// Whether the next entry has this number.
+fn begins_with(entries: &mut Entries<'_>, token: u32) -> bool {
+    match entries.next() {
+        Some(entry) => entry.token == token,
+        None => false,
+    }
+}
 
 /// Whether these are the lengths of the keys that begin a text, each key with a first entry of this number, and there are no others.
 /// So many cells are read for them.
@@ -11,21 +19,25 @@ pub(crate) fn are_prefixes(dict: &Dict, text: &str, expected: &[(usize, u32)], r
         let Some((found, mut entries)) = prefixes.next() else {
             return false;
         };
-        if found != *length || entries.next().map(|entry| entry.token) != Some(*token) {
+        if found != *length || !begins_with(&mut entries, *token) {
             return false;
         }
     }
     prefixes.next().is_none() && prefixes.reads() == reads
 }
 
+/// Texts that are asked for.
+static TEXTS: [&str; 6] = ["", "a", "ab", "も", "ももa", "\0"];
+
 /// Whether the dictionary of an image answers all that can be asked of it, and reads the cells that the plain reader counts.
 pub(crate) fn answers_all(dict: &Dict, image: &[u8]) -> bool {
-    ["", "a", "ab", "も", "ももa", "\0"].iter().all(|text| has_prefixes(
-        dict,
-        text,
-        reads_for(image, text.as_bytes()),
-    ) && has_few_entries(dict, text))
-        && dict.known_token(0).is_some()
+    for text in &TEXTS {
+        let reads = reads_for(image, text.as_bytes());
+        if !has_prefixes(dict, text, reads) || !has_few_entries(dict, text) {
+            return false;
+        }
+    }
+    dict.known_token(0).is_some()
         && dict.known_token(1).is_none()
         && dict.unknown_token(0).is_none()
 }
@@ -56,4 +68,9 @@ pub(crate) fn info_of(dict: &Dict, c: char) -> Option<CharInfo> {
         return None;
     }
     Some(dict.info(c))
+}
+
+/// Whether a character has this set of categories, and this first one.
+pub(crate) fn has_info(dict: &Dict, c: char, (bits, head): (u32, u8)) -> bool {
+    info_of(dict, c) == Some(CharInfo { bits, head })
 }

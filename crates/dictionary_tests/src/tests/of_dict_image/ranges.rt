@@ -1,9 +1,8 @@
 //! System images of layout 3, whose section 3 has ranges of code points.
 use super::images::sealed;
 use super::older_system::{BOTH, ONE, ZERO, two_categories};
-use super::questions::info_of;
+use super::questions::has_info;
 use dict_image::load;
-use mj_model::CharInfo;
 use std::alloc::{AllocError, Global};
 use std::test::Fail;
 
@@ -19,52 +18,46 @@ fn ranges_of(alloc: Global, ranges: &[(u32, u32)]) -> Result<Vec<u8>, AllocError
 
 /// Ranges of one code point, and ones that begin where the basic plane ends and behind it.
 #[rattlefmt::skip]
-const SHORT: [(u32, u32); 10] = [
+static SHORT: [(u32, u32); 10] = [
     (0, ZERO), (0x41, ONE), (0x42, ZERO), (0xD7FF, ONE), (0xE000, BOTH), (0xE001, ZERO),
     (0xFFFF, ONE), (0x1_0000, BOTH), (0x1_0001, ZERO), (0x10_FFFF, ONE),
 ];
 
 /// Ranges of which the second begins in the basic plane and ends behind it.
-const LONG: [(u32, u32); 3] = [(0, BOTH), (0xFFFE, ONE), (0x1_0001, ZERO)];
+static LONG: [(u32, u32); 3] = [(0, BOTH), (0xFFFE, ONE), (0x1_0001, ZERO)];
+
+/// Code points with their categories.
+#[rattlefmt::skip]
+static CODE_POINTS: [(char, (u32, u8), (u32, u8)); 15] = [
+    // (code point, its set of categories and the first of them in short ranges, and in long ones)
+    ('\0',         (1, 0), (3, 1)),
+    ('@',          (1, 0), (3, 1)),
+    ('A',          (2, 1), (3, 1)),
+    ('B',          (1, 0), (3, 1)),
+    ('\u{D7FE}',   (1, 0), (3, 1)),
+    ('\u{D7FF}',   (2, 1), (3, 1)),
+    ('\u{E000}',   (3, 1), (3, 1)),
+    ('\u{E001}',   (1, 0), (3, 1)),
+    ('\u{FFFD}',   (1, 0), (3, 1)),
+    ('\u{FFFE}',   (1, 0), (2, 1)),
+    ('\u{FFFF}',   (2, 1), (2, 1)),
+    ('\u{10000}',  (3, 1), (2, 1)),
+    ('\u{10001}',  (1, 0), (1, 0)),
+    ('\u{10FFFE}', (1, 0), (1, 0)),
+    ('\u{10FFFF}', (2, 1), (1, 0)),
+];
 
 #[test]
 fn categories_of_ranges(rt: HostRuntime) -> Result<(), Fail> {
     let alloc = rt.alloc();
-    #[rattlefmt::skip]
-    let rows = [
-        // (code point, its set of categories and the first of them in short ranges, and in long ones)
-        ('\0',         (1, 0), (3, 1)),
-        ('@',          (1, 0), (3, 1)),
-        ('A',          (2, 1), (3, 1)),
-        ('B',          (1, 0), (3, 1)),
-        ('\u{D7FE}',   (1, 0), (3, 1)),
-        ('\u{D7FF}',   (2, 1), (3, 1)),
-        ('\u{E000}',   (3, 1), (3, 1)),
-        ('\u{E001}',   (1, 0), (3, 1)),
-        ('\u{FFFD}',   (1, 0), (3, 1)),
-        ('\u{FFFE}',   (1, 0), (2, 1)),
-        ('\u{FFFF}',   (2, 1), (2, 1)),
-        ('\u{10000}',  (3, 1), (2, 1)),
-        ('\u{10001}',  (1, 0), (1, 0)),
-        ('\u{10FFFE}', (1, 0), (1, 0)),
-        ('\u{10FFFF}', (2, 1), (1, 0)),
-    ];
     let short = two_categories(alloc, 3, &ranges_of(alloc, &SHORT)?)?;
     let long = two_categories(alloc, 3, &ranges_of(alloc, &LONG)?)?;
     let short = load(alloc, sealed(alloc, &short)?)?;
     let long = load(alloc, sealed(alloc, &long)?)?;
-    for (c, (bits, head), (long_bits, long_head)) in rows {
-        let code = u32::from(c);
-        assert_eq!(rt;
-            info_of(&short, c),
-            Some(CharInfo { bits, head }),
-            "short, {code}"
-        );
-        let expected = Some(CharInfo {
-            bits: long_bits,
-            head: long_head,
-        });
-        assert_eq!(rt; info_of(&long, c), expected, "long, {code}");
+    for (c, in_short, in_long) in &CODE_POINTS {
+        let code = u32::from(*c);
+        assert!(rt; has_info(&short, *c, *in_short), "short, {code}");
+        assert!(rt; has_info(&long, *c, *in_long), "long, {code}");
     }
     Ok(())
 }

@@ -6,15 +6,15 @@ use sha2::{Digest, Sha256};
 use std::test::Fail;
 
 /// The header of a user dictionary for a connection table of 2 right ids and 2 left ids, up to the length of section 5.
-const HEADER_BEGIN: [u8; 72] =
+static HEADER_BEGIN: [u8; 72] =
     *b"MJDICT\r\n\x03\0\0\0\x01\0\0\0\x02\0\0\0\x02\0\0\0\0\0\0\0\x01\0\0\0\x01\0\0\0\0\0\0\0\
     \0\0\0\0\0\0\0\0\0\0\0\0\0\0\0\0\0\0\0\0\0\0\0\0\0\0\0\0\0\0\0\0";
 
 /// The lengths of sections 6 to 8, which end the header: 8, 16 and 1 bytes.
-const HEADER_END: [u8; 24] = *b"\x08\0\0\0\0\0\0\0\x10\0\0\0\0\0\0\0\x01\0\0\0\0\0\0\0";
+static HEADER_END: [u8; 24] = *b"\x08\0\0\0\0\0\0\0\x10\0\0\0\0\0\0\0\x01\0\0\0\0\0\0\0";
 
 /// Sections 6 to 8, one behind another.
-const SECTIONS: [u8; 25] = *b"\0\0\0\0\x01\0\0\0\x01\0\x01\0\x01\0\0\0\0\0\0\0\x01\0\0\0X";
+static SECTIONS: [u8; 25] = *b"\0\0\0\0\x01\0\0\0\x01\0\x01\0\x01\0\0\0\0\0\0\0\x01\0\0\0X";
 
 #[test]
 fn header_sections_and_digest(rt: HostRuntime) -> Result<(), Fail> {

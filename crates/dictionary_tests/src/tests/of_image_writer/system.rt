@@ -7,19 +7,19 @@ use std::test::Fail;
 
 /// The header of the sample's image up to the lengths of its sections: layout 3, kind 0, 2 right and 2 left ids, 6 categories, 3
 /// groups, 3 tokens and 6 unknown entries.
-const HEADER: &[u8; 40] =
+static HEADER: &[u8; 40] =
     b"MJDICT\r\n\x03\0\0\0\0\0\0\0\x02\0\0\0\x02\0\0\0\x06\0\0\0\x03\0\0\0\x03\0\0\0\x06\0\0\0";
 
 /// The lengths of sections 1 to 4.
-const BEGIN_LENGTHS: &[u8; 32] =
+static BEGIN_LENGTHS: &[u8; 32] =
     b"\x08\0\0\0\0\0\0\0\x3e\0\0\0\0\0\0\0\x68\0\0\0\0\0\0\0\x1c\0\0\0\0\0\0\0";
 
 /// The lengths of sections 6 to 8.
-const END_LENGTHS: &[u8; 24] = b"\x10\0\0\0\0\0\0\0\x90\0\0\0\0\0\0\0\x2d\0\0\0\0\0\0\0";
+static END_LENGTHS: &[u8; 24] = b"\x10\0\0\0\0\0\0\0\x90\0\0\0\0\0\0\0\x2d\0\0\0\0\0\0\0";
 
 /// Sections 1 to 4: the costs of right id 0 and those of right id 1; the categories; the code point at which each range begins, with
 /// the set of its categories and the first of them; the first unknown entry of each category.
-const BEGIN: &[u8; 202] = b"\0\0\x0a\0\x05\0\x07\0\
+static BEGIN: &[u8; 202] = b"\0\0\x0a\0\x05\0\x07\0\
     \0\x01\0\x07DEFAULT\0\x01\0\x05SPACE\x01\x01\0\x05ALPHA\
     \x01\x01\x02\x08KATAKANA\0\0\x02\x05KANJI\0\x01\x02\x08HIRAGANA\
     \0\0\0\0\x01\0\0\0\x20\0\0\0\x02\0\x04\0\
@@ -32,13 +32,31 @@ const BEGIN: &[u8; 202] = b"\0\0\x0a\0\x05\0\x07\0\
     \x03\0\0\0\x04\0\0\0\x05\0\0\0\x06\0\0\0\x07\0\0\0\x08\0\0\0\x09\0\0\0";
 
 /// Section 6 and the tokens of the lexicon.
-const TOKENS: &[u8; 64] = b"\0\0\0\0\x01\0\0\0\x02\0\0\0\x03\0\0\0\
+static TOKENS: &[u8; 64] = b"\0\0\0\0\x01\0\0\0\x02\0\0\0\x03\0\0\0\
     \x01\0\x01\0\x64\0\0\0\0\0\0\0\x10\0\0\0\
     \x01\0\x01\0\x14\0\0\0\x10\0\0\0\x0a\0\0\0\
     \x01\0\x01\0\x1e\0\0\0\x1a\0\0\0\x0d\0\0\0";
 
 /// The token of each unknown entry.
-const UNKNOWN_TOKEN: &[u8; 16] = b"\x01\0\x01\0\xe8\x03\0\0\x27\0\0\0\x06\0\0\0";
+static UNKNOWN_TOKEN: &[u8; 16] = b"\x01\0\x01\0\xe8\x03\0\0\x27\0\0\0\x06\0\0\0";
+
+/// The features, one behind another.
+static FEATURES: [&str; 4] = ["名詞,すもも", "助詞,も", "名詞,もも", "未知"];
+
+/// The tokens of the lexicon, and the one of each unknown entry.
+#[rattlefmt::skip]
+static TOKEN_ROWS: [(&str, &[u8; 16]); 9] = [
+    // (what, left id, right id, cost, spare, place and length of the feature)
+    ("すもも", b"\x01\0\x01\0\x64\0\0\0\0\0\0\0\x10\0\0\0"),
+    ("も", b"\x01\0\x01\0\x14\0\0\0\x10\0\0\0\x0a\0\0\0"),
+    ("もも", b"\x01\0\x01\0\x1e\0\0\0\x1a\0\0\0\x0d\0\0\0"),
+    ("DEFAULT", b"\x01\0\x01\0\xe8\x03\0\0\x27\0\0\0\x06\0\0\0"),
+    ("SPACE", b"\x01\0\x01\0\xe8\x03\0\0\x27\0\0\0\x06\0\0\0"),
+    ("ALPHA", b"\x01\0\x01\0\xe8\x03\0\0\x27\0\0\0\x06\0\0\0"),
+    ("KATAKANA", b"\x01\0\x01\0\xe8\x03\0\0\x27\0\0\0\x06\0\0\0"),
+    ("KANJI", b"\x01\0\x01\0\xe8\x03\0\0\x27\0\0\0\x06\0\0\0"),
+    ("HIRAGANA", b"\x01\0\x01\0\xe8\x03\0\0\x27\0\0\0\x06\0\0\0"),
+];
 
 #[test]
 fn sections_of_the_lexicon(rt: HostRuntime) -> Result<(), Fail> {
@@ -49,25 +67,13 @@ fn sections_of_the_lexicon(rt: HostRuntime) -> Result<(), Fail> {
     assert!(rt; section(&image, 6) == groups.as_slice());
     let mut features = section(&image, 8);
     assert_eq!(rt; features.len(), 45);
-    for feature in ["名詞,すもも", "助詞,も", "名詞,もも", "未知"] {
+    for feature in &FEATURES {
         assert!(rt; features.starts_with(feature.as_bytes()), "{feature}");
         features = features.get(feature.len()..).unwrap_or(b"");
     }
     assert!(rt; features.is_empty());
-    let tokens = [
-        // (what, left id, right id, cost, spare, place and length of the feature)
-        ("すもも", b"\x01\0\x01\0\x64\0\0\0\0\0\0\0\x10\0\0\0"),
-        ("も", b"\x01\0\x01\0\x14\0\0\0\x10\0\0\0\x0a\0\0\0"),
-        ("もも", b"\x01\0\x01\0\x1e\0\0\0\x1a\0\0\0\x0d\0\0\0"),
-        ("DEFAULT", b"\x01\0\x01\0\xe8\x03\0\0\x27\0\0\0\x06\0\0\0"),
-        ("SPACE", b"\x01\0\x01\0\xe8\x03\0\0\x27\0\0\0\x06\0\0\0"),
-        ("ALPHA", b"\x01\0\x01\0\xe8\x03\0\0\x27\0\0\0\x06\0\0\0"),
-        ("KATAKANA", b"\x01\0\x01\0\xe8\x03\0\0\x27\0\0\0\x06\0\0\0"),
-        ("KANJI", b"\x01\0\x01\0\xe8\x03\0\0\x27\0\0\0\x06\0\0\0"),
-        ("HIRAGANA", b"\x01\0\x01\0\xe8\x03\0\0\x27\0\0\0\x06\0\0\0"),
-    ];
-    assert_eq!(rt; section(&image, 7).len(), 16 * tokens.len());
-    for ((what, expected), token) in tokens.iter().zip(section(&image, 7).chunks(16)) {
+    assert_eq!(rt; section(&image, 7).len(), 16 * TOKEN_ROWS.len());
+    for ((what, expected), token) in TOKEN_ROWS.iter().zip(section(&image, 7).chunks(16)) {
         assert!(rt; token == expected.as_slice(), "{what}");
     }
     Ok(())

@@ -7,25 +7,25 @@ use sha2::{Digest, Sha256};
 use std::test::Fail;
 
 /// The first bytes of a user image: layout 3, kind 1.
-const BEGIN: &[u8; 16] = b"MJDICT\r\n\x03\0\0\0\x01\0\0\0";
+static BEGIN: &[u8; 16] = b"MJDICT\r\n\x03\0\0\0\x01\0\0\0";
 
 /// A user dictionary, and what its image says.
 #[derive(Clone, Copy)]
-struct Row<'a> {
-    what: &'a str,
+struct Row {
+    what: &'static str,
     sizes: MatrixSizes,
-    lines: &'a str,
+    lines: &'static str,
     /// The sizes, and how many categories, groups, tokens and unknown entries there are.
-    numbers: &'a [u8; 24],
+    numbers: &'static [u8; 24],
     /// The lengths of sections 6 to 8.
-    lengths: &'a [u8; 24],
-    groups: &'a [u8],
-    tokens: &'a [u8],
-    features: &'a [u8],
+    lengths: &'static [u8; 24],
+    groups: &'static [u8],
+    tokens: &'static [u8],
+    features: &'static [u8],
 }
 
 #[rattlefmt::skip]
-const ROWS: [Row<'static>; 3] = [
+static ROWS: [Row; 3] = [
     Row { what: "no lines", sizes: MatrixSizes { right: 1, left: 2 }, lines: "",
         numbers: b"\x01\0\0\0\x02\0\0\0\0\0\0\0\0\0\0\0\0\0\0\0\0\0\0\0",
         lengths: b"\x04\0\0\0\0\0\0\0\0\0\0\0\0\0\0\0\0\0\0\0\0\0\0\0",
@@ -45,9 +45,9 @@ const ROWS: [Row<'static>; 3] = [
 
 #[test]
 fn sections_of_lexicons(rt: HostRuntime) -> Result<(), Fail> {
-    for row in ROWS {
+    for row in &ROWS {
         #[rattlefmt::skip]
-        let Row { what, sizes, lines, numbers, groups, tokens, features, .. } = row;
+        let Row { what, sizes, lines, numbers, groups, tokens, features, .. } = *row;
         let lexicon = sorted(rt.alloc(), sizes, lines)?;
         let image = write_user(rt.alloc(), lexicon)?;
         assert!(rt; image.get(28..32) == numbers.get(12..16), "{what}");
@@ -66,9 +66,9 @@ fn sections_of_lexicons(rt: HostRuntime) -> Result<(), Fail> {
 
 #[test]
 fn user_images(rt: HostRuntime) -> Result<(), Fail> {
-    for row in ROWS {
+    for row in &ROWS {
         #[rattlefmt::skip]
-        let Row { what, sizes, lines, numbers, lengths, groups, tokens, features } = row;
+        let Row { what, sizes, lines, numbers, lengths, groups, tokens, features } = *row;
         let lexicon = sorted(rt.alloc(), sizes, lines)?;
         let image = write_user(rt.alloc(), lexicon)?;
         let mut end = Vec::new(rt.alloc());
