@@ -1,0 +1,113 @@
+"""Hostile inputs beside honest ones of the same size: how often the processor time of the honest one each takes, and whether that is bound."""
+import argparse
+import os
+import resource
+import signal
+import subprocess
+import sys
+import tempfile
+from pathlib import Path
+from typing import NamedTuple, Optional
+
+TOP = Path(__file__).resolve().parent.parent.parent
+# How often the honest input's time a hostile one may take.
+MOST = 3
+# Seconds of the processor after which a run is ended, and the bytes of memory that it may have where nothing else is said.
+LONGEST = 120
+ROOM = 4 << 30
+# What jseg prints where only the number of words counts, and whether they are known.
+MARKS = ["-F", "w", "-U", "u", "-E", "\\n"]
+
+
+class Run(NamedTuple):
+    """A command over a text, the statuses that it may end with, what it prints, where that is looked at, and the bytes of memory that it may have."""
+
+    command: list
+    text: bytes = b""
+    statuses: tuple = (0,)
+    printed: Optional[bytes] = None
+    room: int = ROOM
+
+
+class Shape(NamedTuple):
+    """A hostile input beside an honest one. `size` tells how large both are, and which part that is of what was asked for."""
+
+    name: str
+    size: str
+    honest: Run
+    hostile: Run
+
+
+def seconds_of(what, run):
+    """The processor time of a run, also of one that was ended for it; the script stops where another does not end or print as it should."""
+
+    def limit():
+        resource.setrlimit(resource.RLIMIT_CPU, (LONGEST, LONGEST + 1))
+        resource.setrlimit(resource.RLIMIT_AS, (run.room, run.room))
+
+    with tempfile.TemporaryFile() as text, tempfile.TemporaryFile() as printed, tempfile.TemporaryFile() as told:
+        text.write(run.text)
+        text.seek(0)
+        started = subprocess.Popen(list(map(str, run.command)), stdin=text, stdout=printed, stderr=told, preexec_fn=limit)
+        _, ended, used = os.wait4(started.pid, 0)
+        started.returncode = os.waitstatus_to_exitcode(ended)
+        if started.returncode == -signal.SIGXCPU:
+            return used.ru_utime + used.ru_stime
+        printed.seek(0)
+        told.seek(0)
+        if started.returncode not in run.statuses:
+            sys.exit(f"{what}: status {started.returncode}: {told.read(1000).decode(errors='replace').strip()}")
+        if run.printed is not None and printed.read() != run.printed:
+            sys.exit(f"{what}: prints something else than it should")
+    return used.ru_utime + used.ru_stime
+
+
+def times_of(shape, rounds):
+    """The least time of each of both, by turns. What takes long enough is run once."""
+    times = ([], [])
+    for number in range(rounds):
+        for part, run in zip(times, (shape.honest, shape.hostile)):
+            part.append(seconds_of(f"{shape.name}, {'hostile' if part is times[1] else 'honest'}", run))
+        if number == 0 and times[1][0] > max(2, 4 * MOST * times[0][0]):
+            break
+    return min(times[0]), min(times[1])
+
+
+def judged(shapes, known, rounds):
+    """Prints a row for each shape, and answers the faults: a bound that is missed, or one that is met and is known not to be."""
+    print(f"{'shape':28} {'honest':>9} {'hostile':>9} {'ratio':>8}  {'bound of ' + str(MOST):11} size")
+    faults = [f"KNOWN names no shape: {name}" for name in known if name not in {shape.name for shape in shapes}]
+    for shape in shapes:
+        honest, hostile = times_of(shape, rounds)
+        is_met = hostile <= MOST * honest
+        print(f"{shape.name:28} {honest:7.3f} s {hostile:7.3f} s {hostile / honest:8.2f}  {'met' if is_met else 'not met':11} {shape.size}", flush=True)
+        if is_met and shape.name in known:
+            faults.append(f"{shape.name}: its bound is met now: take it off KNOWN")
+        elif not is_met and shape.name in known:
+            print(f"    known: {known[shape.name]}")
+        elif not is_met:
+            faults.append(f"{shape.name}: takes more than {MOST} times the honest one's time")
+    return faults
+
+
+def chosen(about, rounds, programs, **others):
+    """The options of a script: how often each input is run, and where the programs stand. Where one is not there, the script ends."""
+    options = argparse.ArgumentParser(description=about, formatter_class=argparse.RawDescriptionHelpFormatter)
+    options.add_argument("--rounds", type=int, default=rounds, metavar="N", help="how often each input is run")
+    for name in programs:
+        options.add_argument(f"--{name}", type=Path, default=TOP / "crates" / name / "out" / name)
+    for name, (default, told) in others.items():
+        options.add_argument(f"--{name}", type=int, default=default, metavar="N", help=told)
+    found = options.parse_args()
+    missing = [str(getattr(found, name)) for name in programs if not getattr(found, name).exists()]
+    if missing:
+        print(f"nothing was measured: {' and '.join(missing)} not built; `rt run` in the crate's folder builds it", file=sys.stderr)
+        sys.exit(2)
+    return found
+
+
+def ended(faults):
+    """The script's status, after its faults were told."""
+    for fault in faults:
+        print(fault, file=sys.stderr)
+    return 1 if faults else 0
