@@ -37,42 +37,48 @@ fn four_cells(rt: &HostRuntime) -> Result<Cells, Fail> {
     }
 }
 
+/// What the cells hold.
+#[rattlefmt::skip]
+static GROWN: [(usize, Option<(i32, i32)>); 7] = [
+    // (cell, what it holds)
+    (0, Some((0, -1))),
+    (1, Some((0, -1))),
+    (2, Some((0, -1))),
+    (3, Some((8, 1))),
+    (4, Some((0, -1))),
+    (5, Some((0, -1))),
+    (6, None),
+];
+
 #[test]
 fn grown_cells(rt: HostRuntime) -> Result<(), Fail> {
     let mut cells = Cells::new(rt.alloc(), 4)?;
     put(&mut cells, 3, 8, 1);
     grow(&mut cells, 6)?;
     assert_eq!(rt; cells.len(), 6);
-    let rows = [
-        // (cell, what it holds)
-        (0, Some((0, -1))),
-        (1, Some((0, -1))),
-        (2, Some((0, -1))),
-        (3, Some((8, 1))),
-        (4, Some((0, -1))),
-        (5, Some((0, -1))),
-        (6, None),
-    ];
-    for (i, expected) in rows {
-        assert_eq!(rt; cell(&cells, i), expected, "{i}");
+    for (i, expected) in &GROWN {
+        assert_eq!(rt; cell(&cells, *i), *expected, "{i}");
     }
     Ok(())
 }
 
+/// Cells with the ends of the numbers.
+#[rattlefmt::skip]
+static ENDS: [(usize, i32, i32); 3] = [
+    // (cell, base, check)
+    (0, 1, -2),
+    (1, -2_147_483_648, 2_147_483_647),
+    (2, 2_147_483_647, -2_147_483_648),
+];
+
 #[test]
 fn ends_of_the_numbers(rt: HostRuntime) -> Result<(), Fail> {
     let mut cells = Cells::new(rt.alloc(), 3)?;
-    let rows = [
-        // (cell, base, check)
-        (0, 1, -2),
-        (1, -2_147_483_648, 2_147_483_647),
-        (2, 2_147_483_647, -2_147_483_648),
-    ];
-    for (i, base, check) in rows {
-        put(&mut cells, i, base, check);
+    for (i, base, check) in &ENDS {
+        put(&mut cells, *i, *base, *check);
     }
-    for (i, base, check) in rows {
-        assert_eq!(rt; cell(&cells, i), Some((base, check)), "{i}");
+    for (i, base, check) in &ENDS {
+        assert_eq!(rt; cell(&cells, *i), Some((*base, *check)), "{i}");
     }
     Ok(())
 }

@@ -8,44 +8,53 @@ use double_array::{CellRead, DaFault, DoubleArray, Inserted};
 use mj_model::NamedFault;
 use std::test::Fail;
 
+/// Keys that are inserted one after another.
+#[rattlefmt::skip]
+static INSERTED: [(&[u8], u32, Option<u32>); 3] = [
+    // (key, value, the value before)
+    (b"a", 5, None),
+    (b"ab", 7, None),
+    (b"a", 9, Some(5)),
+];
+
+/// Keys with their values.
+#[rattlefmt::skip]
+static VALUES: [(&[u8], Option<u32>); 5] = [
+    // (key, value)
+    (b"a", Some(9)),
+    (b"ab", Some(7)),
+    (b"b", None),
+    (b"abc", None),
+    (b"", None),
+];
+
+/// Texts with the keys that begin them.
+#[rattlefmt::skip]
+static HITS: [(&[u8], &[(usize, u32)], u64); 5] = [
+    // (text, the keys that begin it: length and value, the root and the steps and values asked for)
+    (b"abc", &[(1, 9), (2, 7)], 6),
+    (b"ab", &[(1, 9), (2, 7)], 5),
+    (b"ac", &[(1, 9)], 4),
+    (b"b", &[], 2),
+    (b"", &[], 1),
+];
+
 #[test]
 fn insert_and_walk(rt: HostRuntime) -> Result<(), Fail> {
     let mut array = DoubleArray::new(rt.alloc())?;
-    let rows = [
-        // (key, value, the value before)
-        (b"a".as_slice(), 5, None),
-        (b"ab", 7, None),
-        (b"a", 9, Some(5)),
-    ];
-    for (key, number, old) in rows {
-        let inserted = insert(&mut array, key, number)?;
-        assert_eq!(rt; inserted.old, old, "{number}");
+    for (key, number, old) in &INSERTED {
+        let inserted = insert(&mut array, key, *number)?;
+        assert_eq!(rt; inserted.old, *old, "{number}");
         if old.is_some() {
             assert_eq!(rt; inserted.moved, 0, "{number}");
         }
     }
-    let rows = [
-        // (key, value)
-        (b"a".as_slice(), Some(9)),
-        (b"ab", Some(7)),
-        (b"b", None),
-        (b"abc", None),
-        (b"", None),
-    ];
-    for (key, expected) in rows {
-        assert_eq!(rt; value(&array, key), expected, "{key:?}");
-        assert_eq!(rt; value(&Counting::over(&array), key), expected, "{key:?}");
+    for (key, expected) in &VALUES {
+        assert_eq!(rt; value(&array, key), *expected, "{key:?}");
+        assert_eq!(rt; value(&Counting::over(&array), key), *expected, "{key:?}");
     }
-    let rows = [
-        // (text, the keys that begin it: length and value, the root and the steps and values asked for)
-        (b"abc".as_slice(), [(1, 9), (2, 7)].as_slice(), 6),
-        (b"ab", &[(1, 9), (2, 7)], 5),
-        (b"ac", &[(1, 9)], 4),
-        (b"b", &[], 2),
-        (b"", &[], 1),
-    ];
-    for (text, hits, reads) in rows {
-        expect_hits(&rt, &array, text, hits, reads);
+    for (text, hits, reads) in &HITS {
+        expect_hits(&rt, &array, text, hits, *reads);
     }
     Ok(())
 }
@@ -60,22 +69,25 @@ fn the_empty_array(rt: HostRuntime) -> Result<(), Fail> {
     Ok(())
 }
 
+/// Keys with the ends of the numbers.
+#[rattlefmt::skip]
+static ENDS: [(&[u8], u32); 4] = [
+    // (key, value)
+    (b"\0", 0),
+    (b"\xff", 2_147_483_646),
+    (b"\0\0", 2_147_483_645),
+    (b"\xff\xff", 1),
+];
+
 #[test]
 fn ends_of_the_numbers(rt: HostRuntime) -> Result<(), Fail> {
     let mut array = DoubleArray::new(rt.alloc())?;
-    let rows = [
-        // (key, value)
-        (b"\0".as_slice(), 0),
-        (b"\xff", 2_147_483_646),
-        (b"\0\0", 2_147_483_645),
-        (b"\xff\xff", 1),
-    ];
-    for (key, number) in rows {
-        let inserted = insert(&mut array, key, number)?;
+    for (key, number) in &ENDS {
+        let inserted = insert(&mut array, key, *number)?;
         assert_eq!(rt; inserted.old, None, "{key:?}");
     }
-    for (key, number) in rows {
-        assert_eq!(rt; value(&array, key), Some(number), "{key:?}");
+    for (key, number) in &ENDS {
+        assert_eq!(rt; value(&array, key), Some(*number), "{key:?}");
     }
     Ok(())
 }

@@ -27,10 +27,13 @@ fn value_of_key(array: &DoubleArray, n: usize) -> Option<u32> {
 
 /// Whether the keys below `n` have their values, and those from `n` on have none.
 fn has_first_keys(array: &DoubleArray, n: usize) -> bool {
-    (0..KEYS).all(|i| {
+    for i in 0..KEYS {
         let expected = if i < n { Some(i as u32) } else { None };
-        value_of_key(array, i) == expected
-    })
+        if value_of_key(array, i) != expected {
+            return false;
+        }
+    }
+    true
 }
 
 /// An empty array. What is refused once is asked again.
@@ -59,22 +62,25 @@ fn byte_after_byte(rt: HostRuntime) -> Result<(), Fail> {
     Ok(())
 }
 
+/// Keys of few bytes, and what they make of the array.
+#[rattlefmt::skip]
+static LENGTHS: [(&[u8], usize); 5] = [
+    // (key, by how many cells the array is longer than at first)
+    (b"a", 601),
+    (b"a", 601),
+    (b"b", 601),
+    (b"aa", 601),
+    (b"c", 601),
+];
+
 /// The first key makes the array longer by its length and 600 cells. Then there is room after the last used cell for a key of one byte.
 #[test]
 fn room_is_used_up_first(rt: HostRuntime) -> Result<(), Fail> {
     let mut array = DoubleArray::new(rt.alloc())?;
     let first = array.len();
-    let rows = [
-        // (key, by how many cells the array is longer than at first)
-        (b"a".as_slice(), 601),
-        (b"a", 601),
-        (b"b", 601),
-        (b"aa", 601),
-        (b"c", 601),
-    ];
-    for (key, more) in rows {
+    for (key, more) in &LENGTHS {
         insert(&mut array, key, 1)?;
-        assert_eq!(rt; array.len().saturating_sub(first), more, "{key:?}");
+        assert_eq!(rt; array.len().saturating_sub(first), *more, "{key:?}");
     }
     Ok(())
 }

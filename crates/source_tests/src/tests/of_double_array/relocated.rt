@@ -6,7 +6,7 @@ use super::access::{insert, value};
 use double_array::{CellRead, DoubleArray};
 use std::test::Fail;
 
-const KEYS: [&[u8]; 5] = [b"a", b"b", b"a\x01", b"a\x02", b"a\x03"];
+static KEYS: [&[u8]; 5] = [b"a", b"b", b"a\x01", b"a\x02", b"a\x03"];
 
 /// A cell, if it is there.
 fn cell(array: &DoubleArray, i: usize) -> Option<(i32, i32)> {
@@ -53,9 +53,21 @@ fn state_of(array: &DoubleArray, key: &[u8]) -> Option<usize> {
 
 /// How many children a state has.
 fn children_of(array: &DoubleArray, state: usize) -> usize {
-    (0..array.len())
-        .filter(|i| parent_of(array, *i) == Some(state))
-        .count()
+    let mut count = 0_usize;
+    for i in 0..array.len() {
+        if parent_of(array, i) == Some(state) {
+            count = count.saturating_add(1);
+        }
+    }
+    count
+}
+
+/// Whether the cell that a state's step on a byte would lead to is a child of this parent.
+fn is_wanted_cell_below(array: &DoubleArray, state: usize, byte: u8, parent: usize) -> bool {
+    match wanted_cell(array, state, byte) {
+        Some(i) => parent_of(array, i) == Some(parent),
+        None => false,
+    }
 }
 
 /// A byte that the state of a key lacks, and whose wanted cell is a child of the state's parent.
@@ -65,10 +77,12 @@ fn byte_of_a_sibling(array: &DoubleArray, key: &[u8]) -> Option<u8> {
     if children_of(array, state) <= children_of(array, parent) {
         return None;
     }
-    (0..=255).find(|byte| match wanted_cell(array, state, *byte) {
-        Some(i) => parent_of(array, i) == Some(parent),
-        None => false,
-    })
+    for byte in 0..=255 {
+        if is_wanted_cell_below(array, state, byte, parent) {
+            return Some(byte);
+        }
+    }
+    None
 }
 
 #[test]

@@ -1,7 +1,7 @@
 //! A `matrix.def` that comes in pieces says what it says as one slice.
 use matrix_def::{Matrix, MatrixReader, read_matrix};
 use mj_model::SourceFault;
-use mj_model::SourceKind::{BadHeader, BadRow, PairOutside};
+use mj_model::SourceKind::{self, BadHeader, BadRow, PairOutside};
 use std::alloc::Global;
 use std::test::Fail;
 
@@ -39,26 +39,29 @@ fn costs_of_pieces(rt: HostRuntime) -> Result<(), Fail> {
     Ok(())
 }
 
+/// Tables that are refused.
+#[rattlefmt::skip]
+static REFUSED: [(&str, u64, SourceKind); 6] = [
+    // (matrix.def, line of the fault, its kind)
+    ("", 0, BadHeader),
+    ("\n \t\n", 0, BadHeader),
+    ("\n2\n1 1\n", 2, BadHeader),
+    ("2 2\r\n\r\n2 0 1\r\nx\r\n", 3, PairOutside),
+    ("2 2\n0 0 1\n0 0", 3, BadRow),
+    ("2 2\n0 0 1 1\n2 2\n0 0 1\n", 2, BadRow),
+];
+
 #[test]
 fn faults_of_pieces(rt: HostRuntime) {
-    let rows = [
-        // (matrix.def, line of the fault, its kind)
-        ("", 0, BadHeader),
-        ("\n \t\n", 0, BadHeader),
-        ("\n2\n1 1\n", 2, BadHeader),
-        ("2 2\r\n\r\n2 0 1\r\nx\r\n", 3, PairOutside),
-        ("2 2\n0 0 1\n0 0", 3, BadRow),
-        ("2 2\n0 0 1 1\n2 2\n0 0 1\n", 2, BadRow),
-    ];
-    for (text, line, kind) in rows {
+    for (text, line, kind) in &REFUSED {
         let bytes = text.as_bytes();
         for at in 0..bytes.len() + 1 {
             let fault = of_two(rt.alloc(), &bytes[..at], &bytes[at..]).err();
-            assert_eq!(rt; fault, Some(kind.at(0, line)), "{kind}, cut at {at}");
+            assert_eq!(rt; fault, Some(kind.at(0, *line)), "{kind}, cut at {at}");
         }
         let fault = of_bytes(rt.alloc(), bytes).err();
-        assert_eq!(rt; fault, Some(kind.at(0, line)), "{kind}, byte by byte");
+        assert_eq!(rt; fault, Some(kind.at(0, *line)), "{kind}, byte by byte");
         let fault = read_matrix(rt.alloc(), bytes).err();
-        assert_eq!(rt; fault, Some(kind.at(0, line)), "{kind}, as one slice");
+        assert_eq!(rt; fault, Some(kind.at(0, *line)), "{kind}, as one slice");
     }
 }
