@@ -155,7 +155,8 @@ bool posid_of(const posids *of, const kumquatsieve_word *word, const char *featu
     if (known != 0) *id = (uint16_t)(known - 1);
     if (known != 0) return true;
     if (!find_id(of, feature, id, error)) return false;
-    if (kept) atomic_store_explicit(kept, *id + 1u, memory_order_relaxed);
+    /* Whoever finds it first keeps it: the others found the same. */
+    if (kept) atomic_compare_exchange_strong_explicit(kept, &known, *id + 1u, memory_order_relaxed, memory_order_relaxed);
     return true;
 }
 
