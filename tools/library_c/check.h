@@ -14,12 +14,27 @@
         }                                                             \
     } while (0)
 
+/* The same of a row of a table, by its name. */
+#define CHECK_ROW(what, holds)                                                    \
+    do {                                                                          \
+        if (!(holds)) {                                                           \
+            fprintf(stderr, "%s:%d: %s: %s\n", __FILE__, __LINE__, what, #holds); \
+            exit(1);                                                              \
+        }                                                                         \
+    } while (0)
+
+/* How many rows a table has. */
+#define ROWS(table) (sizeof(table) / sizeof *(table))
+
 /* A text as bytes, without the zero at its end. */
 #define BYTES(text) ((const uint8_t *)(text))
 
 /* The words of the sample, and what jseg prints of them. */
 #define LINE "すもももも"
 #define PRINTED "すもも\t名詞,すもも\nもも\t名詞,もも\nEOS\n"
+
+/* What jseg prints of もも. */
+#define MOMO "もも\t名詞,もも\nEOS\n"
 
 typedef struct file {
     uint8_t *bytes;
@@ -46,6 +61,18 @@ static inline uint32_t cut(kumquatsieve_cutter *cutter, const char *line) {
     size_t count = 0;
     int64_t total = 0;
     return kumquatsieve_cut(cutter, BYTES(line), strlen(line), &count, &total);
+}
+
+static inline kumquatsieve_cutter loaded(file image) {
+    kumquatsieve_cutter cutter = kumquatsieve_empty();
+    CHECK(kumquatsieve_load(&cutter, image.bytes, image.length, NULL) == KUMQUATSIEVE_OK);
+    return cutter;
+}
+
+static inline uint32_t set_texts(kumquatsieve_cutter *cutter, const char *node, const char *unk, const char *bos, const char *eos) {
+    return kumquatsieve_set_format(
+        cutter, BYTES(node), strlen(node), BYTES(unk), strlen(unk), BYTES(bos), strlen(bos), BYTES(eos), strlen(eos), NULL, NULL
+    );
 }
 
 static inline int prints(kumquatsieve_cutter *cutter, const char *wanted) {

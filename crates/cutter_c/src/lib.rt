@@ -25,6 +25,3 @@ pub use tellers::{
     kumquatsieve_copy_feature, kumquatsieve_copy_print, kumquatsieve_fault, kumquatsieve_feature,
     kumquatsieve_print, kumquatsieve_words,
 };
-
-#[cfg(test)]
-mod tests;

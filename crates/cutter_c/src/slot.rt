@@ -21,6 +21,14 @@ impl Model for Slot {
 // By this C may hand a full slot to another thread.
 unsafe impl Send for Slot {}
 
+/// Compiles where a session, which a slot holds, may go to another thread.
+fn sessions_may_be_sent() {
+    may_be_sent::<Session>();
+}
+
+/// Asks nothing but that values of the type may go to another thread.
+fn may_be_sent<T: Send>() {}
+
 /// A slot with nothing in it.
 pub fn vacant() -> Slot
     ensures { result.value ≡ None }

@@ -1,10 +1,8 @@
-//! Lines cut over the sample, and each call refused.
+//! What C is not told of cutters: places and numbers of faults, their texts, and a format with no part for unknown words. All else is asked
+//! of the library in C (`tools/library_c`).
 
 mod faults;
 mod formats;
-mod lines;
 mod refusals;
 mod samples;
-mod sharing;
-mod users;
 mod words;

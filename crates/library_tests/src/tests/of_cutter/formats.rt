@@ -1,8 +1,6 @@
 //! Formats of printed paths.
 
 use super::samples::{prints, sample_cutter};
-use cutter::CutFault;
-use mj_model::{FormatFault, FormatKind, FormatPart};
 use std::test::Fail;
 
 #[test]
@@ -22,21 +20,5 @@ fn formats(rt: HostRuntime) -> Result<(), Fail> {
         cutter.cut(line.as_bytes())?;
         assert!(rt; prints(rt.alloc(), &cutter, output)?, "{what}");
     }
-    Ok(())
-}
-
-#[test]
-fn format_behind_the_cut(rt: HostRuntime) -> Result<(), Fail> {
-    let mut cutter = sample_cutter(rt.alloc())?;
-    cutter.cut("すもももも".as_bytes())?;
-    cutter.set_format("%m ", None, "", "\\n")?;
-    assert!(rt; prints(rt.alloc(), &cutter, "すもも もも \n")?);
-    let fault = FormatFault::Bad {
-        part: FormatPart::Eos,
-        at: 1,
-        kind: FormatKind::BadEscape,
-    };
-    assert!(rt; cutter.set_format("%m", None, "", "x\\q") == Err(CutFault::Format(fault)));
-    assert!(rt; prints(rt.alloc(), &cutter, "すもも もも \n")?);
     Ok(())
 }

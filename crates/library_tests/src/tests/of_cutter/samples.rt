@@ -1,26 +1,14 @@
 //! Cutters over the sample's dictionary.
 
 use cutter::Cutter;
-use dict_compile::{compile, compile_user};
-use dict_image::load;
+use dict_compile::compile;
 use mj_model::sample;
 use std::alloc::{AllocError, Global};
 use std::test::Fail;
 
-/// The image of the sample's dictionary.
-pub fn sample_image(alloc: Global) -> Result<Vec<u8>, Fail> {
-    Ok(compile(alloc, &sample())?.image)
-}
-
-/// The image of a user's dictionary for the sample's.
-pub fn user_image(alloc: Global, lexicon: &str) -> Result<Vec<u8>, Fail> {
-    let system = load(alloc, sample_image(alloc)?)?;
-    Ok(compile_user(alloc, &system, &[lexicon.as_bytes()])?.image)
-}
-
 /// A cutter over the sample's dictionary.
 pub fn sample_cutter(alloc: Global) -> Result<Cutter, Fail> {
-    Ok(Cutter::load(alloc, sample_image(alloc)?)?)
+    Ok(Cutter::load(alloc, compile(alloc, &sample())?.image)?)
 }
 
 /// What a cutter prints of what it cut last; nothing where it cut nothing.
