@@ -1,5 +1,5 @@
-/* MeCab's C interface over kumquatsieve.h. It is not proved; docs/LIBMECAB.md says what is had. Types and declarations are those of MeCab's own
-   header. */
+/* MeCab's C interface over kumquatsieve.h. It is not proved; docs/LIBMECAB.md says what each call does. Types and declarations are those of
+   MeCab's own header. */
 #ifndef LAYER_H
 #define LAYER_H
 #include "formats.h"

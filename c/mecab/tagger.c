@@ -104,7 +104,7 @@ const mecab_node_t *mecab_sparse_tonode(mecab_t *tagger, const char *text) {
     return mecab_sparse_tonode2(tagger, text, text ? strlen(text) : 0);
 }
 
-/* What is not had is refused where a sentence is parsed. */
+/* What this library lacks is refused where a sentence is parsed. */
 static void ask(mecab_t *tagger, int type, bool wanted) {
     if (wanted) tagger->request |= type;
     else tagger->request &= ~type;

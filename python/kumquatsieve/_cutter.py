@@ -2,7 +2,7 @@
 import os
 from typing import Any, Callable, Dict, List, Optional, Sequence, Tuple, Type, TypeVar, Union
 
-from ._fields import names_beside
+from ._fields import names_beside, numbered, with_common
 from ._formats import Format, texts_of
 from ._handle import DEFAULT, GROUPING, SPACED, Handle, Texts
 from ._images import Image, Origin, default, origin_of, path_of
@@ -24,6 +24,9 @@ class Cutter:
     Several threads may call one cutter at once, and a process may fork while they do. `share` and `copy.copy` make another cutter over the
     same dictionaries. `close`, or the end of a `with`, gives back what the cutter holds.
 
+    The fields of a feature have the names in the file NAME.fields beside the image NAME.img, which `kumquatsieve-import` writes, or those of
+    `fields`, in their order; None is a field without a name. Words have them as attributes.
+
     `parse` and `parse_lines` print in the cutter's format: `"wakati"`, a `Format`, or else a line for each word, with its feature, and EOS.
 
     A cutter pickles as what it was made of, the paths or names of its images, its grouping and its format. A process loads the images once
@@ -31,22 +34,30 @@ class Cutter:
     """
 
     def __init__(
-        self, image: Optional[Image] = None, users: Sequence[Image] = (), grouping: int = GROUPING, format: Union[None, str, Format] = None
+        self,
+        image: Optional[Image] = None,
+        users: Sequence[Image] = (),
+        grouping: int = GROUPING,
+        format: Union[None, str, Format] = None,
+        fields: Optional[Sequence[Optional[str]]] = None,
     ) -> None:
         if isinstance(users, (str, bytes, os.PathLike)):
             raise TypeError("users are several images, in a list")
+        if isinstance(fields, (str, bytes)):
+            raise TypeError("fields are several names, in a list")
         image, users = default() if image is None else image, tuple(users)
         self._origin = origin_of(image, users)
+        self._fields = names_of(image, fields)
+        self._names = with_common(self._fields)
         self._handles = LOADED.new(self._origin, image, users)
-        self._names = names_beside(path_of(image), TAKEN) if isinstance(image, (str, os.PathLike)) else {}
         self._texts = texts_of(format)
         self._with_handle(lambda handle: handle.set_format(self._texts))
         self.set_grouping(grouping)
 
     @property
     def fields(self) -> Tuple[str, ...]:
-        """The names of the features' fields that the dictionary names, in the file NAME.fields beside its image NAME.img."""
-        return tuple(self._names)
+        """The names of the features' fields, those that were given or those beside the image."""
+        return tuple(self._fields)
 
     def share(self) -> "Cutter":
         """Another cutter over the same dictionaries, with the same grouping. Each is closed by itself."""
@@ -157,6 +168,13 @@ class Cutter:
         """Behind the last surface stands a blank too."""
         answers, fault = self._printed_lines(lines, SPACED)
         return [answer[:-1] for answer in answers], fault
+
+
+def names_of(image: Image, fields: Optional[Sequence[Optional[str]]]) -> Dict[str, int]:
+    """The names of fields that are given, or else those beside an image."""
+    if fields is not None:
+        return numbered(fields, TAKEN, "fields")
+    return names_beside(path_of(image), TAKEN) if isinstance(image, (str, os.PathLike)) else {}
 
 
 def again(kind: Type[Cutter], origin: Origin, grouping: int, state: Dict[str, Any]) -> Cutter:

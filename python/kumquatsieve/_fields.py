@@ -1,11 +1,20 @@
 """The fields of a feature, and the names that a dictionary gives them."""
 import os
 import re
-from typing import Dict, Iterable, List, Union
+from typing import Dict, Iterable, List, Optional, Union
 
 # A field with the blanks before it: in quotes, which are doubled within, or as it stands. What is behind a closing quote is no part of it.
 FIELD = re.compile(r'[ \t]*(?:"((?:[^"]|"")*)"?[^,]*|([^,]*))')
 NOT_PLAIN = re.compile(r'["\t ]')
+# Names that a field may be asked for by in each dictionary, and what it is called where it has another name.
+COMMON = {
+    "conjugation_type": "cType",
+    "conjugation_form": "cForm",
+    "base_form": "orthBase",
+    "lemma": "base_form",
+    "reading": "lForm",
+    "pronunciation": "pron",
+}
 
 
 def split(feature: str) -> List[str]:
@@ -23,20 +32,35 @@ def split(feature: str) -> List[str]:
 
 
 def names_beside(image: Union[str, "os.PathLike[str]"], taken: Iterable[str]) -> Dict[str, int]:
-    """The names of fields in the file NAME.fields beside the image NAME.img, each with its field's number; none where there is no file. The
-    file has one line of names between commas; a field between two commas has none. `taken` are names that no field may have."""
+    """The names of fields in the file NAME.fields beside the image NAME.img, as `numbered` has them; none where there is no file. The file has
+    a name on each line; an empty line is a field without one."""
     path = os.path.splitext(os.fspath(image))[0] + ".fields"
     try:
-        with open(path, encoding="utf-8") as file:
-            lines = file.read().splitlines()
+        with open(path, encoding="utf-8-sig") as file:
+            names = file.read().splitlines()
     except (FileNotFoundError, NotADirectoryError):
         return {}
-    if len(lines) != 1:
-        raise ValueError(f"{path}: it has {len(lines)} lines, and not one")
-    names: Dict[str, int] = {}
-    for number, name in enumerate(lines[0].split(",")):
-        if name in names or name in taken or name.startswith("_") or not (name.isidentifier() or name == ""):
-            raise ValueError(f"{path}: {name!r} can't be the name of field {number}")
-        if name:
-            names[name] = number
-    return names
+    if not any(names):
+        raise ValueError(f"{path}: it names no field")
+    return numbered(names, taken, path)
+
+
+def numbered(names: Iterable[Optional[str]], taken: Iterable[str], place: str) -> Dict[str, int]:
+    """The names of fields, each with its field's number. A field whose name is None or empty has none. `taken` are names that no field may
+    have, and `place` is where the names stand."""
+    found: Dict[str, int] = {}
+    for number, name in enumerate(names):
+        if not name:
+            continue
+        if not isinstance(name, str):
+            raise TypeError(f"{place}: the name of field {number} is a str, not {type(name).__name__}")
+        if name in found or name in taken or name.startswith("_") or not name.isidentifier():
+            raise ValueError(f"{place}: {name!r} can't be the name of field {number}")
+        found[name] = number
+    return found
+
+
+def with_common(names: Dict[str, int]) -> Dict[str, int]:
+    """The names, and those that are common to dictionaries, each where no field has it and a field has the other name."""
+    common = {name: names[other] for name, other in COMMON.items() if name not in names and other in names}
+    return {**names, **common}

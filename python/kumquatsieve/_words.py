@@ -7,8 +7,8 @@ from ._fields import split
 from ._handle import Told
 from ._shown import html_of, table_of
 
-# What a table shows for a reading: the first of these names of fields that a dictionary has.
-READINGS = ("reading", "kana", "pron", "lForm")
+# What a table shows for a reading: the first of these names of fields that a dictionary has. UniDic's `kana` is that of the word as it stands.
+READINGS = ("kana", "reading", "pron")
 
 
 class Line:
@@ -44,8 +44,8 @@ def of_record(number: int, what: str) -> Any:
 
 
 class Word:
-    """A word of a line. What isn't its surface or its feature is looked up where it is asked for; a field of the feature that the
-    dictionary names is an attribute too, None where the feature of this word is shorter."""
+    """A word of a line. What isn't its surface or its feature is looked up where it is asked for; a field of the feature that has a name is
+    an attribute too, None where the feature of this word is shorter."""
 
     __slots__ = ("surface", "feature", "_total", "_line", "_number", "_features")
 
@@ -103,7 +103,7 @@ class Word:
         names = self._line.names
         if name not in names:
             named = ", ".join(names) or "none"
-            raise AttributeError(f"{name}: no attribute of a word, and no field that the dictionary names; it names {named}")
+            raise AttributeError(f"{name}: no attribute of a word, and no name of a field of the dictionary; it names {named}")
         features, number = self.features, names[name]
         return features[number] if number < len(features) else None
 

@@ -44,14 +44,23 @@ FEATURES = [
 ]
 # A last field may be empty: a comma parts two fields.
 PLAIN = [("", [""]), ("x", ["x"]), ("x,", ["x", ""]), ("x,,", ["x", "", ""]), ('"",', ["", ""]), ("x, ", ["x", ""])]
-BAD_NAMES = ["pos,pos", "pos,cost", "pos,surface", "pos,_x", "pos,1", "pos reading", "pos\nreading", ""]
+BAD_NAMES = [["pos", "pos"], ["pos", "cost"], ["pos", "surface"], ["pos", "_x"], ["pos", "1"], ["pos reading"], ["pos,reading"]]
+# The names of a dictionary's fields, and the number of the field that each common name stands for.
+UNIDIC = ["pos1", "cType", "cForm", "lForm", "lemma", "pron", "orthBase", "kana"]
+COMMON = [
+    (["pos1", "base_form", "reading"], {"lemma": 1, "base_form": 1, "reading": 2}),
+    (UNIDIC, {"conjugation_type": 1, "conjugation_form": 2, "reading": 3, "lemma": 4, "pronunciation": 5, "base_form": 6, "lForm": 3}),
+    (["lemma", "lForm", "base_form", "reading"], {"lemma": 0, "base_form": 2, "reading": 3}),
+    (["pos1", "lemma"], {"lemma": 1}),
+]
+NOT_COMMON = ["conjugation_type", "reading", "base_form"]
 
 
 @pytest.fixture(scope="module")
 def named(system, tmp_path_factory):
     """The sample's image, whose fields have names."""
     image = Path(shutil.copy(system, tmp_path_factory.mktemp("named") / "sample.img"))
-    image.with_suffix(".fields").write_text("pos,reading\n")
+    image.with_suffix(".fields").write_text("pos\nreading\n")
     return image
 
 
@@ -104,13 +113,37 @@ def test_fields_by_their_names(named, name):
     assert name in dir(cutter.cut(LINE)[0])
 
 
-def test_fields_without_a_name(named):
-    named.with_suffix(".fields").write_text(",reading\n")
-    try:
-        cutter = Cutter(named)
-    finally:
-        named.with_suffix(".fields").write_text("pos,reading\n")
+@pytest.mark.parametrize("text", ["\nreading\n", "\ufeff\r\nreading\r\n", "\nreading"])
+def test_fields_without_a_name(system, tmp_path, text):
+    image = Path(shutil.copy(system, tmp_path / "sample.img"))
+    image.with_suffix(".fields").write_bytes(text.encode())
+    cutter = Cutter(image)
     assert (cutter.fields, cutter.cut(LINE)[0].reading) == (("reading",), "すもも")
+
+
+def test_names_by_hand(named, system):
+    """They are taken in place of those beside the image, and for an image in memory too; a process that gets the cutter has them."""
+    for image in (named, system, Path(system).read_bytes()):
+        cutter = Cutter(image, fields=[None, "yomi"])
+        assert (cutter.fields, [word.yomi for word in cutter.cut(LINE)]) == (("yomi",), NAMED["reading"])
+    again = pickle.loads(pickle.dumps(Cutter(named, fields=["", "yomi"])))
+    assert (again.fields, again.cut(LINE)[1].yomi) == (("yomi",), "もも")
+    assert Cutter(named, fields=[]).fields == ()
+
+
+@pytest.mark.parametrize("names, numbers", COMMON)
+def test_common_names(system, names, numbers):
+    cutter = Cutter(system, fields=names)
+    assert cutter.fields == tuple(names)
+    word, = cutter.cut("もも")
+    word._features = list(map(str, range(len(names))))
+    assert {name: int(getattr(word, name)) for name in numbers} == numbers
+
+
+@pytest.mark.parametrize("name", NOT_COMMON)
+def test_a_common_name_that_no_field_has(system, name):
+    with pytest.raises(AttributeError, match=f"{name}: .* names pos1, lemma"):
+        getattr(Cutter(system, fields=["pos1", "lemma"]).cut("もも")[0], name)
 
 
 def test_what_no_word_has_is_named(named, system):
@@ -127,9 +160,25 @@ def test_what_no_word_has_is_named(named, system):
 @pytest.mark.parametrize("names", BAD_NAMES)
 def test_names_that_fields_cannot_have(system, tmp_path, names):
     image = Path(shutil.copy(system, tmp_path / "sample.img"))
-    image.with_suffix(".fields").write_text(names)
-    with pytest.raises(ValueError, match="sample.fields"):
+    image.with_suffix(".fields").write_text("".join(f"{name}\n" for name in names))
+    with pytest.raises(ValueError, match="sample.fields: .* field [01]$"):
         Cutter(image)
+    with pytest.raises(ValueError, match="fields: .* field [01]$"):
+        Cutter(system, fields=names)
+
+
+@pytest.mark.parametrize("text", ["", "\n\n"])
+def test_a_file_without_names_is_refused(system, tmp_path, text):
+    image = Path(shutil.copy(system, tmp_path / "sample.img"))
+    image.with_suffix(".fields").write_text(text)
+    with pytest.raises(ValueError, match="sample.fields: it names no field"):
+        Cutter(image)
+
+
+@pytest.mark.parametrize("fields", ["pos", b"pos", [1], 7])
+def test_names_are_a_list_of_texts(system, fields):
+    with pytest.raises(TypeError):
+        Cutter(system, fields=fields)
 
 
 def test_words_are_values(named):
@@ -164,6 +213,11 @@ def test_a_table_of_words(named):
         "zz                未知         1000   1154",
         "𠮷                未知         1000   2161",
     ]
+
+
+def test_a_table_has_the_reading_of_the_word_as_it_stands(system):
+    words = Cutter(system, fields=["lForm", "kana"]).cut("すもも")
+    assert repr(words).splitlines()[0] == "surface  kana    feature      cost  total"
 
 
 def test_a_table_without_readings(system):

@@ -20,10 +20,11 @@ from .running import in_code, lay
 SIGNALS = (signal.SIGHUP, signal.SIGINT, signal.SIGQUIT, signal.SIGTERM)
 MAKING = ("mkdir", "mkdirat", "symlink", "symlinkat", "link", "linkat", "rename", "renameat", "renameat2", "chmod", "fchmodat", "write", "fsync")
 OTHERS = ("unlink", "unlinkat", "rmdir", "pipe2", "vfork", "clone", "clone3", "close", "openat")
-SOURCES = in_code("euc_jp", a_csv="ん,1,1,5,X\n".encode("euc_jp") * 2 + b"\xa4,1,1,5,X\n", dicrc=b"new\n")
+DICRC = b"; f[0]: pos\n; f[1]: reading\n"
+SOURCES = in_code("euc_jp", a_csv="ん,1,1,5,X,ん\n".encode("euc_jp") * 2 + b"\xa4,1,1,5,X,X\n", dicrc=DICRC)
 SOURCES["pos-id.def"] = "名詞 1\n".encode("euc_jp")
-OLD = {"old.img": b"old", "old.dicrc": b"old"}
-NEW = {"old.dicrc": b"new\n", "old.pos-id.def": "名詞 1\n".encode()}
+OLD = {"old.img": b"old", "old.dicrc": b"old", "old.fields": b"old"}
+NEW = {"old.dicrc": DICRC, "old.pos-id.def": "名詞 1\n".encode(), "old.fields": b"pos\nreading\n"}
 # What an import may take, from less than Python needs to begin to more than all of it.
 MEGABYTES = (12, 24, 32, 40, 48, 64, 96, 160)
 # A dictc that is slow between what it writes and its end.
@@ -171,7 +172,7 @@ def wrong_by_memory(megabytes, programs, folder):
     """No more memory than this: Python, the import or dictc is refused it, or the image is made."""
     work = folder / f"memory-{megabytes}"
     prepare(work)
-    (work / "dic" / "z.csv").write_bytes("ん,1,1,5,名詞\n".encode("euc_jp") * 400_000)
+    (work / "dic" / "z.csv").write_bytes("ん,1,1,5,名詞,ん\n".encode("euc_jp") * 400_000)
     limit = megabytes << 20
     bound = lambda: resource.setrlimit(resource.RLIMIT_AS, (limit, limit))  # noqa: E731
     ran = subprocess.run(command(programs), cwd=work, env=environment(work), capture_output=True, preexec_fn=bound)

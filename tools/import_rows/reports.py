@@ -28,11 +28,16 @@ class Row(NamedTuple):
     modules: tuple = ()
 
 
-def imported(encoding="UTF-8", entries=3, others="", left_out=(), skipped=0, kept="", removed="", image="new.img"):
+NO_DICRC = "fields: not named: there is no dicrc"
+OTHER_DICRC = "fields: not named: dicrc is that of no dictionary whose fields are known"
+
+
+def imported(encoding="UTF-8", entries=3, others="", left_out=(), skipped=0, kept="", removed="", image="new.img", fields=NO_DICRC):
     """What is printed of an import."""
     beside = [*([f"kept beside it: {kept}"] if kept else []), *([f"removed beside it: {removed}"] if removed else [])]
     unread = [f"not read: {others}"] if others else []
-    lines = ["sources: dic", f"encoding: {encoding}", *unread, *(f"left out: dic/{one}" for one in left_out)]
+    named = [fields] if fields else []
+    lines = ["sources: dic", f"encoding: {encoding}", *unread, *(f"left out: dic/{one}" for one in left_out), *named]
     end = [f"{entries} entries, {skipped} skipped", f"image: {image}, 0 bytes, 0 s", *beside]
     return "\n".join([*lines, *end, f"{len(left_out)} lines left out", ""])
 
@@ -73,7 +78,7 @@ ROWS = [
     Row("an option with =", in_code("euc_jp"), imported("EUC-JP"), words=("--encoding=EUC_JP", "dic", "new.img")),
     Row("after --", FILES, imported(), words=("--", "dic", "new.img")),
     Row("other files", {**FILES, "feature.def": b"", "left-id.def": b"\x80"}, imported(others="feature.def left-id.def")),
-    Row("settings", {**FILES, **SETTINGS}, imported(kept="new.dicrc new.pos-id.def")),
+    Row("settings", {**FILES, **SETTINGS}, imported(kept="new.dicrc new.pos-id.def", fields=OTHER_DICRC)),
     Row("no numbers", {**FILES, "user.csv": NO_NUMBERS}, imported(entries=4, left_out=NUMBERS_LEFT_OUT)),
     Row("a bad line", {**FILES, "lexicon.csv": BAD_LINES}, imported(left_out=["lexicon.csv:1: it is not UTF-8"])),
     Row("an empty surface", {**FILES, "user.csv": b",1,1,5,X\n"}, imported(skipped=1)),
@@ -81,13 +86,14 @@ ROWS = [
     Row("a name of any bytes", {**FILES, b"\xff\n.csv": "ん,1,1,5,X\n".encode()}, imported(entries=4)),
     Row("other names of any bytes", {**FILES, b"\xff\x1b": b""}, imported(others=r"\xff\u{1b}")),
     Row("no line feed", {**FILES, "user.csv": "ん,1,1,5,X".encode()}, imported(entries=4)),
-    Row("a fault's line", {**FILES, "user.csv": MISNUMBERED}, BEGUN + MISNUMBERED_LEFT_OUT, "dic/user.csv:5: S3 BadNumber", 1),
+    Row("a fault's line", {**FILES, "user.csv": MISNUMBERED}, f"{BEGUN}{MISNUMBERED_LEFT_OUT}{NO_DICRC}\n", "dic/user.csv:5: S3 BadNumber", 1),
     Row("an image of any bytes", FILES, imported(image=r"\xff.img"), words=("dic", b"\xff.img")),
-    Row("a device", FILES, imported(image="/dev/null"), words=("dic", "/dev/null")),
-    Row("a long name", {**FILES, "dicrc": b"\n"}, imported(image=LONG).replace("3 entries", f"not kept: dicrc, {TOO_LONG}\n3 entries"),
+    Row("a device", FILES, imported(image="/dev/null", fields=""), words=("dic", "/dev/null")),
+    Row("a long name", {**FILES, "dicrc": b"\n"}, imported(image=LONG, fields=f"not kept: dicrc, {TOO_LONG}\nnot kept: fields, {TOO_LONG}"),
         words=("dic", LONG)),
-    Row("old settings", {**FILES, "dicrc": b"\n"}, imported(kept="old.dicrc", removed="old.pos-id.def", image="old.img"),
-        words=("dic", "old.img")),
+    Row("old settings", {**FILES, "dicrc": b"\n"},
+        imported(kept="old.dicrc", removed="old.pos-id.def old.fields", image="old.img", fields=OTHER_DICRC), words=("dic", "old.img")),
+    Row("fields are a folder", *refused(FILES, "held.fields: it is a folder", 3, "dic", "held.img")),
     Row("no folder", *refused({}, "none is no folder", 3, "none", "new.img")),
     Row("no sources", *refused({"sys.dic": b""}, f"dic has no matrix.def, {ONLY_FOLDER}", 3)),
     Row("no unk.def", *refused({name: data for name, data in FILES.items() if name != "unk.def"}, f"dic has no unk.def, {ONLY_FOLDER}", 3)),
@@ -129,8 +135,9 @@ def wrong(row, programs, work):
     if "unk.def" in row.files:
         (work / "link.img").symlink_to("dic/unk.def")
         os.link(work / "dic" / "unk.def", work / "hard.img")
-    for name in ("old.dicrc", "old.pos-id.def"):
+    for name in ("old.dicrc", "old.pos-id.def", "old.fields"):
         (work / name).write_text("old")
+    (work / "held.fields").mkdir()
     before = contents(work / "dic")
     (work / "lacking").mkdir()
     for module in row.modules:

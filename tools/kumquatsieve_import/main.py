@@ -8,9 +8,10 @@ from .compiling import Compilation, dictc_beside
 from .converting import make_utf_8, write_converted
 from .encodings import missing_converter
 from .faults import FILE, MEMORY, Ended, Fault, naming, shown
+from .fields import FIELDS, find_names, write_names
 from .finding import find_encoding
 from .placing import Place
-from .sources import SETTINGS, debian_folder, encoding_told, read_folder
+from .sources import DICRC, SETTINGS, Source, debian_folder, encoding_told, read_folder
 from .telling import Teller
 from .workshop import Signals, Workshop
 
@@ -27,7 +28,7 @@ class Import:
         self.folder = read_folder(path)
         self.dictc = dictc_beside(own)
         self.place = Place(choices.image if choices.image is not None else self.installed())
-        self.place.check(self.folder, SETTINGS)
+        self.place.check(self.folder, [*SETTINGS, FIELDS])
 
     def installed(self):
         """The path at which `jseg -d NAME` looks."""
@@ -47,6 +48,8 @@ class Import:
             teller.report(f"not read: {' '.join(map(shown, folder.others))}")
         names = self.convert(encoding, work)
         settings = self.convert_settings(encoding, beside)
+        if not self.place.is_device():
+            settings[FIELDS] = self.name_fields(names, settings[DICRC], work, beside)
         counted = self.compile(names, work, beside)
         size = os.path.getsize(os.path.join(beside, NEW))
         removed = [path for path in map(self.place.beside, (name for name in settings if not settings[name])) if path and os.path.lexists(path)]
@@ -65,12 +68,29 @@ class Import:
         """The new files of settings, and None for one that the folder has not."""
         found = {name: None for name in SETTINGS}
         for source in [] if self.place.is_device() else self.folder.settings:
-            if self.place.beside(source.name) is None:
-                self.teller.report(f"not kept: {shown(source.name)}, whose name beside the image would be too long")
-                continue
-            found[source.name] = os.path.join(beside, source.name)
-            write_converted(source, encoding, found[source.name], self.teller)
+            if self.is_kept(source.name):
+                found[source.name] = os.path.join(beside, source.name)
+                write_converted(source, encoding, found[source.name], self.teller)
         return found
+
+    def name_fields(self, names, dicrc, work, beside):
+        """The new file of the fields' names, None where they can't be told or kept. What tells them is UTF-8 by now."""
+        if not self.is_kept(FIELDS):
+            return None
+        paths = {path: os.path.join(work, name) for name, path in names.items() if name.endswith(b".csv")}
+        lexicons = [(path, Source(made, made, os.path.getsize(made))) for path, made in paths.items()]
+        found = find_names(dicrc, lexicons, self.teller)
+        self.teller.report(f"fields: {found.said}")
+        if not found.names:
+            return None
+        write_names(found.names, os.path.join(beside, FIELDS))
+        return os.path.join(beside, FIELDS)
+
+    def is_kept(self, name):
+        """Whether a file of this name can stand beside the image."""
+        if self.place.beside(name) is None:
+            self.teller.report(f"not kept: {shown(name)}, whose name beside the image would be too long")
+        return self.place.beside(name) is not None
 
     def compile(self, names, work, beside):
         with naming(work):
@@ -83,12 +103,13 @@ class Import:
 
     def tell_end(self, counted, size, settings, removed):
         self.teller.report(counted)
-        kept = [shown(os.path.basename(self.place.beside(name))) for name, path in settings.items() if path]
         self.teller.report(f"image: {shown(self.place.named)}, {size} bytes, {self.teller.seconds():.0f} s")
-        if kept:
-            self.teller.report(f"kept beside it: {' '.join(kept)}")
-        if removed:
-            self.teller.report(f"removed beside it: {' '.join(shown(os.path.basename(path)) for path in removed)}")
+        beside = [(self.place.beside(name), name == FIELDS) for name, path in settings.items() if path]
+        kept = [path for path, is_made in beside if not is_made]
+        made = [path for path, is_made in beside if is_made]
+        for done, paths in (("kept", kept), ("written", made), ("removed", removed)):
+            if paths:
+                self.teller.report(f"{done} beside it: {' '.join(shown(os.path.basename(path)) for path in paths)}")
         self.teller.report(f"{self.teller.left_out_lines} lines left out")
 
 

@@ -9,7 +9,8 @@ from .encodings import encoding_named
 from .faults import FILE, Fault, naming, shown
 
 DEFINITIONS = (b"matrix.def", b"char.def", b"unk.def")
-SETTINGS = (b"dicrc", b"pos-id.def")
+DICRC = b"dicrc"
+SETTINGS = (DICRC, b"pos-id.def")
 DEBIAN = b"/usr/share/mecab/dic"
 PACKAGES = {
     b"ipadic": "mecab-ipadic",
@@ -106,7 +107,7 @@ def read_folder(path):
 def encoding_told(folder):
     """The encoding that dicrc names, that of the lexicons before that of the definitions; None where it names none that is known."""
     for source in folder.settings:
-        if source.name == b"dicrc":
+        if source.name == DICRC:
             with naming(source.path):
                 text = Path(os.fsdecode(source.path)).read_bytes()
             for key in (rb"dictionary-charset", rb"config-charset"):
