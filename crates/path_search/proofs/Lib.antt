@@ -1,7 +1,10 @@
 pub mod Pushed
 pub mod WordNumbers
 pub mod BundleNodes
+pub mod SlotLemmas
+pub mod Noting
 pub mod EndsLemmas
+pub mod ThinnedLemmas
 pub mod Least
 pub mod Links
 pub mod Choice

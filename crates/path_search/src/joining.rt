@@ -8,8 +8,8 @@ use crate::node::{Candidate, End, Join};
 use crate::source::WordSource;
 use std::alloc::AllocError;
 
-/// Among so few ends a search takes less than to remember what it found.
-const FEW_ENDS: usize = 8;
+/// Among so few ends a search takes less than to look up what was found.
+pub const FEW_ENDS: usize = 8;
 
 /// The best of the chains to a place that have these ends, where a word of this left id follows. Where there are more than `FEW_ENDS`, it is
 /// searched once for each left id.
