@@ -2,6 +2,7 @@ pub mod Pushed
 pub mod WordNumbers
 pub mod BundleNodes
 pub mod SlotLemmas
+pub mod JoinLemmas
 pub mod Noting
 pub mod EndsLemmas
 pub mod ThinnedLemmas

@@ -22,10 +22,9 @@ pub fn join<S: WordSource>(
     requires some { 0 < length ends.now }
     requires totals { All HasSmallTotal ends.now }
     requires pairs { All (IsFollowedBy (S.says source.now).is_pair left) ends.now }
-    requires joins { AreLeast (S.says source.now).connection ends.now joins.old.found.items }
+    requires joins { AreLeast (S.says source.now).connection ends.now joins.old }
     ensures join { IfOk result (IsLeast (S.says source.now).connection ends.now left) }
-    ensures joins { OnOk result
-        (AreLeast (S.says source.now).connection ends.now joins.new.found.items) }
+    ensures joins { OnOk result (AreLeast (S.says source.now).connection ends.now joins.new) }
 {
     if ends.len() <= FEW_ENDS {
         return Ok(least(source, ends, left));

@@ -39,7 +39,7 @@ impl Place<'_> {
         requires ends { AreBestEnds (kept_nodes (S.says source.now) nodes.old)
             self.now.start self.now.ends.now }
         requires joins { AreLeast (S.says source.now).connection
-            self.now.ends.now joins.old.found.items }
+            self.now.ends.now joins.old }
         ensures kept { OnOk result (AreKeptIn (S.says source.now) nodes.new) }
         ensures lattice { OnOk result (IsLatticeTo (S.says source.now)
             (kept_nodes (S.says source.now) nodes.new) (self.now.start + 1)) }
@@ -68,14 +68,14 @@ impl Place<'_> {
         requires ends { AreBestEnds (kept_nodes (S.says source.now) nodes.old)
             self.now.start self.now.ends.now }
         requires joins { AreLeast (S.says source.now).connection
-            self.now.ends.now joins.old.found.items }
+            self.now.ends.now joins.old }
         ensures kept { OnOk result (AreKeptIn (S.says source.now) nodes.new) }
         ensures lattice { OnOk result (IsLatticeFromSurface (S.says source.now)
             (kept_nodes (S.says source.now) nodes.new) self.now number) }
         ensures ends { OnOk result (AreBestEnds (kept_nodes (S.says source.now) nodes.new)
             self.now.start self.now.ends.now) }
         ensures joins { OnOk result (AreLeast (S.says source.now).connection
-            self.now.ends.now joins.new.found.items) }
+            self.now.ends.now joins.new) }
     {
         let surface = self.surfaces[number];
         let bundle = Bundle {
@@ -108,7 +108,7 @@ impl Place<'_> {
         requires ends { AreBestEnds (nodes_in (S.says source.now) bundles.now backs.old.items)
             self.now.start self.now.ends.now }
         requires joins { AreLeast (S.says source.now).connection
-            self.now.ends.now joins.old.found.items }
+            self.now.ends.now joins.old }
         ensures all { OnOk result (AreAllKept (S.says source.now) bundles.now backs.new.items) }
         ensures rights { OnOk result
             (AreRightsKept (S.says source.now) bundles.now backs.new.items) }
@@ -118,7 +118,7 @@ impl Place<'_> {
             (nodes_in (S.says source.now) bundles.now backs.new.items)
             self.now.start self.now.ends.now) }
         ensures joins { OnOk result (AreLeast (S.says source.now).connection
-            self.now.ends.now joins.new.found.items) }
+            self.now.ends.now joins.new) }
     {
         let surface = self.surfaces[number];
         let mut i = surface.count;
@@ -148,7 +148,7 @@ impl Place<'_> {
         requires ends { AreBestEnds (nodes_in (S.says source.now) bundles.now backs.old.items)
             self.now.start self.now.ends.now }
         requires joins { AreLeast (S.says source.now).connection
-            self.now.ends.now joins.old.found.items }
+            self.now.ends.now joins.old }
         ensures one { OnOk result (length backs.new.items ≡ length backs.old.items + 1) }
         ensures rights { OnOk result
             (AreRightsKept (S.says source.now) bundles.now backs.new.items) }
@@ -158,7 +158,7 @@ impl Place<'_> {
             (nodes_in (S.says source.now) bundles.now backs.new.items)
             self.now.start self.now.ends.now) }
         ensures joins { OnOk result (AreLeast (S.says source.now).connection
-            self.now.ends.now joins.new.found.items) }
+            self.now.ends.now joins.new) }
     {
         let found = join(source, self.ends, joins, word.left)?;
         backs.push(Backpointer::after(&found, word))?;

@@ -10,7 +10,7 @@ invariant-loop-number g l = record {
   kept : AreKept (g.S.WordSource.says l.source) l.nodes.bundles.items l.nodes.backs.items l.nodes.heads.items;
   lattice : IsLatticeOf (g.S.WordSource.says l.source) (nodes_in (g.S.WordSource.says l.source) l.nodes.bundles.items l.nodes.backs.items) l.self.start (words_before (g.S.WordSource.says l.source) l.self.surfaces.now l.number 0);
   ends : AreBestEnds (nodes_in (g.S.WordSource.says l.source) l.nodes.bundles.items l.nodes.backs.items) l.self.start l.self.ends.now;
-  joins : AreLeast (g.S.WordSource.says l.source).connection l.self.ends.now l.joins.found.items;
+  joins : AreLeast (g.S.WordSource.says l.source).connection l.self.ends.now l.joins;
 }
 
 abbrev pub decreases-loop-number : goal.decreases-loop-number

@@ -13,7 +13,7 @@ invariant-loop-i g l = record {
   rights : HaveRights (node_words (g.S.WordSource.says l.source).surface_words l.bundles) l.backs.items;
   lattice : IsLatticeOf (g.S.WordSource.says l.source) (nodes_in (g.S.WordSource.says l.source) l.bundles l.backs.items) l.self.start (words_before (g.S.WordSource.says l.source) l.self.surfaces.now l.number l.i);
   ends : AreBestEnds (nodes_in (g.S.WordSource.says l.source) l.bundles l.backs.items) l.self.start l.self.ends.now;
-  joins : AreLeast (g.S.WordSource.says l.source).connection l.self.ends.now l.joins.found.items;
+  joins : AreLeast (g.S.WordSource.says l.source).connection l.self.ends.now l.joins;
 }
 
 abbrev pub decreases-loop-i : goal.decreases-loop-i
