@@ -84,9 +84,8 @@ pub kept_is_least : (conn : ℕ → ℕ → ℤ) (ends : List End) (found : List
 kept_is_least conn ends found left j are h = let g = get_from_Contains found (record { left = left; join = j }) h in are g.0 (record { left = left; join = j }) g.1
 
 pub least_added : (conn : ℕ → ℕ → ℤ) (ends : List End) (found after : List LeftJoin) (left : ℕ) (j : Join) → AreLeast conn ends found → IsLeast conn ends left j
-    → (after ≡ found) ⊎ (after ≡ found ++ record { left = left; join = j } ∷ []) → AreLeast conn ends after
-least_added conn ends found after left j are least (inl same) = subst (AreLeast conn ends) (sym same) are
-least_added conn ends found after left j are least (inr pushed) = subst (AreLeast conn ends) (sym pushed) (λ i x at. elim (get_push_cases found (record { left = left; join = j }) i x at) [
+    → after ≡ found ++ record { left = left; join = j } ∷ [] → AreLeast conn ends after
+least_added conn ends found after left j are least pushed = subst (AreLeast conn ends) (sym pushed) (λ i x at. elim (get_push_cases found (record { left = left; join = j }) i x at) [
   | inl old ↦ are i x old
   | inr new ↦ subst (λ (y : LeftJoin). IsLeast conn ends y.left y.join) new.1 least
 ])

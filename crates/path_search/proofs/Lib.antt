@@ -1,7 +1,11 @@
 pub mod Pushed
 pub mod WordNumbers
 pub mod BundleNodes
+pub mod SlotLemmas
+pub mod JoinLemmas
+pub mod Noting
 pub mod EndsLemmas
+pub mod ThinnedLemmas
 pub mod Least
 pub mod Links
 pub mod Choice

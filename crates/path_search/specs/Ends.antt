@@ -1,5 +1,5 @@
 -- The ends of a place, in the order in which they are preferred where costs are equal, and the least of them where a word follows.
-use Rattle.std.specs.Prelude.{◌≡◌, ℕ, ℤ, pos, ◌+ℤ◌, ◌<ℤ◌, ◌≤ℤ◌, ◌<◌, ◌≤◌, ◌^◌, List, [], ◌∷◌, ◌++◌, slice_get, Contains, Some, suc, ◌⊎◌}
+use Rattle.std.specs.Prelude.{◌≡◌, ℕ, ℤ, pos, ◌+ℤ◌, ◌<ℤ◌, ◌≤ℤ◌, ◌<◌, ◌≤◌, ◌^◌, List, [], ◌∷◌, slice_get, Some, suc, ◌⊎◌}
 use Rattle.mj_model.specs.Bounds.{IsWithin}
 use Rattle.path_search.specs.Nodes.{Node}
 use Rattle.path_search.specs.declared.node.End.{End}
@@ -66,11 +66,3 @@ pub record IsLeast (conn : ℕ → ℕ → ℤ) (ends : List End) (left : ℕ) (
 -- each is the first of the least of the ends for its left id
 abbrev pub AreLeast : (ℕ → ℕ → ℤ) → List End → List LeftJoin → Type 0
 AreLeast conn ends found = (i : ℕ) (x : LeftJoin) → slice_get found i ≡ Some x → IsLeast conn ends x.left x.join
-
--- the join was found for this left id
-abbrev pub IsFoundFor : List LeftJoin → ℕ → Join → Type 0
-IsFoundFor found left join = Contains found (record { left = left; join = join })
-
--- what was found, or that with the join of this left id
-abbrev pub AddsAtMost : List LeftJoin → List LeftJoin → ℕ → Join → Type 0
-AddsAtMost old new left join = (new ≡ old) ⊎ (new ≡ old ++ record { left = left; join = join } ∷ [])

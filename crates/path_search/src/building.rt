@@ -10,14 +10,17 @@ use crate::node::{End, linked};
 use crate::nodes::Nodes;
 use crate::place::Place;
 use crate::source::WordSource;
+use crate::thinning::Thinning;
 use paths::{BlankRun, Surface};
 use std::alloc::{AllocError, Global};
 
-/// What is kept from place to place and from text to text: room for the surfaces of a place, its ends, and what was searched there.
+/// What is kept from place to place and from text to text: room for the surfaces of a place and its ends, what thins them, and what was
+/// searched there.
 #[derive(Debug, Drop)]
 pub struct Room {
     pub surfaces: Vec<Surface>,
     pub ends: Vec<End>,
+    pub thinning: Thinning,
     pub joins: Joins,
 }
 
@@ -27,6 +30,7 @@ impl Room {
         Room {
             surfaces: Vec::new(alloc),
             ends: Vec::new(alloc),
+            thinning: Thinning::new(alloc),
             joins: Joins::new(alloc),
         }
     }
@@ -90,6 +94,7 @@ fn add_place<S: WordSource>(
         place,
         &mut room.ends,
     )?;
+    room.thinning.thin(&mut room.ends)?;
     room.joins.clear();
     let reached = Place {
         start: place,

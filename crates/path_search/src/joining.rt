@@ -8,8 +8,8 @@ use crate::node::{Candidate, End, Join};
 use crate::source::WordSource;
 use std::alloc::AllocError;
 
-/// Among so few ends a search takes less than to remember what it found.
-const FEW_ENDS: usize = 8;
+/// Among so few ends a search takes less than to look up what was found.
+pub const FEW_ENDS: usize = 8;
 
 /// The best of the chains to a place that have these ends, where a word of this left id follows. Where there are more than `FEW_ENDS`, it is
 /// searched once for each left id.
@@ -22,10 +22,9 @@ pub fn join<S: WordSource>(
     requires some { 0 < length ends.now }
     requires totals { All HasSmallTotal ends.now }
     requires pairs { All (IsFollowedBy (S.says source.now).is_pair left) ends.now }
-    requires joins { AreLeast (S.says source.now).connection ends.now joins.old.found.items }
+    requires joins { AreLeast (S.says source.now).connection ends.now joins.old }
     ensures join { IfOk result (IsLeast (S.says source.now).connection ends.now left) }
-    ensures joins { OnOk result
-        (AreLeast (S.says source.now).connection ends.now joins.new.found.items) }
+    ensures joins { OnOk result (AreLeast (S.says source.now).connection ends.now joins.new) }
 {
     if ends.len() <= FEW_ENDS {
         return Ok(least(source, ends, left));

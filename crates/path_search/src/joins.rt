@@ -1,10 +1,12 @@
 //! What was searched at a place: one join for each left id.
 
-ghost use Rattle.std.specs.Prelude.{◌≡◌, [], IfSome, OnOk};
-ghost use Rattle.path_search.specs.Ends.{AddsAtMost, IsFoundFor};
+ghost use Rattle.std.specs.Prelude.{◌≡◌, ◌++◌, ◌∷◌, [], OnOk};
+ghost use Rattle.path_search.specs.Joins.{IsAnswerFor, IsNewIn};
 
 use crate::node::Join;
+use crate::slots::make_slot;
 use std::alloc::{AllocError, Global};
+use std::marker::Model;
 
 /// The join of a word of a left id.
 #[derive(Clone, Copy, Debug, Drop)]
@@ -18,14 +20,26 @@ pub struct LeftJoin {
 /// Where a left id was searched, its slot has the number of what was found. Any other slot has any number.
 #[derive(Debug, Drop)]
 pub struct Joins {
-    pub found: Vec<LeftJoin>,
-    slots: Vec<u16>,
+    found: Vec<LeftJoin>,
+    slots: Vec<usize>,
+}
+
+impl Model for Joins {
+    ghost use Rattle.std.specs.Prelude.{List};
+    ghost use Rattle.path_search.specs.declared.joins.LeftJoin.{LeftJoin};
+    ghost use Rattle.path_search.specs.Joins.{HaveSlots};
+
+    ghost Value = { List LeftJoin };
+
+    ghost view = { λ joins. joins.found.items };
+
+    ghost invariant = { λ joins. HaveSlots joins.found.items joins.slots.items };
 }
 
 impl Joins {
     /// Takes no memory.
     pub fn new(alloc: Global) -> Joins
-        ensures { result.found.items ≡ [] }
+        ensures { result ≡ [] }
     {
         Joins {
             found: Vec::new(alloc),
@@ -34,17 +48,17 @@ impl Joins {
     }
 
     pub fn clear(&mut self)
-        ensures { self.new.found.items ≡ [] }
+        ensures { self.new ≡ [] }
     {
         self.found.clear();
     }
 
     /// What was found for a left id.
     pub fn get(&self, left: u16) -> Option<Join>
-        ensures { IfSome result (IsFoundFor self.now.found.items left) }
+        ensures { IsAnswerFor self.now left result }
     {
         let slot = *self.slots.get(usize::from(left))?;
-        let kept = self.found.get(usize::from(slot))?;
+        let kept = self.found.get(slot)?;
         if kept.left == left {
             Some(kept.join)
         } else {
@@ -52,19 +66,15 @@ impl Joins {
         }
     }
 
-    /// Adds what was found for a left id, as long as there are numbers for it.
+    /// Adds what was found for a left id that has no join yet.
     pub fn add(&mut self, left: u16, join: Join) -> Result<(), AllocError>
-        ensures { OnOk result (AddsAtMost self.old.found.items self.new.found.items left join) }
+        requires { IsNewIn self.old left }
+        ensures { OnOk result (self.new ≡ self.old ++ record { left = left; join = join } ∷ []) }
     {
-        let Ok(number) = u16::try_from(self.found.len()) else {
-            return Ok(());
-        };
-        let at = usize::from(left);
-        if self.slots.len() <= at {
-            self.slots.resize(at + 1, 0)?;
-        }
-        self.slots[at] = number;
+        make_slot(&mut self.slots, left)?;
+        let number = self.found.len();
         self.found.push(LeftJoin { left, join })?;
+        self.slots[usize::from(left)] = number;
         Ok(())
     }
 }

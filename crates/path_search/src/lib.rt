@@ -9,7 +9,9 @@ mod node;
 mod nodes;
 mod place;
 mod search;
+mod slots;
 mod source;
+mod thinning;
 mod tracing;
 
 pub use search::Search;

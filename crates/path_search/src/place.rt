@@ -1,10 +1,11 @@
 //! The words of a place, as they are added to the nodes.
 
 ghost use Rattle.std.specs.Prelude.{◌≡◌, ◌+◌, ◌<◌, ◌++◌, ◌∷◌, [], slice_set, slice_get, length, OnOk, Some};
-ghost use Rattle.path_search.specs.Ends.{AreEnds, AreLeast};
+ghost use Rattle.path_search.specs.Ends.{AreLeast};
 ghost use Rattle.path_search.specs.Nodes.{node_words};
 ghost use Rattle.path_search.specs.Places.{IsLatticeFromSurface, IsPlaceOf};
 ghost use Rattle.path_search.specs.SearchedText.{AreAllKept, AreKeptIn, AreRightsKept, IsLatticeAfter, IsLatticeFrom, IsLatticeTo, NextAt, kept_nodes, nodes_in};
+ghost use Rattle.path_search.specs.Thinned.{AreBestEnds};
 
 use crate::joining::join;
 use crate::joins::Joins;
@@ -15,7 +16,7 @@ use mj_model::Word;
 use paths::Surface;
 use std::alloc::AllocError;
 
-/// A place to which some chain leads, with the surfaces of its words and the ends of the chains to it. `start` is its byte offset.
+/// A place to which some chain leads, with the surfaces of its words and the ends of the chains to it that are left to search. `start` is its byte offset.
 #[derive(Clone, Copy, Drop)]
 pub struct Place<'a> {
     pub start: usize,
@@ -35,10 +36,10 @@ impl Place<'_> {
         requires kept { AreKeptIn (S.says source.now) nodes.old }
         requires lattice { IsLatticeTo (S.says source.now)
             (kept_nodes (S.says source.now) nodes.old) self.now.start }
-        requires ends { AreEnds (kept_nodes (S.says source.now) nodes.old)
+        requires ends { AreBestEnds (kept_nodes (S.says source.now) nodes.old)
             self.now.start self.now.ends.now }
         requires joins { AreLeast (S.says source.now).connection
-            self.now.ends.now joins.old.found.items }
+            self.now.ends.now joins.old }
         ensures kept { OnOk result (AreKeptIn (S.says source.now) nodes.new) }
         ensures lattice { OnOk result (IsLatticeTo (S.says source.now)
             (kept_nodes (S.says source.now) nodes.new) (self.now.start + 1)) }
@@ -64,17 +65,17 @@ impl Place<'_> {
         requires kept { AreKeptIn (S.says source.now) nodes.old }
         requires lattice { IsLatticeFromSurface (S.says source.now)
             (kept_nodes (S.says source.now) nodes.old) self.now (number + 1) }
-        requires ends { AreEnds (kept_nodes (S.says source.now) nodes.old)
+        requires ends { AreBestEnds (kept_nodes (S.says source.now) nodes.old)
             self.now.start self.now.ends.now }
         requires joins { AreLeast (S.says source.now).connection
-            self.now.ends.now joins.old.found.items }
+            self.now.ends.now joins.old }
         ensures kept { OnOk result (AreKeptIn (S.says source.now) nodes.new) }
         ensures lattice { OnOk result (IsLatticeFromSurface (S.says source.now)
             (kept_nodes (S.says source.now) nodes.new) self.now number) }
-        ensures ends { OnOk result (AreEnds (kept_nodes (S.says source.now) nodes.new)
+        ensures ends { OnOk result (AreBestEnds (kept_nodes (S.says source.now) nodes.new)
             self.now.start self.now.ends.now) }
         ensures joins { OnOk result (AreLeast (S.says source.now).connection
-            self.now.ends.now joins.new.found.items) }
+            self.now.ends.now joins.new) }
     {
         let surface = self.surfaces[number];
         let bundle = Bundle {
@@ -104,20 +105,20 @@ impl Place<'_> {
         requires rights { AreRightsKept (S.says source.now) bundles.now backs.old.items }
         requires lattice { IsLatticeFromSurface (S.says source.now)
             (nodes_in (S.says source.now) bundles.now backs.old.items) self.now (number + 1) }
-        requires ends { AreEnds (nodes_in (S.says source.now) bundles.now backs.old.items)
+        requires ends { AreBestEnds (nodes_in (S.says source.now) bundles.now backs.old.items)
             self.now.start self.now.ends.now }
         requires joins { AreLeast (S.says source.now).connection
-            self.now.ends.now joins.old.found.items }
+            self.now.ends.now joins.old }
         ensures all { OnOk result (AreAllKept (S.says source.now) bundles.now backs.new.items) }
         ensures rights { OnOk result
             (AreRightsKept (S.says source.now) bundles.now backs.new.items) }
         ensures lattice { OnOk result (IsLatticeFromSurface (S.says source.now)
             (nodes_in (S.says source.now) bundles.now backs.new.items) self.now number) }
-        ensures ends { OnOk result (AreEnds
+        ensures ends { OnOk result (AreBestEnds
             (nodes_in (S.says source.now) bundles.now backs.new.items)
             self.now.start self.now.ends.now) }
         ensures joins { OnOk result (AreLeast (S.says source.now).connection
-            self.now.ends.now joins.new.found.items) }
+            self.now.ends.now joins.new) }
     {
         let surface = self.surfaces[number];
         let mut i = surface.count;
@@ -144,20 +145,20 @@ impl Place<'_> {
         requires rights { AreRightsKept (S.says source.now) bundles.now backs.old.items }
         requires lattice { IsLatticeAfter (S.says source.now)
             (nodes_in (S.says source.now) bundles.now backs.old.items) self.now.start word.now }
-        requires ends { AreEnds (nodes_in (S.says source.now) bundles.now backs.old.items)
+        requires ends { AreBestEnds (nodes_in (S.says source.now) bundles.now backs.old.items)
             self.now.start self.now.ends.now }
         requires joins { AreLeast (S.says source.now).connection
-            self.now.ends.now joins.old.found.items }
+            self.now.ends.now joins.old }
         ensures one { OnOk result (length backs.new.items ≡ length backs.old.items + 1) }
         ensures rights { OnOk result
             (AreRightsKept (S.says source.now) bundles.now backs.new.items) }
         ensures lattice { OnOk result (IsLatticeFrom (S.says source.now)
             (nodes_in (S.says source.now) bundles.now backs.new.items) self.now.start word.now) }
-        ensures ends { OnOk result (AreEnds
+        ensures ends { OnOk result (AreBestEnds
             (nodes_in (S.says source.now) bundles.now backs.new.items)
             self.now.start self.now.ends.now) }
         ensures joins { OnOk result (AreLeast (S.says source.now).connection
-            self.now.ends.now joins.new.found.items) }
+            self.now.ends.now joins.new) }
     {
         let found = join(source, self.ends, joins, word.left)?;
         backs.push(Backpointer::after(&found, word))?;

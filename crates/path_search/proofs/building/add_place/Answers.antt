@@ -7,8 +7,10 @@ use Rattle.path_search.specs.Ends.{AreEnds}
 use Rattle.path_search.specs.Nodes.{IsLatest, link_of}
 use Rattle.paths.specs.declared.surface.Surface.{Surface}
 use Rattle.path_search.specs.SearchedText.{AreSurfacesAt, nodes_in}
+use Rattle.path_search.specs.Thinned.{AreLeftOf}
 use Rattle.path_search.proofs.Choice.{some_reached}
 use Rattle.path_search.proofs.Growth.{not_reached, reached_place}
+use Rattle.path_search.proofs.ThinnedLemmas.{some_left}
 use Rattle.path_search.proofs.building.add_place.Goals as goal
 
 pub returns-then-not-is_reached-clause-lattice : goal.returns-then-not-is_reached-clause-lattice
@@ -64,6 +66,17 @@ add_surfaces-requires-clause-place g c =
       within = c.requires.place;
       surfaces = subst (AreSurfacesAt t c.args.place) (sym (c.deref-3.ensures.value ∙ grown.2 ∙ ap (λ (xs : List Surface). xs ++ grown.0) c.clear.ensures.items)) grown.1;
       some = subst (λ (xs : List End). 0 < length xs) (sym c.deref-4.ensures.value)
+          (some_left ends c.thin.new.ends.items c.in_ok-thin.ensures.left
           (some_reached t.surface_words nodes.bundles.items nodes.backs.items c.args.place (length nodes.bundles.items) c.index-head.result.now ends kept.bundles_are kept.all (sym c.is_reached.ensures ∙ c.if-not-is_reached.false)
-          (kept.linked.heads_latest c.args.place c.index-head.result.now at) are);
+          (kept.linked.heads_latest c.args.place c.index-head.result.now at) are));
     }
+
+pub add_surfaces-requires-clause-ends : goal.add_surfaces-requires-clause-ends
+add_surfaces-requires-clause-ends g c =
+    let t = g.S.WordSource.says c.args.source.now in
+    let nodes = c.args.nodes.now in
+    let ends = c.gather.new.ends.items in
+    let are : AreEnds (nodes_in t nodes.bundles.items nodes.backs.items) c.args.place ends =
+    subst (λ (bs : List Backpointer). AreEnds (nodes_in t nodes.bundles.items bs) c.args.place ends) c.deref-2.ensures.value
+    (subst (λ (rs : List Bundle). AreEnds (nodes_in t rs c.deref-2.result.now) c.args.place ends) c.deref.ensures.value c.in_ok-gather.ensures) in
+    record { all = ends; are = are; left = subst (AreLeftOf ends) (sym c.deref-4.ensures.value) c.in_ok-thin.ensures.left }

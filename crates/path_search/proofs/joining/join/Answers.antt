@@ -1,8 +1,13 @@
+use Rattle.path_search.proofs.JoinLemmas.{new_where_none}
 use Rattle.path_search.proofs.Least.{kept_is_least, least_added}
 use Rattle.path_search.proofs.joining.join.Goals as goal
 
 pub returns-in-Some-clause-join : goal.returns-in-Some-clause-join
-returns-in-Some-clause-join g c = kept_is_least (g.S.WordSource.says c.args.source.now).connection c.args.ends.now c.args.joins.now.found.items c.args.left c.in-Some.join c.requires.joins c.in-Some.ensures
+returns-in-Some-clause-join g c =
+    kept_is_least (g.S.WordSource.says c.args.source.now).connection c.args.ends.now c.args.joins.now c.args.left c.in-Some.join c.requires.joins ((c.get.ensures c.in-Some.join).0 c.in-Some.is)
+
+pub add-requires : goal.add-requires
+add-requires g c = new_where_none c.args.joins.now c.args.left c.get.result c.get.ensures c.in-None.is
 
 pub returns-in_ok-add-in-None-clause-joins : goal.returns-in_ok-add-in-None-clause-joins
-returns-in_ok-add-in-None-clause-joins g c = least_added (g.S.WordSource.says c.args.source.now).connection c.args.ends.now c.args.joins.now.found.items c.add.new.self.found.items c.args.left c.least-join.result c.requires.joins c.least-join.ensures c.in_ok-add-in-None.ensures
+returns-in_ok-add-in-None-clause-joins g c = least_added (g.S.WordSource.says c.args.source.now).connection c.args.ends.now c.args.joins.now c.add.new.self c.args.left c.least-join.result c.requires.joins c.least-join.ensures c.in_ok-add-in-None.ensures

@@ -2,7 +2,7 @@ use Rattle.std.proofs.Common.{arith, ◌≡◌, ℕ, suc, ◌+◌, ◌<◌, ◌+
 use Rattle.std.proofs.lemmas.List.{length-set, length_push, take_at}
 use Rattle.std.proofs.lemmas.Option.{slice_get-get_or, slice_get_read}
 use Rattle.path_search.specs.declared.node.Bundle.{Bundle}
-use Rattle.path_search.specs.Ends.{AreEnds}
+use Rattle.path_search.specs.Thinned.{AreBestEnds}
 use Rattle.path_search.specs.Nodes.{AreLinked, AreBundles, HaveRights, Node, node_words}
 use Rattle.path_search.specs.SearchedText.{IsLatticeOf, nodes_in, words_before}
 use Rattle.path_search.proofs.Links.{links_on}
@@ -83,7 +83,7 @@ add_words-requires-clause-ends g c =
     let bundle : Bundle = record { surface = s; from = c.len.result; next = c.index.result.now } in
     let bundles_now : c.deref.result.now ≡ nodes.bundles.items ++ bundle ∷ [] = c.deref.ensures.value ∙ c.in_ok-add_bundle.ensures.bundles in
     let same = ap (λ (rs : List Bundle). nodes_in t rs nodes.backs.items) bundles_now ∙ nodes_stay t.surface_words nodes.bundles.items bundle nodes.backs.items kept.all in
-    subst (λ (ns : List Node). AreEnds ns c.args.self.now.start c.args.self.now.ends.now) (sym same) c.requires.ends
+    subst (λ (ns : List Node). AreBestEnds ns c.args.self.now.start c.args.self.now.ends.now) (sym same) c.requires.ends
 
 pub returns-clause-kept : goal.returns-clause-kept
 returns-clause-kept g c =

@@ -1,0 +1,24 @@
+use Rattle.std.proofs.Common.{ℕ, List, length, set, ◌∙◌, sym, subst}
+use Rattle.path_search.specs.declared.joins.LeftJoin.{LeftJoin}
+use Rattle.path_search.specs.Joins.{HaveSlots, IsNewIn}
+use Rattle.path_search.proofs.JoinLemmas.{have_kept, have_more}
+use Rattle.path_search.proofs.joins.Joins.add.Goals as goal
+
+pub invariant_of-self : goal.invariant_of-self
+invariant_of-self c = have_kept c.self.inside.found.items c.self.inside.slots.items c.self.invariant c.make_slot.new.slots.items c.in_err-make_slot.ensures.kept
+
+pub invariant_of-self-in_err-push : goal.invariant_of-self-in_err-push
+invariant_of-self-in_err-push c =
+    let slots = c.make_slot.new.slots.items in
+    subst (λ (fs : List LeftJoin). HaveSlots fs slots) (sym c.in_err-push.ensures.items) (have_kept c.self.inside.found.items c.self.inside.slots.items c.self.invariant slots c.in_ok-make_slot.ensures.kept)
+
+pub invariant_of-self-2 : goal.invariant_of-self-2
+invariant_of-self-2 c =
+    let found = c.self.inside.found.items in
+    let slots = c.make_slot.new.slots.items in
+    let after = c.push.new.self.items in
+    let have = have_kept found c.self.inside.slots.items c.self.invariant slots c.in_ok-make_slot.ensures.kept in
+    let new = subst (λ (fs : List LeftJoin). IsNewIn fs c.args.left) (sym c.self.view_is) c.requires in
+    let more = have_more found slots have after c.args.left c.args.join c.in_ok-make_slot.ensures.there new c.in_ok-push.ensures.items in
+    subst (λ (n : ℕ). HaveSlots after (set slots c.from.result n)) (sym (c.len-number.ensures ∙ c.self.inside.found.ok.0))
+    (subst (λ (i : ℕ). HaveSlots after (set slots i (length found))) (sym c.from.ensures) more)
