@@ -3,6 +3,7 @@
 
 mod block;
 mod cells;
+pub mod laws;
 mod row;
 mod token;
 

@@ -100,6 +100,7 @@ grown_built old new n long left built grown top n_is few less =
       };
       same = grown.same;
       room = let r = built.room in omega (arith, r, top, more, n_is, less);
+      least = omega (arith, more, n_is);
       most = omega (arith, more, n_is);
     }
 

@@ -70,6 +70,7 @@ room_of old now new long left same room = record {
   built = room.built;
   same = λ i. room.same i ∙ ap (λ (xs : List Cell). cell_at xs i) same;
   room = room.room;
+  least = let m = room.least in let l = ap (length {A = Cell}) same in omega (arith, m, l);
   most = let m = room.most in let l = ap (length {A = Cell}) same in omega (arith, m, l);
 }
 
@@ -78,6 +79,7 @@ room_here old now long left built same room = record {
   built = built;
   same = λ i. ap (λ (xs : List Cell). cell_at xs i) same;
   room = room;
+  least = let l = ap (length {A = Cell}) same in omega (arith, l);
   most = let l = ap (length {A = Cell}) same in omega (arith, l);
 }
 
@@ -88,3 +90,7 @@ by_result (Err e) a b f g = g b
 pub on_both : {T E : Type 0} (A B : Type 0) (r : Result T E) → OnOk r A → OnOk r B → OnOk r (A × B)
 on_both A B (Ok x) a b = (a, b)
 on_both A B (Err e) a b = tt
+
+pub on_err_by : {T E : Type 0} (r : Result T E) (P : Type 0) → P → OnErr r P
+on_err_by (Ok x) P p = tt
+on_err_by (Err e) P p = p

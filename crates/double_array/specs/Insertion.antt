@@ -18,4 +18,5 @@ pub record HasRoom (old new : Pool) (long left : ℕ) : Type 0 where
   pub built : IsBuilt new
   pub same : (i : ℕ) → cell_at new.cells i ≡ cell_at old.cells i
   pub room : new.top + 514 + left ≤ length new.cells
+  pub least : length old.cells ≤ length new.cells
   pub most : length new.cells ≤ length old.cells + long + 600

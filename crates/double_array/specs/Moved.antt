@@ -1,8 +1,10 @@
 -- How many cells an insertion moves, and when it makes the array longer.
-use Rattle.std.specs.Prelude.{◌≡◌, ◌≢◌, ℕ, ◌+◌, ◌≤◌, pos, ◌⊎◌, if◌then◌else◌, is_some, List, map, length}
+use Rattle.std.specs.Prelude.{◌≡◌, ℕ, ◌+◌, ◌≤◌, ◌⊎◌, if◌then◌else◌, is_some, Some, List, map, length}
 use Rattle.std.specs.List.{range_with_len, sum}
-use Rattle.cell_walk.specs.CellMap.{Cell, base, check, step}
-use Rattle.double_array.specs.Pool.{IsInUse}
+use Rattle.cell_walk.specs.CellMap.{Cell, base, check, step, walk, codes_of}
+use Rattle.double_array.specs.CellMoves.{IsMove}
+use Rattle.double_array.specs.Pool.{IsInUse, IsGrown}
+use Rattle.double_array.specs.Tail.{AreKept}
 
 -- one for a code on which a step leads from a state
 abbrev pub child_on : List Cell → ℕ → ℕ → ℕ
@@ -12,25 +14,33 @@ child_on cells s c = if is_some (step cells s c) then 1 else 0
 unfoldable pub children : List Cell → ℕ → ℕ
 children cells s = sum (map (child_on cells s) (range_with_len 0 257))
 
--- each used cell stays where it is
-abbrev pub AreInPlace : List Cell → List Cell → Type 0
-AreInPlace old new = (t s : ℕ) → check old t ≡ pos s → check new t ≡ pos s
+-- the root and each used cell keep their check, and their base, but for the value cell of a key
+pub record AreInPlace (old new : List Cell) (key : List ℕ) : Type 0 where
+  pub checks : (i : ℕ) → IsInUse old i → check new i ≡ check old i
+  pub bases : (i : ℕ) → IsInUse old i → (walk old 0 (codes_of key) ≡ Some i → ⊥) → base new i ≡ base old i
 
 -- all children of one state have moved to another base, and they were so many
-pub record IsFamilyMoved (old new : List Cell) (count : ℕ) : Type 0 where
+pub record IsOneMove (old new : List Cell) (count : ℕ) : Type 0 where
   pub state : ℕ
-  pub from : ℕ
   pub to : ℕ
-  pub was : base old state ≡ pos from
-  pub some : 1 ≤ from
-  pub now : base new state ≡ pos to
-  pub least : 1 ≤ to
-  pub apart : from ≢ to
+  pub move : IsMove old new state to
   pub all : count ≡ children old state
 
--- so many cells have moved: none, or the children of one state
-abbrev pub HaveMoved : List Cell → List Cell → ℕ → Type 0
-HaveMoved old new count = ((count ≡ 0) × AreInPlace old new) ⊎ IsFamilyMoved old new count
+-- nothing has changed, or the children of one state have moved
+abbrev pub IsOneMoveOrNone : List Cell → List Cell → ℕ → Type 0
+IsOneMoveOrNone old new count = ((count ≡ 0) × (new ≡ old)) ⊎ IsOneMove old new count
+
+-- the old cells, and free ones after them; then one move; and then the root and each used cell stayed as they were
+pub record IsFamilyMoved (old new : List Cell) (count : ℕ) : Type 0 where
+  pub longer : List Cell
+  pub moved : List Cell
+  pub grown : IsGrown old longer (length new)
+  pub move : IsOneMove longer moved count
+  pub kept : AreKept moved new
+
+-- at the insertion of a key so many cells have moved: none, or the children of one state
+abbrev pub HaveMoved : List Cell → List Cell → List ℕ → ℕ → Type 0
+HaveMoved old new key count = ((count ≡ 0) × AreInPlace old new key) ⊎ IsFamilyMoved old new count
 
 -- after each used cell there is room for a key of so many bytes, and for three families and one cell
 abbrev pub HasSpace : List Cell → ℕ → Type 0

@@ -2,7 +2,7 @@
 ghost use Rattle.std.specs.Prelude.{◌≡◌, ◌≢◌, ℕ, ◌+◌, ◌<◌, ◌≤◌, pos, None, length};
 ghost use Rattle.cell_walk.specs.CellMap.{base as base_of, check as check_of, step as step_of};
 ghost use Rattle.double_array.specs.Built.{CanClear, IsBuilt, IsCleared};
-ghost use Rattle.double_array.specs.Moved.{HaveMoved};
+ghost use Rattle.double_array.specs.Moved.{IsOneMoveOrNone};
 ghost use Rattle.double_array.specs.Moves.{HasFamily, IsFamilyOf};
 
 use crate::pool::{CellPool, WIDTH};
@@ -26,7 +26,7 @@ pub(crate) fn clear_way(pool: &mut CellPool, state: usize, from: usize, code: us
     requires none { step_of pool.old.cells state code ≡ None }
     requires room { pool.old.top + 514 ≤ length pool.old.cells }
     ensures cleared { IsCleared pool.old pool.new state code result.state result.wanted }
-    ensures moved { HaveMoved pool.old.cells pool.new.cells result.moved }
+    ensures moved { IsOneMoveOrNone pool.old.cells pool.new.cells result.moved }
     ensures few { result.moved ≤ 257 }
 {
     let wanted = from + code;
@@ -61,7 +61,7 @@ fn move_own(
     requires used { (s : ℕ) × (check_of pool.old.cells (from + code) ≡ pos s) }
     requires family { IsFamilyOf pool.old.cells state from family.now }
     ensures cleared { IsCleared pool.old pool.new state code result.state result.wanted }
-    ensures moved { HaveMoved pool.old.cells pool.new.cells result.moved }
+    ensures moved { IsOneMoveOrNone pool.old.cells pool.new.cells result.moved }
     ensures few { result.moved ≤ 257 }
 {
     let mut wider = *family;
@@ -90,7 +90,7 @@ fn move_other(
     requires apart { state ≢ other }
     requires family { HasFamily pool.old.cells other family.now }
     ensures cleared { IsCleared pool.old pool.new state code result.state result.wanted }
-    ensures moved { HaveMoved pool.old.cells pool.new.cells result.moved }
+    ensures moved { IsOneMoveOrNone pool.old.cells pool.new.cells result.moved }
     ensures few { result.moved ≤ 257 }
 {
     let other_from = pool.base(other);

@@ -63,18 +63,21 @@ impl DoubleArray {
         // The map is as before, but for the key.
         ensures map { OnOk result (IsMapWith self.old self.new key.now value) }
         ensures old { IfOk result (λ inserted. inserted.old ≡ value_of self.old key.now) }
-        ensures moved { IfOk result (λ inserted. HaveMoved self.old self.new inserted.moved) }
+        ensures moved { IfOk result
+            (λ inserted. HaveMoved self.old self.new key.now inserted.moved) }
         ensures few { IfOk result (λ inserted. inserted.moved ≤ 257) }
         ensures stays { IfOk result (λ inserted. IsSome inserted.old → inserted.moved ≡ 0) }
 
-        // A refusal changes nothing. A key of the map is never refused.
+        // A refusal changes nothing. A key of the map is never refused, and none while there is room.
         ensures kept { OnErr result (self.new ≡ self.old) }
         ensures absent { OnErr result (value_of self.old key.now ≡ None) }
+        ensures needed { OnErr result (HasSpace self.old (length key.now) → ⊥) }
         ensures full { IfErr result (λ fault. fault ≡ Full
             → 2 ^ 30 - length key.now - 600 < length self.old) }
 
-        // While there is room after its last used cell the array stays as long as it is.
+        // While there is room after its last used cell the array stays as long as it is. It is never shorter.
         ensures space { HasSpace self.old (length key.now) → length self.new ≡ length self.old }
+        ensures least { length self.old ≤ length self.new }
         ensures growth { length self.new ≤ length self.old + length key.now + 600 }
         ensures most { length self.new ≤ 2 ^ 30 }
 

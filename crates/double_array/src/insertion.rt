@@ -41,14 +41,16 @@ pub(crate) fn insert_key(pool: &mut CellPool, key: &[u8], value: u32) -> Result<
     ensures map { OnOk result (IsMapWith pool.old.cells pool.new.cells key.now value) }
     ensures old { IfOk result (λ inserted. inserted.old ≡ value_of pool.old.cells key.now) }
     ensures moved { IfOk result
-        (λ inserted. HaveMoved pool.old.cells pool.new.cells inserted.moved) }
+        (λ inserted. HaveMoved pool.old.cells pool.new.cells key.now inserted.moved) }
     ensures few { IfOk result (λ inserted. inserted.moved ≤ 257) }
     ensures stays { IfOk result (λ inserted. IsSome inserted.old → inserted.moved ≡ 0) }
+    ensures least { length pool.old.cells ≤ length pool.new.cells }
     ensures most { length pool.new.cells ≤ length pool.old.cells + length key.now + 600 }
     ensures space { HasSpace pool.old.cells (length key.now)
         → length pool.new.cells ≡ length pool.old.cells }
     ensures kept { OnErr result (pool.new.cells ≡ pool.old.cells) }
     ensures absent { OnErr result (value_of pool.old.cells key.now ≡ None) }
+    ensures needed { OnErr result (HasSpace pool.old.cells (length key.now) → ⊥) }
     ensures full { IfErr result (λ fault. fault ≡ Full
         → 2 ^ 30 < length pool.old.cells + length key.now + 600) }
 {
@@ -135,6 +137,7 @@ fn make_room(pool: &mut CellPool, key_length: usize, left: usize) -> Result<(), 
     ensures space { HasSpace pool.old.cells key_length
         → length pool.new.cells ≡ length pool.old.cells }
     ensures kept { OnErr result (pool.new.cells ≡ pool.old.cells) }
+    ensures needed { OnErr result (HasSpace pool.old.cells key_length → ⊥) }
     ensures full { IfErr result (λ fault. fault ≡ Full
         → 2 ^ 30 < length pool.old.cells + key_length + 600) }
 {

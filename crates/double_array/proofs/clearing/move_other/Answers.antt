@@ -5,8 +5,7 @@ use Rattle.double_array.proofs.CellMoveLaw.{Renames}
 use Rattle.double_array.specs.Built.{values}
 use Rattle.double_array.specs.Pool.{Pool}
 use Rattle.double_array.proofs.ClearingLemmas.{cleared_by_other, goes_along}
-use Rattle.double_array.specs.Moved.{children}
-use Rattle.double_array.proofs.MovedLemmas.{other_family_moved}
+use Rattle.double_array.proofs.MovedLemmas.{one_move}
 use Rattle.double_array.proofs.clearing.move_other.Goals as goal
 use Rattle.double_array.proofs.clearing.move_other.Goals.{then-is_child, else-is_child}
 
@@ -37,7 +36,6 @@ returns-clause-cleared c =
 
 pub returns-clause-moved : goal.returns-clause-moved
 returns-clause-moved c =
-    let r = c.requires in
     let f = c.find_free_base-to in
-    let count = subst (λ (p : Pool). c.relocate-moved.result ≡ children p.cells c.args.other) f.ensures.kept c.relocate-moved.ensures.count in
-    other_family_moved c.args.pool.now c.relocate-moved.new.pool c.args.other (c.args.from + c.args.code) c.base-other_from.result f.result c.relocate-moved.result c.args.family.now r.can.built r.used c.base-other_from.ensures f.ensures.least r.family f.ensures.free (move c) count
+    let e = c.relocate-moved.ensures in
+    one_move c.args.pool.now f.new.self c.relocate-moved.new.pool c.args.other f.result c.relocate-moved.result f.ensures.kept e.moved e.count

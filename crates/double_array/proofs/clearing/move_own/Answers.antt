@@ -1,10 +1,9 @@
-use Rattle.std.proofs.Common.{◌≡◌, ◌+◌, ◌≤◌, sym, subst}
+use Rattle.std.proofs.Common.{◌+◌, ◌≤◌, sym, subst}
 use Rattle.double_array.specs.CellMoves.{IsMove}
 use Rattle.double_array.specs.Pool.{Pool}
 use Rattle.double_array.specs.Family.{FitsAt}
 use Rattle.double_array.proofs.ClearingLemmas.{has_code, fits_less, cleared_by_own}
-use Rattle.double_array.specs.Moved.{children}
-use Rattle.double_array.proofs.MovedLemmas.{family_moved}
+use Rattle.double_array.proofs.MovedLemmas.{one_move}
 use Rattle.double_array.proofs.clearing.move_own.Goals as goal
 
 pub relocate-moved-requires-clause-member : goal.relocate-moved-requires-clause-member
@@ -29,13 +28,6 @@ returns-clause-cleared c =
 
 pub returns-clause-moved : goal.returns-clause-moved
 returns-clause-moved c =
-    let r = c.requires in
     let f = c.find_free_base-to in
     let e = c.relocate-moved.ensures in
-    let old = c.args.pool.now in
-    let new = c.relocate-moved.new.pool in
-    let move = subst (λ (p : Pool). IsMove p.cells new.cells c.args.state f.result) f.ensures.kept e.moved in
-    let count = subst (λ (p : Pool). c.relocate-moved.result ≡ children p.cells c.args.state) f.ensures.kept e.count in
-    let member = has_code old c.args.state c.args.from (c.args.from + c.args.code) r.used.0 c.args.family.now r.can.built r.can.based r.can.least r.used.1 r.family in
-    family_moved old.cells new.cells c.args.state c.args.from f.result c.relocate-moved.result member.0 c.args.family.now r.can.based r.can.least f.ensures.least r.family member.1
-    (fits_less old.cells c.args.family.now c.args.code f.result f.ensures.free) move count
+    one_move c.args.pool.now f.new.self c.relocate-moved.new.pool c.args.state f.result c.relocate-moved.result f.ensures.kept e.moved e.count

@@ -1,15 +1,11 @@
-use Rattle.std.proofs.Common.{◌≡◌, None, Result, Ok, Err, length, negsuc, sym, ap, ◌∙◌}
+use Rattle.std.proofs.Common.{◌≡◌, None, length, negsuc, sym, ap, ◌∙◌}
 use Rattle.std.proofs.lemmas.List.{length-set}
-use Rattle.std.specs.Prelude.{OnErr}
 use Rattle.cell_walk.specs.CellMap.{value_of}
 use Rattle.double_array.proofs.TailLemmas.{map_then}
-use Rattle.double_array.proofs.InsertionLemmas.{end_in_use, end_within, end_holds, end_replaced, end_value, end_built, absent, none_still, ready, map_before}
+use Rattle.double_array.proofs.InsertionLemmas.{end_in_use, end_within, end_led, end_holds, end_replaced, end_value, end_built, absent, none_still, ready, map_before}
 use Rattle.double_array.proofs.MovedLemmas.{in_place, moved_in_all}
+use Rattle.double_array.proofs.RoomLemmas.{on_err_by}
 use Rattle.double_array.proofs.insertion.insert_key.Goals as goal
-
-on_err_by : {T E : Type 0} (r : Result T E) (P : Type 0) → P → OnErr r P
-on_err_by (Ok x) P p = tt
-on_err_by (Err e) P p = p
 
 pub replace_value-requires-clause-used : goal.replace_value-requires-clause-used
 replace_value-requires-clause-used c =
@@ -69,8 +65,9 @@ returns-in_ok-make_room-in-None-clause-old c =
 
 pub returns-in-Some-clause-moved : goal.returns-in-Some-clause-moved
 returns-in-Some-clause-moved c =
-    in_place c.args.pool.now.cells c.replace_value.new.pool.cells c.in-Some.end (negsuc c.args.value)
+    in_place c.args.pool.now.cells c.replace_value.new.pool.cells c.args.key.now c.in-Some.end (negsuc c.args.value)
     (end_within c.args.pool.now c.args.key.now c.walk_key-at.result c.code_at-code.result c.in-Some.end c.requires.built c.requires.some c.walk_key-at.ensures c.code_at-code.ensures.code c.in-Some.ensures)
+    (end_led c.args.pool.now c.args.key.now c.walk_key-at.result c.code_at-code.result c.in-Some.end c.requires.built c.requires.some c.walk_key-at.ensures c.code_at-code.ensures.code c.in-Some.ensures)
     c.replace_value.ensures.cells
 
 pub returns-in-Some-clause-space : goal.returns-in-Some-clause-space
@@ -78,8 +75,8 @@ returns-in-Some-clause-space c = λ space. ap length c.replace_value.ensures.cel
 
 pub returns-in_ok-make_room-in-None-clause-moved : goal.returns-in_ok-make_room-in-None-clause-moved
 returns-in_ok-make_room-in-None-clause-moved c =
-    moved_in_all c.args.pool.now c.make_room.new.pool c.clear_way-cleared.new.pool c.add_tail.new.pool c.clear_way-cleared.result.moved c.in_ok-make_room-in-None.ensures.room.same
-    c.clear_way-cleared.ensures.cleared.built c.add_tail.ensures.kept c.clear_way-cleared.ensures.moved
+    moved_in_all c.args.pool.now.cells c.make_room.new.pool.cells c.clear_way-cleared.new.pool.cells c.add_tail.new.pool.cells c.args.key.now c.clear_way-cleared.result.moved c.in_ok-make_room-in-None.ensures.room.same
+    (c.add_tail.ensures.long ∙ c.clear_way-cleared.ensures.cleared.long) c.add_tail.ensures.kept c.clear_way-cleared.ensures.moved
 
 pub returns-in_ok-make_room-in-None-clause-space : goal.returns-in_ok-make_room-in-None-clause-space
 returns-in_ok-make_room-in-None-clause-space c = λ space. c.add_tail.ensures.long ∙ c.clear_way-cleared.ensures.cleared.long ∙ c.in_ok-make_room-in-None.ensures.space space
