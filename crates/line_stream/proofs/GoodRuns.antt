@@ -15,10 +15,10 @@ use Rattle.mj_model.specs.Output.{Output, BadLine, text_lines}
 use Rattle.mj_model.specs.TextLines.{whole_lines, open_line}
 use Rattle.line_stream.specs.declared.line_fault.LineFault.{LineFault}
 use Rattle.line_stream.specs.declared.line_fault.LineFault.TheVariants.{TooLong, NotUtf8}
-use Rattle.line_stream.specs.GoodRuns.{NothingFails, IsOkOrMemory}
+use Rattle.line_stream.specs.GoodRuns.{EndsWithin, NothingFails, IsOkOrMemory}
 use Rattle.line_stream.specs.GoodLines.{IsGood}
 use Rattle.line_stream.specs.Progress.{HasNoFeed}
-use Rattle.line_stream.specs.Runs.{Ran, both_told, has_ended, lines_read}
+use Rattle.line_stream.specs.Runs.{BoundPassed, Ran, both_told, has_ended, lines_read}
 use Rattle.line_stream.specs.Steps.{last_line}
 use Rattle.line_stream.proofs.PieceLemmas.{split_cons, whole_lines-append, open_line-append}
 use Rattle.line_stream.proofs.RunWork.{text_lines-parts, open_no_feed}
@@ -153,6 +153,19 @@ module _ (T : List ℕ → Result (List ℕ) LineFault → Type 0)
       absurd (omega (arith, long, low))
   none_too_long n (x ∷ xs) out bad e short (inr h) = none_too_long (n + 1) xs h.1 bad e (All-tail IsShort x xs short) h.3
 
+  -- ---- reads that came to no end
+
+  -- each gave a byte at least, and none met the end
+  too_many_reads : (bound : ℕ) (from to : ReaderTold) (before after : WriterTold) (text bytes rest : List ℕ) → text ≡ bytes ++ rest
+      → BoundPassed bound bytes (both_told from before) (both_told to after) → to.ends ≡ from.ends
+      → EndsWithin bound text (both_told from before) (both_told to after) → ⊥
+  too_many_reads bound from to before after text bytes rest parts passed no_end (inl few) =
+      let all = ap length parts ∙ length-append bytes rest in let gave = passed.gave in omega (arith, few, all, gave)
+  too_many_reads bound from to before after text bytes rest parts passed no_end (inr ends) =
+      let ended = ends passed.reads in
+      let not_ended : has_ended (both_told from before) (both_told to after) ≡ false = ap (λ n. nat_lt from.ends n) no_end ∙ le-ltb from.ends from.ends (omega arith) in
+      let clash : true ≡ false = sym ended ∙ not_ended in cc
+
   -- ---- the answer
 
   pub good_run : (bound : ℕ) (from to : ReaderTold) (before after : WriterTold) (result : Result ℕ RunFault)
@@ -176,7 +189,6 @@ module _ (T : List ℕ → Result (List ℕ) LineFault → Type 0)
       none_too_long 1 (text_lines ran.bytes) ran.written (record { number = line; fault = TooLong }) refl
       (read_short ran.bytes cut.rest good) ran.ends.0
   good_run bound from to before after (Err (run.InputTooLong line)) ran g =
-      let ended = g.ends ran.ends.1 in
-      let no_end : has_ended (both_told from before) (both_told to after) ≡ false = ap (λ n. nat_lt from.ends n) ran.ends.0.no_end ∙ le-ltb from.ends from.ends (omega arith) in
-      absurd (let clash : true ≡ false = sym ended ∙ no_end in cc)
+      let cut = cut_text from.left to.left g.text ran.bytes g.told ran.read in
+      too_many_reads bound from to before after g.text ran.bytes cut.rest cut.parts ran.ends.1 ran.ends.0.no_end g.ends
   good_run bound from to before after (Err (run.Memory line)) ran g = tt

@@ -17,7 +17,7 @@ use Rattle.line_stream.specs.declared.line_fault.LineError.TheVariants.{Bad, Mem
 use Rattle.line_stream.specs.LineErrors.{run_fault}
 use Rattle.line_stream.specs.Progress.{AllPrint, IsCause}
 use Rattle.line_stream.specs.Steps.{Stepped, StepStopped, EndStopped, last_line, IsLastCause}
-use Rattle.line_stream.specs.Runs.{Told, NoFailure, NoFlush, FlushesLast, IsStarved, IsBad, EndsSo, StoppedBehind, WorkedThrough, Ran, both_told, has_ended, lines_read}
+use Rattle.line_stream.specs.Runs.{Told, NoEmptyRead, NoFailure, NoFlush, FlushesLast, IsStarved, IsBad, EndsSo, StoppedBehind, WorkedThrough, Ran, both_told, has_ended, lines_read}
 use Rattle.mj_model.specs.declared.source_fault.SourceFault.{SourceFault}
 use Rattle.line_stream.proofs.PieceLemmas.{open_line-append}
 use Rattle.line_stream.proofs.RunWork.{Running, print_on, turn_step, whole_on, text_lines-parts}
@@ -57,13 +57,13 @@ module _ (Tells : List ℕ → Result (List ℕ) LineFault → Type 0) (bound : 
   abbrev pub RanSo : Option (List ℕ) → Option (List ℕ) → Option (List ℕ) → Option (List ℕ) → Told → Told → Result ℕ RunFault → Type 0
   RanSo left0 left1 held0 held1 before after result =
       (bytes : List ℕ) × (written : List ℕ) × Consumes left0 left1 bytes × Appends held0 held1 written
-      × (after.reads ≤ before.reads + bound) × WorkedThrough Tells bytes written × EndsSo Tells bound bytes written before after result
+      × (after.reads ≤ before.reads + bound) × NoEmptyRead bytes before after × WorkedThrough Tells bytes written × EndsSo Tells bound bytes written before after result
       × AtItsEnd left1 before after
 
   pub ran_of : (from to : ReaderTold) (before after : WriterTold) (result : Result ℕ RunFault)
       → RanSo from.left to.left before.held after.held (both_told from before) (both_told to after) result → Ran Tells bound from to before after result
   ran_of from to before after result r =
-      record { bytes = r.0; written = r.1; read = r.2; wrote = r.3; few_reads = r.4; worked = r.5; ends = r.6; to_the_end = r.7 }
+      record { bytes = r.0; written = r.1; read = r.2; wrote = r.3; few_reads = r.4; no_empty_read = r.5; worked = r.6; ends = r.7; to_the_end = r.8 }
 
   module _ (left0 left1 left2 held0 held1 held2 : Option (List ℕ)) (before now after : Told) (turn : ℕ) (pending out : List ℕ) (lines sent : ℕ)
       (r : Running Tells left0 left1 held0 held1 before now turn pending out lines sent) where
@@ -106,6 +106,7 @@ module _ (Tells : List ℕ → Result (List ℕ) LineFault → Type 0) (bound : 
       Consumes-kept left0 left1 left2 r.bytes r.read kept,
       r.wrote,
       omega (arith, few, reads, r.reads),
+      omega (arith, reads, r.reads, r.gave, one_read, r.read_failures),
       all_worked,
       (
         stopped_behind line e ends,
@@ -122,6 +123,7 @@ module _ (Tells : List ℕ → Result (List ℕ) LineFault → Type 0) (bound : 
       r.read,
       r.wrote,
       omega (arith, is, r.reads),
+      omega (arith, r.reads, r.gave),
       all_worked,
       (
         record {
@@ -130,7 +132,7 @@ module _ (Tells : List ℕ → Result (List ℕ) LineFault → Type 0) (bound : 
           number = omega (arith, e, r.counted);
           short = subst (λ o. length o ≤ SENTENCE_MAX) r.open_is r.short;
         },
-        omega (arith, is, r.reads),
+        record { reads = omega (arith, is, r.reads); gave = omega (arith, is, r.gave) },
         record { no_read = r.read_failures; no_write = r.write_failures },
         r.flushes,
       ),
@@ -140,6 +142,14 @@ module _ (Tells : List ℕ → Result (List ℕ) LineFault → Type 0) (bound : 
     module _ (few : turn < bound) (reads : after.reads ≡ now.reads + 1) (no_read : after.read_failures ≡ now.read_failures) where
       few_reads : after.reads ≤ before.reads + bound
       few_reads = omega (arith, few, reads, r.reads)
+
+      -- this read gave bytes
+      gave_more : (piece : List ℕ) → 0 < length piece → NoEmptyRead (r.bytes ++ piece) before after
+      gave_more piece some = let bl = length-append r.bytes piece in omega (arith, some, reads, bl, r.reads, r.gave)
+
+      -- this read met the end
+      gave_none : after.ends ≡ now.ends + 1 → NoEmptyRead r.bytes before after
+      gave_none ends = omega (arith, ends, reads, r.ends, r.reads, r.gave)
 
       unflushed : after.flushes ≡ now.flushes → NoFlush before after
       unflushed same = same ∙ r.flushes
@@ -241,28 +251,30 @@ module _ (Tells : List ℕ → Result (List ℕ) LineFault → Type 0) (bound : 
           subst (λ f. EndsSo Tells bound (r.bytes ++ piece) (r.written ++ written) before after (Err (run_fault (Bad f) line))) (sym c.1)
           (bad_run (text_lines (r.bytes ++ piece)) written done [] (open_line (pending ++ piece)) TooLong line parts print c.2 e, none_failed no_write, unflushed no_flush)
 
-      pub ran_work : (piece : List ℕ) (fault : RunFault) → Consumes left1 left2 piece → length piece ≤ 2 ^ 16 → after.ends ≡ now.ends → after.flushes ≡ now.flushes
+      pub ran_work : (piece : List ℕ) (fault : RunFault) → Consumes left1 left2 piece → 0 < length piece → length piece ≤ 2 ^ 16 → after.ends ≡ now.ends → after.flushes ≡ now.flushes
           → StepStopped Tells (IsCause Tells (pending ++ piece)) lines [] (whole_lines (pending ++ piece))
           (turn_step held1 held2 now after) sent fault
           → RanSo left0 left2 held0 held2 before after (Err fault)
-      ran_work piece fault took small ends no_flush (inl s) = (
+      ran_work piece fault took some small ends no_flush (inl s) = (
         r.bytes ++ piece,
         r.written ++ s.written,
         Consumes-trans left0 left1 left2 r.bytes piece r.read took,
         Appends-trans held0 held1 held2 r.written s.written r.wrote s.wrote,
         few_reads,
+        gave_more piece some,
         worked_through (r.bytes ++ piece) piece s.written refl small,
         cut_run (r.bytes ++ piece) s.written s.cut.done s.cut.more fault s.cut.text s.cut.left
             (lines_of_work piece s.cut.done s.cut.more ends s.cut.first) s.cut.print s.cut.front s.fault_is s.failure
             (inl (unflushed no_flush)),
         not_at_end left2 before after (ends ∙ r.ends),
       )
-      ran_work piece fault took small ends no_flush (inr s) = (
+      ran_work piece fault took some small ends no_flush (inr s) = (
         r.bytes ++ piece,
         r.written ++ s.text,
         Consumes-trans left0 left1 left2 r.bytes piece r.read took,
         Appends-trans held0 held1 held2 r.written s.text r.wrote s.wrote,
         few_reads,
+        gave_more piece some,
         worked_through (r.bytes ++ piece) piece s.text refl small,
         subst (λ f. EndsSo Tells bound (r.bytes ++ piece) (r.written ++ s.text) before after (Err f)) (sym s.fault_is)
             (work_error piece s.text s.done s.error (lines + length s.done + 1) ends s.no_failure no_flush s.print s.cause refl),
@@ -301,6 +313,7 @@ module _ (Tells : List ℕ → Result (List ℕ) LineFault → Type 0) (bound : 
         none_more took,
         Appends-trans held0 held1 held2 r.written s.written r.wrote s.wrote,
         few_reads,
+        gave_none ends,
         worked_to_the_end s.written,
         cut_run r.bytes s.written s.cut.done s.cut.more fault s.cut.text s.cut.left
             (lines_of_all ends ∙ lines_at_end s.cut.done s.cut.more s.cut.first) s.cut.print s.cut.front s.fault_is s.failure
@@ -313,6 +326,7 @@ module _ (Tells : List ℕ → Result (List ℕ) LineFault → Type 0) (bound : 
         none_more took,
         Appends-trans held0 held1 held2 r.written s.text r.wrote s.wrote,
         few_reads,
+        gave_none ends,
         worked_to_the_end s.text,
         subst (λ f. EndsSo Tells bound r.bytes (r.written ++ s.text) before after (Err f)) (sym s.fault_is)
             (finish_error s.text s.done s.error (lines + length s.done + 1) ends s.no_failure no_flush s.print s.cause refl),
@@ -326,6 +340,7 @@ module _ (Tells : List ℕ → Result (List ℕ) LineFault → Type 0) (bound : 
             none_more took,
             Appends-trans held0 held1 held2 r.written s.text r.wrote s.wrote,
             few_reads,
+            gave_none ends,
             worked_to_the_end s.text,
             cut_run r.bytes s.text (last_line pending) [] fault s.text []
                 (lines_of_all ends ∙ lines_at_end (last_line pending) [] (sym (append-nil (last_line pending)))) s.print (sym (append-nil s.text)) s.fault_is s.failure
@@ -345,6 +360,7 @@ module _ (Tells : List ℕ → Result (List ℕ) LineFault → Type 0) (bound : 
             none_more took,
             Appends-trans held0 held1 held2 r.written s.text r.wrote s.wrote,
             few_reads,
+            gave_none ends,
             worked_to_the_end s.text,
             (
               record {

@@ -79,6 +79,7 @@ module _ (Tells : List ℕ → Result (List ℕ) LineFault → Type 0) where
     pub few_lines : lines ≤ 2 ^ 16 * turn
     pub few_bytes : sent ≤ 2 ^ 82 * turn
     pub reads : now.reads ≡ before.reads + turn
+    pub gave : turn ≤ length bytes
     pub ends : now.ends ≡ before.ends
     pub read_failures : now.read_failures ≡ before.read_failures
     pub write_failures : now.write_failures ≡ before.write_failures
@@ -92,15 +93,16 @@ module _ (Tells : List ℕ → Result (List ℕ) LineFault → Type 0) where
 
   pub running_more : (left0 left1 left2 held0 held1 held2 : Option (List ℕ)) (before now after : Told) (turn : ℕ) (pending out piece : List ℕ) (lines sent : ℕ) (pending_after out_after : List ℕ) (lines_after sent_after : ℕ)
       → Running left0 left1 held0 held1 before now turn pending out lines sent
-      → Consumes left1 left2 piece → length piece ≤ 2 ^ 16
+      → Consumes left1 left2 piece → 0 < length piece → length piece ≤ 2 ^ 16
       → Stepped Tells lines (whole_lines (pending ++ piece)) lines_after (turn_step held1 held2 now after) sent sent_after
       → pending_after ≡ open_line (pending ++ piece) → length pending_after ≤ SENTENCE_MAX → out_after ≡ [] → lines_after ≤ lines + length piece → sent_after ≤ sent + 2 ^ 82
       → after.reads ≡ now.reads + 1 → after.ends ≡ now.ends → after.read_failures ≡ now.read_failures → after.flushes ≡ now.flushes
       → Running left0 left2 held0 held2 before after (turn + 1) pending_after out_after lines_after sent_after
-  running_more left0 left1 left2 held0 held1 held2 before now after turn pending out piece lines sent pending_after out_after lines_after sent_after r took small s open_is short waits few_lines few_bytes reads ends failures flushes =
+  running_more left0 left1 left2 held0 held1 held2 before now after turn pending out piece lines sent pending_after out_after lines_after sent_after r took some small s open_is short waits few_lines few_bytes reads ends failures flushes =
       let whole = whole_on r.bytes piece pending r.open_is in
       let wc = ap length whole ∙ length-append (whole_lines r.bytes) (whole_lines (pending ++ piece)) in
       let tl = length-append r.written s.text in
+      let bl = length-append r.bytes piece in
       record {
         bytes = r.bytes ++ piece;
         written = r.written ++ s.text;
@@ -116,6 +118,7 @@ module _ (Tells : List ℕ → Result (List ℕ) LineFault → Type 0) where
         few_lines = omega (arith, few_lines, small, r.few_lines);
         few_bytes = omega (arith, few_bytes, r.few_bytes);
         reads = omega (arith, reads, r.reads);
+        gave = omega (arith, some, bl, r.gave);
         ends = ends ∙ r.ends;
         read_failures = failures ∙ r.read_failures;
         write_failures = s.no_failure ∙ r.write_failures;

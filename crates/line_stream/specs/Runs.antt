@@ -1,5 +1,5 @@
 -- How a run over a text ends: what it read, what it wrote, and why it stopped.
-use Rattle.std.specs.Prelude.{◌≡◌, ℕ, ◌+◌, ◌≤◌, Bool, true, false, nat_lt, if◌then◌else◌, List, ◌++◌, length, Some, Result, Ok, Err, ◌⊎◌}
+use Rattle.std.specs.Prelude.{◌≡◌, ℕ, ◌+◌, ◌-◌, ◌≤◌, Bool, true, false, nat_lt, if◌then◌else◌, List, ◌++◌, length, Some, Result, Ok, Err, ◌⊎◌}
 use Rattle.std.specs.Io.KnownBytes.{Consumes, Appends, IsAtEnd}
 use Rattle.mj_model.specs.Counts.{ReaderTold, WriterTold}
 use Rattle.mj_model.specs.declared.limits.TheConstants.{SENTENCE_MAX}
@@ -50,6 +50,16 @@ pub record OneWriteFailed (before after : Told) : Type 0 where
 -- nothing was flushed
 abbrev pub NoFlush : Told → Told → Type 0
 NoFlush before after = after.flushes ≡ before.flushes
+
+-- no read asked for nothing: each gave a byte at least, met the end of the input, or failed
+abbrev pub NoEmptyRead : List ℕ → Told → Told → Type 0
+NoEmptyRead bytes before after =
+    after.reads ≤ before.reads + length bytes + (after.ends - before.ends) + (after.read_failures - before.read_failures)
+
+-- as many reads were made as the bound allows, and each gave a byte at least
+pub record BoundPassed (bound : ℕ) (bytes : List ℕ) (before after : Told) : Type 0 where
+  pub reads : after.reads ≡ before.reads + bound
+  pub gave : bound ≤ length bytes
 
 -- a read met the end of the input
 abbrev pub has_ended : Told → Told → Bool
@@ -136,12 +146,12 @@ EndsSo Tells bound bytes written before after (Err (run.NotUtf8 line)) =
 EndsSo Tells bound bytes written before after (Err (run.TooLong line)) =
     IsBad Tells (text_lines bytes) written line TooLong × NoFailure before after × NoFlush before after
 EndsSo Tells bound bytes written before after (Err (run.InputTooLong line)) =
-    StoppedBehind Tells bytes written before after line × (after.reads ≡ before.reads + bound) × NoFailure before after × NoFlush before after
+    StoppedBehind Tells bytes written before after line × BoundPassed bound bytes before after × NoFailure before after × NoFlush before after
 EndsSo Tells bound bytes written before after (Err (run.Memory line)) =
     IsStarved Tells (lines_read (has_ended before after) bytes) written line × NoFailure before after × NoFlush before after
 
--- a run: what it read, in how many reads at most, what it wrote, that it worked through what it read, how it ended behind that, and that
--- the reader is at its end where a read met the end
+-- a run: what it read, in how many reads at most, and that none of them asked for nothing; what it wrote, that it worked through what it
+-- read, how it ended behind that, and that the reader is at its end where a read met the end
 pub record Ran (Tells : List ℕ → Result (List ℕ) LineFault → Type 0) (bound : ℕ) (from to : ReaderTold) (before after : WriterTold)
     (result : Result ℕ RunFault) : Type 0 where
   pub bytes : List ℕ
@@ -149,6 +159,7 @@ pub record Ran (Tells : List ℕ → Result (List ℕ) LineFault → Type 0) (bo
   pub read : Consumes from.left to.left bytes
   pub wrote : Appends before.held after.held written
   pub few_reads : to.reads ≤ from.reads + bound
+  pub no_empty_read : NoEmptyRead bytes (both_told from before) (both_told to after)
   pub worked : WorkedThrough Tells bytes written
   pub ends : EndsSo Tells bound bytes written (both_told from before) (both_told to after) result
   pub to_the_end : has_ended (both_told from before) (both_told to after) ≡ true → IsAtEnd to.left

@@ -1,6 +1,7 @@
 //! The loop over a stream of lines: read, print line by line, write. What a line prints is its printer's.
 #![tactic(auto)]
 
+pub mod laws;
 mod line_fault;
 mod line_printer;
 mod piece;

@@ -6,4 +6,5 @@ pub mod Standings
 pub mod Followable
 pub mod PrintedPaths
 pub mod Formats
+pub mod ItemTable
 pub mod Answers

@@ -23,11 +23,13 @@ loop-turn-preserved g c =
     let kept = c.loop-turn.auto.buffer in
     let same = c.read_counted.auto.buf in
     let len = length-take taken c.read_counted.new.buf in
+    let some = c.in-Ok.n-test.1 in
+    let fits = c.in-Ok.ensures.bound in
     let small = c.requires.buffer.1 in
     running_more (g.P.LinePrinter.tells c.args.printer.now) _ _ _ _ _ _ _ _ _ c.loop-turn._turn
     c.loop-turn.progress.pending.items c.loop-turn.progress.out.items (take taken c.read_counted.new.buf) c.loop-turn.progress.lines c.loop-turn.sent
     c.work.new.progress.pending.items c.work.new.progress.out.items c.work.new.progress.lines c.work.new.sent
-    c.loop-turn.invariant c.in-Ok.ensures.bytes.0 (omega (arith, kept, same, len, small)) c.in_ok-work.ensures.worked c.in_ok-work.ensures.open
+    c.loop-turn.invariant c.in-Ok.ensures.bytes.0 (omega (arith, some, fits, len)) (omega (arith, kept, same, len, small)) c.in_ok-work.ensures.worked c.in_ok-work.ensures.open
     c.in_ok-work.ensures.short c.in_ok-work.ensures.nothing_waits c.in_ok-work.ensures.few_lines c.in_ok-work.ensures.few_bytes c.in-Ok.ensures.reads
     (omega (arith, ends, none)) (omega (arith, failures)) c.in_ok-work.ensures.no_flush
 
@@ -46,13 +48,15 @@ returns-in_err-work g c =
     let kept = c.loop-turn.auto.buffer in
     let same = c.read_counted.auto.buf in
     let len = length-take taken c.read_counted.new.buf in
+    let some = c.in-Ok.n-test.1 in
+    let fits = c.in-Ok.ensures.bound in
     let small = c.requires.buffer.1 in
     rw (p.1, p.2) (record {
       run = ran_of Tells c.args.bound from to before after (Err c.in_err-work.field-0.0)
           (ran_work Tells c.args.bound _ _ _ _ _ _ _ _ (both_told to after) c.loop-turn._turn
           c.loop-turn.progress.pending.items c.loop-turn.progress.out.items c.loop-turn.progress.lines c.loop-turn.sent c.loop-turn.invariant
           c.loop-turn-test.true c.in-Ok.ensures.reads (omega (arith, failures))
-          (take taken c.read_counted.new.buf) c.in_err-work.field-0.0 c.in-Ok.ensures.bytes.0 (omega (arith, kept, same, len, small))
+          (take taken c.read_counted.new.buf) c.in_err-work.field-0.0 c.in-Ok.ensures.bytes.0 (omega (arith, some, fits, len)) (omega (arith, kept, same, len, small))
           (omega (arith, ends, none)) c.in_err-work.ensures.no_flush c.in_err-work.ensures.stopped);
     })
 
