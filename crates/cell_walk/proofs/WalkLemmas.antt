@@ -6,7 +6,7 @@ use Rattle.cell_walk.specs.declared.steps.Place.{Place}
 use Rattle.cell_walk.specs.declared.walk.Walk.{Walk}
 use Rattle.cell_walk.specs.Reads.{step_reads, walk_reads}
 use Rattle.cell_walk.specs.Steps.{IsStepTo}
-use Rattle.cell_walk.specs.Walking.{IsWalkBut, value_reads, walked, walked_by}
+use Rattle.cell_walk.specs.Walking.{IsWalkBut, value_reads, bytes_walked, walked_by}
 use Rattle.cell_walk.proofs.ReadLemmas.{led_on, reads_ended, reads_few, reads_on}
 
 walked_within : (text : List ℕ) (place : Option Place) (n : ℕ) → n ≤ length text → walked_by text place n ≤ length text
@@ -14,8 +14,8 @@ walked_within text None n within = omega arith
 walked_within text (Some place) n within = within
 
 -- two reads a byte, and the root
-pub few_reads : (left : ℕ) (cells : List Cell) (text : List ℕ) (it : Walk) → IsWalkBut left cells text it → it.reads + left ≤ 2 * walked text it + 1
-few_reads left cells text it w = let e = w.reads in let f = reads_few cells text (walked text it) in omega (arith, e, f)
+pub few_reads : (left : ℕ) (cells : List Cell) (text : List ℕ) (it : Walk) → IsWalkBut left cells text it → it.reads + left ≤ 2 * bytes_walked text it + 1
+few_reads left cells text it w = let e = w.reads in let f = reads_few cells text (bytes_walked text it) in omega (arith, e, f)
 
 pub few_in_text : (left : ℕ) (cells : List Cell) (text : List ℕ) (it : Walk) → IsWalkBut left cells text it → it.reads + left ≤ 2 * length text + 1
 few_in_text left cells text it w = let f = few_reads left cells text it w in let l = walked_within text it.place it.length w.within in omega (arith, f, l)

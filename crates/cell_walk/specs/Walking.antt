@@ -12,8 +12,8 @@ abbrev pub walked_by : List ℕ → Option Place → ℕ → ℕ
 walked_by text None n = length text
 walked_by text (Some place) n = n
 
-abbrev pub walked : List ℕ → Walk → ℕ
-walked text it = walked_by text it.place it.length
+abbrev pub bytes_walked : List ℕ → Walk → ℕ
+bytes_walked text it = walked_by text it.place it.length
 
 -- up to where it has gone when it found a hit of this length: to the hit's end, or over the whole text where it found none
 abbrev pub walked_to : List ℕ → Option ℕ → ℕ
@@ -26,7 +26,7 @@ pub record IsWalkBut (left : ℕ) (cells : List Cell) (text : List ℕ) (it : Wa
   pub within : it.length ≤ length text
   pub place : IfSome it.place (IsAt cells)
   pub led : IfSome it.place (λ at. walk cells 0 (take it.length (codes_of text)) ≡ Some at.state)
-  pub reads : it.reads + left ≡ walk_reads cells text (walked text it)
+  pub reads : it.reads + left ≡ walk_reads cells text (bytes_walked text it)
 
 abbrev pub IsWalking : List Cell → List ℕ → Walk → Type 0
 IsWalking = IsWalkBut 0

@@ -2,7 +2,7 @@
 ghost use Rattle.std.specs.Prelude.{◌≡◌, ◌+◌, ◌*◌, ◌≤◌, Some, IfSome, IfNone, length, option_map};
 ghost use Rattle.std.specs.Iterator.{YieldsFirstBy};
 ghost use Rattle.cell_walk.specs.Hits.{IsStepOfWalk, hits_left};
-ghost use Rattle.cell_walk.specs.Walking.{IsWalkBut, IsWalking, value_reads, walked, walked_to};
+ghost use Rattle.cell_walk.specs.Walking.{IsWalkBut, IsWalking, value_reads, bytes_walked, walked_to};
 ghost use Rattle.cell_walk.specs.CellMap.{prefixes_of};
 ghost use Rattle.cell_walk.specs.CellRules.{AreCells};
 
@@ -30,7 +30,7 @@ pub(crate) fn begin<C: CellRead>(cells: &C, text: &[u8]) -> Walk
     ensures walking { IsWalking (C.cells cells.now) text.now result }
     ensures hits { hits_left (C.cells cells.now) text.now result
         ≡ prefixes_of (C.cells cells.now) text.now }
-    ensures walked { walked text.now result ≡ 0 }
+    ensures walked { bytes_walked text.now result ≡ 0 }
 {
     let mut reads = 0;
     let place = root(cells, &mut reads);
@@ -47,7 +47,7 @@ pub(crate) fn next_hit<C: CellRead>(cells: &C, text: &[u8], walk: &mut Walk) -> 
     ensures walking { IsWalking (C.cells cells.now) text.now walk.new }
     ensures hits { YieldsFirstBy (λ hit. (hit.length, hit.value))
         (hits_left (C.cells cells.now) text.now) walk.old result walk.new }
-    ensures walked { walked text.now walk.new
+    ensures walked { bytes_walked text.now walk.new
         ≡ walked_to text.now (option_map (λ hit. hit.length) result) }
 {
     while let Some(place) = advance(cells, text, walk) {
@@ -70,7 +70,7 @@ fn advance<C: CellRead>(cells: &C, text: &[u8], walk: &mut Walk) -> Option<Place
     ensures place { IfSome result (λ place. walk.new.place ≡ Some place) }
     ensures further { IfSome result (λ place. walk.new.length ≡ walk.old.length + 1) }
     ensures room { IfSome result (λ place. walk.new.reads ≤ 2 * walk.new.length) }
-    ensures ended { IfNone result (walked text.now walk.new ≡ length text.now) }
+    ensures ended { IfNone result (bytes_walked text.now walk.new ≡ length text.now) }
 {
     let place = walk.place?;
     let byte = *text.get(walk.length)?;

@@ -15,7 +15,7 @@ use Rattle.mj_model.specs.declared.category.Category.{Category}
 use Rattle.mj_model.specs.declared.category.CharInfo.{CharInfo}
 use Rattle.mj_model.specs.declared.limits.TheConstants.{CATEGORIES_MAX}
 use Rattle.mj_model.specs.Bytes.{is_blank}
-use Rattle.mj_model.specs.CharDef.{IsInfoOf, IsStorable, NamedCategory, CharSource, Mapping, Range, CharLine, Nothing, Defines, Maps, Bad, begins_with_hex, words_before_comment, char_line, line_from, mapping_line, mapping_or, range_of, category_or, category_from, category_of, category_length, flag, named, is_name, defined_by, mapped_by, is_defined, category_number, category_bits, mapping_fault, default_name, space_name, unless_defined, source_from, whole_fault, char_source, first_bad_line, info_of_names, covers, char_info, is_named, source_unless}
+use Rattle.mj_model.specs.CharDef.{IsInfoOf, IsStorable, NamedCategory, CharSource, Mapping, Range, CharLine, Nothing, Defines, Maps, Bad, begins_with_hex, words_before_comment, char_line, line_from, mapping_line, mapping_or, range_of, category_or, category_from, category_of, category_length, flag, category_named, is_name, defined_by, mapped_by, is_defined, category_number, category_bits, mapping_fault, default_name, space_name, unless_defined, source_from, whole_fault, char_source, first_bad_line, info_of_names, covers, char_info, is_named, source_unless}
 use Rattle.mj_model.specs.Connection.{words_of}
 use Rattle.mj_model.specs.FirstFault.{first_fault, fault_or}
 use Rattle.mj_model.specs.Lines.{numbered_lines}
@@ -81,19 +81,19 @@ found_within high (Some z) = within_by high z (int_le (pos 0) z && int_le z (pos
 length_within : (len : List ℕ) → IfSome (category_length len) (λ n. n ≤ 15)
 length_within len = found_within 15 (number len)
 
-storable_one : (name : List ℕ) (category : Category) → nat_lt 0 (length name) ≡ true → is_name name ≡ true → category.length ≤ 15 → IsStorable (named name category)
+storable_one : (name : List ℕ) (category : Category) → nat_lt 0 (length name) ≡ true → is_name name ≡ true → category.length ≤ 15 → IsStorable (category_named name category)
 storable_one name category some is low =
     let p = and_parts (nat_le (length name) 255) (is_utf8 name) is in
     record { length_within = low; name_some = ltb-true 0 (length name) some; name_short = leb-true (length name) 255 p.0; name_is_text = IsUtf8-from_is_utf8 name p.1 }
 
 storable_of : (name : List ℕ) (invoke group : Option Bool) (len : Option ℕ) → nat_lt 0 (length name) ≡ true → is_name name ≡ true → IfSome len (λ n. n ≤ 15)
-    → IfSome (option_map (named name) (option_and_then (λ invokes. option_and_then (λ groups. option_map (λ n. let c : Category = record { invoke = invokes; group = groups; length = n } in c) len) group) invoke)) IsStorable
+    → IfSome (option_map (category_named name) (option_and_then (λ invokes. option_and_then (λ groups. option_map (λ n. let c : Category = record { invoke = invokes; group = groups; length = n } in c) len) group) invoke)) IsStorable
 storable_of name None group len some is low = tt
 storable_of name (Some i) None len some is low = tt
 storable_of name (Some i) (Some g) None some is low = tt
 storable_of name (Some i) (Some g) (Some n) some is low = storable_one name (record { invoke = i; group = g; length = n }) some is low
 
-storable_by : (name invoke group len : List ℕ) (b : Bool) → nat_lt 0 (length name) ≡ true → is_name name ≡ b → IfSome (cond b (option_map (named name) (category_of invoke group len)) None) IsStorable
+storable_by : (name invoke group len : List ℕ) (b : Bool) → nat_lt 0 (length name) ≡ true → is_name name ≡ b → IfSome (cond b (option_map (category_named name) (category_of invoke group len)) None) IsStorable
 storable_by name invoke group len true some is = storable_of name (flag invoke) (flag group) (category_length len) some is (length_within len)
 storable_by name invoke group len false some is = tt
 

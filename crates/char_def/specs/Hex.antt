@@ -4,12 +4,12 @@ use Rattle.std.specs.Char.{is_ascii_hexdigit, digit_value}
 use Rattle.mj_model.specs.CharDef.{code_point_max}
 
 -- a number, where all those above the greatest code point are one
-abbrev pub capped : ℕ → ℕ
-capped n = min n (code_point_max + 1)
+abbrev pub number_up_to_max : ℕ → ℕ
+number_up_to_max n = min n (code_point_max + 1)
 
 abbrev pub up_to_max : Option ℕ → Option ℕ
-up_to_max found = option_map capped found
+up_to_max found = option_map number_up_to_max found
 
 -- the value with one more digit, or None at another byte
 abbrev pub with_hex_digit : ℕ → ℕ → Option ℕ
-with_hex_digit value byte = if is_ascii_hexdigit byte then Some (capped (16 * value + digit_value byte)) else None
+with_hex_digit value byte = if is_ascii_hexdigit byte then Some (number_up_to_max (16 * value + digit_value byte)) else None

@@ -45,10 +45,10 @@ abbrev pub c_word_in : Held → Word → CWord
 c_word_in h w = c_word w (first_category (overlay_held h) (chars_from (last_cut h).text w.start))
 
 -- a buffer with words at its front, as many as have room
-abbrev pub filled : (Word → CWord) → List Word → List CWord → List CWord
-filled form words out = let n = min (length words) (length out) in map form (take n words) ++ drop n out
+abbrev pub with_words_in_front : (Word → CWord) → List Word → List CWord → List CWord
+with_words_in_front form words out = let n = min (length words) (length out) in map form (take n words) ++ drop n out
 
 -- the words from a number on were written, and all are so many
 pub record AreTold (h : Held) (first count : ℕ) (old new : List CWord) (c : Cut) : Type 0 where
-  pub written : new ≡ filled (c_word_in h) (drop first c.words) old
+  pub written : new ≡ with_words_in_front (c_word_in h) (drop first c.words) old
   pub all : count ≡ length c.words

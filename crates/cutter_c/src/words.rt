@@ -5,7 +5,7 @@ ghost use Rattle.std.specs.Option.{IsSomeAnd};
 ghost use Rattle.cutter.specs.Cutters.{OfCut};
 ghost use Rattle.cutter.specs.Faults.{IsNothingCut};
 ghost use Rattle.cutter_c.specs.Handles.{IsRefusal, cutter_in};
-ghost use Rattle.cutter_c.specs.Words.{AreTold, c_word, c_word_in, filled};
+ghost use Rattle.cutter_c.specs.Words.{AreTold, c_word, c_word_in, with_words_in_front};
 
 use crate::fault::CallFault;
 use crate::handle::Handle;
@@ -69,7 +69,7 @@ fn numbered(cutter: &Cutter, number: usize, word: &Word) -> CWord
 /// Writes words of the path from number `first` on into a buffer, as far as there is room.
 fn fill(cutter: &Cutter, words: &[Word], first: usize, out: &mut [CWord])
     requires { OfCut cutter.now (λ c. words.now ≡ c.words) }
-    ensures { out.new ≡ filled (c_word_in cutter.now) (drop first words.now) out.old }
+    ensures { out.new ≡ with_words_in_front (c_word_in cutter.now) (drop first words.now) out.old }
 {
     let room = words.len().saturating_sub(first).min(out.len());
     for i in 0..room {

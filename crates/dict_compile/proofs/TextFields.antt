@@ -8,7 +8,7 @@ use Rattle.std.proofs.lemmas.Bool.{cases_Bool, cases_eq, cases_lt}
 use Rattle.std.proofs.lemmas.List.{drop_at, length-append}
 use Rattle.std.proofs.lemmas.Str.{IsCharBoundary-after_ascii, IsCharBoundary-before_ascii, IsCharBoundary-start, IsUtf8-append, IsUtf8-drop, IsUtf8-take}
 use Rattle.mj_model.specs.Bytes.{comma, is_blank, is_comma, quote}
-use Rattle.mj_model.specs.Fields.{IsFieldOf, IsFirstField, doubled, without_blanks}
+use Rattle.mj_model.specs.Fields.{IsFieldOf, IsFirstField, with_doubled_quotes, without_blanks}
 use Rattle.mj_model.proofs.FieldLemmas.{doubled_other, doubled_quote}
 use Rattle.lex_source.specs.Cuts.{IsCut}
 use Rattle.lex_source.proofs.CutLemmas.{after_blanks, cut_parts, uncut}
@@ -35,19 +35,19 @@ around xs ys c low u =
 abbrev IsEnd : List ℕ → Type 0
 IsEnd tail = (tail ≡ []) ⊎ ((behind : List ℕ) × (tail ≡ quote ∷ behind))
 
-undoubled : (before field tail : List ℕ) → IsEnd tail → IsUtf8 (before ++ (doubled field ++ tail)) → IsUtf8 (before ++ field)
+undoubled : (before field tail : List ℕ) → IsEnd tail → IsUtf8 (before ++ (with_doubled_quotes field ++ tail)) → IsUtf8 (before ++ field)
 undoubled before [] tail (inl none) u = subst (λ (t : List ℕ). IsUtf8 (before ++ t)) none u
 undoubled before [] tail (inr (behind, is)) u =
     subst IsUtf8 (sym (append-nil before)) (around before behind quote (omega arith) (subst (λ (t : List ℕ). IsUtf8 (before ++ t)) is u)).0
 undoubled before (c ∷ cs) tail end u = elim (cases_eq c quote) [
   | inl is ↦
-      let parts = around before (quote ∷ (doubled cs ++ tail)) quote (omega arith) (subst (λ (t : List ℕ). IsUtf8 (before ++ (t ++ tail))) (doubled_quote c cs is) u) in
+      let parts = around before (quote ∷ (with_doubled_quotes cs ++ tail)) quote (omega arith) (subst (λ (t : List ℕ). IsUtf8 (before ++ (t ++ tail))) (doubled_quote c cs is) u) in
       let rest = undoubled (quote ∷ []) cs tail end parts.1 in
       subst (λ (d : ℕ). IsUtf8 (before ++ d ∷ cs)) (sym is) (IsUtf8-append before (quote ∷ cs) parts.0 rest)
   | inr other ↦
-      let from : IsUtf8 (before ++ c ∷ (doubled cs ++ tail)) = subst (λ (t : List ℕ). IsUtf8 (before ++ (t ++ tail))) (doubled_other c cs other) u in
+      let from : IsUtf8 (before ++ c ∷ (with_doubled_quotes cs ++ tail)) = subst (λ (t : List ℕ). IsUtf8 (before ++ (t ++ tail))) (doubled_other c cs other) u in
       subst IsUtf8 (append_assoc before (c ∷ []) cs)
-      (undoubled (before ++ c ∷ []) cs tail end (subst IsUtf8 (sym (append_assoc before (c ∷ []) (doubled cs ++ tail))) from))
+      (undoubled (before ++ c ∷ []) cs tail end (subst IsUtf8 (sym (append_assoc before (c ∷ []) (with_doubled_quotes cs ++ tail))) from))
 ]
 
 -- ---- a field without quotes
@@ -66,9 +66,9 @@ before_comma text u = elim (cases_Bool (list_any is_comma text)) [
 field_is_text : (text field : List ℕ) (rest : Option (List ℕ)) → IsUtf8 text → IsFieldOf text field rest → IsUtf8 field
 field_is_text text field rest u (inl plain) = subst IsUtf8 (sym plain.1) (before_comma text u)
 field_is_text text field rest u (inr (inl (behind, is, out, more))) =
-    undoubled [] field (quote ∷ behind) (inr (behind, refl)) (around [] (doubled field ++ quote ∷ behind) quote (omega arith) (subst IsUtf8 is u)).1
+    undoubled [] field (quote ∷ behind) (inr (behind, refl)) (around [] (with_doubled_quotes field ++ quote ∷ behind) quote (omega arith) (subst IsUtf8 is u)).1
 field_is_text text field rest u (inr (inr (is, none))) =
-    undoubled [] field [] (inl refl) (subst IsUtf8 (sym (append-nil (doubled field))) (around [] (doubled field) quote (omega arith) (subst IsUtf8 is u)).1)
+    undoubled [] field [] (inl refl) (subst IsUtf8 (sym (append-nil (with_doubled_quotes field))) (around [] (with_doubled_quotes field) quote (omega arith) (subst IsUtf8 is u)).1)
 
 without_blanks_is_text : (line : List ℕ) → IsUtf8 line → IsUtf8 (without_blanks line)
 without_blanks_is_text line u =

@@ -4,7 +4,7 @@ use Rattle.std.proofs.lemmas.Bool.{cases_eq}
 use Rattle.std.proofs.lemmas.List.{length-set, set-get_or}
 use Rattle.cell_walk.specs.CellMap.{Cell, free_cell, cell_at, base, check}
 use Rattle.mj_model.proofs.Basics.{same_pos}
-use Rattle.double_array.specs.Seen.{hide, seen}
+use Rattle.double_array.specs.Seen.{hide, cells_as_seen}
 use Rattle.double_array.specs.Ring.{HasLinks, IsRing, AreLinked}
 use Rattle.double_array.proofs.SeenLemmas.{at_same, at_other, seen_set, seen_at, seen_root, seen_free, length-seen}
 use Rattle.double_array.proofs.RingLemmas.{same_neg, linked_within, next_of, before_of, next_is_other, ring_without, links_without, ring_with, links_with, link_with}
@@ -48,7 +48,7 @@ same_base_and_check old new j at_b at_k = ap (λ (b : ℤ). (b, check new j)) at
 pub record IsTaken (old new : List Cell) (i : ℕ) (x : Cell) : Type 0 where
   pub ring : IsRing new
   pub links : (j : ℕ) → j ≢ i → HasLinks old j → HasLinks new j
-  pub seen_is : seen new ≡ set (seen old) i x
+  pub seen_is : cells_as_seen new ≡ set (cells_as_seen old) i x
 
 pub no_links : (cells : List Cell) (i s : ℕ) → check cells i ≡ pos s → HasLinks cells i → ⊥
 no_links cells i s at l = from_neg l.before l.before_above (sym l.before_is ∙ at) where
@@ -56,10 +56,10 @@ no_links cells i s at l = from_neg l.before l.before_above (sym l.before_is ∙ 
   from_neg zero above e = omega (arith, above)
   from_neg (suc p) above e = let f : negsuc p ≡ pos s = e in cc
 
-pub seen_link : (old new : List Cell) (j : ℕ) → HasLinks old j → HasLinks new j → cell_at (seen new) j ≡ cell_at (seen old) j
+pub seen_link : (old new : List Cell) (j : ℕ) → HasLinks old j → HasLinks new j → cell_at (cells_as_seen new) j ≡ cell_at (cells_as_seen old) j
 seen_link old new j k l = seen_free new j l.before l.above l.before_above l.before_is ∙ sym (seen_free old j k.before k.above k.before_above k.before_is)
 
-pub seen_same : (old new : List Cell) (j : ℕ) → cell_at new j ≡ cell_at old j → cell_at (seen new) j ≡ cell_at (seen old) j
+pub seen_same : (old new : List Cell) (j : ℕ) → cell_at new j ≡ cell_at old j → cell_at (cells_as_seen new) j ≡ cell_at (cells_as_seen old) j
 seen_same old new zero e = seen_root new ∙ e ∙ sym (seen_root old)
 seen_same old new (suc j) e = seen_at new (suc j) (omega arith) ∙ ap hide e ∙ sym (seen_at old (suc j) (omega arith))
 
@@ -105,7 +105,7 @@ pub record IsJoined (old new : List Cell) (i : ℕ) : Type 0 where
   pub links : (j : ℕ) → HasLinks old j → HasLinks new j
   pub linked : HasLinks new i
   pub others : (j : ℕ) → j ≢ i → (HasLinks old j → ⊥) → cell_at new j ≡ cell_at old j
-  pub seen_is : seen new ≡ set (seen old) i free_cell
+  pub seen_is : cells_as_seen new ≡ set (cells_as_seen old) i free_cell
 
 pub joined_by_writes : (old one two new : List Cell) (i a n : ℕ) → IsRing old → (HasLinks old i → ⊥) → HasLinks old a → base old a ≡ pos n → 0 < i → i < length old
     → one ≡ set old a (pos i, check old a) → two ≡ set one i (pos n, neg_ℤ (pos a)) → new ≡ set two n (base two n, neg_ℤ (pos i)) → IsJoined old new i
@@ -154,13 +154,13 @@ pub record IsLinkedUpTo (old cells : List Cell) (i : ℕ) : Type 0 where
   pub linked : AreLinked cells i
   pub free : (j : ℕ) → i ≤ j → cell_at cells j ≡ free_cell
   pub links : (j : ℕ) → HasLinks old j → HasLinks cells j
-  pub seen_is : seen cells ≡ seen old
+  pub seen_is : cells_as_seen cells ≡ cells_as_seen old
   pub long : length cells ≡ length old
 
 pub linked_one_more : (old cells new : List Cell) (i : ℕ) → 0 < i → i < length cells → IsLinkedUpTo old cells i → IsJoined cells new i → IsLinkedUpTo old new (i + 1)
 linked_one_more old cells new i above within k j =
-    let free_i : cell_at (seen cells) i ≡ free_cell = seen_at cells i above ∙ ap hide (k.free i (omega arith)) in
-    let same : seen new ≡ seen cells = j.seen_is ∙ ap (set (seen cells) i) (sym free_i) ∙ set-get_or (seen cells) i free_cell in
+    let free_i : cell_at (cells_as_seen cells) i ≡ free_cell = seen_at cells i above ∙ ap hide (k.free i (omega arith)) in
+    let same : cells_as_seen new ≡ cells_as_seen cells = j.seen_is ∙ ap (set (cells_as_seen cells) i) (sym free_i) ∙ set-get_or (cells_as_seen cells) i free_cell in
     record {
       ring = j.ring;
       linked = λ m up less free. elim (cases_eq m i) [

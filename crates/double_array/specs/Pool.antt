@@ -1,7 +1,7 @@
 -- A pool of cells, the free ones on a ring.
 use Rattle.std.specs.Prelude.{◌≡◌, ℕ, ◌+◌, ◌⊎◌, ◌<◌, ◌≤◌, ◌^◌, pos, negsuc, List, Option, MatchOption, length}
 use Rattle.cell_walk.specs.CellMap.{Cell, free_cell, cell_at, check}
-use Rattle.double_array.specs.Seen.{seen}
+use Rattle.double_array.specs.Seen.{cells_as_seen}
 use Rattle.double_array.specs.Ring.{HasLinks, IsRing, AreLinked}
 
 -- what contracts see of it: the cells, and a number from which on all are free
@@ -14,7 +14,7 @@ pub record IsPool (cells : List Cell) (top start : ℕ) : Type 0 where
   pub ring : IsRing cells
   pub linked : AreLinked cells (length cells)
   pub start_free : HasLinks cells start
-  pub beyond : (i : ℕ) → top ≤ i → cell_at (seen cells) i ≡ free_cell
+  pub beyond : (i : ℕ) → top ≤ i → cell_at (cells_as_seen cells) i ≡ free_cell
   pub room : top + 257 ≤ length cells
   pub low : 258 ≤ top
   pub few : length cells ≤ 2 ^ 30
@@ -23,8 +23,8 @@ pub record IsPool (cells : List Cell) (top start : ℕ) : Type 0 where
 pub record IsNew (cells : List Cell) (n : ℕ) : Type 0 where
   pub ring : IsRing cells
   pub linked : AreLinked cells n
-  pub root : cell_at (seen cells) 0 ≡ (pos 2, negsuc 1)
-  pub free : (i : ℕ) → 0 < i → cell_at (seen cells) i ≡ free_cell
+  pub root : cell_at (cells_as_seen cells) 0 ≡ (pos 2, negsuc 1)
+  pub free : (i : ℕ) → 0 < i → cell_at (cells_as_seen cells) i ≡ free_cell
   pub long : length cells ≡ n
 
 -- a used cell, or the root

@@ -1,7 +1,7 @@
 -- The ring of the free cells. A free cell holds the number of the next one as its base, and minus that of the one before as its check.
 use Rattle.std.specs.Prelude.{◌≡◌, ℕ, ◌<◌, pos, neg_ℤ, List}
 use Rattle.cell_walk.specs.CellMap.{Cell, free_cell, cell_at, base, check}
-use Rattle.double_array.specs.Seen.{seen}
+use Rattle.double_array.specs.Seen.{cells_as_seen}
 
 -- a cell with links
 pub record HasLinks (cells : List Cell) (i : ℕ) : Type 0 where
@@ -27,4 +27,4 @@ pub record IsRing (cells : List Cell) : Type 0 where
 
 -- every free cell below a number has links
 abbrev pub AreLinked : List Cell → ℕ → Type 0
-AreLinked cells n = (i : ℕ) → 0 < i → i < n → cell_at (seen cells) i ≡ free_cell → HasLinks cells i
+AreLinked cells n = (i : ℕ) → 0 < i → i < n → cell_at (cells_as_seen cells) i ≡ free_cell → HasLinks cells i

@@ -4,7 +4,7 @@ ghost use Rattle.cell_walk.specs.CellMap.{free_cell, cell_at, base as base_of, c
 ghost use Rattle.double_array.specs.Family.{FitsAt};
 ghost use Rattle.double_array.specs.Ring.{HasLinks, IsRing};
 ghost use Rattle.double_array.specs.Pool.{IsInUse, IsLowered, IsParent, IsGrown, IsEmpty, IsNew, IsPool};
-ghost use Rattle.double_array.specs.Seen.{seen};
+ghost use Rattle.double_array.specs.Seen.{cells_as_seen};
 
 use crate::ring::{LIST, change_base, change_check, link, link_from, next, set_links, take};
 use crate::search::{search_cell, search_family};
@@ -37,9 +37,9 @@ impl Model for CellPool {
 
     ghost Value = { Pool };
 
-    ghost use Rattle.double_array.specs.Seen.{seen};
+    ghost use Rattle.double_array.specs.Seen.{cells_as_seen};
 
-    ghost view = { λ pool. record { cells = seen pool.cells; top = pool.top } };
+    ghost view = { λ pool. record { cells = cells_as_seen pool.cells; top = pool.top } };
 
     ghost invariant = { λ pool. IsPool pool.cells pool.top pool.start };
 }
@@ -246,7 +246,7 @@ fn lowered(cells: &Cells, top: usize, start: usize) -> usize
     requires { IsPool cells.now top start }
     ensures pool { IsPool cells.now result start }
     ensures low { result ≤ top }
-    ensures last { IsLowered (seen cells.now) result }
+    ensures last { IsLowered (cells_as_seen cells.now) result }
 {
     let mut top = top;
     while top > WIDTH + 1 && cells.get(top - 1).1 < 0 {

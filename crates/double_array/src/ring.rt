@@ -2,7 +2,7 @@
 //! that of the one before as its check. Cell `LIST` is always on the ring, so the ring is never empty.
 ghost use Rattle.std.specs.Prelude.{◌≡◌, ◌≢◌, ◌^◌, ◌<◌, ◌≤◌, ℕ, pos, neg_ℤ, length, slice_set};
 ghost use Rattle.cell_walk.specs.CellMap.{free_cell, cell_at, base as base_of, check as check_of};
-ghost use Rattle.double_array.specs.Seen.{seen};
+ghost use Rattle.double_array.specs.Seen.{cells_as_seen};
 ghost use Rattle.double_array.specs.Ring.{HasLinks, IsRing, AreLinked};
 
 use cells::Cells;
@@ -88,7 +88,8 @@ pub(crate) fn take(cells: &mut Cells, i: usize, base: i32, state: usize)
     requires few { length cells.old ≤ 2 ^ 30 }
     ensures ring { IsRing cells.new }
     ensures links { (j : ℕ) → j ≢ i → HasLinks cells.old j → HasLinks cells.new j }
-    ensures seen { seen cells.new ≡ slice_set (seen cells.old) i (base, pos state) }
+    ensures seen { cells_as_seen cells.new
+        ≡ slice_set (cells_as_seen cells.old) i (base, pos state) }
 {
     let next = next(cells, i);
     let before = before(cells, i);
@@ -110,7 +111,7 @@ pub(crate) fn link(cells: &mut Cells, i: usize, after: usize)
     ensures linked { HasLinks cells.new i }
     ensures others { (j : ℕ) → j ≢ i → (HasLinks cells.old j → ⊥)
         → cell_at cells.new j ≡ cell_at cells.old j }
-    ensures seen { seen cells.new ≡ slice_set (seen cells.old) i free_cell }
+    ensures seen { cells_as_seen cells.new ≡ slice_set (cells_as_seen cells.old) i free_cell }
 {
     let next = next(cells, after);
     set_next(cells, after, i);
@@ -128,7 +129,7 @@ pub(crate) fn link_from(cells: &mut Cells, from: usize)
     ensures ring { IsRing cells.new }
     ensures linked { AreLinked cells.new (length cells.new) }
     ensures links { (j : ℕ) → HasLinks cells.old j → HasLinks cells.new j }
-    ensures seen { seen cells.new ≡ seen cells.old }
+    ensures seen { cells_as_seen cells.new ≡ cells_as_seen cells.old }
 {
     for i in from..cells.len() {
         let last = before(cells, LIST);

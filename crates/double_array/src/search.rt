@@ -5,7 +5,7 @@
 //! looks through the whole list.)
 ghost use Rattle.std.specs.Prelude.{◌≡◌, ℕ, ◌+◌, ◌<◌, ◌≤◌, ◌^◌, length, IsTrue};
 ghost use Rattle.cell_walk.specs.CellMap.{free_cell, cell_at};
-ghost use Rattle.double_array.specs.Seen.{seen};
+ghost use Rattle.double_array.specs.Seen.{cells_as_seen};
 ghost use Rattle.double_array.specs.Ring.{HasLinks};
 ghost use Rattle.double_array.specs.Pool.{IsPool};
 ghost use Rattle.double_array.specs.Family.{HasCode, FitsAt};
@@ -30,7 +30,7 @@ pub(crate) fn search_cell(cells: &Cells, top: usize, start: usize, code: usize) 
     requires code { code ≤ 256 }
     ensures least { 2 ≤ result }
     ensures top { result + code ≤ top }
-    ensures free { cell_at (seen cells.now) (result + code) ≡ free_cell }
+    ensures free { cell_at (cells_as_seen cells.now) (result + code) ≡ free_cell }
 {
     let mut i = next(cells, LIST);
     for _ in 0..CANDIDATES {
@@ -52,7 +52,7 @@ pub(crate) fn search_family(cells: &Cells, top: usize, start: usize, family: &[b
     ensures start { HasLinks cells.now result.start }
     ensures least { 2 ≤ result.base }
     ensures top { result.base ≤ top }
-    ensures free { FitsAt (seen cells.now) family.now result.base }
+    ensures free { FitsAt (cells_as_seen cells.now) family.now result.base }
 {
     let least = least_code(family);
     let mut i = start;
@@ -108,7 +108,7 @@ fn fits(cells: &Cells, base: usize, family: &[bool]) -> bool
     requires within { base + 257 ≤ length cells.now }
     requires few { length cells.now ≤ 2 ^ 30 }
     requires codes { length family.now ≡ 257 }
-    ensures { IsTrue result → FitsAt (seen cells.now) family.now base }
+    ensures { IsTrue result → FitsAt (cells_as_seen cells.now) family.now base }
 {
     for (code, member) in family.iter().enumerate() {
         if *member && cells.get(base + code).1 >= 0 {

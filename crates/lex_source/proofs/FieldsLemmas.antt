@@ -4,7 +4,7 @@ use Rattle.std.specs.Prelude.{slice_get, option_copied}
 use Rattle.std.specs.List.{list_any, position_or_len, prefix_len, after_first}
 use Rattle.std.proofs.lemmas.Bool.{cases_Bool}
 use Rattle.mj_model.specs.Bytes.{quote, is_comma, is_blank}
-use Rattle.mj_model.specs.Fields.{doubled, without_blanks, IsFieldOf, IsFirstField, AreFields, AreFirstFields, rest_of}
+use Rattle.mj_model.specs.Fields.{with_doubled_quotes, without_blanks, IsFieldOf, IsFirstField, AreFields, AreFirstFields, rest_of}
 use Rattle.mj_model.proofs.FieldLemmas.{a_field}
 use Rattle.lex_source.specs.declared.raw_field.RawField.{RawField}
 use Rattle.lex_source.specs.Spelled.{StandsFirst, StandsAt, IsFieldAt}
@@ -28,8 +28,8 @@ rest_shorter text rest is = elim (cases_Bool (list_any is_comma text)) [
 field_shorter : (text field rest : List ℕ) → IsFieldOf text field (Some rest) → length rest < length text
 field_shorter text field rest (inl plain) = rest_shorter text rest plain.2
 field_shorter text field rest (inr (inl (behind, is, out, r))) =
-    let long : length text ≡ length (quote ∷ (doubled field ++ quote ∷ behind)) = ap (λ (xs : List ℕ). length xs) is in
-    let more : length (doubled field ++ quote ∷ behind) ≡ length (doubled field) + length (quote ∷ behind) = length-append (doubled field) (quote ∷ behind) in
+    let long : length text ≡ length (quote ∷ (with_doubled_quotes field ++ quote ∷ behind)) = ap (λ (xs : List ℕ). length xs) is in
+    let more : length (with_doubled_quotes field ++ quote ∷ behind) ≡ length (with_doubled_quotes field) + length (quote ∷ behind) = length-append (with_doubled_quotes field) (quote ∷ behind) in
     let less : length rest < length behind = rest_shorter behind rest r in
     omega arith
 field_shorter text field rest (inr (inr (is, r))) = absurd (let e : Some rest ≡ None = r in cc)

@@ -9,7 +9,7 @@ use Rattle.std.proofs.lemmas.List.{take-append-drop, get_or-drop, get_or-reverse
 use Rattle.std.proofs.lemmas.List.Sums.{prefix_len_passes, suffix_len-le-length}
 use Rattle.std.proofs.lemmas.List.Folds.{list_any_none, list_any-append}
 use Rattle.mj_model.specs.Bytes.{quote, is_quote, is_blank, minus, plus}
-use Rattle.mj_model.specs.Fields.{doubled}
+use Rattle.mj_model.specs.Fields.{with_doubled_quotes}
 use Rattle.mj_model.specs.Numbers.{number, signed_number, unsigned_number, without_blanks_behind, digits_value}
 use Rattle.lex_source.specs.Spelled.{IsSpelled}
 use Rattle.lex_source.proofs.QuoteLemmas.{doubled_plain, no_left}
@@ -78,10 +78,10 @@ no_number text h =
       | inr blank_part ↦ absurd (both_ways (list_any is_quote (drop n text)) (blanks_no_quote text) blank_part)
     ])
 
-number_doubled : (field : List ℕ) → number (doubled field) ≡ number field
+number_doubled : (field : List ℕ) → number (with_doubled_quotes field) ≡ number field
 number_doubled field = elim (cases_Bool (list_any is_quote field)) [
-  | inl has ↦ elim (cases_Bool (list_any is_quote (doubled field))) [
-    | inl too ↦ no_number (doubled field) too ∙ sym (no_number field has)
+  | inl has ↦ elim (cases_Bool (list_any is_quote (with_doubled_quotes field))) [
+    | inl too ↦ no_number (with_doubled_quotes field) too ∙ sym (no_number field has)
     | inr lacks ↦ ap number (no_left field lacks)
   ]
   | inr lacks ↦ ap number (doubled_plain field lacks)

@@ -7,7 +7,7 @@ use Rattle.mj_model.specs.declared.source_fault.SourceKind.{SourceKind}
 use Rattle.mj_model.specs.declared.source_fault.SourceKind.TheVariants.{Memory, TooFewFields, BadNumber}
 use Rattle.mj_model.specs.Bytes.{quote}
 use Rattle.mj_model.specs.Lines.{is_blank_line}
-use Rattle.mj_model.specs.Fields.{doubled, AreFields, AreFirstFields}
+use Rattle.mj_model.specs.Fields.{with_doubled_quotes, AreFields, AreFirstFields}
 use Rattle.mj_model.specs.Numbers.{number, context_id, cost}
 use Rattle.mj_model.specs.Lexicon.{Row, Parts, Outcome, Skipped, Refused, Accepted, IsOutcome, too_few, has_parts, row_from, lexicon_outcome, accept_short}
 use Rattle.lex_source.specs.declared.parts.LineParts.{LineParts}
@@ -63,17 +63,17 @@ unfolding row_of_numbers
 a_row line parts left right price l r p = row_is line parts (Some left) (Some right) (Some price) l r p
 
 -- a field is empty where its bytes are
-doubled_some : (c : ℕ) (cs : List ℕ) → (length (doubled (c ∷ cs)) == 0) ≡ false
+doubled_some : (c : ℕ) (cs : List ℕ) → (length (with_doubled_quotes (c ∷ cs)) == 0) ≡ false
 doubled_some c cs = elim (cases_eq c quote) [
   | inl q ↦
-      let e : length (doubled (c ∷ cs)) ≡ length (quote ∷ quote ∷ doubled cs) = ap (λ (xs : List ℕ). length xs) (doubled_quote c cs q) in
-      ne_eqb (length (doubled (c ∷ cs))) 0 (λ h. omega arith)
+      let e : length (with_doubled_quotes (c ∷ cs)) ≡ length (quote ∷ quote ∷ with_doubled_quotes cs) = ap (λ (xs : List ℕ). length xs) (doubled_quote c cs q) in
+      ne_eqb (length (with_doubled_quotes (c ∷ cs))) 0 (λ h. omega arith)
   | inr n ↦
-      let e : length (doubled (c ∷ cs)) ≡ length (c ∷ doubled cs) = ap (λ (xs : List ℕ). length xs) (doubled_other c cs n) in
-      ne_eqb (length (doubled (c ∷ cs))) 0 (λ h. omega arith)
+      let e : length (with_doubled_quotes (c ∷ cs)) ≡ length (c ∷ with_doubled_quotes cs) = ap (λ (xs : List ℕ). length xs) (doubled_other c cs n) in
+      ne_eqb (length (with_doubled_quotes (c ∷ cs))) 0 (λ h. omega arith)
 ]
 
-doubled_empty : (field : List ℕ) → (length (doubled field) == 0) ≡ (length field == 0)
+doubled_empty : (field : List ℕ) → (length (with_doubled_quotes field) == 0) ≡ (length field == 0)
 doubled_empty [] = refl
 doubled_empty (c ∷ cs) = doubled_some c cs ∙ sym (ne_eqb (length (c ∷ cs)) 0 (λ h. omega arith))
 

@@ -8,7 +8,7 @@ use Rattle.std.proofs.lemmas.List.Folds.{list_any_none}
 use Rattle.std.proofs.lemmas.Grind.{flat_map-append}
 use Rattle.memchr.specs.Find.{Nowhere, NoneBefore, Passes}
 use Rattle.mj_model.specs.Bytes.{quote, is_quote}
-use Rattle.mj_model.specs.Fields.{doubled}
+use Rattle.mj_model.specs.Fields.{with_doubled_quotes}
 use Rattle.mj_model.proofs.Basics.{same_head, same_tail}
 use Rattle.mj_model.proofs.FieldLemmas.{doubled_quote, doubled_other}
 use Rattle.lex_source.specs.Cuts.{IsCut}
@@ -18,12 +18,12 @@ use Rattle.lex_source.proofs.CutLemmas.{cut_parts}
 of_byte : ℕ → List ℕ
 of_byte c = cond (is_quote c) (quote ∷ quote ∷ []) (c ∷ [])
 
-doubled-append : (xs ys : List ℕ) → doubled (xs ++ ys) ≡ doubled xs ++ doubled ys
+doubled-append : (xs ys : List ℕ) → with_doubled_quotes (xs ++ ys) ≡ with_doubled_quotes xs ++ with_doubled_quotes ys
 unfolding of_byte
 doubled-append xs ys = flat_map-append of_byte xs ys
 
 -- without a quote nothing is doubled
-pub doubled_plain : (xs : List ℕ) → list_any is_quote xs ≡ false → doubled xs ≡ xs
+pub doubled_plain : (xs : List ℕ) → list_any is_quote xs ≡ false → with_doubled_quotes xs ≡ xs
 doubled_plain [] h = refl
 doubled_plain (c ∷ cs) h =
     let p = or_parts (is_quote c) (list_any is_quote cs) h in
@@ -93,44 +93,44 @@ doubled_more text at next inside in' one two more =
       inside.0 ++ quote ∷ piece,
       take_on text (at + 2) next start ∙ ap (λ (xs : List ℕ). xs ++ piece) two_more ∙ append_assoc (take at text) (quote ∷ quote ∷ []) piece
           ∙ ap (λ (xs : List ℕ). take at text ++ quote ∷ quote ∷ xs) (sym (doubled_plain piece (plain_before text (at + 2) next more)))
-          ∙ ap (λ (xs : List ℕ). xs ++ quote ∷ quote ∷ doubled piece) inside.1 ∙ sym (doubled-append inside.0 (quote ∷ piece)),
+          ∙ ap (λ (xs : List ℕ). xs ++ quote ∷ quote ∷ with_doubled_quotes piece) inside.1 ∙ sym (doubled-append inside.0 (quote ∷ piece)),
     )
 
-read_back : (before behind field : List ℕ) → doubled field ≡ before ++ quote ∷ behind → list_any is_quote before ≡ false
-    → (left : List ℕ) × (behind ≡ quote ∷ doubled left) × (field ≡ before ++ quote ∷ left)
+read_back : (before behind field : List ℕ) → with_doubled_quotes field ≡ before ++ quote ∷ behind → list_any is_quote before ≡ false
+    → (left : List ℕ) × (behind ≡ quote ∷ with_doubled_quotes left) × (field ≡ before ++ quote ∷ left)
 read_back [] behind [] e none = absurd (cc)
 read_back [] behind (c ∷ cs) e none = elim (cases_eq c quote) [
-  | inl q ↦ (cs, sym (same_tail quote quote (quote ∷ doubled cs) behind (sym (doubled_quote c cs q) ∙ e)), ap (λ (d : ℕ). d ∷ cs) q)
-  | inr n ↦ absurd (n (same_head c quote (doubled cs) behind (sym (doubled_other c cs n) ∙ e)))
+  | inl q ↦ (cs, sym (same_tail quote quote (quote ∷ with_doubled_quotes cs) behind (sym (doubled_quote c cs q) ∙ e)), ap (λ (d : ℕ). d ∷ cs) q)
+  | inr n ↦ absurd (n (same_head c quote (with_doubled_quotes cs) behind (sym (doubled_other c cs n) ∙ e)))
 ]
 read_back (b ∷ bs) behind [] e none = absurd (cc)
 read_back (b ∷ bs) behind (c ∷ cs) e none =
     let p = or_parts (is_quote b) (list_any is_quote bs) none in
     elim (cases_eq c quote) [
-      | inl q ↦ absurd (eqb-false b quote p.0 (sym (same_head quote b (quote ∷ doubled cs) (bs ++ quote ∷ behind) (sym (doubled_quote c cs q) ∙ e))))
+      | inl q ↦ absurd (eqb-false b quote p.0 (sym (same_head quote b (quote ∷ with_doubled_quotes cs) (bs ++ quote ∷ behind) (sym (doubled_quote c cs q) ∙ e))))
       | inr n ↦
-          let e' : c ∷ doubled cs ≡ b ∷ (bs ++ quote ∷ behind) = sym (doubled_other c cs n) ∙ e in
-          let r = read_back bs behind cs (same_tail c b (doubled cs) (bs ++ quote ∷ behind) e') p.1 in
-          (r.0, r.1, ap (λ (d : ℕ). d ∷ cs) (same_head c b (doubled cs) (bs ++ quote ∷ behind) e') ∙ ap (λ (xs : List ℕ). b ∷ xs) r.2)
+          let e' : c ∷ with_doubled_quotes cs ≡ b ∷ (bs ++ quote ∷ behind) = sym (doubled_other c cs n) ∙ e in
+          let r = read_back bs behind cs (same_tail c b (with_doubled_quotes cs) (bs ++ quote ∷ behind) e') p.1 in
+          (r.0, r.1, ap (λ (d : ℕ). d ∷ cs) (same_head c b (with_doubled_quotes cs) (bs ++ quote ∷ behind) e') ∙ ap (λ (xs : List ℕ). b ∷ xs) r.2)
     ]
 
-pub pair : (field text before behind : List ℕ) → text ≡ doubled field → IsCut is_quote text before behind
-    → (left : List ℕ) × (behind ≡ quote ∷ doubled left) × (field ≡ before ++ quote ∷ left)
+pub pair : (field text before behind : List ℕ) → text ≡ with_doubled_quotes field → IsCut is_quote text before behind
+    → (left : List ℕ) × (behind ≡ quote ∷ with_doubled_quotes left) × (field ≡ before ++ quote ∷ left)
 pair field text before behind is cut =
     let p = cut_parts quote text before behind cut in
     read_back before behind field (sym is ∙ p.0) p.1
 
 -- without a quote a doubled text is the field
-pub no_left : (field : List ℕ) → list_any is_quote (doubled field) ≡ false → doubled field ≡ field
+pub no_left : (field : List ℕ) → list_any is_quote (with_doubled_quotes field) ≡ false → with_doubled_quotes field ≡ field
 no_left [] h = refl
 no_left (c ∷ cs) h = elim (cases_eq c quote) [
   | inl q ↦ let e = ap (list_any is_quote) (doubled_quote c cs q) in absurd (cc)
   | inr n ↦
-      let more : list_any is_quote (doubled cs) ≡ false = (or_parts (is_quote c) (list_any is_quote (doubled cs)) (sym (ap (list_any is_quote) (doubled_other c cs n)) ∙ h)).1 in
+      let more : list_any is_quote (with_doubled_quotes cs) ≡ false = (or_parts (is_quote c) (list_any is_quote (with_doubled_quotes cs)) (sym (ap (list_any is_quote) (doubled_other c cs n)) ∙ h)).1 in
       doubled_other c cs n ∙ ap (λ (xs : List ℕ). c ∷ xs) (no_left cs more)
 ]
 
-pub unquoted : (field text : List ℕ) → text ≡ doubled field → list_any is_quote text ≡ false → text ≡ field
+pub unquoted : (field text : List ℕ) → text ≡ with_doubled_quotes field → list_any is_quote text ≡ false → text ≡ field
 unquoted field text is h = is ∙ no_left field (ap (list_any is_quote) (sym is) ∙ h)
 
 -- behind the first quote of a doubled text stands another
@@ -140,8 +140,8 @@ behind_quote rest before behind d cut =
     subst (λ (xs : List ℕ). (0 < length xs) × (slice_index xs 0 < 128)) (sym r.1) (omega arith, omega arith)
 
 -- the step back over one pair
-pub read_more : (raw field rest before behind done next after : List ℕ) → (left : List ℕ) × (rest ≡ doubled left) × (field ≡ done ++ left) → IsCut is_quote rest before behind → next ≡ drop 1 behind
-    → after ≡ (done ++ before) ++ quote ∷ [] → (left : List ℕ) × (next ≡ doubled left) × (field ≡ after ++ left)
+pub read_more : (raw field rest before behind done next after : List ℕ) → (left : List ℕ) × (rest ≡ with_doubled_quotes left) × (field ≡ done ++ left) → IsCut is_quote rest before behind → next ≡ drop 1 behind
+    → after ≡ (done ++ before) ++ quote ∷ [] → (left : List ℕ) × (next ≡ with_doubled_quotes left) × (field ≡ after ++ left)
 read_more raw field rest before behind done next after p cut is pushed =
     let r = pair p.0 rest before behind p.1 cut in (
       r.0,
@@ -150,7 +150,7 @@ read_more raw field rest before behind done next after p cut is pushed =
           ∙ ap (λ (xs : List ℕ). xs ++ r.0) (sym pushed),
     )
 
-pub read_all : (field rest done after : List ℕ) → (left : List ℕ) × (rest ≡ doubled left) × (field ≡ done ++ left) → list_any is_quote rest ≡ false → after ≡ done ++ rest → after ≡ field
+pub read_all : (field rest done after : List ℕ) → (left : List ℕ) × (rest ≡ with_doubled_quotes left) × (field ≡ done ++ left) → list_any is_quote rest ≡ false → after ≡ done ++ rest → after ≡ field
 read_all field rest done after p none pushed = pushed ∙ ap (λ (xs : List ℕ). done ++ xs) (unquoted p.0 rest p.1 none) ∙ sym p.2
 
 -- what stood in front stays there

@@ -2,5 +2,5 @@
 use Rattle.std.specs.Prelude.{ℕ, List, filter, not}
 use Rattle.mj_model.specs.Lines.{is_blank_line}
 
-abbrev pub filled : List (ℕ × List ℕ) → List (ℕ × List ℕ)
-filled lines = filter (λ line. not (is_blank_line line.1)) lines
+abbrev pub nonblank_lines : List (ℕ × List ℕ) → List (ℕ × List ℕ)
+nonblank_lines lines = filter (λ line. not (is_blank_line line.1)) lines

@@ -1,7 +1,7 @@
 -- A field as it stands in its line, perhaps between quotes.
 use Rattle.std.specs.Prelude.{◌≡◌, ℕ, ◌+◌, ◌<◌, ◌≤◌, Bool, false, IsUtf8, List, [], ◌∷◌, slice_get, Some, None, MatchOption, length, take, drop, slice_index, Option, if◌then◌else◌}
 use Rattle.mj_model.specs.Bytes.{quote}
-use Rattle.mj_model.specs.Fields.{doubled, BeginsWithQuote, IsFirstField, AreFields, AreFirstFields}
+use Rattle.mj_model.specs.Fields.{with_doubled_quotes, BeginsWithQuote, IsFirstField, AreFields, AreFirstFields}
 use Rattle.mj_model.specs.Lines.{is_blank_line}
 use Rattle.mj_model.specs.Lexicon.{Parts}
 use Rattle.lex_source.specs.declared.raw_field.RawField.{RawField}
@@ -9,7 +9,7 @@ use Rattle.lex_source.specs.declared.parts.LineParts.{LineParts}
 
 -- a field stands as these bytes: between quotes with each quote written twice, else as it is
 abbrev pub IsSpelled : List ℕ → Bool → List ℕ → Type 0
-IsSpelled raw quoted field = raw ≡ (if quoted then doubled field else field)
+IsSpelled raw quoted field = raw ≡ (if quoted then with_doubled_quotes field else field)
 
 -- the first field and the rest, where the field stands as these bytes
 pub record StandsFirst (IsFirst : List ℕ → Option (List ℕ) → Type 0) (raw : List ℕ) (quoted : Bool) (rest : Option (List ℕ)) : Type 0 where
@@ -19,7 +19,7 @@ pub record StandsFirst (IsFirst : List ℕ → Option (List ℕ) → Type 0) (ra
 
 -- each quote is written twice
 abbrev pub IsDoubled : List ℕ → Type 0
-IsDoubled raw = (field : List ℕ) × (raw ≡ doubled field)
+IsDoubled raw = (field : List ℕ) × (raw ≡ with_doubled_quotes field)
 
 -- the first quote from one place on is at another, or there is none and this is the end
 pub record IsNextQuote (text : List ℕ) (start at : ℕ) : Type 0 where

@@ -2,7 +2,7 @@
 ghost use Rattle.std.specs.Prelude.{◌≡◌, ℕ, List};
 ghost use Rattle.std.specs.Iterator.{YieldsFirstBy, item_count};
 ghost use Rattle.mj_model.specs.Lines.{numbered_lines};
-ghost use Rattle.lex_source.specs.Filled.{filled};
+ghost use Rattle.lex_source.specs.Filled.{nonblank_lines};
 
 use crate::bytes::is_blank_line;
 use crate::numbered::Lines;
@@ -17,13 +17,13 @@ pub struct FilledLines<'a> {
 impl<'a> Model for FilledLines<'a> {
     ghost Value = { List (ℕ × List ℕ) };
 
-    ghost view = { λ it. filled it.lines };
+    ghost view = { λ it. nonblank_lines it.lines };
 }
 
 impl<'a> FilledLines<'a> {
     /// The lines of a source file with their numbers from 1, without those of blanks and tabs alone.
     pub fn new(bytes: &'a [u8]) -> FilledLines<'a>
-        ensures { result ≡ filled (numbered_lines bytes.now) }
+        ensures { result ≡ nonblank_lines (numbered_lines bytes.now) }
     {
         FilledLines {
             lines: Lines::new(bytes),
@@ -45,7 +45,7 @@ impl<'a> Iterator for FilledLines<'a> {
 
 /// The next line that is not blank.
 fn next_filled<'a>(lines: &mut Lines<'a>) -> Option<(u64, &'a [u8])>
-    ensures { YieldsFirstBy (λ line. (line.0, line.1.now)) filled lines.old result lines.new }
+    ensures { YieldsFirstBy (λ line. (line.0, line.1.now)) nonblank_lines lines.old result lines.new }
 {
     while let Some((number, line)) = lines.next() {
         if !is_blank_line(line) {

@@ -1,7 +1,7 @@
 //! Fields between quotes, in which a quote is written twice.
 ghost use Rattle.std.specs.Prelude.{◌≡◌, ◌≤◌, ◌+◌, ℕ, List, ◌∷◌, ◌++◌, length, take, OnOk, MatchOption};
 ghost use Rattle.mj_model.specs.Bytes.{quote};
-ghost use Rattle.mj_model.specs.Fields.{doubled, BeginsWithQuote};
+ghost use Rattle.mj_model.specs.Fields.{with_doubled_quotes, BeginsWithQuote};
 ghost use Rattle.lex_source.specs.Spelled.{IsDoubled, IsNextQuote, IsQuotedEnd};
 
 use crate::sink::TextSink;
@@ -49,7 +49,7 @@ fn next_quote(bytes: &[u8], start: usize) -> usize
 /// Appends a text with each pair of quotes as one. On an error a part of it may stand there.
 pub(crate) fn append_undoubled<S: TextSink>(out: &mut S, raw: &str) -> Result<(), AllocError>
     requires { IsDoubled raw.now }
-    ensures appended { (field : List ℕ) → raw.now ≡ doubled field
+    ensures appended { (field : List ℕ) → raw.now ≡ with_doubled_quotes field
         → OnOk result (S.bytes out.new ≡ S.bytes out.old ++ field) }
     ensures kept { take (length (S.bytes out.old)) (S.bytes out.new) ≡ S.bytes out.old }
 {

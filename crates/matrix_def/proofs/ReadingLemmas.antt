@@ -16,7 +16,7 @@ use Rattle.mj_model.specs.Connection.{Cell, connection_from, connection_under, c
 use Rattle.mj_model.specs.FirstFault.{first_fault}
 use Rattle.mj_model.specs.Lines.{is_blank_line, numbered_lines, source_lines, without_return}
 use Rattle.lex_source.specs.Cuts.{IsCut}
-use Rattle.lex_source.specs.Filled.{filled}
+use Rattle.lex_source.specs.Filled.{nonblank_lines}
 use Rattle.lex_source.proofs.LineLemmas.{cut_lines, last_line}
 use Rattle.matrix_def.specs.Costs.{CostTable, IsMatrix, cell_at}
 use Rattle.matrix_def.specs.declared.standing.Standing.{Standing}
@@ -47,20 +47,20 @@ line_first : (line more : List ℕ) → HasNoFeed line → source_lines (line ++
 line_first line more none = cut_lines (line ++ line_feed ∷ more) line more (without_return line) (cut_at_feed line more none) refl
 
 -- bytes without a line feed are one line, if there are any
-pub row_is : (number : ℕ) (bytes : List ℕ) → HasNoFeed bytes → row_of number bytes ≡ filled ((number, without_return bytes) ∷ [])
+pub row_is : (number : ℕ) (bytes : List ℕ) → HasNoFeed bytes → row_of number bytes ≡ nonblank_lines ((number, without_return bytes) ∷ [])
 row_is number [] none = refl
 row_is number (c ∷ cs) none =
-    ap (λ (lines : List (List ℕ)). filled (enumerate_from number lines)) (last_line (c ∷ cs) (without_return (c ∷ cs)) [] (omega arith) none refl refl)
+    ap (λ (lines : List (List ℕ)). nonblank_lines (enumerate_from number lines)) (last_line (c ∷ cs) (without_return (c ∷ cs)) [] (omega arith) none refl refl)
 
-one_filled : (number : ℕ) (line : List ℕ) (b : Bool) → is_blank_line line ≡ b → filled ((number, line) ∷ []) ≡ cond b [] ((number, line) ∷ [])
+one_filled : (number : ℕ) (line : List ℕ) (b : Bool) → is_blank_line line ≡ b → nonblank_lines ((number, line) ∷ []) ≡ cond b [] ((number, line) ∷ [])
 one_filled number line true is = ap (λ (b : Bool). cond (not b) ((number, line) ∷ []) []) is
 one_filled number line false is = ap (λ (b : Bool). cond (not b) ((number, line) ∷ []) []) is
 
 -- the same line under another number
-pub row_found : (number n : ℕ) (bytes line : List ℕ) (rest : List (ℕ × List ℕ)) → HasNoFeed bytes → filled (numbered_lines bytes) ≡ (n, line) ∷ rest → row_of number bytes ≡ (number, line) ∷ []
+pub row_found : (number n : ℕ) (bytes line : List ℕ) (rest : List (ℕ × List ℕ)) → HasNoFeed bytes → nonblank_lines (numbered_lines bytes) ≡ (n, line) ∷ rest → row_of number bytes ≡ (number, line) ∷ []
 row_found number n bytes line rest none is =
     let w : List ℕ = without_return bytes in
-    let first : (n, line) ∷ rest ≡ filled ((1, w) ∷ []) = sym is ∙ row_is 1 bytes none in
+    let first : (n, line) ∷ rest ≡ nonblank_lines ((1, w) ∷ []) = sym is ∙ row_is 1 bytes none in
     elim (cases_Bool (is_blank_line w)) [
       | inl blank ↦ let no : (n, line) ∷ rest ≡ [] = first ∙ one_filled 1 w true blank in absurd (cc)
       | inr full ↦
@@ -69,10 +69,10 @@ row_found number n bytes line rest none is =
           row_is number bytes none ∙ one_filled number w false full ∙ ap (λ (l : List ℕ). (number, l) ∷ []) (sym same_line)
     ]
 
-pub row_missing : (number : ℕ) (bytes : List ℕ) → HasNoFeed bytes → filled (numbered_lines bytes) ≡ [] → row_of number bytes ≡ []
+pub row_missing : (number : ℕ) (bytes : List ℕ) → HasNoFeed bytes → nonblank_lines (numbered_lines bytes) ≡ [] → row_of number bytes ≡ []
 row_missing number bytes none is =
     let w : List ℕ = without_return bytes in
-    let first : [] ≡ filled ((1, w) ∷ []) = sym is ∙ row_is 1 bytes none in
+    let first : [] ≡ nonblank_lines ((1, w) ∷ []) = sym is ∙ row_is 1 bytes none in
     elim (cases_Bool (is_blank_line w)) [
       | inl blank ↦ row_is number bytes none ∙ one_filled number w true blank
       | inr full ↦
@@ -85,9 +85,9 @@ enumerate-append {X = X} n m [] ys is = ap (λ (k : ℕ). enumerate_from k ys) (
 enumerate-append {X = X} n m (x ∷ xs) ys is = ap (λ (rest : List (ℕ × X)). (n, x) ∷ rest) (enumerate-append (n + 1) m xs ys (omega (arith, is)))
 
 -- the lines that are not blank, and those behind them
-filled-append : (n m : ℕ) (xs ys : List (List ℕ)) → m ≡ n + length xs → filled (enumerate_from n (xs ++ ys)) ≡ filled (enumerate_from n xs) ++ filled (enumerate_from m ys)
+filled-append : (n m : ℕ) (xs ys : List (List ℕ)) → m ≡ n + length xs → nonblank_lines (enumerate_from n (xs ++ ys)) ≡ nonblank_lines (enumerate_from n xs) ++ nonblank_lines (enumerate_from m ys)
 filled-append n m xs ys is =
-    ap filled (enumerate-append n m xs ys is) ∙ filter-append (λ (line : ℕ × List ℕ). not (is_blank_line line.1)) (enumerate_from n xs) (enumerate_from m ys)
+    ap nonblank_lines (enumerate-append n m xs ys is) ∙ filter-append (λ (line : ℕ × List ℕ). not (is_blank_line line.1)) (enumerate_from n xs) (enumerate_from m ys)
 
 -- ---- rows
 
@@ -122,16 +122,16 @@ fill_refused lines m number line kind f bad more =
 -- ---- what the reader was given
 
 -- all lines that are not blank: those that ended, and the one that began
-lines_read : (bytes : List ℕ) (r : ReaderSeen) (h : HasRead bytes r) → filled (numbered_lines bytes) ≡ filled (enumerate_from 1 h.lines) ++ row_of (r.ended + 1) r.begun
+lines_read : (bytes : List ℕ) (r : ReaderSeen) (h : HasRead bytes r) → nonblank_lines (numbered_lines bytes) ≡ nonblank_lines (enumerate_from 1 h.lines) ++ row_of (r.ended + 1) r.begun
 lines_read bytes r h =
-    ap (λ (bs : List ℕ). filled (numbered_lines bs)) h.parts ∙ ap (λ (ls : List (List ℕ)). filled (enumerate_from 1 ls)) (h.cut r.begun)
+    ap (λ (bs : List ℕ). nonblank_lines (numbered_lines bs)) h.parts ∙ ap (λ (ls : List (List ℕ)). nonblank_lines (enumerate_from 1 ls)) (h.cut r.begun)
     ∙ filled-append 1 (r.ended + 1) h.lines (source_lines r.begun) (omega (arith, h.counted))
 
 -- where reading stands with the line that began, if no more follows
 pub all_read : (bytes line : List ℕ) (number : ℕ) (r : ReaderSeen) (new : Standing) → HasRead bytes r → number ≡ r.ended + 1 → line ≡ r.begun
-    → ((lines : List (ℕ × List ℕ)) → StandsAfter lines r.standing → StandsAfter (lines ++ row_of number line) new) → StandsAfter (filled (numbered_lines bytes)) new
+    → ((lines : List (ℕ × List ℕ)) → StandsAfter lines r.standing → StandsAfter (lines ++ row_of number line) new) → StandsAfter (nonblank_lines (numbered_lines bytes)) new
 all_read bytes line number r new h number_is line_is after =
-    let lines : List (ℕ × List ℕ) = filled (enumerate_from 1 h.lines) in
+    let lines : List (ℕ × List ℕ) = nonblank_lines (enumerate_from 1 h.lines) in
     let rows : row_of number line ≡ row_of (r.ended + 1) r.begun = ap (λ (n : ℕ). row_of n line) number_is ∙ ap (row_of (r.ended + 1)) line_is in
     subst (λ (all : List (ℕ × List ℕ)). StandsAfter all new) (ap (λ (more : List (ℕ × List ℕ)). lines ++ more) rows ∙ sym (lines_read bytes r h)) (after lines h.stands)
 
@@ -147,9 +147,9 @@ line_read bytes part r new h none begun ended after =
     ∙ append_assoc ((h.closed ++ r.begun) ++ part) (line_feed ∷ []) more
     ∙ ap (λ (bs : List ℕ). bs ++ line_feed ∷ more) (append_assoc h.closed r.begun part)
     ∙ append_assoc h.closed line (line_feed ∷ more) in
-    let rows : filled (enumerate_from 1 (h.lines ++ w ∷ [])) ≡ filled (enumerate_from 1 h.lines) ++ row_of new.ended line =
+    let rows : nonblank_lines (enumerate_from 1 (h.lines ++ w ∷ [])) ≡ nonblank_lines (enumerate_from 1 h.lines) ++ row_of new.ended line =
     filled-append 1 new.ended h.lines (w ∷ []) (omega (arith, ended, h.counted))
-    ∙ ap (λ (rows : List (ℕ × List ℕ)). filled (enumerate_from 1 h.lines) ++ rows) (sym (row_is new.ended line none)) in
+    ∙ ap (λ (rows : List (ℕ × List ℕ)). nonblank_lines (enumerate_from 1 h.lines) ++ rows) (sym (row_is new.ended line none)) in
     record {
       closed = all;
       lines = h.lines ++ w ∷ [];
@@ -158,7 +158,7 @@ line_read bytes part r new h none begun ended after =
           ap source_lines (turned more) ∙ h.cut (line ++ line_feed ∷ more) ∙ ap (λ (ls : List (List ℕ)). h.lines ++ ls) (line_first line more none)
           ∙ sym (append_assoc h.lines (w ∷ []) (source_lines more));
       counted = ended ∙ ap (λ (n : ℕ). n + 1) h.counted ∙ sym (length-append h.lines (w ∷ []));
-      stands = subst (λ (rows : List (ℕ × List ℕ)). StandsAfter rows new.standing) (sym rows) (after (filled (enumerate_from 1 h.lines)) h.stands);
+      stands = subst (λ (rows : List (ℕ × List ℕ)). StandsAfter rows new.standing) (sym rows) (after (nonblank_lines (enumerate_from 1 h.lines)) h.stands);
     }
 
 -- ---- a piece

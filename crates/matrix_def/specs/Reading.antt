@@ -5,7 +5,7 @@ use Rattle.mj_model.specs.declared.limits.TheConstants.{MATRIX_CELLS_MAX}
 use Rattle.mj_model.specs.Bytes.{is_line_feed}
 use Rattle.mj_model.specs.Connection.{Connection, connection_from, sizes_from, words_of}
 use Rattle.mj_model.specs.Lines.{source_lines}
-use Rattle.lex_source.specs.Filled.{filled}
+use Rattle.lex_source.specs.Filled.{nonblank_lines}
 use Rattle.matrix_def.specs.Costs.{CostTable, IsMatrix, IsTableOf}
 use Rattle.matrix_def.specs.Rows.{IsFilledBy}
 use Rattle.matrix_def.specs.declared.standing.Standing.{Standing}
@@ -17,7 +17,7 @@ HasNoFeed bytes = list_any is_line_feed bytes ≡ false
 
 -- a line by its number, or nothing where it is blank
 abbrev pub row_of : ℕ → List ℕ → List (ℕ × List ℕ)
-row_of number bytes = filled (enumerate_from number (source_lines bytes))
+row_of number bytes = nonblank_lines (enumerate_from number (source_lines bytes))
 
 -- lines that are not blank: a header, and rows without fault that fill the table
 pub record Fill (lines : List (ℕ × List ℕ)) (m : CostTable) : Type 0 where
@@ -52,4 +52,4 @@ pub record HasRead (bytes : List ℕ) (r : ReaderSeen) : Type 0 where
   pub parts : bytes ≡ closed ++ r.begun
   pub cut : (more : List ℕ) → source_lines (closed ++ more) ≡ lines ++ source_lines more
   pub counted : r.ended ≡ length lines
-  pub stands : StandsAfter (filled (enumerate_from 1 lines)) r.standing
+  pub stands : StandsAfter (nonblank_lines (enumerate_from 1 lines)) r.standing

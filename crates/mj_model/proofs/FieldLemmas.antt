@@ -4,24 +4,24 @@ use Rattle.std.specs.List.{before_first}
 use Rattle.std.proofs.lemmas.Bool.{eq-eqb, ne_eqb, cases_eq}
 use Rattle.std.proofs.lemmas.List.{append-nil}
 use Rattle.mj_model.specs.Bytes.{is_comma, quote}
-use Rattle.mj_model.specs.Fields.{rest_of, doubled, BeginsWithQuote, IsFieldOf}
+use Rattle.mj_model.specs.Fields.{rest_of, with_doubled_quotes, BeginsWithQuote, IsFieldOf}
 use Rattle.mj_model.proofs.Basics.{same_head, same_tail}
 
 -- the end of a quoted field: nothing, or a quote that no quote follows
 Tail : List ℕ → Type 0
 Tail t = (t ≡ []) ⊎ ((v : List ℕ) × (t ≡ quote ∷ v) × (BeginsWithQuote v → ⊥))
 
-pub doubled_quote : (c : ℕ) (cs : List ℕ) → c ≡ quote → doubled (c ∷ cs) ≡ quote ∷ quote ∷ doubled cs
-doubled_quote c cs e = ap (λ (b : Bool). cond b (quote ∷ quote ∷ []) (c ∷ []) ++ doubled cs) (eq-eqb c quote e)
+pub doubled_quote : (c : ℕ) (cs : List ℕ) → c ≡ quote → with_doubled_quotes (c ∷ cs) ≡ quote ∷ quote ∷ with_doubled_quotes cs
+doubled_quote c cs e = ap (λ (b : Bool). cond b (quote ∷ quote ∷ []) (c ∷ []) ++ with_doubled_quotes cs) (eq-eqb c quote e)
 
-pub doubled_other : (c : ℕ) (cs : List ℕ) → (c ≡ quote → ⊥) → doubled (c ∷ cs) ≡ c ∷ doubled cs
-doubled_other c cs e = ap (λ (b : Bool). cond b (quote ∷ quote ∷ []) (c ∷ []) ++ doubled cs) (ne_eqb c quote e)
+pub doubled_other : (c : ℕ) (cs : List ℕ) → (c ≡ quote → ⊥) → with_doubled_quotes (c ∷ cs) ≡ c ∷ with_doubled_quotes cs
+doubled_other c cs e = ap (λ (b : Bool). cond b (quote ∷ quote ∷ []) (c ∷ []) ++ with_doubled_quotes cs) (ne_eqb c quote e)
 
 begins : (d : ℕ) (ds v : List ℕ) → v ≡ d ∷ ds → d ≡ quote → BeginsWithQuote v
 begins d ds v e is = subst BeginsWithQuote (sym e) is
 
 -- a tail begins with no pair of quotes and no other character
-tail_first : (t : List ℕ) (c : ℕ) (cs rest : List ℕ) → Tail t → t ≡ doubled (c ∷ cs) ++ rest → ⊥
+tail_first : (t : List ℕ) (c : ℕ) (cs rest : List ℕ) → Tail t → t ≡ with_doubled_quotes (c ∷ cs) ++ rest → ⊥
 unfolding Tail
 tail_first t c cs rest (inl empty) h = elim (cases_eq c quote) [
   | inl q ↦ let e = ap (λ (xs : List ℕ). xs ++ rest) (doubled_quote c cs q) in cc
@@ -29,15 +29,15 @@ tail_first t c cs rest (inl empty) h = elim (cases_eq c quote) [
 ]
 tail_first t c cs rest (inr (v, is, out)) h = elim (cases_eq c quote) [
   | inl q ↦
-      let e : quote ∷ v ≡ quote ∷ quote ∷ (doubled cs ++ rest) = sym is ∙ h ∙ ap (λ (xs : List ℕ). xs ++ rest) (doubled_quote c cs q) in
-      out (begins quote (doubled cs ++ rest) v (same_tail quote quote v (quote ∷ (doubled cs ++ rest)) e) refl)
+      let e : quote ∷ v ≡ quote ∷ quote ∷ (with_doubled_quotes cs ++ rest) = sym is ∙ h ∙ ap (λ (xs : List ℕ). xs ++ rest) (doubled_quote c cs q) in
+      out (begins quote (with_doubled_quotes cs ++ rest) v (same_tail quote quote v (quote ∷ (with_doubled_quotes cs ++ rest)) e) refl)
   | inr o ↦
-      let e : quote ∷ v ≡ c ∷ (doubled cs ++ rest) = sym is ∙ h ∙ ap (λ (xs : List ℕ). xs ++ rest) (doubled_other c cs o) in
-      o (sym (same_head quote c v (doubled cs ++ rest) e))
+      let e : quote ∷ v ≡ c ∷ (with_doubled_quotes cs ++ rest) = sym is ∙ h ∙ ap (λ (xs : List ℕ). xs ++ rest) (doubled_other c cs o) in
+      o (sym (same_head quote c v (with_doubled_quotes cs ++ rest) e))
 ]
 
 -- a text is a doubled one and a tail in one way
-one_way : (fs gs s t : List ℕ) → Tail s → Tail t → doubled fs ++ s ≡ doubled gs ++ t → (fs ≡ gs) × (s ≡ t)
+one_way : (fs gs s t : List ℕ) → Tail s → Tail t → with_doubled_quotes fs ++ s ≡ with_doubled_quotes gs ++ t → (fs ≡ gs) × (s ≡ t)
 one_way [] [] s t a b h = (refl, h)
 one_way [] (g ∷ gs) s t a b h = absurd (tail_first s g gs t a h)
 one_way (f ∷ fs) [] s t a b h = absurd (tail_first t f fs s b (sym h))
@@ -46,21 +46,21 @@ one_way (f ∷ fs) (g ∷ gs) s t a b h =
     elim (cases_eq f quote) [
       | inl p ↦ elim (cases_eq g quote) [
         | inl q ↦
-            let e : quote ∷ quote ∷ (doubled fs ++ s) ≡ quote ∷ quote ∷ (doubled gs ++ t) = sym (ap (on s) (doubled_quote f fs p)) ∙ h ∙ ap (on t) (doubled_quote g gs q) in
+            let e : quote ∷ quote ∷ (with_doubled_quotes fs ++ s) ≡ quote ∷ quote ∷ (with_doubled_quotes gs ++ t) = sym (ap (on s) (doubled_quote f fs p)) ∙ h ∙ ap (on t) (doubled_quote g gs q) in
             let r = one_way fs gs s t a b (cc) in
             let same = p ∙ sym q in
             let more = r.0 in
             (cc, r.1)
         | inr o ↦
-            let e : quote ∷ quote ∷ (doubled fs ++ s) ≡ g ∷ (doubled gs ++ t) = sym (ap (on s) (doubled_quote f fs p)) ∙ h ∙ ap (on t) (doubled_other g gs o) in
-            absurd (o (sym (same_head quote g (quote ∷ (doubled fs ++ s)) (doubled gs ++ t) e)))
+            let e : quote ∷ quote ∷ (with_doubled_quotes fs ++ s) ≡ g ∷ (with_doubled_quotes gs ++ t) = sym (ap (on s) (doubled_quote f fs p)) ∙ h ∙ ap (on t) (doubled_other g gs o) in
+            absurd (o (sym (same_head quote g (quote ∷ (with_doubled_quotes fs ++ s)) (with_doubled_quotes gs ++ t) e)))
       ]
       | inr n ↦ elim (cases_eq g quote) [
         | inl q ↦
-            let e : f ∷ (doubled fs ++ s) ≡ quote ∷ quote ∷ (doubled gs ++ t) = sym (ap (on s) (doubled_other f fs n)) ∙ h ∙ ap (on t) (doubled_quote g gs q) in
-            absurd (n (same_head f quote (doubled fs ++ s) (quote ∷ (doubled gs ++ t)) e))
+            let e : f ∷ (with_doubled_quotes fs ++ s) ≡ quote ∷ quote ∷ (with_doubled_quotes gs ++ t) = sym (ap (on s) (doubled_other f fs n)) ∙ h ∙ ap (on t) (doubled_quote g gs q) in
+            absurd (n (same_head f quote (with_doubled_quotes fs ++ s) (quote ∷ (with_doubled_quotes gs ++ t)) e))
         | inr o ↦
-            let e : f ∷ (doubled fs ++ s) ≡ g ∷ (doubled gs ++ t) = sym (ap (on s) (doubled_other f fs n)) ∙ h ∙ ap (on t) (doubled_other g gs o) in
+            let e : f ∷ (with_doubled_quotes fs ++ s) ≡ g ∷ (with_doubled_quotes gs ++ t) = sym (ap (on s) (doubled_other f fs n)) ∙ h ∙ ap (on t) (doubled_other g gs o) in
             let r = one_way fs gs s t a b (cc) in
             let more = r.0 in
             (cc, r.1)
@@ -68,7 +68,7 @@ one_way (f ∷ fs) (g ∷ gs) s t a b h =
     ]
 
 -- and each text is so
-parted : (cs : List ℕ) → (fs : List ℕ) × (s : List ℕ) × Tail s × (cs ≡ doubled fs ++ s)
+parted : (cs : List ℕ) → (fs : List ℕ) × (s : List ℕ) × Tail s × (cs ≡ with_doubled_quotes fs ++ s)
 unfolding Tail
 parted [] = ([], [], inl refl, refl)
 parted (c ∷ []) = elim (cases_eq c quote) [
@@ -102,14 +102,14 @@ rest_at (c ∷ v) = rest_of v
 record IsQuoted (u field : List ℕ) (rest : Option (List ℕ)) : Type 0 where
   tail : List ℕ
   is_tail : Tail tail
-  spelled : u ≡ quote ∷ (doubled field ++ tail)
+  spelled : u ≡ quote ∷ (with_doubled_quotes field ++ tail)
   rest_is : rest ≡ rest_at tail
 
 quoted : (u field : List ℕ) (rest : Option (List ℕ)) → IsFieldOf u field rest → ((BeginsWithQuote u → ⊥) × (field ≡ before_first is_comma u) × (rest ≡ rest_of u)) ⊎ IsQuoted u field rest
 unfolding Tail rest_at
 quoted u field rest (inl plain) = inl plain
 quoted u field rest (inr (inl (v, is, out, r))) = inr (record { tail = quote ∷ v; is_tail = inr (v, refl, out); spelled = is; rest_is = r })
-quoted u field rest (inr (inr (is, r))) = inr (record { tail = []; is_tail = inl refl; spelled = is ∙ ap (λ (xs : List ℕ). quote ∷ xs) (sym (append-nil (doubled field))); rest_is = r })
+quoted u field rest (inr (inr (is, r))) = inr (record { tail = []; is_tail = inl refl; spelled = is ∙ ap (λ (xs : List ℕ). quote ∷ xs) (sym (append-nil (with_doubled_quotes field))); rest_is = r })
 
 begins_quoted : (u field : List ℕ) (rest : Option (List ℕ)) → IsQuoted u field rest → BeginsWithQuote u
 begins_quoted u field rest q = subst BeginsWithQuote (sym q.spelled) refl
@@ -123,16 +123,16 @@ one_field u f g r s a b = elim (quoted u f r a) [
   | inr p ↦ elim (quoted u g s b) [
     | inl q ↦ absurd (q.0 (begins_quoted u f r p))
     | inr q ↦
-        let e : doubled f ++ p.tail ≡ doubled g ++ q.tail = same_tail quote quote (doubled f ++ p.tail) (doubled g ++ q.tail) (sym p.spelled ∙ q.spelled) in
+        let e : with_doubled_quotes f ++ p.tail ≡ with_doubled_quotes g ++ q.tail = same_tail quote quote (with_doubled_quotes f ++ p.tail) (with_doubled_quotes g ++ q.tail) (sym p.spelled ∙ q.spelled) in
         let w = one_way f g p.tail q.tail p.is_tail q.is_tail e in
         (w.0, p.rest_is ∙ ap rest_at w.1 ∙ sym q.rest_is)
   ]
 ]
 
-with_tail : (cs fs s : List ℕ) → Tail s → cs ≡ doubled fs ++ s → (field : List ℕ) × (rest : Option (List ℕ)) × IsFieldOf (quote ∷ cs) field rest
+with_tail : (cs fs s : List ℕ) → Tail s → cs ≡ with_doubled_quotes fs ++ s → (field : List ℕ) × (rest : Option (List ℕ)) × IsFieldOf (quote ∷ cs) field rest
 unfolding Tail
-with_tail cs fs s (inl empty) is = (fs, None, inr (inr (ap (λ (xs : List ℕ). quote ∷ xs) (is ∙ ap (λ (xs : List ℕ). doubled fs ++ xs) empty ∙ append-nil (doubled fs)), refl)))
-with_tail cs fs s (inr (v, e, out)) is = (fs, rest_of v, inr (inl (v, ap (λ (xs : List ℕ). quote ∷ xs) (is ∙ ap (λ (xs : List ℕ). doubled fs ++ xs) e), out, refl)))
+with_tail cs fs s (inl empty) is = (fs, None, inr (inr (ap (λ (xs : List ℕ). quote ∷ xs) (is ∙ ap (λ (xs : List ℕ). with_doubled_quotes fs ++ xs) empty ∙ append-nil (with_doubled_quotes fs)), refl)))
+with_tail cs fs s (inr (v, e, out)) is = (fs, rest_of v, inr (inl (v, ap (λ (xs : List ℕ). quote ∷ xs) (is ∙ ap (λ (xs : List ℕ). with_doubled_quotes fs ++ xs) e), out, refl)))
 
 pub a_field : (u : List ℕ) → (field : List ℕ) × (rest : Option (List ℕ)) × IsFieldOf u field rest
 a_field [] = (before_first is_comma [], rest_of [], inl (λ h. h, refl, refl))

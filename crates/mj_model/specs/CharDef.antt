@@ -74,12 +74,12 @@ category_of invoke group len =
     record { invoke = invokes; group = groups; length = n })
     (category_length len)) (flag group)) (flag invoke)
 
-abbrev pub named : List ℕ → Category → NamedCategory
-named name category = record { name = name; category = category }
+abbrev pub category_named : List ℕ → Category → NamedCategory
+category_named name category = record { name = name; category = category }
 
 -- the words of a category line; those behind the fourth mean nothing
 abbrev pub category_from : List (List ℕ) → Option NamedCategory
-category_from (name ∷ invoke ∷ group ∷ len ∷ more) = if is_name name then option_map (named name) (category_of invoke group len) else None
+category_from (name ∷ invoke ∷ group ∷ len ∷ more) = if is_name name then option_map (category_named name) (category_of invoke group len) else None
 category_from [] = None
 category_from (name ∷ []) = None
 category_from (name ∷ invoke ∷ []) = None

@@ -13,8 +13,8 @@ abbrev pub rest_of : List ℕ → Option (List ℕ)
 rest_of text = if list_any is_comma text then Some (after_first is_comma text) else None
 
 -- a text with each quote written twice
-abbrev pub doubled : List ℕ → List ℕ
-doubled = flat_map (λ c. if is_quote c then quote ∷ quote ∷ [] else c ∷ [])
+abbrev pub with_doubled_quotes : List ℕ → List ℕ
+with_doubled_quotes = flat_map (λ c. if is_quote c then quote ∷ quote ∷ [] else c ∷ [])
 
 abbrev pub BeginsWithQuote : List ℕ → Type 0
 BeginsWithQuote [] = ⊥
@@ -26,8 +26,8 @@ BeginsWithQuote (c ∷ cs) = c ≡ quote
 abbrev pub IsFieldOf : List ℕ → List ℕ → Option (List ℕ) → Type 0
 IsFieldOf text field rest =
     ((BeginsWithQuote text → ⊥) × (field ≡ before_first is_comma text) × (rest ≡ rest_of text))
-    ⊎ ((behind : List ℕ) × (text ≡ quote ∷ (doubled field ++ quote ∷ behind)) × (BeginsWithQuote behind → ⊥) × (rest ≡ rest_of behind))
-    ⊎ ((text ≡ quote ∷ doubled field) × (rest ≡ None))
+    ⊎ ((behind : List ℕ) × (text ≡ quote ∷ (with_doubled_quotes field ++ quote ∷ behind)) × (BeginsWithQuote behind → ⊥) × (rest ≡ rest_of behind))
+    ⊎ ((text ≡ quote ∷ with_doubled_quotes field) × (rest ≡ None))
 
 -- the first field of a line, and the rest behind its comma, if there is one
 abbrev pub IsFirstField : List ℕ → List ℕ → Option (List ℕ) → Type 0

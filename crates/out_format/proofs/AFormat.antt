@@ -15,7 +15,7 @@ use Rattle.mj_model.specs.declared.format_fault.FormatKind.{FormatKind}
 use Rattle.mj_model.specs.declared.format_fault.FormatKind.TheVariants.{BadEscape}
 use Rattle.mj_model.specs.declared.format_fault.FormatFault.{FormatFault}
 use Rattle.mj_model.specs.declared.format_fault.FormatFault.TheVariants as fault
-use Rattle.out_format.specs.Formats.{Piece, Byte, Shows, escaped, bad_item, includes, Begins, Reads, IsBadAt, Format, FormatTexts, part_text, IsFormat, HasOneFormat}
+use Rattle.out_format.specs.Formats.{Piece, Byte, Shows, byte_of_escape, bad_item, includes, Begins, Reads, IsBadAt, Format, FormatTexts, part_text, IsFormat, HasOneFormat}
 use Rattle.mj_model.specs.Numbers.{digits_value}
 use Rattle.out_format.specs.FirstItems.{HasIndex, HasNoIndex, HasNoField, HasNoItem, IsStuck}
 use Rattle.out_format.specs.declared.items.ShownIn.TheVariants.{Words}
@@ -101,13 +101,13 @@ an_item part behind = elim (cases_Bool (list_any (fits part behind) ITEMS)) [
 abbrev APiece : FormatPart → List ℕ → Type 0
 APiece part text = ((piece : Piece) × (rest : List ℕ) × Begins part piece text rest) ⊎ ((kind : FormatKind) × IsStuck part text kind)
 
-escape_by : (part : FormatPart) (c : ℕ) (cs : List ℕ) (found : Option ℕ) → escaped c ≡ found → APiece part (92 ∷ c ∷ cs)
+escape_by : (part : FormatPart) (c : ℕ) (cs : List ℕ) (found : Option ℕ) → byte_of_escape c ≡ found → APiece part (92 ∷ c ∷ cs)
 escape_by part c cs None e = inr (BadEscape, stuck_at_escape part c cs e)
 escape_by part c cs (Some b) e = inl (Byte b, cs, begins_escape part c b cs e)
 
 an_escape : (part : FormatPart) (text : List ℕ) → APiece part (92 ∷ text)
 an_escape part [] = inr (BadEscape, stuck_at_end part)
-an_escape part (c ∷ cs) = escape_by part c cs (escaped c) refl
+an_escape part (c ∷ cs) = escape_by part c cs (byte_of_escape c) refl
 
 item_of_part : (part : FormatPart) (behind : List ℕ) → APiece part (37 ∷ behind)
 item_of_part part behind = elim (an_item part behind) [

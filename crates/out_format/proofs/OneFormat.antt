@@ -10,7 +10,7 @@ use Rattle.mj_model.specs.declared.format_fault.FormatKind.{FormatKind}
 use Rattle.mj_model.specs.declared.format_fault.FormatFault.{FormatFault}
 use Rattle.mj_model.specs.declared.format_fault.FormatFault.TheVariants as fault
 use Rattle.mj_model.proofs.Basics.{same_head, same_tail}
-use Rattle.out_format.specs.Formats.{Piece, Byte, Shows, escaped, Begins, Reads, IsBadAt, bad_kind, Format, FormatTexts, part_text, IsGood, AreGoodBefore, ReadsFormat, IsFormat}
+use Rattle.out_format.specs.Formats.{Piece, Byte, Shows, byte_of_escape, Begins, Reads, IsBadAt, bad_kind, Format, FormatTexts, part_text, IsGood, AreGoodBefore, ReadsFormat, IsFormat}
 use Rattle.out_format.proofs.ItemLemmas.{percent_first, one_item}
 use Rattle.out_format.proofs.PieceLemmas.{SpelledBy, byte_no_item, rest_shorter}
 
@@ -38,13 +38,13 @@ one_piece part (Shows i) (Shows j) text rest more h k =
 one_piece part (Shows i) (Byte d) text rest more h k =
     let a = percent_first part i h.front h.spelled in
     let e : text ≡ 37 ∷ (a.0 ++ rest) = h.is ∙ ap (λ (xs : List ℕ). xs ++ rest) a.1 in
-    absurd (byte_no_item escaped d (a.0 ++ rest) k.front more k.spelled (sym e ∙ k.is))
+    absurd (byte_no_item byte_of_escape d (a.0 ++ rest) k.front more k.spelled (sym e ∙ k.is))
 one_piece part (Byte b) (Shows j) text rest more h k =
     let a = percent_first part j k.front k.spelled in
     let e : text ≡ 37 ∷ (a.0 ++ more) = k.is ∙ ap (λ (xs : List ℕ). xs ++ more) a.1 in
-    absurd (byte_no_item escaped b (a.0 ++ more) h.front rest h.spelled (sym e ∙ h.is))
+    absurd (byte_no_item byte_of_escape b (a.0 ++ more) h.front rest h.spelled (sym e ∙ h.is))
 one_piece part (Byte b) (Byte d) text rest more h k =
-    let one = one_byte escaped b d text h.front k.front rest more h.spelled k.spelled h.is k.is in
+    let one = one_byte byte_of_escape b d text h.front k.front rest more h.spelled k.spelled h.is k.is in
     (ap Byte one.0, one.1)
 
 longer : (part : FormatPart) (p : Piece) (text rest done behind : List ℕ) → Begins part p done rest → text ≡ done ++ behind → Begins part p text (rest ++ behind)

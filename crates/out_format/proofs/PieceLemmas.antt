@@ -12,7 +12,7 @@ use Rattle.out_format.specs.declared.first_piece.FirstPiece.{FirstPiece}
 use Rattle.out_format.specs.Answers.{IsFirstPiece}
 use Rattle.out_format.specs.Pieces.{piece_of}
 use Rattle.mj_model.proofs.Basics.{same_head, same_tail, no_head}
-use Rattle.out_format.specs.Formats.{Piece, Byte, Shows, Spells, SpellsItem, escaped, Begins, Reads, IsBadAt, bad_kind, bad_item}
+use Rattle.out_format.specs.Formats.{Piece, Byte, Shows, Spells, SpellsItem, byte_of_escape, Begins, Reads, IsBadAt, bad_kind, bad_item}
 use Rattle.out_format.specs.FirstItems.{HasNoItem, IsStuck, IsFaultOf}
 use Rattle.out_format.proofs.ItemLemmas.{percent_first}
 
@@ -24,7 +24,7 @@ none_some x e = cc
 pub begins_byte : (part : FormatPart) (b : ℕ) (rest : List ℕ) → (b ≡ 37 → ⊥) → (b ≡ 92 → ⊥) → Begins part (Byte b) (b ∷ rest) rest
 begins_byte part b rest not_item not_escape = record { front = b ∷ []; spelled = inl (refl, not_item, not_escape); is = refl }
 
-pub begins_escape : (part : FormatPart) (c b : ℕ) (rest : List ℕ) → escaped c ≡ Some b → Begins part (Byte b) (92 ∷ c ∷ rest) rest
+pub begins_escape : (part : FormatPart) (c b : ℕ) (rest : List ℕ) → byte_of_escape c ≡ Some b → Begins part (Byte b) (92 ∷ c ∷ rest) rest
 begins_escape part c b rest e = record { front = 92 ∷ c ∷ []; spelled = inr (c, e, refl); is = refl }
 
 -- ---- no piece begins a text
@@ -54,23 +54,23 @@ byte_some : (table : ℕ → Option ℕ) (b : ℕ) (front : List ℕ) → Spelle
 byte_some table b front (inl plain) = let e : length front ≡ length (b ∷ []) = ap length plain.0 in omega (arith, e)
 byte_some table b front (inr (c, e, spelled)) = let long : length front ≡ length (92 ∷ c ∷ []) = ap length spelled in omega (arith, long)
 
-no_escape_by : (part : FormatPart) (behind : List ℕ) → ((c b : ℕ) (rest : List ℕ) → behind ≡ c ∷ rest → escaped c ≡ Some b → ⊥)
+no_escape_by : (part : FormatPart) (behind : List ℕ) → ((c b : ℕ) (rest : List ℕ) → behind ≡ c ∷ rest → byte_of_escape c ≡ Some b → ⊥)
     → (piece : Piece) (rest : List ℕ) → Begins part piece (92 ∷ behind) rest → ⊥
 no_escape_by part behind none (Shows i) rest h = item_no_escape part i behind h.front rest h.spelled h.is
-no_escape_by part behind none (Byte b) rest h = byte_no_escape escaped b behind h.front rest h.spelled h.is (λ c more e found. none c b more e found)
+no_escape_by part behind none (Byte b) rest h = byte_no_escape byte_of_escape b behind h.front rest h.spelled h.is (λ c more e found. none c b more e found)
 
 pub stuck_at_end : (part : FormatPart) → IsStuck part (92 ∷ []) BadEscape
 stuck_at_end part = record { stuck = no_escape_by part [] (λ c b rest e found. no_head c rest e); is_kind = refl }
 
-pub stuck_at_escape : (part : FormatPart) (c : ℕ) (rest : List ℕ) → escaped c ≡ None → IsStuck part (92 ∷ c ∷ rest) BadEscape
+pub stuck_at_escape : (part : FormatPart) (c : ℕ) (rest : List ℕ) → byte_of_escape c ≡ None → IsStuck part (92 ∷ c ∷ rest) BadEscape
 stuck_at_escape part c rest none = record {
-  stuck = no_escape_by part (c ∷ rest) (λ d b more e found. none_some b (sym none ∙ ap escaped (same_head c d rest more e) ∙ found));
+  stuck = no_escape_by part (c ∷ rest) (λ d b more e found. none_some b (sym none ∙ ap byte_of_escape (same_head c d rest more e) ∙ found));
   is_kind = refl;
 }
 
 no_piece : (part : FormatPart) (behind : List ℕ) → HasNoItem part (37 ∷ behind) → (piece : Piece) (rest : List ℕ) → Begins part piece (37 ∷ behind) rest → ⊥
 no_piece part behind none (Shows i) rest h = none i rest h
-no_piece part behind none (Byte b) rest h = byte_no_item escaped b behind h.front rest h.spelled h.is
+no_piece part behind none (Byte b) rest h = byte_no_item byte_of_escape b behind h.front rest h.spelled h.is
 
 pub stuck_at_item : (part : FormatPart) (behind : List ℕ) (kind : FormatKind) → HasNoItem part (37 ∷ behind) → kind ≡ bad_item part behind → IsStuck part (37 ∷ behind) kind
 stuck_at_item part behind kind none is = record { stuck = no_piece part behind none; is_kind = is }
@@ -118,7 +118,7 @@ bad_at part pieces text rest at kind so_far is some stuck =
 
 spelled_some : (part : FormatPart) (piece : Piece) (front : List ℕ) → Spells part piece front → 0 < length front
 spelled_some part (Shows i) front h = let p = percent_first part i front h in let e : length front ≡ length (37 ∷ p.0) = ap length p.1 in omega (arith, e)
-spelled_some part (Byte b) front h = byte_some escaped b front h
+spelled_some part (Byte b) front h = byte_some byte_of_escape b front h
 
 pub rest_shorter : (part : FormatPart) (piece : Piece) (text rest : List ℕ) → Begins part piece text rest → length rest < length text
 rest_shorter part piece text rest h =

@@ -32,8 +32,8 @@ escapes =
     (48, 0x00) ∷ (97, 0x07) ∷ (98, 0x08) ∷ (116, 0x09) ∷ (110, 0x0a) ∷ (118, 0x0b) ∷ (102, 0x0c) ∷ (114, 0x0d) ∷ (115, 0x20) ∷ (92, 0x5c) ∷ []
 
 -- the byte that a character behind a backslash stands for
-abbrev pub escaped : ℕ → Option ℕ
-escaped c = option_map (λ (escape : ℕ × ℕ). escape.1) (find (λ (escape : ℕ × ℕ). escape.0 == c) escapes)
+abbrev pub byte_of_escape : ℕ → Option ℕ
+byte_of_escape c = option_map (λ (escape : ℕ × ℕ). escape.1) (find (λ (escape : ℕ × ℕ). escape.0 == c) escapes)
 
 -- one to five digits of this value, at most 65,535
 pub record IsIndex (digits : List ℕ) (n : ℕ) : Type 0 where
@@ -79,7 +79,7 @@ SpellsItem part i text = IsListed part i text ⊎ IsField part i text
 abbrev pub SpellsByte : ℕ → List ℕ → Type 0
 SpellsByte b text =
     ((text ≡ b ∷ []) × (b ≡ percent → ⊥) × (b ≡ backslash → ⊥))
-    ⊎ ((c : ℕ) × (escaped c ≡ Some b) × (text ≡ backslash ∷ c ∷ []))
+    ⊎ ((c : ℕ) × (byte_of_escape c ≡ Some b) × (text ≡ backslash ∷ c ∷ []))
 
 abbrev pub Spells : FormatPart → Piece → List ℕ → Type 0
 Spells part (Byte b) text = SpellsByte b text

@@ -1,11 +1,11 @@
 //! The escapes of formats.
 
 ghost use Rattle.std.specs.Prelude.{◌≡◌};
-ghost use Rattle.out_format.specs.Formats.{escaped};
+ghost use Rattle.out_format.specs.Formats.{byte_of_escape};
 
 /// The byte that a character behind a backslash stands for. (MeCab)
 pub fn escaped_byte(character: u8) -> Option<u8>
-    ensures { result ≡ escaped character }
+    ensures { result ≡ byte_of_escape character }
 {
     match character {
         b'0' => Some(0x00),

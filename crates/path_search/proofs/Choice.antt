@@ -16,7 +16,7 @@ use Rattle.path_search.specs.declared.node.Join.{Join}
 use Rattle.paths.specs.Order.{IsPreferred}
 use Rattle.mj_model.specs.Bounds.{IsWithin}
 use Rattle.paths.specs.Best.{IsSource}
-use Rattle.paths.specs.ChainsBack.{IsChainTo, last_right, cost_to, joined, HoldsAgainst, IsBestTo}
+use Rattle.paths.specs.ChainsBack.{IsChainTo, last_right, cost_to, cost_with_next, HoldsAgainst, IsBestTo}
 use Rattle.path_search.specs.Ends.{AreEnds, HasSmallTotal, IsFollowedBy, IsLeast, StandFor, bos_end, end_cost, end_of}
 use Rattle.paths.specs.declared.surface.Surface.{Surface}
 use Rattle.path_search.specs.declared.node.Backpointer.{Backpointer}
@@ -44,7 +44,7 @@ module _ (words : ℕ → List Word) (conn : ℕ → ℕ → ℤ) (len : ℕ) (s
       (omega (arith, ints, before.0, c.0, own.0, on, h.0), omega (arith, ints, before.1, c.1, own.1, on, h.0))
 
   -- also with the connection to what follows
-  pub small_joined : (ws : List Word) (to left : ℕ) → IsChainTo words ws to → IsWithin (2 ^ 16 * to + 2 ^ 15) (joined conn ws left)
+  pub small_joined : (ws : List Word) (to left : ℕ) → IsChainTo words ws to → IsWithin (2 ^ 16 * to + 2 ^ 15) (cost_with_next conn ws left)
   small_joined ws to left h =
       let before = small_cost ws to h in
       let c = source.connections (last_right ws) left in
@@ -113,7 +113,7 @@ module _ (words : ℕ → List Word) (conn : ℕ → ℕ → ℤ) (len : ℕ) (s
 
   -- the other side of the comparison, at a word
   abbrev pub Other : ℕ → Word → List Word → Word → Type 0
-  Other left v vs w = (us : List Word) × IsBestTo words conn us w.place w.left × HoldsAgainst words (joined conn (v ∷ vs) left) v (joined conn (w ∷ us) left) w
+  Other left v vs w = (us : List Word) × IsBestTo words conn us w.place w.left × HoldsAgainst words (cost_with_next conn (v ∷ vs) left) v (cost_with_next conn (w ∷ us) left) w
 
   -- the least end makes the best chain
   end_joins : (nodes : List Node) (p k at left : ℕ) (ends : List End) (j : Join) → Lattice nodes p k → at ≤ p → StandFor nodes at 0 ends → IsLeast conn ends left j → IsJoin words conn nodes at left j
@@ -124,7 +124,7 @@ module _ (words : ℕ → List Word) (conn : ℕ → ℕ → ℤ) (len : ℕ) (s
       let total : least.end.total ≡ n.total = ap (λ (e : End). e.total) o.is in
       let right : least.end.right ≡ n.word.right = ap (λ (e : End). e.right) o.is in
       let before : j.before ≡ suc o.number = least.before_is ∙ ap (λ (e : End). e.before) o.is in
-      let cost : j.cost ≡ joined conn (n.word ∷ b.chain) left = least.cost_is ∙ ap (end_cost conn left) o.is ∙ ap (λ (z : ℤ). z +ℤ conn n.word.right left) b.total_is in
+      let cost : j.cost ≡ cost_with_next conn (n.word ∷ b.chain) left = least.cost_is ∙ ap (end_cost conn left) o.is ∙ ap (λ (z : ℤ). z +ℤ conn n.word.right left) b.total_is in
       let on = source.are.go_on n.word.place n.word b.is_word in
       let there = o.ends in
       let above : 0 < at = omega (arith, on, there) in
@@ -143,7 +143,7 @@ module _ (words : ℕ → List Word) (conn : ℕ → ℕ → ℤ) (len : ℕ) (s
       subst (Other left n.word b.chain) found.3 (
         x.chain,
         x.best,
-        subst (λ (z : ℤ). HoldsAgainst words z n.word (joined conn (m.word ∷ x.chain) left) m.word) cost
+        subst (λ (z : ℤ). HoldsAgainst words z n.word (cost_with_next conn (m.word ∷ x.chain) left) m.word) cost
             (subst (λ (z : ℤ). HoldsAgainst words j.cost n.word z m.word) (ap (λ (z : ℤ). z +ℤ conn m.word.right left) x.total_is) held),
       )
       in

@@ -13,7 +13,7 @@ use Rattle.path_search.specs.declared.node.Bundle.{Bundle}
 use Rattle.path_search.specs.Nodes.{AreLinked, AreBundles, IsLastHead, IsLatest, Node, link_of, node_words, nodes_of}
 use Rattle.paths.specs.Best.{IsSource, IsBestPath}
 use Rattle.paths.specs.Cost.{path_cost}
-use Rattle.paths.specs.ChainsBack.{IsChainTo, joined}
+use Rattle.paths.specs.ChainsBack.{IsChainTo, cost_with_next}
 use Rattle.path_search.specs.Lattice.{Traces, IsBelow, IsLattice, IsJoin, LinksGoBack, IsLastEnd}
 use Rattle.std.proofs.lemmas.List.{reverse-reverse}
 use Rattle.paths.proofs.ChainsBackLemmas.{best_path_from, cost_reversed}
@@ -96,4 +96,4 @@ module _ (words : ℕ → List Word) (conn : ℕ → ℕ → ℤ) (len : ℕ) (s
     pub path_costs : (j : Join) (ws vs : List Word) → IsJoin words conn nodes last 0 j → Traces nodes (link_of j.before) ws → vs ≡ reverse ws → j.cost ≡ path_cost conn vs
     path_costs j ws vs join t is =
         let same : join.chain ≡ ws = traced_same nodes (link_of j.before) join.chain ws join.traced t in
-        join.cost_is ∙ ap (λ (us : List Word). joined conn us 0) (same ∙ sym (reverse-reverse ws) ∙ ap reverse (sym is)) ∙ sym (cost_reversed words conn len source.are vs)
+        join.cost_is ∙ ap (λ (us : List Word). cost_with_next conn us 0) (same ∙ sym (reverse-reverse ws) ∙ ap reverse (sym is)) ∙ sym (cost_reversed words conn len source.are vs)

@@ -4,7 +4,7 @@ use Rattle.mj_model.specs.declared.word.Word.{Word}
 use Rattle.path_search.specs.Nodes.{Node, link_of}
 use Rattle.path_search.specs.declared.node.Join.{Join}
 use Rattle.paths.specs.Order.{IsPreferred}
-use Rattle.paths.specs.ChainsBack.{IsChainTo, joined, IsBestTo}
+use Rattle.paths.specs.ChainsBack.{IsChainTo, cost_with_next, IsBestTo}
 
 -- the words of the nodes from a link back, the last word first
 abbrev pub Traces : List Node → Option ℕ → List Word → Type 0
@@ -24,7 +24,7 @@ pub record IsBestNode (words : ℕ → List Word) (conn : ℕ → ℕ → ℤ) (
   pub traced : Traces nodes n.before chain
   pub best : IsBestTo words conn chain n.word.place n.word.left
   pub is_word : Contains (words n.word.place) n.word
-  pub total_is : n.total ≡ joined conn chain n.word.left +ℤ n.word.cost
+  pub total_is : n.total ≡ cost_with_next conn chain n.word.left +ℤ n.word.cost
   pub below : IsBelow n.before i
 
 -- w is a word of a place before p, or of place p from the k-th on
@@ -43,7 +43,7 @@ pub record IsJoin (words : ℕ → List Word) (conn : ℕ → ℕ → ℤ) (node
   pub chain : List Word
   pub traced : Traces nodes (link_of j.before) chain
   pub best : IsBestTo words conn chain p left
-  pub cost_is : j.cost ≡ joined conn chain left
+  pub cost_is : j.cost ≡ cost_with_next conn chain left
 
 -- no chain leads to the place
 abbrev pub NoChain : (ℕ → List Word) → ℕ → Type 0

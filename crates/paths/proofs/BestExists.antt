@@ -11,7 +11,7 @@ use Rattle.mj_model.specs.declared.word.Word.{Word}
 use Rattle.paths.specs.Paths.{IsChain}
 use Rattle.paths.specs.Order.{IsPreferred, WinsTie}
 use Rattle.paths.specs.Best.{AreWords, IsBestPath}
-use Rattle.paths.specs.ChainsBack.{IsChainTo, joined, NoWorse}
+use Rattle.paths.specs.ChainsBack.{IsChainTo, cost_with_next, NoWorse}
 use Rattle.paths.proofs.ChainsBackLemmas.{chain_forward, best_path_from}
 
 -- a chain, its last word first, and where it leads
@@ -22,7 +22,7 @@ record ChainTo (words : ℕ → List Word) : Type 0 where
 
 -- c leads further than a chain, or as far and is it or before it
 abbrev IsFirst : (words : ℕ → List Word) → (ℕ → ℕ → ℤ) → ChainTo words → List Word → ℕ → Type 0
-IsFirst words conn c ws to = (to < c.to) ⊎ ((to ≡ c.to) × NoWorse words (joined conn c.chain 0) c.chain (joined conn ws 0) ws)
+IsFirst words conn c ws to = (to < c.to) ⊎ ((to ≡ c.to) × NoWorse words (cost_with_next conn c.chain 0) c.chain (cost_with_next conn ws 0) ws)
 
 contained_cases : (x : Word) (xs : List Word) (w : Word) → Contains (x ∷ xs) w → (x ≡ w) ⊎ Contains xs w
 contained_cases x xs w (zero, l, e) = inl e
@@ -144,7 +144,7 @@ module _ (words : ℕ → List Word) (conn : ℕ → ℕ → ℤ) (len : ℕ) (a
 
   first_of_two : (b c : ChainTo words) → IsFirst words conn b c.chain c.to ⊎ IsFirst words conn c b.chain b.to
   first_of_two b c = elim (cases_order b.to c.to) [
-    | inl same ↦ elim (no_worse_either b.chain c.chain b.to (joined conn b.chain 0) (joined conn c.chain 0) b.leads (subst (IsChainTo words c.chain) (sym same) c.leads)) [
+    | inl same ↦ elim (no_worse_either b.chain c.chain b.to (cost_with_next conn b.chain 0) (cost_with_next conn c.chain 0) b.leads (subst (IsChainTo words c.chain) (sym same) c.leads)) [
       | inl n ↦ inl (inr (sym same, n))
       | inr n ↦ inr (inr (same, n))
     ]
@@ -210,7 +210,7 @@ module _ (words : ℕ → List Word) (conn : ℕ → ℕ → ℤ) (len : ℕ) (a
   as_far b ws to (inl less) = omega arith
   as_far b ws to (inr same) = let e = same.0 in omega arith
 
-  no_worse_there : (b : ChainTo words) (ws : List Word) (to : ℕ) → to ≡ b.to → IsFirst words conn b ws to → NoWorse words (joined conn b.chain 0) b.chain (joined conn ws 0) ws
+  no_worse_there : (b : ChainTo words) (ws : List Word) (to : ℕ) → to ≡ b.to → IsFirst words conn b ws to → NoWorse words (cost_with_next conn b.chain 0) b.chain (cost_with_next conn ws 0) ws
   no_worse_there b ws to e (inl less) = absurd (omega arith)
   no_worse_there b ws to e (inr same) = same.1
 

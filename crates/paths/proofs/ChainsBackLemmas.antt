@@ -9,7 +9,7 @@ use Rattle.paths.specs.Paths.{IsChain, IsPath}
 use Rattle.paths.specs.Cost.{cost_after, path_cost}
 use Rattle.paths.specs.Order.{IsPreferred, WinsTie, IsBefore}
 use Rattle.paths.specs.Best.{IsBestPath, AreWords}
-use Rattle.paths.specs.ChainsBack.{IsChainTo, last_right, cost_to, joined, NoWorse, HoldsAgainst, IsBestTo}
+use Rattle.paths.specs.ChainsBack.{IsChainTo, last_right, cost_to, cost_with_next, NoWorse, HoldsAgainst, IsBestTo}
 
 module _ (words : ℕ → List Word) (conn : ℕ → ℕ → ℤ) (len : ℕ) (are : AreWords words len) where
   -- only the empty chain leads to the beginning
@@ -20,12 +20,12 @@ module _ (words : ℕ → List Word) (conn : ℕ → ℕ → ℤ) (len : ℕ) (a
   pub best_empty : (left : ℕ) → IsBestTo words conn [] 0 left
   best_empty left = record {
     chain = refl;
-    best = λ ws h. inr (ap (λ (vs : List Word). joined conn vs left) (sym (only_empty ws h)), inl (sym (only_empty ws h)));
+    best = λ ws h. inr (ap (λ (vs : List Word). cost_with_next conn vs left) (sym (only_empty ws h)), inl (sym (only_empty ws h)));
   }
 
   -- a word after the best chain to its place is the best chain that ends in the word, whatever follows
   pub best_with : (w : Word) (vs : List Word) → IsBestTo words conn vs w.place w.left → (ws : List Word) (to left : ℕ) → IsChainTo words (w ∷ ws) to
-      → NoWorse words (joined conn (w ∷ vs) left) (w ∷ vs) (joined conn (w ∷ ws) left) (w ∷ ws)
+      → NoWorse words (cost_with_next conn (w ∷ vs) left) (w ∷ vs) (cost_with_next conn (w ∷ ws) left) (w ∷ ws)
   best_with w vs b ws to left h =
       elim (b.best ws h.2) [
         | inl less ↦ inl (omega (arith, ints, less))
@@ -33,9 +33,9 @@ module _ (words : ℕ → List Word) (conn : ℕ → ℕ → ℤ) (len : ℕ) (a
       ]
 
   best_with_same : (v w : Word) (vs ds : List Word) (to left : ℕ) → v ≡ w → IsBestTo words conn vs v.place v.left → IsChainTo words (w ∷ ds) to
-      → NoWorse words (joined conn (v ∷ vs) left) (v ∷ vs) (joined conn (w ∷ ds) left) (w ∷ ds)
+      → NoWorse words (cost_with_next conn (v ∷ vs) left) (v ∷ vs) (cost_with_next conn (w ∷ ds) left) (w ∷ ds)
   best_with_same v w vs ds to left same b h =
-      subst (λ (u : Word). IsChainTo words (u ∷ ds) to → NoWorse words (joined conn (v ∷ vs) left) (v ∷ vs) (joined conn (u ∷ ds) left) (u ∷ ds)) same (best_with v vs b ds to left) h
+      subst (λ (u : Word). IsChainTo words (u ∷ ds) to → NoWorse words (cost_with_next conn (v ∷ vs) left) (v ∷ vs) (cost_with_next conn (u ∷ ds) left) (u ∷ ds)) same (best_with v vs b ds to left) h
 
   no_worse_along : (v w : Word) (vs us ds : List Word) (a b c : ℤ) → (v ≡ w → NoWorse words a (v ∷ vs) c (w ∷ ds)) → HoldsAgainst words a v b w → NoWorse words b (w ∷ us) c (w ∷ ds) → NoWorse words a (v ∷ vs) c (w ∷ ds)
   no_worse_along v w vs us ds a b c own (inl less) (inl e) = inl (omega (arith, ints, less, e))
@@ -46,8 +46,8 @@ module _ (words : ℕ → List Word) (conn : ℕ → ℕ → ℤ) (len : ℕ) (a
 
   best_among_at : (v : Word) (vs : List Word) (to left : ℕ) → 0 < to → IsBestTo words conn vs v.place v.left
       → ((w : Word) (ds : List Word) → IsChainTo words (w ∷ ds) to →
-      (us : List Word) × IsBestTo words conn us w.place w.left × HoldsAgainst words (joined conn (v ∷ vs) left) v (joined conn (w ∷ us) left) w)
-      → (ws : List Word) → IsChainTo words ws to → NoWorse words (joined conn (v ∷ vs) left) (v ∷ vs) (joined conn ws left) ws
+      (us : List Word) × IsBestTo words conn us w.place w.left × HoldsAgainst words (cost_with_next conn (v ∷ vs) left) v (cost_with_next conn (w ∷ us) left) w)
+      → (ws : List Word) → IsChainTo words ws to → NoWorse words (cost_with_next conn (v ∷ vs) left) (v ∷ vs) (cost_with_next conn ws left) ws
   best_among_at v vs to left above b others [] h = absurd (omega arith)
   best_among_at v vs to left above b others (w ∷ ds) h =
       let o = others w ds h in
@@ -59,7 +59,7 @@ module _ (words : ℕ → List Word) (conn : ℕ → ℕ → ℤ) (len : ℕ) (a
   -- of the words that end at a place, each after the best chain to its own place: one that holds against each other makes the best chain
   pub best_among : (v : Word) (vs : List Word) (to left : ℕ) → 0 < to → IsChainTo words (v ∷ vs) to → IsBestTo words conn vs v.place v.left
       → ((w : Word) (ds : List Word) → IsChainTo words (w ∷ ds) to →
-      (us : List Word) × IsBestTo words conn us w.place w.left × HoldsAgainst words (joined conn (v ∷ vs) left) v (joined conn (w ∷ us) left) w)
+      (us : List Word) × IsBestTo words conn us w.place w.left × HoldsAgainst words (cost_with_next conn (v ∷ vs) left) v (cost_with_next conn (w ∷ us) left) w)
       → IsBestTo words conn (v ∷ vs) to left
   best_among v vs to left above chain b others = record {
     chain = chain;
@@ -79,7 +79,7 @@ module _ (words : ℕ → List Word) (conn : ℕ → ℕ → ℤ) (len : ℕ) (a
   chain_off (v ∷ vs) ws at to c h =
       chain_off vs (v ∷ ws) v.place to c.2 (c.1, subst (λ (q : ℕ). IsChain words q ws to) (sym c.0) h)
 
-  cost_onto : (ws vs : List Word) → cost_to conn vs +ℤ cost_after conn (last_right vs) ws ≡ joined conn (reverse_aux ws vs) 0
+  cost_onto : (ws vs : List Word) → cost_to conn vs +ℤ cost_after conn (last_right vs) ws ≡ cost_with_next conn (reverse_aux ws vs) 0
   cost_onto [] vs = refl
   cost_onto (w ∷ ws) vs = let more = cost_onto ws (w ∷ vs) in omega (arith, ints, more)
 
@@ -90,7 +90,7 @@ module _ (words : ℕ → List Word) (conn : ℕ → ℕ → ℤ) (len : ℕ) (a
   pub chain_forward : (vs : List Word) (to : ℕ) → IsChainTo words vs to → IsChain words 0 (reverse vs) to
   chain_forward vs to h = chain_off vs [] to to h refl
 
-  pub cost_reversed : (ws : List Word) → path_cost conn ws ≡ joined conn (reverse ws) 0
+  pub cost_reversed : (ws : List Word) → path_cost conn ws ≡ cost_with_next conn (reverse ws) 0
   cost_reversed ws = let e = cost_onto ws [] in omega (arith, ints, e)
 
   same_end : (vs : List Word) (to : ℕ) → IsBestTo words conn vs to 0 → ((ws : List Word) (later : ℕ) → IsChainTo words ws later → later ≤ to) → (ws : List Word) (end : ℕ) → IsPath words ws end → end ≡ to
@@ -101,7 +101,7 @@ module _ (words : ℕ → List Word) (conn : ℕ → ℕ → ℤ) (len : ℕ) (a
 
   before_from : (vs : List Word) (to : ℕ) → IsBestTo words conn vs to 0 → (ws : List Word) → IsChainTo words (reverse ws) to → (ws ≡ reverse vs) ⊎ IsBefore words conn (reverse vs) ws
   before_from vs to b ws h =
-      let x = cost_reversed (reverse vs) ∙ ap (λ (us : List Word). joined conn us 0) (reverse-reverse vs) in
+      let x = cost_reversed (reverse vs) ∙ ap (λ (us : List Word). cost_with_next conn us 0) (reverse-reverse vs) in
       let y = cost_reversed ws in
       elim (b.best (reverse ws) h) [
         | inl less ↦ inr (inl (omega (arith, ints, less, x, y)))
@@ -176,7 +176,7 @@ module _ (words : ℕ → List Word) (conn : ℕ → ℕ → ℤ) (len : ℕ) (a
       let same = ap (λ (n : ℕ). conn n r.left) (right_along rs vs ws w) in
       omega (arith, ints, more, same)
 
-  joined_along : (rs vs ws : List Word) (w : Word) (a b : ℕ) → joined conn (rs ++ w ∷ vs) a +ℤ joined conn (w ∷ ws) b ≡ joined conn (rs ++ w ∷ ws) a +ℤ joined conn (w ∷ vs) b
+  joined_along : (rs vs ws : List Word) (w : Word) (a b : ℕ) → cost_with_next conn (rs ++ w ∷ vs) a +ℤ cost_with_next conn (w ∷ ws) b ≡ cost_with_next conn (rs ++ w ∷ ws) a +ℤ cost_with_next conn (w ∷ vs) b
   joined_along rs vs ws w a b =
       let more = cost_along rs vs ws w in
       let same = ap (λ (n : ℕ). conn n a) (right_along rs vs ws w) in
@@ -203,7 +203,7 @@ module _ (words : ℕ → List Word) (conn : ℕ → ℕ → ℤ) (len : ℕ) (a
   shifted : (ps qs rs : List Word) (w : Word) → path_cost conn ((ps ++ w ∷ []) ++ rs) +ℤ path_cost conn (qs ++ w ∷ []) ≡ path_cost conn ((qs ++ w ∷ []) ++ rs) +ℤ path_cost conn (ps ++ w ∷ [])
   shifted ps qs rs w =
       let along = joined_along (reverse rs) (reverse ps) (reverse qs) w 0 0 in
-      let at = λ (us : List Word). joined conn us 0 in
+      let at = λ (us : List Word). cost_with_next conn us 0 in
       let a = cost_reversed ((ps ++ w ∷ []) ++ rs) ∙ ap at (back_along ps rs w) in
       let b = cost_reversed ((qs ++ w ∷ []) ++ rs) ∙ ap at (back_along qs rs w) in
       let c = cost_reversed (ps ++ w ∷ []) ∙ ap at (back_one ps w) in

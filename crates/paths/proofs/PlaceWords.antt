@@ -12,7 +12,7 @@ use Rattle.mj_model.specs.declared.word.Origin.TheVariants.{Known, Unknown}
 use Rattle.mj_model.specs.Tables.{Overlay, Lexeme, lexicons, HasText}
 use Rattle.paths.specs.Run.{bytes_of}
 use Rattle.paths.specs.Blanks.{skip, chars_from}
-use Rattle.paths.specs.KnownWords.{known}
+use Rattle.paths.specs.KnownWords.{known_words}
 use Rattle.paths.specs.Words.{is_empty, unknown, is_place, words}
 use Rattle.mj_model.specs.Lists.{StandsIn, AreApart}
 use Rattle.paths.specs.Laws.{HasWords, KeepsPlaces}
@@ -96,15 +96,15 @@ word_at o text p z at_p s =
     }
 
 in_words_by : (o : Overlay) (text : List ℕ) (p : ℕ) (b : Bool) → HasWords o → (is_place text p && nat_lt (skip o text p) (length text)) ≡ b → (z : Word)
-    → StandsIn (cond b (known o text p ++ unknown o (is_empty (known o text p)) p (skip o text p) (chars_from text (skip o text p))) []) z → IsWordAt o text p z
+    → StandsIn (cond b (known_words o text p ++ unknown o (is_empty (known_words o text p)) p (skip o text p) (chars_from text (skip o text p))) []) z → IsWordAt o text p z
 in_words_by o text p false has e z h = absurd h
 in_words_by o text p true has e z h =
     let start = skip o text p in
     let at_p = is_open o text p e in
     let u = text_behind_blanks o text p at_p.begins in
-    elim (in_append (known o text p) (unknown o (is_empty (known o text p)) p start (chars_from text start)) z h) [
+    elim (in_append (known_words o text p) (unknown o (is_empty (known_words o text p)) p start (chars_from text start)) z h) [
       | inl i ↦ word_at o text p z at_p (known_spans p start (drop start text) (lexicons o) z u has.surfaces (in_known_from p start (drop start text) 0 (lexicons o) z i))
-      | inr j ↦ word_at o text p z at_p (unknown_spans p start (drop start text) z u (in_unknown o (is_empty (known o text p)) p start (chars_from text start) z j))
+      | inr j ↦ word_at o text p z at_p (unknown_spans p start (drop start text) z u (in_unknown o (is_empty (known_words o text p)) p start (chars_from text start) z j))
     ]
 
 pub in_words : (o : Overlay) (text : List ℕ) (p : ℕ) (z : Word) → HasWords o → Contains (words o text p) z → IsWordAt o text p z
@@ -116,17 +116,17 @@ known_not_unknown : (dict s t : ℕ) → Known dict s ≡ Unknown t → ⊥
 known_not_unknown dict s t h = cc
 
 apart_words_by : (o : Overlay) (text : List ℕ) (p : ℕ) (b : Bool) → HasWords o
-    → AreApart (cond b (known o text p ++ unknown o (is_empty (known o text p)) p (skip o text p) (chars_from text (skip o text p))) [])
+    → AreApart (cond b (known_words o text p ++ unknown o (is_empty (known_words o text p)) p (skip o text p) (chars_from text (skip o text p))) [])
 apart_words_by o text p false has = tt
 apart_words_by o text p true has =
     let start = skip o text p in
     let cs = chars_from text start in
-    apart_append (known o text p) (unknown o (is_empty (known o text p)) p start cs)
+    apart_append (known_words o text p) (unknown o (is_empty (known_words o text p)) p start cs)
     (apart_known_from p start (drop start text) 0 (lexicons o) has.known_apart)
-    (apart_unknown o (is_empty (known o text p)) p start cs has.unknown_apart)
+    (apart_unknown o (is_empty (known_words o text p)) p start cs has.unknown_apart)
     (λ z i j.
     let f = in_known_from p start (drop start text) 0 (lexicons o) z i in
-    let k = in_unknown o (is_empty (known o text p)) p start cs z j in
+    let k = in_unknown o (is_empty (known_words o text p)) p start cs z j in
     known_not_unknown f.dict f.is_known.of_length.entry.token.number k.entry.number
     (sym (known_origin p start (drop start text) f.dict f.lexicon z f.is_known) ∙ ap (λ (w : Word). w.origin) k.is))
 

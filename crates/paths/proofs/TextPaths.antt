@@ -12,7 +12,7 @@ use Rattle.mj_model.specs.CharDef.{code_point_max}
 use Rattle.mj_model.specs.Tables.{Overlay, category_at}
 use Rattle.paths.specs.Run.{run, bytes_of, alike}
 use Rattle.paths.specs.Blanks.{skip, space, chars_from}
-use Rattle.paths.specs.KnownWords.{known}
+use Rattle.paths.specs.KnownWords.{known_words}
 use Rattle.paths.specs.UnknownSpans.{grouped_span, length_spans, one_if_none, spans}
 use Rattle.paths.specs.Words.{is_empty, unknown_word, unknown, is_place, words}
 use Rattle.paths.specs.Paths.{IsChain, IsPath}
@@ -69,8 +69,8 @@ words_there o text p covers low u less =
     let behind = text_behind_blanks o text p u in
     let there = chars_there (drop start text) behind (omega (arith, rest, less)) in
     let is : (is_place text p && nat_lt start (length text)) ≡ true = and_from (is_place text p) (nat_lt start (length text)) (place_there text p low u) (lt-ltb start (length text) less) in
-    subst (λ (b : Bool). 0 < length (cond b (known o text p ++ unknown o (is_empty (known o text p)) p start (chars_from text start)) [])) (sym is)
-    (some_there o (known o text p) p start (chars_from text start) covers (scalars-chars (drop start text) behind) there)
+    subst (λ (b : Bool). 0 < length (cond b (known_words o text p ++ unknown o (is_empty (known_words o text p)) p start (chars_from text start)) [])) (sym is)
+    (some_there o (known_words o text p) p start (chars_from text start) covers (scalars-chars (drop start text) behind) there)
 
 -- ---- only blanks remain
 

@@ -19,8 +19,8 @@ cost_to conn [] = pos 0
 cost_to conn (w ∷ ws) = (cost_to conn ws +ℤ conn (last_right ws) w.left) +ℤ w.cost
 
 -- with the connection to what follows it
-abbrev pub joined : (ℕ → ℕ → ℤ) → List Word → ℕ → ℤ
-joined conn ws left = cost_to conn ws +ℤ conn (last_right ws) left
+abbrev pub cost_with_next : (ℕ → ℕ → ℤ) → List Word → ℕ → ℤ
+cost_with_next conn ws left = cost_to conn ws +ℤ conn (last_right ws) left
 
 -- vs at cost a is ws at cost b, or before it
 abbrev pub NoWorse : (ℕ → List Word) → ℤ → List Word → ℤ → List Word → Type 0
@@ -33,4 +33,4 @@ HoldsAgainst words a v b w = (a <ℤ b) ⊎ ((a ≡ b) × ((v ≡ w) ⊎ IsPrefe
 -- the best chain to a place, where a word of this left id follows
 pub record IsBestTo (words : ℕ → List Word) (conn : ℕ → ℕ → ℤ) (vs : List Word) (to left : ℕ) : Type 0 where
   pub chain : IsChainTo words vs to
-  pub best : (ws : List Word) → IsChainTo words ws to → NoWorse words (joined conn vs left) vs (joined conn ws left) ws
+  pub best : (ws : List Word) → IsChainTo words ws to → NoWorse words (cost_with_next conn vs left) vs (cost_with_next conn ws left) ws

@@ -29,5 +29,5 @@ known_from place start text dict [] = []
 known_from place start text dict (lexicon ∷ more) = known_in place start text dict lexicon ++ known_from place start text (suc dict) more
 
 -- the known words of a place
-abbrev pub known : Overlay → List ℕ → ℕ → List Word
-known o text p = known_from p (skip o text p) (drop (skip o text p) text) 0 (lexicons o)
+abbrev pub known_words : Overlay → List ℕ → ℕ → List Word
+known_words o text p = known_from p (skip o text p) (drop (skip o text p) text) 0 (lexicons o)

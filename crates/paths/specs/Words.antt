@@ -6,7 +6,7 @@ use Rattle.mj_model.specs.declared.word.Origin.TheVariants.{Unknown}
 use Rattle.mj_model.specs.Tables.{Overlay, Token}
 use Rattle.paths.specs.Run.{bytes_of}
 use Rattle.paths.specs.Blanks.{skip, chars_from}
-use Rattle.paths.specs.KnownWords.{known, word_of}
+use Rattle.paths.specs.KnownWords.{known_words, word_of}
 use Rattle.paths.specs.UnknownSpans.{spans}
 
 abbrev pub is_empty : List Word → Bool
@@ -29,7 +29,7 @@ is_place text p = nat_le p (length text) && is_utf8 (drop p text)
 
 -- the words of a place whose surfaces begin at a start, the known before the unknown
 abbrev pub words_from : Overlay → List ℕ → ℕ → ℕ → List Word
-words_from o text p start = known o text p ++ unknown o (is_empty (known o text p)) p start (chars_from text start)
+words_from o text p start = known_words o text p ++ unknown o (is_empty (known_words o text p)) p start (chars_from text start)
 
 -- the words of a place, the known before the unknown; none where only blanks follow, and none where no character begins
 abbrev pub words : Overlay → List ℕ → ℕ → List Word

@@ -10,7 +10,7 @@ use Rattle.paths.specs.Blanks.{skip, chars_from}
 use Rattle.mj_model.specs.declared.matrix_sizes.MatrixSizes.{MatrixSizes}
 use Rattle.mj_model.specs.Connection.{is_pair}
 use Rattle.mj_model.specs.Lists.{up_to, StandsIn}
-use Rattle.paths.specs.KnownWords.{known_word, entries_of_length, known_in, known_from, known}
+use Rattle.paths.specs.KnownWords.{known_word, entries_of_length, known_in, known_from, known_words}
 use Rattle.paths.specs.Laws.{HasWords}
 use Rattle.paths.specs.Run.{bytes_of}
 use Rattle.mj_model.specs.Tables.{Lexeme, Overlay, lexicons}
@@ -57,11 +57,11 @@ fitting_unknown sizes o none_known place start (c ∷ cs) w fit h =
     subst (IsFittingWord sizes) m.2 (holds_in (IsFitting sizes) ts m.0 (fit (o.system.info c).head) m.1)
 
 fitting_by : (sizes : MatrixSizes) (o : Overlay) (text : List ℕ) (p : ℕ) (w : Word) (b : Bool) → EntriesFit sizes o
-    → StandsIn (cond b (known o text p ++ unknown o (is_empty (known o text p)) p (skip o text p) (chars_from text (skip o text p))) []) w → IsFittingWord sizes w
+    → StandsIn (cond b (known_words o text p ++ unknown o (is_empty (known_words o text p)) p (skip o text p) (chars_from text (skip o text p))) []) w → IsFittingWord sizes w
 fitting_by sizes o text p w false fit h = absurd h
-fitting_by sizes o text p w true fit h = elim (in_append (known o text p) (unknown o (is_empty (known o text p)) p (skip o text p) (chars_from text (skip o text p))) w h) [
+fitting_by sizes o text p w true fit h = elim (in_append (known_words o text p) (unknown o (is_empty (known_words o text p)) p (skip o text p) (chars_from text (skip o text p))) w h) [
   | inl i ↦ fitting_from sizes p (skip o text p) (drop (skip o text p) text) 0 (lexicons o) w fit.known_fit i
-  | inr j ↦ fitting_unknown sizes o (is_empty (known o text p)) p (skip o text p) (chars_from text (skip o text p)) w fit.unknown_fit j
+  | inr j ↦ fitting_unknown sizes o (is_empty (known_words o text p)) p (skip o text p) (chars_from text (skip o text p)) w fit.unknown_fit j
 ]
 
 -- each word has ids within the sizes, and a cost of 16 bits

@@ -8,7 +8,7 @@ use Rattle.std.proofs.lemmas.List.{nil_from_length, get_or-drop, length-drop, le
 use Rattle.std.proofs.lemmas.Str.{IsCharBoundary-start, IsUtf8-from_is_utf8, length-le-encodes, length-encode, encodes-chars, chars_past_char}
 use Rattle.mj_model.specs.declared.category.CharInfo.{CharInfo}
 use Rattle.paths.specs.Blanks.{skip, space, chars_from}
-use Rattle.paths.specs.KnownWords.{known}
+use Rattle.paths.specs.KnownWords.{known_words}
 use Rattle.paths.specs.Run.{run, bytes_of}
 use Rattle.mj_model.specs.Tables.{Overlay, Token}
 use Rattle.paths.specs.UnknownSpans.{spans}
@@ -67,15 +67,15 @@ place_behind_blanks o text p start h e low =
 
 pub no_words : (o : Overlay) (text : List ℕ) (p start : ℕ) → start ≡ skip o text p → length text ≤ start → words o text p ≡ []
 no_words o text p start at all =
-    ap (λ (b : Bool). cond b (known o text p ++ unknown o (is_empty (known o text p)) p (skip o text p) (chars_from text (skip o text p))) [])
+    ap (λ (b : Bool). cond b (known_words o text p ++ unknown o (is_empty (known_words o text p)) p (skip o text p) (chars_from text (skip o text p))) [])
     (and_right (is_place text p) (nat_lt (skip o text p) (length text)) (le-ltb (skip o text p) (length text) (omega (arith, at, all))))
 
 pub words_are : (o : Overlay) (text : List ℕ) (p start : ℕ) → IsTrue (is_place text p) → start ≡ skip o text p → start < length text
-    → words o text p ≡ known o text p ++ unknown o (is_empty (known o text p)) p start (chars_from text start)
+    → words o text p ≡ known_words o text p ++ unknown o (is_empty (known_words o text p)) p start (chars_from text start)
 words_are o text p start place at less =
     let here : (is_place text p && nat_lt (skip o text p) (length text)) ≡ true = and_from (is_place text p) (nat_lt (skip o text p) (length text)) place (lt-ltb (skip o text p) (length text) (omega (arith, at, less))) in
-    ap (λ (b : Bool). cond b (known o text p ++ unknown o (is_empty (known o text p)) p (skip o text p) (chars_from text (skip o text p))) []) here
-    ∙ ap (λ (k : ℕ). known o text p ++ unknown o (is_empty (known o text p)) p k (chars_from text k)) (sym at)
+    ap (λ (b : Bool). cond b (known_words o text p ++ unknown o (is_empty (known_words o text p)) p (skip o text p) (chars_from text (skip o text p))) []) here
+    ∙ ap (λ (k : ℕ). known_words o text p ++ unknown o (is_empty (known_words o text p)) p k (chars_from text k)) (sym at)
 
 -- blanks end in the text
 pub skip_within : (o : Overlay) (text : List ℕ) (p : ℕ) → IsTrue (is_place text p) → skip o text p ≤ length text

@@ -1,7 +1,7 @@
 use Rattle.std.proofs.Common.{arith, rules, ◌≡◌, List, ℕ, drop, sym, ap, ◌∙◌}
 use Rattle.std.specs.Prelude.{chars}
 use Rattle.paths.specs.Blanks.{chars_from}
-use Rattle.paths.specs.KnownWords.{known, known_from}
+use Rattle.paths.specs.KnownWords.{known_words, known_from}
 use Rattle.mj_model.specs.Tables.{lexicons}
 use Rattle.word_lookup.specs.Overlays.{overlay_of}
 use Rattle.word_lookup.proofs.AppendLemmas.{on_ok_map}
@@ -21,11 +21,11 @@ unfolding overlay_of
 returns-clause-appended c =
     let o = overlay_of c.args.self.now in
     let text = c.args.text.now in
-    let k : known o text c.args.place ≡ known_from c.args.place c.args.start c.behind.result.now 0 (lexicons o) =
+    let k : known_words o text c.args.place ≡ known_from c.args.place c.args.start c.behind.result.now 0 (lexicons o) =
     ap (λ (s : ℕ). known_from c.args.place s (drop s text) 0 (lexicons o)) (sym c.requires.behind_blanks)
     ∙ ap (λ (bytes : List ℕ). known_from c.args.place c.args.start bytes 0 (lexicons o)) (sym c.behind.ensures) in
     on_ok_map c.append_unknown.result c.append_unknown.ensures.appended
-    (known_then_unknown o c.args.place c.args.start c.behind.result.now (chars_from text c.args.start) (known o text c.args.place) _ c.args.out.now.items c.append_known.new.out.items _ c.len.result c.len-count.result
+    (known_then_unknown o c.args.place c.args.start c.behind.result.now (chars_from text c.args.start) (known_words o text c.args.place) _ c.args.out.now.items c.append_known.new.out.items _ c.len.result c.len-count.result
     k c.in_ok-append_known.ensures.appended (search rules) (search rules) (ap chars c.behind.ensures))
 
 pub returns-clause-kept : goal.returns-clause-kept
