@@ -93,7 +93,7 @@ ROWS = [
         words=("dic", LONG)),
     Row("old settings", {**FILES, "dicrc": b"\n"},
         imported(kept="old.dicrc", removed="old.pos-id.def old.fields", image="old.img", fields=OTHER_DICRC), words=("dic", "old.img")),
-    Row("fields are a folder", *refused(FILES, "held.fields: it is a folder", 3, "dic", "held.img")),
+    Row("fields are a folder", *refused(FILES, "{work}/held.fields: it is a folder", 3, "dic", "held.img")),
     Row("no folder", *refused({}, "none is no folder", 3, "none", "new.img")),
     Row("no sources", *refused({"sys.dic": b""}, f"dic has no matrix.def, {ONLY_FOLDER}", 3)),
     Row("no unk.def", *refused({name: data for name, data in FILES.items() if name != "unk.def"}, f"dic has no unk.def, {ONLY_FOLDER}", 3)),
