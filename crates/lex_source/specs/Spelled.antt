@@ -1,11 +1,12 @@
 -- A field as it stands in its line, perhaps between quotes.
-use Rattle.std.specs.Prelude.{◌≡◌, ℕ, ◌+◌, ◌<◌, ◌≤◌, Bool, false, IsUtf8, List, [], ◌∷◌, slice_get, Some, None, MatchOption, length, take, drop, slice_index, Option, if◌then◌else◌}
+use Rattle.std.specs.Prelude.{◌≡◌, ℕ, ◌+◌, ◌<◌, ◌≤◌, Bool, false, IsUtf8, List, [], ◌∷◌, slice_get, Some, None, MatchOption, length, take, drop, slice_index, Option, if◌then◌else◌, All}
 use Rattle.mj_model.specs.Bytes.{quote}
 use Rattle.mj_model.specs.Fields.{with_doubled_quotes, BeginsWithQuote, IsFirstField, AreFields, AreFirstFields}
 use Rattle.mj_model.specs.Lines.{is_blank_line}
 use Rattle.mj_model.specs.Lexicon.{Parts}
 use Rattle.lex_source.specs.declared.raw_field.RawField.{RawField}
 use Rattle.lex_source.specs.declared.parts.LineParts.{LineParts}
+use Rattle.lex_source.specs.declared.sought_fields.SoughtField.{SoughtField}
 
 -- a field stands as these bytes: between quotes with each quote written twice, else as it is
 abbrev pub IsSpelled : List ℕ → Bool → List ℕ → Type 0
@@ -40,6 +41,10 @@ pub record IsFieldAt (text : List ℕ) (n : ℕ) (found : Option RawField) : Typ
   pub fields : List (List ℕ)
   pub are : AreFields text fields
   pub here : MatchOption found (slice_get fields n ≡ None) (λ raw. (field : List ℕ) × IsSpelled raw.raw.now raw.quoted field × (slice_get fields n ≡ Some field))
+
+-- of the fields of a text, those that were sought stand where they were found
+abbrev pub AreSought : List ℕ → List SoughtField → Type 0
+AreSought text kept = All (λ sought. IsFieldAt text sought.number sought.found) kept
 
 -- the first four fields of a line, where they stand, and what follows them
 pub record StandsFor (raw : LineParts) (parts : Parts) : Type 0 where

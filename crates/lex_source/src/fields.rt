@@ -1,5 +1,5 @@
 //! A field by its number.
-ghost use Rattle.std.specs.Prelude.{◌≡◌, IfOk, option_map, string_bytes, take, vec_len};
+ghost use Rattle.std.specs.Prelude.{◌≡◌, ℕ, List, IfOk, option_map, string_bytes, take, vec_len};
 ghost use Rattle.lex_source.specs.Answers.{GrowsByField, IsField};
 ghost use Rattle.lex_source.specs.Spelled.{IsFieldAt};
 
@@ -25,9 +25,22 @@ pub fn append_field(out: &mut Vec<u8>, text: &str, n: usize) -> Result<bool, All
         out.old.items out.new.items) }
     ensures kept { take (vec_len out.old) out.new.items ≡ out.old.items }
 {
-    match find_field(text, n) {
-        Some(found) => {
-            found.append_to(out)?;
+    append_found(out, find_field(text, n))
+}
+
+/// Appends the field that was found, and tells whether there is one. On an error a part of it may stand there.
+pub(crate) fn append_found(
+    out: &mut Vec<u8>,
+    found: Option<RawField<'_>>,
+) -> Result<bool, AllocError>
+    requires { (text : List ℕ) × (n : ℕ) × IsFieldAt text n found }
+    ensures appended { (text : List ℕ) (n : ℕ) → IsFieldAt text n found.entry → IfOk result (λ there.
+        GrowsByField text n there out.old.items out.new.items) }
+    ensures kept { take (vec_len out.old) out.new.items ≡ out.old.items }
+{
+    match found {
+        Some(field) => {
+            field.append_to(out)?;
             Ok(true)
         }
         None => Ok(false),
@@ -35,7 +48,7 @@ pub fn append_field(out: &mut Vec<u8>, text: &str, n: usize) -> Result<bool, All
 }
 
 /// Where field `n` of a line stands.
-fn find_field(text: &str, n: usize) -> Option<RawField<'_>>
+pub(crate) fn find_field(text: &str, n: usize) -> Option<RawField<'_>>
     ensures { IsFieldAt text.now n result }
 {
     let mut found = RawField::first(text);

@@ -40,6 +40,10 @@ fn next_quote(bytes: &[u8], start: usize) -> usize
     requires { start ≤ length bytes.now }
     ensures { IsNextQuote bytes.now start result }
 {
+    // Behind a pair the next one often follows, where a search would cost more than a look.
+    if start < bytes.len() && bytes[start] == b'"' {
+        return start;
+    }
     match memchr(b'"', &bytes[start..]) {
         Some(at) => start + at,
         None => bytes.len(),
