@@ -6,5 +6,6 @@ mod lines;
 mod refusals;
 mod samples;
 mod sharing;
+mod text_lines;
 mod users;
 mod words;
