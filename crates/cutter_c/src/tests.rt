@@ -1,5 +1,5 @@
-//! Each export called as C calls it, over the sample. The two that lend a pointer are called from C alone (`tools/library_c`), since
-//! no clause lets a test read through one.
+//! Each export called as C calls it, over the sample. What a pointer lends is read in C alone (`tools/library_c`), since no clause lets a
+//! test read through one.
 
 mod cutting;
 mod empty;
@@ -8,4 +8,5 @@ mod samples;
 mod settings;
 mod sharing;
 mod telling;
+mod text_lines;
 mod words;
