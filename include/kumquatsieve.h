@@ -145,6 +145,14 @@ uint32_t kumquatsieve_print(kumquatsieve_cutter *cutter, const uint8_t **text, s
 /* The same into a buffer of the caller. *needed is its length, also where there is less room, and then nothing is written. */
 uint32_t kumquatsieve_copy_print(kumquatsieve_cutter *cutter, uint8_t *out, size_t room, size_t *needed);
 
+/* Cuts a text line by line: a line ends at a line feed, and the last one may lack it. *out is what the lines print, in the format, in the
+   cutter's own buffer, and valid until the next call with this cutter; *lines is how many they are. At a fault of a line *lines is the number
+   of that line, counted from 1, and *out is what the lines before it print, also where the call was out of memory. What was cut last is
+   forgotten. */
+uint32_t kumquatsieve_cut_lines(
+    kumquatsieve_cutter *cutter, const uint8_t *text, size_t length, const uint8_t **out, size_t *out_length, uint64_t *lines
+);
+
 /* Writes what a code means, as "G3 NotUtf8". *needed is its length, also where there is less room, and then nothing is written; 0 where
    no fault has this code. */
 uint32_t kumquatsieve_fault(uint32_t code, uint8_t *out, size_t room, size_t *needed);
@@ -236,6 +244,18 @@ static inline uint32_t kumquatsieve_guarded_copy_print(kumquatsieve_cutter *cutt
     return (kumquatsieve_copy_print)(cutter, out || room > 0 ? out : &none, room, needed ? needed : &unread);
 }
 
+static inline uint32_t kumquatsieve_guarded_cut_lines(
+    kumquatsieve_cutter *cutter, const uint8_t *text, size_t length, const uint8_t **out, size_t *out_length, uint64_t *lines
+) {
+    const uint8_t *unread = NULL;
+    size_t unread_length = 0;
+    uint64_t unread_lines = 0;
+    return (kumquatsieve_cut_lines)(
+        cutter, kumquatsieve_guarded_bytes(text, length), length, out ? out : &unread, out_length ? out_length : &unread_length,
+        lines ? lines : &unread_lines
+    );
+}
+
 static inline uint32_t kumquatsieve_guarded_fault(uint32_t code, uint8_t *out, size_t room, size_t *needed) {
     uint8_t none = 0;
     size_t unread = 0;
@@ -254,6 +274,8 @@ static inline uint32_t kumquatsieve_guarded_fault(uint32_t code, uint8_t *out, s
 #define kumquatsieve_copy_feature(cutter, number, out, room, needed) kumquatsieve_guarded_copy_feature(cutter, number, out, room, needed)
 #define kumquatsieve_print(cutter, text, length) kumquatsieve_guarded_print(cutter, text, length)
 #define kumquatsieve_copy_print(cutter, out, room, needed) kumquatsieve_guarded_copy_print(cutter, out, room, needed)
+#define kumquatsieve_cut_lines(cutter, text, length, out, out_length, lines) \
+    kumquatsieve_guarded_cut_lines(cutter, text, length, out, out_length, lines)
 #define kumquatsieve_fault(code, out, room, needed) kumquatsieve_guarded_fault(code, out, room, needed)
 
 #ifdef __cplusplus

@@ -26,6 +26,7 @@ static void calls_of_an_empty_cutter(file user) {
     CHECK(kumquatsieve_copy_feature(&cutter, 0, room, sizeof room, &length) == KUMQUATSIEVE_EMPTY_CUTTER);
     CHECK(kumquatsieve_print(&cutter, &kept, &length) == KUMQUATSIEVE_EMPTY_CUTTER);
     CHECK(kumquatsieve_copy_print(&cutter, room, sizeof room, &length) == KUMQUATSIEVE_EMPTY_CUTTER);
+    CHECK(kumquatsieve_cut_lines(&cutter, BYTES("a"), 1, &kept, &length, &number) == KUMQUATSIEVE_EMPTY_CUTTER);
     kumquatsieve_free(&cutter);
     kumquatsieve_free(&cutter);
 }
@@ -65,6 +66,49 @@ static void lines(kumquatsieve_cutter *cutter) {
     CHECK(prints(cutter, "EOS\n"));
     CHECK(kumquatsieve_cut(cutter, BYTES(LINE), strlen(LINE), &count, &total) == KUMQUATSIEVE_OK && count == 2);
     CHECK(prints(cutter, PRINTED));
+}
+
+/* A text that is cut line by line: what is answered, the number of its lines or of the line at fault, and what is printed. */
+typedef struct text_row {
+    const char *what, *text;
+    uint32_t code;
+    uint64_t lines;
+    const char *printed;
+} text_row;
+
+static const text_row text_rows[] = {
+    {"an empty text", "", KUMQUATSIEVE_OK, 0, ""},
+    {"a line feed alone", "\n", KUMQUATSIEVE_OK, 1, "EOS\n"},
+    {"one line", LINE "\n", KUMQUATSIEVE_OK, 1, PRINTED},
+    {"two lines", LINE "\n" LINE "\n", KUMQUATSIEVE_OK, 2, PRINTED PRINTED},
+    {"no line feed at the end", "\n" LINE, KUMQUATSIEVE_OK, 2, "EOS\n" PRINTED},
+    {"CR LF: the CR is a character", "\r\n" LINE "\n", KUMQUATSIEVE_OK, 2, "\r\t未知\nEOS\n" PRINTED},
+    {"bad UTF-8 in line 3", LINE "\n\na\xff\n" LINE "\n", KUMQUATSIEVE_NOT_UTF8, 3, PRINTED "EOS\n"},
+    {"bad UTF-8 in a last line without a line feed", LINE "\na\xff", KUMQUATSIEVE_NOT_UTF8, 2, PRINTED},
+};
+
+static void text_lines(kumquatsieve_cutter *cutter) {
+    for (size_t i = 0; i < sizeof text_rows / sizeof *text_rows; i++) {
+        const text_row *row = &text_rows[i];
+        uint32_t code = kumquatsieve_cut_lines(cutter, BYTES(row->text), strlen(row->text), &kept, &length, &number);
+        if (code != row->code || number != row->lines || !is_text(kept, length, row->printed)) {
+            fprintf(stderr, "text_lines: %s: %#x, %llu: %.*s\n", row->what, code, (unsigned long long)number, (int)length, (const char *)kept);
+            exit(1);
+        }
+        CHECK(kumquatsieve_print(cutter, &kept, &length) == KUMQUATSIEVE_NOTHING_CUT);
+    }
+}
+
+/* A line of one byte more than a line may have, behind one that is printed. */
+static void too_long_line(kumquatsieve_cutter *cutter) {
+    static uint8_t text[2 + 1048577 + 1];
+    memset(text, ' ', sizeof text);
+    text[1] = text[sizeof text - 1] = '\n';
+    CHECK(kumquatsieve_cut_lines(cutter, text, sizeof text, &kept, &length, &number) == KUMQUATSIEVE_TOO_LONG && number == 2);
+    CHECK(is_text(kept, length, "EOS\n"));
+    text[2] = '\n';
+    CHECK(kumquatsieve_cut_lines(cutter, text, sizeof text, &kept, &length, &number) == KUMQUATSIEVE_OK && number == 3);
+    CHECK(is_text(kept, length, "EOS\nEOS\nEOS\n"));
 }
 
 static void the_words(kumquatsieve_cutter *cutter) {
@@ -126,6 +170,8 @@ int main(int given, char **paths) {
     CHECK(kumquatsieve_load(&cutter, system.bytes, system.length, &number) == KUMQUATSIEVE_OK);
     memset(system.bytes, 0, system.length);
     lines(&cutter);
+    text_lines(&cutter);
+    too_long_line(&cutter);
     the_words(&cutter);
     formats(&cutter);
     users(&cutter, user);

@@ -8,6 +8,8 @@ static void no_bytes(file system) {
     CHECK(kumquatsieve_add_user(&cutter, NULL, 0, NULL) == KUMQUATSIEVE_TRUNCATED);
     CHECK(kumquatsieve_cut(&cutter, NULL, 0, NULL, NULL) == KUMQUATSIEVE_OK && prints(&cutter, "EOS\n"));
     CHECK(kumquatsieve_cut_text(&cutter, NULL, 0, NULL, NULL) == KUMQUATSIEVE_OK);
+    CHECK(kumquatsieve_cut_lines(&cutter, NULL, 0, NULL, NULL, NULL) == KUMQUATSIEVE_OK);
+    CHECK(kumquatsieve_cut(&cutter, NULL, 0, NULL, NULL) == KUMQUATSIEVE_OK);
     CHECK(kumquatsieve_set_format(&cutter, NULL, 0, NULL, 0, NULL, 0, NULL, 0, NULL, NULL) == KUMQUATSIEVE_OK && prints(&cutter, ""));
     CHECK(kumquatsieve_set_format(&cutter, BYTES("%q"), 2, NULL, 0, NULL, 0, NULL, 0, NULL, NULL) == KUMQUATSIEVE_BAD_ITEM);
     kumquatsieve_free(&cutter);
@@ -28,6 +30,8 @@ static void no_outputs(file system, file user) {
     CHECK(kumquatsieve_print(&cutter, NULL, NULL) == KUMQUATSIEVE_OK);
     CHECK(kumquatsieve_copy_print(&cutter, NULL, 0, &needed) == KUMQUATSIEVE_SHORT_BUFFER && needed > 0);
     CHECK(kumquatsieve_copy_print(&cutter, NULL, 0, NULL) == KUMQUATSIEVE_SHORT_BUFFER);
+    CHECK(kumquatsieve_cut_lines(&cutter, BYTES(LINE), strlen(LINE), NULL, NULL, NULL) == KUMQUATSIEVE_OK);
+    CHECK(kumquatsieve_cut_lines(&cutter, BYTES("\xff"), 1, NULL, NULL, NULL) == KUMQUATSIEVE_NOT_UTF8);
     CHECK(kumquatsieve_fault(KUMQUATSIEVE_NOT_UTF8, NULL, 0, &needed) == KUMQUATSIEVE_SHORT_BUFFER && needed == strlen("G3 NotUtf8"));
     CHECK(kumquatsieve_fault(KUMQUATSIEVE_NOT_UTF8, NULL, 0, NULL) == KUMQUATSIEVE_SHORT_BUFFER);
     kumquatsieve_free(&cutter);

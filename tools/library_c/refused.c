@@ -52,6 +52,9 @@ static void run(file system, file user) {
     while (again(kumquatsieve_feature(&other, 0, &kept, &length))) continue;
     while (again(kumquatsieve_print(&other, &kept, &length))) continue;
     CHECK(is_text(kept, length, "すもももも \n"));
+    while (again(kumquatsieve_cut_lines(&other, BYTES(LINE "\n" LINE), 2 * strlen(LINE) + 1, &kept, &length, &number)))
+        CHECK(is_text(kept, length, number == 1 ? "" : "すもももも \n"));
+    CHECK(number == 2 && is_text(kept, length, "すもももも \nすもももも \n"));
     kumquatsieve_free(&other);
     kumquatsieve_free(&cutter);
 }

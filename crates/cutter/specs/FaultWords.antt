@@ -8,6 +8,8 @@ use Rattle.mj_model.specs.FaultWords.{Words, format_words}
 use Rattle.mj_model.specs.ImageFaultWords.{image_words, overlay_words}
 use Rattle.line_stream.specs.declared.line_fault.LineFault.{LineFault}
 use Rattle.line_stream.specs.declared.line_fault.LineFault.TheVariants.{TooLong, NotUtf8}
+use Rattle.line_stream.specs.declared.line_fault.LineError.{LineError}
+use Rattle.line_stream.specs.declared.line_fault.LineError.TheVariants as line
 use Rattle.cutter.specs.declared.fault.CutFault.{CutFault}
 use Rattle.cutter.specs.declared.fault.CutFault.TheVariants as cut
 
@@ -33,6 +35,11 @@ told_of_image fault = cut.Image fault
 abbrev pub told_of_line : LineFault → CutFault
 told_of_line TooLong = cut.TooLong
 told_of_line NotUtf8 = cut.NotUtf8
+
+-- why a line was not printed
+abbrev pub told_of_error : LineError → CutFault
+told_of_error (line.Bad fault) = told_of_line fault
+told_of_error line.Memory = cut.Memory
 
 -- the fault of a format
 abbrev pub told_of_format : FormatFault → CutFault

@@ -2,3 +2,4 @@ pub mod FaultWords
 pub mod Cutters
 pub mod Kept
 pub mod Faults
+pub mod TextLines

@@ -2,7 +2,7 @@
 
 ghost use Rattle.std.specs.Prelude.{◌≡◌};
 
-use line_stream::LineFault;
+use line_stream::{LineError, LineFault};
 use mj_model::{FormatFault, ImageFault, NamedFault, OverlayFault};
 use std::alloc::{AllocError, AllocFailed};
 use thiserror::Error;
@@ -91,6 +91,20 @@ impl From<LineFault> for CutFault {
         match fault {
             LineFault::TooLong => CutFault::TooLong,
             LineFault::NotUtf8 => CutFault::NotUtf8,
+        }
+    }
+}
+
+impl From<LineError> for CutFault {
+    ghost use Rattle.std.specs.Prelude.{◌≡◌};
+    ghost use Rattle.cutter.specs.FaultWords.{told_of_error};
+
+    ghost from_gives = { λ error told. told ≡ told_of_error error };
+
+    fn from(error: LineError) -> CutFault {
+        match error {
+            LineError::Bad(fault) => fault.into(),
+            LineError::Memory => CutFault::Memory,
         }
     }
 }

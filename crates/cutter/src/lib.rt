@@ -7,6 +7,8 @@ mod cutting;
 mod fault;
 mod last_cut;
 mod owned_dictionaries;
+mod text_lines;
 
 pub use cutter::Cutter;
 pub use fault::CutFault;
+pub use text_lines::LinesFault;

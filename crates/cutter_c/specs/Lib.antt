@@ -7,3 +7,4 @@ pub mod Settings
 pub mod Asked
 pub mod Texts
 pub mod Words
+pub mod TextLines

@@ -13,6 +13,7 @@ mod settings;
 mod slot;
 mod tellers;
 mod telling;
+mod text_lines;
 pub mod texts;
 mod words;
 
@@ -22,6 +23,6 @@ pub use exports::{
 };
 pub use handle::Handle;
 pub use tellers::{
-    kumquatsieve_copy_feature, kumquatsieve_copy_print, kumquatsieve_fault, kumquatsieve_feature,
-    kumquatsieve_print, kumquatsieve_words,
+    kumquatsieve_copy_feature, kumquatsieve_copy_print, kumquatsieve_cut_lines, kumquatsieve_fault,
+    kumquatsieve_feature, kumquatsieve_print, kumquatsieve_words,
 };

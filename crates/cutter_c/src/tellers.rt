@@ -1,4 +1,4 @@
-//! What C calls to be told of the path that was cut last, and of faults.
+//! What C calls to be told of the path that was cut last, of the lines of a text, and of faults.
 
 ghost use Rattle.std.specs.Prelude.{◌≡◌, ◌≢◌, length};
 ghost use Rattle.std.specs.Option.{IsSomeAnd};
@@ -7,12 +7,14 @@ ghost use Rattle.cutter.specs.Faults.{IsNothingCut};
 ghost use Rattle.cutter_c.specs.Asked.{IsAskedRefusal, IsCopied, IsTold, NeedsMore, TellsCopied};
 ghost use Rattle.cutter_c.specs.declared.telling.Asked.TheVariants.{Feature as FeatureOf, Path as PathText};
 ghost use Rattle.cutter_c.specs.Handles.{IsRefusal, TellsCall, TellsLent, cutter_in, lent_at};
+ghost use Rattle.cutter_c.specs.TextLines.{TellsLines};
 ghost use Rattle.cutter_c.specs.Texts.{text_at};
 ghost use Rattle.cutter_c.specs.Words.{AreTold};
 
 use crate::codes::code_told;
 use crate::handle::Handle;
 use crate::telling::{Asked, copy, copy_to, told_lent};
+use crate::text_lines::cut_lines;
 use crate::texts::text_of_code;
 use crate::words::{CWord, words};
 use std::alloc::Global;
@@ -30,6 +32,24 @@ pub extern "C" fn kumquatsieve_print(
 {
     let answer = cutter.call(alloc, |session| session.lend(Asked::Path));
     told_lent(answer, text, count)
+}
+
+/// Cuts the lines of a text: what they print, in the format, and how many they are. At a fault the text is that of the lines before
+/// the one that is at fault, whose number from 1 is told. What was cut last is forgotten; the text stays until the next call with
+/// this handle.
+#[unsafe(no_mangle)]
+pub extern "C" fn kumquatsieve_cut_lines(
+    alloc: Global,
+    cutter: &mut Handle,
+    text: &[u8],
+    out: &mut *const u8,
+    count: &mut usize,
+    lines: &mut u64,
+) -> u32
+    ensures { TellsLines cutter.old.slot.value cutter.new.slot.value text.now
+        (lent_at out.new count.new) lines.new result }
+{
+    code_told(cut_lines(alloc, cutter, text, out, count, lines))
 }
 
 /// The feature of a word that was cut last, by the word's number from 0. It stays until the next call with this handle.

@@ -1,7 +1,8 @@
 //! What is asked of the path that was cut last, told in the cutter's own buffer or in a buffer of C's.
 
-ghost use Rattle.std.specs.Prelude.{◌≡◌, length, OnErr, OnOk, IfOk, IfErr};
+ghost use Rattle.std.specs.Prelude.{◌≡◌, length, vec_len, OnErr, OnOk, IfOk, IfErr};
 ghost use Rattle.std.specs.Option.{IsSomeAnd};
+ghost use Rattle.std_alloc.specs.Vec.{vec_ptr};
 ghost use Rattle.cutter_c.specs.Asked.{IsAskedRefusal, IsCopied, IsCopyFault, IsCopyRefusal, IsTold, IsWritten, NeedsMore};
 ghost use Rattle.cutter_c.specs.Codes.{told_code};
 ghost use Rattle.cutter_c.specs.Handles.{IsLent, cutter_in, lent_at};
@@ -78,10 +79,17 @@ impl Session {
         ensures cutter { self.new.cutter ≡ self.old.cutter }
     {
         self.tell(asked)?;
-        Ok(Lent {
+        Ok(self.lent())
+    }
+
+    /// The buffer, as it is lent.
+    pub fn lent(&self) -> Lent
+        ensures { result ≡ lent_at (vec_ptr self.now.output) (vec_len self.now.output) }
+    {
+        Lent {
             at: self.output.as_ptr(),
             count: self.output.len(),
-        })
+        }
     }
 }
 

@@ -6,4 +6,5 @@ pub mod WritingLemmas
 pub mod StepLemmas
 pub mod RunWork
 pub mod RunEnds
+pub mod LinesInMemory
 pub mod GoodRuns

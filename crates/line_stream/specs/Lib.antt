@@ -2,5 +2,6 @@ pub mod LineErrors
 pub mod GoodLines
 pub mod Progress
 pub mod Steps
+pub mod LinesInMemory
 pub mod Runs
 pub mod GoodRuns

@@ -4,6 +4,7 @@
 pub mod laws;
 mod line_fault;
 mod line_printer;
+mod lines_in_memory;
 mod piece;
 mod progress;
 mod reading;
@@ -13,5 +14,6 @@ mod writing;
 
 pub use line_fault::{LineError, LineFault};
 pub use line_printer::LinePrinter;
+pub use lines_in_memory::{StoppedLine, print_lines};
 pub use reading::{BUFFER, run_over};
 pub use text::text_of;

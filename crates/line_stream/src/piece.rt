@@ -17,7 +17,7 @@ use mj_model::{RunFault, TextOut};
 pub const OUTPUT_MAX: usize = 1 << 20;
 
 /// The bytes before an LF, and those behind it.
-fn cut(bytes: &[u8], at: usize) -> (&[u8], &[u8])
+pub fn cut(bytes: &[u8], at: usize) -> (&[u8], &[u8])
     requires { at < length bytes.now }
     ensures line { result.0.now ≡ take at bytes.now }
     ensures behind { result.1.now ≡ drop (at + 1) bytes.now }

@@ -23,7 +23,7 @@ pub struct Progress {
 }
 
 /// Prints a line of any length.
-fn print_any<P: LinePrinter>(
+pub fn print_any<P: LinePrinter>(
     printer: &P,
     kept: &mut P::Kept,
     line: &[u8],

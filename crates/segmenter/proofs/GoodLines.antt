@@ -6,7 +6,7 @@ use Rattle.out_format.specs.Formats.{Format}
 use Rattle.line_stream.specs.GoodLines.{IsGood}
 use Rattle.line_stream.specs.declared.line_fault.LineFault.{LineFault}
 use Rattle.line_stream.specs.declared.line_fault.LineFault.TheVariants.{TooLong, NotUtf8}
-use Rattle.segmenter.specs.PrintedLines.{Tells}
+use Rattle.words_printer.specs.PrintedLines.{Tells}
 
 pub not_good : (o : Overlay) (f : Format) (line : List ℕ) (fault : LineFault) → Tells o f line (Err fault) → IsGood line → ⊥
 not_good o f line TooLong tells good = let short = good.0 in absurd (omega (arith, short, tells))

@@ -5,7 +5,7 @@ use Rattle.mj_model.specs.Output.{BadLine, Output, text_lines}
 use Rattle.mj_model.specs.TextLines.{whole_lines}
 use Rattle.line_stream.specs.declared.line_fault.LineFault.{LineFault}
 use Rattle.segmenter.specs.JoinedTexts.{EndsLine, OutputsJoin, OutputStops, counted_after}
-use Rattle.segmenter.specs.PrintedLines.{Tells}
+use Rattle.words_printer.specs.PrintedLines.{Tells}
 use Rattle.line_stream.specs.Steps.{last_line}
 use Rattle.line_stream.proofs.GoodRuns.{text_lines-behind}
 use Rattle.line_stream.proofs.PrintedBehind.{print_append}

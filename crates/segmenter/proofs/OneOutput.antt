@@ -16,7 +16,7 @@ use Rattle.line_stream.specs.declared.line_fault.LineFault.{LineFault}
 use Rattle.line_stream.specs.declared.line_fault.LineFault.TheVariants.{TooLong, NotUtf8}
 use Rattle.segmenter.specs.OneOutput.{HasOneOutput}
 use Rattle.line_stream.specs.GoodLines.{IsGood}
-use Rattle.segmenter.specs.PrintedLines.{Prints, Tells}
+use Rattle.words_printer.specs.PrintedLines.{Prints, Tells}
 
 -- ---- what is told of a line
 

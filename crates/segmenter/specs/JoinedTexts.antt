@@ -5,7 +5,7 @@ use Rattle.mj_model.specs.Tables.{Overlay}
 use Rattle.mj_model.specs.TextLines.{open_line}
 use Rattle.out_format.specs.Formats.{Format}
 use Rattle.line_stream.specs.declared.line_fault.LineFault.{LineFault}
-use Rattle.segmenter.specs.PrintedLines.{Tells}
+use Rattle.words_printer.specs.PrintedLines.{Tells}
 
 -- the output of a text
 abbrev pub OutputOf : Overlay → Format → List ℕ → List ℕ → Option (BadLine LineFault) → Type 0

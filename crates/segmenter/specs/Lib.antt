@@ -1,4 +1,3 @@
-pub mod PrintedLines
 pub mod OneOutput
 pub mod JoinedTexts
 pub mod SourceRuns

@@ -5,7 +5,7 @@ use Rattle.mj_model.specs.Tables.{Overlay}
 use Rattle.out_format.specs.Formats.{Format}
 use Rattle.paths.specs.PathLaws.{CoversTexts}
 use Rattle.line_stream.specs.declared.line_fault.LineFault.{LineFault}
-use Rattle.segmenter.specs.PrintedLines.{Tells}
+use Rattle.words_printer.specs.PrintedLines.{Tells}
 
 -- over an overlay that covers texts each text has exactly one output in a format: one list of bytes, and one first bad line or none
 abbrev pub HasOneOutput : Type 0

@@ -10,7 +10,7 @@ use Rattle.dict_compile.specs.SourceOverlays.{HaveOverlay}
 use Rattle.paths.specs.PathLaws.{CoversTexts}
 use Rattle.out_format.specs.Formats.{Format}
 use Rattle.line_stream.specs.Runs.{Ran}
-use Rattle.segmenter.specs.PrintedLines.{Tells}
+use Rattle.words_printer.specs.PrintedLines.{Tells}
 
 -- a run over what sources and users' lexicons say, which covers every text
 pub record RanOver (s : Sources) (users : List (List (List ℕ))) (grouping : ℕ) (format : Format) (from to : ReaderTold) (before after : WriterTold)

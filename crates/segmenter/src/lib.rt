@@ -6,7 +6,6 @@ mod early_fault;
 pub mod laws;
 mod running;
 mod segmentation;
-mod words_printer;
 
 pub use mj_model::sample;
 pub use running::run_sources;

@@ -5,16 +5,16 @@ ghost use Rattle.mj_model.specs.Counts.{MayBeRead, MayBeWritten};
 ghost use Rattle.mj_model.specs.declared.limits.TheConstants.{READS_MAX as ReadsMax};
 ghost use Rattle.paths.specs.PathLaws.{CoversTexts};
 ghost use Rattle.line_stream.specs.GoodRuns.{IsOkOrMemory, NothingFails};
-ghost use Rattle.segmenter.specs.PrintedLines.{Tells};
+ghost use Rattle.words_printer.specs.PrintedLines.{Tells};
 ghost use Rattle.line_stream.specs.Runs.{Ran};
 ghost use Rattle.word_lookup.specs.Overlays.{overlay_of};
 
-use crate::words_printer::{LineMemory, WordsPrinter};
 use line_stream::run_over;
 use mj_model::{READS_MAX, RunFault, TextIn, TextOut};
 use out_format::Format;
 use std::alloc::Global;
 use word_lookup::Dictionaries;
+use words_printer::{LineMemory, WordsPrinter};
 
 /// Cuts the text of a reader into words and writes them in a format; answers the number of lines.
 ///

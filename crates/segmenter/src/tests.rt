@@ -2,7 +2,6 @@
 
 use crate::dicts::system_dict;
 use crate::sample;
-use crate::words_printer::{LineMemory, WordsPrinter};
 use line_stream::run_over;
 use mj_model::{Counted, RunFault};
 use out_format::Format;
@@ -10,6 +9,7 @@ use std::io;
 use std::io::Read;
 use std::test::Fail;
 use word_lookup::Dictionaries;
+use words_printer::{LineMemory, WordsPrinter};
 
 /// Gives a byte a read.
 #[derive(Drop)]

@@ -3,7 +3,7 @@ use Rattle.word_lookup.specs.Overlays.{overlay_of}
 use Rattle.word_lookup.proofs.DictionaryLaws.{covers_all, has_words}
 use Rattle.mj_model.specs.declared.limits.TheConstants.{READS_MAX}
 use Rattle.line_stream.proofs.GoodRuns.{good_run}
-use Rattle.segmenter.specs.PrintedLines.{Tells}
+use Rattle.words_printer.specs.PrintedLines.{Tells}
 use Rattle.segmenter.proofs.GoodLines.{not_good}
 use Rattle.segmenter.proofs.segmentation.segment.Goals as goal
 

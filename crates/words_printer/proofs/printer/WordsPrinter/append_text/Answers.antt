@@ -2,9 +2,9 @@ use Rattle.std.proofs.Common.{◌≡◌, ◌++◌, List}
 use Rattle.std.specs.Prelude.{ℕ}
 use Rattle.out_format.specs.PrintedPaths.{ShowsPath}
 use Rattle.word_lookup.specs.Overlays.{overlay_of}
-use Rattle.segmenter.specs.PrintedLines.{Prints}
+use Rattle.words_printer.specs.PrintedLines.{Prints}
 use Rattle.line_stream.proofs.ResultLemmas.{on_ok_by}
-use Rattle.segmenter.proofs.words_printer.WordsPrinter.append_text.Goals as goal
+use Rattle.words_printer.proofs.printer.WordsPrinter.append_text.Goals as goal
 
 pub returns-clause-printed : goal.returns-clause-printed
 returns-clause-printed c =

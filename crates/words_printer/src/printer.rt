@@ -2,7 +2,7 @@
 
 ghost use Rattle.std.specs.Prelude.{◌≡◌, ℕ, ◌++◌, ◌≤◌, List, length, OnOk, OnErr};
 ghost use Rattle.mj_model.specs.declared.limits.TheConstants.{SENTENCE_MAX};
-ghost use Rattle.segmenter.specs.PrintedLines.{Prints, Tells};
+ghost use Rattle.words_printer.specs.PrintedLines.{Prints, Tells};
 ghost use Rattle.word_lookup.specs.Overlays.{overlay_of};
 
 use lattice::Lattice;

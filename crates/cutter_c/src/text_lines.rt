@@ -1,0 +1,63 @@
+//! Texts cut line by line, and what they print lent.
+
+ghost use Rattle.std.specs.Prelude.{◌≡◌, None, OnOk, IfErr};
+ghost use Rattle.cutter.specs.TextLines.{ShowsLines, StopsFor};
+ghost use Rattle.cutter_c.specs.Handles.{cutter_in, lent_at};
+ghost use Rattle.cutter_c.specs.TextLines.{IsLinesRefusal, LendsLines, forgets};
+
+use crate::fault::CallFault;
+use crate::handle::Handle;
+use crate::session::Session;
+use crate::telling::Lent;
+use cutter::CutFault;
+use std::alloc::Global;
+
+impl Session {
+    /// Puts into the buffer what the lines of a text print. `lines` is the number of the lines, or that of the line at which they
+    /// stopped.
+    fn print_lines(&mut self, text: &[u8], lines: &mut u64) -> Result<(), CutFault>
+        ensures printed { OnOk result
+            (ShowsLines self.old.cutter text.now lines.new self.new.output.items) }
+        ensures stopped { IfErr result (λ fault.
+            StopsFor self.old.cutter text.now lines.new fault self.new.output.items) }
+        ensures cutter { self.new.cutter ≡ record self.old.cutter { cut = None } }
+    {
+        self.output.clear();
+        match self.cutter.cut_lines(text, &mut self.output) {
+            Ok(count) => {
+                *lines = count;
+                Ok(())
+            }
+            Err(stopped) => {
+                *lines = stopped.line;
+                Err(stopped.fault)
+            }
+        }
+    }
+}
+
+/// Cuts the lines of a text by a handle's cutter, and lends what they print, also where they stopped.
+pub fn cut_lines(
+    alloc: Global,
+    cutter: &mut Handle,
+    text: &[u8],
+    out: &mut *const u8,
+    count: &mut usize,
+    lines: &mut u64,
+) -> Result<(), CallFault>
+    ensures printed { OnOk result
+        (LendsLines (cutter_in cutter.old) cutter.new.slot.value text.now
+        (lent_at out.new count.new) lines.new) }
+    ensures stopped { IfErr result
+        (IsLinesRefusal (cutter_in cutter.old) cutter.new.slot.value text.now
+        (lent_at out.new count.new) lines.new) }
+    ensures cutter { cutter_in cutter.new ≡ forgets (cutter_in cutter.old) }
+{
+    let mut session = cutter.take(alloc).ok_or(CallFault::EmptyCutter)?;
+    let answer = session.print_lines(text, lines);
+    let Lent { at, count: length } = session.lent();
+    *out = at;
+    *count = length;
+    cutter.put(session);
+    Ok(answer?)
+}

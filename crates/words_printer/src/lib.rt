@@ -1,0 +1,6 @@
+//! Lines printed as the words of their best path.
+#![tactic(auto)]
+
+mod printer;
+
+pub use printer::{LineMemory, WordsPrinter};
