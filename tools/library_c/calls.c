@@ -79,11 +79,16 @@ typedef struct text_row {
 static const text_row text_rows[] = {
     {"an empty text", "", KUMQUATSIEVE_OK, 0, ""},
     {"a line feed alone", "\n", KUMQUATSIEVE_OK, 1, "EOS\n"},
+    {"empty lines", "\n\n", KUMQUATSIEVE_OK, 2, "EOS\nEOS\n"},
+    {"blanks alone", "  \n ", KUMQUATSIEVE_OK, 2, "EOS\nEOS\n"},
+    {"CR LF: the CR is no blank", "\r\n\n", KUMQUATSIEVE_OK, 2, "\r\t未知\nEOS\nEOS\n"},
     {"one line", LINE "\n", KUMQUATSIEVE_OK, 1, PRINTED},
     {"two lines", LINE "\n" LINE "\n", KUMQUATSIEVE_OK, 2, PRINTED PRINTED},
     {"no line feed at the end", "\n" LINE, KUMQUATSIEVE_OK, 2, "EOS\n" PRINTED},
     {"CR LF: the CR is a character", "\r\n" LINE "\n", KUMQUATSIEVE_OK, 2, "\r\t未知\nEOS\n" PRINTED},
     {"bad UTF-8 in line 3", LINE "\n\na\xff\n" LINE "\n", KUMQUATSIEVE_NOT_UTF8, 3, PRINTED "EOS\n"},
+    {"bad UTF-8 behind empty lines", "\n\na\xff\nb\n", KUMQUATSIEVE_NOT_UTF8, 3, "EOS\nEOS\n"},
+    {"bad UTF-8 in a last line behind an empty one", "\n\xff", KUMQUATSIEVE_NOT_UTF8, 2, "EOS\n"},
     {"bad UTF-8 in a last line without a line feed", LINE "\na\xff", KUMQUATSIEVE_NOT_UTF8, 2, PRINTED},
 };
 

@@ -26,13 +26,13 @@ impl<'a, C: CellRead> Model for Prefixes<'a, C> {
     ghost Value = { HitsSeen };
 
     ghost use Rattle.cell_walk.specs.Hits.{hits_left};
-    ghost use Rattle.cell_walk.specs.Walking.{IsWalking, walked};
+    ghost use Rattle.cell_walk.specs.Walking.{IsWalking, bytes_walked};
 
     ghost view = { λ it. record {
       hits = hits_left (C.cells it.cells.now) it.text.now it.walk;
       cells = C.cells it.cells.now;
       text = it.text.now;
-      walked = walked it.text.now it.walk;
+      walked = bytes_walked it.text.now it.walk;
     } };
 
     ghost invariant = { λ it. IsWalking (C.cells it.cells.now) it.text.now it.walk };

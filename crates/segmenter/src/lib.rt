@@ -10,6 +10,3 @@ mod segmentation;
 pub use mj_model::sample;
 pub use running::run_sources;
 pub use segmentation::segment;
-
-#[cfg(test)]
-mod tests;

@@ -1,9 +1,8 @@
 //! The bound on reads. That of the public calls is so great that no test reaches it, so this asks the loop itself.
 
-use crate::dicts::system_dict;
-use crate::sample;
+use crate::tests::samples::system_dict;
 use line_stream::run_over;
-use mj_model::{Counted, RunFault};
+use mj_model::{Counted, RunFault, sample};
 use out_format::Format;
 use std::io;
 use std::io::Read;
