@@ -13,7 +13,9 @@ use Rattle.paths.specs.Searchable.{IsSearchable}
 use Rattle.mj_model.specs.Tables.{Overlay}
 use Rattle.paths.specs.Words.{is_place, words}
 use Rattle.paths.proofs.PlaceWords.{in_words}
-use Rattle.out_format.specs.Standings.{IsWordOf}
+use Rattle.mj_model.specs.declared.word.Origin.{Origin}
+use Rattle.mj_model.specs.Printed.{feature_of}
+use Rattle.out_format.specs.Standings.{HasFeature, IsWordOf}
 use Rattle.out_format.specs.Followable.{IsLow, AreFollowable}
 use Rattle.word_lookup.specs.declared.dictionaries.Dictionaries.{Dictionaries}
 use Rattle.word_lookup.specs.Overlays.{overlay_of}
@@ -81,3 +83,13 @@ pub next_followable : (o : Overlay) (line : List ℕ) (words : List Word) (w def
     → IsWordOf o line right w × IsLow cost × AreFollowable o line w.right ((cost +ℤ o.system.connection right w.left) +ℤ w.cost) (drop (i + 1) words)
 next_followable o line words w default i right cost in' here all =
     subst (AreFollowable o line right cost) (drop_more words i default in' ∙ ap (λ (v : Word). v ∷ drop (i + 1) words) (sym here)) all
+
+-- ---- the feature that a word has
+
+pub has_feature : (o : Overlay) (origin : Origin) (feature : List ℕ) → feature ≡ feature_of o origin → HasFeature o origin feature
+unfolding HasFeature
+has_feature o origin feature is = is
+
+pub feature_is : (o : Overlay) (origin : Origin) (feature : List ℕ) → HasFeature o origin feature → feature ≡ feature_of o origin
+unfolding HasFeature
+feature_is o origin feature has = has

@@ -1,6 +1,8 @@
 -- A word of a line as its path has it.
-use Rattle.std.specs.Prelude.{ℕ, ◌≤◌, List, length, IsTrue}
+use Rattle.std.specs.Prelude.{◌≡◌, ℕ, ◌≤◌, List, length, Option, Some, IsTrue}
+use Rattle.mj_model.specs.declared.word.Origin.{Origin}
 use Rattle.mj_model.specs.declared.word.Word.{Word}
+use Rattle.mj_model.specs.Printed.{feature_of}
 use Rattle.mj_model.specs.Connection.{is_pair}
 use Rattle.out_format.specs.PrintedPaths.{Standing}
 use Rattle.mj_model.specs.Tables.{Overlay}
@@ -28,5 +30,15 @@ overlay_in w = overlay_of w.dictionaries.now
 abbrev pub chars_of : WordInPath → List ℕ
 chars_of w = chars_from w.line.text.now w.word.now.start
 
-abbrev pub CanStand : WordInPath → Type 0
-CanStand w = IsWordOf (overlay_in w) w.line.text.now w.right_before w.word.now
+-- the feature of a token
+unfoldable pub HasFeature : Overlay → Origin → List ℕ → Type 0
+HasFeature o origin feature = feature ≡ feature_of o origin
+
+-- it stands in the line, and the feature that it has is its own
+pub record CanStand (w : WordInPath) : Type 0 where
+  pub word : IsWordOf (overlay_in w) w.line.text.now w.right_before w.word.now
+  pub feature : HasFeature (overlay_in w) w.word.now.origin w.fields.now
+
+-- a feature is that of a token, if there is one
+abbrev pub IsFeatureOf : Overlay → Option Origin → List ℕ → Type 0
+IsFeatureOf o token feature = (origin : Origin) → token ≡ Some origin → feature ≡ feature_of o origin

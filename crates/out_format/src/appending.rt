@@ -5,7 +5,7 @@ ghost use Rattle.std.specs.Fmt.{decimal, signed_decimal};
 ghost use Rattle.out_format.specs.Answers.{GrowsByField};
 
 use itoa::Buffer;
-use lex_source::append_field;
+use lex_source::SoughtFields;
 use std::alloc::AllocError;
 
 /// Appends bytes as they are.
@@ -33,12 +33,16 @@ pub fn append_cost(cost: i64, out: &mut Vec<u8>) -> Result<(), AllocError>
 }
 
 /// Appends field `n` of a feature, or nothing where it is missing or begins with `*`.
-pub fn append_shown_field(feature: &str, n: u16, out: &mut Vec<u8>) -> Result<(), AllocError>
+pub fn append_shown_field(
+    feature: &SoughtFields<'_>,
+    n: u16,
+    out: &mut Vec<u8>,
+) -> Result<(), AllocError>
     ensures appended { OnOk result (GrowsByField feature.now n out.old.items out.new.items) }
     ensures kept { take (vec_len out.old) out.new.items ≡ out.old.items }
 {
     let count = out.len();
-    let _found = append_field(out, feature, usize::from(n))?;
+    let _found = feature.append_to(usize::from(n), out)?;
     if out.len() > count && out[count] == b'*' {
         out.truncate(count);
     }

@@ -10,6 +10,7 @@ mod first_piece;
 mod format;
 mod index;
 mod items;
+mod last_token;
 pub mod laws;
 mod line;
 mod parsing;

@@ -10,6 +10,7 @@ ghost use Rattle.out_format.specs.Followable.{AreFollowable, IsLow};
 ghost use Rattle.word_lookup.specs.Overlays.{overlay_of};
 
 use crate::format::Format;
+use crate::last_token::LastToken;
 use crate::line::Line;
 use crate::shows_items::append_parts;
 use crate::word_in_path::WordInPath;
@@ -82,8 +83,11 @@ fn append_words<'a>(
 {
     let mut right_before: u16 = 0;
     let mut cost_so_far: i64 = 0;
+    let mut last = LastToken::none();
     for word in words {
         cost_so_far = cost_with(dictionaries, right_before, cost_so_far, word);
+        let parts = format.word_parts(word.origin);
+        last.turn_to(dictionaries, word, parts);
         let standing = WordInPath {
             dictionaries,
             line: Line {
@@ -92,8 +96,9 @@ fn append_words<'a>(
             },
             word,
             right_before,
+            fields: &last.fields,
         };
-        append_parts(&standing, format.word_parts(word.origin), out)?;
+        append_parts(&standing, parts, out)?;
         right_before = word.right;
     }
     Ok(())

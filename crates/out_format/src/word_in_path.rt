@@ -3,6 +3,7 @@
 ghost use Rattle.std.specs.Prelude.{◌≡◌, ◌++◌, ◌≤◌, length, take, drop, vec_len, OnOk, IsTrue};
 ghost use Rattle.paths.specs.Laws.{between};
 ghost use Rattle.mj_model.specs.Printed.{feature_of};
+ghost use Rattle.out_format.specs.Answers.{GrowsByField};
 ghost use Rattle.out_format.specs.PrintedPaths.{connection_before, cost_here, first_category as category_of_first, unknown_digit};
 ghost use Rattle.paths.specs.Words.{is_place};
 ghost use Rattle.out_format.specs.Standings.{CanStand, chars_of, overlay_in, standing_of};
@@ -10,20 +11,22 @@ ghost use Rattle.out_format.specs.Standings.{CanStand, chars_of, overlay_in, sta
 use crate::appending::{append_bytes, append_cost, append_count, append_shown_field};
 use crate::line::Line;
 use crate::shows_items::ShowsItems;
+use lex_source::SoughtFields;
 use mj_model::{FormatItem, Origin, Word};
 use std::alloc::AllocError;
 use word_lookup::Dictionaries;
 
-/// A word of a line, which has the cost of the path up to and with it, and the right id of the word before it.
+/// A word of a line, which has the cost of the path up to and with it, the right id of the word before it, and the fields of its feature.
 #[derive(Clone, Copy)]
-pub struct WordInPath<'a> {
+pub struct WordInPath<'a, 'f> {
     pub dictionaries: &'a Dictionaries<'a>,
     pub line: Line<'a>,
     pub word: &'a Word,
     pub right_before: u16,
+    pub fields: &'f SoughtFields<'a>,
 }
 
-impl<'a> ShowsItems for WordInPath<'a> {
+impl<'a, 'f> ShowsItems for WordInPath<'a, 'f> {
     ghost use Rattle.out_format.specs.PrintedPaths.{ShowsItem};
     ghost use Rattle.out_format.specs.Standings.{CanStand, overlay_in, standing_of};
 
@@ -38,7 +41,7 @@ impl<'a> ShowsItems for WordInPath<'a> {
             FormatItem::SurfaceWithBlanks => self.append_between(word.place, word.end, out),
             FormatItem::Blanks => self.append_between(word.place, word.start, out),
             FormatItem::Feature => append_bytes(self.feature().as_bytes(), out),
-            FormatItem::Field(n) => append_shown_field(self.feature(), n, out),
+            FormatItem::Field(n) => self.append_field(n, out),
             FormatItem::WordCost => append_cost(i64::from(word.cost), out),
             FormatItem::IsUnknown => append_bytes(unknown_mark(word.origin), out),
             FormatItem::LeftId => append_count(usize::from(word.left), out),
@@ -55,7 +58,7 @@ impl<'a> ShowsItems for WordInPath<'a> {
     }
 }
 
-impl<'a> WordInPath<'a> {
+impl<'a, 'f> WordInPath<'a, 'f> {
     /// Appends the bytes of the line from one place to another.
     fn append_between(&self, from: usize, to: usize, out: &mut Vec<u8>) -> Result<(), AllocError>
         requires forward { from ≤ to }
@@ -68,9 +71,21 @@ impl<'a> WordInPath<'a> {
     }
 
     fn feature(&self) -> &str
+        requires { CanStand self.now }
         ensures { result.now ≡ feature_of (overlay_in self.now) self.now.word.now.origin }
     {
-        self.dictionaries.feature(self.word)
+        self.fields.text()
+    }
+
+    /// Appends what is shown of field `n` of the feature.
+    fn append_field(&self, n: u16, out: &mut Vec<u8>) -> Result<(), AllocError>
+        requires { CanStand self.now }
+        ensures appended { OnOk result (GrowsByField
+            (feature_of (overlay_in self.now) self.now.word.now.origin) n
+            out.old.items out.new.items) }
+        ensures kept { take (vec_len out.old) out.new.items ≡ out.old.items }
+    {
+        append_shown_field(self.fields, n, out)
     }
 
     /// The cost of the connection with the word before.

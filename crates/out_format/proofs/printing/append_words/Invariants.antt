@@ -1,11 +1,13 @@
 use Rattle.std.proofs.Common.{drop}
 use Rattle.word_lookup.specs.Overlays.{overlay_of}
 use Rattle.out_format.specs.Followable.{AreFollowable}
+use Rattle.out_format.specs.Standings.{IsFeatureOf}
 use Rattle.out_format.proofs.ShownLemmas.{WordsSoFar}
 use Rattle.out_format.proofs.printing.append_words.Given as goal
 
 abbrev pub invariant-loop-word : goal.invariant-loop-word
 invariant-loop-word l = record {
+  token : IsFeatureOf (overlay_of l.dictionaries) l.last.origin l.last.fields;
   follow : AreFollowable (overlay_of l.dictionaries) l.text l.right_before l.cost_so_far (drop l.word-index l.words);
   shown : WordsSoFar (overlay_of l.dictionaries) l.format l.text l.words l.word-index l.right_before l.cost_so_far l.initial.out.items l.out.items;
 }
