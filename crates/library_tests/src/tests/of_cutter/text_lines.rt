@@ -8,15 +8,17 @@ use std::test::Fail;
 /// What is printed of `もも`.
 const MOMO: &str = "もも\t名詞,もも\nEOS\n";
 
+/// The answer where a line is no text.
+fn not_utf8(line: u64) -> Result<u64, LinesFault> {
+    Err(LinesFault {
+        line,
+        fault: CutFault::NotUtf8,
+    })
+}
+
 #[test]
 fn lines_of_texts(rt: HostRuntime) -> Result<(), Fail> {
     let alloc = rt.alloc();
-    let not_utf8 = |line| {
-        Err(LinesFault {
-            line,
-            fault: CutFault::NotUtf8,
-        })
-    };
     #[rattlefmt::skip]
     let rows: [(&str, &[u8], Result<u64, LinesFault>, &str); 8] = [
         // (what, text, answer, output)
