@@ -69,7 +69,8 @@ impl LastCut {
     {
         self.next.clear();
         self.next.push_str(text)?;
-        self.memory.lattice
+        self.memory
+            .lattice
             .fill_best(dictionaries, text, &mut self.memory.path)?;
         mem::swap(&mut self.text, &mut self.next);
         self.is_there = true;
