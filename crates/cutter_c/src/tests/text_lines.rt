@@ -39,7 +39,10 @@ fn text_lines(rt: HostRuntime) -> Result<(), Fail> {
     let mut needed = 0;
     for (what, text, code, length, lines) in rows {
         cut(&mut held, "もも".as_bytes());
-        assert!(rt; cut_lines(&mut held, text) == (code, length, lines), "{what}");
+        assert!(rt;
+            cut_lines(&mut held, text) == (code, length, lines),
+            "{what}"
+        );
         assert!(rt;
             kumquatsieve_copy_print(alloc, &mut held.handle, &mut [], &mut needed) == 0x4b02,
             "{what}"
