@@ -1,4 +1,5 @@
 pub mod FaultWords
 pub mod Cutters
 pub mod Kept
+pub mod Reaching
 pub mod Faults

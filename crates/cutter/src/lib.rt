@@ -5,8 +5,11 @@ mod categories;
 mod cutter;
 mod cutting;
 mod fault;
+mod features;
 mod last_cut;
+mod last_words;
 mod owned_dictionaries;
 
 pub use cutter::Cutter;
 pub use fault::CutFault;
+pub use last_words::{LastWords, Reached};
