@@ -23,7 +23,7 @@ pub use exports::{
 pub use handle::Handle;
 pub use tellers::{
     kumquatsieve_copy_feature, kumquatsieve_copy_print, kumquatsieve_fault, kumquatsieve_feature,
-    kumquatsieve_print, kumquatsieve_words,
+    kumquatsieve_features, kumquatsieve_print, kumquatsieve_words,
 };
 
 #[cfg(test)]

@@ -1,5 +1,5 @@
-//! Each export called as C calls it, over the sample. The two that lend a pointer are called from C alone (`tools/library_c`), since
-//! no clause lets a test read through one.
+//! Each export called as C calls it, over the sample. Those that lend a pointer are called from C alone (`tools/library_c`), since no
+//! clause lets a test read through one.
 
 mod cutting;
 mod empty;

@@ -17,9 +17,11 @@ const BLANK: CWord = CWord {
     cost: 9,
     known: 9,
     category: 9,
+    total: 9,
+    feature_length: 9,
 };
 
-/// The first word of ` すもも z`, of the lexicon's first line.
+/// The first word of ` すもも z`, of the lexicon's first line: BOS before it costs 10.
 const SUMOMO: CWord = CWord {
     place: 0,
     start: 1,
@@ -31,9 +33,11 @@ const SUMOMO: CWord = CWord {
     cost: 100,
     known: 1,
     category: 5,
+    total: 110,
+    feature_length: 16,
 };
 
-/// The second one, of the entry of ALPHA: behind the lexicon's three come those of DEFAULT and SPACE.
+/// The second one, of the entry of ALPHA: behind the lexicon's three come those of DEFAULT and SPACE. The connection costs 7.
 const Z: CWord = CWord {
     place: 10,
     start: 11,
@@ -45,6 +49,8 @@ const Z: CWord = CWord {
     cost: 1000,
     known: 0,
     category: 2,
+    total: 1117,
+    feature_length: 6,
 };
 
 #[test]
