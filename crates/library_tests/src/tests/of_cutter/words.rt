@@ -28,6 +28,23 @@ fn features_and_categories(rt: HostRuntime) -> Result<(), Fail> {
 }
 
 #[test]
+fn features_of_all_words(rt: HostRuntime) -> Result<(), Fail> {
+    let mut cutter = sample_cutter(rt.alloc())?;
+    let rows = [
+        // (what, line, features behind what stood there)
+        ("two words", " すもも z", "|名詞,すもも未知"),
+        ("only_blanks", "   ", "|"),
+    ];
+    for (what, line, features) in rows {
+        cutter.cut(line.as_bytes())?;
+        let mut out = Vec::from_slice(rt.alloc(), b"|")?;
+        assert!(rt; cutter.append_features(&mut out) == Ok(()), "{what}");
+        assert!(rt; out.as_slice() == features.as_bytes(), "{what}");
+    }
+    Ok(())
+}
+
+#[test]
 fn totals(rt: HostRuntime) -> Result<(), Fail> {
     let mut cutter = sample_cutter(rt.alloc())?;
     let rows = [
@@ -49,6 +66,7 @@ fn no_such_word(rt: HostRuntime) -> Result<(), Fail> {
     let mut out = Vec::new(rt.alloc());
     let none = Err(CutFault::NothingCut);
     assert!(rt; cutter.append_feature(0, &mut out) == none);
+    assert!(rt; cutter.append_features(&mut out) == none);
     assert!(rt; cutter.category(0) == Err(CutFault::NothingCut));
     cutter.cut("すもももも".as_bytes())?;
     assert!(rt; cutter.append_feature(2, &mut out) == Err(CutFault::NoWord(2)));
