@@ -40,7 +40,10 @@ static inline kumquatsieve_cutter kumquatsieve_empty(void) {
 /* A word of the line that was cut last. Its blanks stand from place to start, its surface from start to end, in bytes from the line's
    beginning. left and right are context ids, and cost is the word cost. token is the number of its entry: where known is 1 in
    dictionary 0, the system's, or 1 and more, the users' in their order; where known is 0 in the system's, whose unknown words come
-   behind those of its lexicon. category is the number of the first category of the surface's first character, in the order of char.def. */
+   behind those of its lexicon. category is the number of the first category of the surface's first character, in the order of char.def.
+   total is the cost of the path up to and with the word: that of the words and connections from the line's beginning on, without the
+   connection to its end. feature_length is the length of its feature in bytes. These two were added behind the other fields; with them no
+   other structure changed, and no code. */
 typedef struct kumquatsieve_word {
     size_t place;
     size_t start;
@@ -52,6 +55,8 @@ typedef struct kumquatsieve_word {
     int16_t cost;
     uint8_t known;
     uint8_t category;
+    int64_t total;
+    size_t feature_length;
 } kumquatsieve_word;
 
 /* What a call answers: 0, out of memory, or a fault, whose letter and number are those of `jseg --explain`. After a fault the cutter
@@ -125,7 +130,7 @@ uint32_t kumquatsieve_cut_text(
 );
 
 /* Writes the words of the line that was cut last from number `first` on, as far as there is room. *count is the number of all words
-   of the line. */
+   of the line. The time is that of all words up to the last one that is written, since their costs are summed. */
 uint32_t kumquatsieve_words(
     kumquatsieve_cutter *cutter, size_t first, kumquatsieve_word *words, size_t room, size_t *count
 );
@@ -134,7 +139,11 @@ uint32_t kumquatsieve_words(
    the next call with this cutter. */
 uint32_t kumquatsieve_feature(kumquatsieve_cutter *cutter, size_t number, const uint8_t **feature, size_t *length);
 
-/* The same into a buffer of the caller. *needed is its length, also where there is less room, and then nothing is written. */
+/* The features of all words of the line that was cut last, one behind another with nothing between, in the cutter's own buffer: *features is
+   valid until the next call with this cutter. The feature_length of each word says where its feature ends. */
+uint32_t kumquatsieve_features(kumquatsieve_cutter *cutter, const uint8_t **features, size_t *length);
+
+/* The feature of a word into a buffer of the caller. *needed is its length, also where there is less room, and then nothing is written. */
 uint32_t kumquatsieve_copy_feature(
     kumquatsieve_cutter *cutter, size_t number, uint8_t *out, size_t room, size_t *needed
 );
@@ -224,6 +233,12 @@ static inline uint32_t kumquatsieve_guarded_feature(kumquatsieve_cutter *cutter,
     return (kumquatsieve_feature)(cutter, number, feature ? feature : &unread, length ? length : &unread_length);
 }
 
+static inline uint32_t kumquatsieve_guarded_features(kumquatsieve_cutter *cutter, const uint8_t **features, size_t *length) {
+    const uint8_t *unread = NULL;
+    size_t unread_length = 0;
+    return (kumquatsieve_features)(cutter, features ? features : &unread, length ? length : &unread_length);
+}
+
 static inline uint32_t kumquatsieve_guarded_copy_feature(
     kumquatsieve_cutter *cutter, size_t number, uint8_t *out, size_t room, size_t *needed
 ) {
@@ -271,6 +286,7 @@ static inline uint32_t kumquatsieve_guarded_fault(uint32_t code, uint8_t *out, s
 #define kumquatsieve_cut_text(cutter, text, length, count, total) kumquatsieve_guarded_cut_text(cutter, text, length, count, total)
 #define kumquatsieve_words(cutter, first, words, room, count) kumquatsieve_guarded_words(cutter, first, words, room, count)
 #define kumquatsieve_feature(cutter, number, feature, length) kumquatsieve_guarded_feature(cutter, number, feature, length)
+#define kumquatsieve_features(cutter, features, length) kumquatsieve_guarded_features(cutter, features, length)
 #define kumquatsieve_copy_feature(cutter, number, out, room, needed) kumquatsieve_guarded_copy_feature(cutter, number, out, room, needed)
 #define kumquatsieve_print(cutter, text, length) kumquatsieve_guarded_print(cutter, text, length)
 #define kumquatsieve_copy_print(cutter, out, room, needed) kumquatsieve_guarded_copy_print(cutter, out, room, needed)

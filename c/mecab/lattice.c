@@ -30,7 +30,6 @@ void mecab_lattice_destroy(mecab_lattice_t *lattice) {
     free_bytes(&lattice->features);
     free_bytes(&lattice->printed);
     free_bytes(&lattice->listed);
-    free_bytes(&lattice->costs);
     free(lattice->words);
     free(lattice->nodes);
     free(lattice->begins);

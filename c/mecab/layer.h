@@ -73,7 +73,6 @@ struct mecab_lattice_t {
     bytes features;
     bytes printed;
     bytes listed;
-    bytes costs;
     bool is_cut;
     bool is_odd;
     bool is_printed;
@@ -167,7 +166,6 @@ bool cut_odd(mecab_lattice_t *lattice, fault *error);
 /* parsing.c */
 void forget_path(mecab_lattice_t *lattice);
 bool parse(mecab_model_t *model, mecab_lattice_t *lattice, bool nodes, fault *error);
-bool print_into(mecab_lattice_t *lattice, const format *texts, bytes *to, fault *error);
 const char *text_of(mecab_lattice_t *lattice, fault *error);
 
 #endif

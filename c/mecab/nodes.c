@@ -3,9 +3,6 @@
 #include <stdlib.h>
 #include <string.h>
 
-/* For each word its cost from the sentence's beginning. A feature may hold any character, and is told word by word. */
-static const format COSTS = {.texts = {"%pc\\n", "%pc\\n", "", "", ""}, .number = 1, .is_proved = true};
-
 static bool has_room(mecab_lattice_t *lattice, size_t count, fault *error) {
     size_t nodes_wanted = lattice->count + count + 1;
     if (count > lattice->words_room) {
@@ -46,18 +43,10 @@ static bool add_node(mecab_lattice_t *lattice, const kumquatsieve_word *word, pa
     lattice->nodes[lattice->count] = (mecab_node_t){
         .surface = lattice->sentence + start, .id = (unsigned)lattice->count, .length = (unsigned short)(end - start),
         .rlength = (unsigned short)(end - of->place), .rcAttr = word->right, .lcAttr = word->left, .char_type = word->category,
-        .stat = word->known ? MECAB_NOR_NODE : MECAB_UNK_NODE, .isbest = 1, .wcost = word->cost,
+        .stat = word->known ? MECAB_NOR_NODE : MECAB_UNK_NODE, .isbest = 1, .wcost = word->cost, .cost = of->cost + (long)word->total,
     };
     lattice->count++;
     of->place = end;
-    return true;
-}
-
-/* Each node's cost from the beginning. */
-static bool read_costs(mecab_lattice_t *lattice, mecab_node_t *nodes, size_t count, long before, fault *error) {
-    if (!print_into(lattice, &COSTS, &lattice->costs, error)) return false;
-    char *at = lattice->costs.at;
-    for (size_t i = 0; i < count; i++) nodes[i].cost = before + strtol(at, &at, 10);
     return true;
 }
 
@@ -65,13 +54,17 @@ static bool read_costs(mecab_lattice_t *lattice, mecab_node_t *nodes, size_t cou
    for who reads it as C does. */
 static bool read_features(mecab_lattice_t *lattice, mecab_node_t *nodes, size_t count, fault *error) {
     const tables *of = lattice->tables;
+    const uint8_t *features = NULL;
+    size_t length = 0;
+    uint32_t code = kumquatsieve_features(&lattice->cutter, &features, &length);
+    if (code != KUMQUATSIEVE_OK) return fail_code(error, "features", code);
+    if (!grow_bytes(&lattice->features, lattice->features.length + length + count)) return fail_memory(error);
     for (size_t i = 0; i < count; i++) {
-        const uint8_t *feature = NULL;
-        size_t length = 0, from = lattice->features.length;
-        uint32_t code = kumquatsieve_feature(&lattice->cutter, i, &feature, &length);
-        if (code != KUMQUATSIEVE_OK) return fail_code(error, "feature", code);
-        if (!add_text(&lattice->features, (const char *)feature, length)) return fail_memory(error);
-        if (!posid_of(of->posids, &lattice->words[i], lattice->features.at + from, &nodes[i].posid, error)) return false;
+        const kumquatsieve_word *word = &lattice->words[i];
+        size_t from = lattice->features.length;
+        if (!add_text(&lattice->features, (const char *)features, word->feature_length)) return fail_memory(error);
+        if (!posid_of(of->posids, word, lattice->features.at + from, &nodes[i].posid, error)) return false;
+        features += word->feature_length;
     }
     return true;
 }
@@ -96,8 +89,7 @@ bool add_nodes(mecab_lattice_t *lattice, part *of, fault *error) {
     for (size_t i = 0; i < count; i++) {
         if (!add_node(lattice, &lattice->words[i], of, error)) return false;
     }
-    mecab_node_t *nodes = &lattice->nodes[first];
-    if (!read_costs(lattice, nodes, count, of->cost, error) || !read_features(lattice, nodes, count, error)) return false;
+    if (!read_features(lattice, &lattice->nodes[first], count, error)) return false;
     of->cost += (long)of->total;
     return true;
 }

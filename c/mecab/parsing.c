@@ -48,7 +48,7 @@ bool parse(mecab_model_t *model, mecab_lattice_t *lattice, bool nodes, fault *er
     return true;
 }
 
-bool print_into(mecab_lattice_t *lattice, const format *texts, bytes *to, fault *error) {
+static bool print_into(mecab_lattice_t *lattice, const format *texts, fault *error) {
     const uint8_t *text = NULL;
     size_t length = 0;
     if (lattice->chosen != texts->number) {
@@ -57,14 +57,14 @@ bool print_into(mecab_lattice_t *lattice, const format *texts, bytes *to, fault 
     }
     uint32_t code = kumquatsieve_print(&lattice->cutter, &text, &length);
     if (code != KUMQUATSIEVE_OK) return fail_code(error, "printing", code);
-    return set_bytes(to, text, length) || fail_memory(error);
+    return set_bytes(&lattice->printed, text, length) || fail_memory(error);
 }
 
 /* By the library, where it has the format and the sentence was cut as it is, and by the nodes else. */
 static bool print_text(mecab_lattice_t *lattice, fault *error) {
     const format *texts = format_of(lattice);
     bool is_changed = lattice->tables->unk_feature != NULL;
-    if (texts->is_proved && !lattice->is_odd && !is_changed) return print_into(lattice, texts, &lattice->printed, error);
+    if (texts->is_proved && !lattice->is_odd && !is_changed) return print_into(lattice, texts, error);
     if (!make_nodes(lattice, error)) return false;
     return (set_bytes(&lattice->printed, "", 0) || fail_memory(error)) && print_path(texts, lattice, &lattice->printed, error);
 }

@@ -6,8 +6,8 @@ from typing import Any
 from ._fault import raise_fault
 from ._library import LIBRARY, OK, SHORT_BUFFER, Record
 
-# A record's fields, as `Record` has them.
-FIELDS = struct.Struct("@NNNNIHHhBB4x" if sizeof(Record) == 48 else "@NNNNIHHhBB")
+# A record's fields, as `Record` has them; what is missing to the next record is left out.
+FIELDS = struct.Struct("@NNNNIHHhBBqN0q")
 assert FIELDS.size == sizeof(Record)
 
 WORDS = LIBRARY.words

@@ -9,7 +9,7 @@ from ._library import LIBRARY, OK, PARTS, Slot
 
 Texts = Tuple[bytes, bytes, bytes, bytes]
 
-# What the library tells of a line: the cost of its path, the records of its words, and the surface, the feature and the path's cost of each.
+# What the library tells of a line: the cost of its path, the records of its words, and the surface and the feature of each.
 Told = Tuple[int, bytes, List[str]]
 
 GROUPING = 24
@@ -17,11 +17,10 @@ DEFAULT: Texts = (b"%m\\t%H\\n", b"%m\\t%H\\n", b"", b"EOS\\n")
 WAKATI: Texts = (b"%m ", b"%m ", b"", b"\\n")
 NUMBERED = {0x4C03, 0x4C04, 0x4C05, 0x4C06, 0x4C07, 0x4F02, 0x4F03}
 
-# What tells all words of a line in one call: a line for each surface, or for each surface, feature and cost of the path, or for each cost.
+# What tells all words of a line in one call: a line for each surface, or for each surface and feature.
 SURFACES: Texts = (b"%m\\n", b"%m\\n", b"", b"")
-WORDS: Texts = (b"%m\\n%H\\n%pc\\n", b"%m\\n%H\\n%pc\\n", b"", b"")
+WORDS: Texts = (b"%m\\n%H\\n", b"%m\\n%H\\n", b"", b"")
 SPACED: Texts = (b"%m ", b"%m ", b"", b"")
-TOTALS: Texts = (b"%pc\\n", b"%pc\\n", b"", b"")
 
 CUT, PRINT, FEATURE = LIBRARY.cut, LIBRARY.copy_print, LIBRARY.copy_feature
 
@@ -79,17 +78,15 @@ class Handle:
         records = self._buffers.records_of(self._at)
         lines = self._lines(WORDS)
         lines.pop()
-        if FIELDS.size * len(lines) != 3 * len(records):
+        if FIELDS.size * len(lines) != 2 * len(records):
             lines = list(self._told_apart(line, records))
         return total, records, lines
 
     def _told_apart(self, line: bytes, records: bytes) -> Iterator[str]:
         """The same where a line feed stands in a feature."""
-        totals = self._lines(TOTALS)
         for number, (_, start, end, *_) in enumerate(FIELDS.iter_unpack(records)):
             yield line[start:end].decode()
             yield self._buffers.text_of(FEATURE, self._at, number)
-            yield totals[number]
 
     def surfaces(self, line: bytes) -> List[str]:
         """The surfaces of a line's words."""

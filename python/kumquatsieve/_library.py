@@ -37,6 +37,8 @@ class Record(ctypes.Structure):
         ("cost", ctypes.c_int16),
         ("known", ctypes.c_uint8),
         ("category", ctypes.c_uint8),
+        ("total", ctypes.c_int64),
+        ("feature_length", ctypes.c_size_t),
     ]
 
 

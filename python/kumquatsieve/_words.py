@@ -47,15 +47,14 @@ class Word:
     """A word of a line. What isn't its surface or its feature is looked up where it is asked for; a field of the feature that has a name is
     an attribute too, None where the feature of this word is shorter."""
 
-    __slots__ = ("surface", "feature", "_total", "_line", "_number", "_features")
+    __slots__ = ("surface", "feature", "_line", "_number", "_features")
 
     surface: str
     feature: str
 
-    def __init__(self, surface: str, feature: str, total: str, line: Line, number: int) -> None:
+    def __init__(self, surface: str, feature: str, line: Line, number: int) -> None:
         self.surface = surface
         self.feature = feature
-        self._total = total
         self._line = line
         self._number = number
 
@@ -67,6 +66,7 @@ class Word:
     right = of_record(6, "The right context id.")
     cost = of_record(7, "The word cost.")
     category = of_record(9, "The number of the first category of its first character, in the order of char.def.")
+    total = of_record(10, "The cost of the path up to and with this word.")
 
     @property
     def known(self) -> bool:
@@ -82,11 +82,6 @@ class Word:
     def end(self) -> int:
         """Where it ends in the line, in characters."""
         return self._line.place(self._number)[1]
-
-    @property
-    def total(self) -> int:
-        """The cost of the path up to and with this word."""
-        return int(self._total)
 
     @property
     def features(self) -> List[str]:
@@ -111,7 +106,8 @@ class Word:
         return [*object.__dir__(self), *self._line.names]
 
     def _value(self) -> Tuple[Any, ...]:
-        return self.surface, self.feature, self._line.record(self._number)
+        """What it is, without the words before it, which its total has."""
+        return self.surface, self.feature, self._line.record(self._number)[:10]
 
     def __eq__(self, other: object) -> bool:
         return isinstance(other, Word) and self._value() == other._value()
@@ -151,6 +147,6 @@ def words_of(text: bytes, told: Told, names: Dict[str, int]) -> Words:
     """The words of a line, of what a handle told of them."""
     total, records, texts = told
     each = iter(texts)
-    words = Words(map(Word, each, each, each, repeat(Line(text, records, names)), count()))
+    words = Words(map(Word, each, each, repeat(Line(text, records, names)), count()))
     words.total = total
     return words

@@ -23,6 +23,7 @@ static void calls_of_an_empty_cutter(file user) {
     CHECK(kumquatsieve_cut_text(&cutter, BYTES("a"), 1, &count, &total) == KUMQUATSIEVE_EMPTY_CUTTER);
     CHECK(kumquatsieve_words(&cutter, 0, words, 8, &count) == KUMQUATSIEVE_EMPTY_CUTTER);
     CHECK(kumquatsieve_feature(&cutter, 0, &kept, &length) == KUMQUATSIEVE_EMPTY_CUTTER);
+    CHECK(kumquatsieve_features(&cutter, &kept, &length) == KUMQUATSIEVE_EMPTY_CUTTER);
     CHECK(kumquatsieve_copy_feature(&cutter, 0, room, sizeof room, &length) == KUMQUATSIEVE_EMPTY_CUTTER);
     CHECK(kumquatsieve_print(&cutter, &kept, &length) == KUMQUATSIEVE_EMPTY_CUTTER);
     CHECK(kumquatsieve_copy_print(&cutter, room, sizeof room, &length) == KUMQUATSIEVE_EMPTY_CUTTER);
@@ -55,6 +56,7 @@ static void lines(kumquatsieve_cutter *cutter) {
     static uint8_t long_line[1048577];
     CHECK(kumquatsieve_words(cutter, 0, words, 8, &count) == KUMQUATSIEVE_NOTHING_CUT);
     CHECK(kumquatsieve_print(cutter, &kept, &length) == KUMQUATSIEVE_NOTHING_CUT);
+    CHECK(kumquatsieve_features(cutter, &kept, &length) == KUMQUATSIEVE_NOTHING_CUT);
     CHECK(cut(cutter, "a\n") == KUMQUATSIEVE_LINE_FEED);
     CHECK(cut(cutter, "a\xff") == KUMQUATSIEVE_NOT_UTF8);
     memset(long_line, 'a', sizeof long_line);
@@ -121,10 +123,12 @@ static void the_words(kumquatsieve_cutter *cutter) {
     CHECK(kumquatsieve_words(cutter, 0, words, 8, &count) == KUMQUATSIEVE_OK && count == 2);
     CHECK(words[0].place == 0 && words[0].start == 1 && words[0].end == 10 && words[0].known == 1 && words[0].dictionary == 0);
     CHECK(words[1].place == 10 && words[1].start == 10 && words[1].end == 16);
-    CHECK(kumquatsieve_words(cutter, 1, words, 1, &count) == KUMQUATSIEVE_OK && count == 2 && words[0].start == 10);
+    CHECK(words[0].total == 110 && words[0].feature_length == strlen("名詞,すもも") && words[1].total == 147);
+    CHECK(kumquatsieve_words(cutter, 1, words, 1, &count) == KUMQUATSIEVE_OK && count == 2 && words[0].start == 10 && words[0].total == 147);
     CHECK(kumquatsieve_words(cutter, 2, words, 1, &count) == KUMQUATSIEVE_OK && count == 2);
     CHECK(kumquatsieve_feature(cutter, 1, &kept, &length) == KUMQUATSIEVE_OK && is_text(kept, length, "名詞,もも"));
     CHECK(kumquatsieve_feature(cutter, 2, &kept, &length) == KUMQUATSIEVE_NO_WORD);
+    CHECK(kumquatsieve_features(cutter, &kept, &length) == KUMQUATSIEVE_OK && is_text(kept, length, "名詞,すもも" "名詞,もも"));
     CHECK(kumquatsieve_copy_feature(cutter, 1, room, 3, &length) == KUMQUATSIEVE_SHORT_BUFFER && length == strlen("名詞,もも"));
     CHECK(kumquatsieve_copy_feature(cutter, 1, room, sizeof room, &length) == KUMQUATSIEVE_OK && is_text(room, length, "名詞,もも"));
     CHECK(kumquatsieve_copy_feature(cutter, 2, room, sizeof room, &length) == KUMQUATSIEVE_NO_WORD);

@@ -81,15 +81,22 @@ static void refused_texts(kumquatsieve_cutter *cutter) {
 }
 
 /* What stands in a buffer before a call; the words of ` すもも z`: that of the lexicon's first line, and that of ALPHA's entry: behind the
-   lexicon's three come those of DEFAULT and SPACE. */
-static const kumquatsieve_word BLANK = {.place = 9, .start = 9, .end = 9, .dictionary = 9, .token = 9, .left = 9, .right = 9, .cost = 9, .known = 9, .category = 9};
-static const kumquatsieve_word SUMOMO = {.place = 0, .start = 1, .end = 10, .token = 0, .left = 1, .right = 1, .cost = 100, .known = 1, .category = 5};
-static const kumquatsieve_word Z = {.place = 10, .start = 11, .end = 12, .token = 5, .left = 1, .right = 1, .cost = 1000, .known = 0, .category = 2};
+   lexicon's three come those of DEFAULT and SPACE. BOS before the first costs 10, and its connection with the second 7. */
+static const kumquatsieve_word BLANK = {
+    .place = 9, .start = 9, .end = 9, .dictionary = 9, .token = 9, .left = 9, .right = 9, .cost = 9, .known = 9, .category = 9, .total = 9, .feature_length = 9,
+};
+static const kumquatsieve_word SUMOMO = {
+    .place = 0, .start = 1, .end = 10, .token = 0, .left = 1, .right = 1, .cost = 100, .known = 1, .category = 5, .total = 110, .feature_length = 16,
+};
+static const kumquatsieve_word Z = {
+    .place = 10, .start = 11, .end = 12, .token = 5, .left = 1, .right = 1, .cost = 1000, .known = 0, .category = 2, .total = 1117, .feature_length = 6,
+};
 
 static int is_word(const kumquatsieve_word *word, const kumquatsieve_word *wanted) {
     return word->place == wanted->place && word->start == wanted->start && word->end == wanted->end && word->dictionary == wanted->dictionary
         && word->token == wanted->token && word->left == wanted->left && word->right == wanted->right && word->cost == wanted->cost
-        && word->known == wanted->known && word->category == wanted->category;
+        && word->known == wanted->known && word->category == wanted->category && word->total == wanted->total
+        && word->feature_length == wanted->feature_length;
 }
 
 static const struct {
@@ -129,6 +136,8 @@ static void features(kumquatsieve_cutter *cutter) {
         CHECK_ROW(FEATURES[i].feature, is_text(feature, length, FEATURES[i].feature));
     }
     CHECK(kumquatsieve_feature(cutter, 2, &feature, &length) == KUMQUATSIEVE_NO_WORD);
+    CHECK(kumquatsieve_features(cutter, &feature, &length) == KUMQUATSIEVE_OK && is_text(feature, length, "名詞,すもも未知"));
+    CHECK(cut(cutter, "   ") == KUMQUATSIEVE_OK && kumquatsieve_features(cutter, &feature, &length) == KUMQUATSIEVE_OK && length == 0);
 }
 
 typedef enum asked { PATH, FEATURE, FAULT } asked;

@@ -25,6 +25,7 @@ static void no_outputs(file system, file user) {
     CHECK(kumquatsieve_words(&cutter, 0, NULL, 0, &count) == KUMQUATSIEVE_OK && count > 0);
     CHECK(kumquatsieve_words(&cutter, 0, NULL, 0, NULL) == KUMQUATSIEVE_OK);
     CHECK(kumquatsieve_feature(&cutter, 0, NULL, NULL) == KUMQUATSIEVE_OK);
+    CHECK(kumquatsieve_features(&cutter, NULL, NULL) == KUMQUATSIEVE_OK);
     CHECK(kumquatsieve_copy_feature(&cutter, 0, NULL, 0, &needed) == KUMQUATSIEVE_SHORT_BUFFER && needed > 0);
     CHECK(kumquatsieve_copy_feature(&cutter, 0, NULL, 0, NULL) == KUMQUATSIEVE_SHORT_BUFFER);
     CHECK(kumquatsieve_print(&cutter, NULL, NULL) == KUMQUATSIEVE_OK);

@@ -50,6 +50,7 @@ static void run(file system, file user) {
     while (again(kumquatsieve_share(&other, &cutter))) CHECK(!other.held);
     while (again(cut(&other, LINE))) continue;
     while (again(kumquatsieve_feature(&other, 0, &kept, &length))) continue;
+    while (again(kumquatsieve_features(&other, &kept, &length))) continue;
     while (again(kumquatsieve_print(&other, &kept, &length))) continue;
     CHECK(is_text(kept, length, "すもももも \n"));
     while (again(kumquatsieve_cut_lines(&other, BYTES(LINE "\n" LINE), 2 * strlen(LINE) + 1, &kept, &length, &number)))

@@ -1,4 +1,5 @@
 pub mod FaultLemmas
+pub mod LentLemmas
 pub mod OverlayLemmas
 pub mod ResultLemmas
 pub mod WordLemmas

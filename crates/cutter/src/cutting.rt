@@ -4,6 +4,7 @@ ghost use Rattle.std.specs.Prelude.{◌≡◌, ◌≤◌, Some, IfOk, IfErr, OnO
 ghost use Rattle.cutter.specs.Cutters.{GrowsByFeature, HasCategory, IsCutOver, OfCut, ShowsCut, overlay_held};
 ghost use Rattle.cutter.specs.Faults.{IsFeatureRefusal, IsLineRefusal, IsNothingCut, IsOneLine, IsPrintRefusal, IsTextRefusal, IsWordRefusal};
 ghost use Rattle.cutter.specs.Kept.{cut_lent};
+ghost use Rattle.cutter.specs.Reaching.{AreLast, GrowsByFeatures};
 ghost use Rattle.line_stream.specs.GoodLines.{IsGood};
 ghost use Rattle.mj_model.specs.Lists.{GrowsBy};
 ghost use Rattle.mj_model.specs.declared.limits.TheConstants.{GROUPING_MAX as GroupingMax};
@@ -11,6 +12,8 @@ ghost use Rattle.mj_model.specs.declared.limits.TheConstants.{GROUPING_MAX as Gr
 use crate::categories::category_at;
 use crate::cutter::Cutter;
 use crate::fault::CutFault;
+use crate::features::append_features;
+use crate::last_words::LastWords;
 use line_stream::text_of;
 use memchr::memchr;
 use mj_model::Word;
@@ -63,6 +66,20 @@ impl Cutter {
         Ok(&self.last_cut()?.1.words)
     }
 
+    /// Its words, with the text and the dictionaries that they come from.
+    pub fn last_words(&self) -> Result<LastWords<'_>, CutFault>
+        ensures words { IfOk result (λ last. OfCut self.now (AreLast self.now last)) }
+        ensures none { IfErr result (IsNothingCut self.now) }
+    {
+        let (text, path) = self.last_cut()?;
+        let dictionaries = self.dictionaries.with_grouping(self.grouping);
+        Ok(LastWords {
+            dictionaries,
+            text,
+            words: &path.words,
+        })
+    }
+
     /// What its path costs.
     pub fn total(&self) -> Result<i64, CutFault>
         ensures total { IfOk result (λ total. OfCut self.now (λ c. total ≡ c.total)) }
@@ -84,6 +101,19 @@ impl Cutter {
         };
         let dictionaries = self.dictionaries.with_grouping(self.grouping);
         out.extend_from_slice(dictionaries.feature(word).as_bytes())?;
+        Ok(())
+    }
+
+    /// Appends the features of all its words, one behind another.
+    pub fn append_features(&self, out: &mut Vec<u8>) -> Result<(), CutFault>
+        ensures appended { OnOk result
+            (OfCut self.now (GrowsByFeatures self.now out.old.items out.new.items)) }
+        ensures refused { IfErr result (IsPrintRefusal self.now) }
+        ensures kept { OnErr result (out.new.items ≡ out.old.items) }
+    {
+        let (_, path) = self.last_cut()?;
+        let dictionaries = self.dictionaries.with_grouping(self.grouping);
+        append_features(&dictionaries, &path.words, out)?;
         Ok(())
     }
 

@@ -5,10 +5,13 @@ mod categories;
 mod cutter;
 mod cutting;
 mod fault;
+mod features;
 mod last_cut;
+mod last_words;
 mod owned_dictionaries;
 mod text_lines;
 
 pub use cutter::Cutter;
 pub use fault::CutFault;
+pub use last_words::{LastWords, Reached};
 pub use text_lines::LinesFault;

@@ -5,3 +5,4 @@ pub mod CalledLemmas
 pub mod SettingLemmas
 pub mod TextLemmas
 pub mod FillLemmas
+pub mod WalkLemmas

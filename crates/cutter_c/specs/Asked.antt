@@ -6,25 +6,28 @@ use Rattle.mj_model.specs.Printed.{feature_of}
 use Rattle.cutter.specs.Cutters.{Cut, Held, OfCut, ShowsCut, overlay_held}
 use Rattle.cutter.specs.declared.fault.CutFault.{CutFault}
 use Rattle.cutter.specs.Faults.{IsFeatureRefusal, IsPrintRefusal}
+use Rattle.cutter.specs.Reaching.{features_of}
 use Rattle.cutter_c.specs.declared.fault.CallFault.{CallFault}
 use Rattle.cutter_c.specs.declared.fault.CallFault.TheVariants as call
 use Rattle.cutter_c.specs.Handles.{TellsCall}
 use Rattle.cutter_c.specs.declared.telling.Asked.{Asked}
-use Rattle.cutter_c.specs.declared.telling.Asked.TheVariants.{Path, Feature}
+use Rattle.cutter_c.specs.declared.telling.Asked.TheVariants.{Path, Feature, Features}
 
 -- the feature of the word with a number
 abbrev pub HasFeature : Held → ℕ → List ℕ → Cut → Type 0
 HasFeature h number feature c = IsSomeAnd (slice_get c.words number) (λ (w : Word). feature ≡ feature_of (overlay_held h) w.origin)
 
--- bytes are what is asked: the path in the format, or a feature
+-- bytes are what is asked: the path in the format, a feature, or all features
 abbrev pub IsTold : Asked → Held → List ℕ → Type 0
 IsTold Path h bytes = OfCut h (λ c. ShowsCut h c bytes)
 IsTold (Feature number) h bytes = OfCut h (HasFeature h number bytes)
+IsTold Features h bytes = OfCut h (λ c. bytes ≡ features_of (overlay_held h) c.words)
 
 -- why it is not told
 abbrev pub IsAskedRefusal : Asked → Held → CutFault → Type 0
 IsAskedRefusal Path h fault = IsPrintRefusal h fault
 IsAskedRefusal (Feature number) h fault = IsFeatureRefusal h number fault
+IsAskedRefusal Features h fault = IsPrintRefusal h fault
 
 -- bytes stand at the front of a buffer, and behind them it is as before
 abbrev pub IsCopied : List ℕ → List ℕ → List ℕ → Type 0

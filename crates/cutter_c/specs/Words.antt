@@ -1,11 +1,15 @@
 -- Words as C sees them.
-use Rattle.std.specs.Prelude.{◌≡◌, ℕ, pos, List, [], ◌++◌, length, take, drop, map, min, unwrap_or}
+use Rattle.std.specs.Prelude.{◌≡◌, ℕ, ℤ, List, [], ◌∷◌, ◌++◌, length, take, drop, min}
 use Rattle.mj_model.specs.declared.word.Origin.{Origin}
 use Rattle.mj_model.specs.declared.word.Origin.TheVariants.{Known, Unknown}
 use Rattle.mj_model.specs.declared.word.Word.{Word}
+use Rattle.mj_model.specs.Printed.{feature_of}
+use Rattle.mj_model.specs.Tables.{Overlay}
 use Rattle.out_format.specs.PrintedPaths.{first_category}
 use Rattle.paths.specs.Blanks.{chars_from}
 use Rattle.cutter.specs.Cutters.{Cut, Held, overlay_held}
+use Rattle.cutter.specs.declared.last_words.Reached.{Reached}
+use Rattle.cutter.specs.Reaching.{at_bos, reached_with}
 use Rattle.cutter_c.specs.declared.words.CWord.{CWord}
 
 -- whether an entry is of a lexicon, the number of its dictionary, and its number there
@@ -21,9 +25,9 @@ abbrev pub token_in : Origin → ℕ
 token_in (Known dict token) = token
 token_in (Unknown token) = token
 
--- a word with a category
-abbrev pub c_word : Word → ℕ → CWord
-c_word w category = record {
+-- a word with a category, what the path costs up to and with it, and the length of its feature
+abbrev pub c_word : Word → ℕ → ℤ → ℕ → CWord
+c_word w category total feature_length = record {
   place = w.place;
   start = w.start;
   end = w.end;
@@ -34,21 +38,24 @@ c_word w category = record {
   cost = w.cost;
   known = known_in w.origin;
   category = category;
+  total = total;
+  feature_length = feature_length;
 }
 
--- what was cut last; nothing where nothing was
-abbrev pub last_cut : Held → Cut
-last_cut h = unwrap_or h.cut (record { text = []; words = []; total = pos 0 })
+-- a word of a text, with the first category of its first character and the length of its feature
+abbrev pub c_word_in : Overlay → List ℕ → ℤ → Word → CWord
+c_word_in o text total w = c_word w (first_category o (chars_from text w.start)) total (length (feature_of o w.origin))
 
--- a word of what was cut last, with the first category of its first character
-abbrev pub c_word_in : Held → Word → CWord
-c_word_in h w = c_word w (first_category (overlay_held h) (chars_from (last_cut h).text w.start))
+-- the words of a text from where a path has come to
+abbrev pub c_words : Overlay → List ℕ → Reached → List Word → List CWord
+c_words o text before [] = []
+c_words o text before (w ∷ ws) = let now = reached_with o before w in c_word_in o text now.total w ∷ c_words o text now ws
 
 -- a buffer with words at its front, as many as have room
-abbrev pub with_words_in_front : (Word → CWord) → List Word → List CWord → List CWord
-with_words_in_front form words out = let n = min (length words) (length out) in map form (take n words) ++ drop n out
+abbrev pub with_words_in_front : List CWord → List CWord → List CWord
+with_words_in_front words out = let n = min (length words) (length out) in take n words ++ drop n out
 
 -- the words from a number on were written, and all are so many
 pub record AreTold (h : Held) (first count : ℕ) (old new : List CWord) (c : Cut) : Type 0 where
-  pub written : new ≡ with_words_in_front (c_word_in h) (drop first c.words) old
+  pub written : new ≡ with_words_in_front (drop first (c_words (overlay_held h) c.text at_bos c.words)) old
   pub all : count ≡ length c.words

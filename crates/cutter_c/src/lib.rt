@@ -24,5 +24,5 @@ pub use exports::{
 pub use handle::Handle;
 pub use tellers::{
     kumquatsieve_copy_feature, kumquatsieve_copy_print, kumquatsieve_cut_lines, kumquatsieve_fault,
-    kumquatsieve_feature, kumquatsieve_print, kumquatsieve_words,
+    kumquatsieve_feature, kumquatsieve_features, kumquatsieve_print, kumquatsieve_words,
 };

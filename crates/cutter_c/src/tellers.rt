@@ -5,7 +5,7 @@ ghost use Rattle.std.specs.Option.{IsSomeAnd};
 ghost use Rattle.cutter.specs.Cutters.{OfCut};
 ghost use Rattle.cutter.specs.Faults.{IsNothingCut};
 ghost use Rattle.cutter_c.specs.Asked.{IsAskedRefusal, IsCopied, IsTold, NeedsMore, TellsCopied};
-ghost use Rattle.cutter_c.specs.declared.telling.Asked.TheVariants.{Feature as FeatureOf, Path as PathText};
+ghost use Rattle.cutter_c.specs.declared.telling.Asked.TheVariants.{Feature as FeatureOf, Features as AllFeatures, Path as PathText};
 ghost use Rattle.cutter_c.specs.Handles.{IsRefusal, TellsCall, TellsLent, cutter_in, lent_at};
 ghost use Rattle.cutter_c.specs.TextLines.{TellsLines};
 ghost use Rattle.cutter_c.specs.Texts.{text_at};
@@ -67,6 +67,21 @@ pub extern "C" fn kumquatsieve_feature(
 {
     let answer = cutter.call(alloc, |session| session.lend(Asked::Feature(number)));
     told_lent(answer, feature, count)
+}
+
+/// The features of all words that were cut last, one behind another. They stay until the next call with this handle.
+#[unsafe(no_mangle)]
+pub extern "C" fn kumquatsieve_features(
+    alloc: Global,
+    cutter: &mut Handle,
+    features: &mut *const u8,
+    count: &mut usize,
+) -> u32
+    ensures { TellsLent cutter.old.slot.value cutter.new.slot.value
+        (IsTold AllFeatures) (IsAskedRefusal AllFeatures) (lent_at features.new count.new) result }
+{
+    let answer = cutter.call(alloc, |session| session.lend(Asked::Features));
+    told_lent(answer, features, count)
 }
 
 /// The text of the path in a buffer of C's. `needed` is its length, also where the buffer is too short.

@@ -21,6 +21,8 @@ pub enum Asked {
     Path,
     /// The feature of a word, by the word's number from 0.
     Feature(usize),
+    /// The features of all words, one behind another.
+    Features,
 }
 
 /// Bytes that are lent to C: where they lie, and how many they are.
@@ -56,6 +58,7 @@ impl Session {
         match asked {
             Asked::Path => self.cutter.print(&mut self.output),
             Asked::Feature(number) => self.cutter.append_feature(number, &mut self.output),
+            Asked::Features => self.cutter.append_features(&mut self.output),
         }
     }
 

@@ -1,15 +1,17 @@
 //! The words of the path that was cut last, as C sees them.
 
-ghost use Rattle.std.specs.Prelude.{◌≡◌, drop, Some, slice_get, OnOk, OnErr, IfErr};
+ghost use Rattle.std.specs.Prelude.{◌≡◌, ◌≤◌, length, drop, OnOk, OnErr, IfErr};
 ghost use Rattle.std.specs.Option.{IsSomeAnd};
 ghost use Rattle.cutter.specs.Cutters.{OfCut};
 ghost use Rattle.cutter.specs.Faults.{IsNothingCut};
+ghost use Rattle.cutter.specs.Reaching.{MayFollow, at_bos};
 ghost use Rattle.cutter_c.specs.Handles.{IsRefusal, cutter_in};
-ghost use Rattle.cutter_c.specs.Words.{AreTold, c_word, c_word_in, with_words_in_front};
+ghost use Rattle.cutter_c.specs.Words.{AreTold, c_word, c_words, with_words_in_front};
+ghost use Rattle.word_lookup.specs.Overlays.{overlay_of};
 
 use crate::fault::CallFault;
 use crate::handle::Handle;
-use cutter::{CutFault, Cutter};
+use cutter::{CutFault, Cutter, LastWords, Reached};
 use mj_model::{Origin, Word};
 use std::alloc::Global;
 
@@ -17,7 +19,8 @@ use std::alloc::Global;
 ///
 /// `place`, `start` and `end` are byte offsets into the text, as those of `Word`. `token` is the number of the word's entry: where
 /// `known` is 1 in the dictionary with the number `dictionary`, and where it is 0 in the system's, whose unknown entries come behind
-/// those of its lexicon. `category` is the number of the first category of the surface's first character.
+/// those of its lexicon. `category` is the number of the first category of the surface's first character. `total` is what the path
+/// costs up to and with the word, and `feature_length` counts the bytes of its feature.
 #[repr(C)]
 #[derive(Clone, Copy, Debug, PartialEq, Eq, Drop)]
 pub struct CWord {
@@ -31,11 +34,13 @@ pub struct CWord {
     pub cost: i16,
     pub known: u8,
     pub category: u8,
+    pub total: i64,
+    pub feature_length: usize,
 }
 
-/// A word with its category.
-fn word_for_c(word: &Word, category: u8) -> CWord
-    ensures { result ≡ c_word word.now category }
+/// A word with its category, what the path costs up to and with it, and the length of its feature.
+fn word_for_c(word: &Word, category: u8, total: i64, feature_length: usize) -> CWord
+    ensures { result ≡ c_word word.now category total feature_length }
 {
     let (known, dictionary, token) = match word.origin {
         Origin::Known { dict, token } => (1, dict, token),
@@ -52,28 +57,41 @@ fn word_for_c(word: &Word, category: u8) -> CWord
         cost: word.cost,
         known,
         category,
+        total,
+        feature_length,
     }
 }
 
-/// The word with a number of the path that was cut last.
-fn numbered(cutter: &Cutter, number: usize, word: &Word) -> CWord
-    requires { OfCut cutter.now (λ c. slice_get c.words number ≡ Some word.now) }
-    ensures { result ≡ c_word_in cutter.now word.now }
+/// How far the path has come before the word with a number.
+fn reached_before(last: &LastWords<'_>, number: usize) -> Reached
+    requires follow { MayFollow (overlay_of last.now.dictionaries) last.now.text.now at_bos
+        last.now.words.now }
+    requires within { number ≤ length last.now.words.now }
+    ensures words { drop number (c_words (overlay_of last.now.dictionaries) last.now.text.now at_bos
+        last.now.words.now) ≡ c_words (overlay_of last.now.dictionaries) last.now.text.now result
+        (drop number last.now.words.now) }
+    ensures follow { MayFollow (overlay_of last.now.dictionaries) last.now.text.now result
+        (drop number last.now.words.now) }
 {
-    match cutter.category(number) {
-        Ok(category) => word_for_c(word, category),
-        Err(_) => unreachable!(),
+    let mut reached = Reached { right: 0, total: 0 };
+    for i in 0..number {
+        reached = last.reached_with(reached, &last.words[i]);
     }
+    reached
 }
 
-/// Writes words of the path from number `first` on into a buffer, as far as there is room.
-fn fill(cutter: &Cutter, words: &[Word], first: usize, out: &mut [CWord])
-    requires { OfCut cutter.now (λ c. words.now ≡ c.words) }
-    ensures { out.new ≡ with_words_in_front (c_word_in cutter.now) (drop first words.now) out.old }
+/// Writes words of the path, which follow from where it has come to, into a buffer, as far as there is room.
+fn fill(last: &LastWords<'_>, words: &[Word], before: Reached, out: &mut [CWord])
+    requires { MayFollow (overlay_of last.now.dictionaries) last.now.text.now before words.now }
+    ensures { out.new ≡ with_words_in_front
+        (c_words (overlay_of last.now.dictionaries) last.now.text.now before words.now) out.old }
 {
-    let room = words.len().saturating_sub(first).min(out.len());
-    for i in 0..room {
-        out[i] = numbered(cutter, first + i, &words[first + i]);
+    let mut reached = before;
+    for i in 0..words.len().min(out.len()) {
+        let word = &words[i];
+        reached = last.reached_with(reached, word);
+        let feature = last.dictionaries.feature(word);
+        out[i] = word_for_c(word, last.category(word), reached.total, feature.len());
     }
 }
 
@@ -89,9 +107,11 @@ fn tell_words(
     ensures none { IfErr result (IsNothingCut cutter.now) }
     ensures kept { OnErr result (out.new ≡ out.old) }
 {
-    let words = cutter.words()?;
-    *count = words.len();
-    fill(cutter, words, first, out);
+    let last = cutter.last_words()?;
+    *count = last.words.len();
+    let from = first.min(last.words.len());
+    let before = reached_before(&last, from);
+    fill(&last, &last.words[from..], before, out);
     Ok(())
 }
 

@@ -1,7 +1,14 @@
-use Rattle.std.proofs.Common.{drop}
-use Rattle.cutter_c.specs.Words.{c_word_in}
+use Rattle.cutter_c.specs.Words.{c_words}
 use Rattle.cutter_c.proofs.FillLemmas.{IsFilling}
+use Rattle.cutter_c.proofs.WalkLemmas.{IsWalked}
+use Rattle.word_lookup.specs.Overlays.{overlay_of}
 use Rattle.cutter_c.proofs.words.fill.Given as goal
 
 abbrev pub invariant-loop-i : goal.invariant-loop-i
-invariant-loop-i l = IsFilling (c_word_in l.cutter) (drop l.first l.words) l.i l.initial.out l.out
+invariant-loop-i l =
+    let o = overlay_of l.last.dictionaries in
+    let all = c_words o l.last.text.now l.fn.before l.words in
+    record {
+      filling : IsFilling all l.i l.initial.out l.out;
+      walked : IsWalked o l.last.text.now l.words all l.i l.reached;
+    }

@@ -1,0 +1,44 @@
+-- What was cut last, as it is lent, and features that were appended.
+use Rattle.std.proofs.Common.{◌≡◌, ℕ, ◌+◌, ◌<◌, ◌≤◌, List, [], ◌∷◌, ◌++◌, length, take, get_or, Some, subst, sym, ap, ◌∙◌, append_assoc, append-nil}
+use Rattle.std.specs.Prelude.{IsUtf8, Option}
+use Rattle.std.specs.Option.{IsSomeAnd}
+use Rattle.std.proofs.lemmas.List.{take_more}
+use Rattle.std.proofs.lemmas.List.Concat.{flat_map-append}
+use Rattle.mj_model.specs.declared.limits.TheConstants.{SENTENCE_MAX}
+use Rattle.mj_model.specs.declared.word.Word.{Word}
+use Rattle.mj_model.specs.Printed.{feature_of}
+use Rattle.mj_model.specs.Tables.{Overlay}
+use Rattle.paths.specs.BestOver.{IsBestOver}
+use Rattle.out_format.proofs.FollowLemmas.{path_followable}
+use Rattle.word_lookup.specs.Overlays.{overlay_of}
+use Rattle.cutter.specs.Cutters.{Cut, Held, IsCutOver, OfCut, overlay_held}
+use Rattle.cutter.specs.declared.last_words.LastWords.{LastWords}
+use Rattle.cutter.specs.Reaching.{AreLast, features_of}
+
+best_of : (o same : Overlay) (text line : List ℕ) (words path : List Word) → IsBestOver o line path → same ≡ o → text ≡ line → words ≡ path → IsBestOver same text words
+best_of o same text line words path best a b c =
+    subst (λ (p : Overlay). IsBestOver p text words) (sym a) (subst (λ (t : List ℕ). IsBestOver o t words) (sym b) (subst (λ (ws : List Word). IsBestOver o line ws) (sym c) best))
+
+-- what was cut last, lent with dictionaries that make its overlay
+pub last_is : (h : Held) (c : Cut) (last : LastWords) → h.cut ≡ Some c → IsCutOver (overlay_held h) c → overlay_of last.dictionaries ≡ overlay_held h → last.text.now ≡ c.text
+    → last.words.now ≡ c.words → OfCut h (AreLast h last)
+last_is h c last is cut same text words =
+    let best = best_of (overlay_held h) (overlay_of last.dictionaries) last.text.now c.text last.words.now c.words cut.best same text words in
+    let lent : AreLast h last c = record {
+      dictionaries = same;
+      text = text;
+      words = words;
+      follow = path_followable last.dictionaries last.text.now last.words.now (subst IsUtf8 (sym text) cut.is_utf8) (subst (λ (t : List ℕ). length t ≤ SENTENCE_MAX) (sym text) cut.short) (best.to, best.path);
+    } in
+    subst (λ (v : Option Cut). IsSomeAnd v (λ (d : Cut). IsCutOver (overlay_held h) d × AreLast h last d)) (sym is) (cut, lent)
+
+-- the feature of the next word
+pub feature_more : (o : Overlay) (words : List Word) (i : ℕ) (d : Word) (old now next feature : List ℕ) → i < length words → now ≡ old ++ features_of o (take i words)
+    → feature ≡ feature_of o (get_or words i d).origin → next ≡ now ++ feature → next ≡ old ++ features_of o (take (i + 1) words)
+feature_more o words i d old now next feature low before here more =
+    let w = get_or words i d in
+    let own = feature_of o w.origin in
+    let ends : features_of o (take (i + 1) words) ≡ features_of o (take i words) ++ own =
+    ap (features_of o) (take_more words i d low) ∙ flat_map-append (λ (v : Word). feature_of o v.origin) (take i words) (w ∷ [])
+    ∙ ap (λ (bs : List ℕ). features_of o (take i words) ++ bs) (append-nil own) in
+    more ∙ ap (λ (bs : List ℕ). now ++ bs) here ∙ ap (λ (bs : List ℕ). bs ++ own) before ∙ append_assoc old (features_of o (take i words)) own ∙ ap (λ (bs : List ℕ). old ++ bs) (sym ends)

@@ -1,0 +1,100 @@
+-- Words of a path, each told with what the path costs up to it: a walk from one to the next.
+use Rattle.std.proofs.Common.{◌≡◌, ℕ, suc, ◌+◌, ◌<◌, List, [], ◌∷◌, length, drop, get_or, refl, sym, ap, ◌∙◌, subst, arith}
+use Rattle.std.specs.Prelude.{ℤ, min, Option, Some, None}
+use Rattle.std.specs.Option.{IsSomeAnd}
+use Rattle.std.proofs.lemmas.List.{drop-drop, drop_min, drop_more, get_or-drop}
+use Rattle.cutter.specs.Cutters.{Cut, Held, IsCutOver, OfCut, overlay_held}
+use Rattle.cutter.specs.Reaching.{AreLast, MayFollow, at_bos, reached_with}
+use Rattle.cutter.specs.declared.last_words.LastWords.{LastWords}
+use Rattle.cutter.specs.declared.last_words.Reached.{Reached}
+use Rattle.cutter_c.specs.Words.{AreTold, c_word, c_word_in, c_words, with_words_in_front}
+use Rattle.cutter_c.specs.declared.words.CWord.{CWord}
+use Rattle.mj_model.specs.declared.word.Word.{Word}
+use Rattle.mj_model.specs.Printed.{feature_of}
+use Rattle.mj_model.specs.Tables.{Overlay}
+use Rattle.out_format.specs.Followable.{IsLow}
+use Rattle.out_format.specs.PrintedPaths.{first_category}
+use Rattle.out_format.specs.Standings.{IsWordOf}
+use Rattle.paths.specs.Blanks.{chars_from}
+use Rattle.word_lookup.specs.Overlays.{overlay_of}
+
+pub length-c_words : (o : Overlay) (text : List ℕ) (before : Reached) (words : List Word) → length (c_words o text before words) ≡ length words
+length-c_words o text before [] = refl
+length-c_words o text before (w ∷ ws) = ap (λ (n : ℕ). suc n) (length-c_words o text (reached_with o before w) ws)
+
+-- what is left of the words, from where the path has come to, is what is left of all that is told
+pub record IsWalked (o : Overlay) (text : List ℕ) (words : List Word) (all : List CWord) (i : ℕ) (now : Reached) : Type 0 where
+  pub rest : drop i all ≡ c_words o text now (drop i words)
+  pub follow : MayFollow o text now (drop i words)
+
+module _ (o : Overlay) (text : List ℕ) (words : List Word) (all : List CWord) (i : ℕ) (now : Reached) (d : Word) (low : i < length words) (walked : IsWalked o text words all i now) where
+  abbrev here : Word
+  here = get_or words i d
+
+  abbrev beyond : Reached
+  beyond = reached_with o now here
+
+  rest_here : drop i all ≡ c_word_in o text beyond.total here ∷ c_words o text beyond (drop (i + 1) words)
+  rest_here = walked.rest ∙ ap (c_words o text now) (drop_more words i d low)
+
+  follow_here : MayFollow o text now (here ∷ drop (i + 1) words)
+  follow_here = subst (MayFollow o text now) (drop_more words i d low) walked.follow
+
+  -- the word may stand there, and the path costs little up to it
+  pub stands_here : IsWordOf o text now.right here
+  stands_here = follow_here.0
+
+  pub low_here : IsLow now.total
+  low_here = follow_here.1
+
+  pub walked_on : (next : Reached) → next ≡ beyond → IsWalked o text words all (i + 1) next
+  walked_on next is = subst (IsWalked o text words all (i + 1)) (sym is) (record {
+    rest = sym (drop-drop 1 i all) ∙ ap (drop 1) rest_here;
+    follow = follow_here.2;
+  })
+
+  pub told_here : (next : Reached) (e : CWord) → next ≡ beyond → get_or all i e ≡ c_word_in o text next.total here
+  told_here next e is =
+      let at : i ≡ i + 0 = omega arith in
+      ap (λ (n : ℕ). get_or all n e) at ∙ sym (get_or-drop i all 0 e) ∙ ap (λ (xs : List CWord). get_or xs 0 e) rest_here ∙ ap (λ (r : Reached). c_word_in o text r.total here) (sym is)
+
+pub told_word : (o : Overlay) (text : List ℕ) (w : Word) (total : ℤ) (category n : ℕ) (feature : List ℕ) (told : CWord) → told ≡ c_word w category total n
+    → category ≡ first_category o (chars_from text w.start) → n ≡ length feature → feature ≡ feature_of o w.origin → told ≡ c_word_in o text total w
+told_word o text w total category n feature told is first many there = is ∙ (λ i. c_word w (first i) total ((many ∙ ap (λ (bs : List ℕ). length bs) there) i))
+
+-- what is so of a cut follows from something else that is so of it
+of_cut : (cut : Option Cut) (I P Q : Cut → Type 0) → ((c : Cut) → P c → Q c) → IsSomeAnd cut (λ c. I c × P c) → IsSomeAnd cut (λ c. I c × Q c)
+of_cut None I P Q f h = h
+of_cut (Some c) I P Q f h = (h.0, f c h.1)
+
+follow_in : (h : Held) (last : LastWords) (cut : Option Cut) (I : Cut → Type 0) → IsSomeAnd cut (λ c. I c × AreLast h last c) → MayFollow (overlay_of last.dictionaries) last.text.now at_bos last.words.now
+follow_in h last None I is = absurd is
+follow_in h last (Some c) I is = is.1.follow
+
+-- the words that are lent may follow each other
+pub follow_of : (h : Held) (last : LastWords) → OfCut h (AreLast h last) → MayFollow (overlay_of last.dictionaries) last.text.now at_bos last.words.now
+follow_of h last is = follow_in h last h.cut (IsCutOver (overlay_held h)) is
+
+module _ (h : Held) (last : LastWords) (first from count : ℕ) (before : Reached) (old new : List CWord) where
+  abbrev lent_words : List CWord
+  lent_words = c_words (overlay_of last.dictionaries) last.text.now at_bos last.words.now
+
+  abbrev left : List CWord
+  left = c_words (overlay_of last.dictionaries) last.text.now before (drop from last.words.now)
+
+  told_of : (c : Cut) → AreLast h last c → from ≡ min first (length last.words.now) → drop from lent_words ≡ left → new ≡ with_words_in_front left old → count ≡ length last.words.now
+      → AreTold h first count old new c
+  told_of c lent least walked written counts =
+      let same : lent_words ≡ c_words (overlay_held h) c.text at_bos c.words = λ i. c_words (lent.dictionaries i) (lent.text i) at_bos (lent.words i) in
+      let many = length-c_words (overlay_of last.dictionaries) last.text.now at_bos last.words.now in
+      let all_from : drop from lent_words ≡ drop first lent_words = ap (λ (n : ℕ). drop n lent_words) (least ∙ ap (λ (n : ℕ). min first n) (sym many)) ∙ drop_min first lent_words in
+      record {
+        written = written ∙ ap (λ (xs : List CWord). with_words_in_front xs old) (sym walked ∙ all_from ∙ ap (drop first) same);
+        all = counts ∙ ap (λ (ws : List Word). length ws) lent.words;
+      }
+
+  -- the words that were written are those of what was cut last
+  pub are_told : OfCut h (AreLast h last) → from ≡ min first (length last.words.now) → drop from lent_words ≡ left → new ≡ with_words_in_front left old → count ≡ length last.words.now
+      → OfCut h (AreTold h first count old new)
+  are_told lent least walked written counts =
+      of_cut h.cut (IsCutOver (overlay_held h)) (AreLast h last) (AreTold h first count old new) (λ c is. told_of c is least walked written counts) lent
