@@ -26,6 +26,24 @@ fn grow(cells: &mut Cells, n: usize) -> Result<(), AllocError> {
     cells.grow(n)
 }
 
+/// Whether there are `n` cells, the first `count` as they were set, with base `i + 1` and check 7, and the others free.
+fn holds(cells: &Cells, count: usize, n: usize) -> bool {
+    if cells.len() != n {
+        return false;
+    }
+    for i in 0..n {
+        let expected = if i < count {
+            (i as i32 + 1, 7)
+        } else {
+            (0, -1)
+        };
+        if cell(cells, i) != Some(expected) {
+            return false;
+        }
+    }
+    true
+}
+
 /// Four cells. What is refused once is asked again.
 fn four_cells(rt: &HostRuntime) -> Result<Cells, Fail> {
     match Cells::new(rt.alloc(), 4) {
@@ -104,9 +122,7 @@ fn one_more_at_a_time(rt: HostRuntime) -> Result<(), Fail> {
 #[test]
 fn refused_cells_are_asked_again(rt: HostRuntime) -> Result<(), Fail> {
     let cells = four_cells(&rt)?;
-    for i in 0..4 {
-        assert_eq!(rt; cell(&cells, i), Some((0, -1)), "{i}");
-    }
+    assert!(rt; holds(&cells, 0, 4));
     Ok(())
 }
 
@@ -120,15 +136,10 @@ fn refused_growth_keeps_the_cells(rt: HostRuntime) -> Result<(), Fail> {
         let before = cells.len();
         if grow(&mut cells, n).is_err() {
             rt.eprintln("refused")?;
-            assert_eq!(rt; cells.len(), before);
-            for i in 0..4 {
-                assert_eq!(rt; cell(&cells, i), Some((i as i32 + 1, 7)), "{i}");
-            }
+            assert!(rt; holds(&cells, 4, before), "{n}");
             assert!(rt; grow(&mut cells, n).is_ok());
         }
-        assert_eq!(rt; cells.len(), n);
-        assert_eq!(rt; cell(&cells, 3), Some((4, 7)));
-        assert_eq!(rt; cell(&cells, n - 1), Some((0, -1)));
+        assert!(rt; holds(&cells, 4, n), "{n}");
     }
     Ok(())
 }
@@ -138,12 +149,15 @@ fn blocks_are_given_back(rt: HostRuntime) -> Result<(), Fail> {
     let mut cells = four_cells(&rt)?;
     let other = four_cells(&rt)?;
     for n in [100, 1_000] {
+        let before = cells.len();
         if grow(&mut cells, n).is_err() {
             rt.eprintln("refused")?;
+            assert!(rt; holds(&cells, 0, before), "{n}");
             assert!(rt; grow(&mut cells, n).is_ok());
         }
     }
-    assert_eq!(rt; cells.len() + other.len(), 1_004);
+    assert!(rt; holds(&cells, 0, 1_000));
+    assert!(rt; holds(&other, 0, 4));
     Ok(())
 }
 

@@ -35,6 +35,28 @@ impl CellRead for Counting<'_> {
     }
 }
 
+/// A cell, if it is there.
+pub fn cell(array: &DoubleArray, i: usize) -> Option<(i32, i32)> {
+    if i < array.len() {
+        Some(array.cell(i))
+    } else {
+        None
+    }
+}
+
+/// Whether two arrays have the same cells.
+pub fn have_same_cells(array: &DoubleArray, other: &DoubleArray) -> bool {
+    if array.len() != other.len() {
+        return false;
+    }
+    for i in 0..array.len() {
+        if cell(array, i) != cell(other, i) {
+            return false;
+        }
+    }
+    true
+}
+
 /// Inserts a key of a length that an array takes.
 pub fn insert(array: &mut DoubleArray, key: &[u8], value: u32) -> Result<Inserted, DaFault>
     ensures { AreCells array.new }

@@ -1,5 +1,5 @@
 //! All pairs of `a` or `b` with a byte, inserted one after another.
-use super::access::{expect_hits, insert, value};
+use super::access::{expect_hits, have_same_cells, insert, value};
 use double_array::{CellRead, DaFault, DoubleArray, Inserted};
 use std::test::Fail;
 
@@ -82,20 +82,32 @@ fn room_is_used_up_first(rt: HostRuntime) -> Result<(), Fail> {
         insert(&mut array, key, 1)?;
         assert_eq!(rt; array.len().saturating_sub(first), *more, "{key:?}");
     }
+    for (key, _) in &LENGTHS {
+        assert_eq!(rt; value(&array, key), Some(1), "{key:?}");
+    }
     Ok(())
 }
 
+/// A refused growth leaves the cells of an array that was refused none, and asked again it makes those that this one gets.
 #[test]
-fn refused_growth_keeps_the_keys(rt: HostRuntime) -> Result<(), Fail> {
+fn refused_growth_keeps_the_cells(rt: HostRuntime) -> Result<(), Fail> {
     let mut array = new_array(&rt)?;
+    let mut other = new_array(&rt)?;
     for n in 0..KEYS {
         if let Err(fault) = insert_key(&mut array, n) {
             rt.eprintln("refused")?;
             assert_eq!(rt; fault, DaFault::Memory);
-            assert!(rt; has_first_keys(&array, n), "{n}");
+            assert!(rt; have_same_cells(&array, &other), "{n}");
             assert!(rt; insert_key(&mut array, n).is_ok(), "{n}");
         }
+        if let Err(fault) = insert_key(&mut other, n) {
+            rt.eprintln("refused")?;
+            assert_eq!(rt; fault, DaFault::Memory);
+            assert!(rt; has_first_keys(&other, n), "{n}");
+            assert!(rt; insert_key(&mut other, n).is_ok(), "{n}");
+        }
     }
+    assert!(rt; have_same_cells(&array, &other));
     assert!(rt; has_first_keys(&array, KEYS));
     Ok(())
 }

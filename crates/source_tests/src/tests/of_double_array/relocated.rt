@@ -2,20 +2,11 @@
 //!
 //! The state `a` has the children 1, 2, 3 and its value, the root has `a` and `b`. A byte whose cell, from the base of `a`, is
 //! that of `b`, makes the two of the root move: `a` is one of them.
-use super::access::{insert, value};
+use super::access::{cell, insert, value};
 use double_array::{CellRead, DoubleArray};
 use std::test::Fail;
 
 static KEYS: [&[u8]; 5] = [b"a", b"b", b"a\x01", b"a\x02", b"a\x03"];
-
-/// A cell, if it is there.
-fn cell(array: &DoubleArray, i: usize) -> Option<(i32, i32)> {
-    if i < array.len() {
-        Some(array.cell(i))
-    } else {
-        None
-    }
-}
 
 /// The number in a cell, if it is not negative.
 fn number(found: i32) -> Option<usize> {
