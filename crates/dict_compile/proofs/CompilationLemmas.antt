@@ -20,12 +20,10 @@ use Rattle.dict_compile.specs.Parts.{AreParts, FitTogether}
 use Rattle.dict_compile.specs.declared.parts.SourceParts.{SourceParts}
 use Rattle.dict_compile.proofs.ConnectionLemmas.{costs_are}
 use Rattle.mj_model.specs.FirstFault.{IsRefusal}
-use Rattle.image_writer.specs.declared.fault.LexiconFault.{LexiconFault}
-use Rattle.image_writer.specs.declared.fault.LexiconFault.TheVariants as lexicon
-use Rattle.image_writer.specs.Faults.{fault_of_image, source_fault_of}
+use Rattle.dict_compile.specs.Faults.{fault_of_image}
 use Rattle.image_writer.specs.Entries.{all_rows, lexemes_of, tokens_of}
 use Rattle.image_writer.specs.SystemImages.{tables_with}
-use Rattle.dict_compile.specs.Images.{HaveTooLarge, IsImageOf, MayLackCells}
+use Rattle.dict_compile.specs.Images.{HaveTooLarge, IsImageOf, IsImageRefusal, MayLackCells}
 use Rattle.dict_compile.specs.declared.compiled.Compiled.{Compiled}
 use Rattle.dict_compile.proofs.TokenLemmas.{all_tokens_are}
 
@@ -118,25 +116,24 @@ is_compilation s parts c h fit is = record {
 
 -- ---- the refusals
 
-pub too_large : (s : Sources) (parts : SourceParts) → AreParts s parts → FitTogether parts → HaveTooLarge parts → IsCompilationCause s (fault_of_image FeaturesTooLarge)
-too_large s parts h fit large =
+too_large : (s : Sources) (parts : SourceParts) (fault : SourceFault) → AreParts s parts → FitTogether parts → HaveTooLarge parts → fault ≡ fault_of_image FeaturesTooLarge → IsCompilationCause s fault
+too_large s parts fault h fit large is =
     let t = tables_with parts.matrix parts.chars parts.unknown large.0 in
     inl (inr (
       t,
       have_tables s parts h fit large.0 large.1 t (same_self t),
-      (subst (λ (ts : List Token). feature_bytes_end ≤ feature_bytes ts) (sym (tokens_are s parts h fit large.0 large.1 t (same_self t))) large.2, refl),
+      (subst (λ (ts : List Token). feature_bytes_end ≤ feature_bytes ts) (sym (tokens_are s parts h fit large.0 large.1 t (same_self t))) large.2, is),
     ))
 
-pub may_be_full : (s : Sources) (parts : SourceParts) → AreParts s parts → FitTogether parts → MayLackCells parts.lexicon.rows → IsCompilationCause s (fault_of_image ArrayFull)
-may_be_full s parts h fit full =
+may_be_full : (s : Sources) (parts : SourceParts) (fault : SourceFault) → AreParts s parts → FitTogether parts → MayLackCells parts.lexicon.rows → fault ≡ fault_of_image ArrayFull → IsCompilationCause s fault
+may_be_full s parts fault h fit full is =
     let t = tables_with parts.matrix parts.chars parts.unknown full.0 in
-    inr (t, have_tables s parts h fit full.0 full.1 t (same_self t), (full.2, refl))
+    inr (t, have_tables s parts h fit full.0 full.1 t (same_self t), (full.2, is))
 
-pub refusal : (s : Sources) (parts : SourceParts) (fault : LexiconFault) → AreParts s parts → FitTogether parts → (fault ≡ lexicon.FeaturesTooLarge → HaveTooLarge parts)
-    → (fault ≡ lexicon.ArrayFull → MayLackCells parts.lexicon.rows) → IsRefusal (source_fault_of fault) (IsCompilationCause s (source_fault_of fault))
-refusal s parts lexicon.ArrayFull h fit large full = inr (may_be_full s parts h fit (full refl))
-refusal s parts lexicon.FeaturesTooLarge h fit large full = inr (too_large s parts h fit (large refl))
-refusal s parts lexicon.Memory h fit large full = inl refl
+pub refusal : (s : Sources) (parts : SourceParts) (fault : SourceFault) → AreParts s parts → FitTogether parts → IsImageRefusal parts fault → IsRefusal fault (IsCompilationCause s fault)
+refusal s parts fault h fit (inl memory) = inl memory
+refusal s parts fault h fit (inr (inl large)) = inr (too_large s parts fault h fit large.0 large.1)
+refusal s parts fault h fit (inr (inr full)) = inr (may_be_full s parts fault h fit full.0 full.1)
 
 pub source_refused : (s : Sources) (fault : SourceFault) → IsRefusal fault (IsSourcesFault s fault) → IsRefusal fault (IsCompilationCause s fault)
 source_refused s fault (inl memory) = inl memory

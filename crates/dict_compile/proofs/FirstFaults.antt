@@ -1,6 +1,6 @@
 -- Sources compile, or have one first fault.
 use Rattle.std.proofs.Common.{◌≡◌, ℕ, ◌<◌, ◌≤◌, List, [], sym, ap, ◌∙◌, subst, arith, inl, inr}
-use Rattle.std.specs.Prelude.{Ok}
+use Rattle.std.specs.Prelude.{Result, Ok, Err, IfOk, IfErr}
 use Rattle.mj_model.specs.declared.source_fault.SourceFault.{SourceFault}
 use Rattle.mj_model.specs.declared.sources.Sources.{Sources}
 use Rattle.mj_model.specs.CharDef.{CharSource}
@@ -14,8 +14,12 @@ use Rattle.mj_model.specs.Lexicon.{Row}
 use Rattle.mj_model.specs.SourceTables.{HaveTables, SayOneThing, SayTheSame, lexicon_bytes, system_tables}
 use Rattle.mj_model.specs.Tables.{Tables, Lexeme}
 use Rattle.mj_model.proofs.UnkReading.{unk_is_one}
-use Rattle.dict_compile.specs.Answers.{IsToldFor}
-use Rattle.dict_compile.proofs.CompilationLemmas.{same_tokens, same_trans}
+use Rattle.dict_compile.specs.declared.compiled.Compiled.{Compiled}
+use Rattle.dict_compile.specs.declared.parts.SourceParts.{SourceParts}
+use Rattle.dict_compile.specs.Answers.{IsRefusedFor, IsToldFor}
+use Rattle.dict_compile.specs.Images.{IsImageOf, IsImageRefusal}
+use Rattle.dict_compile.specs.Parts.{AreParts, FitTogether}
+use Rattle.dict_compile.proofs.CompilationLemmas.{is_compilation, refusal, same_tokens, same_trans}
 use Rattle.dict_compile.proofs.OrderLemmas.{one_lexicon}
 use Rattle.dict_compile.proofs.SourceFaults.{fault_is_one, lexicons_one, no_tables, one_value, rows_along, same_read, unk_along}
 
@@ -73,3 +77,9 @@ not_both_of s t fault have few (inr h) =
 -- sources at fault have no compilation
 pub not_compiled : (s : Sources) (image : List ℕ) (entries skipped : ℕ) (fault : SourceFault) → IsCompilation s image entries skipped → IsCompilationFault s fault → ⊥
 not_compiled s image entries skipped fault c h = not_both_of s (image_tables image) fault c.have c.compiled.few_features h
+
+-- what is answered of sources at fault whose parts were read
+pub refused_for : (s : Sources) (parts : SourceParts) (fault : SourceFault) (r : Result Compiled SourceFault) → AreParts s parts → FitTogether parts → IsCompilationFault s fault
+    → IfOk r (IsImageOf parts) → IfErr r (IsImageRefusal parts) → IsRefusedFor fault r
+refused_for s parts fault (Ok c) h fit at image refused = not_compiled s c.image.items c.entries c.skipped fault (is_compilation s parts c h fit image) at
+refused_for s parts fault (Err told) h fit at image refused = told_for s fault told at (refusal s parts told h fit refused)

@@ -1,6 +1,6 @@
 -- The user image of what lexicons say is their compilation; lexicons compile, or have one first fault.
 use Rattle.std.proofs.Common.{◌≡◌, ℕ, ◌≤◌, ◌<◌, List, [], length, refl, sym, ap, ◌∙◌, subst, arith, inl, inr}
-use Rattle.std.specs.Prelude.{false, Result, Ok, Err}
+use Rattle.std.specs.Prelude.{false, Result, Ok, Err, IfOk, IfErr}
 use Rattle.std.proofs.lemmas.List.Sorted.{length_permutation}
 use Rattle.mj_model.specs.declared.source_fault.SourceFault.{SourceFault}
 use Rattle.dict_compile.specs.Compilation.{HaveUserTables, IsUserCompilation, IsUserCause, IsUserFault}
@@ -12,13 +12,9 @@ use Rattle.mj_model.specs.FirstFault.{IsRefusal}
 use Rattle.image_bytes.specs.ImageMeaning.{image_lexicon, image_tables}
 use Rattle.mj_model.specs.Tables.{Tables, Lexeme, Token, User}
 use Rattle.dict_compile.specs.declared.lexicons.LexiconsRead.{LexiconsRead}
-use Rattle.image_writer.specs.declared.fault.LexiconFault.{LexiconFault}
-use Rattle.image_writer.specs.declared.fault.LexiconFault.TheVariants as lexicon
 use Rattle.image_writer.specs.Entries.{lexemes_of, tokens_of}
-use Rattle.dict_compile.specs.Answers.{IsToldFor}
-use Rattle.image_writer.specs.Faults.{source_fault_of}
-use Rattle.dict_compile.specs.Images.{MayLackCells}
-use Rattle.dict_compile.specs.UserImages.{HasTooLarge, IsSystemOf, IsUserImageOf}
+use Rattle.dict_compile.specs.Answers.{IsRefusedFor, IsToldFor}
+use Rattle.dict_compile.specs.UserImages.{IsSystemOf, IsUserImageOf, IsUserImageRefusal}
 use Rattle.dict_compile.specs.declared.compiled.Compiled.{Compiled}
 use Rattle.dict_compile.specs.declared.fault.CompileUserFault.{CompileUserFault}
 use Rattle.dict_compile.specs.declared.fault.CompileUserFault.TheVariants.{NotSystem, Source}
@@ -70,21 +66,20 @@ module _ (sizes : MatrixSizes) (system : Tables) (is : IsSystemOf sizes system) 
     unfolding user_tables
     have_rows ordered o = have_user (user_tables ordered) ordered o refl is.sizes_are refl
 
-    pub user_refusal : (fault : LexiconFault) → (fault ≡ lexicon.FeaturesTooLarge → HasTooLarge read.lexicon.rows) → (fault ≡ lexicon.ArrayFull → MayLackCells read.lexicon.rows)
-        → IsRefusal (source_fault_of fault) (IsUserCause system lexicons (source_fault_of fault))
+    pub user_refusal : (fault : SourceFault) → IsUserImageRefusal read fault → IsRefusal fault (IsUserCause system lexicons fault)
     unfolding user_tables
-    user_refusal lexicon.ArrayFull large full = let f = full refl in inr (inr (is.kind, user_tables f.0, have_rows f.0 f.1, (f.2, refl)))
-    user_refusal lexicon.FeaturesTooLarge large full =
-        let l = large refl in
+    user_refusal fault (inl memory) = inl memory
+    user_refusal fault (inr (inr full)) = let f = full.0 in inr (inr (is.kind, user_tables f.0, have_rows f.0 f.1, (f.2, full.1)))
+    user_refusal fault (inr (inl large)) =
+        let l = large.0 in
         inr (inl (
           is.kind,
           inr (
             user_tables l.0,
             have_rows l.0 l.1,
-            (subst (λ (ts : List Token). feature_bytes_end ≤ feature_bytes ts) (sym (lexicon_tokens_are l.0)) l.2, refl),
+            (subst (λ (ts : List Token). feature_bytes_end ≤ feature_bytes ts) (sym (lexicon_tokens_are l.0)) l.2, large.1),
           ),
         ))
-    user_refusal lexicon.Memory large full = inl refl
 
   pub lexicons_refused : (fault : SourceFault) → IsRefusal fault (AreLexicons sizes 3 [] lexicons (Err fault)) → IsRefusal fault (IsUserCause system lexicons fault)
   lexicons_refused fault (inl memory) = inl memory
@@ -118,6 +113,14 @@ module _ (system : Tables) (lexicons : List (List ℕ)) where
 
   pub user_not_compiled : (image : List ℕ) (entries skipped : ℕ) (fault : SourceFault) → IsUserCompilation system lexicons image entries skipped → IsUserFault system lexicons fault → ⊥
   user_not_compiled image entries skipped fault c h = not_both_for (image_tables image) fault c.have c.compiled.few_features h
+
+-- what is answered of lexicons at fault that were read
+pub user_refused_for : (sizes : MatrixSizes) (system : Tables) (is : IsSystemOf sizes system) (lexicons : List (List ℕ)) (read : LexiconsRead) (kept : read.lexicon.sizes ≡ sizes)
+    → AreLexicons sizes 3 [] lexicons (Ok read.lexicon.rows) → SkipLines lexicons read.skipped → (fault : SourceFault) (r : Result Compiled SourceFault) → IsUserFault system lexicons fault
+    → IfOk r (IsUserImageOf read) → IfErr r (IsUserImageRefusal read) → IsRefusedFor fault r
+user_refused_for sizes system is lexicons read kept h skips fault (Ok c) at image refused =
+    user_not_compiled system lexicons c.image.items c.entries c.skipped fault (user_compilation sizes system is lexicons read kept h c skips image) at
+user_refused_for sizes system is lexicons read kept h skips fault (Err told) at image refused = user_told_for system lexicons fault told at (user_refusal sizes system is lexicons read kept h told refused)
 
 -- ---- the sizes of a system dictionary
 

@@ -1,12 +1,15 @@
 -- User images of the rows of lexicons.
 use Rattle.std.specs.Prelude.{◌≡◌, List, length}
+use Rattle.mj_model.specs.declared.source_fault.SourceFault.{SourceFault}
 use Rattle.mj_model.specs.declared.matrix_sizes.MatrixSizes.{MatrixSizes}
 use Rattle.mj_model.specs.Dictionary.{IsInOrder}
+use Rattle.mj_model.specs.FirstFault.{IsRefusal}
 use Rattle.mj_model.specs.Lexicon.{Row}
 use Rattle.mj_model.specs.Tables.{Tables, System}
 use Rattle.dict_compile.specs.declared.lexicons.LexiconsRead.{LexiconsRead}
 use Rattle.image_writer.specs.Sections.{IsTooLarge}
 use Rattle.image_writer.specs.UserImages.{IsUserImage}
+use Rattle.dict_compile.specs.Images.{IsImageCause, MayLackCells}
 use Rattle.dict_compile.specs.declared.compiled.Compiled.{Compiled}
 
 -- a system dictionary of these sizes
@@ -25,3 +28,7 @@ pub record IsUserImageOf (read : LexiconsRead) (compiled : Compiled) : Type 0 wh
 -- the features of the rows are too many for an image
 abbrev pub HasTooLarge : List Row → Type 0
 HasTooLarge rows = (ordered : List Row) × IsInOrder rows ordered × IsTooLarge ordered
+
+-- the user image of these entries is refused so
+abbrev pub IsUserImageRefusal : LexiconsRead → SourceFault → Type 0
+IsUserImageRefusal read fault = IsRefusal fault (IsImageCause (HasTooLarge read.lexicon.rows) (MayLackCells read.lexicon.rows) fault)

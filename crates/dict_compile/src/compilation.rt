@@ -50,5 +50,5 @@ pub fn compile_watched<W: Watch>(
         → IsRefusedFor fault result }
 {
     let parts = read_sources(alloc, sources, watch)?;
-    Ok(system_image(alloc, parts, watch)?)
+    system_image(alloc, parts, watch)
 }

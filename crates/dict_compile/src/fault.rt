@@ -1,6 +1,9 @@
-//! Why a user dictionary isn't compiled.
+//! Why a dictionary isn't compiled.
 
-use mj_model::{NamedFault, SourceFault};
+ghost use Rattle.std.specs.Prelude.{◌≡◌};
+ghost use Rattle.dict_compile.specs.Faults.{fault_of_image};
+
+use mj_model::{NO_FILE, NamedFault, SourceFault, SourceKind};
 use thiserror::Error;
 
 /// Why a user dictionary isn't compiled.
@@ -36,4 +39,11 @@ impl NamedFault for CompileUserFault {
             CompileUserFault::Source(fault) => fault.words(),
         }
     }
+}
+
+/// A fault of the image as a whole, which belongs to no file.
+pub(crate) fn of_image(kind: SourceKind) -> SourceFault
+    ensures { result ≡ fault_of_image kind }
+{
+    kind.at(NO_FILE, 0)
 }

@@ -48,5 +48,5 @@ pub fn compile_others_watched<W: Watch>(
         → IsCompilationFault (sources_with costs others.now) fault → IsRefusedFor fault result }
 {
     let parts = read_others(alloc, matrix, others, watch)?;
-    Ok(system_image(alloc, parts, watch)?)
+    system_image(alloc, parts, watch)
 }

@@ -87,5 +87,5 @@ fn compile_lexicons<W: Watch>(
         → IsUserFault system (lexicons_of lexicons.now) fault → IsRefusedFor fault result }
 {
     let read = read_lexicons(alloc, lexicons, sizes, watch)?;
-    Ok(user_image(alloc, read, watch)?)
+    user_image(alloc, read, watch)
 }

@@ -1,7 +1,6 @@
 pub mod Frames
 pub mod StoredTables
 pub mod Ranges
-pub mod Faults
 pub mod Entries
 pub mod Groups
 pub mod Marks

@@ -2,11 +2,11 @@
 ghost use Rattle.std.specs.Prelude.{◌≡◌, ◌≢◌, ◌<◌, ℕ, ◌++◌, ◌∷◌, [], List, length, slice_get, IfOk, IfErr, OnOk};
 ghost use Rattle.image_bytes.specs.ImageBounds.{feature_bytes_end};
 ghost use Rattle.image_writer.specs.Places.{joined_texts};
-ghost use Rattle.image_writer.specs.declared.fault.LexiconFault.TheVariants.{ArrayFull, FeaturesTooLarge};
+ghost use Rattle.mj_model.specs.declared.source_fault.SourceKind.TheVariants.{ArrayFull, FeaturesTooLarge};
 
-use crate::fault::LexiconFault;
 use crate::feature_place::FeaturePlace;
 use image_bytes::FEATURE_BYTES_END;
+use mj_model::SourceKind;
 use std::alloc::{AllocError, Global};
 
 /// Features, each once, in the order of their first uses. They stay where they are until an image takes them.
@@ -22,7 +22,7 @@ pub(crate) struct FeatureStore<'a> {
 }
 
 impl<'a> FeatureStore<'a> {
-    ghost use Rattle.image_writer.specs.Refusals.{LargeOnlyOf, LargeOnlyWith};
+    ghost use Rattle.image_writer.specs.Refusals.{IsWriterFault, LargeOnlyOf, LargeOnlyWith};
     ghost use Rattle.image_writer.specs.Sections.{HoldsTexts, HoldsOneMore, IsNextUse, IsPlaced, features_in, place_behind};
 
     /// No features, and room for those of so many entries.
@@ -41,7 +41,7 @@ impl<'a> FeatureStore<'a> {
         &mut self,
         feature: &'a str,
         first: usize,
-    ) -> Result<FeaturePlace, LexiconFault>
+    ) -> Result<FeaturePlace, SourceKind>
         ensures place { (texts : List (List ℕ)) → HoldsTexts texts self.old
             → IsNextUse texts feature.now first
             → IfOk result (HoldsOneMore texts feature.now self.old self.new) }
@@ -49,6 +49,7 @@ impl<'a> FeatureStore<'a> {
             → IsNextUse texts feature.now first
             → IfErr result (LargeOnlyOf (texts ++ feature.now ∷ [])) }
         ensures never_full { IfErr result (λ fault. fault ≢ ArrayFull) }
+        ensures kinds { IfErr result IsWriterFault }
     {
         let place = self.found_or_added(feature, first)?;
         self.places.push(place)?;
@@ -56,11 +57,7 @@ impl<'a> FeatureStore<'a> {
     }
 
     /// The same place, which is not noted yet. A feature that no entry before has is added at the end.
-    fn found_or_added(
-        &mut self,
-        feature: &'a str,
-        first: usize,
-    ) -> Result<FeaturePlace, LexiconFault>
+    fn found_or_added(&mut self, feature: &'a str, first: usize) -> Result<FeaturePlace, SourceKind>
         ensures place { (texts : List (List ℕ)) → HoldsTexts texts self.old
             → IsNextUse texts feature.now first
             → IfOk result (IsPlaced texts feature.now self.old self.new) }
@@ -68,6 +65,7 @@ impl<'a> FeatureStore<'a> {
             → IsNextUse texts feature.now first
             → IfErr result (LargeOnlyOf (texts ++ feature.now ∷ [])) }
         ensures never_full { IfErr result (λ fault. fault ≢ ArrayFull) }
+        ensures kinds { IfErr result IsWriterFault }
     {
         match known_place(&self.places, first) {
             Some(place) => Ok(place),
@@ -76,16 +74,17 @@ impl<'a> FeatureStore<'a> {
     }
 
     /// Adds a feature at the end.
-    fn add(&mut self, feature: &'a str) -> Result<FeaturePlace, LexiconFault>
+    fn add(&mut self, feature: &'a str) -> Result<FeaturePlace, SourceKind>
         ensures added { OnOk result (features_in self.new ≡ features_in self.old ++ feature.now) }
         ensures place { IfOk result (λ place. place
             ≡ place_behind (features_in self.old) feature.now) }
         ensures kept { self.new.places.items ≡ self.old.places.items }
         ensures large { IfErr result (LargeOnlyWith (features_in self.old) feature.now) }
         ensures never_full { IfErr result (λ fault. fault ≢ ArrayFull) }
+        ensures kinds { IfErr result IsWriterFault }
     {
         if feature.len() >= FEATURE_BYTES_END - self.size {
-            return Err(LexiconFault::FeaturesTooLarge);
+            return Err(SourceKind::FeaturesTooLarge);
         }
         let place = FeaturePlace {
             start: self.size as u32,

@@ -4,13 +4,12 @@ ghost use Rattle.cell_walk.specs.CellMap.{IsMapWith};
 ghost use Rattle.mj_model.specs.Lexicon.{rows_of};
 ghost use Rattle.mj_model.specs.declared.limits.TheConstants.{SURFACE_MAX as SurfaceMax};
 ghost use Rattle.image_writer.specs.Groups.{AreGrouped, BeginsGroup};
-ghost use Rattle.image_writer.specs.Refusals.{FullOnlyFor, FullOnlyNear};
-ghost use Rattle.image_writer.specs.declared.fault.LexiconFault.TheVariants.{FeaturesTooLarge};
+ghost use Rattle.image_writer.specs.Refusals.{FullOnlyFor, FullOnlyNear, IsWriterFault, kind_of};
+ghost use Rattle.mj_model.specs.declared.source_fault.SourceKind.TheVariants.{FeaturesTooLarge};
 
-use crate::fault::LexiconFault;
-use double_array::DoubleArray;
+use double_array::{DaFault, DoubleArray};
 use lex_source::SortedLexicon;
-use mj_model::Record;
+use mj_model::{Record, SourceKind};
 use std::alloc::Global;
 
 /// The groups of a lexicon, numbered from 0 in the order of their surfaces.
@@ -24,7 +23,7 @@ pub(crate) struct Groups {
 
 impl Groups {
     /// A further group.
-    fn begin(&mut self, surface: &[u8], start: u32) -> Result<(), LexiconFault>
+    fn begin(&mut self, surface: &[u8], start: u32) -> Result<(), SourceKind>
         requires some { 0 < length surface.now }
         requires short { length surface.now ≤ SurfaceMax }
         requires few { length self.old.starts.items < 2 ^ 31 - 1 }
@@ -34,10 +33,22 @@ impl Groups {
         ensures growth { length self.new.array ≤ length self.old.array + length surface.now + 600 }
         ensures full { IfErr result (FullOnlyNear self.old.array surface.now) }
         ensures no_features { IfErr result (λ fault. fault ≢ FeaturesTooLarge) }
+        ensures kinds { IfErr result IsWriterFault }
     {
-        self.array.insert(surface, self.starts.len() as u32)?;
+        let group = self.starts.len() as u32;
+        self.array.insert(surface, group).map_err(source_kind)?;
         self.starts.push(start)?;
         Ok(())
+    }
+}
+
+/// A refused insertion, as a fault of sources.
+fn source_kind(fault: DaFault) -> SourceKind
+    ensures { result ≡ kind_of fault }
+{
+    match fault {
+        DaFault::Full => SourceKind::ArrayFull,
+        DaFault::Memory => SourceKind::Memory,
     }
 }
 
@@ -45,10 +56,11 @@ impl Groups {
 pub(crate) fn group_entries(
     alloc: Global,
     lexicon: &SortedLexicon<'_>,
-) -> Result<Groups, LexiconFault>
+) -> Result<Groups, SourceKind>
     ensures grouped { IfOk result (AreGrouped lexicon.now.rows (length lexicon.now.rows)) }
     ensures full { IfErr result (FullOnlyFor lexicon.now.rows) }
     ensures no_features { IfErr result (λ fault. fault ≢ FeaturesTooLarge) }
+    ensures kinds { IfErr result IsWriterFault }
 {
     let records = lexicon.records();
     let mut groups = Groups {

@@ -1,14 +1,14 @@
 //! The sections of the keys and of the groups.
 ghost use Rattle.std.specs.Prelude.{◌≢◌, IfOk, IfErr};
-ghost use Rattle.image_writer.specs.Refusals.{FullOnlyFor};
+ghost use Rattle.image_writer.specs.Refusals.{FullOnlyFor, IsWriterFault};
 ghost use Rattle.image_writer.specs.Sections.{AreKeyBytes};
-ghost use Rattle.image_writer.specs.declared.fault.LexiconFault.TheVariants.{FeaturesTooLarge};
+ghost use Rattle.mj_model.specs.declared.source_fault.SourceKind.TheVariants.{FeaturesTooLarge};
 
 use crate::cell_bytes::write_cells;
-use crate::fault::LexiconFault;
 use crate::group_bytes::write_starts;
 use crate::groups::group_entries;
 use lex_source::SortedLexicon;
+use mj_model::SourceKind;
 use std::alloc::Global;
 
 /// The cells of the keys, which entries each group has, and how many groups there are.
@@ -20,13 +20,11 @@ pub(crate) struct KeyBytes {
 }
 
 /// The keys and groups of a lexicon.
-pub(crate) fn write_keys(
-    alloc: Global,
-    lexicon: &SortedLexicon<'_>,
-) -> Result<KeyBytes, LexiconFault>
+pub(crate) fn write_keys(alloc: Global, lexicon: &SortedLexicon<'_>) -> Result<KeyBytes, SourceKind>
     ensures keys { IfOk result (AreKeyBytes lexicon.now.rows) }
     ensures full { IfErr result (FullOnlyFor lexicon.now.rows) }
     ensures no_features { IfErr result (λ fault. fault ≢ FeaturesTooLarge) }
+    ensures kinds { IfErr result IsWriterFault }
 {
     let groups = group_entries(alloc, lexicon)?;
     let entries = lexicon.records().len();

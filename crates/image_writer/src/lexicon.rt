@@ -2,12 +2,11 @@
 ghost use Rattle.std.specs.Prelude.{◌≡◌, ◌≢◌, List, [], IfOk, IfErr, OnOk};
 ghost use Rattle.mj_model.specs.Lexicon.{Row};
 ghost use Rattle.image_writer.specs.Entries.{all_rows};
-ghost use Rattle.image_writer.specs.Refusals.{FullOnlyFor, LargeOnlyFor};
+ghost use Rattle.image_writer.specs.Refusals.{FullOnlyFor, IsWriterFault, LargeOnlyFor};
 ghost use Rattle.image_writer.specs.FirstUses.{AreNumbered, features_used};
 ghost use Rattle.image_writer.specs.Sections.{AreKeyBytes, AreSections, AreTokenBytes, AreWritten, features_of};
-ghost use Rattle.image_writer.specs.declared.fault.LexiconFault.TheVariants.{ArrayFull};
+ghost use Rattle.mj_model.specs.declared.source_fault.SourceKind.TheVariants.{ArrayFull};
 
-use crate::fault::LexiconFault;
 use crate::feature_use::FeatureUse;
 use crate::first_uses::{append_uses, first_uses};
 use crate::keys::{KeyBytes, write_keys};
@@ -17,6 +16,7 @@ use crate::tokens::TokenWriter;
 use crate::unknown_index::unknown_count;
 use char_def::UnkTable;
 use lex_source::SortedLexicon;
+use mj_model::SourceKind;
 use std::alloc::{AllocError, Global};
 
 /// The sections of a system dictionary: of its lexicon, and of the unknown entries of all categories.
@@ -26,12 +26,13 @@ pub(crate) fn write_lexicon<'a>(
     alloc: Global,
     lexicon: SortedLexicon<'a>,
     unknown: &UnkTable<'a>,
-) -> Result<LexiconBytes<'a>, LexiconFault>
+) -> Result<LexiconBytes<'a>, SourceKind>
     ensures sections { IfOk result (AreSections lexicon.entry.rows unknown.now) }
 
     // A refusal has its reason.
     ensures large { IfErr result (LargeOnlyFor (all_rows lexicon.entry.rows unknown.now)) }
     ensures full { IfErr result (FullOnlyFor lexicon.entry.rows) }
+    ensures kinds { IfErr result IsWriterFault }
 {
     let keys = write_keys(alloc, &lexicon)?;
     let uses = feature_uses(alloc, &lexicon, unknown)?;
@@ -46,12 +47,13 @@ pub(crate) fn write_lexicon<'a>(
 pub(crate) fn write_user_lexicon<'a>(
     alloc: Global,
     lexicon: SortedLexicon<'a>,
-) -> Result<LexiconBytes<'a>, LexiconFault>
+) -> Result<LexiconBytes<'a>, SourceKind>
     ensures sections { IfOk result (AreSections lexicon.entry.rows []) }
 
     // A refusal has its reason.
     ensures large { IfErr result (LargeOnlyFor lexicon.entry.rows) }
     ensures full { IfErr result (FullOnlyFor lexicon.entry.rows) }
+    ensures kinds { IfErr result IsWriterFault }
 {
     let keys = write_keys(alloc, &lexicon)?;
     let records = lexicon.records();
@@ -100,13 +102,14 @@ fn feature_uses<'a>(
 }
 
 /// Adds the tokens of each category's unknown entries.
-fn add_unknown<'a>(writer: &mut TokenWriter<'a>, unknown: &UnkTable<'a>) -> Result<(), LexiconFault>
+fn add_unknown<'a>(writer: &mut TokenWriter<'a>, unknown: &UnkTable<'a>) -> Result<(), SourceKind>
     ensures written { (rows : List Row) → AreWritten (all_rows rows unknown.now) rows writer.old
         → OnOk result (AreWritten (all_rows rows unknown.now) (all_rows rows unknown.now)
         writer.new) }
     ensures large { (rows : List Row) → AreWritten (all_rows rows unknown.now) rows writer.old
         → IfErr result (LargeOnlyFor (all_rows rows unknown.now)) }
     ensures never_full { IfErr result (λ fault. fault ≢ ArrayFull) }
+    ensures kinds { IfErr result IsWriterFault }
 {
     for category in 0..unknown.count() {
         writer.add_all(unknown.lines(category))?;

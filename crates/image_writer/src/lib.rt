@@ -4,7 +4,6 @@
 mod categories;
 mod cell_bytes;
 mod costs;
-mod fault;
 mod feature_place;
 mod feature_use;
 mod features;
@@ -24,7 +23,6 @@ mod tokens;
 mod unknown_index;
 mod user;
 
-pub use fault::LexiconFault;
 pub use system::write_system;
 pub use user::write_user;
 

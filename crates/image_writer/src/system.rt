@@ -2,11 +2,10 @@
 ghost use Rattle.std.specs.Prelude.{◌≡◌, [], length, IfOk, IfErr};
 ghost use Rattle.char_def.specs.Outside.{all_lines_outside};
 ghost use Rattle.image_writer.specs.Entries.{all_rows};
-ghost use Rattle.image_writer.specs.Refusals.{FullOnlyFor, LargeOnlyFor};
+ghost use Rattle.image_writer.specs.Refusals.{FullOnlyFor, IsWriterFault, LargeOnlyFor};
 ghost use Rattle.image_writer.specs.SystemImages.{IsSystemImage};
 
 use crate::categories::write_categories;
-use crate::fault::LexiconFault;
 use crate::frame::{section_lengths, write_image};
 use crate::lexicon::write_lexicon;
 use crate::lexicon_bytes::LexiconBytes;
@@ -16,6 +15,7 @@ use char_def::{CharTable, UnkTable};
 use image_bytes::{DictKind, Header, LAYOUT};
 use lex_source::SortedLexicon;
 use matrix_def::Matrix;
+use mj_model::SourceKind;
 use std::alloc::Global;
 
 /// The image of a system dictionary. Its entries go as soon as their sections are made.
@@ -25,7 +25,7 @@ pub fn write_system<'a>(
     chars: &CharTable,
     unknown: &UnkTable<'a>,
     lexicon: SortedLexicon<'a>,
-) -> Result<Vec<u8>, LexiconFault>
+) -> Result<Vec<u8>, SourceKind>
     requires sizes { lexicon.sizes ≡ matrix.now.sizes }
     requires categories { length unknown.now ≡ length chars.now.categories }
     requires ids { all_lines_outside matrix.now.sizes unknown.now ≡ [] }
@@ -35,6 +35,7 @@ pub fn write_system<'a>(
     // A refusal has its reason.
     ensures large { IfErr result (LargeOnlyFor (all_rows lexicon.entry.rows unknown.now)) }
     ensures full { IfErr result (FullOnlyFor lexicon.entry.rows) }
+    ensures kinds { IfErr result IsWriterFault }
 {
     let count = chars.count();
     let entries = lexicon.records().len();

@@ -3,16 +3,15 @@ ghost use Rattle.std.specs.Prelude.{◌≡◌, ◌≢◌, ◌++◌, ◌∷◌, [
 ghost use Rattle.mj_model.specs.Lexicon.{Row, row_of, rows_of};
 ghost use Rattle.image_writer.specs.FirstUses.{AreFirstUses};
 ghost use Rattle.image_writer.specs.Sections.{AreTokenBytes, AreWritten, features_of};
-ghost use Rattle.image_writer.specs.Refusals.{LargeOnlyFor};
+ghost use Rattle.image_writer.specs.Refusals.{IsWriterFault, LargeOnlyFor};
 ghost use Rattle.image_writer.specs.TokenBytes.{FitsBytes, stored_bytes, stored_with};
-ghost use Rattle.image_writer.specs.declared.fault.LexiconFault.TheVariants.{ArrayFull};
+ghost use Rattle.mj_model.specs.declared.source_fault.SourceKind.TheVariants.{ArrayFull};
 
-use crate::fault::LexiconFault;
 use crate::feature_place::FeaturePlace;
 use crate::features::FeatureStore;
 use crate::token_bytes::TokenBytes;
 use byteorder::{ByteOrder, LittleEndian};
-use mj_model::Record;
+use mj_model::{Record, SourceKind};
 use std::alloc::{AllocError, Global};
 
 /// Tokens of 16 bytes, one behind another, and the features that they name.
@@ -39,13 +38,14 @@ impl<'a> TokenWriter<'a> {
     }
 
     /// Adds the tokens of all the records, in their order.
-    pub(crate) fn add_all(&mut self, records: &[Record<'a>]) -> Result<(), LexiconFault>
+    pub(crate) fn add_all(&mut self, records: &[Record<'a>]) -> Result<(), SourceKind>
         ensures written { (all rows rest : List Row) → all ≡ (rows ++ rows_of records.now) ++ rest
             → AreWritten all rows self.old
             → OnOk result (AreWritten all (rows ++ rows_of records.now) self.new) }
         ensures large { (all rows rest : List Row) → all ≡ (rows ++ rows_of records.now) ++ rest
             → AreWritten all rows self.old → IfErr result (LargeOnlyFor all) }
         ensures never_full { IfErr result (λ fault. fault ≢ ArrayFull) }
+        ensures kinds { IfErr result IsWriterFault }
     {
         for record in records {
             self.add(record)?;
@@ -54,13 +54,14 @@ impl<'a> TokenWriter<'a> {
     }
 
     /// Adds the token of a record.
-    fn add(&mut self, row: &Record<'a>) -> Result<(), LexiconFault>
+    fn add(&mut self, row: &Record<'a>) -> Result<(), SourceKind>
         ensures written { (all rows rest : List Row) → all ≡ (rows ++ row_of row.now ∷ []) ++ rest
             → AreWritten all rows self.old
             → OnOk result (AreWritten all (rows ++ row_of row.now ∷ []) self.new) }
         ensures large { (all rows rest : List Row) → all ≡ (rows ++ row_of row.now ∷ []) ++ rest
             → AreWritten all rows self.old → IfErr result (LargeOnlyFor all) }
         ensures never_full { IfErr result (λ fault. fault ≢ ArrayFull) }
+        ensures kinds { IfErr result IsWriterFault }
     {
         let entry = &row.entry;
         let number = self.features.places.len();

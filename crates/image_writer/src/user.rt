@@ -1,18 +1,18 @@
 //! The image of a user dictionary.
 ghost use Rattle.std.specs.Prelude.{IfOk, IfErr};
 ghost use Rattle.mj_model.specs.Connection.{AreMatrixSizes};
-ghost use Rattle.image_writer.specs.Refusals.{FullOnlyFor, LargeOnlyFor};
+ghost use Rattle.image_writer.specs.Refusals.{FullOnlyFor, IsWriterFault, LargeOnlyFor};
 ghost use Rattle.image_writer.specs.UserImages.{IsUserImage};
 
-use crate::fault::LexiconFault;
 use crate::frame::{section_lengths, write_image};
 use crate::lexicon::write_user_lexicon;
 use image_bytes::{DictKind, Header, LAYOUT};
 use lex_source::SortedLexicon;
+use mj_model::SourceKind;
 use std::alloc::Global;
 
 /// The image of a user dictionary for connection costs of the lexicon's sizes. Its entries go as soon as their sections are made.
-pub fn write_user(alloc: Global, lexicon: SortedLexicon<'_>) -> Result<Vec<u8>, LexiconFault>
+pub fn write_user(alloc: Global, lexicon: SortedLexicon<'_>) -> Result<Vec<u8>, SourceKind>
     requires sizes { AreMatrixSizes lexicon.sizes }
     ensures image { IfOk result (λ image. IsUserImage lexicon.entry.sizes lexicon.entry.rows
         image.items) }
@@ -20,6 +20,7 @@ pub fn write_user(alloc: Global, lexicon: SortedLexicon<'_>) -> Result<Vec<u8>, 
     // A refusal has its reason.
     ensures large { IfErr result (LargeOnlyFor lexicon.entry.rows) }
     ensures full { IfErr result (FullOnlyFor lexicon.entry.rows) }
+    ensures kinds { IfErr result IsWriterFault }
 {
     let sizes = lexicon.sizes();
     let entries = lexicon.records().len();

@@ -1,10 +1,10 @@
-//! The codes and names of faults.
-use image_writer::LexiconFault::{self, ArrayFull, FeaturesTooLarge, Memory};
+//! The codes and names of the faults that an image's writer reports.
 use mj_model::NamedFault;
+use mj_model::SourceKind::{self, ArrayFull, FeaturesTooLarge, Memory};
 
 /// Faults with their codes and names.
 #[rattlefmt::skip]
-static FAULTS: [(LexiconFault, &str, &str); 3] = [
+static FAULTS: [(SourceKind, &str, &str); 3] = [
     // (fault, code, name)
     (ArrayFull,        "I2",     "ArrayFull"),
     (FeaturesTooLarge, "I3",     "FeaturesTooLarge"),

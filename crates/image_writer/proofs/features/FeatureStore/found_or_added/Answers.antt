@@ -4,7 +4,7 @@ use Rattle.std.proofs.lemmas.Result.{IfErr-weaker}
 use Rattle.image_bytes.specs.ImageBounds.{each_once, feature_bytes_end}
 use Rattle.image_writer.specs.declared.feature_place.FeaturePlace.{FeaturePlace}
 use Rattle.image_writer.specs.Sections.{IsPlaced, features_in, place_behind}
-use Rattle.image_writer.specs.declared.fault.LexiconFault.TheVariants.{FeaturesTooLarge}
+use Rattle.mj_model.specs.declared.source_fault.SourceKind.TheVariants.{FeaturesTooLarge}
 use Rattle.image_writer.proofs.FeatureLemmas.{added_placed, found_placed, no_room}
 use Rattle.image_writer.proofs.Results.{ok_known}
 use Rattle.image_writer.proofs.features.FeatureStore.found_or_added.Goals as goal
