@@ -4,9 +4,9 @@ from typing import Any, Callable, Dict, List, Optional, Sequence, Tuple, Type, T
 
 from ._fields import names_beside, numbered, with_common
 from ._formats import Format, texts_of
-from ._handle import DEFAULT, GROUPING, SPACED, Handle, Texts
+from ._handle import DEFAULT, GROUPING, Answers, Handle, Texts
 from ._images import Image, Origin, default, origin_of, path_of
-from ._lines import Answers, Lines, many_at_once, one_by_one
+from ._lines import Lines, many_at_once, one_by_one
 from ._loaded import LOADED
 from ._sources import Source
 from ._texts import line_of
@@ -149,7 +149,8 @@ class Cutter:
         return Lines(errors, one_by_one(source, self._words))
 
     def wakati_lines(self, source: Source, errors: str = "strict") -> Lines[str]:
-        """The surfaces of each line with a blank between two, as `lines` has it, but about a megabyte of lines is read and cut at once."""
+        """The surfaces of each line with a blank between two, as `lines` has it, but about a megabyte is read at once, and cut by one call of
+        the library, during which other threads run."""
         return Lines(errors, many_at_once(source, self._joined))
 
     def parse_lines(self, source: Source, errors: str = "strict") -> Lines[str]:
@@ -157,17 +158,11 @@ class Cutter:
         carriage returns at line ends, which `jseg` takes for characters."""
         return Lines(errors, many_at_once(source, self._printed_lines))
 
-    def _printed_lines(self, lines: List[bytes], texts: Optional[Texts] = None) -> Answers[str]:
-        handle = self._handles.take()
-        try:
-            return handle.printed_lines(lines, texts or self._texts)
-        finally:
-            self._handles.give(handle)
+    def _joined(self, text: bytes) -> Answers:
+        return self._with_handle(lambda handle: handle.joined_lines(text))
 
-    def _joined(self, lines: List[bytes]) -> Answers[str]:
-        """Behind the last surface stands a blank too."""
-        answers, fault = self._printed_lines(lines, SPACED)
-        return [answer[:-1] for answer in answers], fault
+    def _printed_lines(self, text: bytes) -> Answers:
+        return self._with_handle(lambda handle: handle.printed_lines(text, self._texts))
 
 
 def names_of(image: Image, fields: Optional[Sequence[Optional[str]]]) -> Dict[str, int]:

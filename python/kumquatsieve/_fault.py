@@ -41,9 +41,14 @@ def words_of(code: int) -> Tuple[str, str]:
     return letters, name
 
 
+def fault_of(code: int, number: Optional[int] = None, part: Optional[str] = None, place: Optional[int] = None) -> Exception:
+    """What a code means, as an exception."""
+    if code == MEMORY:
+        return MemoryError()
+    letters, name = words_of(code)
+    return Fault(letters, name, number, part, place)
+
+
 def raise_fault(code: int, number: Optional[int] = None, part: Optional[str] = None) -> None:
     """Raises what a code means."""
-    if code == MEMORY:
-        raise MemoryError
-    letters, name = words_of(code)
-    raise Fault(letters, name, number, part)
+    raise fault_of(code, number, part)

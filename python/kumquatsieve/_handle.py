@@ -1,16 +1,20 @@
 """One cutter of the library's."""
 import weakref
-from ctypes import addressof, c_size_t, c_uint32, c_uint64
+from ctypes import addressof, c_size_t, c_uint32, c_uint64, c_void_p, string_at
 from typing import Any, Iterator, List, Optional, Tuple
 
 from ._buffers import FIELDS, Buffers
-from ._fault import Fault, raise_fault
+from ._fault import Fault, fault_of, raise_fault
 from ._library import LIBRARY, OK, PARTS, Slot
+from ._texts import lines_of
 
 Texts = Tuple[bytes, bytes, bytes, bytes]
 
 # What the library tells of a line: the cost of its path, the records of its words, and the surface and the feature of each.
 Told = Tuple[int, bytes, List[str]]
+
+# What each line of a text gave, up to the first that was refused, and why that was.
+Answers = Tuple[List[str], Optional[Exception]]
 
 GROUPING = 24
 DEFAULT: Texts = (b"%m\\t%H\\n", b"%m\\t%H\\n", b"", b"EOS\\n")
@@ -20,9 +24,11 @@ NUMBERED = {0x4C03, 0x4C04, 0x4C05, 0x4C06, 0x4C07, 0x4F02, 0x4F03}
 # What tells all words of a line in one call: a line for each surface, or for each surface and feature.
 SURFACES: Texts = (b"%m\\n", b"%m\\n", b"", b"")
 WORDS: Texts = (b"%m\\n%H\\n", b"%m\\n%H\\n", b"", b"")
-SPACED: Texts = (b"%m ", b"%m ", b"", b"")
 
-CUT, PRINT, FEATURE = LIBRARY.cut, LIBRARY.copy_print, LIBRARY.copy_feature
+# What each line prints first, where many are printed at once: a code point that Unicode keeps for a program's own use.
+MARK = "\uffff".encode()
+
+CUT, CUT_LINES, PRINT, FEATURE = LIBRARY.cut, LIBRARY.cut_lines, LIBRARY.copy_print, LIBRARY.copy_feature
 
 
 class Handle:
@@ -102,15 +108,49 @@ class Handle:
         self._cut(line)
         return self._buffers.text_of(PRINT, self._at)
 
-    def printed_lines(self, lines: List[bytes], texts: Texts) -> Tuple[List[str], Optional[Exception]]:
-        """The text of each line in a format, up to the first line that is refused, and why it is."""
+    def joined_lines(self, text: bytes) -> Answers:
+        """The surfaces of each line of a text with a blank between two.
+
+        Each line prints a line feed at its end, and no other: a surface is a part of a line, so it has none. What is before it is a blank
+        where the line has words, and that blank is dropped; or else the line feed of the line before.
+        """
+        printed, _, fault = self._cut_lines(text, WAKATI)
+        answers = str(printed.replace(b" \n", b"\n"), "utf-8").split("\n")
+        answers.pop()
+        return answers, fault
+
+    def printed_lines(self, text: bytes, texts: Texts) -> Answers:
+        """The text of each line of a text in a format.
+
+        A mark before each line's output tells it from the one before. No mark is ruled out of the outputs: a format's texts are UTF-8, and
+        surfaces, features and the format itself may have any character. But each line prints the mark once, before all else. So where the
+        marks are as many as the lines, none stands in an output, and what is between two of them is one line's. Where they are more, the
+        lines are cut one by one.
+        """
+        node, unk, bos, eos = texts
+        printed, count, fault = self._cut_lines(text, (node, unk, MARK + bos, eos))
+        answers = printed.split(MARK)
+        if len(answers) != 1 + count:
+            return self._one_by_one(lines_of(text), texts)
+        return [str(answer, "utf-8") for answer in answers[1:]], fault
+
+    def _cut_lines(self, text: bytes, texts: Texts) -> Tuple[bytes, int, Optional[Exception]]:
+        """What the lines of a text print in a format, one behind another, up to the first that is refused; how many these are; and why it is
+        refused. The library cuts all of them in one call."""
         self.set_format(texts)
-        cut, text_of, at = self._cut, self._buffers.text_of, self._at
+        out, length, lines = c_void_p(), c_size_t(), c_uint64()
+        code = CUT_LINES(self._at, text, len(text), addressof(out), addressof(length), addressof(lines))
+        printed = string_at(out, length.value)
+        if code != OK:
+            return printed, lines.value - 1, fault_of(code)
+        return printed, lines.value, None
+
+    def _one_by_one(self, lines: List[bytes], texts: Texts) -> Answers:
+        """The text of each line in a format, by a call for each."""
         answers: List[str] = []
         try:
             for line in lines:
-                cut(line)
-                answers.append(text_of(PRINT, at))
+                answers.append(self.printed(line, texts))
         except (Fault, MemoryError) as fault:
             return answers, fault
         return answers, None

@@ -10,11 +10,12 @@ VARIABLE = "KUMQUATSIEVE_LIBRARY"
 
 OK = 0
 MEMORY = 1
+LINE_FEED = 0x4B01
 SHORT_BUFFER = 0x4B07
 PARTS = ("node", "unk", "bos", "eos")
 
 # The calls that may take long, during which other threads run. During the others none does, so no fork of another thread's falls into one.
-LONG = ("load", "add_user", "cut", "copy_print")
+LONG = ("load", "add_user", "cut", "cut_lines", "copy_print")
 
 
 class Slot(ctypes.Structure):
@@ -61,6 +62,7 @@ def arguments() -> Dict[str, List[Any]]:
         "set_format": [address, *text * 4, address, address],
         "set_grouping": [address, ctypes.c_uint32],
         "cut": [address, *text, address, address],
+        "cut_lines": [address, *text, address, address, address],
         "words": [address, size, address, size, address],
         "copy_feature": [address, size, address, size, address],
         "copy_print": [address, address, size, address],
@@ -76,11 +78,18 @@ def load() -> SimpleNamespace:
         raise ImportError(f"{error}: build the library by tools/build-library, and name it in {VARIABLE}") from error
     calls = {}
     for name, types in arguments().items():
-        call = getattr(beside_others if name in LONG else alone, f"kumquatsieve_{name}")
+        call = call_of(beside_others if name in LONG else alone, f"kumquatsieve_{name}")
         call.argtypes = types
         call.restype = None if name == "free" else ctypes.c_uint32
         calls[name] = call
     return SimpleNamespace(**calls)
+
+
+def call_of(library: ctypes.CDLL, name: str) -> Any:
+    try:
+        return getattr(library, name)
+    except AttributeError:
+        raise ImportError(f"{place()}: it has no {name}, so it is older than this module, or another library") from None
 
 
 LIBRARY = load()

@@ -1,14 +1,12 @@
 """What a cutter answers to many lines."""
-from typing import Callable, Generic, Iterator, List, Optional, Tuple, TypeVar
+from typing import Callable, Generic, Iterator, TypeVar
 
 from ._fault import Fault
+from ._handle import Answers
 from ._sources import Source, lines_as_they_come, pieces
 from ._texts import Encoder
 
 T = TypeVar("T")
-
-# What the lines up to a fault gave, and the fault that ended them.
-Answers = Tuple[List[T], Optional[Exception]]
 
 
 class Lines(Generic[T]):
@@ -44,13 +42,13 @@ def one_by_one(source: Source, answer: Callable[[bytes], T]) -> Callable[[Encode
     return begin
 
 
-def many_at_once(source: Source, answer: Callable[[List[bytes]], Answers[T]]) -> Callable[[Encoder], Iterator[T]]:
-    """The answers of about a megabyte of lines at once. Those before a fault come before it."""
+def many_at_once(source: Source, answer: Callable[[bytes], Answers]) -> Callable[[Encoder], Iterator[str]]:
+    """The answers to about a megabyte of lines at once. Those before a fault come before it."""
 
-    def begin(encoder: Encoder) -> Iterator[T]:
+    def begin(encoder: Encoder) -> Iterator[str]:
         number = 0
-        for lines in pieces(source, encoder):
-            answers, fault = answer(lines)
+        for text in pieces(source, encoder):
+            answers, fault = answer(text)
             yield from answers
             number += len(answers)
             if fault is not None:

@@ -2,7 +2,9 @@
 import mmap
 from typing import IO, Any, Iterable, Iterator, List, Union
 
-from ._texts import Encoder
+from ._fault import Fault, fault_of
+from ._library import LINE_FEED
+from ._texts import Encoder, lines_of
 
 Text = Union[str, bytes, bytearray, memoryview, mmap.mmap]
 Source = Union[Text, IO[str], IO[bytes], Iterable[Union[str, bytes]]]
@@ -18,8 +20,8 @@ TOO_LONG = 2**20 + 2
 def lines_as_they_come(source: Source, encoder: Encoder) -> Iterator[bytes]:
     """Each line without its end, when the source has it."""
     if isinstance(source, TEXTS):
-        for lines in pieces(source, encoder):
-            yield from lines
+        for text in pieces(source, encoder):
+            yield from lines_of(text)
         return
     for number, line in enumerate(source, 1):
         yield of_line(line, number, encoder)
@@ -32,12 +34,12 @@ def of_line(line: object, number: int, encoder: Encoder) -> bytes:
         raise TypeError(f"line {number}: {error}") from None
 
 
-def pieces(source: Source, encoder: Encoder) -> Iterator[List[bytes]]:
-    """The lines without their ends, about a megabyte at a time."""
+def pieces(source: Source, encoder: Encoder) -> Iterator[bytes]:
+    """The lines, about a megabyte at a time. Each ends in a line feed alone, but the last one may lack it."""
     if isinstance(source, TEXTS):
-        return map(lines_of, whole_lines(slices(source), encoder))
+        return map(with_plain_ends, whole_lines(slices(source), encoder))
     if hasattr(source, "read"):
-        return map(lines_of, whole_lines(reads(source), encoder))
+        return map(with_plain_ends, whole_lines(reads(source), encoder))
     return batches(source, encoder)
 
 
@@ -70,27 +72,32 @@ def whole_lines(parts: Iterator[Any], encoder: Encoder) -> Iterator[bytes]:
         yield encoder.of_bytes(rest)
 
 
-def lines_of(text: bytes) -> List[bytes]:
-    """The lines of a text without their ends."""
-    lines = text.split(b"\n")
-    last = lines.pop()
-    if b"\r" in text:
-        lines = [line[:-1] if line.endswith(b"\r") else line for line in lines]
-    return lines + [last] if last else lines
+def with_plain_ends(text: bytes) -> bytes:
+    """A text whose lines end in a line feed, without the carriage return that may stand before it."""
+    return text.replace(b"\r\n", b"\n")
 
 
-def batches(lines: Iterable[Union[str, bytes]], encoder: Encoder) -> Iterator[List[bytes]]:
-    """Lines, so many at once that they are about a megabyte. Those before one that is none go first."""
+def batches(lines: Iterable[Union[str, bytes]], encoder: Encoder) -> Iterator[bytes]:
+    """Lines, so many at once that they are about a megabyte. Those before an item that is no line, or more than one, go first."""
     batch: List[bytes] = []
     size = 0
-    for number, line in enumerate(lines, 1):
+    for number, item in enumerate(lines, 1):
         try:
-            batch.append(of_line(line, number, encoder))
-        except TypeError:
-            yield batch
+            line = one_line(item, number, encoder)
+        except (TypeError, Fault):
+            yield b"".join(batch)
             raise
-        size += len(batch[-1])
+        batch += line, b"\n"
+        size += len(line)
         if size >= PIECE:
-            yield batch
+            yield b"".join(batch)
             batch, size = [], 0
-    yield batch
+    yield b"".join(batch)
+
+
+def one_line(item: object, number: int, encoder: Encoder) -> bytes:
+    """A line without its own end, in which no other stands."""
+    line = of_line(item, number, encoder)
+    if b"\n" in line:
+        raise fault_of(LINE_FEED, place=number)
+    return line

@@ -1,5 +1,6 @@
 """Texts and lines in UTF-8, as the library takes them."""
 import re
+from typing import List
 
 SURROGATE = re.compile("[\ud800-\udfff]")
 ERRORS = ("strict", "replace")
@@ -29,6 +30,14 @@ def without_end(line: bytes) -> bytes:
     if line.endswith(b"\n"):
         return line[:-2] if line.endswith(b"\r\n") else line[:-1]
     return line
+
+
+def lines_of(text: bytes) -> List[bytes]:
+    """The lines of a text without their line feeds, which the last one may lack."""
+    lines = text.split(b"\n")
+    if not lines[-1]:
+        lines.pop()
+    return lines
 
 
 class Encoder:

@@ -27,10 +27,20 @@ def user(images: Path) -> str:
     return str(images / "user.img")
 
 
-@pytest.fixture(scope="session")
-def odd(system: str, tmp_path_factory: pytest.TempPathFactory) -> str:
-    """The sample's image with a line feed in a feature, which no source can have, and the digest of that."""
-    image = Path(system).read_bytes()[:-32].replace("名詞,もも".encode(), "名詞\nもも".encode())
-    path = tmp_path_factory.mktemp("odd") / "odd.img"
+def with_feature(system: str, feature: str, path: Path) -> str:
+    """The sample's image with another feature of もも, of as many bytes, and the digest of that."""
+    image = Path(system).read_bytes()[:-32].replace("名詞,もも".encode(), feature.encode())
     path.write_bytes(image + hashlib.sha256(image).digest())
     return str(path)
+
+
+@pytest.fixture(scope="session")
+def odd(system: str, tmp_path_factory: pytest.TempPathFactory) -> str:
+    """The sample's image with a line feed in a feature, which no source can have."""
+    return with_feature(system, "名詞\nもも", tmp_path_factory.mktemp("odd") / "odd.img")
+
+
+@pytest.fixture(scope="session")
+def marked(system: str, tmp_path_factory: pytest.TempPathFactory) -> str:
+    """The sample's image with U+FFFF in a feature."""
+    return with_feature(system, "\uffff詞,もも", tmp_path_factory.mktemp("marked") / "marked.img")

@@ -9,7 +9,7 @@ import weakref
 
 import pytest
 
-from kumquatsieve import Cutter, Fault
+from kumquatsieve import Cutter, Fault, Format
 
 LINE = "すもももも"
 WORDS = ["すもも", "もも"]
@@ -59,9 +59,11 @@ def test_with_closes_where_a_fault_leaves_it(system):
         cutter.wakati(LINE)
 
 
-def test_close_waits_for_the_calls_that_run(system):
-    cutter, done = Cutter(system), []
-    threads = [begun(lambda: done.append("".join(cutter.wakati(LONG)))) for _ in range(2)]
+@pytest.mark.parametrize("call", [Cutter.wakati, Cutter.wakati_lines, Cutter.parse_lines])
+def test_close_waits_for_the_calls_that_run(system, call):
+    """While they do, this thread runs too."""
+    cutter, done = Cutter(system, format=Format("%m", eos="")), []
+    threads = [begun(lambda: done.append("".join(call(cutter, LONG)).replace(" ", ""))) for _ in range(2)]
     assert len(cutter._handles._used) == 2
     cutter.close()
     assert cutter._handles._used == {}

@@ -33,3 +33,9 @@ def test_a_library_that_is_not_there_is_named():
     code = "import os; os.environ['KUMQUATSIEVE_LIBRARY'] = 'none.so'; import kumquatsieve"
     done = subprocess.run([sys.executable, "-c", code], capture_output=True, text=True)
     assert done.returncode == 1 and "ImportError: none.so" in done.stderr and "KUMQUATSIEVE_LIBRARY" in done.stderr
+
+
+def test_a_library_without_a_call_is_named():
+    code = "import os; os.environ['KUMQUATSIEVE_LIBRARY'] = 'libc.so.6'; import kumquatsieve"
+    done = subprocess.run([sys.executable, "-c", code], capture_output=True, text=True)
+    assert done.returncode == 1 and "ImportError: libc.so.6: it has no kumquatsieve_load" in done.stderr

@@ -46,6 +46,14 @@ def test_threads_get_what_one_gets(system, user, made_up, often):
     assert len(cutter._handles._free) <= THREADS and not cutter._handles._used
 
 
+@pytest.mark.parametrize("call", [Cutter.wakati_lines, Cutter.parse_lines])
+def test_threads_with_shares_cut_the_parts_of_a_text(system, made_up, often, call):
+    cutter, parts = Cutter(system), ["".join(line + "\n" for line in made_up[part::THREADS]) * 20 for part in range(THREADS)]
+    with ThreadPoolExecutor(THREADS) as threads:
+        answers = list(threads.map(lambda part: list(call(cutter.share(), part)), parts))
+    assert [answer for part in answers for answer in part] == list(call(cutter, "".join(parts)))
+
+
 def test_a_grouping_that_is_set_holds_for_the_calls_after_it(system, often):
     cutter, over, found = Cutter(system), threading.Event(), set()
     wanted = {grouping: tuple(Cutter(system, grouping=grouping).wakati("abcdefgh")) for grouping in (0, 3, 24)}
