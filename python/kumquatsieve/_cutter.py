@@ -149,7 +149,7 @@ class Cutter:
         return Lines(errors, one_by_one(source, self._words))
 
     def wakati_lines(self, source: Source, errors: str = "strict") -> Lines[str]:
-        """The surfaces of each line with a blank between two, as `lines` has it, but about a megabyte is read at once, and cut by one call of
+        """The surfaces of each line with a blank between two, as `lines` has it. About a megabyte is read at once, and cut by one call of
         the library, during which other threads run."""
         return Lines(errors, many_at_once(source, self._joined))
 

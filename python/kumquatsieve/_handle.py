@@ -26,7 +26,7 @@ SURFACES: Texts = (b"%m\\n", b"%m\\n", b"", b"")
 WORDS: Texts = (b"%m\\n%H\\n", b"%m\\n%H\\n", b"", b"")
 
 # What each line prints first, where many are printed at once: a code point that Unicode keeps for a program's own use.
-MARK = "\uffff".encode()
+MARK = "\uffff"
 
 CUT, CUT_LINES, PRINT, FEATURE = LIBRARY.cut, LIBRARY.cut_lines, LIBRARY.copy_print, LIBRARY.copy_feature
 
@@ -115,7 +115,7 @@ class Handle:
         where the line has words, and that blank is dropped; or else the line feed of the line before.
         """
         printed, _, fault = self._cut_lines(text, WAKATI)
-        answers = str(printed.replace(b" \n", b"\n"), "utf-8").split("\n")
+        answers = printed.replace(" \n", "\n").split("\n")
         answers.pop()
         return answers, fault
 
@@ -128,19 +128,19 @@ class Handle:
         lines are cut one by one.
         """
         node, unk, bos, eos = texts
-        printed, count, fault = self._cut_lines(text, (node, unk, MARK + bos, eos))
+        printed, count, fault = self._cut_lines(text, (node, unk, MARK.encode() + bos, eos))
         answers = printed.split(MARK)
         if len(answers) != 1 + count:
             return self._one_by_one(lines_of(text), texts)
-        return [str(answer, "utf-8") for answer in answers[1:]], fault
+        return answers[1:], fault
 
-    def _cut_lines(self, text: bytes, texts: Texts) -> Tuple[bytes, int, Optional[Exception]]:
-        """What the lines of a text print in a format, one behind another, up to the first that is refused; how many these are; and why it is
-        refused. The library cuts all of them in one call."""
+    def _cut_lines(self, text: bytes, texts: Texts) -> Tuple[str, int, Optional[Exception]]:
+        """What the lines of a text print in a format, one behind another, up to the first that is refused; how many they are; and why that
+        one is refused. The library cuts all of them in one call."""
         self.set_format(texts)
         out, length, lines = c_void_p(), c_size_t(), c_uint64()
         code = CUT_LINES(self._at, text, len(text), addressof(out), addressof(length), addressof(lines))
-        printed = string_at(out, length.value)
+        printed = str(string_at(out, length.value), "utf-8")
         if code != OK:
             return printed, lines.value - 1, fault_of(code)
         return printed, lines.value, None
