@@ -180,11 +180,11 @@ def in_child(call):
 
 def test_a_fork_during_cuts_leaves_a_child_that_cuts_and_closes(system):
     cutter = Cutter(system)
-    threads = [begun(lambda: cutter.wakati(LONG)) for _ in range(3)]
+    threads = [begun(lambda call=call: list(call(cutter, LONG))) for call in (Cutter.wakati, Cutter.wakati_lines, Cutter.parse_lines)]
 
     def cut_and_close():
         assert cutter.wakati(LINE) == WORDS
-        assert cutter.share().wakati(LINE) == WORDS
+        assert list(cutter.share().wakati_lines(LINE)) == [" ".join(WORDS)]
         cutter.close()
 
     assert in_child(cut_and_close) == 0
