@@ -86,6 +86,10 @@ typedef struct whole_file {
 } whole_file;
 bool read_whole(const char *path, whole_file *whole, fault *why);
 
+/* formats.c. Whether the format that is asked for is one; sets it to a cutter that has a dictionary. */
+bool check_format(const options *asked, fault *why);
+bool set_format(const options *asked, kumquatsieve_cutter *cutter, fault *why);
+
 /* dictionary.c. Fills an empty cutter with the images, the format and the grouping that are asked for; else a fault. */
 bool make_cutter(const options *asked, kumquatsieve_cutter *cutter, fault *why);
 

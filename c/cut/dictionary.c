@@ -1,15 +1,6 @@
 /* A cutter as the command line asks for it. */
 #include "cut.h"
 #include <stdlib.h>
-#include <string.h>
-
-static size_t length_of(const char *text) {
-    return text ? strlen(text) : 0;
-}
-
-static const uint8_t *bytes_of(const char *text) {
-    return (const uint8_t *)text;
-}
 
 static bool fails(fault *why, uint32_t code, const char *path, uint64_t number) {
     if (code == KUMQUATSIEVE_OK) return false;
@@ -65,27 +56,8 @@ static bool load_images(const options *asked, kumquatsieve_cutter *cutter, fault
     return overlay.code == 0;
 }
 
-/* Unknown words have the format of known ones where they have none. */
-static bool set_format(const options *asked, kumquatsieve_cutter *cutter, fault *why) {
-    const char *node = asked->node ? asked->node : "%m\\t%H\\n", *unk = asked->unk ? asked->unk : node;
-    const char *bos = asked->bos ? asked->bos : "", *eos = asked->eos ? asked->eos : "EOS\\n";
-    size_t at = 0;
-    if (asked->is_wakati) {
-        node = unk = "%m ";
-        bos = "";
-        eos = "\\n";
-    }
-    uint32_t code = kumquatsieve_set_format(
-        cutter, bytes_of(node), length_of(node), bytes_of(unk), length_of(unk), bytes_of(bos), length_of(bos), bytes_of(eos), length_of(eos),
-        &why->part, &at
-    );
-    if (code == KUMQUATSIEVE_OK) return true;
-    why->code = code;
-    why->number = at;
-    return false;
-}
-
 bool make_cutter(const options *asked, kumquatsieve_cutter *cutter, fault *why) {
+    if (!check_format(asked, why)) return false;
     if (load_images(asked, cutter, why) && set_format(asked, cutter, why)) {
         uint32_t code = kumquatsieve_set_grouping(cutter, asked->grouping);
         if (!fails(why, code, NULL, 0)) return true;
