@@ -40,13 +40,19 @@ static bool add_user(const char *path, kumquatsieve_cutter *cutter, bool only_lo
     return !fails(why, code, path, number);
 }
 
+static void say_loaded(const char *path) {
+    char *line = is_narrated() ? one_line(path) : NULL;
+    if (line) say("loaded %s", line);
+    free(line);
+}
+
 static bool load_images(const options *asked, kumquatsieve_cutter *cutter, fault *why) {
     fault overlay = {0};
     if (!load_system(asked->dic, cutter, why)) {
         if (!is_of_overlay(why->code)) return false;
         overlay = *why;
     }
-    say("loaded %s", asked->dic);
+    say_loaded(asked->dic);
     for (size_t i = 0; i < asked->user_count; i++) {
         if (add_user(asked->users[i], cutter, overlay.code != 0, why)) continue;
         if (!is_of_overlay(why->code)) return false;

@@ -49,6 +49,7 @@ class Row(NamedTuple):
     text: bytes = b""
     place: dict = {}
     output: Callable = kept
+    status: int = 0
     most: int = 0  # how many bytes the file of the output may have. 0: any number
     closed: tuple = ()  # the streams that are closed
     is_directory: bool = False  # whether standard input is a directory
@@ -100,32 +101,32 @@ TEXTS = [
     Row("the longest lines, no line feed at the end", text=(LONG + b"\n") * 2 + LONG),
     Row("a piece and a byte", text=TEXT[: TEXT.index(b"\n", PIECE - 200) + 1].ljust(PIECE, b"a") + b"\n"),
     Row("a piece, then a line", text=TEXT[: TEXT.index(b"\n", PIECE - 200) + 1].ljust(PIECE - 1, b"a") + b"\nb"),
-    Row("a bad line alone", text=b"\xff"),
-    Row("a bad line at the end", text=TEXT + b"a\xff"),
-    Row("a line too long at the end", text=TEXT + LONGER),
-    Row("lines too long, without end", text=b"a" * 5_000_000),
-    Row("too long and bad", text=TEXT[:PIECE] + b"\n" + b"\xff" * (LINE_MOST + 1) + b"\n"),
-    Row("bad, then too long", text=with_line(b"\xff\n" + LONGER, PIECE)),
-    Row("too long, then bad", text=with_line(LONGER + b"\n\xff", PIECE)),
-    Row("an open line too long behind a bad one", text=TEXT[: PIECE // 2] + b"\xff\n" + LONGER),
-    Row("bad lines in several pieces", text=with_line(b"\xff", PIECE + 5).replace(TEXT[-200:], TEXT[-200:] + b"\xff\n")),
+    Row("a bad line alone", status=1, text=b"\xff"),
+    Row("a bad line at the end", status=1, text=TEXT + b"a\xff"),
+    Row("a line too long at the end", status=1, text=TEXT + LONGER),
+    Row("a line without end", status=1, text=b"a" * 5_000_000),
+    Row("too long and bad", status=1, text=TEXT[:PIECE] + b"\n" + b"\xff" * (LINE_MOST + 1) + b"\n"),
+    Row("bad, then too long", status=1, text=with_line(b"\xff\n" + LONGER, PIECE)),
+    Row("too long, then bad", status=1, text=with_line(LONGER + b"\n\xff", PIECE)),
+    Row("an open line too long behind a bad one", status=1, text=TEXT[: PIECE // 2] + b"\xff\n" + LONGER),
+    Row("bad lines in several pieces", status=1, text=with_line(b"\xff", PIECE + 5).replace(TEXT[-200:], TEXT[-200:] + b"\xff\n")),
     Row("a zero byte", text=with_line(b"\0", PIECE)),
-    *(Row(f"a bad line behind byte {at}", text=with_line("すもも".encode()[:-1], at)) for at in PLACES),
-    *(Row(f"a line too long behind byte {at}", text=with_line(LONGER, at)) for at in PLACES),
+    *(Row(f"a bad line behind byte {at}", status=1, text=with_line("すもも".encode()[:-1], at)) for at in PLACES),
+    *(Row(f"a line too long behind byte {at}", status=1, text=with_line(LONGER, at)) for at in PLACES),
     *(Row(f"the longest line behind byte {at}", text=with_line(LONG, at)) for at in PLACES),
 ]
 
 READS = [0, 1, 7, 15, 16, 17, 40, 60]
 
 INPUTS = [
-    *(Row(f"a read fails after {reads}", place={"FAIL": "read", "FAIL_AFTER": str(reads)}) for reads in READS),
-    Row("input that is closed", closed=(0,)),
-    Row("input that is a directory", is_directory=True),
+    *(Row(f"a read fails after {reads}", status=3, place={"FAIL": "read", "FAIL_AFTER": str(reads)}) for reads in READS),
+    Row("input that is closed", status=3, closed=(0,)),
+    Row("input that is a directory", status=3, is_directory=True),
 ]
 
 OUTPUTS = [
-    Row("output that is full", output=full),
-    Row("output that is closed", closed=(1,)),
-    Row("output that nobody reads", output=unread),
-    *(Row(f"output of {most} bytes", most=most) for most in (1, 5, 65_536, 1_000_000, 7_654_321)),
+    Row("output that is full", status=3, output=full),
+    Row("output that is closed", status=3, closed=(1,)),
+    Row("output that nobody reads", status=3, output=unread),
+    *(Row(f"output of {most} bytes", status=3, most=most) for most in (1, 5, 65_536, 1_000_000, 7_654_321)),
 ]
