@@ -36,9 +36,9 @@ typedef struct fault {
     uint32_t part;
 } fault;
 
-/* What a command line asks for. A format that was not given is NULL. */
+/* What a command line asks for. A format that was not given is NULL; `dic` and `users` are main's to free. */
 typedef struct options {
-    const char *dic;
+    char *dic;
     const char **users;
     size_t user_count;
     const char *node, *unk, *bos, *eos;
@@ -52,7 +52,17 @@ typedef struct options {
 bool read_options(int count, char **words, options *asked, int *status);
 
 /* habits.c. What to do in place of words that jseg or MeCab take, or NULL; in place of a name of an output format; and what --help and --version print. */
-typedef enum habit { HABIT_WORDS, HABIT_NBEST, HABIT_BUFFER, HABIT_FILE, HABIT_RCFILE, HABIT_SOURCES, HABIT_SAMPLE, HABIT_EXPLAIN, HABITS } habit;
+typedef enum habit {
+    HABIT_WORDS,
+    HABIT_NBEST,
+    HABIT_BUFFER,
+    HABIT_FILE,
+    HABIT_RCFILE,
+    HABIT_SOURCES,
+    HABIT_SAMPLE,
+    HABIT_EXPLAIN,
+    HABITS,
+} habit;
 extern const char *const INSTEAD[HABITS];
 habit habit_of(const char *word);
 const char *instead_of_output(const char *name);

@@ -32,7 +32,7 @@ int main(int count, char **words) {
         if (asked.is_verbose) begin_narration();
         status = cut_by(&asked);
     }
-    free((void *)asked.dic);
+    free(asked.dic);
     free(asked.users);
     return status;
 }

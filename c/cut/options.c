@@ -1,10 +1,9 @@
 /* The command line. Its words are taken as jseg takes them: a value stands behind its letter, behind `=`, or in the next word. */
 #include "cut.h"
 #include <limits.h>
-#include <stdio.h>
+#include <sched.h>
 #include <stdlib.h>
 #include <string.h>
-#include <sched.h>
 #include <unistd.h>
 
 /* An option. What is a text may be empty or begin with `-`. */
@@ -143,6 +142,17 @@ static uint32_t processors(void) {
     return count < 1 ? 1 : count > THREADS_MOST ? THREADS_MOST : (uint32_t)count;
 }
 
+static step wrong_directory(const char *path, int *status) {
+    char *line = one_line(path);
+    if (!line) {
+        *status = tell_fault(&(fault){.code = KUMQUATSIEVE_MEMORY});
+        return ENDED;
+    }
+    tell_wrong("%s is a dictionary of MeCab: make an image of its sources with 'kumquatsieve-import SOURCES IMG', and give that with -d", line);
+    free(line);
+    return WRONG;
+}
+
 /* What words alone don't say: an image and an output format that the program has. */
 static step finish(reading *of, int *status) {
     const char *instead = of->output ? instead_of_output(of->output) : NULL;
@@ -157,10 +167,7 @@ static step finish(reading *of, int *status) {
         return ENDED;
     }
     if (!is_mecab_directory(of->asked->dic)) return NEXT;
-    char *path = one_line(of->asked->dic);
-    tell_wrong("%s is a dictionary of MeCab: make an image of its sources with 'kumquatsieve-import SOURCES IMG', and give that with -d", path ? path : "it");
-    free(path);
-    return WRONG;
+    return wrong_directory(of->asked->dic, status);
 }
 
 static bool are_utf8(char **words, int count) {

@@ -1,6 +1,7 @@
-/* The queue of pieces. Each thread takes the next piece of the text, cuts it by the cutter of its place in the queue, and writes what is cut and next in
-   order, where no other thread does. One thread reads at a time and one writes; none holds the lock while it reads, cuts or writes. The queue
-   has two places for each thread, so that a piece that takes long holds up no other one; with one thread it has one, and no thread is made. */
+/* The queue of pieces. Each thread takes the next piece of the text, cuts it by the cutter of its place in the queue, and writes what is cut and
+   next in order, where no other thread does. One thread reads at a time and one writes; none holds the lock while it reads, cuts or writes. The
+   queue has two places for each thread, so that a piece that takes long holds up no other one; with one thread it has one, and no thread is
+   made. */
 #include "cut.h"
 #include <pthread.h>
 #include <stdlib.h>

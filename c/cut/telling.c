@@ -16,7 +16,10 @@ static void write_once(const char *text) {
 /* A text between two others, in one write where there is memory for it. */
 static void tell_between(const char *before, const char *behind, const char *format, va_list words) {
     char *text = NULL, *whole = NULL;
-    if (vasprintf(&text, format, words) < 0) return write_once(PROGRAM ": Memory\n");
+    if (vasprintf(&text, format, words) < 0) {
+        write_once(PROGRAM ": Memory\n");
+        return;
+    }
     if (asprintf(&whole, "%s%s%s", before, text, behind) < 0) {
         write_once(text);
     } else {
@@ -51,7 +54,9 @@ static void name_of(uint32_t code, char *name, size_t room) {
         uint32_t code;
         const char *name;
     } OTHERS[] = {
-        {FAULT_FILE, "F1 File"}, {FAULT_OUTPUT, "F2 Output"}, {FAULT_READ, "G1 Read"}, {FAULT_WRITE, "G2 Write"}, {FAULT_INPUT_TOO_LONG, "G5 InputTooLong"},
+        {FAULT_FILE, "F1 File"}, {FAULT_OUTPUT, "F2 Output"},
+        {FAULT_READ, "G1 Read"}, {FAULT_WRITE, "G2 Write"},
+        {FAULT_INPUT_TOO_LONG, "G5 InputTooLong"},
     };
     size_t length = 0;
     for (size_t i = 0; i < sizeof OTHERS / sizeof *OTHERS; i++) {
