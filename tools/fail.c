@@ -1,9 +1,13 @@
-// One call of the C library that fails, to be preloaded (LD_PRELOAD) by `tools/runs`.
+// One call of the C library that fails, to be preloaded (LD_PRELOAD) by `tools/runs` and `tools/cut-lines`.
 //
-//     FAIL=rename       the call that fails: rename, fsync, fchmod, or write to a file, as on a full device
+//     FAIL=rename       the call that fails: rename, fsync, fchmod, write to a file, as on a full device, read of standard input, or pthread_create
+//     FAIL_AFTER=N      how many calls of read or pthread_create don't fail before; none where it isn't given
 #define _GNU_SOURCE
+#include <dlfcn.h>
 #include <errno.h>
 #include <fcntl.h>
+#include <pthread.h>
+#include <stdatomic.h>
 #include <stdlib.h>
 #include <string.h>
 #include <sys/stat.h>
@@ -37,4 +41,20 @@ static int is_file(int file) {
 
 ssize_t write(int file, const void *bytes, size_t count) {
     return is_file(file) && fails("write", ENOSPC) ? -1 : syscall(SYS_write, file, bytes, count);
+}
+
+// Whether the calls that don't fail are over.
+static int fails_now(const char *name, int error) {
+    static atomic_long called;
+    const char *after = getenv("FAIL_AFTER");
+    return fails(name, error) && atomic_fetch_add(&called, 1) >= (after ? atol(after) : 0);
+}
+
+ssize_t read(int file, void *bytes, size_t count) {
+    return file == STDIN_FILENO && fails_now("read", EIO) ? -1 : syscall(SYS_read, file, bytes, count);
+}
+
+int pthread_create(pthread_t *thread, const pthread_attr_t *kind, void *(*begin)(void *), void *given) {
+    int (*made)(pthread_t *, const pthread_attr_t *, void *(*)(void *), void *) = dlsym(RTLD_NEXT, "pthread_create");
+    return fails_now("pthread_create", EAGAIN) || !made ? EAGAIN : made(thread, kind, begin, given);
 }

@@ -20,11 +20,15 @@ ROWS = [
     ("PREFIX/bin/jseg -d a-f", FILES),
     ("PREFIX/bin/dictc user --dic ", FILES),
     ("PREFIX/bin/dictc user --dic ip", {"PREFIX/share/kumquatsieve/ipadic.img"}),
+    ("PREFIX/bin/kumquatsieve-cut -d ", {"ipadic", *FILES}),
     ("jseg -u ", FILES),
+    ("kumquatsieve-cut -u ", FILES),
     ("jseg --sources ", FOLDERS),
     ("jseg -O ", {"wakati"}),
+    ("kumquatsieve-cut -O ", {"wakati"}),
     ("jseg --explain ", CODES),
     *((f"jseg {option} -", NOTHING) for option in ("-M", "-F", "-U", "-B", "-E")),
+    *((f"kumquatsieve-cut {option} -", NOTHING) for option in ("-j", "-M", "-F", "-U", "-B", "-E")),
     ("dictc help ", {"system", "user"}),
     ("dictc --explain ", CODES),
     *((f"dictc system {option} ", FILES) for option in ("--matrix", "--char", "--unk", "--out")),
@@ -55,7 +59,7 @@ def faults(helped):
 
 def made_folder(prefix):
     """A folder with a file and a folder, beside what is installed."""
-    for path in ("bin/jseg", "bin/dictc", "share/kumquatsieve/ipadic.img", f"here/{FILE}"):
+    for path in ("bin/jseg", "bin/dictc", "bin/kumquatsieve-cut", "share/kumquatsieve/ipadic.img", f"here/{FILE}"):
         (prefix / path).parent.mkdir(parents=True, exist_ok=True)
         (prefix / path).touch(0o755)
     (prefix / "here" / FOLDER).mkdir()

@@ -1,5 +1,6 @@
 # shellcheck shell=bash
-# Completes the words of jseg, dictc and kumquatsieve-import in bash. It is installed under the name of each, where bash-completion looks.
+# Completes the words of jseg, kumquatsieve-cut, dictc and kumquatsieve-import in bash. It is installed under the name of each, where
+# bash-completion looks.
 #
 # `cur` is the word that is completed, and `prev` the one before it: bash takes `--out=x` for three words.
 
@@ -93,6 +94,19 @@ _kumquatsieve_jseg() {
     esac
 }
 
+_kumquatsieve_cut() {
+    local cur prev
+    COMPREPLY=()
+    _kumquatsieve_words
+    case $prev in
+    -d) _kumquatsieve_image_or_name ;;
+    -u) _kumquatsieve_files ;;
+    -O) _kumquatsieve_of wakati ;;
+    -j | -M | -F | -U | -B | -E) ;;
+    *) _kumquatsieve_of "-d -u -j -M -O -F -U -B -E -v -h --help -V --version" ;;
+    esac
+}
+
 _kumquatsieve_dictc() {
     local cur prev
     COMPREPLY=()
@@ -147,5 +161,6 @@ _kumquatsieve_import() {
 }
 
 complete -F _kumquatsieve_jseg jseg
+complete -F _kumquatsieve_cut kumquatsieve-cut
 complete -F _kumquatsieve_dictc dictc
 complete -F _kumquatsieve_import kumquatsieve-import

@@ -1,0 +1,135 @@
+/* kumquatsieve-cut: what its parts have in common. Standard input is cut by N threads over one dictionary, and what is written is what jseg
+   writes. */
+#ifndef CUT_H
+#define CUT_H
+#define _GNU_SOURCE
+#include <kumquatsieve.h>
+#include <stdbool.h>
+#include <stddef.h>
+#include <stdint.h>
+
+#define PROGRAM "kumquatsieve-cut"
+
+enum {
+    GROUPING_DEFAULT = 24,
+    GROUPING_MOST = 1000,
+    THREADS_MOST = 1000,
+};
+
+/* The statuses that are not those of a fault. */
+enum { STATUS_DONE = 0, STATUS_WRONG = 2 };
+
+/* Faults that the library has not, by their letters and numbers as it numbers its own. */
+enum {
+    FAULT_FILE = 0x4601,           /* F1, with the path */
+    FAULT_OUTPUT = 0x4602,         /* F2 */
+    FAULT_READ = 0x4701,           /* G1, with the line */
+    FAULT_WRITE = 0x4702,          /* G2, with the bytes that were written */
+    FAULT_INPUT_TOO_LONG = 0x4705, /* G5, with the line */
+};
+
+/* Why the program ends early. `code` is one of the library's or of those above; `number` is that of a line, a byte, a section or the like. */
+typedef struct fault {
+    uint32_t code;
+    const char *path;
+    uint64_t number;
+    uint32_t part;
+} fault;
+
+/* What a command line asks for. A format that was not given is NULL; `dic` and `users` are main's to free. */
+typedef struct options {
+    char *dic;
+    const char **users;
+    size_t user_count;
+    const char *node, *unk, *bos, *eos;
+    bool is_wakati;
+    uint32_t grouping;
+    uint32_t threads;
+    bool is_verbose;
+} options;
+
+/* options.c. Whether there is work to do; else the program ends with this status, and why was told. */
+bool read_options(int count, char **words, options *asked, int *status);
+
+/* habits.c. What to do in place of words that jseg or MeCab take, or NULL; in place of a name of an output format; and what --help and --version print. */
+typedef enum habit {
+    HABIT_WORDS,
+    HABIT_NBEST,
+    HABIT_BUFFER,
+    HABIT_FILE,
+    HABIT_RCFILE,
+    HABIT_SOURCES,
+    HABIT_SAMPLE,
+    HABIT_EXPLAIN,
+    HABITS,
+} habit;
+extern const char *const INSTEAD[HABITS];
+habit habit_of(const char *word);
+const char *instead_of_output(const char *name);
+extern const char HELP[], VERSION[];
+
+/* telling.c. Each line is one write, where there is memory for it; one that fails is ignored. */
+void tell(const char *format, ...) __attribute__((format(printf, 1, 2)));
+void tell_wrong(const char *format, ...) __attribute__((format(printf, 1, 2)));
+int tell_fault(const fault *why);
+void tell_why(const fault *why);
+bool print_text(const char *text);
+
+/* narrator.c. What -v says, with the seconds since the beginning. */
+void begin_narration(void);
+bool is_narrated(void);
+void say(const char *format, ...) __attribute__((format(printf, 1, 2)));
+
+/* texts.c. Whether a text is UTF-8; and a path in one line, its control characters escaped, which the caller frees: NULL for want of memory. */
+bool is_utf8(const char *text);
+char *one_line(const char *text);
+
+/* paths.c. The path of the image that -d names, which the caller frees: NULL for want of memory. What is wrong with a path. */
+char *image_path(const char *name);
+bool is_mecab_directory(const char *path);
+const char *trouble_with(const char *path);
+
+/* files.c. A file's bytes, which the caller frees; else a fault. */
+typedef struct whole_file {
+    uint8_t *at;
+    size_t length;
+} whole_file;
+bool read_whole(const char *path, whole_file *whole, fault *why);
+
+/* formats.c. Whether the format that is asked for is one; sets it to a cutter that has a dictionary. */
+bool check_format(const options *asked, fault *why);
+bool set_format(const options *asked, kumquatsieve_cutter *cutter, fault *why);
+
+/* dictionary.c. Fills an empty cutter with the images, the format and the grouping that are asked for; else a fault. */
+bool make_cutter(const options *asked, kumquatsieve_cutter *cutter, fault *why);
+
+/* pieces.c. The text on standard input, a piece of whole lines after another. */
+enum { PIECE_ROOM = 1048576 + 65536 };
+
+typedef enum ending { GOES_ON, AT_END, READ_FAILED, LINE_TOO_LONG, COMES_TO_NO_END } ending;
+
+/* `ending` says what came behind the whole lines: where it is AT_END the last line may lack its line feed. */
+typedef struct piece {
+    uint8_t *bytes;
+    size_t length;
+    ending ending;
+} piece;
+
+typedef struct input {
+    uint8_t *open;
+    size_t open_length;
+    uint64_t reads;
+} input;
+
+bool make_input(input *in);
+void free_input(input *in);
+void read_piece(input *in, piece *next);
+
+/* writing.c. Writes all bytes to standard output, and counts those that it takes; false where a write fails or takes none. */
+bool write_out(const uint8_t *at, size_t length, uint64_t *taken);
+
+/* queue.c. Cuts standard input by so many threads, and writes what its lines print; a fault of the text, of a read or of a write ends the program,
+   after what stands before it was written. False for want of memory before the first read. */
+bool cut_input(kumquatsieve_cutter *cutter, uint32_t threads, uint64_t *lines);
+
+#endif

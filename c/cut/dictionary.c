@@ -1,0 +1,73 @@
+/* A cutter as the command line asks for it. */
+#include "cut.h"
+#include <stdlib.h>
+
+static bool fails(fault *why, uint32_t code, const char *path, uint64_t number) {
+    if (code == KUMQUATSIEVE_OK) return false;
+    *why = (fault){.code = code, .path = code == KUMQUATSIEVE_MEMORY ? NULL : path, .number = number};
+    return true;
+}
+
+/* Whether a fault is of images that don't belong together. It is told after the faults of each image by itself. */
+static bool is_of_overlay(uint32_t code) {
+    return code >> 8 == 'O';
+}
+
+static bool load_system(const char *path, kumquatsieve_cutter *cutter, fault *why) {
+    whole_file image;
+    uint64_t number = 0;
+    if (!read_whole(path, &image, why)) return false;
+    uint32_t code = kumquatsieve_load(cutter, image.at, image.length, &number);
+    free(image.at);
+    return !fails(why, code, path, number);
+}
+
+/* What is wrong with an image by itself. That it is no system dictionary's is nothing wrong with it. */
+static uint32_t look_at(const whole_file *image, uint64_t *number) {
+    kumquatsieve_cutter alone = KUMQUATSIEVE_EMPTY;
+    uint32_t code = kumquatsieve_load(&alone, image->at, image->length, number);
+    kumquatsieve_free(&alone);
+    return is_of_overlay(code) ? KUMQUATSIEVE_OK : code;
+}
+
+/* Lays a user dictionary over the others, or only looks at its image where these don't belong together. */
+static bool add_user(const char *path, kumquatsieve_cutter *cutter, bool only_look, fault *why) {
+    whole_file image;
+    uint64_t number = 0;
+    if (!read_whole(path, &image, why)) return false;
+    uint32_t code = only_look ? look_at(&image, &number) : kumquatsieve_add_user(cutter, image.at, image.length, &number);
+    free(image.at);
+    return !fails(why, code, path, number);
+}
+
+static void say_loaded(const char *path) {
+    char *line = is_narrated() ? one_line(path) : NULL;
+    if (line) say("loaded %s", line);
+    free(line);
+}
+
+static bool load_images(const options *asked, kumquatsieve_cutter *cutter, fault *why) {
+    fault overlay = {0};
+    if (!load_system(asked->dic, cutter, why)) {
+        if (!is_of_overlay(why->code)) return false;
+        overlay = *why;
+    }
+    say_loaded(asked->dic);
+    for (size_t i = 0; i < asked->user_count; i++) {
+        if (add_user(asked->users[i], cutter, overlay.code != 0, why)) continue;
+        if (!is_of_overlay(why->code)) return false;
+        overlay = *why;
+    }
+    *why = overlay;
+    return overlay.code == 0;
+}
+
+bool make_cutter(const options *asked, kumquatsieve_cutter *cutter, fault *why) {
+    if (!check_format(asked, why)) return false;
+    if (load_images(asked, cutter, why) && set_format(asked, cutter, why)) {
+        uint32_t code = kumquatsieve_set_grouping(cutter, asked->grouping);
+        if (!fails(why, code, NULL, 0)) return true;
+    }
+    kumquatsieve_free(cutter);
+    return false;
+}

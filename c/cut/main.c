@@ -1,0 +1,38 @@
+/* kumquatsieve-cut: cuts the text on standard input into words, by all processors. */
+#include "cut.h"
+#include <signal.h>
+#include <stdlib.h>
+
+static int end_by(const fault *why) {
+    tell_why(why);
+    return tell_fault(why);
+}
+
+static int cut_by(const options *asked) {
+    kumquatsieve_cutter cutter = KUMQUATSIEVE_EMPTY;
+    fault why = {0};
+    uint64_t lines = 0;
+    int status = STATUS_DONE;
+    if (!make_cutter(asked, &cutter, &why)) return end_by(&why);
+    if (cut_input(&cutter, asked->threads, &lines)) {
+        say("cut %llu lines", (unsigned long long)lines);
+    } else {
+        status = tell_fault(&(fault){.code = KUMQUATSIEVE_MEMORY});
+    }
+    kumquatsieve_free(&cutter);
+    return status;
+}
+
+int main(int count, char **words) {
+    options asked = {0};
+    int status = STATUS_DONE;
+    /* A pipe without a reader is a write that fails. */
+    signal(SIGPIPE, SIG_IGN);
+    if (read_options(count, words, &asked, &status)) {
+        if (asked.is_verbose) begin_narration();
+        status = cut_by(&asked);
+    }
+    free(asked.dic);
+    free(asked.users);
+    return status;
+}

@@ -1,0 +1,32 @@
+/* What is said while the program works, where -v asks for it. */
+#include "cut.h"
+#include <stdarg.h>
+#include <stdio.h>
+#include <stdlib.h>
+#include <time.h>
+
+/* Set before the first thread is made. */
+static bool narrated;
+static struct timespec began;
+
+void begin_narration(void) {
+    narrated = clock_gettime(CLOCK_MONOTONIC, &began) == 0;
+}
+
+bool is_narrated(void) {
+    return narrated;
+}
+
+void say(const char *format, ...) {
+    struct timespec now;
+    va_list words;
+    char *text = NULL;
+    if (!narrated || clock_gettime(CLOCK_MONOTONIC, &now) != 0) return;
+    long hundredths = (now.tv_sec - began.tv_sec) * 100 + (now.tv_nsec - began.tv_nsec) / 10000000;
+    va_start(words, format);
+    int made = vasprintf(&text, format, words);
+    va_end(words);
+    if (made < 0) return;
+    tell("%ld.%02ld s: %s", hundredths / 100, hundredths % 100, text);
+    free(text);
+}

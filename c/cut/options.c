@@ -1,0 +1,196 @@
+/* The command line. Its words are taken as jseg takes them: a value stands behind its letter, behind `=`, or in the next word. */
+#include "cut.h"
+#include <limits.h>
+#include <sched.h>
+#include <stdlib.h>
+#include <string.h>
+#include <unistd.h>
+
+/* An option. What is a text may be empty or begin with `-`. */
+typedef struct row {
+    char letter;
+    const char *value;
+    bool is_text, is_repeated;
+} row;
+
+static const row ROWS[] = {
+    {'d', "IMG", false, false},   {'u', "IMG", false, true},   {'j', "N", false, false},     {'M', "N", false, false},
+    {'O', "NAME", false, false},  {'F', "FORMAT", true, false}, {'U', "FORMAT", true, false}, {'B', "FORMAT", true, false},
+    {'E', "FORMAT", true, false}, {'v', NULL, false, false},
+};
+
+/* What was read of a command line: `at` is the next word, and a letter that was given is true. */
+typedef struct reading {
+    char **words;
+    int count, at;
+    options *asked;
+    const char *dic, *output;
+    bool given[UCHAR_MAX + 1];
+} reading;
+
+typedef enum step { NEXT, ENDED, WRONG } step;
+
+static step wrong_word(const char *word) {
+    habit known = habit_of(word);
+    if (known == HABITS) {
+        tell_wrong("unexpected argument '%s' found", word);
+    } else {
+        tell_wrong("%s", INSTEAD[known]);
+    }
+    return WRONG;
+}
+
+/* What is printed where the program is asked about itself. */
+static step answer(const char *text, int *status) {
+    *status = print_text(text) ? STATUS_DONE : tell_fault(&(fault){.code = FAULT_OUTPUT});
+    return ENDED;
+}
+
+/* A number from `least` to `most`, in digits that a sign may stand before. */
+static step read_number(const row *of, const char *text, long least, long most, uint32_t *number) {
+    const char *digits = text + (*text == '+' || *text == '-');
+    if (*digits == '\0' || digits[strspn(digits, "0123456789")] != '\0') {
+        tell_wrong("invalid value '%s' for '-%c <%s>': it is no number", text, of->letter, of->value);
+        return WRONG;
+    }
+    /* A number that is too large for a long is the largest one. */
+    long found = strtol(text, NULL, 10);
+    if (found < least || found > most) {
+        tell_wrong("invalid value '%s' for '-%c <%s>': %s is not in %ld..=%ld", text, of->letter, of->value, text, least, most);
+        return WRONG;
+    }
+    *number = (uint32_t)found;
+    return NEXT;
+}
+
+static step set_value(reading *of, const row *option, const char *value) {
+    options *asked = of->asked;
+    switch (option->letter) {
+    case 'd': of->dic = value; break;
+    case 'u': asked->users[asked->user_count++] = value; break;
+    case 'j': return read_number(option, value, 1, THREADS_MOST, &asked->threads);
+    case 'M': return read_number(option, value, 0, GROUPING_MOST, &asked->grouping);
+    case 'O': of->output = value; break;
+    case 'F': asked->node = value; break;
+    case 'U': asked->unk = value; break;
+    case 'B': asked->bos = value; break;
+    default: asked->eos = value; break;
+    }
+    return NEXT;
+}
+
+/* The value of an option: what is left of its word, without a `=` before it, or the next word. NULL where there is none. */
+static const char *value_of(reading *of, const row *option, const char *rest) {
+    if (*rest) return rest + (*rest == '=');
+    if (of->at == of->count) return NULL;
+    const char *next = of->words[of->at];
+    if (!option->is_text && next[0] == '-' && next[1] != '\0') return NULL;
+    of->at++;
+    return next;
+}
+
+static step read_value(reading *of, const row *option, const char *rest) {
+    const char *value = value_of(of, option, rest);
+    if (!value) {
+        tell_wrong("a value is required for '-%c <%s>' but none was supplied", option->letter, option->value);
+        return WRONG;
+    }
+    return set_value(of, option, value);
+}
+
+static const row *row_of(char letter) {
+    for (size_t i = 0; i < sizeof ROWS / sizeof *ROWS; i++) {
+        if (ROWS[i].letter == letter) return &ROWS[i];
+    }
+    return NULL;
+}
+
+static step given_twice(const row *option) {
+    const char *before = option->value ? " <" : "", *behind = option->value ? ">" : "";
+    tell_wrong("the argument '-%c%s%s%s' cannot be used multiple times", option->letter, before, option->value ? option->value : "", behind);
+    return WRONG;
+}
+
+/* The letters of a word that begins with one `-`. */
+static step read_letters(reading *of, const char *word, int *status) {
+    for (const char *at = word + 1; *at; at++) {
+        const row *option = row_of(*at);
+        if (*at == 'h') return answer(HELP, status);
+        if (*at == 'V') return answer(VERSION, status);
+        if (!option) return wrong_word(word);
+        if (of->given[(unsigned char)*at] && !option->is_repeated) return given_twice(option);
+        of->given[(unsigned char)*at] = true;
+        if (option->value) return read_value(of, option, at + 1);
+        of->asked->is_verbose = true;
+    }
+    return NEXT;
+}
+
+static step read_word(reading *of, int *status) {
+    const char *word = of->words[of->at++];
+    if (strcmp(word, "--help") == 0) return answer(HELP, status);
+    if (strcmp(word, "--version") == 0) return answer(VERSION, status);
+    if (strcmp(word, "--") == 0) return of->at == of->count ? NEXT : wrong_word(of->words[of->at]);
+    if (word[0] != '-' || word[1] == '\0' || word[1] == '-') return wrong_word(word);
+    return read_letters(of, word, status);
+}
+
+/* The processors that this process may run on. */
+static uint32_t processors(void) {
+    cpu_set_t set;
+    long count = sched_getaffinity(0, sizeof set, &set) == 0 ? CPU_COUNT(&set) : sysconf(_SC_NPROCESSORS_ONLN);
+    return count < 1 ? 1 : count > THREADS_MOST ? THREADS_MOST : (uint32_t)count;
+}
+
+static step wrong_directory(const char *path, int *status) {
+    char *line = one_line(path);
+    if (!line) {
+        *status = tell_fault(&(fault){.code = KUMQUATSIEVE_MEMORY});
+        return ENDED;
+    }
+    tell_wrong("%s is a dictionary of MeCab: make an image of its sources with 'kumquatsieve-import SOURCES IMG', and give that with -d", line);
+    free(line);
+    return WRONG;
+}
+
+/* What words alone don't say: an image and an output format that the program has. */
+static step finish(reading *of, int *status) {
+    const char *instead = of->output ? instead_of_output(of->output) : NULL;
+    of->asked->is_wakati = of->output != NULL;
+    if (instead || !of->dic) {
+        tell_wrong("%s", instead ? instead : "-d IMG has to be given");
+        return WRONG;
+    }
+    of->asked->dic = image_path(of->dic);
+    if (!of->asked->dic) {
+        *status = tell_fault(&(fault){.code = KUMQUATSIEVE_MEMORY});
+        return ENDED;
+    }
+    if (!is_mecab_directory(of->asked->dic)) return NEXT;
+    return wrong_directory(of->asked->dic, status);
+}
+
+static bool are_utf8(char **words, int count) {
+    for (int i = 1; i < count; i++) {
+        if (!is_utf8(words[i])) return false;
+    }
+    return true;
+}
+
+bool read_options(int count, char **words, options *asked, int *status) {
+    reading own = {.words = words, .count = count, .at = 1, .asked = asked};
+    step now = NEXT;
+    *asked = (options){.users = calloc((size_t)count + 1, sizeof *asked->users), .grouping = GROUPING_DEFAULT, .threads = processors()};
+    *status = STATUS_WRONG;
+    if (!asked->users) {
+        *status = tell_fault(&(fault){.code = KUMQUATSIEVE_MEMORY});
+        return false;
+    }
+    if (!are_utf8(words, count)) {
+        tell("an argument is not UTF-8");
+        return false;
+    }
+    while (now == NEXT && own.at < count) now = read_word(&own, status);
+    if (now == NEXT) now = finish(&own, status);
+    return now == NEXT;
+}

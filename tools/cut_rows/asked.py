@@ -1,0 +1,49 @@
+"""What kumquatsieve-cut is asked by its command line, beside what jseg is: rows of words, the status, and how standard error begins."""
+import re
+import subprocess
+
+NAME = "kumquatsieve-cut"
+WRONG = [
+    # (words, how the text begins behind `error: `)
+    ("", "-d IMG has to be given"),
+    ("-j", "a value is required for '-j <N>'"),
+    ("-j 0", "invalid value '0' for '-j <N>': 0 is not in 1..=1000"),
+    ("-j 1001", "invalid value '1001' for '-j <N>': 1001 is not in 1..=1000"),
+    ("-j 99999999999999999999", "invalid value '99999999999999999999' for '-j <N>'"),
+    ("-j two", "invalid value 'two' for '-j <N>': it is no number"),
+    ("-j= -d none", "invalid value '' for '-j <N>': it is no number"),
+    ("-j -1", "a value is required for '-j <N>'"),
+    ("-j 2 -j 2", "the argument '-j <N>' cannot be used multiple times"),
+    ("-vv", "the argument '-v' cannot be used multiple times"),
+    ("-x", "unexpected argument '-x' found"),
+    ("--jobs 2", "unexpected argument '--jobs' found"),
+    ("--sources a", "--sources is not known"),
+    ("--sample", "--sample is not known"),
+    ("--explain L4", "--explain is not known"),
+    ("-d none text.txt", f"{NAME} reads the text on standard input"),
+    ("-d none -- text.txt", f"{NAME} reads the text on standard input"),
+]
+
+
+def faults(program, page):
+    """What is not as it should be of a wrong command line, of --version, and of the options that --help and the manual page list."""
+    for words, begin in WRONG:
+        done = subprocess.run([program, *words.split()], capture_output=True, text=True)
+        if done.returncode != 2 or done.stdout or not done.stderr.startswith(f"error: {begin}"):
+            yield f"{words!r}: status {done.returncode}, {done.stderr!r}"
+    version = subprocess.run([program, "--version"], capture_output=True, text=True)
+    if not re.fullmatch(rf"{NAME} [0-9.]+\nimage layouts read: 1, 2, 3\n", version.stdout):
+        yield f"--version: {version.stdout!r}"
+    helped, told = options_of_help(program), options_of_page(page)
+    if helped != told:
+        yield f"--help lists {sorted(helped)}, and the manual page {sorted(told)}"
+
+
+def options_of_help(program):
+    text = subprocess.run([program, "--help"], capture_output=True, text=True, check=True).stdout
+    return {name for pair in re.findall(r"^ +(-\w)(?:, (--\w+))?", text, re.M) for name in pair if name}
+
+
+def options_of_page(page):
+    lines = (line.removeprefix(".It Fl ") for line in page.read_text().splitlines() if line.startswith(".It Fl "))
+    return {"-" + name for line in lines for name in re.sub(r" Ar .*", "", line).split(" , ")}
