@@ -51,7 +51,8 @@ typedef struct options {
 /* options.c. Whether there is work to do; else the program ends with this status, and why was told. */
 bool read_options(int count, char **words, options *asked, int *status);
 
-/* habits.c. What to do in place of words that jseg or MeCab take, or NULL; in place of a name of an output format; and what --help and --version print. */
+/* habits.c. What to do in place of words that jseg or MeCab take, or NULL; in place of a name of an output format; and what --help and --version
+   print. */
 typedef enum habit {
     HABIT_WORDS,
     HABIT_NBEST,

@@ -1,7 +1,6 @@
 /* The queue of pieces. Each thread takes the next piece of the text, cuts it by the cutter of its place in the queue, and writes what is cut and
    next in order, where no other thread does. One thread reads at a time and one writes; none holds the lock while it reads, cuts or writes. The
-   queue has two places for each thread, so that a piece that takes long holds up no other one; with one thread it has one, and no thread is
-   made. */
+   queue has as many places as there are threads; with one no other thread is made. */
 #include "cut.h"
 #include <pthread.h>
 #include <stdlib.h>
@@ -132,7 +131,7 @@ static void serve_by(queue *of, pthread_t *others, uint32_t wanted) {
 }
 
 bool cut_input(kumquatsieve_cutter *cutter, uint32_t threads, uint64_t *lines) {
-    queue own = {.lock = PTHREAD_MUTEX_INITIALIZER, .changed = PTHREAD_COND_INITIALIZER, .room = threads == 1 ? 1 : 2 * (size_t)threads};
+    queue own = {.lock = PTHREAD_MUTEX_INITIALIZER, .changed = PTHREAD_COND_INITIALIZER, .room = threads};
     pthread_t *others = calloc(threads, sizeof *others);
     bool is_made = others && make_places(&own, cutter);
     if (is_made) serve_by(&own, others, threads - 1);
