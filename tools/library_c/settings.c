@@ -48,6 +48,11 @@ static void refused_systems(file system, file user) {
     uint64_t number = UNSET;
     CHECK(kumquatsieve_load(&cutter, system.bytes, system.length, &number) == KUMQUATSIEVE_FULL_CUTTER && number == UNSET && prints(&cutter, MOMO));
     kumquatsieve_free(&cutter);
+    CHECK(cut(&cutter, "") == KUMQUATSIEVE_EMPTY_CUTTER);
+    CHECK(kumquatsieve_load(&cutter, system.bytes, system.length, &number) == KUMQUATSIEVE_OK && number == UNSET);
+    kumquatsieve_free(&cutter);
+    kumquatsieve_free(&cutter);
+    CHECK(cut(&cutter, "") == KUMQUATSIEVE_EMPTY_CUTTER);
     free(magic.bytes);
     free(layout.bytes);
     free(digest.bytes);
