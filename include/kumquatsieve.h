@@ -1,6 +1,7 @@
 #ifndef KUMQUATSIEVE_H
 #define KUMQUATSIEVE_H
-/* Kumquatsieve cuts Japanese text into words, in process. The calls are proved; docs/LIBRARY.md says what of them, and what they ask of C.
+/* Kumquatsieve cuts Japanese text into words, in process. The calls are proved, but for those of a dictionary, which are C over them;
+   docs/LIBRARY.md says what of them, and what they ask of C.
 
    What C owes, and nothing checks: no output overlaps another argument; what a call points to in a cutter's own buffer is not handed back to it
    as text; a full cutter is not copied; one call at a time for each cutter, which may go from thread to thread; no call from a signal
@@ -8,6 +9,8 @@
 
    NULL may stand for bytes whose length is 0, for an output that is not wanted, and for a cutter that is given back. The end of this header sees
    to that; who calls the library past the header, as from another language, gives a place for each.
+
+   An output that a call's answer doesn't set is as it was. Each call says which answers set which outputs; where it says nothing, 0 alone does.
 
    Texts are bytes of UTF-8 with their length. Nothing here ends in a zero byte. Programs of libkumquatsieve.so.0 run with each later library of that
    name: calls, codes and structures stay, and what is new is added. */
@@ -36,6 +39,15 @@ static inline kumquatsieve_cutter kumquatsieve_empty(void) {
     kumquatsieve_cutter cutter = KUMQUATSIEVE_EMPTY;
     return cutter;
 }
+
+/* The bytes of an image. */
+typedef struct kumquatsieve_image {
+    const uint8_t *bytes;
+    size_t length;
+} kumquatsieve_image;
+
+/* Dictionaries that are loaded once, for cutters on any number of threads. Nothing changes them. */
+typedef struct kumquatsieve_dictionary kumquatsieve_dictionary;
 
 /* A word of the line that was cut last. Its blanks stand from place to start, its surface from start to end, in bytes from the line's
    beginning. left and right are context ids, and cost is the word cost. token is the number of its entry: where known is 1 in
@@ -82,35 +94,65 @@ enum {
     KUMQUATSIEVE_BAD_ITEM = 0x5002,     /* P2, with the part and the byte */
     KUMQUATSIEVE_BAD_INDEX = 0x5003,    /* P3, with the part and the byte */
 
-    KUMQUATSIEVE_NOT_UTF8 = 0x4703,     /* G3 */
-    KUMQUATSIEVE_TOO_LONG = 0x4704,     /* G4: more than 1,048,576 bytes */
+    KUMQUATSIEVE_NOT_UTF8 = 0x4703,     /* G3, with the byte */
+    KUMQUATSIEVE_TOO_LONG = 0x4704,     /* G4: more than 1,048,576 bytes, with their number */
 
-    KUMQUATSIEVE_LINE_FEED = 0x4b01,    /* K1: a line feed in a line */
+    KUMQUATSIEVE_LINE_FEED = 0x4b01,    /* K1: a line feed in a line, with the byte */
     KUMQUATSIEVE_NOTHING_CUT = 0x4b02,  /* K2: no line was cut */
     KUMQUATSIEVE_SHARED = 0x4b03,       /* K3: the dictionaries are shared */
     KUMQUATSIEVE_BAD_GROUPING = 0x4b04, /* K4: more than 1,000 */
-    KUMQUATSIEVE_EMPTY_CUTTER = 0x4b05, /* K5: the cutter has nothing in it */
+    KUMQUATSIEVE_EMPTY_CUTTER = 0x4b05, /* K5: the cutter, or the dictionary, has nothing in it */
     KUMQUATSIEVE_FULL_CUTTER = 0x4b06,  /* K6: the cutter has something in it */
     KUMQUATSIEVE_SHORT_BUFFER = 0x4b07, /* K7: the buffer has less room than is needed */
     KUMQUATSIEVE_NO_WORD = 0x4b08       /* K8: the line has no word of this number */
 };
 
 /* Fills an empty cutter with the image of a system dictionary, which is copied, the default format, and a grouping of 24 characters.
-   *number is set where a fault has one. */
+   *number is set by L3 to L7, O2 and O3 alone, to what is said beside each code. */
 uint32_t kumquatsieve_load(kumquatsieve_cutter *cutter, const uint8_t *image, size_t length, uint64_t *number);
 
-/* Lays the image of a user dictionary over the others, which is copied. *number is set where a fault has one. */
+/* Lays the image of a user dictionary over the others, which is copied. *number is set as by kumquatsieve_load. */
 uint32_t kumquatsieve_add_user(kumquatsieve_cutter *cutter, const uint8_t *image, size_t length, uint64_t *number);
+
+/* The two calls before, but that the digest of the image is not tested where skip_digest is true, as MeCab tests nothing. The digest takes most of the
+   time of a load. All other tests are made, and what is proved of a cutter is proved of what the image says, so no damage to it does harm; but
+   that it says what was compiled is the word of who skips the test. */
+uint32_t kumquatsieve_load_by(kumquatsieve_cutter *cutter, const uint8_t *image, size_t length, bool skip_digest, uint64_t *number);
+uint32_t kumquatsieve_add_user_by(kumquatsieve_cutter *cutter, const uint8_t *image, size_t length, bool skip_digest, uint64_t *number);
 
 /* Fills an empty cutter with the dictionaries, the format and the grouping of another one. No dictionary is copied; while two share
    theirs, no user dictionary can be added. Each thread wants a cutter of its own. */
 uint32_t kumquatsieve_share(kumquatsieve_cutter *cutter, kumquatsieve_cutter *other);
 
+/* Makes a dictionary of the image of a system dictionary, the first one, and of those of user dictionaries, which are laid over it in their order.
+   All are copied. `how` is 0, or KUMQUATSIEVE_SKIP_DIGEST. *dictionary is set where all are accepted. Otherwise *image is the number of the one at fault,
+   from 0, and *number is set as by kumquatsieve_load. Without an image the answer is K5, and no output is set. This call and the three after it are
+   written in C over the proved ones. */
+uint32_t kumquatsieve_dictionary_make(
+    kumquatsieve_dictionary **dictionary, const kumquatsieve_image *images, size_t count, unsigned how, size_t *image, uint64_t *number
+);
+
+/* The digests are not tested, as by kumquatsieve_load_by. */
+#define KUMQUATSIEVE_SKIP_DIGEST 1u
+
+/* Fills an empty cutter with these dictionaries, the default format, and a grouping of 24 characters. No dictionary is copied, and any number of
+   threads may make cutters over one at a time. */
+uint32_t kumquatsieve_cutter_over(kumquatsieve_cutter *cutter, const kumquatsieve_dictionary *dictionary);
+
+/* Another holder of a dictionary, which is the answer; and a holder less. A dictionary is given back with the last holder and the last cutter that has
+   it. Both may be called by any number of threads, and in a forked child. */
+const kumquatsieve_dictionary *kumquatsieve_dictionary_hold(const kumquatsieve_dictionary *dictionary);
+void kumquatsieve_dictionary_release(const kumquatsieve_dictionary *dictionary);
+
+/* The version of the library that runs, as KUMQUATSIEVE_VERSION_NUMBER counts that of this header. */
+uint32_t kumquatsieve_version(void);
+
 /* Gives back all that a cutter holds, which is empty then. Of an empty cutter nothing. */
 void kumquatsieve_free(kumquatsieve_cutter *cutter);
 
-/* Sets the texts for a known word, an unknown one, the beginning and the end of a line, in MeCab's items and escapes. *part is 0 to 3 and
-   *at a byte of that text, where one is refused. The default is "%m\t%H\n" for words and "EOS\n" at the end. */
+/* Sets the texts for a known word, an unknown one, the beginning and the end of a line, in MeCab's items and escapes. *part, 0 to 3, and
+   *at, a byte of that text, are set by P1 to P3 and G3 alone: where a text does not read on, or the first byte that is not UTF-8. The default
+   is "%m\t%H\n" for words and "EOS\n" at the end. */
 uint32_t kumquatsieve_set_format(
     kumquatsieve_cutter *cutter, const uint8_t *node, size_t node_length, const uint8_t *unk, size_t unk_length,
     const uint8_t *bos, size_t bos_length, const uint8_t *eos, size_t eos_length, uint32_t *part, size_t *at
@@ -119,14 +161,15 @@ uint32_t kumquatsieve_set_format(
 /* Sets how many characters may follow the first one of a grouped unknown word, at most 1,000. */
 uint32_t kumquatsieve_set_grouping(kumquatsieve_cutter *cutter, uint32_t grouping);
 
-/* Cuts a line, which has no line feed. *count is the number of its words, and *total the cost of the path. */
+/* Cuts a line, which has no line feed. *count is the number of its words, and *total the cost of the path. *at is set by K1, G3 and G4 alone:
+   where the first line feed stands, the first byte that is not UTF-8, and the length of the line. */
 uint32_t kumquatsieve_cut(
-    kumquatsieve_cutter *cutter, const uint8_t *line, size_t length, size_t *count, int64_t *total
+    kumquatsieve_cutter *cutter, const uint8_t *line, size_t length, size_t *count, int64_t *total, size_t *at
 );
 
 /* The same of a text of several lines, in which a line feed is a character as others are: what MeCab's library does of a sentence. */
 uint32_t kumquatsieve_cut_text(
-    kumquatsieve_cutter *cutter, const uint8_t *text, size_t length, size_t *count, int64_t *total
+    kumquatsieve_cutter *cutter, const uint8_t *text, size_t length, size_t *count, int64_t *total, size_t *at
 );
 
 /* Writes the words of the line that was cut last from number `first` on, as far as there is room. *count is the number of all words
@@ -143,7 +186,7 @@ uint32_t kumquatsieve_feature(kumquatsieve_cutter *cutter, size_t number, const 
    valid until the next call with this cutter. The feature_length of each word says where its feature ends. */
 uint32_t kumquatsieve_features(kumquatsieve_cutter *cutter, const uint8_t **features, size_t *length);
 
-/* The feature of a word into a buffer of the caller. *needed is its length, also where there is less room, and then nothing is written. */
+/* The feature of a word into a buffer of the caller. *needed is its length, set by 0 and by K7: where there is less room, nothing is written. */
 uint32_t kumquatsieve_copy_feature(
     kumquatsieve_cutter *cutter, size_t number, uint8_t *out, size_t room, size_t *needed
 );
@@ -151,19 +194,19 @@ uint32_t kumquatsieve_copy_feature(
 /* The text of the line that was cut last, in the format, in the cutter's own buffer: *text is valid until the next call with this cutter. */
 uint32_t kumquatsieve_print(kumquatsieve_cutter *cutter, const uint8_t **text, size_t *length);
 
-/* The same into a buffer of the caller. *needed is its length, also where there is less room, and then nothing is written. */
+/* The same into a buffer of the caller. *needed is its length, set by 0 and by K7: where there is less room, nothing is written. */
 uint32_t kumquatsieve_copy_print(kumquatsieve_cutter *cutter, uint8_t *out, size_t room, size_t *needed);
 
 /* Cuts a text line by line: a line ends at a line feed, and the last one may lack it. *out is what the lines print, in the format, in the
    cutter's own buffer, and valid until the next call with this cutter; *lines is how many they are. At a fault of a line *lines is the number
-   of that line, counted from 1, and *out is what the lines before it print, also where the call was out of memory. What was cut last is
-   forgotten. */
+   of that line, counted from 1, and *out is what the lines before it print, also where the call was out of memory: each answer but K5 sets all
+   three. What was cut last is forgotten. */
 uint32_t kumquatsieve_cut_lines(
     kumquatsieve_cutter *cutter, const uint8_t *text, size_t length, const uint8_t **out, size_t *out_length, uint64_t *lines
 );
 
-/* Writes what a code means, as "G3 NotUtf8". *needed is its length, also where there is less room, and then nothing is written; 0 where
-   no fault has this code. */
+/* Writes what a code means, as "G3 NotUtf8". *needed is its length, which each answer sets, 0 where no fault has this code; where there is less
+   room, nothing is written. */
 uint32_t kumquatsieve_fault(uint32_t code, uint8_t *out, size_t room, size_t *needed);
 
 /* What stands for NULL, where it may be given. The calls above are made by these; (kumquatsieve_cut)(..) is the call itself. */
@@ -180,6 +223,20 @@ static inline uint32_t kumquatsieve_guarded_load(kumquatsieve_cutter *cutter, co
 static inline uint32_t kumquatsieve_guarded_add_user(kumquatsieve_cutter *cutter, const uint8_t *image, size_t length, uint64_t *number) {
     uint64_t unread = 0;
     return (kumquatsieve_add_user)(cutter, kumquatsieve_guarded_bytes(image, length), length, number ? number : &unread);
+}
+
+static inline uint32_t kumquatsieve_guarded_load_by(
+    kumquatsieve_cutter *cutter, const uint8_t *image, size_t length, bool skip_digest, uint64_t *number
+) {
+    uint64_t unread = 0;
+    return (kumquatsieve_load_by)(cutter, kumquatsieve_guarded_bytes(image, length), length, skip_digest, number ? number : &unread);
+}
+
+static inline uint32_t kumquatsieve_guarded_add_user_by(
+    kumquatsieve_cutter *cutter, const uint8_t *image, size_t length, bool skip_digest, uint64_t *number
+) {
+    uint64_t unread = 0;
+    return (kumquatsieve_add_user_by)(cutter, kumquatsieve_guarded_bytes(image, length), length, skip_digest, number ? number : &unread);
 }
 
 static inline void kumquatsieve_guarded_free(kumquatsieve_cutter *cutter) {
@@ -200,22 +257,22 @@ static inline uint32_t kumquatsieve_guarded_set_format(
 }
 
 static inline uint32_t kumquatsieve_guarded_cut(
-    kumquatsieve_cutter *cutter, const uint8_t *line, size_t length, size_t *count, int64_t *total
+    kumquatsieve_cutter *cutter, const uint8_t *line, size_t length, size_t *count, int64_t *total, size_t *at
 ) {
-    size_t unread = 0;
+    size_t unread = 0, unread_at = 0;
     int64_t unread_total = 0;
     return (kumquatsieve_cut)(
-        cutter, kumquatsieve_guarded_bytes(line, length), length, count ? count : &unread, total ? total : &unread_total
+        cutter, kumquatsieve_guarded_bytes(line, length), length, count ? count : &unread, total ? total : &unread_total, at ? at : &unread_at
     );
 }
 
 static inline uint32_t kumquatsieve_guarded_cut_text(
-    kumquatsieve_cutter *cutter, const uint8_t *text, size_t length, size_t *count, int64_t *total
+    kumquatsieve_cutter *cutter, const uint8_t *text, size_t length, size_t *count, int64_t *total, size_t *at
 ) {
-    size_t unread = 0;
+    size_t unread = 0, unread_at = 0;
     int64_t unread_total = 0;
     return (kumquatsieve_cut_text)(
-        cutter, kumquatsieve_guarded_bytes(text, length), length, count ? count : &unread, total ? total : &unread_total
+        cutter, kumquatsieve_guarded_bytes(text, length), length, count ? count : &unread, total ? total : &unread_total, at ? at : &unread_at
     );
 }
 
@@ -279,11 +336,15 @@ static inline uint32_t kumquatsieve_guarded_fault(uint32_t code, uint8_t *out, s
 
 #define kumquatsieve_load(cutter, image, length, number) kumquatsieve_guarded_load(cutter, image, length, number)
 #define kumquatsieve_add_user(cutter, image, length, number) kumquatsieve_guarded_add_user(cutter, image, length, number)
+#define kumquatsieve_load_by(cutter, image, length, skip_digest, number) \
+    kumquatsieve_guarded_load_by(cutter, image, length, skip_digest, number)
+#define kumquatsieve_add_user_by(cutter, image, length, skip_digest, number) \
+    kumquatsieve_guarded_add_user_by(cutter, image, length, skip_digest, number)
 #define kumquatsieve_free(cutter) kumquatsieve_guarded_free(cutter)
 #define kumquatsieve_set_format(cutter, node, node_length, unk, unk_length, bos, bos_length, eos, eos_length, part, at) \
     kumquatsieve_guarded_set_format(cutter, node, node_length, unk, unk_length, bos, bos_length, eos, eos_length, part, at)
-#define kumquatsieve_cut(cutter, line, length, count, total) kumquatsieve_guarded_cut(cutter, line, length, count, total)
-#define kumquatsieve_cut_text(cutter, text, length, count, total) kumquatsieve_guarded_cut_text(cutter, text, length, count, total)
+#define kumquatsieve_cut(cutter, line, length, count, total, at) kumquatsieve_guarded_cut(cutter, line, length, count, total, at)
+#define kumquatsieve_cut_text(cutter, text, length, count, total, at) kumquatsieve_guarded_cut_text(cutter, text, length, count, total, at)
 #define kumquatsieve_words(cutter, first, words, room, count) kumquatsieve_guarded_words(cutter, first, words, room, count)
 #define kumquatsieve_feature(cutter, number, feature, length) kumquatsieve_guarded_feature(cutter, number, feature, length)
 #define kumquatsieve_features(cutter, features, length) kumquatsieve_guarded_features(cutter, features, length)

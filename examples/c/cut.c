@@ -68,7 +68,7 @@ static uint32_t print_line(kumquatsieve_cutter *cutter, const uint8_t *line, siz
     int64_t total = 0;
     const uint8_t *text = NULL;
     /* The line was cut at its line feed, so kumquatsieve_cut_text, which looks for none, is enough. */
-    uint32_t code = kumquatsieve_cut_text(cutter, line, length, &count, &total);
+    uint32_t code = kumquatsieve_cut_text(cutter, line, length, &count, &total, NULL);
     if (code == KUMQUATSIEVE_OK) code = kumquatsieve_print(cutter, &text, &printed);
     if (code != KUMQUATSIEVE_OK) return code;
     if (!make_room(out, printed)) return KUMQUATSIEVE_MEMORY;

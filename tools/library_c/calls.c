@@ -20,7 +20,7 @@ static void calls_of_an_empty_cutter(file user) {
     CHECK(set_format(&cutter, "", "", "", "") == KUMQUATSIEVE_EMPTY_CUTTER);
     CHECK(kumquatsieve_set_grouping(&cutter, 24) == KUMQUATSIEVE_EMPTY_CUTTER);
     CHECK(cut(&cutter, LINE) == KUMQUATSIEVE_EMPTY_CUTTER);
-    CHECK(kumquatsieve_cut_text(&cutter, BYTES("a"), 1, &count, &total) == KUMQUATSIEVE_EMPTY_CUTTER);
+    CHECK(kumquatsieve_cut_text(&cutter, BYTES("a"), 1, &count, &total, NULL) == KUMQUATSIEVE_EMPTY_CUTTER);
     CHECK(kumquatsieve_words(&cutter, 0, words, 8, &count) == KUMQUATSIEVE_EMPTY_CUTTER);
     CHECK(kumquatsieve_feature(&cutter, 0, &kept, &length) == KUMQUATSIEVE_EMPTY_CUTTER);
     CHECK(kumquatsieve_features(&cutter, &kept, &length) == KUMQUATSIEVE_EMPTY_CUTTER);
@@ -60,13 +60,13 @@ static void lines(kumquatsieve_cutter *cutter) {
     CHECK(cut(cutter, "a\n") == KUMQUATSIEVE_LINE_FEED);
     CHECK(cut(cutter, "a\xff") == KUMQUATSIEVE_NOT_UTF8);
     memset(long_line, 'a', sizeof long_line);
-    CHECK(kumquatsieve_cut(cutter, long_line, sizeof long_line, &count, &total) == KUMQUATSIEVE_TOO_LONG);
-    CHECK(kumquatsieve_cut_text(cutter, long_line, sizeof long_line, &count, &total) == KUMQUATSIEVE_TOO_LONG);
-    CHECK(kumquatsieve_cut_text(cutter, BYTES("a\xff"), 2, &count, &total) == KUMQUATSIEVE_NOT_UTF8);
-    CHECK(kumquatsieve_cut_text(cutter, BYTES(LINE "\n" LINE), 2 * strlen(LINE) + 1, &count, &total) == KUMQUATSIEVE_OK && count == 5);
-    CHECK(kumquatsieve_cut(cutter, BYTES(""), 0, &count, &total) == KUMQUATSIEVE_OK && count == 0);
+    CHECK(kumquatsieve_cut(cutter, long_line, sizeof long_line, &count, &total, NULL) == KUMQUATSIEVE_TOO_LONG);
+    CHECK(kumquatsieve_cut_text(cutter, long_line, sizeof long_line, &count, &total, NULL) == KUMQUATSIEVE_TOO_LONG);
+    CHECK(kumquatsieve_cut_text(cutter, BYTES("a\xff"), 2, &count, &total, NULL) == KUMQUATSIEVE_NOT_UTF8);
+    CHECK(kumquatsieve_cut_text(cutter, BYTES(LINE "\n" LINE), 2 * strlen(LINE) + 1, &count, &total, NULL) == KUMQUATSIEVE_OK && count == 5);
+    CHECK(kumquatsieve_cut(cutter, BYTES(""), 0, &count, &total, NULL) == KUMQUATSIEVE_OK && count == 0);
     CHECK(prints(cutter, "EOS\n"));
-    CHECK(kumquatsieve_cut(cutter, BYTES(LINE), strlen(LINE), &count, &total) == KUMQUATSIEVE_OK && count == 2);
+    CHECK(kumquatsieve_cut(cutter, BYTES(LINE), strlen(LINE), &count, &total, NULL) == KUMQUATSIEVE_OK && count == 2);
     CHECK(prints(cutter, PRINTED));
 }
 

@@ -60,7 +60,7 @@ static inline int is_text(const uint8_t *bytes, size_t length, const char *text)
 static inline uint32_t cut(kumquatsieve_cutter *cutter, const char *line) {
     size_t count = 0;
     int64_t total = 0;
-    return kumquatsieve_cut(cutter, BYTES(line), strlen(line), &count, &total);
+    return kumquatsieve_cut(cutter, BYTES(line), strlen(line), &count, &total, NULL);
 }
 
 static inline kumquatsieve_cutter loaded(file image) {

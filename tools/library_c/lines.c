@@ -20,13 +20,13 @@ static void sizes_and_costs(kumquatsieve_cutter *cutter) {
     int64_t total = 99;
     for (size_t i = 0; i < ROWS(SIZES); i++) {
         size_t length = strlen(SIZES[i].line);
-        CHECK_ROW(SIZES[i].what, kumquatsieve_cut(cutter, BYTES(SIZES[i].line), length, &count, &total) == KUMQUATSIEVE_OK);
+        CHECK_ROW(SIZES[i].what, kumquatsieve_cut(cutter, BYTES(SIZES[i].line), length, &count, &total, NULL) == KUMQUATSIEVE_OK);
         CHECK_ROW(SIZES[i].what, count == SIZES[i].count && total == SIZES[i].total);
         count = 9, total = 99;
-        CHECK_ROW(SIZES[i].what, kumquatsieve_cut_text(cutter, BYTES(SIZES[i].line), length, &count, &total) == KUMQUATSIEVE_OK);
+        CHECK_ROW(SIZES[i].what, kumquatsieve_cut_text(cutter, BYTES(SIZES[i].line), length, &count, &total, NULL) == KUMQUATSIEVE_OK);
         CHECK_ROW(SIZES[i].what, count == SIZES[i].count && total == SIZES[i].total);
     }
-    CHECK(kumquatsieve_cut_text(cutter, BYTES("も\nも"), strlen("も\nも"), &count, &total) == KUMQUATSIEVE_OK && count == 3 && total == 1069);
+    CHECK(kumquatsieve_cut_text(cutter, BYTES("も\nも"), strlen("も\nも"), &count, &total, NULL) == KUMQUATSIEVE_OK && count == 3 && total == 1069);
 }
 
 static const struct {
@@ -45,7 +45,7 @@ static void printed_lines(kumquatsieve_cutter *cutter) {
     for (size_t i = 0; i < ROWS(PRINTED_LINES); i++) {
         const char *line = PRINTED_LINES[i].line;
         CHECK_ROW(PRINTED_LINES[i].what, cut(cutter, line) == KUMQUATSIEVE_OK && prints(cutter, PRINTED_LINES[i].output));
-        CHECK_ROW(PRINTED_LINES[i].what, kumquatsieve_cut_text(cutter, BYTES(line), strlen(line), NULL, NULL) == KUMQUATSIEVE_OK);
+        CHECK_ROW(PRINTED_LINES[i].what, kumquatsieve_cut_text(cutter, BYTES(line), strlen(line), NULL, NULL, NULL) == KUMQUATSIEVE_OK);
         CHECK_ROW(PRINTED_LINES[i].what, prints(cutter, PRINTED_LINES[i].output));
     }
 }
@@ -71,13 +71,13 @@ static void refused_texts(kumquatsieve_cutter *cutter) {
     memset(bad_bytes, 0xff, sizeof bad_bytes);
     CHECK(cut(cutter, "もも") == KUMQUATSIEVE_OK);
     for (size_t i = 0; i < ROWS(REFUSED); i++) {
-        CHECK_ROW(REFUSED[i].what, kumquatsieve_cut(cutter, REFUSED[i].bytes, REFUSED[i].length, NULL, NULL) == REFUSED[i].as_line);
+        CHECK_ROW(REFUSED[i].what, kumquatsieve_cut(cutter, REFUSED[i].bytes, REFUSED[i].length, NULL, NULL, NULL) == REFUSED[i].as_line);
         if (REFUSED[i].as_text != KUMQUATSIEVE_OK) {
-            CHECK_ROW(REFUSED[i].what, kumquatsieve_cut_text(cutter, REFUSED[i].bytes, REFUSED[i].length, NULL, NULL) == REFUSED[i].as_text);
+            CHECK_ROW(REFUSED[i].what, kumquatsieve_cut_text(cutter, REFUSED[i].bytes, REFUSED[i].length, NULL, NULL, NULL) == REFUSED[i].as_text);
         }
         CHECK_ROW(REFUSED[i].what, prints(cutter, MOMO));
     }
-    CHECK(kumquatsieve_cut(cutter, letters, LONGEST, NULL, NULL) == KUMQUATSIEVE_OK);
+    CHECK(kumquatsieve_cut(cutter, letters, LONGEST, NULL, NULL, NULL) == KUMQUATSIEVE_OK);
 }
 
 /* What stands in a buffer before a call; the words of ` すもも z`: that of the lexicon's first line, and that of ALPHA's entry: behind the
@@ -203,7 +203,7 @@ static void nothing_cut(kumquatsieve_cutter *cutter) {
 
 static void line_feed_in_a_text(kumquatsieve_cutter *cutter) {
     CHECK(set_texts(cutter, "%m|", "%m|", "", "\\n") == KUMQUATSIEVE_OK);
-    CHECK(kumquatsieve_cut_text(cutter, BYTES("も\nも"), strlen("も\nも"), NULL, NULL) == KUMQUATSIEVE_OK && prints(cutter, "も|\n|も|\n"));
+    CHECK(kumquatsieve_cut_text(cutter, BYTES("も\nも"), strlen("も\nも"), NULL, NULL, NULL) == KUMQUATSIEVE_OK && prints(cutter, "も|\n|も|\n"));
 }
 
 int main(int given, char **paths) {

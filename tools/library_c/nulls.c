@@ -6,10 +6,10 @@ static void no_bytes(file system) {
     CHECK(kumquatsieve_load(&cutter, NULL, 0, NULL) == KUMQUATSIEVE_TRUNCATED && !cutter.held);
     CHECK(kumquatsieve_load(&cutter, system.bytes, system.length, NULL) == KUMQUATSIEVE_OK);
     CHECK(kumquatsieve_add_user(&cutter, NULL, 0, NULL) == KUMQUATSIEVE_TRUNCATED);
-    CHECK(kumquatsieve_cut(&cutter, NULL, 0, NULL, NULL) == KUMQUATSIEVE_OK && prints(&cutter, "EOS\n"));
-    CHECK(kumquatsieve_cut_text(&cutter, NULL, 0, NULL, NULL) == KUMQUATSIEVE_OK);
+    CHECK(kumquatsieve_cut(&cutter, NULL, 0, NULL, NULL, NULL) == KUMQUATSIEVE_OK && prints(&cutter, "EOS\n"));
+    CHECK(kumquatsieve_cut_text(&cutter, NULL, 0, NULL, NULL, NULL) == KUMQUATSIEVE_OK);
     CHECK(kumquatsieve_cut_lines(&cutter, NULL, 0, NULL, NULL, NULL) == KUMQUATSIEVE_OK);
-    CHECK(kumquatsieve_cut(&cutter, NULL, 0, NULL, NULL) == KUMQUATSIEVE_OK);
+    CHECK(kumquatsieve_cut(&cutter, NULL, 0, NULL, NULL, NULL) == KUMQUATSIEVE_OK);
     CHECK(kumquatsieve_set_format(&cutter, NULL, 0, NULL, 0, NULL, 0, NULL, 0, NULL, NULL) == KUMQUATSIEVE_OK && prints(&cutter, ""));
     CHECK(kumquatsieve_set_format(&cutter, BYTES("%q"), 2, NULL, 0, NULL, 0, NULL, 0, NULL, NULL) == KUMQUATSIEVE_BAD_ITEM);
     kumquatsieve_free(&cutter);
@@ -21,7 +21,7 @@ static void no_outputs(file system, file user) {
     size_t count = 0, needed = 0;
     CHECK(kumquatsieve_load(&cutter, system.bytes, system.length, NULL) == KUMQUATSIEVE_OK);
     CHECK(kumquatsieve_add_user(&cutter, user.bytes, user.length, NULL) == KUMQUATSIEVE_OK);
-    CHECK(kumquatsieve_cut(&cutter, BYTES(LINE), strlen(LINE), NULL, NULL) == KUMQUATSIEVE_OK);
+    CHECK(kumquatsieve_cut(&cutter, BYTES(LINE), strlen(LINE), NULL, NULL, NULL) == KUMQUATSIEVE_OK);
     CHECK(kumquatsieve_words(&cutter, 0, NULL, 0, &count) == KUMQUATSIEVE_OK && count > 0);
     CHECK(kumquatsieve_words(&cutter, 0, NULL, 0, NULL) == KUMQUATSIEVE_OK);
     CHECK(kumquatsieve_feature(&cutter, 0, NULL, NULL) == KUMQUATSIEVE_OK);

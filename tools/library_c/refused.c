@@ -29,8 +29,10 @@ void __wrap_free(void *block) {
     __real_free(block);
 }
 
-/* Each call until it isn't refused; how often one was. Not one of them may answer another fault. */
+/* Each call until it isn't refused; how often one was. Not one of them may answer another fault, and what it would have set is as it was. */
 static long times_refused;
+
+enum { UNSET = 77 };
 
 static int again(uint32_t code) {
     CHECK(code == KUMQUATSIEVE_OK || code == KUMQUATSIEVE_MEMORY);
@@ -38,46 +40,94 @@ static int again(uint32_t code) {
     return code == KUMQUATSIEVE_MEMORY;
 }
 
+static void fill(kumquatsieve_cutter *cutter, file system, file user) {
+    uint64_t number = UNSET;
+    uint32_t part = UNSET;
+    size_t at = UNSET;
+    while (again(kumquatsieve_load(cutter, system.bytes, system.length, &number))) CHECK(!cutter->held && number == UNSET);
+    while (again(kumquatsieve_add_user(cutter, user.bytes, user.length, &number))) CHECK(number == UNSET);
+    while (again(kumquatsieve_set_format(cutter, BYTES("%m "), 3, BYTES("%m "), 3, BYTES(""), 0, BYTES("\\n"), 2, &part, &at)))
+        CHECK(part == UNSET && at == UNSET);
+}
+
+static void ask_path(kumquatsieve_cutter *cutter) {
+    size_t count = UNSET, at = UNSET, needed = UNSET;
+    int64_t total = UNSET;
+    uint8_t room[32];
+    while (again(kumquatsieve_cut(cutter, BYTES(LINE), strlen(LINE), &count, &total, &at))) CHECK(count == UNSET && total == UNSET && at == UNSET);
+    while (again(kumquatsieve_copy_print(cutter, room, sizeof room, &needed))) CHECK(needed == UNSET);
+}
+
+static void ask_lent(kumquatsieve_cutter *cutter) {
+    const uint8_t *feature = NULL, *features = NULL, *kept = NULL;
+    size_t feature_length = UNSET, features_length = UNSET, length = UNSET;
+    while (again(kumquatsieve_feature(cutter, 0, &feature, &feature_length))) CHECK(!feature && feature_length == UNSET);
+    while (again(kumquatsieve_features(cutter, &features, &features_length))) CHECK(!features && features_length == UNSET);
+    while (again(kumquatsieve_print(cutter, &kept, &length))) CHECK(!kept && length == UNSET);
+    CHECK(is_text(kept, length, "すもももも \n"));
+}
+
+static void ask_lines(kumquatsieve_cutter *cutter) {
+    const uint8_t *kept = NULL;
+    size_t length = UNSET;
+    uint64_t lines = UNSET;
+    while (again(kumquatsieve_cut_lines(cutter, BYTES(LINE "\n" LINE), 2 * strlen(LINE) + 1, &kept, &length, &lines)))
+        CHECK(is_text(kept, length, lines == 1 ? "" : "すもももも \n"));
+    CHECK(lines == 2 && is_text(kept, length, "すもももも \nすもももも \n"));
+}
+
 static void run(file system, file user) {
     kumquatsieve_cutter cutter = KUMQUATSIEVE_EMPTY, other = KUMQUATSIEVE_EMPTY;
-    uint64_t number = 0;
-    uint32_t part = 0;
-    size_t at = 0, length = 0;
-    const uint8_t *kept = NULL;
-    while (again(kumquatsieve_load(&cutter, system.bytes, system.length, &number))) CHECK(!cutter.held);
-    while (again(kumquatsieve_add_user(&cutter, user.bytes, user.length, &number))) continue;
-    while (again(kumquatsieve_set_format(&cutter, BYTES("%m "), 3, BYTES("%m "), 3, BYTES(""), 0, BYTES("\\n"), 2, &part, &at))) continue;
+    fill(&cutter, system, user);
     while (again(kumquatsieve_share(&other, &cutter))) CHECK(!other.held);
-    while (again(cut(&other, LINE))) continue;
-    while (again(kumquatsieve_feature(&other, 0, &kept, &length))) continue;
-    while (again(kumquatsieve_features(&other, &kept, &length))) continue;
-    while (again(kumquatsieve_print(&other, &kept, &length))) continue;
-    CHECK(is_text(kept, length, "すもももも \n"));
-    while (again(kumquatsieve_cut_lines(&other, BYTES(LINE "\n" LINE), 2 * strlen(LINE) + 1, &kept, &length, &number)))
-        CHECK(is_text(kept, length, number == 1 ? "" : "すもももも \n"));
-    CHECK(number == 2 && is_text(kept, length, "すもももも \nすもももも \n"));
+    ask_path(&other);
+    ask_lent(&other);
+    ask_lines(&other);
     kumquatsieve_free(&other);
     kumquatsieve_free(&cutter);
+}
+
+/* The same of a dictionary that is made, and of a cutter over it. */
+static void run_over_a_dictionary(file system, file user) {
+    const kumquatsieve_image images[] = {{system.bytes, system.length}, {user.bytes, user.length}};
+    kumquatsieve_dictionary *dictionary = NULL;
+    kumquatsieve_cutter cutter = KUMQUATSIEVE_EMPTY;
+    while (again(kumquatsieve_dictionary_make(&dictionary, images, 2, 0, NULL, NULL))) CHECK(!dictionary);
+    while (again(kumquatsieve_cutter_over(&cutter, dictionary))) CHECK(!cutter.held);
+    while (again(cut(&cutter, LINE))) continue;
+    kumquatsieve_dictionary_release(dictionary);
+    kumquatsieve_free(&cutter);
+}
+
+static long growths_of(void (*runs)(file, file), file system, file user) {
+    long before = held, first = growths;
+    runs(system, user);
+    CHECK(growths > first && held == before && times_refused == 0);
+    return growths - first;
+}
+
+/* Refuses each of so many growths; how many ended their call. */
+static long refuse_each(void (*runs)(file, file), file system, file user, long all) {
+    long before = held, ended = 0;
+    for (long n = 1; n <= all; n++) {
+        long was = times_refused;
+        growths = 0;
+        refused_growth = n;
+        runs(system, user);
+        refused_growth = 0;
+        ended += times_refused == was + 1;
+        CHECK(held == before);
+    }
+    return ended;
 }
 
 int main(int given, char **paths) {
     CHECK(given == 3);
     file system = read_file(paths[1]), user = read_file(paths[2]);
-    long before = held, first = growths;
-    run(system, user);
-    long all = growths - first, ended = 0;
-    CHECK(all > 0 && held == before && times_refused == 0);
-    for (long n = 1; n <= all; n++) {
-        long was = times_refused;
-        growths = 0;
-        refused_growth = n;
-        run(system, user);
-        refused_growth = 0;
-        ended += times_refused == was + 1;
-        CHECK(held == before);
-    }
-    CHECK(ended == all);
-    printf("refused: %ld growths; each one that was refused ended its call, and no block is left\n", all);
+    long alone = growths_of(run, system, user), over = growths_of(run_over_a_dictionary, system, user);
+    CHECK(refuse_each(run, system, user, alone) == alone);
+    CHECK(refuse_each(run_over_a_dictionary, system, user, over) == over);
+    printf("refused: %ld growths; each one that was refused ended its call, and no block is left\n", alone + over);
     free(system.bytes);
     free(user.bytes);
     return 0;

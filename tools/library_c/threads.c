@@ -24,7 +24,7 @@ static void *cut_all(void *given) {
         const uint8_t *feed = memchr(line, '\n', (size_t)(end - line));
         size_t count = 0, length = 0;
         int64_t total = 0;
-        CHECK(feed && kumquatsieve_cut(&own->cutter, line, (size_t)(feed - line), &count, &total) == KUMQUATSIEVE_OK);
+        CHECK(feed && kumquatsieve_cut(&own->cutter, line, (size_t)(feed - line), &count, &total, NULL) == KUMQUATSIEVE_OK);
         CHECK(kumquatsieve_print(&own->cutter, &text, &length) == KUMQUATSIEVE_OK);
         append(own, text, length);
         line = feed + 1;

@@ -4,7 +4,7 @@ import sys
 import threading
 
 from kumquatsieve import Cutter, Fault, Format
-from run_rows.images import OTHER_SIZES, REFUSED
+from run_rows.images import OTHER_SIZES, REFUSED, UNTESTED
 
 SYSTEM, USER, ODD = sys.argv[1:]
 LINE = "すもももも"
@@ -21,18 +21,19 @@ FORMATS = [
     ({"node": "%m", "unk": "", "bos": "[", "eos": "]"}, "[すもももも]"),
 ]
 FAULTS = [
-    ("L1", None, None, lambda: Cutter(b"")),
-    ("O1", None, None, lambda: Cutter(USER)),
-    ("O2", 0, None, lambda: Cutter(SYSTEM, [SYSTEM])),
-    ("K4", None, None, lambda: Cutter(SYSTEM, grouping=1001)),
-    ("K1", None, None, lambda: Cutter(SYSTEM).cut("a\nb")),
-    ("K1", None, None, lambda: Cutter(SYSTEM).wakati("\na")),
-    ("G3", None, None, lambda: Cutter(SYSTEM).cut("a\ud800")),
-    ("G4", None, None, lambda: Cutter(SYSTEM).parse("a" * (2**20 + 1))),
-    ("P1", 0, "node", lambda: Cutter(SYSTEM).format(LINE, "\\q")),
-    ("P3", 1, "node", lambda: Cutter(SYSTEM).format(LINE, "a%f[x]")),
-    ("P2", 2, "node", lambda: Cutter(SYSTEM).format(LINE, "%m%q")),
-    ("P2", 0, "eos", lambda: Cutter(SYSTEM, format=Format("%m", eos="%q"))),
+    ("L1", None, None, None, lambda: Cutter(b"")),
+    ("O1", None, None, None, lambda: Cutter(USER)),
+    ("O2", 0, None, None, lambda: Cutter(SYSTEM, [SYSTEM])),
+    ("K4", None, None, None, lambda: Cutter(SYSTEM, grouping=1001)),
+    ("K1", None, None, 1, lambda: Cutter(SYSTEM).cut("a\nb")),
+    ("K1", None, None, 0, lambda: Cutter(SYSTEM).wakati("\na")),
+    ("G3", None, None, 1, lambda: Cutter(SYSTEM).cut("a\ud800")),
+    ("G4", None, None, 2**20 + 1, lambda: Cutter(SYSTEM).parse("a" * (2**20 + 1))),
+    ("P1", 0, "node", None, lambda: Cutter(SYSTEM).format(LINE, "\\q")),
+    ("P3", 1, "node", None, lambda: Cutter(SYSTEM).format(LINE, "a%f[x]")),
+    ("P2", 2, "node", None, lambda: Cutter(SYSTEM).format(LINE, "%m%q")),
+    ("P2", 0, "eos", None, lambda: Cutter(SYSTEM, format=Format("%m", eos="%q"))),
+    ("G3", 2, "unk", None, lambda: Cutter(SYSTEM).format(LINE, "%m", "ab\ud800")),
 ]
 
 
@@ -61,20 +62,31 @@ def faults_of_images():
     for image, fault in REFUSED:
         code, _, *number = fault.split()
         number = int(number[0]) if number else None
-        yield code, number, None, lambda image=image: Cutter(image)
-        yield code, number, None, lambda image=image: Cutter(SYSTEM, [image])
+        yield code, number, None, None, lambda image=image: Cutter(image)
+        yield code, number, None, None, lambda image=image: Cutter(SYSTEM, [image])
+        if code != "L8":
+            yield code, number, None, None, lambda image=image: Cutter(image, skip_digest=True)
+            yield code, number, None, None, lambda image=image: Cutter(SYSTEM, [image], skip_digest=True)
     for image in OTHER_SIZES.values():
-        yield "O3", 0, None, lambda image=image: Cutter(SYSTEM, [image])
+        yield "O3", 0, None, None, lambda image=image: Cutter(SYSTEM, [image])
 
 
 def check_faults():
-    for code, number, part, call in [*FAULTS, *faults_of_images()]:
+    for code, number, part, at, call in [*FAULTS, *faults_of_images()]:
         try:
             call()
         except Fault as fault:
-            same(f"fault {code}", (code, number, part), (fault.code, fault.number, fault.part))
+            same(f"fault {code}", (code, number, part, at), (fault.code, fault.number, fault.part, fault.at))
         else:
             sys.exit(f"{code}: no fault")
+
+
+def check_digests():
+    """What is cut with images that are intact but for their digest, where that is skipped."""
+    for name, feature in (("digest.img", "X"), ("feature.img", "Y")):
+        cutter = Cutter(SYSTEM, [UNTESTED[name]], skip_digest=True)
+        for one in (cutter, cutter.share()):
+            same(name, [("a", feature)], [(word.surface, word.feature) for word in one.cut("a")])
 
 
 def check_threads():
@@ -105,5 +117,6 @@ def check_threads():
 
 check_words()
 check_faults()
+check_digests()
 check_threads()
 print("Python: each call answers as docs/LIBRARY.md says")

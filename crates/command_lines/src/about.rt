@@ -1,8 +1,8 @@
 //! What both programs answer about themselves and their faults.
 
-use crate::explanation::explanation_of;
+use crate::explanation::{codes, explained};
 use crate::options_fault::OptionsFault;
-use crate::row::{FLAG, Name, Row, VALUE};
+use crate::row::{FLAG, MAY_HAVE_VALUE, Name, Row};
 use clap::ArgMatches;
 use std::alloc::Global;
 
@@ -13,10 +13,10 @@ pub const VERSION: &str = "0.1.0\nimage layouts read: 1, 2, 3; written: 3";
 pub(crate) const EXPLAIN: Row = Row {
     id: "explain",
     name: Name::Long("explain"),
-    taken: VALUE,
+    taken: MAY_HAVE_VALUE,
     values: &["CODE"],
     excluded: &[],
-    help: "Explain the fault with a code, as L4, and what to do",
+    help: "Explain the fault with a code or name, as L4, and what to do; without one, list all",
 };
 
 /// `-v`.
@@ -29,17 +29,32 @@ pub(crate) const VERBOSE: Row = Row {
     help: "Say on standard error what is done, and why a file can't be read",
 };
 
-/// The answer to `--explain`, where it was given.
-pub(crate) fn explained(alloc: Global, matches: &ArgMatches<'_>) -> Option<OptionsFault> {
-    let code = matches.get_str(EXPLAIN.id)?;
-    let Some(explanation) = explanation_of(code) else {
-        return Some(match format!(in alloc; "no fault has the code '{code}'") {
-            Ok(text) => OptionsFault::wrong(alloc, text.as_str()),
-            Err(_) => OptionsFault::Memory,
-        });
+/// `--skip-digest`.
+pub(crate) const SKIP_DIGEST: Row = Row {
+    id: "skip-digest",
+    name: Name::Long("skip-digest"),
+    taken: FLAG,
+    values: &[],
+    excluded: &[],
+    help: "Load images without the test of their digest, which takes most of the time, where their bytes are guarded otherwise",
+};
+
+/// Answers `--explain`, where it was given: with what is explained, or, where nothing is named, with all codes.
+pub(crate) fn answer_explain(
+    alloc: Global,
+    program: &str,
+    matches: &ArgMatches<'_>,
+) -> Result<(), OptionsFault> {
+    if !matches.contains_id(EXPLAIN.id) {
+        return Ok(());
+    }
+    let Some(asked) = matches.get_str(EXPLAIN.id) else {
+        return Err(OptionsFault::Help(codes(alloc)?));
     };
-    Some(match format!(in alloc; "{explanation}") {
-        Ok(text) => OptionsFault::Help(text),
-        Err(_) => OptionsFault::Memory,
-    })
+    let text = explained(alloc, asked)?;
+    if text.is_empty() {
+        let told = format!(in alloc; "no fault has the code or name '{asked}'")?;
+        return Err(OptionsFault::wrong(alloc, program, told.as_str()));
+    }
+    Err(OptionsFault::Help(text))
 }

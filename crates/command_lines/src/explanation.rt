@@ -1,15 +1,20 @@
 //! What the code of a fault means, for whoever meets it.
 
-ghost use Rattle.std.specs.Prelude.{◌≡◌, IfSome};
+ghost use Rattle.std.specs.Prelude.{◌≡◌, ◌↔◌, ◌⊎◌, IfSome, IsTrue};
+ghost use Rattle.command_lines.specs.Asked.{IsSameWord};
 
+mod calls;
 mod images;
 mod runs;
 mod sources;
 
+use calls::CALLS;
 use images::IMAGES;
 use runs::RUNS;
 use sources::SOURCES;
+use std::alloc::{AllocError, Global};
 use std::fmt::{self, Display, Formatter, Write};
+use std::string::String;
 
 /// What a fault means, its usual cause, and what to do.
 #[derive(Clone, Copy)]
@@ -21,6 +26,11 @@ pub struct Explanation {
     pub cure: &'static str,
 }
 
+/// The explanations, those of one subject after those of another.
+fn subjects() -> [&'static [Explanation]; 4] {
+    [&SOURCES, &IMAGES, &RUNS, &CALLS]
+}
+
 /// The explanation of the fault with a code, as `L4`; None where no fault has it.
 pub fn explanation_of(code: &str) -> Option<Explanation>
     ensures { IfSome result (λ found. found.code.now ≡ code.now) }
@@ -29,17 +39,80 @@ pub fn explanation_of(code: &str) -> Option<Explanation>
         .iter()
         .chain(IMAGES.iter())
         .chain(RUNS.iter())
+        .chain(CALLS.iter())
         .find(|one| one.code == code)
         .copied()
 }
 
+/// The explanations of the faults that have this code or name, in any letters; empty where no fault has it. A name may be several faults'.
+pub(crate) fn explained(alloc: Global, asked: &str) -> Result<String, AllocError> {
+    let mut text = String::new(alloc);
+    for subject in subjects() {
+        explain(alloc, subject, asked, &mut text)?;
+    }
+    Ok(text)
+}
+
+/// The codes and names of all faults, a line each.
+pub(crate) fn codes(alloc: Global) -> Result<String, AllocError> {
+    let mut text = String::new(alloc);
+    for subject in subjects() {
+        list(alloc, subject, &mut text)?;
+    }
+    Ok(text)
+}
+
+/// Appends those of one subject that are asked for, with a blank line before each that is not the first.
+fn explain(
+    alloc: Global,
+    subject: &[Explanation],
+    asked: &str,
+    text: &mut String,
+) -> Result<(), AllocError> {
+    for one in subject.iter().filter(|one| one.is_called(asked)) {
+        if !text.is_empty() {
+            text.push('\n')?;
+        }
+        text.push_str(format!(in alloc; "{one}")?.as_str())?;
+    }
+    Ok(())
+}
+
+/// Appends the codes and names of one subject.
+fn list(alloc: Global, subject: &[Explanation], text: &mut String) -> Result<(), AllocError> {
+    for one in subject {
+        text.push_str(format!(in alloc; "{}\n", Heading(one))?.as_str())?;
+    }
+    Ok(())
+}
+
+impl Explanation {
+    /// Whether this is its code or its name, in any letters.
+    fn is_called(&self, asked: &str) -> bool
+        ensures { IsTrue result ↔ (IsSameWord self.now.code.now asked.now ⊎ IsSameWord self.now.name.now asked.now) }
+    {
+        self.code.eq_ignore_ascii_case(asked) || self.name.eq_ignore_ascii_case(asked)
+    }
+}
+
+/// The code of a fault, and its name where that is another word.
+#[derive(Drop)]
+struct Heading<'a>(&'a Explanation);
+
+impl Display for Heading<'_> {
+    fn fmt<W: Write>(&self, f: &mut Formatter<W>) -> fmt::Result {
+        let Heading(one) = self;
+        if one.code == one.name {
+            write!(f, "{}", one.code)
+        } else {
+            write!(f, "{} {}", one.code, one.name)
+        }
+    }
+}
+
 impl Display for Explanation {
     fn fmt<W: Write>(&self, f: &mut Formatter<W>) -> fmt::Result {
-        if self.code == self.name {
-            writeln!(f, "{}", self.code)?;
-        } else {
-            writeln!(f, "{} {}", self.code, self.name)?;
-        }
+        writeln!(f, "{}", Heading(self))?;
         writeln!(f, "Meaning: {}", self.meaning)?;
         writeln!(f, "Usual cause: {}", self.cause)?;
         writeln!(f, "What to do: {}", self.cure)

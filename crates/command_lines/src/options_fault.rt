@@ -30,20 +30,40 @@ impl OptionsFault {
     }
 
     /// The fault of a command line that the parser of words refuses, or help that it was asked for.
-    pub fn of_parser(alloc: Global, error: &Error) -> OptionsFault {
+    pub fn of_parser(alloc: Global, program: &str, error: &Error) -> OptionsFault {
         if error.kind() == ParserKind::OutOfMemory {
             return OptionsFault::Memory;
         }
         match format!(in alloc; "{error}") {
-            Ok(text) if error.use_stderr() => OptionsFault::Bad(text),
+            Ok(text) if error.use_stderr() => OptionsFault::begun(alloc, program, text.as_str()),
             Ok(text) => OptionsFault::Help(text),
             Err(_) => OptionsFault::Memory,
         }
     }
 
     /// The fault of a command line that is wrong in this way.
-    pub fn wrong(alloc: Global, message: &str) -> OptionsFault {
-        match format!(in alloc; "error: {message}\n\nFor more information, try '--help'.\n") {
+    pub fn wrong(alloc: Global, program: &str, message: &str) -> OptionsFault {
+        match format!(in alloc; "{program}: {message}\n\nFor more information, try '--help'.\n") {
+            Ok(text) => OptionsFault::Bad(text),
+            Err(_) => OptionsFault::Memory,
+        }
+    }
+
+    /// The same without the parser's tip to give an option as a word, for a program that takes no words.
+    pub(crate) fn without_tip(self, alloc: Global) -> OptionsFault {
+        match self {
+            OptionsFault::Bad(text) => match without_tip(alloc, text.as_str()) {
+                Ok(text) => OptionsFault::Bad(text),
+                Err(_) => OptionsFault::Memory,
+            },
+            other => other,
+        }
+    }
+
+    /// The fault that the parser tells with this text, which begins with the program's name in place of the parser's word.
+    fn begun(alloc: Global, program: &str, text: &str) -> OptionsFault {
+        let told = text.strip_prefix("error: ").unwrap_or(text);
+        match format!(in alloc; "{program}: {told}") {
             Ok(text) => OptionsFault::Bad(text),
             Err(_) => OptionsFault::Memory,
         }
@@ -65,6 +85,21 @@ impl OptionsFault {
             OptionsFault::Memory => 4,
         }
     }
+}
+
+/// The parts of a text, which have blank lines between them, without the parser's tip to give an option as a word.
+fn without_tip(alloc: Global, text: &str) -> Result<String, AllocError> {
+    let mut kept = String::new(alloc);
+    for part in text
+        .split("\n\n")
+        .filter(|part| !part.starts_with("  tip: to pass "))
+    {
+        if !kept.is_empty() {
+            kept.push_str("\n\n")?;
+        }
+        kept.push_str(part)?;
+    }
+    Ok(kept)
 }
 
 impl From<AllocError> for OptionsFault {

@@ -22,6 +22,7 @@ pub(crate) struct Row {
 pub(crate) enum Name {
     Letter(char),
     Long(&'static str),
+    Both(char, &'static str),
     /// By none: these are the words that are no options.
     Words,
 }
@@ -63,6 +64,9 @@ pub(crate) const VALUE: Taken = Taken {
     parser: ValueParser::String,
     ..FLAG
 };
+
+/// One value or none.
+pub(crate) const MAY_HAVE_VALUE: Taken = Taken { least: 0, ..VALUE };
 
 /// One value, and the option has to be given.
 pub(crate) const NEEDED: Taken = Taken {
@@ -134,6 +138,7 @@ impl Name {
         match self {
             Name::Letter(letter) => arg.short(letter),
             Name::Long(word) => arg.long(word),
+            Name::Both(letter, word) => arg.short(letter).long(word),
             Name::Words => arg,
         }
     }

@@ -22,12 +22,13 @@ fn words(rt: &HostRuntime) -> io::Result<Vec<String>> {
 /// What a command finds in words.
 pub(crate) fn found<'a>(
     alloc: Global,
+    program: &str,
     command: Command<'a>,
     words: &'a [String],
 ) -> Result<ArgMatches<'a>, OptionsFault> {
     command
         .try_get_matches_from(words)
-        .map_err(|error| OptionsFault::of_parser(alloc, &error))
+        .map_err(|error| OptionsFault::of_parser(alloc, program, &error))
 }
 
 /// The value of an option, where it was given.
@@ -45,12 +46,13 @@ pub(crate) fn text_of(
 /// The value of an option that has to be given.
 pub(crate) fn needed_text(
     alloc: Global,
+    program: &str,
     matches: &ArgMatches<'_>,
     id: &str,
 ) -> Result<String, OptionsFault> {
     match matches.get_str(id) {
         Some(text) => Ok(String::from_str(alloc, text)?),
-        None => Err(OptionsFault::Bad(String::from_str(alloc, "error: an option is missing\n")?)),
+        None => Err(OptionsFault::wrong(alloc, program, "an option is missing")),
     }
 }
 

@@ -3,6 +3,7 @@ use Rattle.std.proofs.Common.{◌≡◌, ℕ, List, ◌∷◌, ◌++◌, [], sym
 use Rattle.std.specs.Prelude.{Result, Ok, Err, IfErr}
 use Rattle.mj_model.specs.declared.image_fault.ImageFault.{ImageFault}
 use Rattle.mj_model.specs.declared.image_fault.ImageFault.TheVariants as image
+use Rattle.image_bytes.specs.declared.digest_test.DigestTest.{DigestTest}
 use Rattle.image_bytes.specs.ImageFaults.{IsImageFault}
 use Rattle.cutter.specs.declared.fault.CutFault.{CutFault}
 use Rattle.cutter.specs.declared.fault.CutFault.TheVariants as cut
@@ -27,29 +28,29 @@ told : (Is : ImageFault → Type 0) (P : CutFault → Type 0) (fault : ImageFaul
 told Is P fault m k (inl e) = subst (λ (f : ImageFault). P (told_of_image f)) (sym e) m
 told Is P fault m k (inr h) = told_if Is P fault m k h
 
-pub load_refused : (bytes : List ℕ) (fault : ImageFault) → (fault ≡ image.Memory) ⊎ IsImageFault bytes fault → IsLoadRefusal bytes (told_of_image fault)
+pub load_refused : (digest : DigestTest) (bytes : List ℕ) (fault : ImageFault) → (fault ≡ image.Memory) ⊎ IsImageFault digest bytes fault → IsLoadRefusal digest bytes (told_of_image fault)
 unfolding IsFaultOf
-load_refused bytes fault h = told (IsImageFault bytes) (IsLoadRefusal bytes) fault tt (λ f is. is) h
+load_refused digest bytes fault h = told (IsImageFault digest bytes) (IsLoadRefusal digest bytes) fault tt (λ f is. is) h
 
-pub user_refused : (images : Images) (bytes : List ℕ) (fault : ImageFault) → (fault ≡ image.Memory) ⊎ IsImageFault bytes fault → IsUserRefusal images bytes (told_of_image fault)
+pub user_refused : (digest : DigestTest) (images : Images) (bytes : List ℕ) (fault : ImageFault) → (fault ≡ image.Memory) ⊎ IsImageFault digest bytes fault → IsUserRefusal digest images bytes (told_of_image fault)
 unfolding IsFaultOf
-user_refused images bytes fault h = told (IsImageFault bytes) (IsUserRefusal images bytes) fault tt (λ f is. is) h
+user_refused digest images bytes fault h = told (IsImageFault digest bytes) (IsUserRefusal digest images bytes) fault tt (λ f is. is) h
 
-add_fault : (images : Images) (user : List ℕ) (fault : CutFault) → IsImage user → IsAddRefusal images.system (images.users ++ user ∷ []) fault → IsUserRefusal images user fault
-add_fault images user (cut.Image f) formed h = absurd h
-add_fault images user (cut.Overlay f) formed h = (formed, h)
-add_fault images user (cut.Format f) formed h = absurd h
-add_fault images user cut.NotUtf8 formed h = absurd h
-add_fault images user cut.TooLong formed h = absurd h
-add_fault images user (cut.LineFeed n) formed h = absurd h
-add_fault images user cut.NothingCut formed h = absurd h
-add_fault images user cut.Shared formed h = absurd h
-add_fault images user cut.BadGrouping formed h = absurd h
-add_fault images user (cut.NoWord n) formed h = absurd h
-add_fault images user cut.Memory formed h = tt
+add_fault : (digest : DigestTest) (images : Images) (user : List ℕ) (fault : CutFault) → IsImage digest user → IsAddRefusal images.system (images.users ++ user ∷ []) fault → IsUserRefusal digest images user fault
+add_fault digest images user (cut.Image f) formed h = absurd h
+add_fault digest images user (cut.Overlay f) formed h = (formed, h)
+add_fault digest images user (cut.Format f) formed h = absurd h
+add_fault digest images user cut.NotUtf8 formed h = absurd h
+add_fault digest images user cut.TooLong formed h = absurd h
+add_fault digest images user (cut.LineFeed n) formed h = absurd h
+add_fault digest images user cut.NothingCut formed h = absurd h
+add_fault digest images user cut.Shared formed h = absurd h
+add_fault digest images user cut.BadGrouping formed h = absurd h
+add_fault digest images user (cut.NoWord n) formed h = absurd h
+add_fault digest images user cut.Memory formed h = tt
 
 -- a user's dictionary that is not added is not laid over the others
-pub add_refused : {T : Type 0} (r : Result T CutFault) (images : Images) (user : List ℕ) → IsImage user → IfErr r (IsAddRefusal images.system (images.users ++ user ∷ []))
-    → IfErr r (IsUserRefusal images user)
-add_refused (Ok x) images user formed h = tt
-add_refused (Err fault) images user formed h = add_fault images user fault formed h
+pub add_refused : {T : Type 0} (digest : DigestTest) (r : Result T CutFault) (images : Images) (user : List ℕ) → IsImage digest user → IfErr r (IsAddRefusal images.system (images.users ++ user ∷ []))
+    → IfErr r (IsUserRefusal digest images user)
+add_refused digest (Ok x) images user formed h = tt
+add_refused digest (Err fault) images user formed h = add_fault digest images user fault formed h

@@ -1,10 +1,12 @@
--- When the calls of a cutter are refused, and with which fault. Want of memory may come in any call that takes some.
-use Rattle.std.specs.Prelude.{◌≡◌, ℕ, ◌<◌, List, [], ◌∷◌, ◌++◌, Some, None, Err, slice_get}
+-- When the calls of a cutter are refused, and with which fault. Want of memory may come in any call that takes some; of a text, of a path and
+-- of a word's feature only where nothing else is wrong.
+use Rattle.std.specs.Prelude.{◌≡◌, ℕ, ◌<◌, List, [], ◌∷◌, ◌++◌, length, Some, None, IsSome, Err, slice_get}
 use Rattle.std.specs.Option.{IsSomeAnd}
 use Rattle.memchr.specs.Find.{IsFirstByte}
-use Rattle.image_bytes.specs.ImageFaults.{IsImageFault, IsWellFormed}
+use Rattle.image_bytes.specs.ImageFaults.{IsAccepted, IsImageFault}
+use Rattle.image_bytes.specs.declared.digest_test.DigestTest.{DigestTest}
 use Rattle.line_stream.specs.declared.line_fault.LineFault.TheVariants.{TooLong, NotUtf8}
-use Rattle.line_stream.specs.GoodLines.{IsBad}
+use Rattle.line_stream.specs.GoodLines.{IsBad, IsGood}
 use Rattle.mj_model.specs.Bytes.{is_line_feed}
 use Rattle.mj_model.specs.declared.image_fault.ImageFault.{ImageFault}
 use Rattle.mj_model.specs.declared.limits.TheConstants.{GROUPING_MAX}
@@ -14,16 +16,16 @@ use Rattle.cutter.specs.declared.fault.CutFault.{CutFault}
 use Rattle.cutter.specs.declared.fault.CutFault.TheVariants as cut
 use Rattle.cutter.specs.Cutters.{Cut, Held, Images}
 
--- well-formed images, and the first fault of others, as words that are not taken apart
-unfoldable pub IsImage : List ℕ → Type 0
-IsImage image = IsWellFormed image
+-- images that pass the tests that are made, and the first fault of others, as words that are not taken apart
+unfoldable pub IsImage : DigestTest → List ℕ → Type 0
+IsImage digest image = IsAccepted digest image
 
-unfoldable pub IsFaultOf : List ℕ → ImageFault → Type 0
-IsFaultOf image fault = IsImageFault image fault
+unfoldable pub IsFaultOf : DigestTest → List ℕ → ImageFault → Type 0
+IsFaultOf digest image fault = IsImageFault digest image fault
 
--- why a text is not cut: it is too long, or else no text
+-- why a text is not cut: it is too long, or else no text; memory is asked for a good one alone
 abbrev pub IsTextRefusal : List ℕ → CutFault → Type 0
-IsTextRefusal bytes cut.Memory = Unit {0}
+IsTextRefusal bytes cut.Memory = IsGood bytes
 IsTextRefusal bytes cut.TooLong = IsBad bytes TooLong
 IsTextRefusal bytes cut.NotUtf8 = IsBad bytes NotUtf8
 IsTextRefusal bytes fault = ⊥
@@ -38,19 +40,19 @@ IsLineRefusal line (cut.LineFeed place) = IsFirstByte is_line_feed line (Some pl
 IsLineRefusal line fault = IsOneLine line × IsTextRefusal line fault
 
 -- why an image is not loaded as a system's: it is none, or one of a user's dictionary
-abbrev pub IsLoadRefusal : List ℕ → CutFault → Type 0
-IsLoadRefusal image cut.Memory = Unit {0}
-IsLoadRefusal image (cut.Image fault) = IsFaultOf image fault
-IsLoadRefusal image (cut.Overlay fault) = IsImage image × (fault_of_images image [] ≡ Some fault)
-IsLoadRefusal image fault = ⊥
+abbrev pub IsLoadRefusal : DigestTest → List ℕ → CutFault → Type 0
+IsLoadRefusal digest image cut.Memory = Unit {0}
+IsLoadRefusal digest image (cut.Image fault) = IsFaultOf digest image fault
+IsLoadRefusal digest image (cut.Overlay fault) = IsImage digest image × (fault_of_images image [] ≡ Some fault)
+IsLoadRefusal digest image fault = ⊥
 
 -- why a user's image is not laid over others: another cutter shares them, or it is no image, or the first fault of them all
-abbrev pub IsUserRefusal : Images → List ℕ → CutFault → Type 0
-IsUserRefusal images user cut.Memory = Unit {0}
-IsUserRefusal images user cut.Shared = Unit {0}
-IsUserRefusal images user (cut.Image fault) = IsFaultOf user fault
-IsUserRefusal images user (cut.Overlay fault) = IsImage user × (fault_of_images images.system (images.users ++ user ∷ []) ≡ Some fault)
-IsUserRefusal images user fault = ⊥
+abbrev pub IsUserRefusal : DigestTest → Images → List ℕ → CutFault → Type 0
+IsUserRefusal digest images user cut.Memory = Unit {0}
+IsUserRefusal digest images user cut.Shared = Unit {0}
+IsUserRefusal digest images user (cut.Image fault) = IsFaultOf digest user fault
+IsUserRefusal digest images user (cut.Overlay fault) = IsImage digest user × (fault_of_images images.system (images.users ++ user ∷ []) ≡ Some fault)
+IsUserRefusal digest images user fault = ⊥
 
 -- why a user's dictionary is not added to others: the first fault of them all
 abbrev pub IsAddRefusal : List ℕ → List (List ℕ) → CutFault → Type 0
@@ -74,9 +76,13 @@ pub record IsNothingCut (h : Held) (fault : CutFault) : Type 0 where
   pub told : fault ≡ cut.NothingCut
   pub none : h.cut ≡ None
 
--- why a path is not printed
+-- what was cut last has a word with a number
+abbrev pub HasWord : Held → ℕ → Type 0
+HasWord h i = IsSomeAnd h.cut (λ (c : Cut). i < length c.words)
+
+-- why a path is not printed; memory is asked where there is one
 abbrev pub IsPrintRefusal : Held → CutFault → Type 0
-IsPrintRefusal h cut.Memory = Unit {0}
+IsPrintRefusal h cut.Memory = IsSome h.cut
 IsPrintRefusal h cut.NothingCut = h.cut ≡ None
 IsPrintRefusal h fault = ⊥
 
@@ -86,7 +92,7 @@ IsWordRefusal h i cut.NothingCut = h.cut ≡ None
 IsWordRefusal h i (cut.NoWord n) = (n ≡ i) × IsSomeAnd h.cut (λ (c : Cut). slice_get c.words i ≡ None)
 IsWordRefusal h i fault = ⊥
 
--- why its feature is not appended
+-- why its feature is not appended; memory is asked where there is such a word
 abbrev pub IsFeatureRefusal : Held → ℕ → CutFault → Type 0
-IsFeatureRefusal h i cut.Memory = Unit {0}
+IsFeatureRefusal h i cut.Memory = HasWord h i
 IsFeatureRefusal h i fault = IsWordRefusal h i fault

@@ -11,6 +11,7 @@ ghost use Rattle.word_lookup.specs.Overlays.{fault_of_images};
 use crate::fault::CutFault;
 use crate::last_cut::LastCut;
 use crate::owned_dictionaries::OwnedDictionaries;
+use dict_image::DigestTest;
 use mj_model::{GROUPING_DEFAULT, GROUPING_MAX};
 use out_format::Format;
 use std::alloc::{AllocError, Global};
@@ -52,13 +53,13 @@ impl Model for Cutter {
 
 impl Cutter {
     /// The cutter of a system's image, with the grouping of 24 characters and the format that MeCab has by default.
-    pub fn load(alloc: Global, image: Vec<u8>) -> Result<Cutter, CutFault>
+    pub fn load(alloc: Global, image: Vec<u8>, digest: DigestTest) -> Result<Cutter, CutFault>
         ensures loaded { IfOk result (IsLoaded image.items) }
-        ensures accepted { OnOk result (IsImage image.items) }
+        ensures accepted { OnOk result (IsImage digest image.items) }
         ensures fits { OnOk result (fault_of_images image.items [] ≡ None) }
-        ensures refused { IfErr result (IsLoadRefusal image.items) }
+        ensures refused { IfErr result (IsLoadRefusal digest image.items) }
     {
-        let dictionaries = OwnedDictionaries::load(alloc, image)?;
+        let dictionaries = OwnedDictionaries::load(alloc, image, digest)?;
         let format = Format::default_of(alloc)?;
         Ok(Cutter {
             alloc,
@@ -83,21 +84,21 @@ impl Cutter {
     }
 
     /// Lays the dictionary of a user's image over the others, while no other cutter shares them.
-    pub fn add_user(&mut self, image: Vec<u8>) -> Result<(), CutFault>
+    pub fn add_user(&mut self, image: Vec<u8>, digest: DigestTest) -> Result<(), CutFault>
         ensures added { OnOk result (self.new ≡ record self.old {
           images = with_user self.old.images image.items;
           cut = None;
         }) }
-        ensures accepted { OnOk result (IsImage image.items) }
+        ensures accepted { OnOk result (IsImage digest image.items) }
         ensures fits { OnOk result (fault_of_images self.new.images.system self.new.images.users
             ≡ None) }
-        ensures refused { IfErr result (IsUserRefusal self.old.images image.items) }
+        ensures refused { IfErr result (IsUserRefusal digest self.old.images image.items) }
         ensures kept { OnErr result (self.new ≡ self.old) }
     {
         let Some(dictionaries) = Arc::get_mut(&mut self.dictionaries) else {
             return Err(CutFault::Shared);
         };
-        dictionaries.add(self.alloc, image)?;
+        dictionaries.add(self.alloc, image, digest)?;
         self.last.forget();
         Ok(())
     }

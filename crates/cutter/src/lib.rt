@@ -12,6 +12,7 @@ mod owned_dictionaries;
 mod text_lines;
 
 pub use cutter::Cutter;
+pub use dict_image::DigestTest;
 pub use fault::CutFault;
 pub use last_words::{LastWords, Reached};
 pub use text_lines::LinesFault;

@@ -7,7 +7,7 @@ ghost use Rattle.mj_model.specs.declared.limits.TheConstants.{GROUPING_MAX};
 ghost use Rattle.word_lookup.specs.Overlays.{fault_of_images, overlay_of};
 
 use crate::fault::CutFault;
-use dict_image::{Dict, load};
+use dict_image::{Dict, DigestTest, load_by};
 use std::alloc::Global;
 use std::marker::Model;
 use word_lookup::Dictionaries;
@@ -31,13 +31,17 @@ impl Model for OwnedDictionaries {
 
 impl OwnedDictionaries {
     /// The dictionary of a system's image, and no user's.
-    pub fn load(alloc: Global, image: Vec<u8>) -> Result<OwnedDictionaries, CutFault>
+    pub fn load(
+        alloc: Global,
+        image: Vec<u8>,
+        digest: DigestTest,
+    ) -> Result<OwnedDictionaries, CutFault>
         ensures loaded { IfOk result (λ d. d ≡ record { system = image.items; users = [] }) }
-        ensures accepted { OnOk result (IsImage image.items) }
+        ensures accepted { OnOk result (IsImage digest image.items) }
         ensures fits { OnOk result (fault_of_images image.items [] ≡ None) }
-        ensures refused { IfErr result (IsLoadRefusal image.items) }
+        ensures refused { IfErr result (IsLoadRefusal digest image.items) }
     {
-        let system = load(alloc, image)?;
+        let system = load_by(alloc, image, digest)?;
         let users = Vec::new(alloc);
         Dictionaries::new(&system, &users)?;
         Ok(OwnedDictionaries { system, users })
@@ -52,15 +56,15 @@ impl OwnedDictionaries {
     }
 
     /// Lays the dictionary of a user's image over the others.
-    pub fn add(&mut self, alloc: Global, image: Vec<u8>) -> Result<(), CutFault>
+    pub fn add(&mut self, alloc: Global, image: Vec<u8>, digest: DigestTest) -> Result<(), CutFault>
         ensures added { OnOk result (self.new ≡ with_user self.old image.items) }
-        ensures accepted { OnOk result (IsImage image.items) }
+        ensures accepted { OnOk result (IsImage digest image.items) }
         ensures fits { OnOk result
             (fault_of_images self.old.system (self.old.users ++ image.items ∷ []) ≡ None) }
-        ensures refused { IfErr result (IsUserRefusal self.old image.items) }
+        ensures refused { IfErr result (IsUserRefusal digest self.old image.items) }
         ensures kept { OnErr result (self.new ≡ self.old) }
     {
-        let user = load(alloc, image)?;
+        let user = load_by(alloc, image, digest)?;
         add_checked(&self.system, &mut self.users, user)
     }
 }

@@ -3,6 +3,7 @@ pub mod PassedTypes
 pub mod BoxCalls
 pub mod CalledLemmas
 pub mod SettingLemmas
+pub mod PlaceLemmas
 pub mod TextLemmas
 pub mod FillLemmas
 pub mod WalkLemmas

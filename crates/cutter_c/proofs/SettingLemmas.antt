@@ -5,7 +5,7 @@ use Rattle.std.proofs.lemmas.List.Elements.{All-cons, All-nil}
 use Rattle.std.specs.Str.{IsValidUpTo}
 use Rattle.cutter.specs.declared.fault.CutFault.{CutFault}
 use Rattle.cutter.specs.declared.fault.CutFault.TheVariants as cut
-use Rattle.cutter_c.specs.Settings.{IsNoText, IsRefusedAt}
+use Rattle.cutter_c.specs.Settings.{FormatPlace, IsNoText, IsNoTextAt, IsPlaceInTexts, place_at}
 
 -- bytes that are no text have one fault
 is_not_utf8 : (bytes : List ℕ) (fault : CutFault) → IsNoText bytes fault → fault ≡ cut.NotUtf8
@@ -21,20 +21,19 @@ is_not_utf8 bytes cut.BadGrouping bad = absurd bad
 is_not_utf8 bytes (cut.NoWord n) bad = absurd bad
 is_not_utf8 bytes cut.Memory bad = absurd bad
 
-two : {first second : List ℕ} → IsUtf8 first → IsUtf8 second → All IsUtf8 (first ∷ second ∷ [])
-two {first} {second} p q = All-cons IsUtf8 first (second ∷ []) p (All-cons IsUtf8 second [] q (All-nil IsUtf8))
+-- a list of texts that are all UTF-8, of one to three
+pub one : {first : List ℕ} → IsUtf8 first → All IsUtf8 (first ∷ [])
+one {first} p = All-cons IsUtf8 first [] p (All-nil IsUtf8)
 
-module _ {node unk bos eos : List ℕ} {part at : ℕ} {fault : CutFault} where
-  refused_at : (bytes : List ℕ) (number : ℕ) → IsNoText bytes fault → (IsUtf8 node × IsUtf8 unk × IsUtf8 bos × IsUtf8 eos → IsUtf8 bytes)
-      → slice_get (node ∷ unk ∷ bos ∷ eos ∷ []) number ≡ Some bytes → All IsUtf8 (take number (node ∷ unk ∷ bos ∷ eos ∷ [])) → part ≡ number → IsValidUpTo bytes at → IsRefusedAt node unk bos eos part at fault
-  refused_at bytes number bad among there before is up_to =
-      let same = sym (is_not_utf8 bytes fault bad) in
-      let bad' : IsNoText bytes cut.NotUtf8 = subst (IsNoText bytes) (is_not_utf8 bytes fault bad) bad in
-      subst (IsRefusedAt node unk bos eos part at) same (subst (λ (n : ℕ). IsRefusedAt node unk bos eos n at cut.NotUtf8) (sym is)
-      (record { is = λ all. bad' (among all); placed = record { bytes = bytes; there = there; up_to = up_to; before = before } }))
+pub two : {first second : List ℕ} → IsUtf8 first → IsUtf8 second → All IsUtf8 (first ∷ second ∷ [])
+two {first} {second} p q = All-cons IsUtf8 first (second ∷ []) p (one q)
 
-  pub third_refused : IsUtf8 node → IsUtf8 unk → IsNoText bos fault → part ≡ 2 → IsValidUpTo bos at → IsRefusedAt node unk bos eos part at fault
-  third_refused n u bad is up_to = refused_at bos 2 bad (λ all. all.2) refl (two n u) is up_to
+pub three : {first second third : List ℕ} → IsUtf8 first → IsUtf8 second → IsUtf8 third → All IsUtf8 (first ∷ second ∷ third ∷ [])
+three {first} {second} {third} p q r = All-cons IsUtf8 first (second ∷ third ∷ []) p (two q r)
 
-  pub fourth_refused : IsUtf8 node → IsUtf8 unk → IsUtf8 bos → IsNoText eos fault → part ≡ 3 → IsValidUpTo eos at → IsRefusedAt node unk bos eos part at fault
-  fourth_refused n u b bad is up_to = refused_at eos 3 bad (λ all. all.3) refl (All-cons IsUtf8 node (unk ∷ bos ∷ []) n (two u b)) is up_to
+-- bytes that are no text, behind texts, are the place of the fault
+pub placed_at : (texts : List (List ℕ)) (bytes : List ℕ) (number : ℕ) (before : FormatPlace) (part at : ℕ) (fault : CutFault) → IsNoText bytes fault → slice_get texts number ≡ Some bytes
+    → All IsUtf8 (take number texts) → part ≡ number → IsValidUpTo bytes at → IsPlaceInTexts texts before (place_at part at) fault
+placed_at texts bytes number before part at fault bad there front is up_to =
+    subst (IsPlaceInTexts texts before (place_at part at)) (sym (is_not_utf8 bytes fault bad))
+    (subst (λ (n : ℕ). IsNoTextAt texts (place_at n at)) (sym is) (record { bytes = bytes; there = there; up_to = up_to; before = front }))

@@ -52,20 +52,20 @@ pub record IsShortFor (Is : List ℕ → Type 0) (needed room : ℕ) : Type 0 wh
   pub needed_is : needed ≡ length bytes
   pub short : room < needed
 
--- why what is asked is not copied
-abbrev pub IsCopyRefusal : Asked → ℕ → ℕ → Held → CallFault → Type 0
-IsCopyRefusal asked needed room h (call.Cut fault) = IsAskedRefusal asked h fault
-IsCopyRefusal asked needed room h call.ShortBuffer = IsShortFor (IsTold asked h) needed room
-IsCopyRefusal asked needed room h fault = ⊥
+-- why what is asked is not copied; of what is not there no length is told
+abbrev pub IsCopyRefusal : Asked → ℕ → ℕ → ℕ → Held → CallFault → Type 0
+IsCopyRefusal asked before needed room h (call.Cut fault) = IsAskedRefusal asked h fault × (needed ≡ before)
+IsCopyRefusal asked before needed room h call.ShortBuffer = IsShortFor (IsTold asked h) needed room
+IsCopyRefusal asked before needed room h fault = ⊥
 
 -- the same of a handle, which may have no cutter
-abbrev pub IsCopyFault : Option Held → Asked → ℕ → ℕ → CallFault → Type 0
-IsCopyFault None asked needed room fault = fault ≡ call.EmptyCutter
-IsCopyFault (Some h) asked needed room fault = IsCopyRefusal asked needed room h fault
+abbrev pub IsCopyFault : Option Held → Asked → ℕ → ℕ → ℕ → CallFault → Type 0
+IsCopyFault None asked before needed room fault = (fault ≡ call.EmptyCutter) × (needed ≡ before)
+IsCopyFault (Some h) asked before needed room fault = IsCopyRefusal asked before needed room h fault
 
 -- C is told by 0 that what is asked was copied into its buffer, or else why it is as it was; the cutter stays
-pub record TellsCopied (old new : Option Held) (asked : Asked) (needed : ℕ) (out_old out_new : List ℕ) (code : ℕ) : Type 0 where
+pub record TellsCopied (old new : Option Held) (asked : Asked) (before needed : ℕ) (out_old out_new : List ℕ) (code : ℕ) : Type 0 where
   pub written : code ≡ 0 → IsSomeAnd old (λ h. IsWritten (IsTold asked h) needed out_old out_new)
-  pub refused : code ≢ 0 → TellsCall (IsCopyFault old asked needed (length out_old)) code
+  pub refused : code ≢ 0 → TellsCall (IsCopyFault old asked before needed (length out_old)) code
   pub kept : code ≢ 0 → out_new ≡ out_old
   pub cutter : new ≡ old

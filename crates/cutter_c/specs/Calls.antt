@@ -1,21 +1,24 @@
 -- What calls do to a cutter, but for those that set something.
-use Rattle.std.specs.Prelude.{◌≡◌, ℕ, ℤ, List, [], length, None}
+use Rattle.std.specs.Prelude.{◌≡◌, ◌≢◌, ℕ, ℤ, List, [], length, Option, None}
 use Rattle.cutter.specs.Cutters.{Cut, Held, IsLoaded, OfCut, with_user}
 use Rattle.cutter.specs.declared.fault.CutFault.{CutFault}
 use Rattle.cutter.specs.Faults.{IsImage, IsUserRefusal}
 use Rattle.cutter_c.specs.declared.cutting.PathSize.{PathSize}
+use Rattle.cutter_c.specs.Handles.{IsRefusal, Moves}
+use Rattle.cutter_c.specs.Outputs.{IsPlaceIn, OnlyFaultsSet, OnlyOkSets, TellsPlaced}
+use Rattle.image_bytes.specs.declared.digest_test.DigestTest.{DigestTest}
 use Rattle.word_lookup.specs.Overlays.{fault_of_images}
 
 -- a cutter holds a system's image alone, which may be loaded
-pub record IsLoadedFrom (image : List ℕ) (h : Held) : Type 0 where
+pub record IsLoadedFrom (digest : DigestTest) (image : List ℕ) (h : Held) : Type 0 where
   pub loaded : IsLoaded image h
-  pub accepted : IsImage image
+  pub accepted : IsImage digest image
   pub fits : fault_of_images image [] ≡ None
 
 -- a user's image was laid over a cutter's dictionaries, over which it may go
-pub record IsExtended (image : List ℕ) (old new : Held) : Type 0 where
+pub record IsExtended (digest : DigestTest) (image : List ℕ) (old new : Held) : Type 0 where
   pub extended : new ≡ record old { images = with_user old.images image; cut = None }
-  pub accepted : IsImage image
+  pub accepted : IsImage digest image
   pub fits : fault_of_images new.images.system new.images.users ≡ None
 
 -- a cutter is a new one over the dictionaries of another, with its format and its grouping
@@ -23,8 +26,8 @@ abbrev pub IsShared : Held → Held → Type 0
 IsShared old new = new ≡ record old { cut = None }
 
 -- why a user's image is not laid over a cutter's dictionaries
-abbrev pub IsUserFault : List ℕ → Held → CutFault → Type 0
-IsUserFault image h fault = IsUserRefusal h.images image fault
+abbrev pub IsUserFault : DigestTest → List ℕ → Held → CutFault → Type 0
+IsUserFault digest image h fault = IsUserRefusal digest h.images image fault
 
 -- a path has this size
 abbrev pub HasSize : PathSize → Cut → Type 0
@@ -39,3 +42,12 @@ pub record IsCutInto (text : List ℕ) (size : PathSize) (old new : Held) : Type
 -- the size that is told by a count and a total
 abbrev pub size_told : ℕ → ℤ → PathSize
 size_told count total = record { count = count; total = total }
+
+-- C is told by 0 how large the path is into which a handle's cutter cut a text, or else why the cutter is as it was, and where the text is
+-- at fault
+pub record TellsCut (old new : Option Held) (text : List ℕ) (Refused : List ℕ → CutFault → Type 0) (size_before size : PathSize) (at_before at code : ℕ) : Type 0 where
+  pub done : code ≡ 0 → Moves old new (IsCutInto text size)
+  pub refused : code ≢ 0 → TellsPlaced (IsRefusal old (λ _. Refused text)) (IsPlaceIn text) at_before at code
+  pub kept : code ≢ 0 → new ≡ old
+  pub size_unset : OnlyOkSets code size_before size
+  pub at_unset : OnlyFaultsSet code at_before at

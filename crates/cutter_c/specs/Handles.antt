@@ -7,6 +7,7 @@ use Rattle.cutter.specs.Cutters.{Held}
 use Rattle.cutter.specs.declared.fault.CutFault.{CutFault}
 use Rattle.cutter.specs.declared.fault.CutFault.TheVariants as cut
 use Rattle.cutter_c.specs.Codes.{call_code, call_number}
+use Rattle.cutter_c.specs.Outputs.{OnlyOkSets}
 use Rattle.cutter_c.specs.declared.fault.CallFault.{CallFault}
 use Rattle.cutter_c.specs.declared.fault.CallFault.TheVariants as call
 use Rattle.cutter_c.specs.declared.handle.Handle.{Handle}
@@ -98,9 +99,10 @@ pub record TellsNumbered (Is : CallFault → Type 0) (before number code : ℕ) 
   pub told : code ≡ call_code fault
   pub number_is : number ≡ call_number fault before
 
--- C is told by 0 where bytes are lent that are so of a handle's cutter, or else why none are; the cutter stays
-pub record TellsLent (old new : Option Session) (Is : Held → List ℕ → Type 0) (Refused : Held → CutFault → Type 0) (lent : Lent) (code : ℕ) : Type 0 where
+-- C is told by 0 where bytes are lent that are so of a handle's cutter, or else why none are, and nothing is set; the cutter stays
+pub record TellsLent (old new : Option Session) (Is : Held → List ℕ → Type 0) (Refused : Held → CutFault → Type 0) (before lent : Lent) (code : ℕ) : Type 0 where
   pub told : code ≡ 0 → Lends Is lent new
+  pub unset : OnlyOkSets code before lent
   pub refused : code ≢ 0 → TellsCall (IsRefusal (cutter_of old) Refused) code
   pub cutter : cutter_of new ≡ cutter_of old
 

@@ -1,5 +1,6 @@
 pub mod CallWords
 pub mod Codes
+pub mod Outputs
 pub mod Owned
 pub mod Handles
 pub mod Calls

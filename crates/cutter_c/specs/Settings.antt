@@ -41,30 +41,41 @@ part_number Unk = 1
 part_number Bos = 2
 part_number Eos = 3
 
+-- the number of a format's text, and a byte of it
+pub record FormatPlace : Type 0 where
+  pub part : ℕ
+  pub at : ℕ
+
+-- the place that is told by a part and a byte
+abbrev pub place_at : ℕ → ℕ → FormatPlace
+place_at part at = record { part = part; at = at }
+
 -- the text with this number is the first one that is not UTF-8, and it is UTF-8 up to this byte
-pub record IsNoTextAt (texts : List (List ℕ)) (part at : ℕ) : Type 0 where
+pub record IsNoTextAt (texts : List (List ℕ)) (place : FormatPlace) : Type 0 where
   pub bytes : List ℕ
-  pub there : slice_get texts part ≡ Some bytes
-  pub up_to : IsValidUpTo bytes at
-  pub before : All IsUtf8 (take part texts)
+  pub there : slice_get texts place.part ≡ Some bytes
+  pub up_to : IsValidUpTo bytes place.at
+  pub before : All IsUtf8 (take place.part texts)
 
--- where a fault has a part and a place, these are they
-abbrev pub IsPlaced : List (List ℕ) → ℕ → ℕ → CutFault → Type 0
-IsPlaced texts part at (cut.Format (format.Bad refused place kind)) = (part ≡ part_number refused) × (at ≡ place)
-IsPlaced texts part at cut.NotUtf8 = IsNoTextAt texts part at
-IsPlaced texts part at fault = Unit {0}
+-- where a fault of four texts is: the part and the byte of it; where it has none, what stood is left
+abbrev pub IsPlaceInTexts : List (List ℕ) → FormatPlace → FormatPlace → CutFault → Type 0
+IsPlaceInTexts texts before place (cut.Format (format.Bad part at kind)) = place ≡ place_at (part_number part) at
+IsPlaceInTexts texts before place cut.NotUtf8 = IsNoTextAt texts place
+IsPlaceInTexts texts before place fault = place ≡ before
 
--- why four texts are not set, and where
-pub record IsRefusedAt (node unk bos eos : List ℕ) (part at : ℕ) (fault : CutFault) : Type 0 where
-  pub is : IsSettingRefusal node unk bos eos fault
-  pub placed : IsPlaced (node ∷ unk ∷ bos ∷ eos ∷ []) part at fault
+-- the four texts in their order
+abbrev pub four : List ℕ → List ℕ → List ℕ → List ℕ → List (List ℕ)
+four node unk bos eos = node ∷ unk ∷ bos ∷ eos ∷ []
 
--- the same of texts that are lent
+-- a format's texts, their refusal and the place of their fault, of texts that are lent
 abbrev pub texts_lent : Texts → FormatTexts
 texts_lent t = texts_in t.node.now t.unk.now t.bos.now t.eos.now
 
-abbrev pub IsRefusedIn : Texts → ℕ → ℕ → CutFault → Type 0
-IsRefusedIn t part at fault = IsRefusedAt t.node.now t.unk.now t.bos.now t.eos.now part at fault
+abbrev pub IsRefusedIn : Texts → CutFault → Type 0
+IsRefusedIn t fault = IsSettingRefusal t.node.now t.unk.now t.bos.now t.eos.now fault
+
+abbrev pub IsPlaceLent : Texts → FormatPlace → FormatPlace → CutFault → Type 0
+IsPlaceLent t before place fault = IsPlaceInTexts (four t.node.now t.unk.now t.bos.now t.eos.now) before place fault
 
 -- the grouping is this, and nothing is cut yet
 abbrev pub IsRegrouped : ℕ → Held → Held → Type 0

@@ -1,13 +1,15 @@
 //! Lines and texts cut, with the size of their paths.
 
-ghost use Rattle.std.specs.Prelude.{◌≡◌, IfOk, IfErr, OnErr};
+ghost use Rattle.std.specs.Prelude.{◌≡◌, IfOk, IfErr, OnOk, OnErr};
 ghost use Rattle.cutter.specs.Cutters.{OfCut};
 ghost use Rattle.cutter.specs.Faults.{IsLineRefusal, IsNothingCut, IsTextRefusal};
 ghost use Rattle.cutter_c.specs.Calls.{HasSize, IsCutInto, size_told};
 ghost use Rattle.cutter_c.specs.Codes.{told_code};
+ghost use Rattle.cutter_c.specs.Outputs.{IsPlaceFor, IsPlaceIfBad};
 
 use crate::codes::{OK, code_of};
 use crate::fault::CallFault;
+use crate::places::place_in;
 use crate::session::Session;
 use cutter::CutFault;
 
@@ -53,10 +55,20 @@ impl Session {
     }
 }
 
-/// The code of an answer. A path's size is told.
-pub fn told_size(answer: Result<PathSize, CallFault>, count: &mut usize, total: &mut i64) -> u32
+/// The code of an answer. A path's size is told, or where the text is at fault.
+pub fn told_cut(
+    answer: Result<PathSize, CallFault>,
+    text: &[u8],
+    count: &mut usize,
+    total: &mut i64,
+    at: &mut usize,
+) -> u32
     ensures code { result ≡ told_code answer }
     ensures size { IfOk answer (λ size. size ≡ size_told count.new total.new) }
+    ensures size_unset { OnErr answer
+        (size_told count.new total.new ≡ size_told count.old total.old) }
+    ensures place { IfErr answer (IsPlaceFor (IsPlaceIfBad text.now) at.old at.new) }
+    ensures at_unset { OnOk answer (at.new ≡ at.old) }
 {
     match answer {
         Ok(size) => {
@@ -64,6 +76,9 @@ pub fn told_size(answer: Result<PathSize, CallFault>, count: &mut usize, total: 
             *total = size.total;
             OK
         }
-        Err(fault) => code_of(fault),
+        Err(fault) => {
+            *at = place_in(text, fault, *at);
+            code_of(fault)
+        }
     }
 }

@@ -2,15 +2,18 @@
 
 ghost use Rattle.std.specs.Prelude.{◌≡◌, ◌≢◌, None};
 ghost use Rattle.cutter.specs.Faults.{IsGroupingRefusal, IsLineRefusal, IsLoadRefusal, IsTextRefusal};
-ghost use Rattle.cutter_c.specs.Calls.{IsCutInto, IsExtended, IsLoadedFrom, IsShared, IsUserFault, size_told};
+ghost use Rattle.cutter_c.specs.Calls.{IsExtended, IsLoadedFrom, IsShared, IsUserFault, TellsCut, size_told};
 ghost use Rattle.cutter_c.specs.Handles.{Fills, FillsFrom, IsFillRefusal, IsRefusal, IsShareRefusal, Moves, TellsCall, TellsChange, TellsNumbered, cutter_in};
-ghost use Rattle.cutter_c.specs.Settings.{IsRefusedAt, IsRegrouped, SetsFormat, texts_in};
+ghost use Rattle.cutter_c.specs.Outputs.{OnlyFaultsSet, TellsPlaced};
+ghost use Rattle.image_bytes.specs.declared.digest_test.DigestTest.TheVariants.{Made};
+ghost use Rattle.cutter_c.specs.Settings.{IsPlaceInTexts, IsRegrouped, IsSettingRefusal, SetsFormat, four, place_at, texts_in};
 
 use crate::codes::{code_told, told};
-use crate::cutting::told_size;
+use crate::cutting::told_cut;
 use crate::handle::Handle;
 use crate::settings::Texts;
 use crate::{loading, settings};
+use cutter::DigestTest;
 use std::alloc::Global;
 
 /// Fills an empty handle with the cutter of a system's image. `number` is set where a fault has one.
@@ -22,13 +25,17 @@ pub extern "C" fn kumquatsieve_load(
     number: &mut u64,
 ) -> u32
     ensures loaded { (result ≡ 0)
-        → Fills (cutter_in cutter.old) (cutter_in cutter.new) (IsLoadedFrom image.now) }
+        → Fills (cutter_in cutter.old) (cutter_in cutter.new) (IsLoadedFrom Made image.now) }
     ensures refused { (result ≢ 0) → TellsNumbered
-        (IsFillRefusal (cutter_in cutter.old) (IsLoadRefusal image.now))
+        (IsFillRefusal (cutter_in cutter.old) (IsLoadRefusal Made image.now))
         number.old number.new result }
     ensures kept { (result ≢ 0) → cutter_in cutter.new ≡ cutter_in cutter.old }
+    ensures unset { OnlyFaultsSet result number.old number.new }
 {
-    told(loading::load(alloc, cutter, image), number)
+    told(
+        loading::load(alloc, cutter, image, DigestTest::Made),
+        number,
+    )
 }
 
 /// Lays a user's image over the dictionaries of a handle's cutter. `number` is set where a fault has one.
@@ -40,13 +47,17 @@ pub extern "C" fn kumquatsieve_add_user(
     number: &mut u64,
 ) -> u32
     ensures added { (result ≡ 0)
-        → Moves (cutter_in cutter.old) (cutter_in cutter.new) (IsExtended image.now) }
+        → Moves (cutter_in cutter.old) (cutter_in cutter.new) (IsExtended Made image.now) }
     ensures refused { (result ≢ 0) → TellsNumbered
-        (IsRefusal (cutter_in cutter.old) (IsUserFault image.now))
+        (IsRefusal (cutter_in cutter.old) (IsUserFault Made image.now))
         number.old number.new result }
     ensures kept { (result ≢ 0) → cutter_in cutter.new ≡ cutter_in cutter.old }
+    ensures unset { OnlyFaultsSet result number.old number.new }
 {
-    let answer = cutter.call(alloc, |session| session.add_user(alloc, image));
+    let answer = cutter.call(
+        alloc,
+        |session| session.add_user(alloc, image, DigestTest::Made),
+    );
     told(answer, number)
 }
 
@@ -63,7 +74,8 @@ pub extern "C" fn kumquatsieve_share(alloc: Global, cutter: &mut Handle, other: 
     code_told(loading::share(alloc, cutter, other))
 }
 
-/// Sets the format by its four texts. Of a refused one `part` is its number, 0 to 3, and `at` a byte of it.
+/// Sets the format by its four texts. Of a refused one `part` is its number, 0 to 3, and `at` a byte of it; after each other answer
+/// they are as they were.
 #[unsafe(no_mangle)]
 pub extern "C" fn kumquatsieve_set_format(
     alloc: Global,
@@ -75,9 +87,14 @@ pub extern "C" fn kumquatsieve_set_format(
     part: &mut u32,
     at: &mut usize,
 ) -> u32
-    ensures { TellsChange (cutter_in cutter.old) (cutter_in cutter.new)
-        (SetsFormat (texts_in node.now unk.now bos.now eos.now))
-        (λ _. IsRefusedAt node.now unk.now bos.now eos.now part.new at.new) result }
+    ensures set { (result ≡ 0) → Moves (cutter_in cutter.old) (cutter_in cutter.new)
+        (SetsFormat (texts_in node.now unk.now bos.now eos.now)) }
+    ensures refused { (result ≢ 0) → TellsPlaced
+        (IsRefusal (cutter_in cutter.old) (λ _. IsSettingRefusal node.now unk.now bos.now eos.now))
+        (IsPlaceInTexts (four node.now unk.now bos.now eos.now))
+        (place_at part.old at.old) (place_at part.new at.new) result }
+    ensures kept { (result ≢ 0) → cutter_in cutter.new ≡ cutter_in cutter.old }
+    ensures unset { OnlyFaultsSet result (place_at part.old at.old) (place_at part.new at.new) }
 {
     let texts = Texts {
         node,
@@ -101,7 +118,8 @@ pub extern "C" fn kumquatsieve_set_grouping(
     code_told(cutter.call(alloc, |session| session.set_grouping(grouping)))
 }
 
-/// Cuts a line, which has no LF: `count` is the number of its words, and `total` what its path costs.
+/// Cuts a line, which has no LF: `count` is the number of its words, and `total` what its path costs. Of a refused one `at` is where
+/// its first LF stands, or the first byte that is not UTF-8, or its length, if it is too long.
 #[unsafe(no_mangle)]
 pub extern "C" fn kumquatsieve_cut(
     alloc: Global,
@@ -109,12 +127,13 @@ pub extern "C" fn kumquatsieve_cut(
     line: &[u8],
     count: &mut usize,
     total: &mut i64,
+    at: &mut usize,
 ) -> u32
-    ensures { TellsChange (cutter_in cutter.old) (cutter_in cutter.new)
-        (IsCutInto line.now (size_told count.new total.new)) (λ _. IsLineRefusal line.now) result }
+    ensures { TellsCut (cutter_in cutter.old) (cutter_in cutter.new) line.now IsLineRefusal
+        (size_told count.old total.old) (size_told count.new total.new) at.old at.new result }
 {
     let answer = cutter.call(alloc, |session| session.cut(line));
-    told_size(answer, count, total)
+    told_cut(answer, line, count, total, at)
 }
 
 /// The same of a text in which an LF is a character as others are.
@@ -125,12 +144,13 @@ pub extern "C" fn kumquatsieve_cut_text(
     text: &[u8],
     count: &mut usize,
     total: &mut i64,
+    at: &mut usize,
 ) -> u32
-    ensures { TellsChange (cutter_in cutter.old) (cutter_in cutter.new)
-        (IsCutInto text.now (size_told count.new total.new)) (λ _. IsTextRefusal text.now) result }
+    ensures { TellsCut (cutter_in cutter.old) (cutter_in cutter.new) text.now IsTextRefusal
+        (size_told count.old total.old) (size_told count.new total.new) at.old at.new result }
 {
     let answer = cutter.call(alloc, |session| session.cut_text(text));
-    told_size(answer, count, total)
+    told_cut(answer, text, count, total, at)
 }
 
 /// Gives back what a handle has, which is empty then.

@@ -8,20 +8,26 @@ ghost use Rattle.cutter_c.specs.Handles.{Fills, FillsFrom, IsFillRefusal, IsShar
 use crate::fault::CallFault;
 use crate::handle::Handle;
 use crate::session::Session;
+use cutter::DigestTest;
 use std::alloc::Global;
 
 /// Fills an empty handle with the cutter of a system's image.
-pub fn load(alloc: Global, cutter: &mut Handle, image: &[u8]) -> Result<(), CallFault>
+pub fn load(
+    alloc: Global,
+    cutter: &mut Handle,
+    image: &[u8],
+    digest: DigestTest,
+) -> Result<(), CallFault>
     ensures loaded { OnOk result
-        (Fills (cutter_in cutter.old) (cutter_in cutter.new) (IsLoadedFrom image.now)) }
+        (Fills (cutter_in cutter.old) (cutter_in cutter.new) (IsLoadedFrom digest image.now)) }
     ensures refused { IfErr result
-        (IsFillRefusal (cutter_in cutter.old) (IsLoadRefusal image.now)) }
+        (IsFillRefusal (cutter_in cutter.old) (IsLoadRefusal digest image.now)) }
     ensures kept { OnErr result (cutter_in cutter.new ≡ cutter_in cutter.old) }
 {
     if cutter.is_full() {
         return Err(CallFault::FullCutter);
     }
-    cutter.put(Session::load(alloc, image)?);
+    cutter.put(Session::load(alloc, image, digest)?);
     Ok(())
 }
 

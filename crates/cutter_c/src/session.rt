@@ -5,7 +5,7 @@ ghost use Rattle.cutter.specs.Faults.{IsLoadRefusal};
 ghost use Rattle.cutter.specs.declared.fault.CutFault.TheVariants.{Memory};
 ghost use Rattle.cutter_c.specs.Calls.{IsExtended, IsLoadedFrom, IsShared, IsUserFault};
 
-use cutter::{CutFault, Cutter};
+use cutter::{CutFault, Cutter, DigestTest};
 use std::alloc::Global;
 
 /// A cutter, and what was written last into its own buffer.
@@ -17,12 +17,13 @@ pub struct Session {
 
 impl Session {
     /// The session of a system's image, which is copied.
-    pub fn load(alloc: Global, image: &[u8]) -> Result<Box<Session>, CutFault>
-        ensures loaded { IfOk result (λ session. IsLoadedFrom image.now session.value.cutter) }
-        ensures refused { IfErr result (IsLoadRefusal image.now) }
+    pub fn load(alloc: Global, image: &[u8], digest: DigestTest) -> Result<Box<Session>, CutFault>
+        ensures loaded { IfOk result
+            (λ session. IsLoadedFrom digest image.now session.value.cutter) }
+        ensures refused { IfErr result (IsLoadRefusal digest image.now) }
     {
         let image = Vec::from_slice(alloc, image)?;
-        Session::of(alloc, Cutter::load(alloc, image)?)
+        Session::of(alloc, Cutter::load(alloc, image, digest)?)
     }
 
     /// The session of a cutter.
@@ -43,12 +44,18 @@ impl Session {
     }
 
     /// Lays a user's image, which is copied, over the dictionaries.
-    pub fn add_user(&mut self, alloc: Global, image: &[u8]) -> Result<(), CutFault>
-        ensures added { OnOk result (IsExtended image.now self.old.cutter self.new.cutter) }
-        ensures refused { IfErr result (IsUserFault image.now self.old.cutter) }
+    pub fn add_user(
+        &mut self,
+        alloc: Global,
+        image: &[u8],
+        digest: DigestTest,
+    ) -> Result<(), CutFault>
+        ensures added { OnOk result
+            (IsExtended digest image.now self.old.cutter self.new.cutter) }
+        ensures refused { IfErr result (IsUserFault digest image.now self.old.cutter) }
         ensures kept { OnErr result (self.new.cutter ≡ self.old.cutter) }
     {
         let image = Vec::from_slice(alloc, image)?;
-        self.cutter.add_user(image)
+        self.cutter.add_user(image, digest)
     }
 }

@@ -4,7 +4,8 @@ ghost use Rattle.std.specs.Prelude.{◌≡◌, IsUtf8, IfOk, IfErr, OnErr, OnOk}
 ghost use Rattle.std.specs.Str.{IsValidUpTo};
 ghost use Rattle.cutter.specs.Faults.{IsGroupingRefusal};
 ghost use Rattle.cutter_c.specs.Handles.{IsRefusal, Moves, cutter_in};
-ghost use Rattle.cutter_c.specs.Settings.{IsNoText, IsRefusedIn, IsRegrouped, SetsFormat, part_number, texts_lent};
+ghost use Rattle.cutter_c.specs.Outputs.{IsPlaceFor};
+ghost use Rattle.cutter_c.specs.Settings.{IsNoText, IsPlaceLent, IsRefusedIn, IsRegrouped, SetsFormat, part_number, place_at, texts_lent};
 
 use crate::fault::CallFault;
 use crate::handle::Handle;
@@ -38,6 +39,7 @@ fn text_of<'a>(
     ensures refused { IfErr result (IsNoText bytes.now) }
     ensures part { OnErr result (part.new ≡ number) }
     ensures place { OnErr result (IsValidUpTo bytes.now at.new) }
+    ensures unset { OnOk result (place_at part.new at.new ≡ place_at part.old at.old) }
 {
     match str::from_utf8(bytes) {
         Ok(text) => Ok(text),
@@ -59,7 +61,6 @@ pub struct Texts<'a> {
 }
 
 /// Sets the format by its four texts; of a refused one the number and a byte are told.
-#[tactic(auto, using(crate::proofs::SettingLemmas::third_refused, crate::proofs::SettingLemmas::fourth_refused))]
 fn set_texts(
     cutter: &mut Cutter,
     texts: Texts<'_>,
@@ -67,7 +68,10 @@ fn set_texts(
     at: &mut usize,
 ) -> Result<(), CutFault>
     ensures read { OnOk result (SetsFormat (texts_lent texts.entry) cutter.old cutter.new) }
-    ensures refused { IfErr result (IsRefusedIn texts.entry part.new at.new) }
+    ensures refused { IfErr result (IsRefusedIn texts.entry) }
+    ensures place { IfErr result (IsPlaceLent texts.entry
+        (place_at part.old at.old) (place_at part.new at.new)) }
+    ensures unset { OnOk result (place_at part.new at.new ≡ place_at part.old at.old) }
     ensures kept { OnErr result (cutter.new ≡ cutter.old) }
 {
     let node = text_of(texts.node, 0, part, at)?;
@@ -102,7 +106,10 @@ pub fn set_format(
     ensures read { OnOk result (Moves (cutter_in cutter.old) (cutter_in cutter.new)
         (SetsFormat (texts_lent texts.entry))) }
     ensures refused { IfErr result (IsRefusal (cutter_in cutter.old)
-        (λ _. IsRefusedIn texts.entry part.new at.new)) }
+        (λ _. IsRefusedIn texts.entry)) }
+    ensures place { IfErr result (IsPlaceFor (IsPlaceLent texts.entry)
+        (place_at part.old at.old) (place_at part.new at.new)) }
+    ensures unset { OnOk result (place_at part.new at.new ≡ place_at part.old at.old) }
     ensures kept { OnErr result (cutter_in cutter.new ≡ cutter_in cutter.old) }
 {
     let mut session = cutter.take(alloc).ok_or(CallFault::EmptyCutter)?;

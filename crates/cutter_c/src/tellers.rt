@@ -7,7 +7,8 @@ ghost use Rattle.cutter.specs.Faults.{IsNothingCut};
 ghost use Rattle.cutter_c.specs.Asked.{IsAskedRefusal, IsCopied, IsTold, NeedsMore, TellsCopied};
 ghost use Rattle.cutter_c.specs.declared.telling.Asked.TheVariants.{Feature as FeatureOf, Features as AllFeatures, Path as PathText};
 ghost use Rattle.cutter_c.specs.Handles.{IsRefusal, TellsCall, TellsLent, cutter_in, lent_at};
-ghost use Rattle.cutter_c.specs.TextLines.{TellsLines};
+ghost use Rattle.cutter_c.specs.Outputs.{OnlyOkSets};
+ghost use Rattle.cutter_c.specs.TextLines.{TellsLines, lines_told};
 ghost use Rattle.cutter_c.specs.Texts.{text_at};
 ghost use Rattle.cutter_c.specs.Words.{AreTold};
 
@@ -28,7 +29,8 @@ pub extern "C" fn kumquatsieve_print(
     count: &mut usize,
 ) -> u32
     ensures { TellsLent cutter.old.slot.value cutter.new.slot.value
-        (IsTold PathText) (IsAskedRefusal PathText) (lent_at text.new count.new) result }
+        (IsTold PathText) (IsAskedRefusal PathText)
+        (lent_at text.old count.old) (lent_at text.new count.new) result }
 {
     let answer = cutter.call(alloc, |session| session.lend(Asked::Path));
     told_lent(answer, text, count)
@@ -47,7 +49,7 @@ pub extern "C" fn kumquatsieve_cut_lines(
     lines: &mut u64,
 ) -> u32
     ensures { TellsLines cutter.old.slot.value cutter.new.slot.value text.now
-        (lent_at out.new count.new) lines.new result }
+        (lines_told out.old count.old lines.old) (lines_told out.new count.new lines.new) result }
 {
     code_told(cut_lines(alloc, cutter, text, out, count, lines))
 }
@@ -63,7 +65,7 @@ pub extern "C" fn kumquatsieve_feature(
 ) -> u32
     ensures { TellsLent cutter.old.slot.value cutter.new.slot.value
         (IsTold (FeatureOf number)) (IsAskedRefusal (FeatureOf number))
-        (lent_at feature.new count.new) result }
+        (lent_at feature.old count.old) (lent_at feature.new count.new) result }
 {
     let answer = cutter.call(alloc, |session| session.lend(Asked::Feature(number)));
     told_lent(answer, feature, count)
@@ -78,7 +80,8 @@ pub extern "C" fn kumquatsieve_features(
     count: &mut usize,
 ) -> u32
     ensures { TellsLent cutter.old.slot.value cutter.new.slot.value
-        (IsTold AllFeatures) (IsAskedRefusal AllFeatures) (lent_at features.new count.new) result }
+        (IsTold AllFeatures) (IsAskedRefusal AllFeatures)
+        (lent_at features.old count.old) (lent_at features.new count.new) result }
 {
     let answer = cutter.call(alloc, |session| session.lend(Asked::Features));
     told_lent(answer, features, count)
@@ -93,7 +96,7 @@ pub extern "C" fn kumquatsieve_copy_print(
     needed: &mut usize,
 ) -> u32
     ensures { TellsCopied (cutter_in cutter.old) (cutter_in cutter.new)
-        PathText needed.new out.old out.new result }
+        PathText needed.old needed.new out.old out.new result }
 {
     code_told(copy(alloc, cutter, Asked::Path, out, needed))
 }
@@ -108,7 +111,7 @@ pub extern "C" fn kumquatsieve_copy_feature(
     needed: &mut usize,
 ) -> u32
     ensures { TellsCopied (cutter_in cutter.old) (cutter_in cutter.new)
-        (FeatureOf number) needed.new out.old out.new result }
+        (FeatureOf number) needed.old needed.new out.old out.new result }
 {
     code_told(copy(alloc, cutter, Asked::Feature(number), out, needed))
 }
@@ -128,6 +131,7 @@ pub extern "C" fn kumquatsieve_words(
     ensures refused { (result ≢ 0)
         → TellsCall (IsRefusal (cutter_in cutter.old) IsNothingCut) result }
     ensures kept { (result ≢ 0) → out.new ≡ out.old }
+    ensures unset { OnlyOkSets result count.old count.new }
 {
     code_told(words(alloc, cutter, first, out, count))
 }

@@ -67,7 +67,7 @@ impl Session {
         ensures written { OnOk result
             (IsWritten (IsTold asked self.old.cutter) needed.new out.old out.new) }
         ensures refused { IfErr result
-            (IsCopyRefusal asked needed.new (length out.old) self.old.cutter) }
+            (IsCopyRefusal asked needed.old needed.new (length out.old) self.old.cutter) }
         ensures cutter { self.new.cutter ≡ self.old.cutter }
         ensures kept { OnErr result (out.new ≡ out.old) }
     {
@@ -100,6 +100,7 @@ impl Session {
 pub fn told_lent(answer: Result<Lent, CallFault>, at: &mut *const u8, count: &mut usize) -> u32
     ensures code { result ≡ told_code answer }
     ensures place { IfOk answer (λ lent. lent ≡ lent_at at.new count.new) }
+    ensures unset { OnErr answer (lent_at at.new count.new ≡ lent_at at.old count.old) }
 {
     match answer {
         Ok(
@@ -128,7 +129,7 @@ pub fn copy(
         (λ h. IsWritten (IsTold asked h) needed.new out.old out.new)) }
     ensures cutter { cutter_in cutter.new ≡ cutter_in cutter.old }
     ensures refused { IfErr result
-        (IsCopyFault (cutter_in cutter.old) asked needed.new (length out.old)) }
+        (IsCopyFault (cutter_in cutter.old) asked needed.old needed.new (length out.old)) }
     ensures kept { OnErr result (out.new ≡ out.old) }
 {
     let mut session = cutter.take(alloc).ok_or(CallFault::EmptyCutter)?;

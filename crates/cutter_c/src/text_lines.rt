@@ -2,8 +2,8 @@
 
 ghost use Rattle.std.specs.Prelude.{◌≡◌, None, OnOk, IfErr};
 ghost use Rattle.cutter.specs.TextLines.{ShowsLines, StopsFor};
-ghost use Rattle.cutter_c.specs.Handles.{cutter_in, lent_at};
-ghost use Rattle.cutter_c.specs.TextLines.{IsLinesRefusal, LendsLines, forgets};
+ghost use Rattle.cutter_c.specs.Handles.{cutter_in};
+ghost use Rattle.cutter_c.specs.TextLines.{IsLinesRefusal, LendsLines, forgets, lines_told};
 
 use crate::fault::CallFault;
 use crate::handle::Handle;
@@ -47,10 +47,10 @@ pub fn cut_lines(
 ) -> Result<(), CallFault>
     ensures printed { OnOk result
         (LendsLines (cutter_in cutter.old) cutter.new.slot.value text.now
-        (lent_at out.new count.new) lines.new) }
+        (lines_told out.new count.new lines.new)) }
     ensures stopped { IfErr result
         (IsLinesRefusal (cutter_in cutter.old) cutter.new.slot.value text.now
-        (lent_at out.new count.new) lines.new) }
+        (lines_told out.old count.old lines.old) (lines_told out.new count.new lines.new)) }
     ensures cutter { cutter_in cutter.new ≡ forgets (cutter_in cutter.old) }
 {
     let mut session = cutter.take(alloc).ok_or(CallFault::EmptyCutter)?;

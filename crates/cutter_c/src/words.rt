@@ -106,6 +106,7 @@ fn tell_words(
         (OfCut cutter.now (AreTold cutter.now first count.new out.old out.new)) }
     ensures none { IfErr result (IsNothingCut cutter.now) }
     ensures kept { OnErr result (out.new ≡ out.old) }
+    ensures unset { OnErr result (count.new ≡ count.old) }
 {
     let last = cutter.last_words()?;
     *count = last.words.len();
@@ -128,6 +129,7 @@ pub fn words(
     ensures cutter { cutter_in cutter.new ≡ cutter_in cutter.old }
     ensures refused { IfErr result (IsRefusal (cutter_in cutter.old) IsNothingCut) }
     ensures kept { OnErr result (out.new ≡ out.old) }
+    ensures unset { OnErr result (count.new ≡ count.old) }
 {
     let session = cutter.take(alloc).ok_or(CallFault::EmptyCutter)?;
     let answer = tell_words(&session.cutter, first, out, count);

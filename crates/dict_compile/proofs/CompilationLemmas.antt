@@ -105,7 +105,7 @@ pub is_compilation : (s : Sources) (parts : SourceParts) (c : Compiled) → AreP
 is_compilation s parts c h fit is = record {
   have = have_tables s parts h fit is.ordered is.in_order (image_tables c.image.items) is.image.tables;
   compiled = record {
-    well_formed = is.image.well_formed;
+    intact = is.image.intact;
     layout = is.image.layout;
     few_features = subst (λ (ts : List Token). feature_bytes ts < feature_bytes_end) (sym (tokens_are s parts h fit is.ordered is.in_order (image_tables c.image.items) is.image.tables)) is.image.few_features;
     all_entries = is.entries ∙ as_many parts is.ordered (image_lexicon c.image.items) is.in_order is.image.tables.lexicon;

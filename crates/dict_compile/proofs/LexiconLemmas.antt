@@ -1,60 +1,85 @@
 -- Lexicons read one after another.
-use Rattle.std.proofs.Common.{◌≡◌, ℕ, suc, ◌+◌, ◌<◌, ◌≤◌, List, [], ◌∷◌, length, map, drop, get_or, Bor, inl, inr, take_all, refl, sym, ap, ◌∙◌, subst, arith, drop-cons, drop_of_length-le}
+use Rattle.std.proofs.Common.{◌≡◌, ℕ, ◌+◌, ◌<◌, ◌≤◌, List, [], ◌∷◌, ◌++◌, length, map, drop, take, get_or, Bor, inl, inr, take_all, refl, sym, ap, ◌∙◌, subst, append_assoc}
+use Rattle.std.proofs.lemmas.List.{append-nil, map-append, take-append-drop}
 use Rattle.std.specs.Prelude.{None, Result, Ok, Err}
 use Rattle.mj_model.specs.declared.source_fault.SourceFault.{SourceFault}
 use Rattle.mj_model.specs.declared.matrix_sizes.MatrixSizes.{MatrixSizes}
 use Rattle.mj_model.specs.Dictionary.{first_outside, next_file, AreLexicons}
 use Rattle.mj_model.specs.FirstFault.{IsRefusal}
 use Rattle.mj_model.specs.Lexicon.{Row, SkipLines, SkipsLines}
-use Rattle.dict_compile.proofs.SkipLemmas.{bytes_before, skips_more, skips_of}
+use Rattle.dict_compile.proofs.SkipLemmas.{before_more, bytes_before, skips_more, skips_of}
+use Rattle.dict_compile.proofs.StepLemmas.{steps_push}
+use Rattle.dict_compile.specs.Steps.{AreLexiconSteps}
+use Rattle.dict_compile.specs.declared.watch.Step.{Step}
+use Rattle.dict_compile.specs.declared.watch.Step.TheVariants.{LexiconRead}
 use Rattle.lex_source.specs.AddedLexicon.{AddsLexicon, IsLexiconFault}
 use Rattle.lex_source.specs.Lexicons.{LexiconRows}
 
--- ---- the lexicons that are left
+-- ---- a lexicon between those before it and those behind it
 
 abbrev bytes_left : List (Bor (List ℕ)) → ℕ → List (List ℕ)
 bytes_left lexicons i = map (λ (lexicon : Bor (List ℕ)). lexicon.now) (drop i lexicons)
 
-left_parts : (lexicons : List (Bor (List ℕ))) (i : ℕ) (d : Bor (List ℕ)) → i < length lexicons → bytes_left lexicons i ≡ (get_or lexicons i d).now ∷ bytes_left lexicons (i + 1)
-left_parts lexicons i d low =
-    ap (map (λ (lexicon : Bor (List ℕ)). lexicon.now)) (drop-cons lexicons i d low ∙ ap (λ n. get_or lexicons i d ∷ drop n lexicons) {x = suc i} {y = i + 1} (omega arith))
+all_bytes : (lexicons : List (Bor (List ℕ))) (i : ℕ) → bytes_before lexicons i ++ bytes_left lexicons i ≡ map (λ (lexicon : Bor (List ℕ)). lexicon.now) lexicons
+all_bytes lexicons i =
+    sym (map-append (λ (lexicon : Bor (List ℕ)). lexicon.now) (take i lexicons) (drop i lexicons)) ∙ ap (map (λ (lexicon : Bor (List ℕ)). lexicon.now)) (take-append-drop i lexicons)
+
+-- as any further lexicons read behind the rows so far, so all read together
+abbrev pub ReadOn : MatrixSizes → ℕ → List Row → List (List ℕ) → Type 0
+ReadOn sizes file rows before =
+    (more : List (List ℕ)) (read : Result (List Row) SourceFault) → AreLexicons sizes file rows more read → AreLexicons sizes 3 [] (before ++ more) read
+
+-- the lexicons so far read as their rows
+lexicons_so_far : (sizes : MatrixSizes) (file : ℕ) (rows : List Row) (before : List (List ℕ)) → ReadOn sizes file rows before → AreLexicons sizes 3 [] before (Ok rows)
+lexicons_so_far sizes file rows before so_far = subst (λ bs. AreLexicons sizes 3 [] bs (Ok rows)) (append-nil before) (so_far [] (Ok rows) refl)
 
 module _ (sizes : MatrixSizes) (file : ℕ) (lexicons : List (Bor (List ℕ))) (i : ℕ) (d : Bor (List ℕ)) (low : i < length lexicons) (old : LexiconRows) (same : old.sizes ≡ sizes)
-    (so_far : (read : Result (List Row) SourceFault) → AreLexicons sizes file old.rows (bytes_left lexicons i) read
-    → AreLexicons sizes 3 [] (map (λ (lexicon : Bor (List ℕ)). lexicon.now) lexicons) read) where
-  first_apart : (read : Result (List Row) SourceFault) → AreLexicons sizes file old.rows ((get_or lexicons i d).now ∷ bytes_left lexicons (i + 1)) read
-      → AreLexicons sizes 3 [] (map (λ (lexicon : Bor (List ℕ)). lexicon.now) lexicons) read
-  first_apart read h = so_far read (subst (λ bs. AreLexicons sizes file old.rows bs read) (sym (left_parts lexicons i d low)) h)
+    (so_far : ReadOn sizes file old.rows (bytes_before lexicons i)) where
+  first_apart : (more : List (List ℕ)) (read : Result (List Row) SourceFault) → AreLexicons sizes file old.rows ((get_or lexicons i d).now ∷ more) read
+      → AreLexicons sizes 3 [] (bytes_before lexicons (i + 1) ++ more) read
+  first_apart more read h =
+      let joined : bytes_before lexicons (i + 1) ++ more ≡ bytes_before lexicons i ++ (get_or lexicons i d).now ∷ more =
+      ap (λ (bs : List (List ℕ)). bs ++ more) (before_more lexicons i d low) ∙ append_assoc (bytes_before lexicons i) ((get_or lexicons i d).now ∷ []) more in
+      subst (λ bs. AreLexicons sizes 3 [] bs read) (sym joined) (so_far ((get_or lexicons i d).now ∷ more) read h)
 
   within : (rows : List Row) → first_outside file old.sizes rows ≡ None → first_outside file sizes rows ≡ None
   within rows h = ap (λ (s : MatrixSizes). first_outside file s rows) (sym same) ∙ h
 
   pub lexicons_more : (new : LexiconRows) (skipped next : ℕ) → next ≡ next_file file → AddsLexicon file (get_or lexicons i d).now old new skipped
-      → (read : Result (List Row) SourceFault) → AreLexicons sizes next new.rows (bytes_left lexicons (i + 1)) read
-      → AreLexicons sizes 3 [] (map (λ (lexicon : Bor (List ℕ)). lexicon.now) lexicons) read
-  lexicons_more new skipped next e a read h =
-      first_apart read (inr (inr (
+      → ReadOn sizes next new.rows (bytes_before lexicons (i + 1))
+  lexicons_more new skipped next e a = λ more read h.
+      first_apart more read (inr (inr (
         a.lines,
         a.reads,
         within a.lines.rows a.within,
-        subst (λ rows. AreLexicons sizes (next_file file) rows (bytes_left lexicons (i + 1)) read) a.added
-            (subst (λ n. AreLexicons sizes n new.rows (bytes_left lexicons (i + 1)) read) e h),
+        subst (λ rows. AreLexicons sizes (next_file file) rows more read) a.added (subst (λ n. AreLexicons sizes n new.rows more read) e h),
       )))
+
+  pub steps_more : (new : LexiconRows) (skipped next : ℕ) → next ≡ next_file file → AddsLexicon file (get_or lexicons i d).now old new skipped
+      → (steps : List Step) → AreLexiconSteps sizes (bytes_before lexicons i) steps → AreLexiconSteps sizes (bytes_before lexicons (i + 1)) (steps ++ LexiconRead (length new.rows) ∷ [])
+  steps_more new skipped next e a steps h =
+      let joined = before_more lexicons i d low in
+      let read = lexicons_so_far sizes next new.rows (bytes_before lexicons (i + 1)) (lexicons_more new skipped next e a) in
+      subst (λ ls. AreLexiconSteps sizes ls (steps ++ LexiconRead (length new.rows) ∷ [])) (sym joined)
+      (steps_push sizes (bytes_before lexicons i) (get_or lexicons i d).now steps new.rows h (subst (λ ls. AreLexicons sizes 3 [] ls (Ok new.rows)) joined read))
 
   pub lexicons_fault : (fault : SourceFault) → IsRefusal fault (IsLexiconFault file (get_or lexicons i d).now old fault)
       → IsRefusal fault (AreLexicons sizes 3 [] (map (λ (lexicon : Bor (List ℕ)). lexicon.now) lexicons) (Err fault))
   lexicons_fault fault (inl memory) = inl memory
-  lexicons_fault fault (inr (inl lines)) = inr (first_apart (Err fault) (inl (fault, lines, refl)))
+  lexicons_fault fault (inr (inl lines)) =
+      inr (subst (λ bs. AreLexicons sizes 3 [] bs (Err fault)) (all_bytes lexicons (i + 1)) (first_apart (bytes_left lexicons (i + 1)) (Err fault) (inl (fault, lines, refl))))
   lexicons_fault fault (inr (inr ids)) =
-      inr (first_apart (Err fault) (inr (inl (ids.0, fault, ids.1, ap (λ (s : MatrixSizes). first_outside file s ids.0.rows) (sym same) ∙ ids.2, refl))))
+      inr (subst (λ bs. AreLexicons sizes 3 [] bs (Err fault)) (all_bytes lexicons (i + 1)) (first_apart (bytes_left lexicons (i + 1)) (Err fault)
+      (inr (inl (ids.0, fault, ids.1, ap (λ (s : MatrixSizes). first_outside file s ids.0.rows) (sym same) ∙ ids.2, refl)))))
 
 -- no lexicon is left
-pub lexicons_end : (sizes : MatrixSizes) (file : ℕ) (lexicons : List (Bor (List ℕ))) (i : ℕ) (rows : List Row) → length lexicons ≤ i
-    → ((read : Result (List Row) SourceFault) → AreLexicons sizes file rows (bytes_left lexicons i) read
-    → AreLexicons sizes 3 [] (map (λ (lexicon : Bor (List ℕ)). lexicon.now) lexicons) read)
+pub all_before : (lexicons : List (Bor (List ℕ))) (i : ℕ) → length lexicons ≤ i → bytes_before lexicons i ≡ map (λ (lexicon : Bor (List ℕ)). lexicon.now) lexicons
+all_before lexicons i all = ap (map (λ (lexicon : Bor (List ℕ)). lexicon.now)) (take_all i lexicons all)
+
+pub lexicons_end : (sizes : MatrixSizes) (file : ℕ) (lexicons : List (Bor (List ℕ))) (i : ℕ) (rows : List Row) → length lexicons ≤ i → ReadOn sizes file rows (bytes_before lexicons i)
     → AreLexicons sizes 3 [] (map (λ (lexicon : Bor (List ℕ)). lexicon.now) lexicons) (Ok rows)
 lexicons_end sizes file lexicons i rows all so_far =
-    so_far (Ok rows) (subst (λ ls. AreLexicons sizes file rows (map (λ (lexicon : Bor (List ℕ)). lexicon.now) ls) (Ok rows)) (sym (drop_of_length-le lexicons all)) refl)
+    subst (λ bs. AreLexicons sizes 3 [] bs (Ok rows)) (all_before lexicons i all) (lexicons_so_far sizes file rows (bytes_before lexicons i) so_far)
 
 -- a lexicon that was added is one more that skips lines
 pub added_skips : (file : ℕ) (lexicons : List (Bor (List ℕ))) (i : ℕ) (d : Bor (List ℕ)) → i < length lexicons → (old new : LexiconRows) (skipped n : ℕ)

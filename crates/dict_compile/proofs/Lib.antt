@@ -10,6 +10,7 @@ pub mod SkipLemmas
 pub mod SourceLemmas
 pub mod ConnectionLemmas
 pub mod LexiconLemmas
+pub mod StepLemmas
 pub mod TextFields
 pub mod AcceptedTexts
 pub mod CoveredSources

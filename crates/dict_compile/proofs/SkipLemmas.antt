@@ -37,10 +37,15 @@ skips_push lexicons bytes skipped n h s =
 abbrev pub bytes_before : List (Bor (List ℕ)) → ℕ → List (List ℕ)
 bytes_before lexicons i = map (λ (lexicon : Bor (List ℕ)). lexicon.now) (take i lexicons)
 
+-- one lexicon more
+pub before_more : (lexicons : List (Bor (List ℕ))) (i : ℕ) (d : Bor (List ℕ)) → i < length lexicons
+    → bytes_before lexicons (i + 1) ≡ bytes_before lexicons i ++ (get_or lexicons i d).now ∷ []
+before_more lexicons i d low =
+    ap (map (λ (lexicon : Bor (List ℕ)). lexicon.now)) (take_more lexicons i d low)
+    ∙ map-append (λ (lexicon : Bor (List ℕ)). lexicon.now) (take i lexicons) (get_or lexicons i d ∷ [])
+
 -- the lexicons so far skip this many lines, and one more skips some
 pub skips_more : (lexicons : List (Bor (List ℕ))) (i : ℕ) (d : Bor (List ℕ)) (skipped n : ℕ) → i < length lexicons
     → SkipLines (bytes_before lexicons i) skipped → SkipsLines (get_or lexicons i d).now n → SkipLines (bytes_before lexicons (i + 1)) (skipped + n)
 skips_more lexicons i d skipped n low h s =
-    subst (λ ls. SkipLines ls (skipped + n))
-    (sym (ap (map (λ (lexicon : Bor (List ℕ)). lexicon.now)) (take_more lexicons i d low) ∙ map-append (λ (lexicon : Bor (List ℕ)). lexicon.now) (take i lexicons) (get_or lexicons i d ∷ [])))
-    (skips_push (bytes_before lexicons i) (get_or lexicons i d).now skipped n h s)
+    subst (λ ls. SkipLines ls (skipped + n)) (sym (before_more lexicons i d low)) (skips_push (bytes_before lexicons i) (get_or lexicons i d).now skipped n h s)

@@ -50,7 +50,7 @@ module _ (sizes : MatrixSizes) (system : Tables) (is : IsSystemOf sizes system) 
           is_system = is.kind;
           have = have_user (image_tables c.image.items) i.ordered i.in_order i.image.kind (i.image.sizes_kept ∙ kept) i.image.lexicon;
           compiled = record {
-            well_formed = i.image.well_formed;
+            intact = i.image.intact;
             layout = i.image.layout;
             few_features = subst (λ (ts : List Token). feature_bytes ts < feature_bytes_end) (sym tokens) i.image.few_features;
             all_entries = i.entries ∙ omega (arith, b, n, d);

@@ -10,7 +10,7 @@ use Rattle.mj_model.specs.declared.matrix_sizes.MatrixSizes.{MatrixSizes}
 use Rattle.mj_model.specs.Dictionary.{AreLexicons, IsLexiconOf}
 use Rattle.image_bytes.specs.ImageBounds.{cells_max, feature_bytes, feature_bytes_end, lexicon_tokens, most_cells, system_tokens}
 use Rattle.image_bytes.specs.ImageBytes.{header_of}
-use Rattle.image_bytes.specs.ImageFaults.{IsWellFormed}
+use Rattle.image_bytes.specs.ImageFaults.{IsIntact}
 use Rattle.image_bytes.specs.ImageMeaning.{image_tables, image_lexicon, image_categories}
 use Rattle.mj_model.specs.Lexicon.{Row, SkipLines}
 use Rattle.mj_model.specs.SourceTables.{HaveTables, AreChars, IsSourcesFault, lexicon_bytes}
@@ -20,7 +20,7 @@ use Rattle.mj_model.specs.Tables.{Tables, Token, Lexeme, System, User}
 
 -- an image of layout 3 that has these tokens, with how many entries its lexicon has and how many lines were skipped
 pub record IsCompiled (tokens : List Token) (lexicons : List (List ℕ)) (image : List ℕ) (entries skipped : ℕ) : Type 0 where
-  pub well_formed : IsWellFormed image
+  pub intact : IsIntact image
   pub layout : (header_of image).layout ≡ 3
   pub few_features : feature_bytes tokens < feature_bytes_end
   pub all_entries : entries ≡ length (image_lexicon image)

@@ -8,3 +8,4 @@ pub mod UserImages
 pub mod EveryKey
 pub mod Parts
 pub mod OtherSources
+pub mod Steps

@@ -1,12 +1,14 @@
 //! The compilation of a system dictionary.
 
-ghost use Rattle.std.specs.Prelude.{IfOk, IfErr};
+ghost use Rattle.std.specs.Prelude.{◌++◌, List, IfOk, IfErr};
 ghost use Rattle.mj_model.specs.declared.source_fault.SourceFault.{SourceFault as FaultOf};
 ghost use Rattle.dict_compile.specs.Compilation.{IsCompilation, IsCompilationCause, IsCompilationFault};
 ghost use Rattle.mj_model.specs.FirstFault.{IsRefusal};
 ghost use Rattle.image_bytes.specs.ImageMeaning.{image_tables};
 ghost use Rattle.dict_compile.specs.Answers.{IsRefusedFor};
 ghost use Rattle.dict_compile.specs.EveryKey.{AnswersKeysOfSources};
+ghost use Rattle.dict_compile.specs.Steps.{AreSteps};
+ghost use Rattle.dict_compile.specs.declared.watch.Step.{Step as StepOf};
 
 use crate::compiled::Compiled;
 use crate::parts::read_sources;
@@ -48,6 +50,9 @@ pub fn compile_watched<W: Watch>(
     // Sources at fault are refused with their first fault, want of memory and of cells aside.
     ensures first { (fault : FaultOf) → IsCompilationFault sources.now fault
         → IsRefusedFor fault result }
+    // Whoever watches is told all steps, each of them once and in their order.
+    ensures steps { (before : List StepOf) → W.told watch.old before → IfOk result (λ _.
+        (steps : List StepOf) × AreSteps sources.now steps × W.told watch.new (before ++ steps)) }
 {
     let parts = read_sources(alloc, sources, watch)?;
     system_image(alloc, parts, watch)

@@ -1,6 +1,6 @@
 //! The compilation of a system dictionary whose connection costs were read before.
 
-ghost use Rattle.std.specs.Prelude.{ℕ, List, IfOk, IfErr};
+ghost use Rattle.std.specs.Prelude.{ℕ, ◌++◌, List, IfOk, IfErr};
 ghost use Rattle.std.specs.Borrow.{Bor};
 ghost use Rattle.image_bytes.specs.ImageMeaning.{image_tables};
 ghost use Rattle.matrix_def.specs.Costs.{IsTableIn};
@@ -10,6 +10,8 @@ ghost use Rattle.dict_compile.specs.Answers.{IsRefusedFor};
 ghost use Rattle.dict_compile.specs.Compilation.{IsCompilation, IsCompilationCause, IsCompilationFault};
 ghost use Rattle.dict_compile.specs.EveryKey.{AnswersKeysOfSources};
 ghost use Rattle.dict_compile.specs.OtherSources.{sources_with};
+ghost use Rattle.dict_compile.specs.Steps.{AreSteps};
+ghost use Rattle.dict_compile.specs.declared.watch.Step.{Step as StepOf};
 
 use crate::compiled::Compiled;
 use crate::parts::read_others;
@@ -46,6 +48,11 @@ pub fn compile_others_watched<W: Watch>(
     // Sources at fault are refused with their first fault, want of memory and of cells aside.
     ensures first { (costs : Bor (List ℕ)) → IsTableIn costs.now matrix → (fault : FaultOf)
         → IsCompilationFault (sources_with costs others.now) fault → IsRefusedFor fault result }
+    // Whoever watches is told all steps, each of them once and in their order.
+    ensures steps { (costs : Bor (List ℕ)) → IsTableIn costs.now matrix
+        → (before : List StepOf) → W.told watch.old before → IfOk result (λ _.
+        (steps : List StepOf) × AreSteps (sources_with costs others.now) steps
+        × W.told watch.new (before ++ steps)) }
 {
     let parts = read_others(alloc, matrix, others, watch)?;
     system_image(alloc, parts, watch)

@@ -1,12 +1,15 @@
 //! All sources together.
 
-ghost use Rattle.std.specs.Prelude.{ℕ, List, IfOk, IfErr};
+ghost use Rattle.std.specs.Prelude.{ℕ, ◌++◌, List, IfOk, IfErr};
 ghost use Rattle.std.specs.Borrow.{Bor};
 ghost use Rattle.mj_model.specs.FirstFault.{IsRefusal};
 ghost use Rattle.mj_model.specs.SourceTables.{IsSourcesFault};
 ghost use Rattle.matrix_def.specs.Costs.{IsTableIn};
 ghost use Rattle.dict_compile.specs.OtherSources.{sources_with};
+ghost use Rattle.dict_compile.specs.Answers.{lexicons_of};
 ghost use Rattle.dict_compile.specs.Parts.{AreParts, FitTogether};
+ghost use Rattle.dict_compile.specs.Steps.{AreReadingSteps};
+ghost use Rattle.dict_compile.specs.declared.watch.Step.{Step as StepOf};
 
 use crate::lexicons::read_lexicons;
 use crate::other_sources::OtherSources;
@@ -38,6 +41,9 @@ pub(crate) fn read_sources<'a, W: Watch>(
     ensures accepted { IfOk result (AreParts sources.now) }
     ensures fitting { IfOk result FitTogether }
     ensures refused { IfErr result (λ fault. IsRefusal fault (IsSourcesFault sources.now fault)) }
+    ensures steps { (before : List StepOf) → W.told watch.old before → IfOk result (λ parts.
+        (steps : List StepOf) × AreReadingSteps (lexicons_of sources.now.lexicons.now) parts steps
+        × W.told watch.new (before ++ steps)) }
 {
     let matrix = read_matrix(alloc, sources.matrix)?;
     let others = OtherSources {
@@ -61,6 +67,9 @@ pub(crate) fn read_others<'a, W: Watch>(
     ensures refused { (costs : Bor (List ℕ)) → IsTableIn costs.now matrix
         → IfErr result (λ fault. IsRefusal fault
         (IsSourcesFault (sources_with costs others.now) fault)) }
+    ensures steps { (before : List StepOf) → W.told watch.old before → IfOk result (λ parts.
+        (steps : List StepOf) × AreReadingSteps (lexicons_of others.now.lexicons.now) parts steps
+        × W.told watch.new (before ++ steps)) }
 {
     let sizes = matrix.sizes();
     watch.done(Step::MatrixRead(sizes));

@@ -1,8 +1,10 @@
 //! The image of what sources say.
 
-ghost use Rattle.std.specs.Prelude.{IfOk, IfErr};
+ghost use Rattle.std.specs.Prelude.{◌++◌, List, [], ◌∷◌, length, OnOk, IfOk, IfErr};
 ghost use Rattle.dict_compile.specs.Images.{IsImageOf, IsImageRefusal};
 ghost use Rattle.dict_compile.specs.Parts.{FitTogether};
+ghost use Rattle.dict_compile.specs.declared.watch.Step.{Step as StepOf};
+ghost use Rattle.dict_compile.specs.declared.watch.Step.TheVariants.{Sorted};
 
 use crate::compiled::Compiled;
 use crate::fault::of_image;
@@ -21,6 +23,8 @@ pub(crate) fn system_image<W: Watch>(
     requires { FitTogether parts }
     ensures image { IfOk result (IsImageOf parts.entry) }
     ensures refused { IfErr result (IsImageRefusal parts.entry) }
+    ensures steps { (before : List StepOf) → W.told watch.old before → OnOk result
+        (W.told watch.new (before ++ Sorted (length parts.entry.lexicon.rows) ∷ [])) }
 {
     let entries = parts.lexicon.len() as u64;
     let lexicon = parts.lexicon.sorted()?;

@@ -1,8 +1,10 @@
 //! The image of what the lexicons of a user dictionary say.
 
-ghost use Rattle.std.specs.Prelude.{IfOk, IfErr};
+ghost use Rattle.std.specs.Prelude.{◌++◌, List, [], ◌∷◌, length, OnOk, IfOk, IfErr};
 ghost use Rattle.mj_model.specs.Connection.{AreMatrixSizes};
 ghost use Rattle.dict_compile.specs.UserImages.{IsUserImageOf, IsUserImageRefusal};
+ghost use Rattle.dict_compile.specs.declared.watch.Step.{Step as StepOf};
+ghost use Rattle.dict_compile.specs.declared.watch.Step.TheVariants.{Sorted};
 
 use crate::compiled::Compiled;
 use crate::fault::of_image;
@@ -21,6 +23,8 @@ pub(crate) fn user_image<W: Watch>(
     requires { AreMatrixSizes read.lexicon.sizes }
     ensures image { IfOk result (IsUserImageOf read.entry) }
     ensures refused { IfErr result (IsUserImageRefusal read.entry) }
+    ensures steps { (before : List StepOf) → W.told watch.old before → OnOk result
+        (W.told watch.new (before ++ Sorted (length read.entry.lexicon.rows) ∷ [])) }
 {
     let entries = read.lexicon.len() as u64;
     let lexicon = read.lexicon.sorted()?;

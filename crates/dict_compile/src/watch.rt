@@ -1,5 +1,8 @@
 //! What a compilation has done so far, for whoever watches it.
 
+ghost use Rattle.std.specs.Prelude.{List, [], ◌∷◌, ◌++◌};
+ghost use Rattle.dict_compile.specs.declared.watch.Step.{Step as StepOf};
+
 use mj_model::MatrixSizes;
 
 /// A step of a compilation that is done.
@@ -19,7 +22,12 @@ pub enum Step {
 
 /// Who watches a compilation, and is told each step as soon as it is done.
 pub trait Watch {
-    fn done(&mut self, step: Step);
+    /// It was told these steps, in this order.
+    ghost told: { Self → List StepOf → Type 0 };
+
+    fn done(&mut self, step: Step)
+        ensures { (steps : List StepOf) → told self.old steps
+            → told self.new (steps ++ step ∷ []) };
 }
 
 /// Nobody watches.
@@ -27,5 +35,7 @@ pub trait Watch {
 pub(crate) struct Unwatched {}
 
 impl Watch for Unwatched {
+    ghost told = { λ _ _. Unit {0} };
+
     fn done(&mut self, _step: Step) {}
 }

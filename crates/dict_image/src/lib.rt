@@ -30,5 +30,6 @@ pub use entries::Entries;
 pub use entry_ref::EntryRef;
 pub use hits::Prefixes;
 pub use ids_and_cost::IdsAndCost;
-pub use loading::{load, load_written};
+pub use image_bytes::DigestTest;
+pub use loading::{load, load_by, load_without_digest, load_written};
 pub use token_row::TokenRow;

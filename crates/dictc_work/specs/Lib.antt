@@ -1,1 +1,2 @@
 pub mod MatrixFiles
+pub mod ToldSteps

@@ -8,6 +8,7 @@ use command_lines::dictc::{Base, Options};
 use dict_compile::{
     CompileUserFault, Compiled, OtherSources, compile_others_watched, compile_user_watched,
 };
+use dict_image::{Dict, DigestTest};
 use mj_model::{OverlayFault, SourceFault};
 use programs::{
     Fault, Narrator, SourceFiles, Stage, WholeFile, dictionary_at, lexicon_path, read_files, texts,
@@ -66,7 +67,11 @@ fn compile_files(
             files.say(narrator, costs.bytes, &costs.first);
             compile_sources(rt.alloc(), costs, &files, narrator)
         }
-        Base::System(dic) => compile_user_files(rt, dic.as_str(), &options.lexicons, narrator),
+        Base::System { dic, skip_digest } => {
+            let system = dictionary_at(rt, dic.as_str(), DigestTest::skipped_if(*skip_digest))?;
+            narrator.say(Stage::Loaded { path: dic.as_str() });
+            compile_user_files(rt, (dic.as_str(), &system), &options.lexicons, narrator)
+        }
     }
 }
 
@@ -105,15 +110,13 @@ fn compile_others(
     compile_others_watched(alloc, costs.matrix()?, others, &mut teller)
 }
 
-/// Compiles a user dictionary for the system dictionary at a path.
+/// Compiles a user dictionary for the system dictionary that was loaded from a path.
 fn compile_user_files(
     rt: &HostRuntime,
-    dic: &str,
+    (dic, system): (&str, &Dict),
     lexicons: &[String],
     narrator: &Narrator<'_>,
 ) -> Result<Compiled, Fault> {
-    let system = dictionary_at(rt, dic)?;
-    narrator.say(Stage::Loaded { path: dic });
     let files = read_files(rt, lexicons)?;
     for file in &files {
         narrator.say_source(file);
@@ -123,7 +126,7 @@ fn compile_user_files(
         lexicons: texts.len(),
     });
     let mut teller = StepTeller::new(narrator, &files);
-    compile_user_watched(rt.alloc(), &system, &texts, &mut teller).map_err(|fault| match fault {
+    compile_user_watched(rt.alloc(), system, &texts, &mut teller).map_err(|fault| match fault {
         CompileUserFault::NotSystem => Fault::of_overlay(rt.alloc(), dic, OverlayFault::NotSystem),
         CompileUserFault::Source(fault) => {
             Fault::of_source(rt.alloc(), lexicon_path(&files, fault.file), fault)

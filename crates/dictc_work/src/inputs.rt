@@ -24,7 +24,7 @@ fn loses_an_input(rt: &HostRuntime, options: &Options) -> bool {
         Base::Definitions { matrix, chars, unk } => {
             is_same(rt, matrix, out) || is_same(rt, chars, out) || is_same(rt, unk, out)
         }
-        Base::System(dic) => is_same(rt, dic, out),
+        Base::System { dic, .. } => is_same(rt, dic, out),
     };
     is_base || options.lexicons.iter().any(|path| is_same(rt, path, out))
 }

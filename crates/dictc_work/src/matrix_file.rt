@@ -1,21 +1,26 @@
 //! A `matrix.def` that is read to its end, and of whose bytes none are kept.
 
-ghost use Rattle.std.specs.Prelude.{◌≡◌, ℕ, List, Err, IfOk, IfErr};
-ghost use Rattle.dictc_work.specs.MatrixFiles.{HasTaken};
+ghost use Rattle.std.specs.Prelude.{◌≡◌, ℕ, List, [], Err, IfOk, IfErr, IfSome};
+ghost use Rattle.std.specs.Io.KnownBytes.{IsAtEnd};
+ghost use Rattle.dictc_work.specs.MatrixFiles.{HasTaken, IsOfAFile};
 ghost use Rattle.matrix_def.specs.Costs.{IsTableIn};
-ghost use Rattle.mj_model.specs.Connection.{connection_of};
+ghost use Rattle.matrix_def.specs.Reading.{told_connection};
+ghost use Rattle.programs.specs.Faults.{Names};
+ghost use Rattle.programs.specs.declared.fault.Fault.TheVariants.{File};
 ghost use Rattle.mj_model.specs.FirstFault.{IsRefusal};
 
 use matrix_def::{Matrix, MatrixReader};
 use mj_model::{READS_MAX, SourceFault};
-use programs::{Fault, Pieces, ReadFault, read_into};
+use programs::{Fault, Pieces, read_into};
 use std::alloc::{AllocError, Global};
 use std::fs;
+use std::io::Read;
+use std::rt::Files;
 
 /// How many bytes show whether a file begins with a byte order mark.
 const FIRST_MAX: usize = 3;
 
-/// What was read of a `matrix.def`: what its bytes say, how many they are, and the first three of them.
+/// What was read of a `matrix.def`: what its bytes say, how many they are as far as a `usize` counts, and the first three of them.
 #[derive(Drop)]
 pub struct MatrixFile {
     pub reader: MatrixReader,
@@ -36,7 +41,7 @@ impl Pieces for MatrixFile {
         first.extend_from_slice(&piece[..missing])?;
         Ok(MatrixFile {
             reader: reader.read(piece)?,
-            bytes: bytes.checked_add(piece.len()).ok_or(AllocError)?,
+            bytes: bytes.saturating_add(piece.len()),
             first,
         })
     }
@@ -44,28 +49,48 @@ impl Pieces for MatrixFile {
 
 impl MatrixFile {
     /// Reads the file at a path, within `READS_MAX` reads.
-    pub fn read(rt: &HostRuntime, path: &str) -> Result<MatrixFile, Fault> {
-        at_path(rt, path).map_err(|fault| Fault::of_reading(rt.alloc(), path, fault))
+    pub fn read<R: Files + AllocGlobal>(rt: &R, path: &str) -> Result<MatrixFile, Fault>
+        ensures taken { IfOk result (IsOfAFile R.File.remaining) }
+        ensures fault { IfErr result (Names File path.now) }
+    {
+        match fs::open(rt, path) {
+            Ok(mut file) => MatrixFile::read_from(rt.alloc(), path, &mut file),
+            Err(error) => Err(Fault::of_file(rt.alloc(), path, &error)),
+        }
     }
 
-    /// The connection costs that the file lists, or its first fault.
+    /// Reads what is left of a file that was opened at a path, within `READS_MAX` reads.
+    pub fn read_from<F: Read>(alloc: Global, path: &str, file: &mut F) -> Result<MatrixFile, Fault>
+        ensures taken { IfOk result (λ taken.
+            IfSome (F.remaining file.old) (λ known. HasTaken known taken)) }
+        ensures end { IfOk result (λ _. IsAtEnd (F.remaining file.new)) }
+        ensures fault { IfErr result (Names File path.now) }
+    {
+        match read_into(alloc, file, READS_MAX, MatrixFile::nothing(alloc)) {
+            Ok(taken) => Ok(taken),
+            Err(fault) => Err(Fault::of_reading(alloc, path, fault)),
+        }
+    }
+
+    /// Where no bytes were read.
+    fn nothing(alloc: Global) -> MatrixFile
+        ensures { HasTaken [] result }
+    {
+        MatrixFile {
+            reader: MatrixReader::new(alloc),
+            bytes: 0,
+            first: Vec::new(alloc),
+        }
+    }
+
+    /// The connection costs that the file lists, or its first fault. Of a fault behind 2^64 lines the line is told as the last that 64
+    /// bits count.
     pub fn matrix(self) -> Result<Matrix, SourceFault>
         ensures accepted { (bytes : List ℕ) → HasTaken bytes self
             → IfOk result (IsTableIn bytes) }
         ensures refused { (bytes : List ℕ) → HasTaken bytes self
-            → IfErr result (λ fault. IsRefusal fault (connection_of bytes ≡ Err fault)) }
+            → IfErr result (λ fault. IsRefusal fault (told_connection bytes ≡ Err fault)) }
     {
         self.reader.finish()
     }
-}
-
-fn at_path(rt: &HostRuntime, path: &str) -> Result<MatrixFile, ReadFault> {
-    let alloc = rt.alloc();
-    let nothing = MatrixFile {
-        reader: MatrixReader::new(alloc),
-        bytes: 0,
-        first: Vec::new(alloc),
-    };
-    let mut file = fs::open(rt, path).map_err(ReadFault::Device)?;
-    read_into(alloc, &mut file, READS_MAX, nothing)
 }

@@ -1,11 +1,14 @@
 //! The steps of a compilation, as `-v` tells them.
 
+ghost use Rattle.std.specs.Prelude.{◌≡◌, ◌+◌, ◌-◌, ◌^◌, [], min};
+ghost use Rattle.dictc_work.specs.ToldSteps.{HasTold, IsStageOf, path_of, read_after};
+
 use dict_compile::{Step, Watch};
 use programs::{Narrator, Stage, WholeFile};
 
 /// Tells each step of a compilation of these lexicons.
 #[derive(Drop)]
-pub struct StepTeller<'a> {
+pub(crate) struct StepTeller<'a> {
     narrator: &'a Narrator<'a>,
     lexicons: &'a [WholeFile],
     /// How many of the lexicons were read.
@@ -13,7 +16,9 @@ pub struct StepTeller<'a> {
 }
 
 impl<'a> StepTeller<'a> {
-    pub fn new(narrator: &'a Narrator<'a>, lexicons: &'a [WholeFile]) -> StepTeller<'a> {
+    pub(crate) fn new(narrator: &'a Narrator<'a>, lexicons: &'a [WholeFile]) -> StepTeller<'a>
+        ensures { HasTold [] result }
+    {
         StepTeller {
             narrator,
             lexicons,
@@ -21,20 +26,12 @@ impl<'a> StepTeller<'a> {
         }
     }
 
-    /// The path of the lexicon that is read next.
-    fn next_path(&mut self) -> &'a str {
-        let path = self
-            .lexicons
-            .get(self.read)
-            .map_or("", |file| file.path.as_str());
-        self.read = self.read.saturating_add(1);
-        path
-    }
-}
-
-impl<'a> Watch for StepTeller<'a> {
-    fn done(&mut self, step: Step) {
-        let stage = match step {
+    /// How a step is told.
+    fn stage(&mut self, step: Step) -> Stage<'a>
+        ensures stage { IsStageOf self.old.lexicons.now self.old.read step result }
+        ensures read { self.new.read ≡ read_after step self.old.read }
+    {
+        match step {
             Step::MatrixRead(sizes) => Stage::CostsRead {
                 right: sizes.right,
                 left: sizes.left,
@@ -46,7 +43,28 @@ impl<'a> Watch for StepTeller<'a> {
                 entries,
             },
             Step::Sorted { entries } => Stage::Sorted { entries },
+        }
+    }
+
+    /// The path of the lexicon that is read next.
+    fn next_path(&mut self) -> &'a str
+        ensures path { result.now ≡ path_of self.old.lexicons.now self.old.read }
+        ensures read { self.new.read ≡ min (self.old.read + 1) (2 ^ 64 - 1) }
+    {
+        let path = match self.lexicons.get(self.read) {
+            Some(file) => file.path.as_str(),
+            None => "",
         };
+        self.read = self.read.saturating_add(1);
+        path
+    }
+}
+
+impl<'a> Watch for StepTeller<'a> {
+    ghost told = { λ teller steps. HasTold steps teller };
+
+    fn done(&mut self, step: Step) {
+        let stage = self.stage(step);
         self.narrator.say(stage);
     }
 }

@@ -3,12 +3,13 @@ use Rattle.std.proofs.Common.{◌≡◌, ℕ, zero, suc, ◌<◌, ◌≤◌, ◌
 use Rattle.std.proofs.lemmas.Bool.{cases_eq, cases_order}
 use Rattle.mj_model.specs.declared.image_fault.ImageFault.{ImageFault}
 use Rattle.mj_model.specs.declared.image_fault.ImageFault.TheVariants.{BadKey, BadToken, BadText}
+use Rattle.image_bytes.specs.declared.digest_test.DigestTest.{DigestTest}
 use Rattle.image_bytes.specs.declared.header.Header.{Header}
 use Rattle.image_bytes.specs.declared.layout.KeyForm.{KeyForm}
 use Rattle.image_bytes.specs.declared.layout.KeyForm.TheVariants as key
 use Rattle.image_bytes.specs.ImageBytes.{header_of, section}
 use Rattle.image_bytes.specs.Layouts.{key_form}
-use Rattle.image_bytes.specs.ImageFaults.{key_tests, token_tests, Test, unless, unless_each, IsLeastWithout, PassAll, IsFirstTold, IsWellFormed, IsImageFault, image_tests}
+use Rattle.image_bytes.specs.ImageFaults.{key_tests, token_tests, Test, unless, unless_each, IsLeastWithout, PassAll, IsFirstTold, IsAccepted, IsImageFault, IsIntact, IsWellFormed, HasDigest, image_tests}
 
 -- a test tells nothing of what passes it, something of what does not, and of nothing two faults
 pub record IsSound (test : Test) : Type 0 where
@@ -77,22 +78,29 @@ keys_sound key.Cells groups keys = (unless_sound _ _, (each_sound _ _ BadKey, tt
 tokens_sound : (h : Header) (groups tokens features : List ℕ) → AreSound (token_tests h groups tokens features)
 tokens_sound h groups tokens features = (unless_sound _ _, (unless_sound _ _, (each_sound _ _ BadToken, (each_sound _ _ BadText, tt))))
 
-all_sound : (bytes : List ℕ) → AreSound (image_tests (header_of bytes) bytes)
-all_sound bytes =
+all_sound : (digest : DigestTest) (bytes : List ℕ) → AreSound (image_tests digest (header_of bytes) bytes)
+all_sound digest bytes =
     let h = header_of bytes in
     let keys = key_tests (key_form h.layout) h.groups (section bytes 5) in
     let tokens = token_tests h (section bytes 6) (section bytes 7) (section bytes 8) in
     let lexicon = both_sound keys tokens (keys_sound (key_form h.layout) h.groups (section bytes 5)) (tokens_sound h (section bytes 6) (section bytes 7) (section bytes 8)) in
     (unless_sound _ _, (unless_sound _ _, (unless_sound _ _, (unless_sound _ _, (unless_sound _ _, (unless_sound _ _, (unless_sound _ _, (unless_sound _ _, (unless_sound _ _, (unless_sound _ _, (unless_sound _ _, lexicon)))))))))))
 
--- a well-formed image has no fault
-pub no_fault : (bytes : List ℕ) (fault : ImageFault) → IsWellFormed bytes → IsImageFault bytes fault → ⊥
-no_fault bytes fault formed h = none_told (image_tests (header_of bytes) bytes) fault (all_sound bytes) formed h
+-- an image that is accepted has no fault
+pub no_fault : (digest : DigestTest) (bytes : List ℕ) (fault : ImageFault) → IsAccepted digest bytes → IsImageFault digest bytes fault → ⊥
+no_fault digest bytes fault accepted h = none_told (image_tests digest (header_of bytes) bytes) fault (all_sound digest bytes) accepted h
 
 -- bytes have one first fault
-pub fault_is_one : (bytes : List ℕ) (f g : ImageFault) → IsImageFault bytes f → IsImageFault bytes g → f ≡ g
-fault_is_one bytes f g h k = one_told (image_tests (header_of bytes) bytes) f g (all_sound bytes) h k
+pub fault_is_one : (digest : DigestTest) (bytes : List ℕ) (f g : ImageFault) → IsImageFault digest bytes f → IsImageFault digest bytes g → f ≡ g
+fault_is_one digest bytes f g h k = one_told (image_tests digest (header_of bytes) bytes) f g (all_sound digest bytes) h k
 
--- bytes that are not well formed cannot be without a fault
-pub some_fault : (bytes : List ℕ) → (IsWellFormed bytes → ⊥) → ((fault : ImageFault) → IsImageFault bytes fault → ⊥) → ⊥
-some_fault bytes fails silent = some_told (image_tests (header_of bytes) bytes) (all_sound bytes) fails silent
+-- bytes that are not accepted cannot be without a fault
+pub some_fault : (digest : DigestTest) (bytes : List ℕ) → (IsAccepted digest bytes → ⊥) → ((fault : ImageFault) → IsImageFault digest bytes fault → ⊥) → ⊥
+some_fault digest bytes fails silent = some_told (image_tests digest (header_of bytes) bytes) (all_sound digest bytes) fails silent
+
+-- an intact image is well formed and has its digest; the test of the digest is the third one of the ends
+pub well_formed_of : (bytes : List ℕ) → IsIntact bytes → IsWellFormed bytes × HasDigest bytes
+well_formed_of bytes w = ((w.0, (w.1.0, (w.1.1.0, (w.1.1.1.0, (w.1.1.1.1.0, ((λ _. tt), w.1.1.1.1.1.1)))))), w.1.1.1.1.1.0)
+
+pub intact_of : (bytes : List ℕ) → IsWellFormed bytes × HasDigest bytes → IsIntact bytes
+intact_of bytes both = let w = both.0 in (w.0, (w.1.0, (w.1.1.0, (w.1.1.1.0, (w.1.1.1.1.0, (both.1, w.1.1.1.1.1.1))))))

@@ -1,11 +1,13 @@
--- When bytes are a well-formed image, and the first fault of those that are none.
-use Rattle.std.specs.Prelude.{◌≡◌, ℕ, ◌*◌, ◌<◌, ◌≤◌, ◌⊎◌, List, [], ◌∷◌, ◌++◌, length, take, drop}
+-- When bytes are a well-formed image, when they say what was compiled too, and the first fault of those that are none.
+use Rattle.std.specs.Prelude.{◌≡◌, ◌↔◌, ℕ, ◌*◌, ◌<◌, ◌≤◌, ◌⊎◌, List, [], ◌∷◌, ◌++◌, length, take, drop}
 use Rattle.sha2.specs.Sha256.{sha256}
 use Rattle.mj_model.specs.declared.image_fault.ImageFault.{ImageFault}
 use Rattle.mj_model.specs.declared.image_fault.ImageFault.TheVariants.{Truncated, BadMagic, BadLayout, BadSection, BadKey, BadToken, BadText, Digest}
 use Rattle.mj_model.specs.declared.limits.TheConstants.{ENTRIES_MAX, CATEGORIES_MAX}
 use Rattle.mj_model.specs.Connection.{AreMatrixSizes}
 use Rattle.cell_walk.specs.CellMap.{Cell}
+use Rattle.image_bytes.specs.declared.digest_test.DigestTest.{DigestTest}
+use Rattle.image_bytes.specs.declared.digest_test.DigestTest.TheVariants.{Made, Skipped}
 use Rattle.image_bytes.specs.declared.header.Header.{Header}
 use Rattle.image_bytes.specs.DictKinds.{IsKind}
 use Rattle.image_bytes.specs.declared.layout.InfoForm.{InfoForm}
@@ -54,11 +56,17 @@ IsFirstTold (test ∷ tests) fault = test.Tells fault ⊎ (test.Passes × IsFirs
 
 -- ---- the tests of image bytes
 
--- in layout 3 the SHA-256 of all bytes before it stands behind the sections (FIPS 180-4)
+-- from a place on stands the SHA-256 of all bytes before it, where that is tested (FIPS 180-4)
+abbrev pub IsDigestAt : DigestTest → ℕ → List ℕ → Type 0
+IsDigestAt Made place bytes = drop place bytes ≡ sha256 (take place bytes)
+IsDigestAt Skipped place bytes = Unit {0}
+
+-- in layout 3 the digest stands behind the sections
+abbrev pub PassesDigest : DigestTest → List ℕ → Type 0
+PassesDigest digest bytes = (header_of bytes).layout ≡ 3 → IsDigestAt digest (section_end (header_of bytes) 8) bytes
+
 abbrev pub HasDigest : List ℕ → Type 0
-HasDigest bytes =
-    (header_of bytes).layout ≡ 3
-    → drop (section_end (header_of bytes) 8) bytes ≡ sha256 (take (section_end (header_of bytes) 8) bytes)
+HasDigest bytes = PassesDigest Made bytes
 
 -- how many categories and unknown tokens a dictionary of a kind may have
 abbrev pub AreCounts : Kind → ℕ → ℕ → Type 0
@@ -100,12 +108,12 @@ front_tests h bytes =
     ∷ unless (IsReadLayout h.layout) (BadLayout h.layout)
     ∷ []
 
--- the length and the digest; section 9 is what stands behind the sections
-abbrev pub end_tests : Header → List ℕ → List Test
-end_tests h bytes =
+-- the length, and the digest where it is tested; section 9 is what stands behind the sections
+abbrev pub end_tests : DigestTest → Header → List ℕ → List Test
+end_tests digest h bytes =
     unless (total_length h ≤ length bytes) Truncated
     ∷ unless (length bytes ≤ total_length h) (BadSection 9)
-    ∷ unless (HasDigest bytes) Digest
+    ∷ unless (PassesDigest digest bytes) Digest
     ∷ []
 
 -- the numbers of the header, which is section 0
@@ -143,22 +151,34 @@ section_tests h bytes =
     ++ (key_tests (key_form h.layout) h.groups (section bytes 5) ++ token_tests h (section bytes 6) (section bytes 7) (section bytes 8)))
 
 -- what image bytes are tested for, in this order
-abbrev pub image_tests : Header → List ℕ → List Test
-image_tests h bytes = front_tests h bytes ++ (end_tests h bytes ++ section_tests h bytes)
+abbrev pub image_tests : DigestTest → Header → List ℕ → List Test
+image_tests digest h bytes = front_tests h bytes ++ (end_tests digest h bytes ++ section_tests h bytes)
 
--- the bytes are a well-formed image
+-- the bytes pass all tests that are made
+abbrev pub IsAccepted : DigestTest → List ℕ → Type 0
+IsAccepted digest bytes = PassAll (image_tests digest (header_of bytes) bytes)
+
+-- the bytes are a well-formed image: they pass all tests but that of the digest
 abbrev pub IsWellFormed : List ℕ → Type 0
-IsWellFormed bytes = PassAll (image_tests (header_of bytes) bytes)
+IsWellFormed bytes = IsAccepted Skipped bytes
 
--- the first fault of bytes that are no well-formed image
-abbrev pub IsImageFault : List ℕ → ImageFault → Type 0
-IsImageFault bytes fault = IsFirstTold (image_tests (header_of bytes) bytes) fault
+-- the bytes are a well-formed image and have its digest
+abbrev pub IsIntact : List ℕ → Type 0
+IsIntact bytes = IsAccepted Made bytes
 
--- well-formed bytes have no fault, no bytes have two first faults, and bytes that are not well formed cannot be without one
-pub record HasOneFault (bytes : List ℕ) : Type 0 where
-  pub none_where_well_formed : (fault : ImageFault) → IsWellFormed bytes → IsImageFault bytes fault → ⊥
-  pub one_where_not : (IsWellFormed bytes → ⊥) → ((fault : ImageFault) → IsImageFault bytes fault → ⊥) → ⊥
-  pub at_most_one : (fault other : ImageFault) → IsImageFault bytes fault → IsImageFault bytes other → fault ≡ other
+-- the first fault of bytes that do not pass all tests that are made
+abbrev pub IsImageFault : DigestTest → List ℕ → ImageFault → Type 0
+IsImageFault digest bytes fault = IsFirstTold (image_tests digest (header_of bytes) bytes) fault
+
+-- bytes that are accepted have no fault, no bytes have two first faults, and bytes that are not accepted cannot be without one
+pub record HasOneFault (digest : DigestTest) (bytes : List ℕ) : Type 0 where
+  pub none_where_accepted : (fault : ImageFault) → IsAccepted digest bytes → IsImageFault digest bytes fault → ⊥
+  pub one_where_not : (IsAccepted digest bytes → ⊥) → ((fault : ImageFault) → IsImageFault digest bytes fault → ⊥) → ⊥
+  pub at_most_one : (fault other : ImageFault) → IsImageFault digest bytes fault → IsImageFault digest bytes other → fault ≡ other
 
 abbrev pub ImagesHaveOneFault : Type 0
-ImagesHaveOneFault = (bytes : List ℕ) → HasOneFault bytes
+ImagesHaveOneFault = (digest : DigestTest) (bytes : List ℕ) → HasOneFault digest bytes
+
+-- bytes are intact exactly where they are well formed and have their digest
+abbrev pub IntactIsWellFormedWithDigest : Type 0
+IntactIsWellFormedWithDigest = (bytes : List ℕ) → IsIntact bytes ↔ (IsWellFormed bytes × HasDigest bytes)

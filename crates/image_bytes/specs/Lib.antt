@@ -8,3 +8,4 @@ pub mod ImageMeaning
 pub mod ImageBounds
 pub mod Headers
 pub mod Sections
+pub mod DigestTests

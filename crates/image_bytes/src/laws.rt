@@ -3,11 +3,16 @@
 ghost use Rattle.std.specs.Prelude.{◌≡◌, ◌^◌, ◌∷◌, []};
 ghost use Rattle.image_bytes.specs.declared.header.TheConstants as image;
 ghost use Rattle.image_bytes.specs.declared.layout.TheConstants as layout;
-ghost use Rattle.image_bytes.specs.ImageFaults.{ImagesHaveOneFault};
+ghost use Rattle.image_bytes.specs.ImageFaults.{ImagesHaveOneFault, IntactIsWellFormedWithDigest};
 
-/// Well-formed image bytes have no fault, no bytes have two first faults, and bytes that are not well formed cannot be without one.
+/// Image bytes that are accepted have no fault, no bytes have two first faults, and bytes that are not accepted cannot be without one.
 pub fn one_image_fault()
     ensures { ImagesHaveOneFault }
+{}
+
+/// Image bytes are intact exactly where they are well formed and have their digest.
+pub fn intact_images()
+    ensures { IntactIsWellFormedWithDigest }
 {}
 
 /// The constants of an image, as numbers: a definition that names one means this number.

@@ -1,6 +1,7 @@
 //! The bytes of an image: numbers, the header, sections and cells, read where they lie.
 #![tactic(auto)]
 
+mod digest_test;
 mod ends;
 mod header;
 mod image_cells;
@@ -10,6 +11,7 @@ mod layout;
 mod numbers;
 mod section;
 
+pub use digest_test::DigestTest;
 pub use ends::{section_bytes, section_ends};
 pub use header::{DIGEST_LENGTH, FEATURE_BYTES_END, HEADER_LENGTH, Header, MAGIC, read_header};
 pub use image_cells::ImageCells;

@@ -1,6 +1,7 @@
 -- The length and the digest of an image.
-use Rattle.std.proofs.Common.{◌≡◌, ℕ, ◌+◌, ◌^◌, ◌<◌, ◌≤◌, Bool, true, false, cond, eqb, eqb-true, List, take, drop, refl, ap, ◌∙◌, arith, subst}
-use Rattle.sha2.specs.Sha256.{sha256}
+use Rattle.std.proofs.Common.{◌≡◌, ℕ, ◌+◌, ◌^◌, ◌<◌, ◌≤◌, Bool, true, false, cond, eqb, eqb-true, List, refl, ap, ◌∙◌, arith, subst}
+use Rattle.image_bytes.specs.ImageFaults.{IsDigestAt}
+use Rattle.image_bytes.specs.declared.digest_test.DigestTest.{DigestTest}
 use Rattle.image_bytes.specs.declared.header.Header.{Header}
 use Rattle.image_bytes.specs.ImageBytes.{section_end, total_length}
 use Rattle.image_bytes.specs.Layouts.{behind_sections}
@@ -38,5 +39,5 @@ by_test layout false test some = absurd (omega (arith, some))
 pub has_digest : (h : Header) (behind : ℕ) → behind ≡ behind_sections h.layout → 0 < behind → h.layout ≡ 3
 has_digest h behind much some = by_test h.layout (eqb h.layout 3) refl (subst (λ (n : ℕ). 0 < n) much some)
 
-pub digest_at : (bytes : List ℕ) (end last : ℕ) → end ≡ last → drop end bytes ≡ sha256 (take end bytes) → drop last bytes ≡ sha256 (take last bytes)
-digest_at bytes end last at is = subst (λ (i : ℕ). drop i bytes ≡ sha256 (take i bytes)) at is
+pub digest_at : (digest : DigestTest) (bytes : List ℕ) (end last : ℕ) → end ≡ last → IsDigestAt digest end bytes → IsDigestAt digest last bytes
+digest_at digest bytes end last at is = subst (λ (i : ℕ). IsDigestAt digest i bytes) at is

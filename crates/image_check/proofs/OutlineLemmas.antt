@@ -1,7 +1,10 @@
 -- What a well-formed image says of where its parts lie.
 use Rattle.std.proofs.Common.{ℕ, ◌<◌, ◌≤◌, ◌^◌, List, length, arith}
 use Rattle.image_bytes.specs.ImageBytes.{header_of, section_end, total_length}
-use Rattle.image_bytes.specs.ImageFaults.{IsWellFormed}
+use Rattle.image_bytes.specs.ImageFaults.{IsAccepted, IsWellFormed}
+use Rattle.image_bytes.specs.declared.digest_test.DigestTest.{DigestTest}
+use Rattle.image_bytes.specs.declared.digest_test.DigestTest.TheVariants.{Made, Skipped}
+use Rattle.image_bytes.proofs.ImageFaultLaws.{well_formed_of}
 use Rattle.image_check.specs.Outlines.{IsImage}
 
 pub is_formed : (bytes : List ℕ) → IsImage bytes → IsWellFormed bytes
@@ -16,6 +19,11 @@ pub sections_within : (bytes : List ℕ) → IsImage bytes → section_end (head
 unfolding IsImage
 sections_within bytes w = let total : total_length (header_of bytes) ≤ length bytes = w.1.1.1.0 in omega (arith, total)
 
+-- bytes that pass the tests, with that of the digest or without it, are an image
+pub from_accepted : (digest : DigestTest) (bytes : List ℕ) → IsAccepted digest bytes → IsImage bytes
+from_accepted Made bytes w = from_formed bytes (well_formed_of bytes w).0
+from_accepted Skipped bytes w = from_formed bytes w
+
 -- the end of the sections of bytes that lie in memory is a number of 64 bits
-pub ends_fit : (bytes : List ℕ) → IsWellFormed bytes → length bytes < 2 ^ 64 → 2 ^ 64 ≤ section_end (header_of bytes) 8 → ⊥
-ends_fit bytes w few far = let within = sections_within bytes (from_formed bytes w) in omega (arith, within, few, far)
+pub ends_fit : (bytes : List ℕ) → IsImage bytes → length bytes < 2 ^ 64 → 2 ^ 64 ≤ section_end (header_of bytes) 8 → ⊥
+ends_fit bytes w few far = let within = sections_within bytes w in omega (arith, within, few, far)

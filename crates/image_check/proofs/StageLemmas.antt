@@ -1,9 +1,10 @@
 -- The tests of an image, stage behind stage.
 use Rattle.std.proofs.Common.{◌≡◌, ℕ, List, [], ◌∷◌, ◌++◌, inl, inr, ap, ◌∙◌, subst}
 use Rattle.mj_model.specs.declared.image_fault.ImageFault.{ImageFault}
+use Rattle.image_bytes.specs.declared.digest_test.DigestTest.{DigestTest}
 use Rattle.image_bytes.specs.declared.header.Header.{Header}
 use Rattle.image_bytes.specs.ImageBytes.{header_of}
-use Rattle.image_bytes.specs.ImageFaults.{Test, PassAll, IsFirstTold, IsWellFormed, IsImageFault}
+use Rattle.image_bytes.specs.ImageFaults.{Test, PassAll, IsFirstTold, IsAccepted, IsImageFault}
 use Rattle.image_bytes.specs.ImageFaults.{front_tests, end_tests, system_tests, token_tests, section_tests}
 
 pub pass_both : (xs ys : List Test) → PassAll xs → PassAll ys → PassAll (xs ++ ys)
@@ -19,20 +20,20 @@ pub told_later : (xs ys : List Test) (fault : ImageFault) → PassAll xs → IsF
 told_later [] ys fault p t = t
 told_later (x ∷ xs) ys fault p t = inr (p.0, told_later xs ys fault p.1 t)
 
-pub end_told : (bytes : List ℕ) (fault : ImageFault) → PassAll (front_tests (header_of bytes) bytes) → IsFirstTold (end_tests (header_of bytes) bytes) fault → IsImageFault bytes fault
-end_told bytes fault front told =
-    told_later (front_tests (header_of bytes) bytes) (end_tests (header_of bytes) bytes ++ section_tests (header_of bytes) bytes) fault front
-    (told_first (end_tests (header_of bytes) bytes) (section_tests (header_of bytes) bytes) fault told)
+pub end_told : (digest : DigestTest) (bytes : List ℕ) (fault : ImageFault) → PassAll (front_tests (header_of bytes) bytes) → IsFirstTold (end_tests digest (header_of bytes) bytes) fault → IsImageFault digest bytes fault
+end_told digest bytes fault front told =
+    told_later (front_tests (header_of bytes) bytes) (end_tests digest (header_of bytes) bytes ++ section_tests (header_of bytes) bytes) fault front
+    (told_first (end_tests digest (header_of bytes) bytes) (section_tests (header_of bytes) bytes) fault told)
 
-pub section_told : (bytes : List ℕ) (h : Header) (fault : ImageFault) → h ≡ header_of bytes → PassAll (front_tests (header_of bytes) bytes) → PassAll (end_tests (header_of bytes) bytes) → IsFirstTold (section_tests h bytes) fault → IsImageFault bytes fault
-section_told bytes h fault e front end told =
-    told_later (front_tests (header_of bytes) bytes) (end_tests (header_of bytes) bytes ++ section_tests (header_of bytes) bytes) fault front
-    (told_later (end_tests (header_of bytes) bytes) (section_tests (header_of bytes) bytes) fault end (subst (λ (g : Header). IsFirstTold (section_tests g bytes) fault) e told))
+pub section_told : (digest : DigestTest) (bytes : List ℕ) (h : Header) (fault : ImageFault) → h ≡ header_of bytes → PassAll (front_tests (header_of bytes) bytes) → PassAll (end_tests digest (header_of bytes) bytes) → IsFirstTold (section_tests h bytes) fault → IsImageFault digest bytes fault
+section_told digest bytes h fault e front end told =
+    told_later (front_tests (header_of bytes) bytes) (end_tests digest (header_of bytes) bytes ++ section_tests (header_of bytes) bytes) fault front
+    (told_later (end_tests digest (header_of bytes) bytes) (section_tests (header_of bytes) bytes) fault end (subst (λ (g : Header). IsFirstTold (section_tests g bytes) fault) e told))
 
-pub all_pass : (bytes : List ℕ) (h : Header) → h ≡ header_of bytes → PassAll (front_tests (header_of bytes) bytes) → PassAll (end_tests (header_of bytes) bytes) → PassAll (section_tests h bytes) → IsWellFormed bytes
-all_pass bytes h e front end rest =
-    pass_both (front_tests (header_of bytes) bytes) (end_tests (header_of bytes) bytes ++ section_tests (header_of bytes) bytes) front
-    (pass_both (end_tests (header_of bytes) bytes) (section_tests (header_of bytes) bytes) end (subst (λ (g : Header). PassAll (section_tests g bytes)) e rest))
+pub all_pass : (digest : DigestTest) (bytes : List ℕ) (h : Header) → h ≡ header_of bytes → PassAll (front_tests (header_of bytes) bytes) → PassAll (end_tests digest (header_of bytes) bytes) → PassAll (section_tests h bytes) → IsAccepted digest bytes
+all_pass digest bytes h e front end rest =
+    pass_both (front_tests (header_of bytes) bytes) (end_tests digest (header_of bytes) bytes ++ section_tests (header_of bytes) bytes) front
+    (pass_both (end_tests digest (header_of bytes) bytes) (section_tests (header_of bytes) bytes) end (subst (λ (g : Header). PassAll (section_tests g bytes)) e rest))
 
 -- ---- stages on equal sections
 

@@ -5,6 +5,7 @@ use Rattle.mj_model.specs.declared.image_fault.ImageFault.{ImageFault}
 use Rattle.mj_model.specs.declared.image_fault.ImageFault.TheVariants.{Memory}
 use Rattle.cell_walk.specs.CellMap.{Cell}
 use Rattle.cell_walk.specs.CellRules.{IsBaseAfter, IsUsed}
+use Rattle.image_bytes.specs.declared.digest_test.DigestTest.{DigestTest}
 use Rattle.image_bytes.specs.declared.header.Header.{Header}
 use Rattle.image_bytes.specs.Headers.{AreEnds}
 use Rattle.image_bytes.specs.ImageBytes.{header_of, section, section_end}
@@ -42,11 +43,11 @@ TellsFront bytes answer =
     MatchResult answer (λ header. PassAll (front_tests (header_of bytes) bytes) × (header ≡ header_of bytes))
     (IsFirstTold (front_tests (header_of bytes) bytes))
 
--- the ends of the sections of bytes that pass the tests of their length and digest
-abbrev pub TellsEnds : List ℕ → Result (List ℕ) ImageFault → Type 0
-TellsEnds bytes answer =
-    MatchResult answer (λ ends. PassAll (end_tests (header_of bytes) bytes) × AreEnds ends (header_of bytes) × (section_end (header_of bytes) 8 ≤ length bytes))
-    (IsFirstTold (end_tests (header_of bytes) bytes))
+-- the ends of the sections of bytes that pass the tests of their length, and of their digest where it is tested
+abbrev pub TellsEnds : DigestTest → List ℕ → Result (List ℕ) ImageFault → Type 0
+TellsEnds digest bytes answer =
+    MatchResult answer (λ ends. PassAll (end_tests digest (header_of bytes) bytes) × AreEnds ends (header_of bytes) × (section_end (header_of bytes) 8 ≤ length bytes))
+    (IsFirstTold (end_tests digest (header_of bytes) bytes))
 
 -- the least number below n of which this is not so, if there is one
 abbrev pub IsLeastOrNone : ℕ → (ℕ → Type 0) → Option ℕ → Type 0

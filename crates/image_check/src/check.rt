@@ -1,7 +1,7 @@
 //! Whether bytes are a well-formed image: each test in its order, and the first fault.
-ghost use Rattle.std.specs.Prelude.{◌≡◌, ◌⊎◌, ◌≤◌, length, IfOk, IfErr};
+ghost use Rattle.std.specs.Prelude.{◌≡◌, ◌⊎◌, ◌≤◌, length, IfOk, IfErr, OnOk};
 ghost use Rattle.image_bytes.specs.ImageBytes.{header_of, section_end};
-ghost use Rattle.image_bytes.specs.ImageFaults.{IsImageFault};
+ghost use Rattle.image_bytes.specs.ImageFaults.{IsAccepted, IsImageFault};
 ghost use Rattle.mj_model.specs.declared.image_fault.ImageFault.TheVariants.{Memory};
 ghost use Rattle.image_bytes.specs.Headers.{AreEnds};
 ghost use Rattle.image_check.specs.Checks.{TellsSections};
@@ -12,20 +12,22 @@ use crate::header::check_header;
 use crate::lexicon::{check_keys, check_tokens};
 use crate::outline::{Keys, Outline};
 use crate::system::check_system;
-use image_bytes::{Header, Section, section_bytes};
+use image_bytes::{DigestTest, Header, Section, section_bytes};
 use mj_model::ImageFault;
 use std::alloc::Global;
 
-/// The outline of a well-formed image, or the first fault of its tests in their order.
+/// The outline of a well-formed image, or the first fault of its tests in their order, among which the one of the digest may be skipped.
 ///
 /// It takes memory for a note on each group and each cell, for the states of one key, and for a number of 8 bytes for each place of the
 /// features where a character would have to begin and none does. For listed keys it takes a number of 8 bytes a group, which is kept.
-pub fn check_image(alloc: Global, bytes: &[u8]) -> Result<Outline, ImageFault>
-    ensures accepted { IfOk result (λ outline. IsOutline bytes.now outline) }
-    ensures refused { IfErr result (λ fault. (fault ≡ Memory) ⊎ IsImageFault bytes.now fault) }
+pub fn check_image(alloc: Global, bytes: &[u8], digest: DigestTest) -> Result<Outline, ImageFault>
+    ensures outline { IfOk result (IsOutline bytes.now) }
+    ensures accepted { OnOk result (IsAccepted digest bytes.now) }
+    ensures refused { IfErr result
+        (λ fault. (fault ≡ Memory) ⊎ IsImageFault digest bytes.now fault) }
 {
     let header = check_front(bytes)?;
-    let ends = check_ends(bytes, &header)?;
+    let ends = check_ends(bytes, &header, digest)?;
     let keys = check_sections(alloc, bytes, &header, &ends)?;
     Ok(Outline { header, ends, keys })
 }

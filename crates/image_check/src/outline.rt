@@ -1,7 +1,7 @@
 //! Where the parts of a well-formed image lie.
 ghost use Rattle.std.specs.Prelude.{◌≡◌};
 ghost use Rattle.image_bytes.specs.ImageBytes.{header_of};
-ghost use Rattle.image_bytes.specs.ImageFaults.{IsWellFormed};
+ghost use Rattle.image_bytes.specs.ImageFaults.{IsIntact};
 ghost use Rattle.image_bytes.specs.declared.layout.TheConstants.{LAYOUT as Layout};
 ghost use Rattle.image_check.specs.Outlines.{IsOutline};
 
@@ -25,10 +25,10 @@ pub enum Keys {
     Cells,
 }
 
-/// The outline of an image that is known to be well formed and has the layout that is written. Nothing is tested or hashed, and it takes
+/// The outline of an image that is known to be intact and has the layout that is written. Nothing is tested or hashed, and it takes
 /// no memory.
 pub fn outline_of_written(bytes: &[u8]) -> Outline
-    requires formed { IsWellFormed bytes.now }
+    requires intact { IsIntact bytes.now }
     requires layout { (header_of bytes.now).layout ≡ Layout }
     ensures { IsOutline bytes.now result }
 {

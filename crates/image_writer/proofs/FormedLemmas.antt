@@ -3,7 +3,7 @@ use Rattle.std.proofs.Common.{◌≡◌, ℕ, suc, ◌≤◌, List, [], ◌∷�
 use Rattle.std.specs.Prelude.{slice_index_or}
 use Rattle.image_bytes.specs.declared.header.Header.{Header}
 use Rattle.image_bytes.specs.ImageBytes.{header_length, header_of, section, section_end, total_length}
-use Rattle.image_bytes.specs.ImageFaults.{Test, IsWellFormed, PassAll, header_tests, key_tests, system_tests, token_tests}
+use Rattle.image_bytes.specs.ImageFaults.{Test, IsIntact, PassAll, header_tests, key_tests, system_tests, token_tests}
 use Rattle.image_bytes.specs.Layouts.{IsReadLayout, key_form}
 use Rattle.image_writer.specs.Frames.{IsFramed}
 
@@ -33,7 +33,7 @@ module _ (h : Header) (s : List (List ℕ)) (image : List ℕ) (framed : IsFrame
       subst (λ (g : Header). P g (eight_of (λ k. section image (suc k)))) (sym framed.header)
       (subst (P h) (sym sections_are) p)
 
-  pub formed_of : IsReadLayout h.layout → PassAll (part_tests h (eight_of (at s))) → IsWellFormed image
+  pub formed_of : IsReadLayout h.layout → PassAll (part_tests h (eight_of (at s))) → IsIntact image
   formed_of layout pass =
       let whole : length image ≡ total_length (header_of image) = framed.whole ∙ ap total_length (sym framed.header) in
       let long : header_length ≤ section_end (header_of image) 8 = omega (arith) in

@@ -9,7 +9,7 @@ use Rattle.image_bytes.specs.declared.kind.DictKind.{DictKind}
 use Rattle.image_bytes.specs.DictKinds.{IsKind}
 use Rattle.image_bytes.specs.declared.layout.TheConstants.{LAYOUT}
 use Rattle.image_bytes.specs.ImageBytes.{kind_of}
-use Rattle.image_bytes.specs.ImageFaults.{AreCounts, IsHeader, IsWellFormed, PassAll, SystemAlone}
+use Rattle.image_bytes.specs.ImageFaults.{AreCounts, IsHeader, IsIntact, PassAll, SystemAlone}
 use Rattle.image_bytes.specs.ImageSections.{AreCategories, AreCosts, AreRanges, FitsSizes, IsIndex, stored_token}
 use Rattle.mj_model.specs.Lexicon.{Row}
 use Rattle.mj_model.specs.Tables.{Kind, Token}
@@ -116,5 +116,5 @@ module _ (whose : DictKind) (sizes : MatrixSizes) (count : ℕ) (rows : List Row
       ),
     )
 
-    pub well_formed : (image : List ℕ) → IsFramed header sections image → IsWellFormed image
-    well_formed image framed = formed_of header sections image framed (omega arith, omega arith) pass
+    pub intact : (image : List ℕ) → IsFramed header sections image → IsIntact image
+    intact image framed = formed_of header sections image framed (omega arith, omega arith) pass

@@ -17,7 +17,7 @@ use Rattle.mj_model.specs.Connection.{AreMatrixSizes}
 use Rattle.lex_source.specs.Lexicons.{AreLexiconRows}
 use Rattle.image_writer.specs.UserImages.{IsUserImage}
 use Rattle.image_writer.proofs.FormedLemmas.{at, from_parts}
-use Rattle.image_writer.proofs.PartLemmas.{AreParts, header_with, well_formed}
+use Rattle.image_writer.proofs.PartLemmas.{AreParts, header_with, intact}
 
 module _ (sizes : MatrixSizes) (rows : List Row) (bytes : LexiconBytes) where
   -- what the parts say of a user dictionary
@@ -50,7 +50,7 @@ module _ (sizes : MatrixSizes) (rows : List Row) (bytes : LexiconBytes) where
 
     pub user_image : IsUserImage sizes rows image
     user_image = record {
-      well_formed = well_formed dict.User sizes 0 rows [] [] [] [] [] bytes are_parts image framed;
+      intact = intact dict.User sizes 0 rows [] [] [] [] [] bytes are_parts image framed;
       layout = ap (λ (h : Header). h.layout) framed.header;
       kind = from_parts header sections image framed (λ h ss. kind_of h ≡ User) refl;
       sizes_kept = ap (λ (h : Header). h.sizes) framed.header;

@@ -23,7 +23,7 @@ use Rattle.image_writer.specs.declared.lexicon_bytes.LexiconBytes.{LexiconBytes}
 use Rattle.image_writer.specs.Sections.{AreSections}
 use Rattle.image_writer.specs.SystemImages.{IsSystemImage, tables_with}
 use Rattle.image_writer.proofs.FormedLemmas.{at, eight_of, from_parts}
-use Rattle.image_writer.proofs.PartLemmas.{AreParts, header_with, well_formed}
+use Rattle.image_writer.proofs.PartLemmas.{AreParts, header_with, intact}
 use Rattle.image_writer.proofs.SystemLemmas.{same_cost, same_unknown}
 
 -- the tables that a header and sections mean
@@ -90,7 +90,7 @@ module _ (m : CostTable) (chars : CharCategories) (unknown : List (List Row)) (r
 
     pub system_image : IsSystemImage m chars unknown rows image
     system_image = record {
-      well_formed = well_formed dict.System m.sizes (length chars.categories) rows unknown costs categories ranges index bytes are_parts image framed;
+      intact = intact dict.System m.sizes (length chars.categories) rows unknown costs categories ranges index bytes are_parts image framed;
       layout = ap (λ (h : Header). h.layout) framed.header;
       tables = from_parts header sections image framed (λ h ss. SayTheSame (tables_in h ss) (tables_with m chars unknown rows)) same_tables;
       categories = from_parts header sections image framed (λ h ss. categories_in h.categories (at ss 1) ≡ chars.categories) parts.categories_are.categories;

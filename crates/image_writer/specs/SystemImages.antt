@@ -5,7 +5,7 @@ use Rattle.image_bytes.specs.ImageBounds.{feature_bytes, feature_bytes_end}
 use Rattle.mj_model.specs.Connection.{is_pair}
 use Rattle.image_bytes.specs.declared.layout.TheConstants.{LAYOUT}
 use Rattle.image_bytes.specs.ImageBytes.{header_of}
-use Rattle.image_bytes.specs.ImageFaults.{IsWellFormed}
+use Rattle.image_bytes.specs.ImageFaults.{IsIntact}
 use Rattle.image_bytes.specs.ImageMeaning.{image_categories, image_tables}
 use Rattle.mj_model.specs.Lexicon.{Row}
 use Rattle.mj_model.specs.SourceTables.{SayTheSame}
@@ -29,7 +29,7 @@ tables_with matrix chars unknown rows = record {
 
 -- a well-formed image of layout 3 whose tables are these
 pub record IsSystemImage (matrix : CostTable) (chars : CharCategories) (unknown : List (List Row)) (rows : List Row) (image : List ℕ) : Type 0 where
-  pub well_formed : IsWellFormed image
+  pub intact : IsIntact image
   pub layout : (header_of image).layout ≡ LAYOUT
   pub tables : SayTheSame (image_tables image) (tables_with matrix chars unknown rows)
   pub categories : image_categories image ≡ chars.categories

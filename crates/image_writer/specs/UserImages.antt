@@ -4,7 +4,7 @@ use Rattle.image_bytes.specs.ImageBounds.{feature_bytes, feature_bytes_end}
 use Rattle.mj_model.specs.declared.matrix_sizes.MatrixSizes.{MatrixSizes}
 use Rattle.image_bytes.specs.declared.layout.TheConstants.{LAYOUT}
 use Rattle.image_bytes.specs.ImageBytes.{header_of}
-use Rattle.image_bytes.specs.ImageFaults.{IsWellFormed}
+use Rattle.image_bytes.specs.ImageFaults.{IsIntact}
 use Rattle.image_bytes.specs.ImageMeaning.{image_lexicon, image_tables}
 use Rattle.mj_model.specs.Lexicon.{Row}
 use Rattle.mj_model.specs.Tables.{User}
@@ -12,7 +12,7 @@ use Rattle.image_writer.specs.Entries.{lexemes_of, tokens_of}
 
 -- a well-formed image of layout 3 of a user dictionary with these sizes and these entries
 pub record IsUserImage (sizes : MatrixSizes) (rows : List Row) (image : List ℕ) : Type 0 where
-  pub well_formed : IsWellFormed image
+  pub intact : IsIntact image
   pub layout : (header_of image).layout ≡ LAYOUT
   pub kind : (image_tables image).kind ≡ User
   pub sizes_kept : (image_tables image).sizes ≡ sizes

@@ -4,6 +4,7 @@ use crate::formatting::format_of;
 use crate::images::cut_by_images;
 use crate::source_directory::{Directory, read_directory};
 use command_lines::jseg::{Input, Options};
+use dict_image::DigestTest;
 use mj_model::{Counted, GROUPING_MAX, NO_FILE, RunFault, Sources};
 use out_format::Format;
 use programs::{Fault, Narrator, Stage, texts};
@@ -37,7 +38,17 @@ fn cut_lines(rt: &HostRuntime, options: &Options, narrator: Narrator<'_>) -> Res
         narrator,
     };
     match &options.input {
-        Input::Images { dic, users } => cut_by_images(rt, dic.as_str(), users, &manner),
+        Input::Images {
+            dic,
+            users,
+            skip_digest,
+        } => cut_by_images(
+            rt,
+            dic.as_str(),
+            users,
+            DigestTest::skipped_if(*skip_digest),
+            &manner,
+        ),
         Input::Sources(dir) => cut_by_directory(rt, dir.as_str(), &manner),
         Input::Sample => cut_by(rt, &sample(), &manner).map_err(|fault| match fault {
             RunFault::Source(fault) => {

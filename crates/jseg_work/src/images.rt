@@ -1,6 +1,7 @@
 //! Standard input is cut by the images that the command line names.
 
 use crate::cutting::Manner;
+use dict_image::DigestTest;
 use mj_model::{Counted, GROUPING_MAX, OverlayFault};
 use programs::{Fault, Stage, dictionaries_at, dictionary_at};
 use segmenter::segment;
@@ -14,11 +15,12 @@ pub fn cut_by_images(
     rt: &HostRuntime,
     dic: &str,
     users: &[String],
+    digest: DigestTest,
     manner: &Manner<'_>,
 ) -> Result<u64, Fault> {
-    let system = dictionary_at(rt, dic)?;
+    let system = dictionary_at(rt, dic, digest)?;
     manner.narrator.say(Stage::Loaded { path: dic });
-    let overlays = dictionaries_at(rt, users)?;
+    let overlays = dictionaries_at(rt, users, digest)?;
     let dictionaries = Dictionaries::new(&system, &overlays)
         .map_err(|fault| overlay_fault(rt.alloc(), dic, users, fault))?
         .with_grouping(manner.grouping.min(GROUPING_MAX));

@@ -8,6 +8,9 @@ use std::alloc::Global;
 use std::fs;
 use std::string::String;
 
+/// The name of the program.
+const PROGRAM: &str = "jseg";
+
 /// What a directory of MeCab has: a compiled dictionary, or sources.
 const MECAB_FILES: [&str; 2] = ["sys.dic", "matrix.def"];
 
@@ -39,7 +42,7 @@ fn mecab_directory(alloc: Global, dir: &str) -> OptionsFault {
         "{dir} is a dictionary of MeCab: make an image of its sources with 'kumquatsieve-import SOURCES IMG', and give that with -d"
     );
     match message {
-        Ok(message) => OptionsFault::wrong(alloc, message.as_str()),
+        Ok(message) => OptionsFault::wrong(alloc, PROGRAM, message.as_str()),
         Err(_) => OptionsFault::Memory,
     }
 }

@@ -2,10 +2,11 @@
 
 ghost use Rattle.std.specs.Prelude.{◌≡◌, ◌≤◌, length, IsTrue, IfOk};
 ghost use Rattle.mj_model.specs.declared.limits.TheConstants.{SENTENCE_MAX};
+ghost use Rattle.paths.specs.Blanks.{skip};
 ghost use Rattle.paths.specs.BestOver.{IsBestOver, cost_over};
 ghost use Rattle.mj_model.specs.Connection.{is_pair};
 ghost use Rattle.paths.specs.Words.{is_place, words};
-ghost use Rattle.word_lookup.specs.BlankRuns.{IsBlankRun};
+ghost use Rattle.word_lookup.specs.BlankRuns.{IsBlankRun, IsKept};
 ghost use Rattle.word_lookup.specs.Overlays.{overlay_of};
 ghost use Rattle.word_lookup.specs.Surfaces.{surface_words};
 
@@ -14,7 +15,7 @@ use mj_model::Word;
 use path_search::WordSource;
 use paths::{BlankRun, Path, Surface};
 use std::alloc::{AllocError, Global};
-use word_lookup::Dictionaries;
+use word_lookup::{Dictionaries, SurfaceWords};
 
 /// A text over dictionaries.
 #[derive(Drop)]
@@ -24,6 +25,10 @@ pub(crate) struct DictionaryText<'a> {
 }
 
 impl<'a> WordSource for DictionaryText<'a> {
+    type Words = SurfaceWords<'a>;
+
+    ghost words_in = { λ words. words };
+
     ghost says = { λ s. record {
       text_length = length s.text.now;
       words = words (overlay_of s.dictionaries.now) s.text.now;
@@ -32,6 +37,7 @@ impl<'a> WordSource for DictionaryText<'a> {
       is_place = λ p. IsTrue (is_place s.text.now p);
       is_pair = λ right left. IsTrue (is_pair (overlay_of s.dictionaries.now).system.sizes right left);
       is_blank_run = IsBlankRun (overlay_of s.dictionaries.now) s.text.now;
+      is_kept = λ p last. IsKept p (skip (overlay_of s.dictionaries.now) s.text.now p) last;
     } };
 
     fn length(&self) -> usize {
@@ -48,8 +54,12 @@ impl<'a> WordSource for DictionaryText<'a> {
             .surfaces_in_turn(self.text, place, last, out)
     }
 
-    fn word(&self, surface: &Surface, i: u32) -> Word {
-        self.dictionaries.word(surface, i)
+    fn words_of(&self, surface: &Surface) -> SurfaceWords<'a> {
+        self.dictionaries.words_of(surface)
+    }
+
+    fn word(&self, words: &SurfaceWords<'a>, i: u32) -> Word {
+        words.word(i)
     }
 
     fn connection_cost(&self, right: u16, left: u16) -> i16 {

@@ -1,10 +1,10 @@
 -- `matrix.def` line by line: each line that ends goes on from where reading stood.
 use Rattle.std.proofs.Common.{◌≡◌, ℕ, ◌+◌, ◌*◌, Bool, true, false, cond, List, [], ◌∷◌, ◌++◌, length, refl, sym, ◌∙◌, ap, subst, arith, Option, Some, inl, inr, append_assoc, get_or}
 use Rattle.std.proofs.Math.Seq.{take-append_seam, drop-append-add}
-use Rattle.std.specs.Prelude.{not, ◌||◌, take, drop, nat_le, slice_set, Err}
+use Rattle.std.specs.Prelude.{map, not, ◌||◌, take, drop, nat_le, slice_set, Err}
 use Rattle.std.specs.List.{enumerate_from, list_any, position_or_len}
 use Rattle.std.proofs.lemmas.Bool.{cases_Bool, cond-true, or_parts}
-use Rattle.std.proofs.lemmas.List.{append-nil, length-append}
+use Rattle.std.proofs.lemmas.List.{append-nil, length-append, map-append}
 use Rattle.std.proofs.lemmas.List.Elements.{filter-append}
 use Rattle.std.proofs.lemmas.List.Folds.{list_any-append}
 use Rattle.mj_model.specs.declared.limits.TheConstants.{MATRIX_CELLS_MAX}
@@ -20,8 +20,9 @@ use Rattle.lex_source.specs.Filled.{nonblank_lines}
 use Rattle.lex_source.proofs.LineLemmas.{cut_lines, last_line}
 use Rattle.matrix_def.specs.Costs.{CostTable, IsMatrix, cell_at}
 use Rattle.matrix_def.specs.declared.standing.Standing.{Standing}
-use Rattle.matrix_def.specs.Reading.{Fill, HasNoFeed, HasRead, ReaderSeen, StandsAfter, row_of}
+use Rattle.matrix_def.specs.Reading.{Fill, HasNoFeed, HasRead, ReaderSeen, StandsAfter, row_of, told_lines, told_number}
 use Rattle.matrix_def.specs.Rows.{IsRow}
+use Rattle.matrix_def.proofs.NumberLemmas.{told_line}
 use Rattle.matrix_def.proofs.RowLemmas.{row_bad, row_filled}
 
 -- ---- lines
@@ -84,10 +85,22 @@ enumerate-append : {X : Type 0} (n m : ℕ) (xs ys : List X) → m ≡ n + lengt
 enumerate-append {X = X} n m [] ys is = ap (λ (k : ℕ). enumerate_from k ys) (omega (arith, is))
 enumerate-append {X = X} n m (x ∷ xs) ys is = ap (λ (rest : List (ℕ × X)). (n, x) ∷ rest) (enumerate-append (n + 1) m xs ys (omega (arith, is)))
 
+told-append : (n m : ℕ) (xs ys : List (List ℕ)) → m ≡ n + length xs → told_lines n (xs ++ ys) ≡ told_lines n xs ++ told_lines m ys
+told-append n m xs ys is =
+    ap (map told_line) (enumerate-append n m xs ys is) ∙ map-append told_line (enumerate_from n xs) (enumerate_from m ys)
+
 -- the lines that are not blank, and those behind them
-filled-append : (n m : ℕ) (xs ys : List (List ℕ)) → m ≡ n + length xs → nonblank_lines (enumerate_from n (xs ++ ys)) ≡ nonblank_lines (enumerate_from n xs) ++ nonblank_lines (enumerate_from m ys)
+filled-append : (n m : ℕ) (xs ys : List (List ℕ)) → m ≡ n + length xs → nonblank_lines (told_lines n (xs ++ ys)) ≡ nonblank_lines (told_lines n xs) ++ nonblank_lines (told_lines m ys)
 filled-append n m xs ys is =
-    ap nonblank_lines (enumerate-append n m xs ys is) ∙ filter-append (λ (line : ℕ × List ℕ). not (is_blank_line line.1)) (enumerate_from n xs) (enumerate_from m ys)
+    ap nonblank_lines (told-append n m xs ys is) ∙ filter-append (λ (line : ℕ × List ℕ). not (is_blank_line line.1)) (told_lines n xs) (told_lines m ys)
+
+-- bytes without a line feed are one line, under the number that is told of it
+told_row : (n number : ℕ) (bytes : List ℕ) → HasNoFeed bytes → number ≡ told_number n → nonblank_lines (told_lines n (source_lines bytes)) ≡ row_of number bytes
+told_row n number [] none is = refl
+told_row n number (c ∷ cs) none is =
+    let w : List ℕ = without_return (c ∷ cs) in
+    ap (λ (lines : List (List ℕ)). nonblank_lines (told_lines n lines)) (last_line (c ∷ cs) w [] (omega arith) none refl refl)
+    ∙ ap (λ (k : ℕ). nonblank_lines ((k, w) ∷ [])) (sym is) ∙ sym (row_is number (c ∷ cs) none)
 
 -- ---- rows
 
@@ -122,21 +135,22 @@ fill_refused lines m number line kind f bad more =
 -- ---- what the reader was given
 
 -- all lines that are not blank: those that ended, and the one that began
-lines_read : (bytes : List ℕ) (r : ReaderSeen) (h : HasRead bytes r) → nonblank_lines (numbered_lines bytes) ≡ nonblank_lines (enumerate_from 1 h.lines) ++ row_of (r.ended + 1) r.begun
-lines_read bytes r h =
-    ap (λ (bs : List ℕ). nonblank_lines (numbered_lines bs)) h.parts ∙ ap (λ (ls : List (List ℕ)). nonblank_lines (enumerate_from 1 ls)) (h.cut r.begun)
-    ∙ filled-append 1 (r.ended + 1) h.lines (source_lines r.begun) (omega (arith, h.counted))
+lines_read : (bytes : List ℕ) (number : ℕ) (r : ReaderSeen) (h : HasRead bytes r) → HasNoFeed r.begun → number ≡ told_number (r.ended + 1)
+    → nonblank_lines (told_lines 1 (source_lines bytes)) ≡ nonblank_lines (told_lines 1 h.lines) ++ row_of number r.begun
+lines_read bytes number r h none number_is =
+    ap (λ (bs : List ℕ). nonblank_lines (told_lines 1 (source_lines bs))) h.parts ∙ ap (λ (ls : List (List ℕ)). nonblank_lines (told_lines 1 ls)) (h.cut r.begun)
+    ∙ filled-append 1 (1 + length h.lines) h.lines (source_lines r.begun) refl
+    ∙ ap (λ (rows : List (ℕ × List ℕ)). nonblank_lines (told_lines 1 h.lines) ++ rows) (told_row (1 + length h.lines) number r.begun none (omega (arith, number_is, h.counted)))
 
 -- where reading stands with the line that began, if no more follows
-pub all_read : (bytes line : List ℕ) (number : ℕ) (r : ReaderSeen) (new : Standing) → HasRead bytes r → number ≡ r.ended + 1 → line ≡ r.begun
-    → ((lines : List (ℕ × List ℕ)) → StandsAfter lines r.standing → StandsAfter (lines ++ row_of number line) new) → StandsAfter (nonblank_lines (numbered_lines bytes)) new
-all_read bytes line number r new h number_is line_is after =
-    let lines : List (ℕ × List ℕ) = nonblank_lines (enumerate_from 1 h.lines) in
-    let rows : row_of number line ≡ row_of (r.ended + 1) r.begun = ap (λ (n : ℕ). row_of n line) number_is ∙ ap (row_of (r.ended + 1)) line_is in
-    subst (λ (all : List (ℕ × List ℕ)). StandsAfter all new) (ap (λ (more : List (ℕ × List ℕ)). lines ++ more) rows ∙ sym (lines_read bytes r h)) (after lines h.stands)
+pub all_read : (bytes line : List ℕ) (number : ℕ) (r : ReaderSeen) (new : Standing) → HasRead bytes r → HasNoFeed r.begun → number ≡ told_number (r.ended + 1) → line ≡ r.begun
+    → ((lines : List (ℕ × List ℕ)) → StandsAfter lines r.standing → StandsAfter (lines ++ row_of number line) new) → StandsAfter (nonblank_lines (told_lines 1 (source_lines bytes))) new
+all_read bytes line number r new h none number_is line_is after =
+    let lines : List (ℕ × List ℕ) = nonblank_lines (told_lines 1 h.lines) in
+    subst (λ (all : List (ℕ × List ℕ)). StandsAfter all new) (ap (λ (bs : List ℕ). lines ++ row_of number bs) line_is ∙ sym (lines_read bytes number r h none number_is)) (after lines h.stands)
 
 -- the line that began ends
-pub line_read : (bytes part : List ℕ) (r new : ReaderSeen) → HasRead bytes r → HasNoFeed (r.begun ++ part) → new.begun ≡ [] → new.ended ≡ r.ended + 1
+pub line_read : (bytes part : List ℕ) (r new : ReaderSeen) → HasRead bytes r → HasNoFeed (r.begun ++ part) → new.begun ≡ [] → new.ended ≡ told_number (r.ended + 1)
     → ((lines : List (ℕ × List ℕ)) → StandsAfter lines r.standing → StandsAfter (lines ++ row_of new.ended (r.begun ++ part)) new.standing) → HasRead ((bytes ++ part) ++ line_feed ∷ []) new
 line_read bytes part r new h none begun ended after =
     let line : List ℕ = r.begun ++ part in
@@ -147,9 +161,11 @@ line_read bytes part r new h none begun ended after =
     ∙ append_assoc ((h.closed ++ r.begun) ++ part) (line_feed ∷ []) more
     ∙ ap (λ (bs : List ℕ). bs ++ line_feed ∷ more) (append_assoc h.closed r.begun part)
     ∙ append_assoc h.closed line (line_feed ∷ more) in
-    let rows : nonblank_lines (enumerate_from 1 (h.lines ++ w ∷ [])) ≡ nonblank_lines (enumerate_from 1 h.lines) ++ row_of new.ended line =
-    filled-append 1 new.ended h.lines (w ∷ []) (omega (arith, ended, h.counted))
-    ∙ ap (λ (rows : List (ℕ × List ℕ)). nonblank_lines (enumerate_from 1 h.lines) ++ rows) (sym (row_is new.ended line none)) in
+    let number : told_number (1 + length h.lines) ≡ new.ended = omega (arith, ended, h.counted) in
+    let rows : nonblank_lines (told_lines 1 (h.lines ++ w ∷ [])) ≡ nonblank_lines (told_lines 1 h.lines) ++ row_of new.ended line =
+    filled-append 1 (1 + length h.lines) h.lines (w ∷ []) refl
+    ∙ ap (λ (n : ℕ). nonblank_lines (told_lines 1 h.lines) ++ nonblank_lines ((n, w) ∷ [])) number
+    ∙ ap (λ (rows : List (ℕ × List ℕ)). nonblank_lines (told_lines 1 h.lines) ++ rows) (sym (row_is new.ended line none)) in
     record {
       closed = all;
       lines = h.lines ++ w ∷ [];
@@ -157,8 +173,8 @@ line_read bytes part r new h none begun ended after =
       cut = λ more.
           ap source_lines (turned more) ∙ h.cut (line ++ line_feed ∷ more) ∙ ap (λ (ls : List (List ℕ)). h.lines ++ ls) (line_first line more none)
           ∙ sym (append_assoc h.lines (w ∷ []) (source_lines more));
-      counted = ended ∙ ap (λ (n : ℕ). n + 1) h.counted ∙ sym (length-append h.lines (w ∷ []));
-      stands = subst (λ (rows : List (ℕ × List ℕ)). StandsAfter rows new.standing) (sym rows) (after (nonblank_lines (enumerate_from 1 h.lines)) h.stands);
+      counted = let long = length-append h.lines (w ∷ []) in omega (arith, ended, h.counted, long);
+      stands = subst (λ (rows : List (ℕ × List ℕ)). StandsAfter rows new.standing) (sym rows) (after (nonblank_lines (told_lines 1 h.lines)) h.stands);
     }
 
 -- ---- a piece

@@ -1,7 +1,8 @@
 -- What a reader of `matrix.def` keeps of the bytes that it was given so far.
-use Rattle.std.specs.Prelude.{◌≡◌, ℕ, ◌*◌, nat_le, true, false, List, [], ◌∷◌, ◌++◌, length, Some, Ok, Err}
+use Rattle.std.specs.Prelude.{◌≡◌, ℕ, ◌*◌, ◌-◌, ◌^◌, min, nat_le, true, false, List, [], ◌∷◌, ◌++◌, length, map, Some, Result, Ok, Err}
 use Rattle.std.specs.List.{enumerate_from, list_any}
 use Rattle.mj_model.specs.declared.limits.TheConstants.{MATRIX_CELLS_MAX}
+use Rattle.mj_model.specs.declared.source_fault.SourceFault.{SourceFault}
 use Rattle.mj_model.specs.Bytes.{is_line_feed}
 use Rattle.mj_model.specs.Connection.{Connection, connection_from, sizes_from, words_of}
 use Rattle.mj_model.specs.Lines.{source_lines}
@@ -10,6 +11,18 @@ use Rattle.matrix_def.specs.Costs.{CostTable, IsMatrix, IsTableOf}
 use Rattle.matrix_def.specs.Rows.{IsFilledBy}
 use Rattle.matrix_def.specs.declared.standing.Standing.{Standing}
 use Rattle.matrix_def.specs.declared.standing.Standing.TheVariants.{Header, Rows, Refused}
+
+-- the number that is told of a line: a reader counts as far as 64 bits do, and the lines behind have the greatest number
+abbrev pub told_number : ℕ → ℕ
+told_number n = min n (2 ^ 64 - 1)
+
+-- lines by the numbers that are told of them, from a number on
+abbrev pub told_lines : ℕ → List (List ℕ) → List (ℕ × List ℕ)
+told_lines n lines = map (λ line. (told_number line.0, line.1)) (enumerate_from n lines)
+
+-- what the bytes of a `matrix.def` say, or their first fault by the number that is told of its line
+abbrev pub told_connection : List ℕ → Result Connection SourceFault
+told_connection bytes = connection_from (nonblank_lines (told_lines 1 (source_lines bytes)))
 
 -- no byte is a line feed
 abbrev pub HasNoFeed : List ℕ → Type 0
@@ -51,5 +64,5 @@ pub record HasRead (bytes : List ℕ) (r : ReaderSeen) : Type 0 where
   pub lines : List (List ℕ)
   pub parts : bytes ≡ closed ++ r.begun
   pub cut : (more : List ℕ) → source_lines (closed ++ more) ≡ lines ++ source_lines more
-  pub counted : r.ended ≡ length lines
-  pub stands : StandsAfter (nonblank_lines (enumerate_from 1 lines)) r.standing
+  pub counted : r.ended ≡ told_number (length lines)
+  pub stands : StandsAfter (nonblank_lines (told_lines 1 lines)) r.standing

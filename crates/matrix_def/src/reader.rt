@@ -1,10 +1,9 @@
 //! `matrix.def`, read piece by piece.
 ghost use Rattle.std.specs.Prelude.{◌≡◌, ℕ, List, [], ◌∷◌, ◌++◌, Err, IfOk, IfErr};
 ghost use Rattle.mj_model.specs.Bytes.{line_feed};
-ghost use Rattle.mj_model.specs.Connection.{connection_of};
 ghost use Rattle.mj_model.specs.FirstFault.{IsRefusal};
 ghost use Rattle.matrix_def.specs.Costs.{IsTableIn};
-ghost use Rattle.matrix_def.specs.Reading.{HasNoFeed, HasRead};
+ghost use Rattle.matrix_def.specs.Reading.{HasNoFeed, HasRead, told_connection};
 
 use crate::matrix::Matrix;
 use crate::standing::Standing;
@@ -19,7 +18,7 @@ use std::marker::Model;
 #[derive(Drop)]
 pub struct MatrixReader {
     alloc: Global,
-    /// How many lines ended.
+    /// How many lines ended, as far as 64 bits count.
     ended: u64,
     /// The bytes of the line that began behind them.
     begun: Vec<u8>,
@@ -76,7 +75,7 @@ impl MatrixReader {
             standing,
         } = self;
         begun.extend_from_slice(part)?;
-        let number = ended.checked_add(1).ok_or(AllocError)?;
+        let number = ended.saturating_add(1);
         let standing = standing.after(alloc, number, &begun)?;
         begun.clear();
         Ok(MatrixReader {
@@ -97,12 +96,13 @@ impl MatrixReader {
         Ok(self)
     }
 
-    /// What the bytes say: what `read_matrix` reads of them as one slice.
+    /// What the bytes say: what `read_matrix` reads of them as one slice. Of a fault behind 2^64 lines the line is told as the last that
+    /// 64 bits count.
     pub fn finish(self) -> Result<Matrix, SourceFault>
         ensures accepted { (bytes : List ℕ) → HasRead bytes self
             → IfOk result (IsTableIn bytes) }
         ensures refused { (bytes : List ℕ) → HasRead bytes self
-            → IfErr result (λ fault. IsRefusal fault (connection_of bytes ≡ Err fault)) }
+            → IfErr result (λ fault. IsRefusal fault (told_connection bytes ≡ Err fault)) }
     {
         let MatrixReader {
             alloc,
@@ -110,7 +110,7 @@ impl MatrixReader {
             begun,
             standing,
         } = self;
-        let number = ended.checked_add(1).ok_or(AllocError)?;
+        let number = ended.saturating_add(1);
         standing.after(alloc, number, &begun)?.matrix()
     }
 }

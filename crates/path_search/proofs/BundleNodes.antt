@@ -224,6 +224,16 @@ module _ (f : Surface → List Word) where
         let split : r.from + (node - r.from) ≡ node = omega (arith, low) in
         subst (λ (i : ℕ). slice_get (node_words f bundles) i ≡ Some w) split (bundle_word number r (node - r.from) w at (omega (arith, low, high)) at_w)
 
+    -- the word of a node is one of its bundle's
+    pub node_word_within : (number node : ℕ) → HasNode bundles number node
+        → (get_or bundles number no_bundle).surface.count - 1 - (node - (get_or bundles number no_bundle).from) < length (f (get_or bundles number no_bundle).surface)
+    node_word_within number node h =
+        let r = get_or bundles number no_bundle in
+        let at = slice_get-get_or bundles number no_bundle (slice_get_within bundles number h.bundle h.here) in
+        let count = (are.whole number r at).count_is in
+        let some = (are.whole number r at).some in
+        omega (arith, count, some)
+
     -- a word of a surface ends where its bundle does
     pub word_stands : (number : ℕ) (bundle : Bundle) (k : ℕ) (w : Word) → slice_get bundles number ≡ Some bundle → slice_get (f bundle.surface) k ≡ Some w → w.end ≡ bundle.surface.end
     word_stands number bundle k w at at_w = (holds_in (StandsWith bundle.surface) (f bundle.surface) k w (are.whole number bundle at).stand at_w).end

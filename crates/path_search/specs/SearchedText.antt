@@ -1,5 +1,5 @@
 -- What the search is told of a text, as one record.
-use Rattle.std.specs.Prelude.{◌≡◌, ℕ, ℤ, ◌+◌, ◌++◌, List, length, take, reverse, flat_map, slice_get, Some}
+use Rattle.std.specs.Prelude.{◌≡◌, ℕ, ℤ, ◌+◌, ◌++◌, List, Option, length, take, reverse, flat_map, slice_get, Some}
 use Rattle.std.specs.Option.{option_map_or}
 use Rattle.mj_model.specs.declared.word.Word.{Word}
 use Rattle.paths.specs.Best.{IsBestPath}
@@ -15,8 +15,8 @@ use Rattle.path_search.specs.Nodes.{AreLinked, AreBundles, HaveRights, Node, nod
 use Rattle.path_search.specs.Lattice.{IsLattice}
 
 -- a text's length in bytes, the words of each place in their order, the words of a surface, the connection cost of a right id and the
--- next word's left id, where a character begins or the text ends, which ids lie within the connection table's sizes, and what is a bundle
--- of its blanks
+-- next word's left id, where a character begins or the text ends, which ids lie within the connection table's sizes, what is a run of its
+-- blanks, and whether of the blanks of a place that was looked at enough is kept for the places behind it
 pub record SearchedText : Type 1 where
   pub text_length : ℕ
   pub words : ℕ → List Word
@@ -25,6 +25,7 @@ pub record SearchedText : Type 1 where
   pub is_place : ℕ → Type 0
   pub is_pair : ℕ → ℕ → Type 0
   pub is_blank_run : BlankRun → Type 0
+  pub is_kept : ℕ → Option BlankRun → Type 0
 
 -- it has what the search asks of a text
 abbrev pub CanBeSearched : SearchedText → Type 0

@@ -1,6 +1,6 @@
 //! The nodes of a text, place by place.
 
-ghost use Rattle.std.specs.Prelude.{◌≡◌, ◌+◌, ◌<◌, IfSome, OnOk};
+ghost use Rattle.std.specs.Prelude.{◌≡◌, ◌+◌, ◌<◌, true, slice_index_or, IfSome, OnOk};
 ghost use Rattle.path_search.specs.Nodes.{reached};
 ghost use Rattle.path_search.specs.SearchedText.{AreKeptIn, CanBeSearched, IsLatticeTo, kept_nodes};
 
@@ -79,6 +79,8 @@ fn add_place<S: WordSource>(
     ensures lattice { OnOk result (IsLatticeTo (S.says source.now)
         (kept_nodes (S.says source.now) nodes.new) (place + 1)) }
     ensures last { IfSome last.new (S.says source.now).is_blank_run }
+    ensures looked_at { reached place (slice_index_or nodes.old.heads.items place 0) ≡ true
+        → (S.says source.now).is_kept place last.new }
 {
     let head = nodes.heads[place];
     if !is_reached(place, head) {

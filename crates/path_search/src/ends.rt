@@ -85,10 +85,10 @@ fn add_bundle_ends<S: WordSource>(
     ensures { OnOk result (StandFor (nodes_in (S.says source.now) bundles.now backs.now)
         bundle.now.surface.end bundle.now.from ends.new.items) }
 {
-    let mut left = bundle.surface.count;
-    while 0 < left {
-        left -= 1;
-        let number = bundle.from + left as usize;
+    let from = bundle.from;
+    let mut number = from + bundle.surface.count as usize;
+    while from < number {
+        number -= 1;
         ends.push(node_end(number, &backs[number]))?;
     }
     Ok(())

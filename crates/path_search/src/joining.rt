@@ -1,10 +1,10 @@
 //! The choice of the best chain to a place.
 
 ghost use Rattle.std.specs.Prelude.{◌≡◌, ◌<◌, length, All, IfOk, OnOk};
-ghost use Rattle.path_search.specs.Ends.{AreLeast, HasSmallTotal, IsFollowedBy, IsLeast, IsLesser, candidate_at};
+ghost use Rattle.path_search.specs.Ends.{AreLeast, HasSmallTotal, IsFollowedBy, IsLeast, IsLesser, join_of};
 
 use crate::joins::Joins;
-use crate::node::{Candidate, End, Join};
+use crate::node::{End, Join};
 use crate::source::WordSource;
 use std::alloc::AllocError;
 
@@ -46,30 +46,27 @@ pub fn least<S: WordSource>(source: &S, ends: &[End], left: u16) -> Join
     requires pairs { All (IsFollowedBy (S.says source.now).is_pair left) ends.now }
     ensures { IsLeast (S.says source.now).connection ends.now left result }
 {
-    let mut best = candidate(source, 0, &ends[0], left);
+    let mut best = joined(source, &ends[0], left);
     for rank in 1..ends.len() {
-        best = lesser(best, candidate(source, rank, &ends[rank], left));
+        best = lesser(best, joined(source, &ends[rank], left));
     }
-    Join {
-        before: ends[best.rank].before,
-        cost: best.cost,
-    }
+    best
 }
 
-/// An end as a candidate, where a word of this left id follows.
-fn candidate<S: WordSource>(source: &S, rank: usize, end: &End, left: u16) -> Candidate
+/// An end, where a word of this left id follows.
+fn joined<S: WordSource>(source: &S, end: &End, left: u16) -> Join
     requires total { HasSmallTotal end.now }
     requires pair { IsFollowedBy (S.says source.now).is_pair left end.now }
-    ensures { result ≡ candidate_at (S.says source.now).connection left rank end.now }
+    ensures { result ≡ join_of (S.says source.now).connection left end.now }
 {
-    Candidate {
-        rank,
+    Join {
+        before: end.before,
         cost: end.total + i64::from(source.connection_cost(end.right, left)),
     }
 }
 
 /// The lesser of the best so far and the next one.
-fn lesser(best: Candidate, next: Candidate) -> Candidate
+fn lesser(best: Join, next: Join) -> Join
     ensures { IsLesser best next result }
 {
     if next.cost < best.cost { next } else { best }

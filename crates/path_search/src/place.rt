@@ -120,11 +120,12 @@ impl Place<'_> {
         ensures joins { OnOk result (AreLeast (S.says source.now).connection
             self.now.ends.now joins.new) }
     {
-        let surface = self.surfaces[number];
+        let surface = &self.surfaces[number];
+        let words = source.words_of(surface);
         let mut i = surface.count;
         while 0 < i {
             i -= 1;
-            let word = source.word(&surface, i);
+            let word = source.word(&words, i);
             self.add_word(source, bundles, backs, &word, joins)?;
         }
         Ok(())

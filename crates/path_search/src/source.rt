@@ -1,6 +1,7 @@
 //! Where the search takes words and connection costs from.
 
-ghost use Rattle.std.specs.Prelude.{◌≡◌, ◌<◌, slice_get, IfSome, OnOk, OnErr, Some};
+ghost use Rattle.std.specs.Prelude.{◌≡◌, ◌<◌, List, length, slice_get, IfSome, OnOk, OnErr, Some};
+ghost use Rattle.mj_model.specs.declared.word.Word.{Word};
 ghost use Rattle.mj_model.specs.Lists.{GrowsBy};
 ghost use Rattle.paths.specs.Surfaces.{IsWhole};
 ghost use Rattle.path_search.specs.SearchedText.{AreSurfacesAt, SearchedText};
@@ -11,7 +12,14 @@ use std::alloc::AllocError;
 
 /// A text over dictionaries: the words of each place as surfaces, and the cost of each connection.
 pub trait WordSource {
-    /// The text's length, its words, those of its surfaces, its connections, its places, its pairs of ids and its runs of blanks.
+    /// The words of a surface, of which each can be read.
+    type Words: Drop;
+
+    /// All of them, in their order.
+    ghost words_in: { Self.Words → List Word };
+
+    /// The text's length, its words, those of its surfaces, its connections, its places, its pairs of ids, its runs of blanks and what is
+    /// kept of them.
     ghost says: { Self → SearchedText };
 
     /// In bytes.
@@ -31,13 +39,18 @@ pub trait WordSource {
         ensures appended { OnOk result
             (GrowsBy (AreSurfacesAt (says self.now) place) out.old.items out.new.items) }
         ensures kept { OnErr result (out.new.items ≡ out.old.items) }
-        ensures last { IfSome last.new (says self.now).is_blank_run };
+        ensures last { IfSome last.new (says self.now).is_blank_run }
+        ensures looked_at { (says self.now).is_kept place last.new };
 
-    /// Word `i` of a surface.
-    fn word(&self, surface: &Surface, i: u32) -> Word
-        requires surface { IsWhole (says self.now).surface_words surface.now }
-        requires within { i < surface.now.count }
-        ensures { slice_get ((says self.now).surface_words surface.now) i ≡ Some result };
+    /// The words of a surface: what is the same for all of them is looked up once.
+    fn words_of(&self, surface: &Surface) -> Self::Words
+        requires { IsWhole (says self.now).surface_words surface.now }
+        ensures { words_in result ≡ (says self.now).surface_words surface.now };
+
+    /// Word `i` of them.
+    fn word(&self, words: &Self::Words, i: u32) -> Word
+        requires { i < length (words_in words.now) }
+        ensures { slice_get (words_in words.now) i ≡ Some result };
 
     fn connection_cost(&self, right: u16, left: u16) -> i16
         requires { (says self.now).is_pair right left }

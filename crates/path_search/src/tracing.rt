@@ -110,5 +110,5 @@ fn node_word<S: WordSource>(source: &S, bundles: &[Bundle], number: usize, node:
 {
     let bundle = &bundles[number];
     let after_it = bundle.surface.count - 1 - (node - bundle.from) as u32;
-    source.word(&bundle.surface, after_it)
+    source.word(&source.words_of(&bundle.surface), after_it)
 }

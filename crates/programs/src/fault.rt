@@ -2,10 +2,9 @@
 
 ghost use Rattle.std.specs.Prelude.{◌≡◌, ◌⊎◌, None, IfSome, true, false};
 ghost use Rattle.std.specs.IoError.{error_kind};
-ghost use Rattle.programs.specs.Faults.{BelongsToNoFile, Names, fault_words};
+ghost use Rattle.programs.specs.Faults.{BelongsToNoFile, IsForMemory, Names, fault_words};
 ghost use Rattle.programs.specs.declared.fault.Fault.TheVariants.{File, Memory, Source, Sources};
 ghost use Rattle.programs.specs.declared.fault.Fault.TheVariants.{Overlay};
-ghost use Rattle.programs.specs.declared.reading.ReadFault.TheVariants.{Memory as OutOfMemory};
 
 use crate::reading::ReadFault;
 use mj_model::{
@@ -56,7 +55,7 @@ impl Fault {
     /// The fault of the file at a path whose bytes can't be had.
     pub fn of_reading(alloc: Global, path: &str, fault: ReadFault) -> Fault
         ensures path { Names File path.now result }
-        ensures memory { fault ≡ OutOfMemory → result ≡ Memory }
+        ensures memory { IsForMemory fault → result ≡ Memory }
     {
         let error = match fault {
             ReadFault::Device(error) => error,

@@ -1,12 +1,17 @@
 //! A file that was read whole.
 
-ghost use Rattle.std.specs.Prelude.{◌≡◌, IfOk, map, string_bytes};
+ghost use Rattle.std.specs.Prelude.{◌≡◌, All, IfOk, IfErr, IfSome, map, string_bytes};
+ghost use Rattle.std.specs.Io.KnownBytes.{IsAtEnd};
+ghost use Rattle.programs.specs.Faults.{Names, NamesOneOf};
+ghost use Rattle.programs.specs.Reading.{AreOfAFile};
+ghost use Rattle.programs.specs.declared.fault.Fault.TheVariants.{File};
 
 use crate::fault::Fault;
-use crate::reading::{ReadFault, read_whole};
+use crate::reading::read_whole;
 use mj_model::READS_MAX;
 use std::alloc::{AllocError, Global};
 use std::fs;
+use std::io::Read;
 use std::rt::Files;
 use std::string::String;
 
@@ -20,25 +25,41 @@ pub struct WholeFile {
 impl WholeFile {
     /// Reads the file at a path, within `READS_MAX` reads.
     pub fn read<R: Files + AllocGlobal>(rt: &R, path: &str) -> Result<WholeFile, Fault>
-        ensures path { IfOk result (λ file. string_bytes file.path ≡ path.now) }
+        ensures path { IfOk result (λ whole. string_bytes whole.path ≡ path.now) }
+        ensures bytes { IfOk result (λ whole. AreOfAFile R.File.remaining whole.bytes.items) }
+        ensures fault { IfErr result (Names File path.now) }
     {
-        let bytes = bytes_at(rt, path).map_err(|fault| Fault::of_reading(rt.alloc(), path, fault))?;
-        Ok(WholeFile {
-            path: String::from_str(rt.alloc(), path)?,
-            bytes,
-        })
+        match fs::open(rt, path) {
+            Ok(mut file) => WholeFile::read_from(rt.alloc(), path, &mut file),
+            Err(error) => Err(Fault::of_file(rt.alloc(), path, &error)),
+        }
+    }
+
+    /// Reads what is left of a file that was opened at a path, within `READS_MAX` reads.
+    pub fn read_from<F: Read>(alloc: Global, path: &str, file: &mut F) -> Result<WholeFile, Fault>
+        ensures path { IfOk result (λ whole. string_bytes whole.path ≡ path.now) }
+        ensures bytes { IfOk result (λ whole.
+            IfSome (F.remaining file.old) (λ known. whole.bytes.items ≡ known)) }
+        ensures end { IfOk result (λ _. IsAtEnd (F.remaining file.new)) }
+        ensures fault { IfErr result (Names File path.now) }
+    {
+        match read_whole(alloc, file, READS_MAX) {
+            Ok(bytes) => Ok(WholeFile {
+                path: String::from_str(alloc, path)?,
+                bytes,
+            }),
+            Err(fault) => Err(Fault::of_reading(alloc, path, fault)),
+        }
     }
 }
 
-fn bytes_at<R: Files + AllocGlobal>(rt: &R, path: &str) -> Result<Vec<u8>, ReadFault> {
-    let mut file = fs::open(rt, path).map_err(ReadFault::Device)?;
-    read_whole(rt.alloc(), &mut file, READS_MAX)
-}
-
-/// Reads the files at paths, one after the other.
+/// Reads the files at paths, one after the other, up to the first that can't be read.
 pub fn read_files<R: Files + AllocGlobal>(rt: &R, paths: &[String]) -> Result<Vec<WholeFile>, Fault>
     ensures paths { IfOk result (λ files. map (λ file. string_bytes file.path) files.items
         ≡ map (λ path. string_bytes path) paths.now) }
+    ensures bytes { IfOk result (λ files.
+        All (λ file. AreOfAFile R.File.remaining file.bytes.items) files.items) }
+    ensures fault { IfErr result (NamesOneOf paths.now) }
 {
     let mut files = Vec::new(rt.alloc());
     for path in paths {

@@ -7,7 +7,7 @@ use Rattle.std.proofs.lemmas.List.{drop_more, length-take, length-drop, length-m
 use Rattle.std.proofs.lemmas.Option.{get_or_from_slice_get, same_Some, slice_get-map, slice_get_within}
 use Rattle.mj_model.specs.declared.word.Word.{Word}
 use Rattle.mj_model.specs.Lists.{up_to, StandsIn}
-use Rattle.mj_model.specs.Tables.{Lexeme, Overlay, Tables, Token}
+use Rattle.mj_model.specs.Tables.{Lexeme, Tables, Token}
 use Rattle.mj_model.proofs.Members.{append_in, each_holds, flat_map_in, in_filter, in_map, in_up_to, map_in}
 use Rattle.image_bytes.specs.ImageMeaning.{entries_under}
 use Rattle.dict_image.specs.declared.ids_and_cost.IdsAndCost.{IdsAndCost}
@@ -19,7 +19,7 @@ use Rattle.paths.specs.declared.entry_list.EntryList.{EntryList}
 use Rattle.paths.specs.declared.surface.Surface.{Surface}
 use Rattle.paths.specs.Surfaces.{origin_in}
 use Rattle.word_lookup.specs.EntryWords.{entry_word}
-use Rattle.word_lookup.specs.Surfaces.{surface_words, tokens_of, word_with}
+use Rattle.word_lookup.specs.Surfaces.{word_with, words_among}
 
 -- an entry stands at the place of its number
 abbrev pub StandsAtNumber : List Token → Token → Type 0
@@ -121,6 +121,14 @@ row_within all f first count i whole less =
     let c = length-drop first all in
     omega (arith, whole, less, a, b, c)
 
+-- a word of a row is that of one of all, and there are as many as the row counts at most
+pub entry_within : (all : List Token) (f : Token → Word) (first count i : ℕ) → i < length (map f (take count (drop first all))) → (first + i < length all) × (i < count)
+entry_within all f first count i less =
+    let a = length-map (take count (drop first all)) f in
+    let b = length-take count (drop first all) in
+    let c = length-drop first all in
+    (omega (arith, less, a, b, c), omega (arith, less, a, b, c))
+
 -- the word of an entry, by its number, ids and cost
 word_by : (list : EntryList) (place start end n : ℕ) (ids : IdsAndCost) (o : Option Token) → ((t : Token) → o ≡ Some t → t.number ≡ n) → option_map ids_and_cost_of o ≡ Some ids
     → option_map (entry_word list place start end) o ≡ Some (record { place = place; start = start; end = end; left = ids.left; right = ids.right; cost = ids.cost; origin = origin_in list n })
@@ -130,10 +138,11 @@ word_by list place start end n ids (Some t) numbered h =
     let number = numbered t refl in
     ap Some (λ k. record { place = place; start = start; end = end; left = (same k).left; right = (same k).right; cost = (same k).cost; origin = origin_in list (number k) })
 
-pub word_is : (o : Overlay) (s : Surface) (i : ℕ) (ids : IdsAndCost) (all : List Token) → i < s.count → tokens_of o s.list ≡ all → ((i : ℕ) (t : Token) → slice_get all i ≡ Some t → t.number ≡ i)
-    → option_map ids_and_cost_of (slice_get all (s.first + i)) ≡ Some ids → slice_get (surface_words o s) i ≡ Some (word_with s (s.first + i) ids)
-word_is o s i ids all less e numbered h =
+-- a word of a surface whose entries are among these, by its number, ids and cost
+pub word_is : (all : List Token) (s : Surface) (i : ℕ) (ids : IdsAndCost) → i < s.count → ((i : ℕ) (t : Token) → slice_get all i ≡ Some t → t.number ≡ i)
+    → option_map ids_and_cost_of (slice_get all (s.first + i)) ≡ Some ids → slice_get (words_among all s) i ≡ Some (word_with s (s.first + i) ids)
+word_is all s i ids less numbered h =
     let f = entry_word s.list s.place s.start s.end in
-    slice_get-map f (take s.count (drop s.first (tokens_of o s.list))) i
-    ∙ ap (option_map f) (get_in_row (tokens_of o s.list) s.first s.count i less ∙ ap (λ (ts : List Token). slice_get ts (s.first + i)) e)
+    slice_get-map f (take s.count (drop s.first all)) i
+    ∙ ap (option_map f) (get_in_row all s.first s.count i less)
     ∙ word_by s.list s.place s.start s.end (s.first + i) ids (slice_get all (s.first + i)) (numbered (s.first + i)) h

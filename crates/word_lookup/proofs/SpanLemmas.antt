@@ -19,7 +19,7 @@ use Rattle.paths.specs.Run.{run, alike, bytes_of}
 use Rattle.paths.specs.UnknownSpans.{grouped_span, length_spans, one_if_none, spans_of}
 use Rattle.word_lookup.specs.declared.run.Run.{Run}
 use Rattle.word_lookup.specs.declared.spans.Spans.{Spans}
-use Rattle.word_lookup.specs.Spans.{grouped_spans, spans_in, HasBytes}
+use Rattle.word_lookup.specs.Spans.{grouped_spans, looked_ahead, spans_in, HasBytes}
 use Rattle.word_lookup.proofs.RunLemmas.{bytes_behind}
 
 -- ---- lengths
@@ -159,16 +159,28 @@ spans_found info category none_known grouping limit first cs seen_run seen bytes
     ∙ ap (λ (n : ℕ). one_if_none none_known (grouped_seen category.group grouping seen_run ++ up_to n)) long
     ∙ seen_spans category none_known grouping limit (run info (info first) cs) seen_run (alike info first cs) (1 + seen) made far far_enough is_run (alike_seen info first category.length cs seen is_seen)
 
+-- so many characters as are looked at tell whether more follow than the grouping
+ahead_of_grouping : (group : Bool) (grouping len : ℕ) → group ≡ true → grouping + 1 ≤ cond group (max (grouping + 1) len) 0
+ahead_of_grouping true grouping len is = omega arith
+ahead_of_grouping false grouping len is = absurd (cc)
+
+-- and whether so many follow as LENGTH says
+ahead_of_lengths : (group : Bool) (grouping len : ℕ) → group ≡ true → len ≤ cond group (max (grouping + 1) len) 0
+ahead_of_lengths true grouping len is = omega arith
+ahead_of_lengths false grouping len is = absurd (cc)
+
 -- the same, where the categories of the first character are known as an entry
 pub spans_found_from : (info : ℕ → CharInfo) (category wanted : Category) (none_known : Bool) (grouping limit first : ℕ) (entry : CharInfo) (cs : List ℕ) (seen_run seen n bytes : ℕ) (spans result : Spans)
     → entry ≡ info first → wanted ≡ category → n ≡ category.length → (category.invoke || none_known) ≡ true
-    → (category.group ≡ true → grouping + 1 ≤ limit) → (category.group ≡ true → category.length ≤ limit)
+    → limit ≡ looked_ahead category grouping
     → seen_run ≡ min limit (run info entry cs) → seen ≡ length (take_while (λ c. shares entry (info c)) (take n cs))
     → spans.grouped ≡ cond (category.group && nat_le seen_run grouping) (Some (record { characters = 1 + seen_run; bytes = bytes })) None
     → spans.longest ≡ longest category.group category.length (1 + seen) seen_run
     → spans_in result ≡ one_if_none none_known (spans_in spans)
     → spans_in result ≡ spans_of wanted none_known grouping (1 + run info (info first) cs) (alike info first cs)
-spans_found_from info category wanted none_known grouping limit first entry cs seen_run seen n bytes spans result e w is_n made far far_enough is_run is_seen grouped long found =
+spans_found_from info category wanted none_known grouping limit first entry cs seen_run seen n bytes spans result e w is_n made limit_is is_run is_seen grouped long found =
+    let far : category.group ≡ true → grouping + 1 ≤ limit = λ group. subst (λ (n : ℕ). grouping + 1 ≤ n) (sym limit_is) (ahead_of_grouping category.group grouping category.length group) in
+    let far_enough : category.group ≡ true → category.length ≤ limit = λ group. subst (λ (n : ℕ). category.length ≤ n) (sym limit_is) (ahead_of_lengths category.group grouping category.length group) in
     let runs : seen_run ≡ min limit (run info (info first) cs) = is_run ∙ ap (λ (i : CharInfo). min limit (run info i cs)) e in
     let sees : seen ≡ length (take_while (λ c. shares (info first) (info c)) (take category.length cs)) =
     is_seen ∙ ap (λ (i : CharInfo). length (take_while (λ c. shares i (info c)) (take n cs))) e ∙ ap (λ (k : ℕ). length (take_while (λ c. shares (info first) (info c)) (take k cs))) is_n in

@@ -1,5 +1,5 @@
 -- Unknown spans as they are looked up.
-use Rattle.std.specs.Prelude.{◌≡◌, ℕ, ◌+◌, min, nat_le, ◌&&◌, if◌then◌else◌, List, [], ◌∷◌, ◌++◌, Option, Some, None}
+use Rattle.std.specs.Prelude.{◌≡◌, ℕ, ◌+◌, max, min, nat_le, ◌&&◌, if◌then◌else◌, List, [], ◌∷◌, ◌++◌, Option, Some, None}
 use Rattle.std.specs.Char.{len_utf8}
 use Rattle.mj_model.specs.declared.category.Category.{Category}
 use Rattle.mj_model.specs.Lists.{up_to}
@@ -14,6 +14,11 @@ grouped_spans (Some run) = run.characters ∷ []
 -- the grouped span, then those of 1 character to the longest
 abbrev pub spans_in : Spans → List ℕ
 spans_in s = grouped_spans s.grouped ++ up_to s.longest
+
+-- how many characters behind the first one are looked at for its run: none where the category doesn't group, else so many that
+-- it is seen whether more follow than the grouping, and whether so many follow as LENGTH says
+abbrev pub looked_ahead : Category → ℕ → ℕ
+looked_ahead category grouping = if category.group then max (grouping + 1) category.length else 0
 
 -- the whole run of a first character and those after it, where the category groups and no more than the grouping follow
 abbrev pub grouped_with : Category → ℕ → ℕ → Run → Option Run

@@ -21,9 +21,13 @@ abbrev pub tokens_of : Overlay → EntryList → List Token
 tokens_of o (Lexicon dict) = option_map_or numbered_tokens (slice_get (all_tables o) dict) []
 tokens_of o Categories = numbered_tokens o.system
 
--- the words of a surface: those of the entries with its numbers
+-- the words of a surface whose entries are among these: those of the entries with its numbers
+abbrev pub words_among : List Token → Surface → List Word
+words_among tokens s = map (entry_word s.list s.place s.start s.end) (take s.count (drop s.first tokens))
+
+-- the words of a surface: those of its list
 abbrev pub surface_words : Overlay → Surface → List Word
-surface_words o s = map (entry_word s.list s.place s.start s.end) (take s.count (drop s.first (tokens_of o s.list)))
+surface_words o s = words_among (tokens_of o s.list) s
 
 -- the word of a surface whose entry has this number, ids and cost
 abbrev pub word_with : Surface → ℕ → IdsAndCost → Word

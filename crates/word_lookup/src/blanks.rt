@@ -3,7 +3,7 @@
 ghost use Rattle.std.specs.Prelude.{◌≡◌, ◌<◌, ◌≤◌, IsTrue, IfSome};
 ghost use Rattle.paths.specs.Blanks.{skip};
 ghost use Rattle.paths.specs.Words.{is_place};
-ghost use Rattle.word_lookup.specs.BlankRuns.{IsBlankRun, begins_with_blank};
+ghost use Rattle.word_lookup.specs.BlankRuns.{IsBlankRun, IsKept, begins_with_blank};
 ghost use Rattle.word_lookup.specs.Overlays.{overlay_of};
 
 use crate::dictionaries::Dictionaries;
@@ -47,6 +47,8 @@ impl<'a> Dictionaries<'a> {
         requires last { IfSome last.old (IsBlankRun (overlay_of self.now) text.now) }
         ensures behind { result ≡ skip (overlay_of self.now) text.now place }
         ensures last { IfSome last.new (IsBlankRun (overlay_of self.now) text.now) }
+        // So a run of blanks is looked at once, however many places in it are asked for.
+        ensures looked_at { IsKept place result last.new }
     {
         match *last {
             Some(run) if run.contains(place) => self.blanks_within(run, text, place),
@@ -64,7 +66,8 @@ impl<'a> Dictionaries<'a> {
         requires run { IsBlankRun (overlay_of self.now) text.now run }
         requires from { run.from ≤ place }
         requires to { place < run.to }
-        ensures { result ≡ skip (overlay_of self.now) text.now place }
+        ensures behind { result ≡ skip (overlay_of self.now) text.now place }
+        ensures within { result ≤ run.to }
     {
         if self.begins_with_blank(behind(text, place)) {
             run.to

@@ -1,11 +1,11 @@
 //! How many characters the unknown words of a place have. (MeCab, unk)
 
-ghost use Rattle.std.specs.Prelude.{◌≡◌, ◌+◌, ◌<◌, ◌≤◌, ◌||◌, ◌^◌, ◌∷◌, length, chars, IfSome, max, true};
+ghost use Rattle.std.specs.Prelude.{◌≡◌, ◌+◌, ◌<◌, ◌≤◌, ◌||◌, ◌^◌, ◌∷◌, length, chars, IfSome, max};
 ghost use Rattle.std.specs.Char.{len_utf8};
 ghost use Rattle.paths.specs.UnknownSpans.{spans_by, one_if_none};
 ghost use Rattle.image_bytes.specs.ImageMeaning.{image_tables};
 ghost use Rattle.mj_model.specs.Tables.{System};
-ghost use Rattle.word_lookup.specs.Spans.{spans_in, grouped_with, longest_of, HasBytes};
+ghost use Rattle.word_lookup.specs.Spans.{spans_in, grouped_with, longest_of, looked_ahead, HasBytes};
 
 use crate::run::{Run, alike_up_to, run_up_to};
 use dict_image::Dict;
@@ -62,9 +62,7 @@ fn makes_words(category: Category, none_known: bool) -> bool
 
 /// How many characters of the run behind the first one matter.
 fn look_ahead(category: Category, grouping: u16) -> usize
-    ensures grouping { category.group ≡ true → grouping + 1 ≤ result }
-    ensures lengths { category.group ≡ true → category.length ≤ result }
-    ensures fits { result ≤ 65536 }
+    ensures { result ≡ looked_ahead category grouping }
 {
     if !category.group {
         return 0;

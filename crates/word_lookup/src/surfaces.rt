@@ -3,7 +3,7 @@
 ghost use Rattle.std.specs.Prelude.{◌≡◌, [], take, vec_len, IsTrue, IsOk, IfSome, OnOk, OnErr};
 ghost use Rattle.paths.specs.Blanks.{skip};
 ghost use Rattle.paths.specs.Words.{is_place, words, words_from};
-ghost use Rattle.word_lookup.specs.BlankRuns.{IsBlankRun};
+ghost use Rattle.word_lookup.specs.BlankRuns.{IsBlankRun, IsKept};
 ghost use Rattle.word_lookup.specs.Overlays.{overlay_of};
 ghost use Rattle.word_lookup.specs.Surfaces.{GrowsByWords};
 ghost use Rattle.word_lookup.specs.WordsHere.{unknown_here};
@@ -34,6 +34,7 @@ impl<'a> Dictionaries<'a> {
         // Where there are none, no memory is taken.
         ensures none { words (overlay_of self.now) text.now place ≡ [] → IsOk result }
         ensures last { IfSome last.new (IsBlankRun (overlay_of self.now) text.now) }
+        ensures looked_at { IsKept place (skip (overlay_of self.now) text.now place) last.new }
     {
         let start = self.blanks_in_turn(text, place, last);
         if start == text.len() {

@@ -8,10 +8,11 @@ ghost use Rattle.dict_image.specs.Numbered.{numbered_tokens};
 ghost use Rattle.paths.specs.Surfaces.{IsWhole};
 ghost use Rattle.paths.specs.Words.{is_place, words};
 ghost use Rattle.word_lookup.specs.Overlays.{overlay_of};
-ghost use Rattle.word_lookup.specs.Surfaces.{surface_words, tokens_of, word_with as word_of_surface};
+ghost use Rattle.word_lookup.specs.Surfaces.{surface_words, tokens_of};
 
 use crate::dictionaries::Dictionaries;
-use dict_image::{Dict, IdsAndCost};
+use crate::surface_words::SurfaceWords;
+use dict_image::Dict;
 use mj_model::Word;
 use paths::{EntryList, Surface};
 use std::alloc::{AllocError, Global};
@@ -23,9 +24,15 @@ impl<'a> Dictionaries<'a> {
         requires within { i < surface.now.count }
         ensures { slice_get (surface_words (overlay_of self.now) surface.now) i ≡ Some result }
     {
-        let dict = self.listed(surface.list);
-        let token = surface.first + i;
-        word_with(surface, token, dict.ids_and_cost(token))
+        self.words_of(surface).word(i)
+    }
+
+    /// The words of a surface of these dictionaries.
+    pub fn words_of(&self, surface: &Surface) -> SurfaceWords<'a>
+        requires { IsWhole (surface_words (overlay_of self.now)) surface.now }
+        ensures { result ≡ surface_words (overlay_of self.now) surface.now }
+    {
+        SurfaceWords::among(self.listed(surface.list), *surface)
     }
 
     /// The dictionary of a list that has entries.
@@ -92,20 +99,5 @@ impl<'a> Dictionaries<'a> {
             out.push(self.word(surface, i))?;
         }
         Ok(())
-    }
-}
-
-/// The word of a surface whose entry has this number, ids and cost.
-fn word_with(surface: &Surface, token: u32, ids: IdsAndCost) -> Word
-    ensures { result ≡ word_of_surface surface.now token ids }
-{
-    Word {
-        place: surface.place,
-        start: surface.start,
-        end: surface.end,
-        left: ids.left,
-        right: ids.right,
-        cost: ids.cost,
-        origin: surface.list.origin(token),
     }
 }

@@ -21,6 +21,9 @@ pub enum Base {
         chars: String,
         unk: String,
     },
-    /// The system dictionary of an image: they make a user dictionary for it.
-    System(String),
+    /// The system dictionary of an image, whose digest may be skipped: they make a user dictionary for it.
+    System {
+        dic: String,
+        skip_digest: bool,
+    },
 }

@@ -1,6 +1,6 @@
 //! What `dictc` and its subcommands take.
 
-use crate::about::{EXPLAIN, VERBOSE};
+use crate::about::{EXPLAIN, SKIP_DIGEST, VERBOSE};
 use crate::row::Name::{Long, Words};
 use crate::row::{NEEDED, Row, WORDS};
 
@@ -31,9 +31,10 @@ pub(super) static SYSTEM_ROWS: [Row; 6] = [
 
 /// What `dictc user` takes, in the order of help.
 #[rattlefmt::skip]
-pub(super) static USER_ROWS: [Row; 4] = [
+pub(super) static USER_ROWS: [Row; 5] = [
     Row { id: "dic", name: Long("dic"), taken: NEEDED, values: &["IMG"], excluded: &[],
         help: "The image of the system dictionary that it is made for" },
+    SKIP_DIGEST,
     OUT,
     VERBOSE,
     LEXICONS,

@@ -5,8 +5,12 @@ use std::string::String;
 /// By what the text is cut.
 #[derive(PartialEq, Drop)]
 pub enum Input {
-    /// The images of a system dictionary and of user dictionaries laid over it.
-    Images { dic: String, users: Vec<String> },
+    /// The images of a system dictionary and of user dictionaries laid over it, whose digests may be skipped.
+    Images {
+        dic: String,
+        users: Vec<String>,
+        skip_digest: bool,
+    },
     /// The source files of this directory.
     Sources(String),
     /// The sample's sources.

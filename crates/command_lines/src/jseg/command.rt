@@ -3,7 +3,7 @@
 use super::choices::{Input, Options};
 use super::mecab_habits::{HABITS, habit_in};
 use super::rows::{INPUTS, ROWS};
-use crate::about::{VERSION, explained};
+use crate::about::{VERSION, answer_explain};
 use crate::options_fault::OptionsFault;
 use crate::row::with_rows;
 use crate::words::{found, text_of, texts_of};
@@ -12,24 +12,27 @@ use mj_model::GROUPING_DEFAULT;
 use std::alloc::{AllocError, Global};
 use std::string::String;
 
+/// The name of the program.
+pub(crate) const NAME: &str = "jseg";
+
 /// What is said where nothing says by what the text is to be cut.
 const NO_INPUT: &str = "one of -d IMG, --sources DIR and --sample has to be given";
 
 /// Reads the words that follow the program's name.
 pub fn options(alloc: Global, words: Vec<String>) -> Result<Options, OptionsFault> {
-    let matches = found(alloc, command(alloc)?, words.as_slice())?;
-    if let Some(answer) = explained(alloc, &matches) {
-        return Err(answer);
-    }
+    let matches = found(alloc, NAME, command(alloc)?, words.as_slice()).map_err(
+        |fault| fault.without_tip(alloc),
+    )?;
+    answer_explain(alloc, NAME, &matches)?;
     match habit_in(&matches) {
-        Some(instead) => Err(OptionsFault::wrong(alloc, instead)),
+        Some(instead) => Err(OptionsFault::wrong(alloc, NAME, instead)),
         None => choices(alloc, &matches),
     }
 }
 
 /// What the program takes.
 fn command<'a>(alloc: Global) -> Result<Command<'a>, AllocError> {
-    let command = Command::new(alloc, "jseg")
+    let command = Command::new(alloc, NAME)
         .about("Cuts the Japanese text on standard input into words")
         .version(VERSION)
         .override_usage("jseg [OPTIONS] <-d IMG|--sources DIR|--sample> < TEXT")
@@ -50,7 +53,7 @@ fn input_group<'a>(alloc: Global) -> Result<ArgGroup<'a>, AllocError> {
 /// The choices that were found.
 fn choices(alloc: Global, matches: &ArgMatches<'_>) -> Result<Options, OptionsFault> {
     let Some(input) = input(alloc, matches)? else {
-        return Err(OptionsFault::wrong(alloc, NO_INPUT));
+        return Err(OptionsFault::wrong(alloc, NAME, NO_INPUT));
     };
     Ok(Options {
         input,
@@ -67,8 +70,11 @@ fn choices(alloc: Global, matches: &ArgMatches<'_>) -> Result<Options, OptionsFa
 /// By what the text is cut: an image, a directory or the sample; None where none is given.
 fn input(alloc: Global, matches: &ArgMatches<'_>) -> Result<Option<Input>, AllocError> {
     if let Some(dic) = text_of(alloc, matches, "dic")? {
-        let users = texts_of(alloc, matches, "users")?;
-        return Ok(Some(Input::Images { dic, users }));
+        return Ok(Some(Input::Images {
+            dic,
+            users: texts_of(alloc, matches, "users")?,
+            skip_digest: matches.get_flag("skip-digest"),
+        }));
     }
     if let Some(dir) = text_of(alloc, matches, "sources")? {
         return Ok(Some(Input::Sources(dir)));

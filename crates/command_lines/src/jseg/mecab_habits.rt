@@ -1,22 +1,60 @@
 //! What MeCab's users type first and `jseg` doesn't take, each with what to do instead.
 
-use crate::row::Name::{Letter, Words};
+use crate::row::Name::{Both, Long, Words};
 use crate::row::{REFUSED, REFUSED_WORDS, Row};
 use clap::ArgMatches;
 
 /// What is taken only to be refused: words that are no options, then MeCab's options. Help says what to do instead.
 #[rattlefmt::skip]
-pub(super) static HABITS: [Row; 5] = [
+pub(super) static HABITS: [Row; 24] = [
     Row { id: "words", name: Words, taken: REFUSED_WORDS, values: &[], excluded: &[],
         help: "jseg reads the text on standard input: jseg -d IMG < FILE" },
-    Row { id: "nbest", name: Letter('N'), taken: REFUSED, values: &[], excluded: &[],
+    Row { id: "nbest", name: Both('N', "nbest"), taken: REFUSED, values: &[], excluded: &[],
         help: "-N is not known: jseg writes the one best path, so leave it out" },
-    Row { id: "buffer", name: Letter('b'), taken: REFUSED, values: &[], excluded: &[],
-        help: "-b is not needed: a line may have 1,048,576 bytes, so leave it out" },
-    Row { id: "file", name: Letter('o'), taken: REFUSED, values: &[], excluded: &[],
+    Row { id: "all-morphs", name: Both('a', "all-morphs"), taken: REFUSED, values: &[], excluded: &[],
+        help: "-a is not known: jseg writes the one best path, so leave it out" },
+    Row { id: "lattice-level", name: Both('l', "lattice-level"), taken: REFUSED, values: &[], excluded: &[],
+        help: "-l is not known: jseg writes the one best path, so leave it out" },
+    Row { id: "marginal", name: Both('m', "marginal"), taken: REFUSED, values: &[], excluded: &[],
+        help: "-m is not known: jseg computes no probabilities, so leave it out" },
+    Row { id: "theta", name: Both('t', "theta"), taken: REFUSED, values: &[], excluded: &[],
+        help: "-t is not known: jseg computes no probabilities, so leave it out" },
+    Row { id: "cost-factor", name: Both('c', "cost-factor"), taken: REFUSED, values: &[], excluded: &[],
+        help: "-c is not known: jseg computes no probabilities, so leave it out" },
+    Row { id: "partial", name: Both('p', "partial"), taken: REFUSED, values: &[], excluded: &[],
+        help: "-p is not known: jseg cuts lines of text, and takes no words that were cut before" },
+    Row { id: "eon-format", name: Both('S', "eon-format"), taken: REFUSED, values: &[], excluded: &[],
+        help: "-S is not known: it ends N paths, and jseg writes one, so leave it out" },
+    Row { id: "unk-feature", name: Both('x', "unk-feature"), taken: REFUSED, values: &[], excluded: &[],
+        help: "-x is not known: give -U a format that has the text in place of %H" },
+    Row { id: "output-file", name: Both('o', "output"), taken: REFUSED, values: &[], excluded: &[],
         help: "-o is not known: jseg writes to standard output, so end with '> FILE'" },
-    Row { id: "rcfile", name: Letter('r'), taken: REFUSED, values: &[], excluded: &[],
+    Row { id: "rcfile", name: Both('r', "rcfile"), taken: REFUSED, values: &[], excluded: &[],
         help: "-r is not known: jseg reads no dicrc, so give its formats with -F, -U, -B and -E" },
+    Row { id: "dictionary-info", name: Both('D', "dictionary-info"), taken: REFUSED, values: &[], excluded: &[],
+        help: "-D is not known: -v tells what is loaded" },
+    Row { id: "dump-config", name: Both('P', "dump-config"), taken: REFUSED, values: &[], excluded: &[],
+        help: "-P is not known: --help lists what jseg takes" },
+    Row { id: "input-buffer-size", name: Both('b', "input-buffer-size"), taken: REFUSED, values: &[], excluded: &[],
+        help: "-b is not needed: a line may have 1,048,576 bytes, so leave it out" },
+    Row { id: "allocate-sentence", name: Both('C', "allocate-sentence"), taken: REFUSED, values: &[], excluded: &[],
+        help: "-C is not needed: jseg keeps each line itself, so leave it out" },
+    Row { id: "dicdir", name: Long("dicdir"), taken: REFUSED, values: &[], excluded: &[],
+        help: "--dicdir is not known: write -d IMG" },
+    Row { id: "userdic", name: Long("userdic"), taken: REFUSED, values: &[], excluded: &[],
+        help: "--userdic is not known: write -u IMG" },
+    Row { id: "output-format-type", name: Long("output-format-type"), taken: REFUSED, values: &[], excluded: &[],
+        help: "--output-format-type is not known: write -O wakati" },
+    Row { id: "max-grouping-size", name: Long("max-grouping-size"), taken: REFUSED, values: &[], excluded: &[],
+        help: "--max-grouping-size is not known: write -M N" },
+    Row { id: "node-format", name: Long("node-format"), taken: REFUSED, values: &[], excluded: &[],
+        help: "--node-format is not known: write -F FORMAT" },
+    Row { id: "unk-format", name: Long("unk-format"), taken: REFUSED, values: &[], excluded: &[],
+        help: "--unk-format is not known: write -U FORMAT" },
+    Row { id: "bos-format", name: Long("bos-format"), taken: REFUSED, values: &[], excluded: &[],
+        help: "--bos-format is not known: write -B FORMAT" },
+    Row { id: "eos-format", name: Long("eos-format"), taken: REFUSED, values: &[], excluded: &[],
+        help: "--eos-format is not known: write -E FORMAT" },
 ];
 
 /// The output format that has a name.

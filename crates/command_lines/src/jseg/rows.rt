@@ -1,6 +1,6 @@
 //! What `jseg` takes.
 
-use crate::about::{EXPLAIN, VERBOSE};
+use crate::about::{EXPLAIN, SKIP_DIGEST, VERBOSE};
 use crate::row::Name::{Letter, Long};
 use crate::row::{FLAG, Row, TEXT, Taken, VALUE, VALUES};
 use clap::builder::ValueParser;
@@ -17,7 +17,7 @@ const GROUPING: Taken = Taken {
 
 /// The options, in the order of help.
 #[rattlefmt::skip]
-pub(super) static ROWS: [Row; 12] = [
+pub(super) static ROWS: [Row; 13] = [
     Row { id: "dic", name: Letter('d'), taken: VALUE, values: &["IMG"], excluded: &[],
         help: "Cut the text with the system dictionary of an image" },
     Row { id: "users", name: Letter('u'), taken: VALUES, values: &["IMG"], excluded: &["sources", "sample"],
@@ -26,6 +26,7 @@ pub(super) static ROWS: [Row; 12] = [
         help: "Cut the text with the sources of a directory: matrix.def, char.def, unk.def and every .csv" },
     Row { id: "sample", name: Long("sample"), taken: FLAG, values: &[], excluded: &[],
         help: "Cut the text with the sample's sources" },
+    Row { excluded: &["sources", "sample"], ..SKIP_DIGEST },
     Row { id: "grouping", name: Letter('M'), taken: GROUPING, values: &["N"], excluded: &[],
         help: "How many characters may follow the first one of a grouped unknown word (24)" },
     Row { id: "output", name: Letter('O'), taken: VALUE, values: &["NAME"], excluded: &[],

@@ -15,3 +15,4 @@ mod plain_reader;
 mod plain_walk;
 mod questions;
 mod ranges;
+mod starved;

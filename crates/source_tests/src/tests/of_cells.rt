@@ -5,7 +5,7 @@ use std::alloc::{AllocError, Global};
 use std::test::Fail;
 
 /// The cell, or nothing past the end.
-fn cell(cells: &Cells, i: usize) -> Option<(i32, i32)> {
+pub fn cell(cells: &Cells, i: usize) -> Option<(i32, i32)> {
     if i < cells.len() {
         Some(cells.get(i))
     } else {
@@ -14,14 +14,14 @@ fn cell(cells: &Cells, i: usize) -> Option<(i32, i32)> {
 }
 
 /// Sets the cell, if it is there.
-fn put(cells: &mut Cells, i: usize, base: i32, check: i32) {
+pub fn put(cells: &mut Cells, i: usize, base: i32, check: i32) {
     if i < cells.len() {
         cells.set(i, base, check);
     }
 }
 
 /// Grows to `n` cells, or to as many as there are.
-fn grow(cells: &mut Cells, n: usize) -> Result<(), AllocError> {
+pub fn grow(cells: &mut Cells, n: usize) -> Result<(), AllocError> {
     let n = n.min(CELLS_MAX).max(cells.len());
     cells.grow(n)
 }

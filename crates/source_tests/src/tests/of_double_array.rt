@@ -1,6 +1,7 @@
 //! Rows of insertions and lookups, and refused growths. A growth is refused where the tests run under `tools/refuse`.
 mod access;
 mod growing;
+mod grown_cells;
 mod relocated;
 
 use self::access::{Counting, expect_hits, insert, value};
@@ -92,17 +93,23 @@ fn ends_of_the_numbers(rt: HostRuntime) -> Result<(), Fail> {
     Ok(())
 }
 
+/// Faults of insertions.
+#[rattlefmt::skip]
+static FAULTS: [(DaFault, &str, &str, &str); 2] = [
+    // (fault, code, name, text)
+    (DaFault::Full,   "X1",     "Full",   "X1 Full"),
+    (DaFault::Memory, "Memory", "Memory", "Memory"),
+];
+
 #[test]
-fn words_of_faults(rt: HostRuntime) {
-    let rows = [
-        // (fault, code, name)
-        (DaFault::Full, "X1", "Full"),
-        (DaFault::Memory, "Memory", "Memory"),
-    ];
-    for (fault, code, name) in rows {
-        assert_eq!(rt; fault.code(), code);
-        assert_eq!(rt; fault.name(), name);
+fn words_of_faults(rt: HostRuntime) -> Result<(), Fail> {
+    for (fault, code, name, text) in &FAULTS {
+        assert_eq!(rt; fault.code(), *code);
+        assert_eq!(rt; fault.name(), *name);
+        let printed = format!(in rt.alloc(); "{fault}")?;
+        assert_eq!(rt; printed.as_str(), *text);
     }
+    Ok(())
 }
 
 #[test]

@@ -1,9 +1,14 @@
+use Rattle.std.proofs.Common.{List, [], ◌∷◌, ◌++◌, length, subst, append_assoc}
 use Rattle.std.proofs.lemmas.Result.{IfErr-weaker, IfOk-weaker, err_from_is_err_and}
 use Rattle.image_bytes.specs.ImageMeaning.{image_tables}
 use Rattle.mj_model.specs.FirstFault.{IsRefusal}
 use Rattle.dict_compile.specs.Compilation.{IsCompilation, IsCompilationCause}
 use Rattle.dict_compile.specs.EveryKey.{AnswersKeysOfSources}
 use Rattle.dict_compile.specs.Images.{IsImageOf, IsImageRefusal}
+use Rattle.dict_compile.specs.Steps.{AreSteps}
+use Rattle.dict_compile.specs.declared.watch.Step.{Step}
+use Rattle.dict_compile.specs.declared.watch.Step.TheVariants.{Sorted}
+use Rattle.dict_compile.proofs.StepLemmas.{all_steps}
 use Rattle.dict_compile.proofs.CompilationLemmas.{is_compilation, refusal, source_refused}
 use Rattle.dict_compile.proofs.EveryKey.{keys_of_sources}
 use Rattle.dict_compile.proofs.FirstFaults.{refused_for, told_for}
@@ -41,3 +46,13 @@ pub returns-clause-first : goal.returns-clause-first
 returns-clause-first g c = λ fault h.
     refused_for c.args.sources.now c.in_ok-parts.parts fault c.system_image.result c.in_ok-parts.ensures.accepted c.in_ok-parts.ensures.fitting h
     c.system_image.ensures.image c.system_image.ensures.refused
+
+pub returns-clause-steps : goal.returns-clause-steps
+returns-clause-steps g c = λ before told.
+    let parts = c.in_ok-parts.parts in
+    let sorted : List Step = Sorted (length parts.lexicon.rows) ∷ [] in
+    let read = c.in_ok-parts.ensures.steps before told in
+    let W = g.W.Watch.told c.system_image.new.watch in
+    IfOk-weaker c.system_image.result (λ _. W ((before ++ read.0) ++ sorted)) (λ _. (steps : List Step) × AreSteps c.args.sources.now steps × W (before ++ steps))
+    (λ _ all. (read.0 ++ sorted, all_steps c.args.sources.now parts read.0 c.in_ok-parts.ensures.accepted read.1, subst W (append_assoc before read.0 sorted) all))
+    (c.system_image.ensures.steps (before ++ read.0) read.2)

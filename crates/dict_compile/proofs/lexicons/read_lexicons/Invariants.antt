@@ -1,16 +1,18 @@
-use Rattle.std.proofs.Common.{◌≡◌, ◌*◌, ◌^◌, ◌≤◌, List, [], drop, take, map}
-use Rattle.std.specs.Prelude.{Result}
-use Rattle.mj_model.specs.declared.source_fault.SourceFault.{SourceFault}
-use Rattle.mj_model.specs.Lexicon.{SkipLines, Row}
-use Rattle.mj_model.specs.Dictionary.{AreLexicons}
+use Rattle.std.proofs.Common.{◌≡◌, ◌*◌, ◌^◌, ◌≤◌, ◌++◌, List}
+use Rattle.mj_model.specs.Lexicon.{SkipLines}
+use Rattle.dict_compile.specs.Steps.{AreLexiconSteps}
+use Rattle.dict_compile.specs.declared.watch.Step.{Step}
+use Rattle.dict_compile.proofs.LexiconLemmas.{ReadOn}
+use Rattle.dict_compile.proofs.SkipLemmas.{bytes_before}
 use Rattle.dict_compile.proofs.lexicons.read_lexicons.Given as goal
 
--- as the lexicons that are left read behind the records so far, so all read; and the lexicons so far skip this many lines, less than 2^64 each
+-- as any lexicons read behind the records so far, so all read; the lexicons so far skip this many lines, less than 2^64 each; and the
+-- watcher was told of each of them
 abbrev pub invariant-loop-bytes : goal.invariant-loop-bytes
 invariant-loop-bytes g l =
     (l.lexicon.sizes ≡ l.fn.sizes)
-    × ((read : Result (List Row) SourceFault)
-    → AreLexicons l.fn.sizes l.file l.lexicon.rows (map (λ lexicon. lexicon.now) (drop l.bytes-index l.lexicons)) read
-    → AreLexicons l.fn.sizes 3 [] (map (λ lexicon. lexicon.now) l.lexicons) read)
-    × SkipLines (map (λ lexicon. lexicon.now) (take l.bytes-index l.lexicons)) l.skipped
+    × ReadOn l.fn.sizes l.file l.lexicon.rows (bytes_before l.lexicons l.bytes-index)
+    × SkipLines (bytes_before l.lexicons l.bytes-index) l.skipped
     × (l.skipped ≤ l.bytes-index * 2 ^ 64)
+    × ((before : List Step) → g.W.Watch.told l.initial.watch before
+    → (steps : List Step) × AreLexiconSteps l.fn.sizes (bytes_before l.lexicons l.bytes-index) steps × g.W.Watch.told l.watch (before ++ steps))

@@ -1,3 +1,4 @@
+use Rattle.std.proofs.Common.{List, [], ◌∷◌, ◌++◌, length, subst, append_assoc}
 use Rattle.std.proofs.lemmas.Result.{IfErr-weaker, IfOk-weaker, err_from_is_err_and}
 use Rattle.image_bytes.specs.ImageMeaning.{image_tables}
 use Rattle.mj_model.specs.FirstFault.{IsRefusal}
@@ -5,6 +6,10 @@ use Rattle.dict_compile.specs.Compilation.{IsCompilation, IsCompilationCause}
 use Rattle.dict_compile.specs.EveryKey.{AnswersKeysOfSources}
 use Rattle.dict_compile.specs.Images.{IsImageOf, IsImageRefusal}
 use Rattle.dict_compile.specs.OtherSources.{sources_with}
+use Rattle.dict_compile.specs.Steps.{AreSteps}
+use Rattle.dict_compile.specs.declared.watch.Step.{Step}
+use Rattle.dict_compile.specs.declared.watch.Step.TheVariants.{Sorted}
+use Rattle.dict_compile.proofs.StepLemmas.{all_steps}
 use Rattle.dict_compile.proofs.CompilationLemmas.{is_compilation, refusal, source_refused}
 use Rattle.dict_compile.proofs.EveryKey.{keys_of_sources}
 use Rattle.dict_compile.proofs.FirstFaults.{refused_for, told_for}
@@ -47,3 +52,14 @@ pub returns-clause-first : goal.returns-clause-first
 returns-clause-first g c = λ costs table fault h.
     refused_for (sources_with costs c.args.others.now) c.in_ok-parts.parts fault c.system_image.result (c.in_ok-parts.ensures.accepted costs table) c.in_ok-parts.ensures.fitting h
     c.system_image.ensures.image c.system_image.ensures.refused
+
+pub returns-clause-steps : goal.returns-clause-steps
+returns-clause-steps g c = λ costs table before told.
+    let s = sources_with costs c.args.others.now in
+    let parts = c.in_ok-parts.parts in
+    let sorted : List Step = Sorted (length parts.lexicon.rows) ∷ [] in
+    let read = c.in_ok-parts.ensures.steps before told in
+    let W = g.W.Watch.told c.system_image.new.watch in
+    IfOk-weaker c.system_image.result (λ _. W ((before ++ read.0) ++ sorted)) (λ _. (steps : List Step) × AreSteps s steps × W (before ++ steps))
+    (λ _ all. (read.0 ++ sorted, all_steps s parts read.0 (c.in_ok-parts.ensures.accepted costs table) read.1, subst W (append_assoc before read.0 sorted) all))
+    (c.system_image.ensures.steps (before ++ read.0) read.2)

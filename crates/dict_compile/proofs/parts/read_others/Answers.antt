@@ -1,6 +1,12 @@
+use Rattle.std.proofs.Common.{ℕ, [], ◌∷◌, ◌++◌, ap, ◌∙◌, subst}
 use Rattle.std.proofs.lemmas.Result.{err_from_is_err_and}
 use Rattle.std.specs.Prelude.{Ok}
 use Rattle.dict_compile.specs.OtherSources.{sources_with}
+use Rattle.mj_model.specs.declared.matrix_sizes.MatrixSizes.{MatrixSizes}
+use Rattle.dict_compile.specs.Answers.{lexicons_of}
+use Rattle.dict_compile.specs.Steps.{AreLexiconSteps, steps_before}
+use Rattle.dict_compile.specs.declared.watch.Step.TheVariants.{MatrixRead, CategoriesRead, UnknownRead}
+use Rattle.dict_compile.proofs.StepLemmas.{behind_three}
 use Rattle.dict_compile.proofs.SourceLemmas.{chars_at_fault, unknown_at_fault, unknown_read, lexicons_at_fault, rows_read}
 use Rattle.dict_compile.proofs.parts.read_others.Goals as goal
 
@@ -43,3 +49,22 @@ returns-clause-accepted g c = λ costs table.
       rows = rows_read s m sizes c.sizes-sizes.ensures.sizes table (Ok c.in_ok-lexicons.lexicons.lexicon.rows) c.in_ok-lexicons.ensures.accepted;
       skipped = c.in_ok-lexicons.ensures.skipped;
     }
+
+pub returns-clause-steps : goal.returns-clause-steps
+returns-clause-steps g c = λ before told.
+    let sizes = c.sizes-sizes.result in
+    let count = c.count.result in
+    let first = c.done.ensures before told in
+    let second = c.done-2.ensures (before ++ MatrixRead sizes ∷ []) first in
+    let third = c.done-3.ensures ((before ++ MatrixRead sizes ∷ []) ++ CategoriesRead count ∷ []) second in
+    let rest = c.in_ok-lexicons.ensures.steps (((before ++ MatrixRead sizes ∷ []) ++ CategoriesRead count ∷ []) ++ UnknownRead ∷ []) third in (
+      MatrixRead sizes ∷ CategoriesRead count ∷ UnknownRead ∷ rest.0,
+      record {
+        reading = rest.0;
+        are_reading = subst (λ (s : MatrixSizes). AreLexiconSteps s (lexicons_of c.args.others.now.lexicons.now) rest.0) c.sizes-sizes.ensures.sizes rest.1;
+        all =
+            ap (λ (s : MatrixSizes). steps_before s count ++ rest.0) c.sizes-sizes.ensures.sizes
+            ∙ ap (λ (n : ℕ). steps_before c.args.matrix.sizes n ++ rest.0) c.count.ensures.count;
+      },
+      subst (g.W.Watch.told c.read_lexicons.new.watch) (behind_three before (MatrixRead sizes) (CategoriesRead count) UnknownRead rest.0) rest.2,
+    )

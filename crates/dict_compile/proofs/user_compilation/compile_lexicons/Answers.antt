@@ -1,9 +1,13 @@
-use Rattle.std.proofs.Common.{map, subst, sym}
+use Rattle.std.proofs.Common.{List, [], ◌∷◌, ◌++◌, length, map, subst, sym, append_assoc}
 use Rattle.std.proofs.lemmas.Result.{IfErr-weaker, IfOk-weaker, err_from_is_err_and}
 use Rattle.mj_model.specs.Connection.{AreMatrixSizes}
 use Rattle.mj_model.specs.FirstFault.{IsRefusal}
 use Rattle.dict_compile.specs.Compilation.{IsUserCause, IsUserCompilation}
 use Rattle.dict_compile.specs.UserImages.{IsUserImageOf, IsUserImageRefusal}
+use Rattle.dict_compile.specs.Steps.{AreEntrySteps}
+use Rattle.dict_compile.specs.declared.watch.Step.{Step}
+use Rattle.dict_compile.specs.declared.watch.Step.TheVariants.{Sorted}
+use Rattle.dict_compile.proofs.StepLemmas.{steps_sorted}
 use Rattle.dict_compile.proofs.UserLemmas.{lexicons_refused, user_compilation, user_refusal, user_refused_for, user_told_for}
 use Rattle.dict_compile.proofs.user_compilation.compile_lexicons.Goals as goal
 
@@ -42,3 +46,14 @@ pub returns-clause-first : goal.returns-clause-first
 returns-clause-first g c = λ system is fault h.
     user_refused_for c.args.sizes system is (map (λ lexicon. lexicon.now) c.args.lexicons.now) c.in_ok-read.read c.in_ok-read.ensures.sizes c.in_ok-read.ensures.accepted
     c.in_ok-read.ensures.skipped fault c.user_image.result h c.user_image.ensures.image c.user_image.ensures.refused
+
+pub returns-clause-steps : goal.returns-clause-steps
+returns-clause-steps g c = λ before told.
+    let lexicons = map (λ lexicon. lexicon.now) c.args.lexicons.now in
+    let rows = c.in_ok-read.read.lexicon.rows in
+    let sorted : List Step = Sorted (length rows) ∷ [] in
+    let read = c.in_ok-read.ensures.steps before told in
+    let W = g.W.Watch.told c.user_image.new.watch in
+    IfOk-weaker c.user_image.result (λ _. W ((before ++ read.0) ++ sorted)) (λ _. (steps : List Step) × AreEntrySteps c.args.sizes lexicons steps × W (before ++ steps))
+    (λ _ all. (read.0 ++ sorted, steps_sorted c.args.sizes lexicons read.0 rows read.1 c.in_ok-read.ensures.accepted, subst W (append_assoc before read.0 sorted) all))
+    (c.user_image.ensures.steps (before ++ read.0) read.2)

@@ -1,5 +1,7 @@
 use Rattle.std.proofs.Common.{◌∙◌, Err, ap, refl, sym, subst, map}
 use Rattle.std.proofs.lemmas.Result.{err_from_is_err_and}
+use Rattle.mj_model.specs.declared.matrix_sizes.MatrixSizes.{MatrixSizes}
+use Rattle.dict_compile.specs.Steps.{AreEntrySteps}
 use Rattle.dict_compile.specs.Compilation.{IsUserCause}
 use Rattle.mj_model.specs.FirstFault.{IsRefusal}
 use Rattle.dict_compile.proofs.EveryKey.{keys_of_lexicons}
@@ -48,3 +50,10 @@ returns-in_err-compile_lexicons-clause-first g c =
     rw (p.1, p.2)
     (c.in_err-compile_lexicons.ensures.first system
     (is_system_of system c.matrix_sizes-sizes.result c.if-is_user.ensures.kind c.matrix_sizes-sizes.ensures.sizes))
+
+pub returns-clause-steps : goal.returns-clause-steps
+returns-clause-steps g c = λ before told.
+    let system = image_tables c.args.system.now in
+    let lexicons = map (λ lexicon. lexicon.now) c.args.lexicons.now in
+    let read = c.in_ok-compile_lexicons.ensures.steps before told in
+    (read.0, subst (λ (sizes : MatrixSizes). AreEntrySteps sizes lexicons read.0) c.matrix_sizes-sizes.ensures.sizes read.1, read.2)

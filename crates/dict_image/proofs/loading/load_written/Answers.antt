@@ -1,12 +1,12 @@
 use Rattle.std.proofs.Common.{◌≡◌, List, ℕ, subst, sym}
 use Rattle.image_bytes.specs.ImageBytes.{header_of}
-use Rattle.image_bytes.specs.ImageFaults.{IsWellFormed}
+use Rattle.image_bytes.specs.ImageFaults.{IsIntact}
 use Rattle.image_bytes.specs.declared.layout.TheConstants.{LAYOUT}
 use Rattle.image_check.specs.Outlines.{IsOutline}
 use Rattle.dict_image.proofs.loading.load_written.Goals as goal
 
-pub outline_of_written-outline-requires-clause-formed : goal.outline_of_written-outline-requires-clause-formed
-outline_of_written-outline-requires-clause-formed c = subst IsWellFormed (sym c.deref.ensures.value) c.requires.formed
+pub outline_of_written-outline-requires-clause-intact : goal.outline_of_written-outline-requires-clause-intact
+outline_of_written-outline-requires-clause-intact c = subst IsIntact (sym c.deref.ensures.value) c.requires.intact
 
 pub outline_of_written-outline-requires-clause-layout : goal.outline_of_written-outline-requires-clause-layout
 outline_of_written-outline-requires-clause-layout c = subst (λ (bytes : List ℕ). (header_of bytes).layout ≡ LAYOUT) (sym c.deref.ensures.value) c.requires.layout

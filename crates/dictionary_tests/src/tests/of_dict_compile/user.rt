@@ -6,7 +6,7 @@ use dict_image::{Dict, load};
 use mj_model::SourceKind::{
     self, ArrayFull, BadNumber, FeaturesTooLarge, IdOutside, Memory, NotUtf8, TooFewFields,
 };
-use mj_model::{MatrixSizes, NamedFault, SourceFault, Sources, sample};
+use mj_model::{MatrixSizes, NO_FILE, NamedFault, SourceFault, Sources, sample};
 use std::alloc::Global;
 use std::test::Fail;
 
@@ -102,21 +102,36 @@ fn for_a_user_dictionary(rt: HostRuntime) -> Result<(), Fail> {
     Ok(())
 }
 
-/// Faults with their codes and names.
+/// Faults with their codes, names and texts.
 #[rattlefmt::skip]
-static FAULTS: [(CompileUserFault, &str, &str); 6] = [
-    // (fault, code, name)
-    (NotSystem,                   "O1",     "NotSystem"),
-    (Source(SourceFault { file: 3, line: 1, kind: NotUtf8 }),          "S1",     "NotUtf8"),
-    (Source(SourceFault { file: 3, line: 1, kind: IdOutside }),        "I1",     "IdOutside"),
-    (Source(SourceFault { file: 3, line: 1, kind: ArrayFull }),        "I2",     "ArrayFull"),
-    (Source(SourceFault { file: 3, line: 1, kind: FeaturesTooLarge }), "I3",     "FeaturesTooLarge"),
-    (Source(SourceFault { file: 3, line: 1, kind: Memory }),           "Memory", "Memory"),
+static FAULTS: [(CompileUserFault, &str, &str, &str); 6] = [
+    // (fault, code, name, text)
+    (NotSystem, "O1", "NotSystem", "O1 NotSystem"),
+    (Source(SourceFault { file: 3, line: 1, kind: NotUtf8 }), "S1", "NotUtf8", "file 3, line 1: S1 NotUtf8"),
+    (Source(SourceFault { file: 4, line: 7, kind: IdOutside }), "I1", "IdOutside", "file 4, line 7: I1 IdOutside"),
+    (Source(OF_ARRAY), "I2", "ArrayFull", "file 4294967295, line 0: I2 ArrayFull"),
+    (Source(OF_FEATURES), "I3", "FeaturesTooLarge", "file 4294967295, line 0: I3 FeaturesTooLarge"),
+    (Source(SourceFault { file: 3, line: 1, kind: Memory }), "Memory", "Memory", "file 3, line 1: Memory"),
 ];
 
+/// Faults of the lexicons together, which belong to no file.
+const OF_ARRAY: SourceFault = SourceFault {
+    file: NO_FILE,
+    line: 0,
+    kind: ArrayFull,
+};
+
+const OF_FEATURES: SourceFault = SourceFault {
+    kind: FeaturesTooLarge,
+    ..OF_ARRAY
+};
+
 #[test]
-fn codes_and_names(rt: HostRuntime) {
-    for (fault, code, name) in &FAULTS {
-        assert_eq!(rt; (fault.code(), fault.name()), (*code, *name));
+fn codes_names_and_texts(rt: HostRuntime) -> Result<(), Fail> {
+    for (fault, code, name, text) in &FAULTS {
+        assert_eq!(rt; (fault.code(), fault.name()), (*code, *name), "{text}");
+        let printed = format!(in rt.alloc(); "{fault}")?;
+        assert_eq!(rt; printed.as_str(), *text);
     }
+    Ok(())
 }

@@ -1,4 +1,7 @@
 //! What whoever watches a compilation is told.
+
+ghost use Rattle.std.specs.Prelude.{◌≡◌, false};
+
 use crate::tests::samples::with_lexicons;
 use dict_compile::{
     OtherSources, Step, Watch, compile, compile_others_watched, compile_user_watched,
@@ -27,6 +30,8 @@ impl Told {
 }
 
 impl Watch for Told {
+    ghost told = { λ t steps. t.refused ≡ false → t.steps.items ≡ steps };
+
     fn done(&mut self, step: Step) {
         self.refused |= self.steps.push(step).is_err();
     }

@@ -85,3 +85,34 @@ fn flipped_bits_of_layout_3(rt: HostRuntime) -> Result<(), Fail> {
     }
     Ok(())
 }
+
+/// Sets each byte of the layout 3 image in turn. The magic, the layout and the lengths of the sections are looked at before the digest.
+fn set_before_the_digest(
+    rt: &impl Abort,
+    alloc: Global,
+    bytes: &[u8],
+    byte: u8,
+) -> Result<(), Fail> {
+    for (place, old) in bytes.iter().enumerate() {
+        if *old != byte {
+            let changed = with_byte(alloc, bytes, place, byte)?;
+            let expected = match place {
+                0..=7 => Some(BadMagic),
+                8..=11 | 40..=103 => frame_fault(&changed),
+                _ => Some(Digest),
+            };
+            assert!(rt; expected.is_some(), "{place}: {byte}");
+            assert_eq!(rt; load(alloc, changed).err(), expected, "{place}: {byte}");
+        }
+    }
+    Ok(())
+}
+
+#[test]
+fn changed_bytes_of_layout_3(rt: HostRuntime) -> Result<(), Fail> {
+    let bytes = sealed(rt.alloc(), &one_surface(rt.alloc())?)?;
+    for byte in [0, 1, 0x80, 0xff] {
+        set_before_the_digest(&rt, rt.alloc(), &bytes, byte)?;
+    }
+    Ok(())
+}

@@ -1,19 +1,17 @@
-use Rattle.std.proofs.Common.{◌≡◌, ℕ, List, inl, inr, subst}
+use Rattle.std.proofs.Common.{inl, inr, subst}
 use Rattle.std.proofs.lemmas.Result.{err_from_is_err_and}
 use Rattle.image_bytes.specs.declared.header.Header.{Header}
-use Rattle.image_bytes.specs.ImageBytes.{header_of, section}
-use Rattle.image_bytes.specs.ImageFaults.{PassAll, front_tests, end_tests, section_tests}
+use Rattle.image_bytes.specs.ImageBytes.{section}
 use Rattle.image_bytes.specs.Layouts.{key_form}
 use Rattle.image_check.specs.KeyPlaces.{AreKeysOf}
-use Rattle.image_check.specs.Outlines.{IsImage}
-use Rattle.image_check.proofs.OutlineLemmas.{from_formed}
+use Rattle.image_check.proofs.OutlineLemmas.{from_accepted}
 use Rattle.image_check.proofs.StageLemmas.{end_told, section_told, all_pass}
 use Rattle.image_check.proofs.check.check_image.Goals as goal
 
 pub returns-in_err-ends-clause-refused : goal.returns-in_err-ends-clause-refused
 returns-in_err-ends-clause-refused c =
     let p = err_from_is_err_and c.from_residual-in_err-ends.result c.from_residual-in_err-ends.ensures.1 in
-    rw (p.1, p.2) (inr (end_told c.args.bytes.now c.in_err-ends.field-0.0 c.in_ok-header.ensures.0 c.in_err-ends.ensures))
+    rw (p.1, p.2) (inr (end_told c.args.digest c.args.bytes.now c.in_err-ends.field-0.0 c.in_ok-header.ensures.0 c.in_err-ends.ensures))
 
 pub returns-in_err-keys-clause-refused : goal.returns-in_err-keys-clause-refused
 returns-in_err-keys-clause-refused c =
@@ -22,21 +20,22 @@ returns-in_err-keys-clause-refused c =
     let fault = c.in_err-keys.field-0.0 in
     rw (p.1, p.2) (elim c.in_err-keys.ensures [
       | inl memory ↦ inl memory
-      | inr first ↦ inr (section_told c.args.bytes.now c.in_ok-header.header fault front.1 front.0 c.in_ok-ends.ensures.0 first)
+      | inr first ↦ inr (section_told c.args.digest c.args.bytes.now c.in_ok-header.header fault front.1 front.0 c.in_ok-ends.ensures.0 first)
     ])
-
--- bytes that pass all tests are an image
-formed_by : (bytes : List ℕ) (h : Header) → PassAll (front_tests (header_of bytes) bytes) × (h ≡ header_of bytes) → PassAll (end_tests (header_of bytes) bytes) → PassAll (section_tests h bytes) → IsImage bytes
-formed_by bytes h front ends rest = from_formed bytes (all_pass bytes h front.1 front.0 ends rest)
 
 pub returns-clause-accepted : goal.returns-clause-accepted
 returns-clause-accepted c =
+    let front = c.in_ok-header.ensures in
+    all_pass c.args.digest c.args.bytes.now c.in_ok-header.header front.1 front.0 c.in_ok-ends.ensures.0 c.in_ok-keys.ensures.0
+
+pub returns-clause-outline : goal.returns-clause-outline
+returns-clause-outline c =
     let bytes = c.args.bytes.now in
     let h = c.in_ok-header.header in
     let front = c.in_ok-header.ensures in
     let ends = c.in_ok-ends.ensures in
     record {
-      formed = formed_by bytes h front ends.0 c.in_ok-keys.ensures.0;
+      formed = from_accepted c.args.digest bytes (all_pass c.args.digest bytes h front.1 front.0 ends.0 c.in_ok-keys.ensures.0);
       header_is = front.1;
       ends_are = ends.1;
       keys_are = subst (λ (g : Header). AreKeysOf (key_form g.layout) g.groups (section bytes 5) c.in_ok-keys.keys) front.1 c.in_ok-keys.ensures.1;

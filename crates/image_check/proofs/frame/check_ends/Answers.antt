@@ -2,12 +2,12 @@ use Rattle.std.proofs.Common.{ap, subst, ◌^◌, ◌≤◌, ◌+◌, ◌<◌, i
 use Rattle.image_bytes.specs.declared.header.Header.{Header}
 use Rattle.image_bytes.specs.Headers.{AreEnds}
 use Rattle.image_bytes.specs.ImageBytes.{header_of, section_end}
-use Rattle.image_bytes.specs.ImageFaults.{HasDigest}
+use Rattle.image_bytes.specs.ImageFaults.{PassesDigest}
 use Rattle.image_bytes.specs.Layouts.{behind_sections}
 use Rattle.image_check.proofs.FrameLemmas.{too_far, too_short, enough, too_long, no_more, no_digest, has_digest, digest_at, end_within}
 use Rattle.image_check.proofs.ValueLemmas.{not_both}
 use Rattle.image_check.proofs.frame.check_ends.Goals as goal
-use Rattle.image_check.proofs.frame.check_ends.Goals.{then-length-end-via-then-length-end, then-length-end-via-else-length-end+then-length-end-2, else-behind-gt0-via-then-behind-gt0+else-not-is_digest_from, else-behind-gt0-via-else-behind-gt0}
+use Rattle.image_check.proofs.frame.check_ends.Goals.{then-length-end-via-then-length-end, then-length-end-via-else-length-end+then-length-end-2, else-behind-gt0-via-then-behind-gt0+else-not-passes_digest, else-behind-gt0-via-else-behind-gt0}
 
 pub returns-in_default : goal.returns-in_default
 returns-in_default c =
@@ -41,8 +41,8 @@ returns-then-length-end-3 c =
     let m = c.if-length-end-3.true in
     inr (enough h n end behind at much (omega (arith, a, b)), inl (too_long h n end behind at much (omega (arith, a, m)), refl))
 
-pub returns-then-not-is_digest_from : goal.returns-then-not-is_digest_from
-returns-then-not-is_digest_from c =
+pub returns-then-not-passes_digest : goal.returns-then-not-passes_digest
+returns-then-not-passes_digest c =
     let h = header_of c.args.bytes.now in
     let at = (subst (AreEnds c.in-Some.ends) c.requires c.in-Some.ensures).each 8 (omega arith) in
     let much = c.behind_sections-behind.ensures ∙ ap (λ (x : Header). behind_sections x.layout) c.requires in
@@ -57,7 +57,7 @@ returns-then-not-is_digest_from c =
       inr (
         no_more h n end behind at much (omega (arith, a, b, m)),
         inl (
-          (λ has. let t = c.is_digest_from.ensures.1 (digest_at c.args.bytes.now (section_end h 8) end (sym at) (has (has_digest h behind much c.if-behind-gt0.true))) in not_both c.is_digest_from.result t c.if-not-is_digest_from.true),
+          (λ has. let t = c.passes_digest.ensures.1 (digest_at c.args.digest c.args.bytes.now (section_end h 8) end (sym at) (has (has_digest h behind much c.if-behind-gt0.true))) in not_both c.passes_digest.result t c.if-not-passes_digest.true),
           refl,
         ),
       ),
@@ -76,8 +76,8 @@ returns c =
     let a = c.if-length-end.false in
     let b = c.if-length-end-2.false in
     let m = c.if-length-end-3.false in
-    let digest : HasDigest bytes = elim c.else-behind-gt0.branch [
-      | else-behind-gt0-via-then-behind-gt0+else-not-is_digest_from w ↦ λ _. digest_at bytes end (section_end h 8) at (w.is_digest_from.ensures.0 w.if-not-is_digest_from.false)
+    let digest : PassesDigest c.args.digest bytes = elim c.else-behind-gt0.branch [
+      | else-behind-gt0-via-then-behind-gt0+else-not-passes_digest w ↦ λ _. digest_at c.args.digest bytes end (section_end h 8) at (w.passes_digest.ensures.0 w.if-not-passes_digest.false)
       | else-behind-gt0-via-else-behind-gt0 w ↦ λ three. absurd (no_digest h n end behind at much w.if-behind-gt0.false three)
     ] in
     ((enough h n end behind at much (omega (arith, a, b)), (no_more h n end behind at much (omega (arith, a, b, m)), (digest, tt))), ends, end_within h n (enough h n end behind at much (omega (arith, a, b))))

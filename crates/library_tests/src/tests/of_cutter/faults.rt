@@ -1,6 +1,6 @@
 //! Codes, names and texts of faults.
 
-use cutter::CutFault;
+use cutter::{CutFault, LinesFault};
 use mj_model::{FormatFault, FormatKind, FormatPart, ImageFault, NamedFault, OverlayFault};
 use std::alloc::Global;
 use std::test::Fail;
@@ -41,6 +41,22 @@ fn fault_words(rt: HostRuntime) -> Result<(), Fail> {
     ];
     for (fault, code, name, text) in rows {
         assert!(rt; is_told(rt.alloc(), fault, code, name, text)?, "{text}");
+    }
+    Ok(())
+}
+
+#[test]
+fn stopped_lines(rt: HostRuntime) -> Result<(), Fail> {
+    let rows = [
+        // (line, fault, text)
+        (1, CutFault::TooLong, "line 1: G4 TooLong"),
+        (3, CutFault::NotUtf8, "line 3: G3 NotUtf8"),
+        (2, CutFault::Memory, "line 2: Memory"),
+    ];
+    for (line, fault, text) in rows {
+        let stopped = LinesFault { line, fault };
+        let printed = format!(in rt.alloc(); "{stopped}")?;
+        assert_eq!(rt; printed.as_str(), text);
     }
     Ok(())
 }

@@ -1,6 +1,6 @@
 //! Cutters over the sample's dictionary.
 
-use cutter::Cutter;
+use cutter::{Cutter, DigestTest};
 use dict_compile::compile;
 use mj_model::sample;
 use std::alloc::{AllocError, Global};
@@ -8,7 +8,7 @@ use std::test::Fail;
 
 /// A cutter over the sample's dictionary.
 pub fn sample_cutter(alloc: Global) -> Result<Cutter, Fail> {
-    Ok(Cutter::load(alloc, compile(alloc, &sample())?.image)?)
+    Ok(Cutter::load(alloc, compile(alloc, &sample())?.image, DigestTest::Made)?)
 }
 
 /// What a cutter prints of what it cut last; nothing where it cut nothing.

@@ -16,6 +16,8 @@ enum Asked {
     Told(&'static str),
     /// A user dictionary for this system, of these lexicons.
     User(&'static str, &'static str),
+    /// The same, without the test of the system's digest.
+    Trusting(&'static str, &'static str),
 }
 
 impl Asked {
@@ -29,7 +31,13 @@ impl Asked {
                 };
                 (definitions, lexicons)
             }
-            Asked::User(dic, lexicons) => (Base::System(String::from_str(alloc, dic)?), lexicons),
+            Asked::User(dic, lexicons) | Asked::Trusting(dic, lexicons) => {
+                let system = Base::System {
+                    dic: String::from_str(alloc, dic)?,
+                    skip_digest: matches!(self, Asked::Trusting(_, _)),
+                };
+                (system, lexicons)
+            }
         };
         Ok(Options {
             base,
@@ -42,7 +50,7 @@ impl Asked {
 
 #[test]
 fn command_lines(rt: HostRuntime) -> Result<(), Fail> {
-    use Asked::{System, Told, User};
+    use Asked::{System, Told, Trusting, User};
     #[rattlefmt::skip]
     let rows = [
         // (what, words, what is asked for)
@@ -50,6 +58,7 @@ fn command_lines(rt: HostRuntime) -> Result<(), Fail> {
         ("options with =", "system b --out=o --unk=u a --char=c --matrix=m", System("b a")),
         ("what is done", "system --matrix m --char c --unk u --out o -v a.csv", Told("a.csv")),
         ("a user", "user --dic sys.img --out o a.csv", User("sys.img", "a.csv")),
+        ("a user, without the digest", "user --skip-digest --dic s --out o a", Trusting("s", "a")),
         ("a lexicon twice", "user --dic s --out o a b a", User("s", "a b a")),
         ("a lexicon like an option", "user --dic s --out o -- --out", User("s", "--out")),
     ];
@@ -65,7 +74,7 @@ fn command_lines(rt: HostRuntime) -> Result<(), Fail> {
 #[test]
 fn command_lines_that_end_at_once(rt: HostRuntime) -> Result<(), Fail> {
     const HELP: (u8, &str) = (0, "Usage: dictc");
-    const BAD: (u8, &str) = (2, "error");
+    const BAD: (u8, &str) = (2, "dictc: ");
     #[rattlefmt::skip]
     let rows = [
         // (what, words, status and what is in the text)
@@ -75,8 +84,9 @@ fn command_lines_that_end_at_once(rt: HostRuntime) -> Result<(), Fail> {
         ("the version", "--version", (0, "layouts read: 1, 2, 3; written: 3")),
         ("a code", "--explain L4", (0, "L4 BadSection\nMeaning: ")),
         ("memory", "--explain Memory", (0, "Memory\nMeaning: ")),
-        ("no code", "--explain", BAD),
-        ("a code of none", "--explain l4", (2, "no fault has the code 'l4'")),
+        ("a name", "--explain nosuchcategory", (0, "C4 NoSuchCategory\nMeaning: ")),
+        ("all codes", "--explain", (0, "\nL4 BadSection\n")),
+        ("a code of none", "--explain X9", (2, "dictc: no fault has the code or name 'X9'\n")),
         ("a name that is near", "systen", (2, "'system'")),
         ("an option that is near", "system --matrx m", (2, "'--matrix'")),
         ("nothing asked for", "", BAD),

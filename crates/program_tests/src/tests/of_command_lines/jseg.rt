@@ -12,6 +12,8 @@ use std::test::Fail;
 #[derive(Clone, Copy)]
 enum Asked {
     Images(&'static str, &'static str),
+    /// The same, without the tests of their digests.
+    Trusted(&'static str, &'static str),
     Directory(&'static str),
     Sample,
 }
@@ -19,9 +21,10 @@ enum Asked {
 impl Asked {
     fn input(self, alloc: Global) -> Result<Input, AllocError> {
         Ok(match self {
-            Asked::Images(dic, users) => Input::Images {
+            Asked::Images(dic, users) | Asked::Trusted(dic, users) => Input::Images {
                 dic: String::from_str(alloc, dic)?,
                 users: words(alloc, users)?,
+                skip_digest: matches!(self, Asked::Trusted(_, _)),
             },
             Asked::Directory(dir) => Input::Sources(String::from_str(alloc, dir)?),
             Asked::Sample => Input::Sample,
@@ -31,7 +34,7 @@ impl Asked {
 
 #[test]
 fn command_lines(rt: HostRuntime) -> Result<(), Fail> {
-    use Asked::{Directory, Images, Sample};
+    use Asked::{Directory, Images, Sample, Trusted};
     #[rattlefmt::skip]
     let rows = [
         // (what, words, what is asked for, grouping)
@@ -46,6 +49,7 @@ fn command_lines(rt: HostRuntime) -> Result<(), Fail> {
         ("a system joined",           "-dsys.img",           Images("sys.img", ""),      24),
         ("with a user",               "-d sys.img -u u.img", Images("sys.img", "u.img"), 24),
         ("with users in their order", "-u b -d s -u a -u b", Images("s", "b a b"),       24),
+        ("without the digests",       "-d s --skip-digest -u a", Trusted("s", "a"),         24),
         ("a format and a grouping",   "-d s -O wakati -M 3", Images("s", ""),            3),
     ];
     for (what, given, asked, grouping) in rows {
@@ -113,9 +117,15 @@ fn answers(rt: HostRuntime) -> Result<(), Fail> {
         ("--version",        0, "layouts read: 1, 2, 3; written: 3"),
         ("--explain L4",     0, "L4 BadSection\nMeaning: "),
         ("--explain=Memory", 0, "Memory\nMeaning: "),
-        ("--explain l4",     2, "no fault has the code 'l4'"),
+        ("--explain l4",     0, "L4 BadSection\nMeaning: "),
+        ("--explain k7",     0, "K7 ShortBuffer\nMeaning: "),
+        ("--explain notutf8", 0, "S1 NotUtf8\nMeaning: "),
+        ("--explain NotUtf8", 0, "\n\nG3 NotUtf8\nMeaning: "),
+        ("--explain",        0, "\nG3 NotUtf8\nG4 TooLong\n"),
+        ("--explain X9",     2, "jseg: no fault has the code or name 'X9'\n"),
         ("--simple",         2, "'--sample'"),
         ("--soures a",       2, "'--sources'"),
+        ("-q",               2, "jseg: unexpected argument '-q' found\n\nUsage: jseg "),
     ];
     for (given, status, text) in rows {
         let Err(fault) = options(rt.alloc(), words(rt.alloc(), given)?) else {
@@ -128,13 +138,15 @@ fn answers(rt: HostRuntime) -> Result<(), Fail> {
     Ok(())
 }
 
-/// What MeCab's users type first, and what they are told to do instead.
 /// Whether a command line ends with status 2 and with this in its text.
 fn is_refused(rt: &HostRuntime, given: &str, text: &str) -> Result<bool, Fail> {
     let fault = options(rt.alloc(), words(rt.alloc(), given)?).err();
-    Ok(fault.is_some_and(|fault| fault.status() == 2 && fault.text().contains(text)))
+    Ok(fault.is_some_and(|fault| fault.status() == 2
+        && fault.text().starts_with("jseg: ")
+        && fault.text().contains(text)))
 }
 
+/// What MeCab's users type first, and what they are told to do instead.
 #[test]
 fn mecab_habits(rt: HostRuntime) -> Result<(), Fail> {
     #[rattlefmt::skip]
@@ -152,6 +164,30 @@ fn mecab_habits(rt: HostRuntime) -> Result<(), Fail> {
         ("-d sys.img -b 100000",      "1,048,576"),
         ("-d sys.img -o out.txt",     "> FILE"),
         ("-r /dev/null -d sys.img",   "dicrc"),
+        ("-d sys.img -a",             "-a is not known: jseg writes the one best path"),
+        ("-d sys.img --all-morphs",   "-a is not known: jseg writes the one best path"),
+        ("-d sys.img -l 2",           "-l is not known"),
+        ("-m -d sys.img",             "-m is not known: jseg computes no probabilities"),
+        ("-t 0.75 -d sys.img",        "-t is not known"),
+        ("-c 700 -d sys.img",         "-c is not known"),
+        ("-p -d sys.img",             "-p is not known"),
+        ("-d sys.img -S x",           "-S is not known"),
+        ("-d sys.img -x unknown",     "-x is not known: give -U a format"),
+        ("-D -d sys.img",             "-D is not known: -v tells what is loaded"),
+        ("-P",                        "-P is not known: --help lists"),
+        ("-C -d sys.img",             "-C is not needed"),
+        ("--nbest=2 -d sys.img",      "-N is not known"),
+        ("--output=o -d sys.img",     "> FILE"),
+        ("--rcfile=r -d sys.img",     "dicrc"),
+        ("--input-buffer-size=9",     "1,048,576"),
+        ("--dicdir=/d",               "--dicdir is not known: write -d IMG"),
+        ("--userdic u.dic",           "--userdic is not known: write -u IMG"),
+        ("--output-format-type=w",    "write -O wakati"),
+        ("--max-grouping-size=9",     "write -M N"),
+        ("--node-format=%m",          "write -F FORMAT"),
+        ("--unk-format=%m",           "write -U FORMAT"),
+        ("--bos-format=%m",           "write -B FORMAT"),
+        ("--eos-format=%m",           "write -E FORMAT"),
     ];
     for (given, text) in rows {
         assert!(rt; is_refused(&rt, given, text)?, "{given}");
@@ -170,6 +206,8 @@ fn wrong_command_lines(rt: HostRuntime) -> Result<(), Fail> {
         ("a user alone", "-u a"),
         ("a user of the sample", "--sample -u a"),
         ("a user of a directory", "--sources a -u b"),
+        ("the digest of a directory", "--sources a --skip-digest"),
+        ("the digest of the sample", "--skip-digest --sample"),
         ("a user without a name", "-d a -u"),
         ("nothing asked for", ""),
         ("twice", "--sample --sample"),
@@ -188,7 +226,7 @@ fn wrong_command_lines(rt: HostRuntime) -> Result<(), Fail> {
         ("grouping twice", "--sample -M 1 -M 2"),
     ];
     for (what, given) in rows {
-        assert!(rt; is_refused(&rt, given, "error")?, "{what}");
+        assert!(rt; is_refused(&rt, given, "jseg: ")?, "{what}");
     }
     Ok(())
 }

@@ -14,7 +14,10 @@ fn options_in(rt: &HostRuntime, dir: &str, user: bool) -> io::Result<Options> {
     let mut lexicons = Vec::new(rt.alloc());
     lexicons.push(in_directory(rt, dir, "lexicon.csv")?)?;
     let base = if user {
-        Base::System(in_directory(rt, dir, "sys.img")?)
+        Base::System {
+            dic: in_directory(rt, dir, "sys.img")?,
+            skip_digest: false,
+        }
     } else {
         Base::Definitions {
             matrix: in_directory(rt, dir, "matrix.def")?,

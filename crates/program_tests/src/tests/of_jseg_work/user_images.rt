@@ -2,6 +2,7 @@
 
 use crate::tests::{new_directory, words};
 use dict_compile::{compile, compile_user};
+use dict_image::DigestTest;
 use jseg_work::overlay_fault;
 use mj_model::OverlayFault;
 use programs::{dictionary_at, report};
@@ -15,10 +16,10 @@ fn user_image_as_the_system(rt: HostRuntime) -> Result<(), Fail> {
     let dir = new_directory(&rt, "user_image")?;
     let path = format!(in rt.alloc(); "{dir}/some.img")?;
     fs::write(&rt, path.as_str(), compile(rt.alloc(), &sample())?.image)?;
-    let system = dictionary_at(&rt, path.as_str())?;
+    let system = dictionary_at(&rt, path.as_str(), DigestTest::Made)?;
     let user = compile_user(rt.alloc(), &system, &[b"a,1,1,1,X\n".as_slice()])?;
     fs::write(&rt, path.as_str(), user.image)?;
-    let dictionary = dictionary_at(&rt, path.as_str())?;
+    let dictionary = dictionary_at(&rt, path.as_str(), DigestTest::Made)?;
     fs::remove_dir_all(&rt, dir.as_str())?;
     assert!(rt; dictionary.is_user());
     let fault = Dictionaries::new(&dictionary, &[]).err();

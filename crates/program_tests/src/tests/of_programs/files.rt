@@ -3,6 +3,7 @@
 use super::failing_files::FailingFiles;
 use super::names_in;
 use crate::tests::new_directory;
+use dict_image::DigestTest;
 use mj_model::ImageFault;
 use programs::{Fault, SourceFiles, WholeFile, dictionary_at, read_files, texts, write_file};
 use std::alloc::{AllocError, Global};
@@ -127,8 +128,8 @@ fn images_that_cannot_be_read(rt: HostRuntime) -> Result<(), Fail> {
     let missing = format!(in rt.alloc(); "{dir}/none.img")?;
     let short = format!(in rt.alloc(); "{dir}/short.img")?;
     fs::write(&rt, short.as_str(), "no image")?;
-    let none = dictionary_at(&rt, missing.as_str()).err();
-    let refused = dictionary_at(&rt, short.as_str()).err();
+    let none = dictionary_at(&rt, missing.as_str(), DigestTest::Made).err();
+    let refused = dictionary_at(&rt, short.as_str(), DigestTest::Made).err();
     fs::remove_dir_all(&rt, dir.as_str())?;
     assert!(rt; is_file_fault(none.as_ref(), missing.as_str()));
     assert!(rt; refused == Some(Fault::Image(short, ImageFault::Truncated)));

@@ -14,8 +14,8 @@ returns-in_err-compiled-clause-first c = λ fault h.
     let p = err_from_is_err_and c.from_residual.result c.from_residual.ensures.1 in
     rw (p.1, p.2) (c.in_err-compiled.ensures.first fault h)
 
-pub load_written-requires-clause-formed : goal.load_written-requires-clause-formed
-load_written-requires-clause-formed c = c.in_ok-compiled.ensures.compiled.compiled.well_formed
+pub load_written-requires-clause-intact : goal.load_written-requires-clause-intact
+load_written-requires-clause-intact c = c.in_ok-compiled.ensures.compiled.compiled.intact
 
 pub load_written-requires-clause-layout : goal.load_written-requires-clause-layout
 load_written-requires-clause-layout c = c.in_ok-compiled.ensures.compiled.compiled.layout

@@ -4,8 +4,8 @@ use Rattle.image_bytes.specs.ImageMeaning.{image_tables}
 use Rattle.segmenter.specs.SourceDicts.{IsUserDictOf, lexicons_of}
 use Rattle.segmenter.proofs.dicts.user_dict.Goals as goal
 
-pub load_written-requires-clause-formed : goal.load_written-requires-clause-formed
-load_written-requires-clause-formed c = c.in-Ok.ensures.compiled.compiled.well_formed
+pub load_written-requires-clause-intact : goal.load_written-requires-clause-intact
+load_written-requires-clause-intact c = c.in-Ok.ensures.compiled.compiled.intact
 
 pub load_written-requires-clause-layout : goal.load_written-requires-clause-layout
 load_written-requires-clause-layout c = c.in-Ok.ensures.compiled.compiled.layout

@@ -1,9 +1,12 @@
 //! Rows of `char.def`.
 
-use super::samples::{chars_with, with_lines};
-use char_def::read_chars;
-use mj_model::SourceKind::{self, BadLine, BadRange, NoDefault, NoSpace, Twice, UndefinedCategory};
+use super::samples::{COMMENTED, chars_with, with_lines};
+use char_def::{CharTable, read_chars};
+use mj_model::SourceKind::{
+    self, BadLine, BadRange, NoDefault, NoSpace, TooManyCategories, Twice, UndefinedCategory,
+};
 use mj_model::{Category, sample};
+use std::process::Abort;
 use std::test::Fail;
 
 /// Lines of a category.
@@ -29,11 +32,36 @@ fn lines_of_a_category(rt: HostRuntime) -> Result<(), Fail> {
     Ok(())
 }
 
+/// Lines of 13 categories, which are 19 with the sample's.
+const MORE: &str = "\
+A 0 0 0\nB 0 0 0\nC 0 0 0\nD 0 0 0\nE 0 0 0\nF 0 0 0\n\
+G 0 0 0\nH 0 0 0\nI 0 0 0\nJ 0 0 0\nK 0 0 0\nL 0 0 0\n\
+M 0 0 0\n";
+
+/// Lines of 12 categories, and a bad one.
+const BAD_19TH: &str = "\
+A 0 0 0\nB 0 0 0\nC 0 0 0\nD 0 0 0\nE 0 0 0\nF 0 0 0\n\
+G 0 0 0\nH 0 0 0\nI 0 0 0\nJ 0 0 0\nK 0 0 0\nL 0 0 0\n\
+M 0 0 16\n";
+
+/// Lines of 12 categories, and a second one of a name.
+const SECOND_19TH: &str = "\
+A 0 0 0\nB 0 0 0\nC 0 0 0\nD 0 0 0\nE 0 0 0\nF 0 0 0\n\
+G 0 0 0\nH 0 0 0\nI 0 0 0\nJ 0 0 0\nK 0 0 0\nL 0 0 0\n\
+L 0 0 0\n";
+
+/// Lines of 12 categories, which are 18 with the sample's, and a mapping to the last of them.
+const ALL_18: &str = "\
+A 0 0 0\nB 0 0 0\nC 0 0 0\nD 0 0 0\nE 0 0 0\nF 0 0 0\n\
+G 0 0 0\nH 0 0 0\nI 0 0 0\nJ 0 0 0\nK 0 0 0\nL 0 0 0\n\
+0x41 L\n";
+
 /// Lines that are refused.
 #[rattlefmt::skip]
-static REFUSED: [(&str, &str, SourceKind, u64); 18] = [
+static REFUSED: [(&str, &str, SourceKind, u64); 22] = [
     // (what, lines behind the sample's 12, the fault, its line)
     ("LENGTH above 15", "SYMBOL 0 0 16", BadLine, 13),
+    ("LENGTH above 15, a second line of a name", "KANJI 0 0 16", BadLine, 13),
     ("INVOKE above 1", "SYMBOL 2 0 0", BadLine, 13),
     ("too few words", "SYMBOL 0 0", BadLine, 13),
     ("a comment in the numbers", "SYMBOL 0 0 #2", BadLine, 13),
@@ -51,6 +79,9 @@ static REFUSED: [(&str, &str, SourceKind, u64); 18] = [
     ("no such category", "0x3007 OTHER", UndefinedCategory, 13),
     ("blanks around the full stops", "0x41 .. 0x42", UndefinedCategory, 13),
     ("a bad line behind", "0x3007 OTHER\nSYMBOL", BadLine, 14),
+    ("a 19th category", MORE, TooManyCategories, 25),
+    ("a bad line for a 19th", BAD_19TH, BadLine, 25),
+    ("a second line for a 19th", SECOND_19TH, Twice, 25),
 ];
 
 #[test]
@@ -92,9 +123,8 @@ static CATEGORIES: [(&str, bool, bool, u8); 6] = [
     ("HIRAGANA", false, true, 2),
 ];
 
-#[test]
-fn categories(rt: HostRuntime) -> Result<(), Fail> {
-    let table = chars_with(&rt, "")?;
+/// Asks for the sample's categories.
+fn expect_categories(rt: &impl Abort, table: &CharTable) {
     assert_eq!(rt; table.count(), CATEGORIES.len());
     for (i, (name, invoke, group, length)) in CATEGORIES.iter().enumerate() {
         if i < table.count() {
@@ -104,12 +134,18 @@ fn categories(rt: HostRuntime) -> Result<(), Fail> {
             assert!(rt; table.category(i) == expected, "{name}");
         }
     }
+}
+
+#[test]
+fn categories(rt: HostRuntime) -> Result<(), Fail> {
+    expect_categories(&rt, &chars_with(&rt, "")?);
+    expect_categories(&rt, &read_chars(rt.alloc(), COMMENTED.as_bytes())?);
     Ok(())
 }
 
 /// Code points with their categories.
 #[rattlefmt::skip]
-static CODE_POINTS: [(&str, &str, u32, u32, u8); 24] = [
+static CODE_POINTS: [(&str, &str, u32, u32, u8); 25] = [
     // (what, further lines, code point, set of categories, first category)
     ("a comment alone", "# 0x41 KANJI", 0x41, 4, 2),
     ("blanks before a comment", " \t# KANJI 9", 0x41, 4, 2),
@@ -134,6 +170,7 @@ static CODE_POINTS: [(&str, &str, u32, u32, u8); 24] = [
     ("the last of two", "0x41..0x43 KANJI\n0x42 SPACE", 0x42, 2, 1),
     ("beside the last of two", "0x41..0x43 KANJI\n0x42 SPACE", 0x43, 16, 4),
     ("behind both", "0x41..0x43 KANJI\n0x42 SPACE", 0x44, 4, 2),
+    ("the 18th category", ALL_18, 0x41, 131072, 17),
     ("the last of three", "0x41 KANJI\n0x40..0x50 SPACE\n0x41..0x42 DEFAULT", 0x41, 1, 0),
 ];
 

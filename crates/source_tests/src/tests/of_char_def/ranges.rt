@@ -1,13 +1,35 @@
 //! Ranges of code points with the same categories.
 
-use super::samples::with_lines;
+use super::samples::{COMMENTED, with_lines};
 use char_def::read_chars;
+use mj_model::sample;
+use std::alloc::{Alloc, Global};
+use std::process::Abort;
 use std::test::Fail;
+
+/// A range: its first code point, its set of categories and the first of them.
+type Range = (u32, u32, u8);
+
+/// Asks for the ranges of a `char.def`.
+fn expect_ranges(
+    rt: &(impl Abort + Alloc<A = Global>),
+    what: &str,
+    bytes: &[u8],
+    expected: &[Range],
+) -> Result<(), Fail> {
+    let ranges = read_chars(rt.alloc(), bytes)?.ranges(rt.alloc())?;
+    assert_eq!(rt; ranges.len(), expected.len(), "{what}");
+    for (range, expected) in ranges.iter().zip(expected) {
+        let told = (range.first, range.info.bits, range.info.head);
+        assert_eq!(rt; told, *expected, "{what}");
+    }
+    Ok(())
+}
 
 /// Mappings with their ranges.
 #[rattlefmt::skip]
-static RANGES: [(&str, &str, &[(u32, u32, u8)]); 11] = [
-    // (what, mappings, ranges: first code point, set of categories, first category)
+static RANGES: [(&str, &str, &[Range]); 11] = [
+    // (what, mappings, ranges)
     ("no mapping", "", &[(0, 1, 0)]),
     ("a mapping", "0x41..0x5A SPACE", &[(0, 1, 0), (0x41, 2, 1), (0x5B, 1, 0)]),
     ("from code point 0 on", "0x00..0x1F SPACE", &[(0, 2, 1), (0x20, 1, 0)]),
@@ -25,12 +47,22 @@ static RANGES: [(&str, &str, &[(u32, u32, u8)]); 11] = [
 fn ranges(rt: HostRuntime) -> Result<(), Fail> {
     for (what, further, expected) in &RANGES {
         let bytes = with_lines(&rt, b"DEFAULT 0 1 0\nSPACE 0 1 0\n", further)?;
-        let ranges = read_chars(rt.alloc(), &bytes)?.ranges(rt.alloc())?;
-        assert_eq!(rt; ranges.len(), expected.len(), "{what}");
-        for (range, expected) in ranges.iter().zip(*expected) {
-            let told = (range.first, range.info.bits, range.info.head);
-            assert_eq!(rt; told, *expected, "{what}");
-        }
+        expect_ranges(&rt, what, &bytes, expected)?;
     }
     Ok(())
+}
+
+/// The ranges of the sample.
+#[rattlefmt::skip]
+static OF_THE_SAMPLE: [Range; 13] = [
+    (0,      1,  0), (0x20, 2, 1), (0x21, 1, 0), (0x41, 4, 2), (0x5B, 1, 0), (0x61, 4, 2), (0x7B, 1, 0),
+    (0x3041, 32, 5), (0x30A0, 1, 0),
+    (0x30A1, 8,  3), (0x3100, 1, 0),
+    (0x4E00, 16, 4), (0xA000, 1, 0),
+];
+
+#[test]
+fn ranges_of_the_sample(rt: HostRuntime) -> Result<(), Fail> {
+    expect_ranges(&rt, "the sample", sample().chars, &OF_THE_SAMPLE)?;
+    expect_ranges(&rt, "with comments", COMMENTED.as_bytes(), &OF_THE_SAMPLE)
 }

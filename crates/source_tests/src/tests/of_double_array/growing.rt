@@ -3,10 +3,11 @@ use super::access::{expect_hits, have_same_cells, insert, value};
 use double_array::{CellRead, DaFault, DoubleArray, Inserted};
 use std::test::Fail;
 
-const KEYS: usize = 513;
+/// How many keys there are.
+pub const KEYS: usize = 513;
 
 /// Inserts key `n`, with the value `n`: `a`, then `a` with each byte, then `b` with each byte.
-fn insert_key(array: &mut DoubleArray, n: usize) -> Result<Inserted, DaFault> {
+pub fn insert_key(array: &mut DoubleArray, n: usize) -> Result<Inserted, DaFault> {
     let number = n.min(KEYS) as u32;
     match n {
         0 => insert(array, b"a", number),
@@ -37,7 +38,7 @@ fn has_first_keys(array: &DoubleArray, n: usize) -> bool {
 }
 
 /// An empty array. What is refused once is asked again.
-fn new_array(rt: &HostRuntime) -> Result<DoubleArray, Fail> {
+pub fn new_array(rt: &HostRuntime) -> Result<DoubleArray, Fail> {
     match DoubleArray::new(rt.alloc()) {
         Ok(array) => Ok(array),
         Err(_refused) => {

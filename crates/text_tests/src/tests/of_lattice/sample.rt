@@ -16,6 +16,11 @@ pub struct Sample {
 }
 
 impl WordSource for Sample {
+    type Words = Word;
+
+    // A surface has one word.
+    ghost words_in = { λ word. word ∷ [] };
+
     ghost says = { λ s. record {
       text_length = s.length;
       words = sample_words s.words.items 0 s.length;
@@ -24,6 +29,7 @@ impl WordSource for Sample {
       is_place = λ p. Unit {0};
       is_pair = λ r l. Unit {0};
       is_blank_run = λ run. Unit {0};
+      is_kept = λ p last. Unit {0};
     } };
 
     fn length(&self) -> usize {
@@ -46,9 +52,13 @@ impl WordSource for Sample {
         Ok(())
     }
 
-    fn word(&self, surface: &Surface, _i: u32) -> Word {
+    fn words_of(&self, surface: &Surface) -> Word {
         let number = surface.first as usize;
         by_number(number, &self.words[number])
+    }
+
+    fn word(&self, words: &Word, _i: u32) -> Word {
+        *words
     }
 
     fn connection_cost(&self, right: u16, left: u16) -> i16 {

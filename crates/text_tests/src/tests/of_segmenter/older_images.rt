@@ -1,6 +1,8 @@
 //! Dictionaries of images of layouts 1, 2 and 3: they say the same.
 
 use super::older_layouts::{SURFACES, in_layout};
+use crate::tests::of_word_lookup::expected_words::Expected::{self, Known, Unknown};
+use crate::tests::of_word_lookup::expected_words::are_words;
 use crate::tests::samples::chars_with;
 use dict_compile::{compile, compile_user};
 use dict_image::{Dict, load};
@@ -25,6 +27,12 @@ const WITH_BLANK: &str = "\
 もも,1,1,30,名詞,もも
 も ,1,1,500,Z
 ";
+
+/// Two words that cost as much as the one of both letters.
+const TIE: &str = "a,1,1,10,X\nb,1,1,10,X\nab,1,1,27,X\n";
+
+/// A surface with two entries.
+const TWICE: &str = "a,1,1,10,X\na,1,1,10,Y\n";
 
 /// The sample's dictionary with a further line of `char.def` and these lexicons, in a layout.
 fn system(
@@ -72,6 +80,20 @@ fn formats(alloc: Global) -> Result<[Format; 3], Fail> {
     Ok([Format::default_of(alloc)?, Format::wakati(alloc)?, costs])
 }
 
+/// The same dictionary in layouts 1, 2 and 3.
+fn in_each_layout(
+    alloc: Global,
+    line: &str,
+    lexicons: &[&[u8]],
+    surfaces: &[&str],
+) -> Result<[Dict; 3], Fail> {
+    Ok([
+        system(alloc, 1, line, lexicons, surfaces)?,
+        system(alloc, 2, line, lexicons, surfaces)?,
+        system(alloc, 3, line, lexicons, surfaces)?,
+    ])
+}
+
 /// Whether dictionaries of layouts 1 and 2 write in each format what those of layout 3 do, which in the default format is the output.
 fn write_the_same(
     alloc: Global,
@@ -116,12 +138,7 @@ fn texts_of_the_sample(rt: HostRuntime) -> Result<(), Fail> {
         ("26 letters",                LETTERS_26,         then_25),
         ("U+FFFE, U+FFFF, U+10FFFF",  high,               as_one),
     ];
-    let lexicons = sample().lexicons;
-    let dicts = [
-        system(alloc, 1, "", lexicons, SURFACES)?,
-        system(alloc, 2, "", lexicons, SURFACES)?,
-        system(alloc, 3, "", lexicons, SURFACES)?,
-    ];
+    let dicts = in_each_layout(alloc, "", sample().lexicons, SURFACES)?;
     let formats = formats(alloc)?;
     for (what, text, output) in rows {
         let same = write_the_same(alloc, &dicts, &formats, text, output)?;
@@ -143,14 +160,48 @@ fn texts_of_further_lines(rt: HostRuntime) -> Result<(), Fail> {
     ];
     let formats = formats(alloc)?;
     for (what, line, lexicon, surfaces, text, output) in rows {
-        let lexicons = [lexicon.as_bytes()];
-        let dicts = [
-            system(alloc, 1, line, &lexicons, surfaces)?,
-            system(alloc, 2, line, &lexicons, surfaces)?,
-            system(alloc, 3, line, &lexicons, surfaces)?,
-        ];
+        let dicts = in_each_layout(alloc, line, &[lexicon.as_bytes()], surfaces)?;
         let same = write_the_same(alloc, &dicts, &formats, text, output)?;
         assert!(rt; same, "{what}");
+    }
+    Ok(())
+}
+
+#[test]
+fn texts_of_further_lexicons(rt: HostRuntime) -> Result<(), Fail> {
+    let alloc = rt.alloc();
+    let tie: &[&str] = &["a", "ab", "b"];
+    let twice: &[&str] = &["a"];
+    let rows = [
+        // (what, lexicon, surfaces, text, output in the default format)
+        ("tie_later_place", TIE, tie, "ab", "a\tX\nb\tX\nEOS\n"),
+        ("same_surface_twice", TWICE, twice, "a", "a\tX\nEOS\n"),
+    ];
+    let formats = formats(alloc)?;
+    for (what, lexicon, surfaces, text, output) in rows {
+        let dicts = in_each_layout(alloc, "", &[lexicon.as_bytes()], surfaces)?;
+        let same = write_the_same(alloc, &dicts, &formats, text, output)?;
+        assert!(rt; same, "{what}");
+    }
+    Ok(())
+}
+
+#[test]
+fn words_of_further_lexicons(rt: HostRuntime) -> Result<(), Fail> {
+    let alloc = rt.alloc();
+    #[rattlefmt::skip]
+    let rows: [(&str, &[&str], &str, &[Expected]); 2] = [
+        // (lexicon, surfaces, text, words at its beginning)
+        (TIE, &["a", "ab", "b"], "ab", &[Known(0, 1, 10, "X"), Known(0, 2, 27, "X"), Unknown(0, 2)]),
+        (TWICE, &["a"], "a", &[Known(0, 1, 10, "X"), Known(0, 1, 10, "Y"), Unknown(0, 1)]),
+    ];
+    for (lexicon, surfaces, text, expected) in rows {
+        for layout in [1, 2, 3] {
+            let dict = system(alloc, layout, "", &[lexicon.as_bytes()], surfaces)?;
+            let dictionaries = Dictionaries::new(&dict, &[])?;
+            let same = are_words(alloc, dictionaries, text, 0, expected)?;
+            assert!(rt; same, "{text}, layout {layout}");
+        }
     }
     Ok(())
 }

@@ -1,14 +1,16 @@
 //! Refused growths. A growth is refused where the tests run under `tools/refuse`, which looks for the line that says so.
 
-use crate::tests::of_word_lookup::expected_words::is_at;
+use crate::tests::of_word_lookup::expected_words::Expected::{self, Known, Unknown};
+use crate::tests::of_word_lookup::expected_words::{are_expected, is_at};
 use dict_compile::compile;
 use dict_image::{Dict, load};
-use lattice::{Lattice, best_path};
+use lattice::{Lattice, Path, best_path};
 use mj_model::{
-    Counted, FormatFault, GROUPING_DEFAULT, RunFault, SENTENCE_MAX, Sources, TextIn, sample,
+    Counted, FormatFault, GROUPING_DEFAULT, RunFault, SENTENCE_MAX, Sources, TextIn, Word, sample,
 };
 use out_format::{Format, print};
 use segmenter::{run_sources, segment};
+use std::alloc::{Alloc, Global};
 use std::io::Eprint;
 use std::process::Abort;
 use std::test::Fail;
@@ -43,40 +45,123 @@ fn dict_with(rt: &HostRuntime, lexicons: &[&[u8]]) -> Result<Dict, Fail> {
     }
 }
 
+/// The dictionary of the letters `a`, `b` and of both.
+fn dict_of_letters(rt: &HostRuntime) -> Result<Dict, Fail> {
+    dict_with(rt, &["a,1,1,10,X\nb,1,1,10,X\nab,1,1,27,X\n".as_bytes()])
+}
+
+/// The sample's line with blanks.
+const SPACED: &str = " すもも  もも ";
+
+fn are_same(words: &[Word], others: &[Word]) -> bool {
+    let mut all = words.len() == others.len();
+    for (word, other) in words.iter().zip(others) {
+        all = all && word == other;
+    }
+    all
+}
+
+/// Appends the words of a place, which are the expected ones. After a refusal `out` is as before, and they are asked for again.
+fn expect_words(
+    rt: &(impl Abort + Alloc<A = Global> + Eprint),
+    dictionaries: &Dictionaries<'_>,
+    (text, place): (&str, usize),
+    expected: &[Expected],
+    out: &mut Vec<Word>,
+) -> Result<(), Fail> {
+    assert!(rt; is_at(text, place));
+    let before = again!(rt, Vec::from_slice(rt.alloc(), out));
+    if dictionaries.words_at(rt.alloc(), text, place, out).is_err() {
+        rt.eprintln("refused")?;
+        assert!(rt; are_same(out, &before), "{text}");
+        dictionaries.words_at(rt.alloc(), text, place, out)?;
+    }
+    let (first, then) = out.split_at(before.len().min(out.len()));
+    assert!(rt; are_same(first, &before), "{text}");
+    assert!(rt; are_expected(then, dictionaries, place, expected), "{text}");
+    Ok(())
+}
+
 #[test]
 fn starved_words(rt: HostRuntime) -> Result<(), Fail> {
-    let dict = dict_with(&rt, &["a,1,1,10,X\nb,1,1,10,X\nab,1,1,27,X\n".as_bytes()])?;
-    let dictionaries = Dictionaries::new(&dict, &[])?;
+    let dict = dict_with(&rt, sample().lexicons)?;
+    let letters = dict_of_letters(&rt)?;
+    #[rattlefmt::skip]
+    let rows: [(&Dict, (&str, usize), &[Expected]); 6] = [
+        // (dictionary, text and place, words)
+        (&dict,    ("すもももも", 0), &[Known(0, 9, 100, "名詞,すもも")]),
+        (&dict,    ("すもももも", 9), &[Known(9, 12, 20, "助詞,も"), Known(9, 15, 30, "名詞,もも")]),
+        (&dict,    (SPACED, 0),       &[Known(1, 10, 100, "名詞,すもも")]),
+        (&dict,    (SPACED, 10),      &[Known(12, 15, 20, "助詞,も"), Known(12, 18, 30, "名詞,もも")]),
+        (&letters, ("ab", 0),         &[Known(0, 1, 10, "X"), Known(0, 2, 27, "X"), Unknown(0, 2)]),
+        (&letters, ("ab", 1),         &[Known(1, 2, 10, "X"), Unknown(1, 2)]),
+    ];
     let mut out = Vec::new(rt.alloc());
-    let text = "ab";
-    assert!(rt; is_at(text, 0));
-    for (held, count) in [(0, 3), (3, 6), (6, 9)] {
-        if dictionaries
-            .words_at(rt.alloc(), text, 0, &mut out)
-            .is_err()
-        {
-            rt.eprintln("refused")?;
-            assert_eq!(rt; out.len(), held);
-            dictionaries.words_at(rt.alloc(), text, 0, &mut out)?;
-        }
-        assert_eq!(rt; out.len(), count);
+    for (dict, at, expected) in rows {
+        let dictionaries = Dictionaries::new(dict, &[])?;
+        expect_words(&rt, &dictionaries, at, expected, &mut out)?;
     }
     Ok(())
+}
+
+/// Whether a path has this total, and words whose surfaces stand there.
+fn is_path(path: &Path, total: i64, places: &[(usize, usize)]) -> bool {
+    let mut all = path.total == total && path.words.len() == places.len();
+    for (word, place) in path.words.iter().zip(places) {
+        all = all && (word.start, word.end) == *place;
+    }
+    all
 }
 
 #[test]
 fn starved_search(rt: HostRuntime) -> Result<(), Fail> {
     let dict = dict_with(&rt, sample().lexicons)?;
-    let dictionaries = Dictionaries::new(&dict, &[])?;
-    let text = "すもももも";
-    assert!(rt; text.len() <= SENTENCE_MAX);
-    let path = again!(&rt, best_path(rt.alloc(), &dictionaries, text));
-    assert_eq!(rt; (path.total, path.words.len()), (152, 2));
+    let letters = dict_of_letters(&rt)?;
+    #[rattlefmt::skip]
+    let rows: [(&Dict, &str, i64, &[(usize, usize)]); 3] = [
+        // (dictionary, text, total, where the surfaces stand)
+        (&dict,    "すもももも", 152, &[(0, 9), (9, 15)]),
+        (&dict,    SPACED,       152, &[(1, 10), (12, 18)]),
+        (&letters, "ab",         42,  &[(0, 1), (1, 2)]),
+    ];
     let mut lattice = Lattice::new(rt.alloc());
-    for _round in 0..2 {
-        let path = again!(&rt, lattice.best(&dictionaries, text));
-        assert_eq!(rt; (path.total, path.words.len()), (152, 2));
+    for (dict, text, total, places) in rows {
+        assert!(rt; text.len() <= SENTENCE_MAX);
+        let dictionaries = Dictionaries::new(dict, &[])?;
+        let path = again!(&rt, best_path(rt.alloc(), &dictionaries, text));
+        assert!(rt; is_path(&path, total, places), "{text}");
+        for _round in 0..2 {
+            let path = again!(&rt, lattice.best(&dictionaries, text));
+            assert!(rt; is_path(&path, total, places), "{text}");
+        }
     }
+    Ok(())
+}
+
+/// Prints the best path of a text behind other bytes. After a refusal these alone are there, and it is printed again.
+fn expect_print(
+    rt: &(impl Abort + Alloc<A = Global> + Eprint),
+    format: &Format,
+    dict: &Dict,
+    text: &str,
+    printed: &str,
+) -> Result<(), Fail> {
+    assert!(rt; text.len() <= SENTENCE_MAX);
+    let dictionaries = Dictionaries::new(dict, &[])?;
+    let mut out = again!(rt, Vec::from_slice(rt.alloc(), b">"));
+    let Ok(path) = best_path(rt.alloc(), &dictionaries, text) else {
+        rt.eprintln("refused")?;
+        return Ok(());
+    };
+    if print(rt.alloc(), format, &dictionaries, text, &path, &mut out).is_err() {
+        rt.eprintln("refused")?;
+        assert!(rt; out.as_slice() == b">".as_slice(), "{printed}");
+        print(rt.alloc(), format, &dictionaries, text, &path, &mut out)?;
+    }
+    assert!(rt;
+        out.strip_prefix(b">") == Some(printed.as_bytes()),
+        "{printed}"
+    );
     Ok(())
 }
 
@@ -84,31 +169,24 @@ fn starved_search(rt: HostRuntime) -> Result<(), Fail> {
 fn starved_formats(rt: HostRuntime) -> Result<(), Fail> {
     let node = "%m/%f[0]/%c/%pn/%pc\\s";
     let costs = again!(&rt, Format::parse(rt.alloc(), node, None, "", "%pc\\n"));
+    let node = "%M|%ps|%pe|%pl|%pL|%pS;";
+    let places = again!(&rt, Format::parse(rt.alloc(), node, None, "", "%L\\n"));
     let tabs = again!(&rt, Format::default_of(rt.alloc()));
     let wakati = again!(&rt, Format::wakati(rt.alloc()));
     let dict = dict_with(&rt, sample().lexicons)?;
-    let dictionaries = Dictionaries::new(&dict, &[])?;
-    let text = "すもももも";
-    assert!(rt; text.len() <= SENTENCE_MAX);
-    let Ok(path) = best_path(rt.alloc(), &dictionaries, text) else {
-        rt.eprintln("refused")?;
-        return Ok(());
-    };
-    let mut out = Vec::new(rt.alloc());
+    let letters = dict_of_letters(&rt)?;
     #[rattlefmt::skip]
-    let rows = [
-        (&costs,  "すもも/名詞/100/110/110 もも/名詞/30/37/147 152\n"),
-        (&tabs,   "すもも\t名詞,すもも\nもも\t名詞,もも\nEOS\n"),
-        (&wakati, "すもも もも \n"),
+    let rows: [(&Format, &Dict, &str, &str); 6] = [
+        // (format, dictionary, text, what is printed)
+        (&costs,  &dict,    "すもももも", "すもも/名詞/100/110/110 もも/名詞/30/37/147 152\n"),
+        (&tabs,   &dict,    "すもももも", "すもも\t名詞,すもも\nもも\t名詞,もも\nEOS\n"),
+        (&wakati, &dict,    "すもももも", "すもも もも \n"),
+        (&wakati, &dict,    SPACED,       "すもも もも \n"),
+        (&places, &dict,    SPACED,       " すもも|1|10|9|10| ;  もも|12|18|6|8|  ;19\n"),
+        (&tabs,   &letters, "ab",         "a\tX\nb\tX\nEOS\n"),
     ];
-    for (format, printed) in rows {
-        let held = out.len();
-        if print(rt.alloc(), format, &dictionaries, text, &path, &mut out).is_err() {
-            rt.eprintln("refused")?;
-            assert_eq!(rt; out.len(), held);
-            print(rt.alloc(), format, &dictionaries, text, &path, &mut out)?;
-        }
-        assert!(rt; out.get(held..) == Some(printed.as_bytes()), "{printed}");
+    for (format, dict, text, printed) in rows {
+        expect_print(&rt, format, dict, text, printed)?;
     }
     Ok(())
 }

@@ -44,6 +44,20 @@ pub fn is_at(text: &str, place: usize) -> bool
     text.is_char_boundary(place)
 }
 
+/// Whether these words of a place are the expected ones.
+pub fn are_expected(
+    words: &[Word],
+    dictionaries: &Dictionaries<'_>,
+    place: usize,
+    expected: &[Expected],
+) -> bool {
+    let mut all = words.len() == expected.len();
+    for (word, expected) in words.iter().zip(expected) {
+        all = all && expected.is(word, place, dictionaries.feature(word));
+    }
+    all
+}
+
 /// Whether these are the words of a place.
 pub fn are_words(
     alloc: Global,
@@ -56,9 +70,5 @@ pub fn are_words(
     if is_at(text, place) {
         dictionaries.words_at(alloc, text, place, &mut words)?;
     }
-    let mut all = words.len() == expected.len();
-    for (word, expected) in words.iter().zip(expected) {
-        all = all && expected.is(word, place, dictionaries.feature(word));
-    }
-    Ok(all)
+    Ok(are_expected(&words, &dictionaries, place, expected))
 }

@@ -15,7 +15,7 @@ returns-clause-spans c =
     spans_found_from t.info c.category-category.result _ c.args.none_known c.args.grouping c.look_ahead.result first c.args.info (chars c.args.following.now)
     c.run_up_to-run.result.characters c.alike_up_to-alike.result c.from-2.result _ _ c.at_least_one.result
     c.requires.info category c.from-2.ensures (sym c.makes_words.ensures ∙ c.if-not-makes_words.false)
-    c.look_ahead.ensures.grouping c.look_ahead.ensures.lengths c.run_up_to-run.ensures.characters c.alike_up_to-alike.ensures
+    c.look_ahead.ensures c.run_up_to-run.ensures.characters c.alike_up_to-alike.ensures
     c.grouped_run.ensures c.longest_length.ensures c.at_least_one.ensures.spans
 
 pub returns-clause-bytes : goal.returns-clause-bytes

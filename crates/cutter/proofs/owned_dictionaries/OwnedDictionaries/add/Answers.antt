@@ -10,7 +10,7 @@ use Rattle.cutter.proofs.owned_dictionaries.OwnedDictionaries.add.Goals as goal
 pub returns-in_err-user-clause-refused : goal.returns-in_err-user-clause-refused
 returns-in_err-user-clause-refused c =
     let p = err_from_is_err_and c.from_residual.result c.from_residual.ensures.1 in
-    rw (p.1, p.2) (user_refused c.args.self.now c.args.image.items c.in_err-user.field-0.0 c.in_err-user.ensures.refused)
+    rw (p.1, p.2) (user_refused c.args.digest c.args.self.now c.args.image.items c.in_err-user.field-0.0 c.in_err-user.ensures.refused)
 
 pub invariant_of-self : goal.invariant_of-self
 invariant_of-self c =
@@ -24,12 +24,12 @@ returns-clause-added c =
 
 pub returns-clause-accepted : goal.returns-clause-accepted
 unfolding IsImage
-returns-clause-accepted c = on_ok c.add_checked.result (IsImage c.args.image.items) c.in_ok-user.ensures.accepted
+returns-clause-accepted c = on_ok c.add_checked.result (IsImage c.args.digest c.args.image.items) c.in_ok-user.ensures.accepted
 
 pub returns-clause-refused : goal.returns-clause-refused
 unfolding IsImage
 returns-clause-refused c =
-    add_refused c.add_checked.result c.args.self.now c.args.image.items c.in_ok-user.ensures.accepted (rw (← c.self.view_is, ← c.in_ok-user.ensures.dict) c.add_checked.ensures.refused)
+    add_refused c.args.digest c.add_checked.result c.args.self.now c.args.image.items c.in_ok-user.ensures.accepted (rw (← c.self.view_is, ← c.in_ok-user.ensures.dict) c.add_checked.ensures.refused)
 
 pub returns-clause-kept : goal.returns-clause-kept
 returns-clause-kept c =

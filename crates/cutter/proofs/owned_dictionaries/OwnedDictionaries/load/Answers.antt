@@ -10,7 +10,7 @@ use Rattle.cutter.proofs.owned_dictionaries.OwnedDictionaries.load.Goals as goal
 pub returns-in_err-system-clause-refused : goal.returns-in_err-system-clause-refused
 returns-in_err-system-clause-refused c =
     let p = err_from_is_err_and c.from_residual.result c.from_residual.ensures.1 in
-    rw (p.1, p.2) (load_refused c.args.image.items c.in_err-system.field-0.0 c.in_err-system.ensures.refused)
+    rw (p.1, p.2) (load_refused c.args.digest c.args.image.items c.in_err-system.field-0.0 c.in_err-system.ensures.refused)
 
 pub returns-in_err-new-clause-refused : goal.returns-in_err-new-clause-refused
 unfolding IsImage

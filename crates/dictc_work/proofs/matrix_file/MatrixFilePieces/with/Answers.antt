@@ -1,4 +1,4 @@
-use Rattle.std.proofs.Common.{rules, ◌≡◌, ℕ, ◌+◌, ◌-◌, List, ◌++◌, length, arith, ap, ◌∙◌}
+use Rattle.std.proofs.Common.{rules, ◌≡◌, ℕ, ◌+◌, ◌-◌, ◌^◌, List, ◌++◌, length, arith, ap, ◌∙◌}
 use Rattle.std.proofs.lemmas.List.{length-append}
 use Rattle.std.specs.Prelude.{min, take}
 use Rattle.dictc_work.proofs.FirstBytes.{first_of_both}
@@ -7,7 +7,7 @@ use Rattle.dictc_work.proofs.matrix_file.MatrixFilePieces.with.Goals as goal
 pub returns : goal.returns
 returns c = λ bytes taken.
     let piece : List ℕ = c.args.piece.now in
-    let bytes_now : c.in_ok-ok_or.field-0 ≡ c.args.self.bytes + length piece = search rules in
+    let bytes_now : c.saturating_add.result ≡ min (c.args.self.bytes + length piece) (2 ^ 64 - 1) = search rules in
     let counted = taken.counted in
     let missing : c.min-missing.result ≡ min (3 - length c.args.self.first.items) (length piece) = search rules in
     let items : c.extend_from_slice.new.self.items ≡ c.args.self.first.items ++ take c.min-missing.result piece = search rules in

@@ -1,5 +1,5 @@
 use Rattle.std.proofs.Common.{◌≡◌, ℕ, ◌+◌, List, ◌++◌, subst, sym, rules}
-use Rattle.matrix_def.specs.Reading.{HasRead, ReaderSeen, StandsAfter, row_of}
+use Rattle.matrix_def.specs.Reading.{HasRead, ReaderSeen, StandsAfter, row_of, told_number}
 use Rattle.matrix_def.proofs.ReadingLemmas.{line_read, no_feed_append}
 use Rattle.matrix_def.proofs.reader.MatrixReader.read_to_end.Goals as goal
 
@@ -7,8 +7,8 @@ pub returns : goal.returns
 returns c = λ bytes given.
     let seen : ReaderSeen = record { ended = c.self.inside.ended; begun = c.self.inside.begun.items; standing = c.self.inside.standing } in
     let h : HasRead bytes seen = subst (HasRead bytes) (sym c.self.view_is) given in
-    let number : c.in_ok-number.number ≡ seen.ended + 1 = search rules in
+    let number : c.saturating_add-number.result ≡ told_number (seen.ended + 1) = search rules in
     let line : c.deref.result.now ≡ seen.begun ++ c.args.part.now = search rules in
-    line_read bytes c.args.part.now seen (record { ended = c.in_ok-number.number; begun = c.clear.new.self.items; standing = c.in_ok-standing.standing }) h
+    line_read bytes c.args.part.now seen (record { ended = c.saturating_add-number.result; begun = c.clear.new.self.items; standing = c.in_ok-standing.standing }) h
     (no_feed_append seen.begun c.args.part.now c.self.invariant c.requires) c.clear.ensures.items number
-    (λ lines before. subst (λ (l : List ℕ). StandsAfter (lines ++ row_of c.in_ok-number.number l) c.in_ok-standing.standing) line (c.in_ok-standing.ensures lines before))
+    (λ lines before. subst (λ (l : List ℕ). StandsAfter (lines ++ row_of c.saturating_add-number.result l) c.in_ok-standing.standing) line (c.in_ok-standing.ensures lines before))

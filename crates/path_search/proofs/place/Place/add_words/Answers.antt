@@ -1,6 +1,7 @@
-use Rattle.std.proofs.Common.{arith, ◌≡◌, ◌+◌, ◌-◌, get_or, length, reverse, Some, subst, sym, ap, ◌∙◌, slice_get}
+use Rattle.std.proofs.Common.{arith, ◌≡◌, ◌+◌, ◌-◌, List, get_or, length, reverse, Some, subst, sym, ap, ◌∙◌, slice_get}
 use Rattle.std.proofs.lemmas.List.{length-append, length-reverse}
 use Rattle.std.proofs.lemmas.Option.{same_Some, slice_get-get_or}
+use Rattle.mj_model.specs.declared.word.Word.{Word}
 use Rattle.paths.specs.declared.surface.Surface.{Surface}
 use Rattle.path_search.specs.Nodes.{node_words}
 use Rattle.path_search.specs.SearchedText.{IsLatticeOf, nodes_in, words_before}
@@ -29,12 +30,16 @@ loop-i-init g c =
       joins = c.requires.joins;
     }
 
-pub word-word-requires-clause-within : goal.word-word-requires-clause-within
-word-word-requires-clause-within g c =
-    let count = count_at c.args.self.now.surfaces.now c.args.number no_surface c.requires.number in
+pub word-word-requires : goal.word-word-requires
+word-word-requires g c =
+    let t = g.S.WordSource.says c.args.source.now in
+    let surfaces = c.args.self.now.surfaces.now in
+    let count = count_at surfaces c.args.number no_surface c.requires.number in
+    let whole = (whole_at t c.args.self.now.start surfaces c.requires.place.surfaces c.args.number no_surface c.requires.number).count_is in
+    let all = ap length c.words_of-words.ensures in
     let low = c.loop-i.invariant.within in
     let some = c.loop-i-test.true in
-    omega (arith, count, low, some)
+    omega (arith, count, whole, all, low, some)
 
 pub add_word-requires-clause-next : goal.add_word-requires-clause-next
 add_word-requires-clause-next g c =
@@ -45,7 +50,8 @@ add_word-requires-clause-next g c =
     let same : s ≡ next.surface = same_Some s next.surface (sym (slice_get-get_or surfaces c.args.number no_surface c.requires.number) ∙ next.here) in
     let i = c.loop-i.i - 1 in
     let word = c.word-word.result in
-    let at : slice_get (t.surface_words next.surface) i ≡ Some word = subst (λ (x : Surface). slice_get (t.surface_words x) i ≡ Some word) same c.word-word.ensures in
+    let its = subst (λ (ws : List Word). slice_get ws i ≡ Some word) c.words_of-words.ensures c.word-word.ensures in
+    let at : slice_get (t.surface_words next.surface) i ≡ Some word = subst (λ (x : Surface). slice_get (t.surface_words x) i ≡ Some word) same its in
     let left = c.loop-i.invariant.left in
     let some = c.loop-i-test.true in
     next_word (node_words t.surface_words c.args.bundles.now) next.before (t.surface_words next.surface) (length c.loop-i.backs.items) i word next.words at (omega (arith, left, some))
@@ -56,11 +62,12 @@ add_word-requires-clause-lattice g c =
     let surfaces = c.args.self.now.surfaces.now in
     let i = c.loop-i.i - 1 in
     let word = c.word-word.result in
+    let its = subst (λ (ws : List Word). slice_get ws i ≡ Some word) c.words_of-words.ensures c.word-word.ensures in
     let k = words_before t surfaces c.args.number i in
     let some = c.loop-i-test.true in
     let same : words_before t surfaces c.args.number c.loop-i.i ≡ k + 1 = omega (arith, some) in (
       k,
-      word_at t c.args.self.now.start surfaces c.requires.place.surfaces c.args.number i no_surface word c.requires.number c.word-word.ensures,
+      word_at t c.args.self.now.start surfaces c.requires.place.surfaces c.args.number i no_surface word c.requires.number its,
       subst (IsLatticeOf t (nodes_in t c.args.bundles.now c.loop-i.backs.items) c.args.self.now.start) same c.loop-i.invariant.lattice,
     )
 
@@ -70,8 +77,9 @@ loop-i-preserved g c =
     let surfaces = c.args.self.now.surfaces.now in
     let i = c.loop-i.i - 1 in
     let word = c.word-word.result in
+    let its = subst (λ (ws : List Word). slice_get ws i ≡ Some word) c.words_of-words.ensures c.word-word.ensures in
     let k = words_before t surfaces c.args.number i in
-    let at = word_at t c.args.self.now.start surfaces c.requires.place.surfaces c.args.number i no_surface word c.requires.number c.word-word.ensures in
+    let at = word_at t c.args.self.now.start surfaces c.requires.place.surfaces c.args.number i no_surface word c.requires.number its in
     let grown = c.in_ok-add_word.ensures.lattice in
     let same : grown.0 ≡ k = c.requires.place.source.source.are.distinct c.args.self.now.start grown.0 k word grown.1 at in
     let within = c.loop-i.invariant.within in

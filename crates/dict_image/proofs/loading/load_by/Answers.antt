@@ -1,22 +1,21 @@
 use Rattle.std.proofs.Common.{◌≡◌, ◌⊎◌, List, ℕ, inl, refl, subst}
 use Rattle.std.proofs.lemmas.Result.{err_from_is_err_and}
 use Rattle.mj_model.specs.declared.image_fault.ImageFault.TheVariants.{Memory}
-use Rattle.image_bytes.specs.ImageFaults.{IsImageFault, IsWellFormed}
+use Rattle.image_bytes.specs.ImageFaults.{IsAccepted, IsImageFault}
 use Rattle.image_check.specs.Outlines.{IsOutline}
-use Rattle.image_check.proofs.OutlineLemmas.{is_formed}
-use Rattle.dict_image.proofs.loading.load.Goals as goal
+use Rattle.dict_image.proofs.loading.load_by.Goals as goal
 
 pub over-requires : goal.over-requires
-over-requires c = subst (λ (bytes : List ℕ). IsOutline bytes c.in_ok-outline.outline) c.deref.ensures.value c.in_ok-outline.ensures.accepted
+over-requires c = subst (λ (bytes : List ℕ). IsOutline bytes c.in_ok-outline.outline) c.deref.ensures.value c.in_ok-outline.ensures.outline
 
 pub returns-clause-accepted : goal.returns-clause-accepted
-returns-clause-accepted c = subst IsWellFormed c.deref.ensures.value (is_formed c.deref.result.now c.in_ok-outline.ensures.accepted.formed)
+returns-clause-accepted c = subst (IsAccepted c.args.digest) c.deref.ensures.value c.in_ok-outline.ensures.accepted
 
 pub returns-in_err-outline-clause-refused : goal.returns-in_err-outline-clause-refused
 returns-in_err-outline-clause-refused c =
     let p = err_from_is_err_and c.from_residual.result c.from_residual.ensures.1 in
     let fault = c.in_err-outline.field-0.0 in
-    rw (p.1, p.2) (subst (λ (bytes : List ℕ). (fault ≡ Memory) ⊎ IsImageFault bytes fault) c.deref.ensures.value c.in_err-outline.ensures.refused)
+    rw (p.1, p.2) (subst (λ (bytes : List ℕ). (fault ≡ Memory) ⊎ IsImageFault c.args.digest bytes fault) c.deref.ensures.value c.in_err-outline.ensures.refused)
 
 pub returns-in_err-over-clause-refused : goal.returns-in_err-over-clause-refused
 returns-in_err-over-clause-refused c =

@@ -1,0 +1,92 @@
+/* Dictionaries that many cutters have: a base, which is a cutter that never cuts, and the count of who holds it. The calls of a cutter are for one
+   thread at a time, so a base is shared under a lock, which is held for as long as a count takes to rise. */
+#include <kumquatsieve.h>
+#include <pthread.h>
+#include <stdlib.h>
+
+struct kumquatsieve_dictionary {
+    kumquatsieve_cutter base;
+    size_t holders;
+};
+
+static pthread_mutex_t shared = PTHREAD_MUTEX_INITIALIZER;
+
+static void lock(void) {
+    pthread_mutex_lock(&shared);
+}
+
+static void unlock(void) {
+    pthread_mutex_unlock(&shared);
+}
+
+/* A child has the forking thread alone: what another one had locked would stay so. */
+__attribute__((constructor)) static void keep_over_forks(void) {
+    pthread_atfork(lock, unlock, unlock);
+}
+
+/* Loads an image, the first one as the system's. */
+static uint32_t load(kumquatsieve_cutter *base, const kumquatsieve_image *image, bool is_first, unsigned how, uint64_t *number) {
+    bool skip = how & KUMQUATSIEVE_SKIP_DIGEST;
+    return is_first ? kumquatsieve_load_by(base, image->bytes, image->length, skip, number)
+                    : kumquatsieve_add_user_by(base, image->bytes, image->length, skip, number);
+}
+
+/* Loads images up to the first that is refused, whose number is told. */
+static uint32_t load_all(
+    kumquatsieve_cutter *base, const kumquatsieve_image *images, size_t count, unsigned how, size_t *image, uint64_t *number
+) {
+    uint32_t code = KUMQUATSIEVE_OK;
+    for (size_t i = 0; i < count && code == KUMQUATSIEVE_OK; i++) {
+        *image = i;
+        code = load(base, &images[i], i == 0, how, number);
+    }
+    return code;
+}
+
+uint32_t kumquatsieve_dictionary_make(
+    kumquatsieve_dictionary **dictionary, const kumquatsieve_image *images, size_t count, unsigned how, size_t *image, uint64_t *number
+) {
+    size_t at = 0;
+    if (count == 0) return KUMQUATSIEVE_EMPTY_CUTTER;
+    kumquatsieve_dictionary *made = malloc(sizeof *made);
+    if (!made) return KUMQUATSIEVE_MEMORY;
+    *made = (kumquatsieve_dictionary){KUMQUATSIEVE_EMPTY, 1};
+    uint32_t code = load_all(&made->base, images, count, how, &at, number);
+    if (code == KUMQUATSIEVE_OK) {
+        *dictionary = made;
+        return code;
+    }
+    if (image) *image = at;
+    kumquatsieve_free(&made->base);
+    free(made);
+    return code;
+}
+
+uint32_t kumquatsieve_cutter_over(kumquatsieve_cutter *cutter, const kumquatsieve_dictionary *dictionary) {
+    kumquatsieve_dictionary *of = (kumquatsieve_dictionary *)dictionary;
+    if (!of) return KUMQUATSIEVE_EMPTY_CUTTER;
+    lock();
+    uint32_t code = kumquatsieve_share(cutter, &of->base);
+    unlock();
+    return code;
+}
+
+const kumquatsieve_dictionary *kumquatsieve_dictionary_hold(const kumquatsieve_dictionary *dictionary) {
+    kumquatsieve_dictionary *of = (kumquatsieve_dictionary *)dictionary;
+    if (!of) return NULL;
+    lock();
+    of->holders++;
+    unlock();
+    return of;
+}
+
+void kumquatsieve_dictionary_release(const kumquatsieve_dictionary *dictionary) {
+    kumquatsieve_dictionary *of = (kumquatsieve_dictionary *)dictionary;
+    if (!of) return;
+    lock();
+    bool is_last = --of->holders == 0;
+    unlock();
+    if (!is_last) return;
+    kumquatsieve_free(&of->base);
+    free(of);
+}

@@ -1,0 +1,179 @@
+//! Codes, names and texts of faults.
+use mj_model::{
+    FormatFault, FormatKind, FormatPart, ImageFault, NO_FILE, NamedFault, OverlayFault, RunFault,
+    SourceFault, SourceKind,
+};
+use std::alloc::Global;
+use std::fmt::Display;
+use std::test::Fail;
+
+/// Whether a fault has this code and this name, and this text is printed of it.
+fn is_told<F: NamedFault + Display + Drop>(
+    alloc: Global,
+    fault: F,
+    code: &str,
+    name: &str,
+    text: &str,
+) -> Result<bool, Fail> {
+    let printed = format!(in alloc; "{fault}")?;
+    Ok(fault.code() == code && fault.name() == name && printed.as_str() == text)
+}
+
+/// Faults of a line of a source, and of the sources together.
+#[rattlefmt::skip]
+static KINDS: [(SourceKind, &str, &str, &str); 22] = [
+    // (kind, code, name, text)
+    (SourceKind::NotUtf8,            "S1",     "NotUtf8",          "S1 NotUtf8"),
+    (SourceKind::TooFewFields,       "S2",     "TooFewFields",     "S2 TooFewFields"),
+    (SourceKind::BadNumber,          "S3",     "BadNumber",        "S3 BadNumber"),
+    (SourceKind::SurfaceTooLong,     "S4",     "SurfaceTooLong",   "S4 SurfaceTooLong"),
+    (SourceKind::TooManyEntries,     "S5",     "TooMany",          "S5 TooMany"),
+    (SourceKind::BadHeader,          "M1",     "BadHeader",        "M1 BadHeader"),
+    (SourceKind::BadRow,             "M2",     "BadRow",           "M2 BadRow"),
+    (SourceKind::PairOutside,        "M3",     "PairOutside",      "M3 PairOutside"),
+    (SourceKind::TooLarge,           "M4",     "TooLarge",         "M4 TooLarge"),
+    (SourceKind::BadLine,            "C1",     "BadLine",          "C1 BadLine"),
+    (SourceKind::BadRange,           "C2",     "BadRange",         "C2 BadRange"),
+    (SourceKind::Twice,              "C3",     "Twice",            "C3 Twice"),
+    (SourceKind::UndefinedCategory,  "C4",     "NoSuchCategory",   "C4 NoSuchCategory"),
+    (SourceKind::TooManyCategories,  "C5",     "TooMany",          "C5 TooMany"),
+    (SourceKind::NoDefault,          "C6",     "NoDefault",        "C6 NoDefault"),
+    (SourceKind::NoSpace,            "C7",     "NoSpace",          "C7 NoSpace"),
+    (SourceKind::NoSuchCategory,     "U1",     "NoSuchCategory",   "U1 NoSuchCategory"),
+    (SourceKind::MissingCategory(4), "U2",     "MissingCategory",  "U2 MissingCategory 4"),
+    (SourceKind::IdOutside,          "I1",     "IdOutside",        "I1 IdOutside"),
+    (SourceKind::ArrayFull,          "I2",     "ArrayFull",        "I2 ArrayFull"),
+    (SourceKind::FeaturesTooLarge,   "I3",     "FeaturesTooLarge", "I3 FeaturesTooLarge"),
+    (SourceKind::Memory,             "Memory", "Memory",           "Memory"),
+];
+
+#[test]
+fn kinds_of_sources(rt: HostRuntime) -> Result<(), Fail> {
+    for (kind, code, name, text) in &KINDS {
+        assert!(rt; is_told(rt.alloc(), *kind, code, name, text)?, "{text}");
+    }
+    Ok(())
+}
+
+/// Places of faults.
+#[rattlefmt::skip]
+static PLACES: [(u32, u64, &str); 4] = [
+    // (file, line, how the text begins)
+    (0,       1,        "file 0, line 1: "),
+    (2,       0,        "file 2, line 0: "),
+    (3,       u64::MAX, "file 3, line 18446744073709551615: "),
+    (NO_FILE, 0,        "file 4294967295, line 0: "),
+];
+
+#[test]
+fn places_of_sources(rt: HostRuntime) -> Result<(), Fail> {
+    for (file, line, begin) in &PLACES {
+        for (kind, code, name, text) in &KINDS {
+            let text = format!(in rt.alloc(); "{begin}{text}")?;
+            let told = is_told(rt.alloc(), kind.at(*file, *line), code, name, text.as_str())?;
+            assert!(rt; told, "{text}");
+        }
+    }
+    Ok(())
+}
+
+/// Faults of the bytes of an image.
+#[rattlefmt::skip]
+static IMAGES: [(ImageFault, &str, &str, &str); 9] = [
+    // (fault, code, name, text)
+    (ImageFault::Truncated,         "L1",     "Truncated",  "L1 Truncated"),
+    (ImageFault::BadMagic,          "L2",     "BadMagic",   "L2 BadMagic"),
+    (ImageFault::BadLayout(9),      "L3",     "BadLayout",  "L3 BadLayout 9"),
+    (ImageFault::BadSection(5),     "L4",     "BadSection", "L4 BadSection 5"),
+    (ImageFault::BadKey(70_000),    "L5",     "BadKey",     "L5 BadKey 70000"),
+    (ImageFault::BadToken(0),       "L6",     "BadToken",   "L6 BadToken 0"),
+    (ImageFault::BadText(u32::MAX), "L7",     "BadText",    "L7 BadText 4294967295"),
+    (ImageFault::Digest,            "L8",     "Digest",     "L8 Digest"),
+    (ImageFault::Memory,            "Memory", "Memory",     "Memory"),
+];
+
+#[test]
+fn images(rt: HostRuntime) -> Result<(), Fail> {
+    for (fault, code, name, text) in &IMAGES {
+        assert!(rt; is_told(rt.alloc(), *fault, code, name, text)?, "{text}");
+    }
+    Ok(())
+}
+
+/// Faults of dictionaries that are laid over one another.
+#[rattlefmt::skip]
+static OVERLAYS: [(OverlayFault, &str, &str, &str); 3] = [
+    // (fault, code, name, text)
+    (OverlayFault::NotSystem,      "O1", "NotSystem",  "O1 NotSystem"),
+    (OverlayFault::NotUser(0),     "O2", "NotUser",    "O2 NotUser 0"),
+    (OverlayFault::OtherSizes(12), "O3", "OtherSizes", "O3 OtherSizes 12"),
+];
+
+#[test]
+fn overlays(rt: HostRuntime) -> Result<(), Fail> {
+    for (fault, code, name, text) in &OVERLAYS {
+        assert!(rt; is_told(rt.alloc(), *fault, code, name, text)?, "{text}");
+    }
+    Ok(())
+}
+
+/// Faults of a part of a format.
+#[rattlefmt::skip]
+static FORMATS: [(FormatPart, usize, FormatKind, &str, &str, &str); 5] = [
+    // (part, byte, kind, code, name, text)
+    (FormatPart::Node, 1,      FormatKind::BadEscape, "P1", "BadEscape", "P1 BadEscape 1"),
+    (FormatPart::Node, 16,     FormatKind::BadItem,   "P2", "BadItem",   "P2 BadItem 16"),
+    (FormatPart::Unk,  0,      FormatKind::BadIndex,  "P3", "BadIndex",  "P3 BadIndex 0"),
+    (FormatPart::Bos,  0,      FormatKind::BadItem,   "P2", "BadItem",   "P2 BadItem 0"),
+    (FormatPart::Eos,  70_000, FormatKind::BadEscape, "P1", "BadEscape", "P1 BadEscape 70000"),
+];
+
+#[test]
+fn formats(rt: HostRuntime) -> Result<(), Fail> {
+    for (part, at, kind, code, name, text) in &FORMATS {
+        let fault = FormatFault::Bad {
+            part: *part,
+            at: *at,
+            kind: *kind,
+        };
+        assert!(rt; is_told(rt.alloc(), fault, code, name, text)?, "{text}");
+    }
+    let memory = is_told(
+        rt.alloc(),
+        FormatFault::Memory,
+        "Memory",
+        "Memory",
+        "Memory",
+    )?;
+    assert!(rt; memory);
+    Ok(())
+}
+
+/// The fault of the first line of a lexicon with an open quote.
+const OPEN_QUOTE: SourceFault = SourceFault {
+    file: 3,
+    line: 1,
+    kind: SourceKind::TooFewFields,
+};
+
+/// Faults of a run over a text.
+#[rattlefmt::skip]
+static RUNS: [(RunFault, &str, &str, &str); 8] = [
+    // (fault, code, name, text)
+    (RunFault::Source(OPEN_QUOTE),        "S2",     "TooFewFields", "file 3, line 1: S2 TooFewFields"),
+    (RunFault::UserSource(1, OPEN_QUOTE), "S2",     "TooFewFields", "file 3, line 1: S2 TooFewFields"),
+    (RunFault::Read(2),                   "G1",     "Read",         "line 2: G1 Read"),
+    (RunFault::Write(120),                "G2",     "Write",        "G2 Write 120"),
+    (RunFault::NotUtf8(3),                "G3",     "NotUtf8",      "line 3: G3 NotUtf8"),
+    (RunFault::TooLong(1),                "G4",     "TooLong",      "line 1: G4 TooLong"),
+    (RunFault::InputTooLong(2),           "G5",     "InputTooLong", "line 2: G5 InputTooLong"),
+    (RunFault::Memory(5),                 "Memory", "Memory",       "Memory"),
+];
+
+#[test]
+fn runs(rt: HostRuntime) -> Result<(), Fail> {
+    for (fault, code, name, text) in &RUNS {
+        assert!(rt; is_told(rt.alloc(), *fault, code, name, text)?, "{text}");
+    }
+    Ok(())
+}
