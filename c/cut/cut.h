@@ -36,11 +36,13 @@ typedef struct fault {
     uint32_t part;
 } fault;
 
-/* What a command line asks for. A format that was not given is NULL; `dic` and `users` are main's to free. */
+/* What a command line asks for. A format that was not given is NULL; `dic` and `users` are main's to free. `skip_digest` is that of the library's
+   kumquatsieve_load_by. */
 typedef struct options {
     char *dic;
     const char **users;
     size_t user_count;
+    bool skip_digest;
     const char *node, *unk, *bos, *eos;
     bool is_wakati;
     uint32_t grouping;
@@ -51,21 +53,10 @@ typedef struct options {
 /* options.c. Whether there is work to do; else the program ends with this status, and why was told. */
 bool read_options(int count, char **words, options *asked, int *status);
 
-/* habits.c. What to do in place of words that jseg or MeCab take, or NULL; in place of a name of an output format; and what --help and --version
-   print. */
-typedef enum habit {
-    HABIT_WORDS,
-    HABIT_NBEST,
-    HABIT_BUFFER,
-    HABIT_FILE,
-    HABIT_RCFILE,
-    HABIT_SOURCES,
-    HABIT_SAMPLE,
-    HABIT_EXPLAIN,
-    HABITS,
-} habit;
-extern const char *const INSTEAD[HABITS];
-habit habit_of(const char *word);
+/* habits.c. What to do in place of what jseg or MeCab take: of an option of one letter, which is not 0, and of a whole word; NULL where that is
+   known of none. In place of a name of an output format; and what --help and --version print. */
+const char *instead_of_letter(char letter);
+const char *instead_of_word(const char *word);
 const char *instead_of_output(const char *name);
 extern const char HELP[], VERSION[];
 

@@ -10,6 +10,7 @@ const char HELP[] =
     "Options:\n"
     "  -d <IMG>       Cut the text with the system dictionary of an image\n"
     "  -u <IMG>       Cut it with the user dictionary of an image too; may be given again\n"
+    "  --skip-digest  Load images without the test of their digest, which takes most of the time, where their bytes are guarded otherwise\n"
     "  -j <N>         How many threads cut, 1 to 1,000 (as many as there are processors)\n"
     "  -M <N>         How many characters may follow the first one of a grouped unknown word (24)\n"
     "  -O <NAME>      An output format by its name: wakati, a line of surfaces with a blank after each\n"
@@ -23,33 +24,62 @@ const char HELP[] =
 
 const char VERSION[] = PROGRAM " " KUMQUATSIEVE_VERSION "\nimage layouts read: 1, 2, 3\n";
 
-const char *const INSTEAD[HABITS] = {
-    [HABIT_WORDS] = PROGRAM " reads the text on standard input: " PROGRAM " -d IMG < FILE",
-    [HABIT_NBEST] = "-N is not known: " PROGRAM " writes the one best path, so leave it out",
-    [HABIT_BUFFER] = "-b is not needed: a line may have 1,048,576 bytes, so leave it out",
-    [HABIT_FILE] = "-o is not known: " PROGRAM " writes to standard output, so end with '> FILE'",
-    [HABIT_RCFILE] = "-r is not known: " PROGRAM " reads no dicrc, so give its formats with -F, -U, -B and -E",
-    [HABIT_SOURCES] = "--sources is not known: " PROGRAM " takes images, so compile the sources with dictc, or use jseg",
-    [HABIT_SAMPLE] = "--sample is not known: " PROGRAM " takes images, so use jseg",
-    [HABIT_EXPLAIN] = "--explain is not known: jseg --explain says what a code means",
+/* What is taken only to be refused: by its letter behind `-`, or 0, and by its word behind `--`. */
+static const struct {
+    char letter;
+    const char *word, *instead;
+} HABITS[] = {
+    {0, "sources", "--sources is not known: " PROGRAM " takes images, so compile the sources with dictc, or use jseg"},
+    {0, "sample", "--sample is not known: " PROGRAM " takes images, so use jseg"},
+    {0, "explain", "--explain is not known: jseg --explain says what a code means"},
+    {'N', "nbest", "-N is not known: " PROGRAM " writes the one best path, so leave it out"},
+    {'a', "all-morphs", "-a is not known: " PROGRAM " writes the one best path, so leave it out"},
+    {'l', "lattice-level", "-l is not known: " PROGRAM " writes the one best path, so leave it out"},
+    {'m', "marginal", "-m is not known: " PROGRAM " computes no probabilities, so leave it out"},
+    {'t', "theta", "-t is not known: " PROGRAM " computes no probabilities, so leave it out"},
+    {'c', "cost-factor", "-c is not known: " PROGRAM " computes no probabilities, so leave it out"},
+    {'p', "partial", "-p is not known: " PROGRAM " cuts lines of text, and takes no words that were cut before"},
+    {'S', "eon-format", "-S is not known: it ends N paths, and " PROGRAM " writes one, so leave it out"},
+    {'x', "unk-feature", "-x is not known: give -U a format that has the text in place of %H"},
+    {'o', "output", "-o is not known: " PROGRAM " writes to standard output, so end with '> FILE'"},
+    {'r', "rcfile", "-r is not known: " PROGRAM " reads no dicrc, so give its formats with -F, -U, -B and -E"},
+    {'D', "dictionary-info", "-D is not known: -v tells what is loaded"},
+    {'P', "dump-config", "-P is not known: --help lists what " PROGRAM " takes"},
+    {'b', "input-buffer-size", "-b is not needed: a line may have 1,048,576 bytes, so leave it out"},
+    {'C', "allocate-sentence", "-C is not needed: " PROGRAM " keeps each line itself, so leave it out"},
+    {0, "dicdir", "--dicdir is not known: write -d IMG"},
+    {0, "userdic", "--userdic is not known: write -u IMG"},
+    {0, "output-format-type", "--output-format-type is not known: write -O wakati"},
+    {0, "max-grouping-size", "--max-grouping-size is not known: write -M N"},
+    {0, "node-format", "--node-format is not known: write -F FORMAT"},
+    {0, "unk-format", "--unk-format is not known: write -U FORMAT"},
+    {0, "bos-format", "--bos-format is not known: write -B FORMAT"},
+    {0, "eos-format", "--eos-format is not known: write -E FORMAT"},
 };
 
-static bool begins(const char *word, const char *front) {
-    return strncmp(word, front, strlen(front)) == 0;
+static const char WORDS[] = PROGRAM " reads the text on standard input: " PROGRAM " -d IMG < FILE";
+
+const char *instead_of_letter(char letter) {
+    for (size_t i = 0; i < sizeof HABITS / sizeof *HABITS; i++) {
+        if (HABITS[i].letter == letter) return HABITS[i].instead;
+    }
+    return NULL;
 }
 
-habit habit_of(const char *word) {
-    static const struct {
-        const char *front;
-        habit known;
-    } FRONTS[] = {
-        {"--sources", HABIT_SOURCES}, {"--sample", HABIT_SAMPLE}, {"--explain", HABIT_EXPLAIN}, {"-N", HABIT_NBEST},
-        {"-b", HABIT_BUFFER},         {"-o", HABIT_FILE},         {"-r", HABIT_RCFILE},
-    };
-    for (size_t i = 0; i < sizeof FRONTS / sizeof *FRONTS; i++) {
-        if (begins(word, FRONTS[i].front)) return FRONTS[i].known;
+/* Whether a word is `--` and this, alone or with a value behind `=`. */
+static bool is_long(const char *word, const char *name) {
+    size_t length = strlen(name);
+    if (strncmp(word, "--", 2) != 0 || strncmp(word + 2, name, length) != 0) return false;
+    char behind = word[2 + length];
+    return behind == '\0' || behind == '=';
+}
+
+const char *instead_of_word(const char *word) {
+    if (word[0] != '-' || word[1] == '\0') return WORDS;
+    for (size_t i = 0; i < sizeof HABITS / sizeof *HABITS; i++) {
+        if (is_long(word, HABITS[i].word)) return HABITS[i].instead;
     }
-    return word[0] == '-' && word[1] != '\0' ? HABITS : HABIT_WORDS;
+    return NULL;
 }
 
 /* NULL for the one format that has a name. The others are those of IPADIC's dicrc, each with the options that print the same or nearly so. */

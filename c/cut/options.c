@@ -30,14 +30,18 @@ typedef struct reading {
 
 typedef enum step { NEXT, ENDED, WRONG } step;
 
-static step wrong_word(const char *word) {
-    habit known = habit_of(word);
-    if (known == HABITS) {
-        tell_wrong("unexpected argument '%s' found", word);
+/* `instead` is what to do in place of it, or NULL. */
+static step unexpected(const char *word, const char *instead) {
+    if (instead) {
+        tell_wrong("%s", instead);
     } else {
-        tell_wrong("%s", INSTEAD[known]);
+        tell_wrong("unexpected argument '%s' found", word);
     }
     return WRONG;
+}
+
+static step wrong_word(const char *word) {
+    return unexpected(word, instead_of_word(word));
 }
 
 /* What is printed where the program is asked about itself. */
@@ -105,9 +109,10 @@ static const row *row_of(char letter) {
     return NULL;
 }
 
-static step given_twice(const row *option) {
-    const char *before = option->value ? " <" : "", *behind = option->value ? ">" : "";
-    tell_wrong("the argument '-%c%s%s%s' cannot be used multiple times", option->letter, before, option->value ? option->value : "", behind);
+/* An option by its name, and that of its value, or NULL. */
+static step given_twice(const char *name, const char *value) {
+    const char *before = value ? " <" : "", *behind = value ? ">" : "";
+    tell_wrong("the argument '%s%s%s%s' cannot be used multiple times", name, before, value ? value : "", behind);
     return WRONG;
 }
 
@@ -117,8 +122,8 @@ static step read_letters(reading *of, const char *word, int *status) {
         const row *option = row_of(*at);
         if (*at == 'h') return answer(HELP, status);
         if (*at == 'V') return answer(VERSION, status);
-        if (!option) return wrong_word(word);
-        if (of->given[(unsigned char)*at] && !option->is_repeated) return given_twice(option);
+        if (!option) return unexpected(word, instead_of_letter(*at));
+        if (of->given[(unsigned char)*at] && !option->is_repeated) return given_twice((char[]){'-', *at, '\0'}, option->value);
         of->given[(unsigned char)*at] = true;
         if (option->value) return read_value(of, option, at + 1);
         of->asked->is_verbose = true;
@@ -126,10 +131,17 @@ static step read_letters(reading *of, const char *word, int *status) {
     return NEXT;
 }
 
+static step read_skip_digest(reading *of, const char *word) {
+    if (of->asked->skip_digest) return given_twice(word, NULL);
+    of->asked->skip_digest = true;
+    return NEXT;
+}
+
 static step read_word(reading *of, int *status) {
     const char *word = of->words[of->at++];
     if (strcmp(word, "--help") == 0) return answer(HELP, status);
     if (strcmp(word, "--version") == 0) return answer(VERSION, status);
+    if (strcmp(word, "--skip-digest") == 0) return read_skip_digest(of, word);
     if (strcmp(word, "--") == 0) return of->at == of->count ? NEXT : wrong_word(of->words[of->at]);
     if (word[0] != '-' || word[1] == '\0' || word[1] == '-') return wrong_word(word);
     return read_letters(of, word, status);

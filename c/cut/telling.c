@@ -39,7 +39,7 @@ void tell(const char *format, ...) {
 void tell_wrong(const char *format, ...) {
     va_list words;
     va_start(words, format);
-    tell_between("error: ", "\n\nFor more information, try '--help'.\n", format, words);
+    tell_between(PROGRAM ": ", "\n\nFor more information, try '--help'.\n", format, words);
     va_end(words);
 }
 

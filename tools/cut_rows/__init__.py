@@ -1,4 +1,4 @@
-"""What kumquatsieve-cut is run on beside jseg: rows of formats, of texts, and of standard input and output that fail."""
+"""What kumquatsieve-cut is run on beside jseg: rows of formats, of images, of texts, and of standard input and output that fail."""
 import os
 import random
 import resource
@@ -42,7 +42,7 @@ def unread(_):
 
 
 class Row(NamedTuple):
-    """What both programs are run on. `place` is what the environment has for the library whose calls fail."""
+    """What both programs are run on. `place` is what the environment has for the library whose calls fail. Images have the names of `Place.images`."""
 
     what: str
     options: tuple = ()
@@ -50,6 +50,8 @@ class Row(NamedTuple):
     place: dict = {}
     output: Callable = kept
     status: int = 0
+    image: str = "SYSTEM"  # that of -d
+    told: str = ""  # what the fault has
     most: int = 0  # how many bytes the file of the output may have. 0: any number
     closed: tuple = ()  # the streams that are closed
     is_directory: bool = False  # whether standard input is a directory
@@ -74,6 +76,16 @@ FORMATS = [
     Row("unknown words of their own", ("-F", "%m/", "-U", "<%m>/", "-E", "\\n")),
     Row("ungrouped unknown words", ("-M", "0", "-O", "wakati")),
     Row("a user dictionary", ("-u", "USER")),
+]
+
+# The last byte of a damaged image is another one.
+IMAGES = [
+    Row("another digest", image="DAMAGED", status=1, told="L8 Digest"),
+    Row("another digest, a user's", ("-u", "DAMAGED USER"), status=1, told="L8 Digest"),
+    Row("other digests, without their test", ("--skip-digest", "-u", "DAMAGED USER"), image="DAMAGED"),
+    Row("the digests, without their test", ("-u", "USER", "--skip-digest")),
+    Row("another digest behind what is no user's", ("-u", "SYSTEM", "-u", "DAMAGED USER"), status=1, told="L8 Digest"),
+    Row("the same, without the test", ("-u", "SYSTEM", "-u", "DAMAGED USER", "--skip-digest"), status=1, told="O2 NotUser 0"),
 ]
 
 TEXT = made_up(4_000_000)

@@ -4,7 +4,7 @@ import subprocess
 
 NAME = "kumquatsieve-cut"
 WRONG = [
-    # (words, how the text begins behind `error: `)
+    # (words, how the text begins after the program's name)
     ("", "-d IMG has to be given"),
     ("-j", "a value is required for '-j <N>'"),
     ("-j 0", "invalid value '0' for '-j <N>': 0 is not in 1..=1000"),
@@ -15,9 +15,22 @@ WRONG = [
     ("-j -1", "a value is required for '-j <N>'"),
     ("-j 2 -j 2", "the argument '-j <N>' cannot be used multiple times"),
     ("-vv", "the argument '-v' cannot be used multiple times"),
-    ("-x", "unexpected argument '-x' found"),
+    ("--skip-digest -d none --skip-digest", "the argument '--skip-digest' cannot be used multiple times"),
+    ("--skip-digest", "-d IMG has to be given"),
+    ("--skip-digest=yes", "unexpected argument '--skip-digest=yes' found"),
+    ("--skip-digests", "unexpected argument '--skip-digests' found"),
+    ("-q", "unexpected argument '-q' found"),
+    ("-vq", "unexpected argument '-vq' found"),
     ("--jobs 2", "unexpected argument '--jobs' found"),
+    ("--nbests 2", "unexpected argument '--nbests' found"),
+    ("--", "-d IMG has to be given"),
+    ("-x UNK", "-x is not known"),
+    ("-vN2", "-N is not known"),
+    ("--nbest 2", "-N is not known"),
+    ("--output=out.txt", "-o is not known"),
+    ("--node-format=%m", "--node-format is not known: write -F FORMAT"),
     ("--sources a", "--sources is not known"),
+    ("--sources=a", "--sources is not known"),
     ("--sample", "--sample is not known"),
     ("--explain L4", "--explain is not known"),
     ("-d none text.txt", f"{NAME} reads the text on standard input"),
@@ -29,7 +42,7 @@ def faults(program, page):
     """What is not as it should be of a wrong command line, of --version, and of the options that --help and the manual page list."""
     for words, begin in WRONG:
         done = subprocess.run([program, *words.split()], capture_output=True, text=True)
-        if done.returncode != 2 or done.stdout or not done.stderr.startswith(f"error: {begin}"):
+        if done.returncode != 2 or done.stdout or not done.stderr.startswith(f"{NAME}: {begin}"):
             yield f"{words!r}: status {done.returncode}, {done.stderr!r}"
     version = subprocess.run([program, "--version"], capture_output=True, text=True)
     if not re.fullmatch(rf"{NAME} [0-9.]+\nimage layouts read: 1, 2, 3\n", version.stdout):
@@ -41,7 +54,7 @@ def faults(program, page):
 
 def options_of_help(program):
     text = subprocess.run([program, "--help"], capture_output=True, text=True, check=True).stdout
-    return {name for pair in re.findall(r"^ +(-\w)(?:, (--\w+))?", text, re.M) for name in pair if name}
+    return {name for names in re.findall(r"^ +(-[\w-]+(?:, -[\w-]+)?)", text, re.M) for name in names.split(", ")}
 
 
 def options_of_page(page):
