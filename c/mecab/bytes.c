@@ -29,16 +29,6 @@ bool add_bytes(bytes *to, const char *from, size_t length) {
     return true;
 }
 
-/* Adds what stands before the first zero, and a zero. */
-bool add_text(bytes *to, const char *from, size_t length) {
-    size_t shown = strnlen(from, length), whole = to->length + shown;
-    if (!grow_bytes(to, whole)) return false;
-    memcpy(to->at + to->length, from, shown);
-    to->at[whole] = '\0';
-    to->length = whole + 1;
-    return true;
-}
-
 void free_bytes(bytes *of) {
     free(of->at);
     *of = (bytes){NULL, 0, 0};

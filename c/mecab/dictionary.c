@@ -102,8 +102,8 @@ void release_tables(tables *of) {
     if (others == 0) free_tables(of);
 }
 
-bool share_tables(kumquatsieve_cutter *to, const tables *from, fault *error) {
-    if (!share_images(to, from->images, error)) return false;
+bool cutter_over_tables(kumquatsieve_cutter *to, const tables *from, fault *error) {
+    if (!cutter_over_images(to, from->images, error)) return false;
     uint32_t code = kumquatsieve_set_grouping(to, from->grouping);
     if (code == KUMQUATSIEVE_OK) return true;
     kumquatsieve_free(to);

@@ -29,11 +29,10 @@ typedef struct bytes {
     size_t room;
 } bytes;
 
-/* bytes.c. add_text adds what stands before the first zero, and a zero. */
+/* bytes.c */
 bool grow_bytes(bytes *of, size_t length);
 bool set_bytes(bytes *to, const void *from, size_t length);
 bool add_bytes(bytes *to, const char *from, size_t length);
-bool add_text(bytes *to, const char *from, size_t length);
 void free_bytes(bytes *of);
 
 /* Fields of a feature; the text is cut in place. (fields.c) */

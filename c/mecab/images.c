@@ -1,8 +1,13 @@
-/* Images that the process has: each is loaded once, handed to all models that want it, and given back with the last. */
+/* Images that the process has: each is loaded once, and handed to all models that want it. What the last model has given back stays until other
+   images are wanted, so that who makes one tagger after the other loads once. */
 #include "layer.h"
+#include <errno.h>
+#include <fcntl.h>
 #include <stdlib.h>
 #include <string.h>
+#include <sys/mman.h>
 #include <sys/stat.h>
+#include <unistd.h>
 
 /* Where an image's header says its sizes: right ids, left ids, tokens of the lexicon, unknown tokens behind those. (docs/FORMAT.md) */
 enum { RIGHT_AT = 16, LEFT_AT = 20, TOKENS_AT = 32, UNKNOWN_AT = 36, HEADER = 104, VERSION = 102 };
@@ -18,19 +23,22 @@ typedef struct identity {
     struct timespec changed;
 } identity;
 
-/* A system's image and those of users that are laid over it. The count and the list are under the lock of lock.c, and so are calls of the
-   cutter. */
+/* A system's image and those of users that are laid over it, with the features of their words. The count and the list are under the lock of
+   lock.c. */
 struct images {
     images *next;
     unsigned long holders;
     size_t count;
     identity *files;
     size_t *token_counts;
-    kumquatsieve_cutter cutter;
+    kumquatsieve_dictionary *dictionary;
+    features *features;
     mecab_dictionary_info_t *infos;
 };
 
+/* All that are there, and the ones of these that nobody holds. */
 static images *loaded;
+static images *kept;
 
 static bool is_file(const struct stat *of, const char *path, fault *error) {
     return S_ISREG(of->st_mode) || fail(error, "%s: is no file", path);
@@ -56,6 +64,7 @@ static images *find(const identity *files, size_t count) {
         for (size_t i = 0; same && i < count; i++) same = are_same(&one->files[i], &files[i]);
         if (!same) continue;
         one->holders++;
+        if (one == kept) kept = NULL;
         return one;
     }
     return NULL;
@@ -77,32 +86,34 @@ static images *find_at(char *const *paths, size_t count) {
     return found;
 }
 
-static bool read_whole(FILE *file, const char *path, bytes *whole, identity *which, fault *error) {
+/* Maps a file that was opened. Of an empty one nothing can be mapped, and the library says what is wrong with it. */
+static bool map_opened(int file, const char *path, kumquatsieve_image *mapped, identity *which, fault *error) {
     struct stat of;
-    if (fstat(fileno(file), &of) != 0) return fail(error, "%s: can't be read", path);
+    if (fstat(file, &of) != 0) return fail(error, "%s: can't be read", path);
     if (!is_file(&of, path, error)) return false;
     *which = identity_of(&of);
-    whole->length = (size_t)of.st_size;
-    whole->at = malloc(whole->length + 1);
-    if (!whole->at) return fail_memory(error);
-    return fread(whole->at, 1, whole->length, file) == whole->length || fail(error, "%s: can't be read", path);
+    if (of.st_size == 0) return true;
+    void *at = mmap(NULL, (size_t)of.st_size, PROT_READ, MAP_PRIVATE, file, 0);
+    if (at == MAP_FAILED) return errno == ENOMEM ? fail_memory(error) : fail(error, "%s: can't be read", path);
+    *mapped = (kumquatsieve_image){at, (size_t)of.st_size};
+    return true;
 }
 
-static bool read_file(const char *path, bytes *whole, identity *which, fault *error) {
-    FILE *file = fopen(path, "rbe");
-    if (!file) return fail(error, "%s: can't be opened; kumquatsieve-import makes an image", path);
-    bool read = read_whole(file, path, whole, which, error);
-    fclose(file);
-    return read;
+static bool map_file(const char *path, kumquatsieve_image *mapped, identity *which, fault *error) {
+    int file = open(path, O_RDONLY | O_CLOEXEC);
+    if (file < 0) return fail(error, "%s: can't be opened; kumquatsieve-import makes an image", path);
+    bool is_mapped = map_opened(file, path, mapped, which, error);
+    close(file);
+    return is_mapped;
 }
 
-static unsigned number_at(const bytes *image, size_t at) {
-    const unsigned char *of = (const unsigned char *)image->at + at;
+static unsigned number_at(const kumquatsieve_image *image, size_t at) {
+    const unsigned char *of = image->bytes + at;
     return of[0] | (unsigned)of[1] << 8 | (unsigned)of[2] << 16 | (unsigned)of[3] << 24;
 }
 
 /* MeCab's dictionaries begin with their size, exclusive or a number of MeCab's. */
-static bool fail_image(fault *error, const char *path, const bytes *image, uint32_t code) {
+static bool fail_image(fault *error, const char *path, const kumquatsieve_image *image, uint32_t code) {
     if (image->length < HEADER || (number_at(image, 0) ^ OF_MECAB) != image->length) return fail_code(error, path, code);
     return fail(
         error,
@@ -111,7 +122,7 @@ static bool fail_image(fault *error, const char *path, const bytes *image, uint3
     );
 }
 
-static bool add_info(mecab_dictionary_info_t **last, const char *path, const bytes *image, int type) {
+static bool add_info(mecab_dictionary_info_t **last, const char *path, const kumquatsieve_image *image, int type) {
     mecab_dictionary_info_t *info = calloc(1, sizeof *info);
     char *name = strdup(path);
     if (!info || !name) {
@@ -127,27 +138,43 @@ static bool add_info(mecab_dictionary_info_t **last, const char *path, const byt
     return true;
 }
 
-/* Loads an image, the first one as the system's. The library has looked at it before its header is read here. */
-static bool load(images *to, const char *path, size_t number, fault *error) {
-    bytes image = {NULL, 0, 0};
-    uint64_t at_fault = 0;
+/* Keeps what an image's header says. The library has looked at the image before. */
+static bool keep_header(images *to, const char *path, const kumquatsieve_image *image, size_t number) {
     mecab_dictionary_info_t **last = &to->infos;
     while (*last) last = &(*last)->next;
-    bool is_loaded = read_file(path, &image, &to->files[number], error);
-    if (is_loaded) {
-        const uint8_t *at = (const uint8_t *)image.at;
-        uint32_t code = number == 0 ? kumquatsieve_load(&to->cutter, at, image.length, &at_fault)
-                                    : kumquatsieve_add_user(&to->cutter, at, image.length, &at_fault);
-        if (code != KUMQUATSIEVE_OK) is_loaded = fail_image(error, path, &image, code);
-        else to->token_counts[number] = (size_t)number_at(&image, TOKENS_AT) + number_at(&image, UNKNOWN_AT);
+    to->token_counts[number] = (size_t)number_at(image, TOKENS_AT) + number_at(image, UNKNOWN_AT);
+    return add_info(last, path, image, number == 0 ? MECAB_SYS_DIC : MECAB_USR_DIC);
+}
+
+/* Maps the images, and makes a dictionary of copies of them, the first one the system's. As MeCab it tests no digest. */
+static bool load(images *to, char *const *paths, kumquatsieve_image *mapped, fault *error) {
+    size_t image = 0;
+    for (size_t i = 0; i < to->count; i++) {
+        if (!map_file(paths[i], &mapped[i], &to->files[i], error)) return false;
     }
-    if (is_loaded && !add_info(last, path, &image, number == 0 ? MECAB_SYS_DIC : MECAB_USR_DIC)) is_loaded = fail_memory(error);
-    free(image.at);
+    uint32_t code = kumquatsieve_dictionary_make(&to->dictionary, mapped, to->count, KUMQUATSIEVE_SKIP_DIGEST, &image, NULL);
+    if (code != KUMQUATSIEVE_OK) return fail_image(error, paths[image], &mapped[image], code);
+    for (size_t i = 0; i < to->count; i++) {
+        if (!keep_header(to, paths[i], &mapped[i], i)) return fail_memory(error);
+    }
+    return true;
+}
+
+/* The same, with the mappings, which nothing needs behind it. */
+static bool load_mapped(images *to, char *const *paths, fault *error) {
+    kumquatsieve_image *mapped = calloc(to->count, sizeof *mapped);
+    if (!mapped) return fail_memory(error);
+    bool is_loaded = load(to, paths, mapped, error);
+    for (size_t i = 0; i < to->count; i++) {
+        if (mapped[i].bytes) munmap((void *)mapped[i].bytes, mapped[i].length);
+    }
+    free(mapped);
     return is_loaded;
 }
 
 static void free_images(images *of) {
-    kumquatsieve_free(&of->cutter);
+    kumquatsieve_dictionary_release(of->dictionary);
+    free_features(of->features);
     for (mecab_dictionary_info_t *info = of->infos; info;) {
         mecab_dictionary_info_t *next = info->next;
         free((char *)info->filename);
@@ -169,17 +196,38 @@ static images *load_all(char *const *paths, size_t count, fault *error) {
     made->holders = 1;
     made->files = calloc(count, sizeof *made->files);
     made->token_counts = calloc(count, sizeof *made->token_counts);
-    bool is_loaded = (made->files && made->token_counts) || fail_memory(error);
-    for (size_t i = 0; is_loaded && i < count; i++) is_loaded = load(made, paths[i], i, error);
+    bool is_loaded = made->files && made->token_counts ? load_mapped(made, paths, error) : fail_memory(error);
+    if (is_loaded && !(made->features = make_features(made->token_counts, count))) is_loaded = fail_memory(error);
     if (is_loaded) return made;
     free_images(made);
     return NULL;
+}
+
+/* Others are kept, or none; what was kept before is taken out of the list, to be freed. The lock is the caller's. */
+static images *exchange_kept(images *by) {
+    images *before = kept;
+    for (images **at = &loaded; before && *at; at = &(*at)->next) {
+        if (*at != before) continue;
+        *at = before->next;
+        break;
+    }
+    kept = by;
+    return before;
+}
+
+/* Also at the process's end, and where the library is closed. */
+__attribute__((destructor)) static void drop_kept(void) {
+    lock_shared();
+    images *before = exchange_kept(NULL);
+    unlock_shared();
+    if (before) free_images(before);
 }
 
 /* Who wants an image while another thread loads it waits, and gets that one. */
 images *open_images(char *const *paths, size_t count, fault *error) {
     lock_loads();
     images *opened = find_at(paths, count);
+    if (!opened) drop_kept();
     if (!opened && (opened = load_all(paths, count, error))) {
         lock_shared();
         opened->next = loaded;
@@ -193,14 +241,9 @@ images *open_images(char *const *paths, size_t count, fault *error) {
 void release_images(images *of) {
     if (!of) return;
     lock_shared();
-    bool is_last = --of->holders == 0;
-    for (images **at = &loaded; is_last && *at; at = &(*at)->next) {
-        if (*at != of) continue;
-        *at = of->next;
-        break;
-    }
+    images *before = --of->holders == 0 ? exchange_kept(of) : NULL;
     unlock_shared();
-    if (is_last) free_images(of);
+    if (before) free_images(before);
 }
 
 size_t image_count(const images *of) {
@@ -215,9 +258,11 @@ const mecab_dictionary_info_t *infos_of(const images *of) {
     return of->infos;
 }
 
-bool share_images(kumquatsieve_cutter *to, images *from, fault *error) {
-    lock_shared();
-    uint32_t code = kumquatsieve_share(to, &from->cutter);
-    unlock_shared();
+features *features_of(const images *of) {
+    return of->features;
+}
+
+bool cutter_over_images(kumquatsieve_cutter *to, const images *from, fault *error) {
+    uint32_t code = kumquatsieve_cutter_over(to, from->dictionary);
     return code == KUMQUATSIEVE_OK || fail_code(error, "dictionaries", code);
 }

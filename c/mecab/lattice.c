@@ -27,7 +27,6 @@ void mecab_lattice_destroy(mecab_lattice_t *lattice) {
     kumquatsieve_free(&lattice->cutter);
     release_tables(lattice->tables);
     free_bytes(&lattice->own);
-    free_bytes(&lattice->features);
     free_bytes(&lattice->printed);
     free_bytes(&lattice->listed);
     free(lattice->words);

@@ -11,6 +11,9 @@
 /* Images that are loaded. (images.c) */
 typedef struct images images;
 
+/* Features of their words. (features.c) */
+typedef struct features features;
+
 /* Part-of-speech ids of their words. (posids.c) */
 typedef struct posids posids;
 
@@ -70,7 +73,6 @@ struct mecab_lattice_t {
     size_t word_count;
     int64_t total;
     size_t bad_bytes;
-    bytes features;
     bytes printed;
     bytes listed;
     bool is_cut;
@@ -109,18 +111,24 @@ void release_images(images *of);
 size_t image_count(const images *of);
 size_t token_count(const images *of, size_t image);
 const mecab_dictionary_info_t *infos_of(const images *of);
-bool share_images(kumquatsieve_cutter *to, images *from, fault *error);
+features *features_of(const images *of);
+bool cutter_over_images(kumquatsieve_cutter *to, const images *from, fault *error);
+
+/* features.c. make_features answers NULL where there is no memory. */
+features *make_features(const size_t *token_counts, size_t image_count);
+bool find_features(features *of, kumquatsieve_cutter *cutter, const kumquatsieve_word *words, mecab_node_t *nodes, size_t count, fault *error);
+void free_features(features *of);
 
 /* posids.c */
 posids *read_posids(const char *path, const images *of, fault *error);
-bool posid_of(const posids *of, const kumquatsieve_word *word, const char *feature, uint16_t *id, fault *error);
+bool find_posids(const posids *of, const kumquatsieve_word *words, mecab_node_t *nodes, size_t count, fault *error);
 void free_posids(posids *of);
 
 /* dictionary.c */
 tables *load_tables(settings *from, fault *error);
 tables *hold_tables(mecab_model_t *model);
 void release_tables(tables *of);
-bool share_tables(kumquatsieve_cutter *to, const tables *from, fault *error);
+bool cutter_over_tables(kumquatsieve_cutter *to, const tables *from, fault *error);
 
 /* texts.c */
 const format *default_format(void);
@@ -143,7 +151,8 @@ bool parse_own(mecab_t *tagger, const char *text, size_t length, int request, bo
 /* lattice.c */
 const format *format_of(const mecab_lattice_t *lattice);
 
-/* A part of a sentence that is cut by itself: it begins at `at` of the text, behind words that end at `place` of the sentence and cost `cost`. */
+/* A part of a sentence that is cut by itself: it begins at `at` of the text, behind words that end at `place` of the sentence and cost `cost`.
+   Without a text it is the sentence itself, as it is. */
 typedef struct part {
     repaired *text;
     size_t at;
@@ -156,7 +165,7 @@ typedef struct part {
 /* nodes.c */
 bool begin_nodes(mecab_lattice_t *lattice, fault *error);
 bool add_nodes(mecab_lattice_t *lattice, part *of, fault *error);
-void end_nodes(mecab_lattice_t *lattice, const part *last);
+void end_nodes(mecab_lattice_t *lattice, long cost);
 bool make_nodes(mecab_lattice_t *lattice, fault *error);
 
 /* odd.c */

@@ -33,7 +33,7 @@ static int request_of(const settings *from) {
 /* Texts are looked at before a sentence is, by a cutter that is given back. */
 static bool take_texts(mecab_model_t *model, const settings *from, fault *error) {
     kumquatsieve_cutter cutter = KUMQUATSIEVE_EMPTY;
-    if (!share_tables(&cutter, model->tables, error)) return false;
+    if (!cutter_over_tables(&cutter, model->tables, error)) return false;
     bool chosen = choose_texts(&model->texts, from, &cutter, error);
     kumquatsieve_free(&cutter);
     return chosen;

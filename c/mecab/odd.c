@@ -7,7 +7,7 @@ enum { PART_MAX = 1048576 };
 
 static bool cut_part(mecab_lattice_t *lattice, part *of, size_t length, fault *error) {
     const uint8_t *text = (const uint8_t *)of->text->text.at + of->at;
-    uint32_t code = kumquatsieve_cut_text(&lattice->cutter, text, length, &of->word_count, &of->total);
+    uint32_t code = kumquatsieve_cut_text(&lattice->cutter, text, length, &of->word_count, &of->total, NULL);
     return code == KUMQUATSIEVE_OK ? add_nodes(lattice, of, error) : fail_code(error, "sentence", code);
 }
 
@@ -19,7 +19,7 @@ static bool cut_parts(mecab_lattice_t *lattice, repaired *text, fault *error) {
         if (!cut_part(lattice, &one, length, error)) return false;
         one.at += length;
     }
-    end_nodes(lattice, &one);
+    end_nodes(lattice, one.cost);
     return true;
 }
 

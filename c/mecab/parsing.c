@@ -7,7 +7,7 @@ static bool take_tables(mecab_model_t *model, mecab_lattice_t *lattice, fault *e
     if (lattice->tables && lattice->tables->number == model->number) return true;
     kumquatsieve_cutter cutter = KUMQUATSIEVE_EMPTY;
     tables *taken = hold_tables(model);
-    if (!share_tables(&cutter, taken, error)) {
+    if (!cutter_over_tables(&cutter, taken, error)) {
         release_tables(taken);
         return false;
     }
@@ -39,7 +39,7 @@ bool parse(mecab_model_t *model, mecab_lattice_t *lattice, bool nodes, fault *er
     error->text[0] = '\0';
     if (!is_had(lattice, nodes, error) || !take_tables(model, lattice, error)) return false;
     const uint8_t *sentence = (const uint8_t *)lattice->sentence;
-    uint32_t code = kumquatsieve_cut_text(&lattice->cutter, sentence, lattice->size, &lattice->word_count, &lattice->total);
+    uint32_t code = kumquatsieve_cut_text(&lattice->cutter, sentence, lattice->size, &lattice->word_count, &lattice->total, NULL);
     lattice->is_odd = is_odd(code);
     if (code != KUMQUATSIEVE_OK && !lattice->is_odd) return fail_code(error, "sentence", code);
     if (lattice->is_odd && !cut_odd(lattice, error)) return false;

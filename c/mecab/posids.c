@@ -6,22 +6,21 @@
 
 enum { FIELD_MAX = 512, NO_ID = 65535 };
 
-/* A rule's fields, of which each has to match a feature's, and its id. */
+/* A rule's fields, of which each has to match a feature's, and its id. The first `shared` fields are those of the rule before. */
 typedef struct rule {
     char *text;
     const char **fields;
     size_t field_count;
+    size_t shared;
     uint16_t id;
 } rule;
 
-/* The rules, and for each token of each dictionary its id and one, once it was found, else 0. Threads that find one at the same time find the
-   same. */
+/* The rules, and for each token of each dictionary its id and one, once it was found, else 0. */
 struct posids {
     rule *rules;
     size_t count;
     size_t room;
     size_t dictionary_count;
-    size_t *token_counts;
     _Atomic uint32_t **ids;
 };
 
@@ -32,6 +31,12 @@ static bool add_fields_of(rule *to, fault *error) {
     if (!to->fields) return fail_memory(error);
     memcpy(to->fields, fields, to->field_count * sizeof *fields);
     return true;
+}
+
+static size_t shared_of(const rule *one, const rule *other) {
+    size_t shared = 0, most = one->field_count < other->field_count ? one->field_count : other->field_count;
+    while (shared < most && strcmp(one->fields[shared], other->fields[shared]) == 0) shared++;
+    return shared;
 }
 
 static bool add_rule(posids *to, const char *pattern, size_t length, unsigned long id, fault *error) {
@@ -45,7 +50,9 @@ static bool add_rule(posids *to, const char *pattern, size_t length, unsigned lo
     *new = (rule){.text = strndup(pattern, length), .id = (uint16_t)id};
     if (!new->text) return fail_memory(error);
     to->count++;
-    return add_fields_of(new, error);
+    if (!add_fields_of(new, error)) return false;
+    if (to->count > 1) new->shared = shared_of(new - 1, new);
+    return true;
 }
 
 /* A pattern and a number, with blanks between. (MeCab) */
@@ -78,12 +85,10 @@ static bool read_rules(posids *to, FILE *file, const char *path, fault *error) {
 
 static bool make_ids(posids *to, const images *of, fault *error) {
     to->dictionary_count = image_count(of);
-    to->token_counts = calloc(to->dictionary_count, sizeof *to->token_counts);
     to->ids = calloc(to->dictionary_count, sizeof *to->ids);
-    bool is_made = to->token_counts && to->ids;
+    bool is_made = to->ids != NULL;
     for (size_t i = 0; is_made && i < to->dictionary_count; i++) {
-        to->token_counts[i] = token_count(of, i);
-        to->ids[i] = calloc(to->token_counts[i] + 1, sizeof **to->ids);
+        to->ids[i] = calloc(token_count(of, i) + 1, sizeof **to->ids);
         is_made = to->ids[i] != NULL;
     }
     return is_made || fail_memory(error);
@@ -121,42 +126,43 @@ static bool matches(const char *pattern, const char *field) {
     return length >= 3 && pattern[0] == '(' && pattern[length - 1] == ')' && is_one_of(pattern + 1, length - 2, field);
 }
 
-static bool fits(const rule *of, const char *const *fields, size_t count) {
-    if (of->field_count > count) return false;
-    for (size_t i = 0; i < of->field_count; i++) {
-        if (!matches(of->fields[i], fields[i])) return false;
+/* How many fields of a rule match, before the first one that doesn't. */
+static size_t matching(const rule *of, const char *const *fields, size_t count) {
+    size_t matched = 0;
+    while (matched < of->field_count && matched < count && matches(of->fields[matched], fields[matched])) matched++;
+    return matched;
+}
+
+/* That of the first rule that fits. A rule fails where the one before failed, as long as it shares that field. */
+static uint16_t id_by_fields(const posids *of, const char *const *fields, size_t count) {
+    size_t matched = 0;
+    for (size_t i = 0; i < of->count; i++) {
+        const rule *one = &of->rules[i];
+        if (i > 0 && matched < one->shared) continue;
+        matched = matching(one, fields, count);
+        if (matched == one->field_count) return one->id;
     }
-    return true;
+    return NO_ID;
 }
 
 static bool find_id(const posids *of, const char *feature, uint16_t *id, fault *error) {
     const char *fields[FIELD_MAX];
     char *copy = strdup(feature);
     if (!copy) return fail_memory(error);
-    size_t count = cut_fields(copy, fields, FIELD_MAX);
-    *id = NO_ID;
-    for (size_t i = 0; i < of->count; i++) {
-        if (!fits(&of->rules[i], fields, count)) continue;
-        *id = of->rules[i].id;
-        break;
-    }
+    *id = id_by_fields(of, fields, cut_fields(copy, fields, FIELD_MAX));
     free(copy);
     return true;
 }
 
-/* Ids are found once for each token. */
-bool posid_of(const posids *of, const kumquatsieve_word *word, const char *feature, uint16_t *id, fault *error) {
-    _Atomic uint32_t *kept = NULL;
-    *id = 0;
-    if (!of) return true;
-    bool is_counted = word->dictionary < of->dictionary_count && word->token < of->token_counts[word->dictionary];
-    if (is_counted) kept = &of->ids[word->dictionary][word->token];
-    uint32_t known = kept ? atomic_load_explicit(kept, memory_order_relaxed) : 0;
-    if (known != 0) *id = (uint16_t)(known - 1);
-    if (known != 0) return true;
-    if (!find_id(of, feature, id, error)) return false;
-    /* Whoever finds it first keeps it: the others found the same. */
-    if (kept) atomic_compare_exchange_strong_explicit(kept, &known, *id + 1u, memory_order_relaxed, memory_order_relaxed);
+/* The ids of nodes by their features. Each is found once for each token; threads that find one at the same time find the same. */
+bool find_posids(const posids *of, const kumquatsieve_word *words, mecab_node_t *nodes, size_t count, fault *error) {
+    for (size_t i = 0; i < count; i++) {
+        _Atomic uint32_t *kept = &of->ids[words[i].dictionary][words[i].token];
+        uint32_t known = atomic_load_explicit(kept, memory_order_relaxed);
+        if (known != 0) nodes[i].posid = (uint16_t)(known - 1);
+        else if (!find_id(of, nodes[i].feature, &nodes[i].posid, error)) return false;
+        else atomic_store_explicit(kept, nodes[i].posid + 1u, memory_order_relaxed);
+    }
     return true;
 }
 
@@ -169,6 +175,5 @@ void free_posids(posids *of) {
     free(of->rules);
     for (size_t i = 0; of->ids && i < of->dictionary_count; i++) free(of->ids[i]);
     free(of->ids);
-    free(of->token_counts);
     free(of);
 }

@@ -10,6 +10,7 @@ CLIENTS = TOP / "tools" / "mecab_clients"
 PYTHON = "/usr/bin/python3"
 COMPILED = Path("/var/lib/mecab/dic/ipadic-utf8")
 HEADER = Path("/usr/include/mecab.h")
+IPADIC, INDEX = Path("/usr/share/mecab/dic/ipadic"), Path("/usr/lib/mecab/mecab-dict-index")
 
 
 def works(*command):

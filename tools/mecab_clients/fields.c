@@ -1,4 +1,4 @@
-/* Prints each field of each node, of the beginning and the end too, for each line: fields DICTIONARY LINES. */
+/* Prints each field of each node, of the beginning and the end too, for each line: fields DICTIONARY LINES [USERS]. */
 #include <mecab.h>
 #include <stdio.h>
 #include <stdlib.h>
@@ -13,9 +13,9 @@ static void tell(const mecab_node_t *node) {
 int main(int given, char **paths) {
     char options[4096], *line = NULL;
     size_t room = 0;
-    FILE *file = given == 3 ? fopen(paths[2], "r") : NULL;
+    FILE *file = given == 3 || given == 4 ? fopen(paths[2], "r") : NULL;
     if (!file) return 2;
-    snprintf(options, sizeof options, "-d %s", paths[1]);
+    snprintf(options, sizeof options, "-d %s %s %s", paths[1], given == 4 ? "-u" : "", given == 4 ? paths[3] : "");
     mecab_t *tagger = mecab_new2(options);
     if (!tagger) return 1;
     while (getline(&line, &room, file) > 0) {

@@ -1,14 +1,17 @@
 """What each client of MeCab's library prints, over the library that the environment leads to."""
 import json
 import os
+import shutil
 import subprocess
 import sys
 import tempfile
 from pathlib import Path
 
-from mecab_clients.common import CLIENTS, PYTHON, compiled, dictionary_of, first_lines, run, works
+from mecab_clients.common import CLIENTS, INDEX, IPADIC, PYTHON, TOP, compiled, dictionary_of, first_lines, run, works
+from mecab_clients.dictionaries import over_dictionaries
 
 JAR = Path("/usr/share/java/MeCab-0.996.jar")
+POSTGRESQL = Path("/usr/lib/postgresql")
 GROONGA_TOKENIZER = Path("/usr/lib/x86_64-linux-gnu/groonga/plugins/tokenizers/mecab.so")
 WORD_ITEMS = "%m %M %H %h %phl %phr %t %s %c %pw %pb %pl %pL %ps %pe %pC %pn %pc %L %P %pP %pA %pB %%\\n"
 END_ITEMS = "%L %S %pc %h %m %H %t %s %ps %pe %pl %pL %pb %f[0] %f[0,1] %pn %pC\\n"
@@ -39,6 +42,10 @@ def printed_by_groonga(lines, environment, folder):
 
 def printed_by_server(lines, environment, folder):
     return run([PYTHON, CLIENTS / "server.py", lines, Path(tempfile.mkdtemp(dir=folder)) / "db"], environment)
+
+
+def printed_by_sylph_searcher(lines, environment, folder):
+    return run([PYTHON, CLIENTS / "mails.py", first_lines(lines, 1000, folder)], environment)
 
 
 def printed_in_other_orders(lines, environment, folder):
@@ -83,6 +90,28 @@ def printed_by_fields(lines, environment, folder):
     return run([compiled(CLIENTS / "fields.c", folder, "-lmecab"), dictionary_of(environment), lines], environment)
 
 
+def users_of(lines, environment, folder):
+    """Two users' dictionaries of stretches of the lines, of which some are in both, as the environment's library reads them."""
+    texts = [line.replace(" ", "").replace(",", "").replace('"', "") for line in lines.read_text().splitlines()]
+    stretches = sorted({text[i % 9 : i % 9 + 2 + i % 4] for i, text in enumerate(texts[:1000]) if len(text) > 13})
+    ours, users = environment.get("KUMQUATSIEVE_DICTIONARY"), []
+    for name, number, feature in (("one", 0, "名詞,一般,*,*,*,*,一"), ("other", 1, "名詞,固有名詞,一般,*,*,*,二")):
+        source, user = folder / f"{name}.csv", folder / f"{name}-{'ours' if ours else 'theirs'}"
+        source.write_text("".join(f"{text},1285,1285,{100 * i % 700 - 300},{feature}\n" for i, text in enumerate(stretches) if (i + number) % 3))
+        if ours:
+            image = Path(ours) / "kumquatsieve.img"
+            run([TOP / "crates" / "dictc" / "out" / "dictc", "user", "--dic", image, "--out", user, source], os.environ)
+        else:
+            run([INDEX, "-d", IPADIC, "-u", user, "-f", "UTF-8", "-t", "UTF-8", source], os.environ)
+        users.append(str(user))
+    return ",".join(users)
+
+
+def printed_by_fields_with_users(lines, environment, folder):
+    program = compiled(CLIENTS / "fields.c", folder, "-lmecab")
+    return run([program, dictionary_of(environment), lines, users_of(lines, environment, folder)], environment)
+
+
 def clients():
     """Each client's name, whether it is there, and what it prints of the lines of a file."""
     groonga = works("groonga", "--version") and GROONGA_TOKENIZER.exists()
@@ -97,6 +126,8 @@ def clients():
         ("C in 200 forks under load", True, printed_by_forks),
         ("mecab", works("mecab", "--version"), mecab),
         ("C, each field of each node", True, printed_by_fields),
+        ("C, each field of each node, with users' dictionaries", INDEX.exists() and IPADIC.exists(), printed_by_fields_with_users),
+        *over_dictionaries(),
         ("mecab with options and formats", works("mecab", "--version"), printed_by_options),
         ("mecab as a coprocess", works("mecab", "--version"), coprocess),
         ("Text::MeCab", works("perl", "-MText::MeCab", "-e", "1"), perl),
@@ -104,6 +135,7 @@ def clients():
         ("python3-mecab", works(PYTHON, "-c", "import MeCab"), printed_by_python),
         ("libmecab-java", JAR.exists() and works("javac", "-version"), printed_by_java),
         ("ruby-mecab", works("ruby", "-e", 'require "MeCab"'), ruby),
+        ("sylph-searcher", shutil.which("syldbimport") is not None and any(POSTGRESQL.glob("*/bin/initdb")), printed_by_sylph_searcher),
         ("groonga", groonga, printed_by_groonga),
         ("a Groonga server with four threads and four clients", groonga, printed_by_server),
     ]

@@ -1,5 +1,6 @@
 """Which image the program mecab takes, and which settings it refuses: rows of what is named where. Each row has a folder of its own, in which
-HERE stands for the folder, and USER for a user dictionary that MeCab has compiled."""
+HERE stands for the folder, and USER for a user dictionary that MeCab has compiled. damaged.img has another digest than its bytes, and short.img
+lacks its last byte."""
 import os
 import subprocess
 import sys
@@ -30,6 +31,8 @@ ROWS = [
     Row("a folder with an image", ["-d", "HERE/with"], image="with/kumquatsieve.img"),
     Row("a folder of sources without one", ["-d", "HERE/juman"], {"juman/matrix.def": ""}, said="`kumquatsieve-import juman` makes an image"),
     Row("a compiled folder without one", ["-d", "HERE/own-utf8"], {"own-utf8/sys.dic": ""}, said="kumquatsieve-import SOURCES"),
+    Row("an image with another digest", ["-d", "HERE/damaged.img"], image="damaged.img"),
+    Row("an image without its last byte", ["-d", "HERE/short.img"], said="short.img: L1 Truncated"),
     Row("an image that is not there", ["-d", "HERE/d.img"], said="d.img: can't be opened"),
     Row("a missing file of -r", ["-r", "HERE/rc"], {}, A, said="rc: No such file or directory"),
     Row("a missing file of MECABRC", [], {}, {**A, **B}, said="rc: No such file or directory"),
@@ -49,12 +52,19 @@ def compile_user(path):
     subprocess.run(words, check=True, stdout=subprocess.DEVNULL, stderr=subprocess.DEVNULL)
 
 
+def images_of(sample):
+    """The images in a folder, by their paths."""
+    whole = sample.read_bytes()
+    images = {path: whole for path in ("a.img", "b.img", "c.img", "with/kumquatsieve.img")}
+    return images | {"damaged.img": whole[:-1] + bytes([whole[-1] ^ 1]), "short.img": whole[:-1]}
+
+
 def told(row, folder, sample, library):
     """The program's status, and what it prints of its dictionary or says."""
     here = lambda text: text.replace("HERE", str(folder)).replace("USER", str(folder.parent / "user.dic"))
-    for path in ("a.img", "b.img", "c.img", "with/kumquatsieve.img"):
+    for path, image in images_of(sample).items():
         (folder / path).parent.mkdir(parents=True, exist_ok=True)
-        (folder / path).write_bytes(sample.read_bytes())
+        (folder / path).write_bytes(image)
     for path, text in row.files.items():
         (folder / path).parent.mkdir(parents=True, exist_ok=True)
         (folder / path).write_text(here(text))

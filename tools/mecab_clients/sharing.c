@@ -20,6 +20,18 @@ static void images(void) {
     CHECK(!mecab_new2("-d /dev") && !mecab_new2("-d /dev/null") && strstr(mecab_strerror(NULL), "/dev/null: is no file"));
 }
 
+/* What was given back last stays for who makes one tagger after the other: under valgrind a read of what is freed is an error. */
+static void images_that_stay(void) {
+    mecab_t *first = mecab_new2(words(""));
+    const mecab_dictionary_info_t *info = first ? mecab_dictionary_info(first) : NULL;
+    CHECK(info);
+    mecab_destroy(first);
+    CHECK(strcmp(info->filename, dictionary) == 0);
+    mecab_t *second = mecab_new2(words("-Owakati"));
+    CHECK(second && mecab_dictionary_info(second) == info && strcmp(mecab_sparse_tostr(second, LINE), WAKATI) == 0);
+    mecab_destroy(second);
+}
+
 static void *cut_often(void *model) {
     mecab_t *tagger = mecab_model_new_tagger(model);
     for (int i = 0; i < 200; i++) CHECK(tagger && strcmp(mecab_sparse_tostr(tagger, LINE), PRINTED) == 0);
@@ -66,6 +78,7 @@ int main(int given, char **paths) {
     CHECK(given == 2);
     dictionary = paths[1];
     images();
+    images_that_stay();
     threads();
     threads_of_one_tagger();
     puts("sharing: a process has an image once, and one tagger serves several threads");
