@@ -1,40 +1,46 @@
 """Where the library writes what it answers to a cutter: memory that is used again from line to line."""
 import struct
-from ctypes import addressof, c_char, c_int64, c_size_t, sizeof
+from ctypes import byref, c_char, c_int64, c_size_t, sizeof
 from typing import Any
 
 from ._fault import raise_fault
-from ._library import LIBRARY, OK, SHORT_BUFFER, Record
+from ._library import LIBRARY, OK, SHORT_BUFFER, Record, ready_size
 
 # A record's fields, as `Record` has them; what is missing to the next record is left out.
 FIELDS = struct.Struct("@NNNNIHHhBBqN0q")
 assert FIELDS.size == sizeof(Record)
 
 WORDS = LIBRARY.words
+FIRST = ready_size(0)
 
 
 class Buffers:
-    """A text, the words of a line, and the numbers that tell how many of each there are; the addresses are made once."""
+    """A text, the words of a line, and the numbers that tell how many of each there are; what a call is given for each is made once."""
 
     def __init__(self) -> None:
-        self._count, self._length, self._total = c_size_t(), c_size_t(), c_int64()
-        self.count_at, self.total_at, self._length_at = map(addressof, (self._count, self._total, self._length))
+        self._count, self._length, self._total, self._place = c_size_t(), c_size_t(), c_int64(), c_size_t()
+        numbers = self._count, self._total, self._place, self._length
+        self.count_at, self.total_at, self.place_at, self._length_at = map(byref, numbers)
         self._make_text(4096)
         self._make_records(64)
 
     def _make_text(self, room: int) -> None:
         self._text = (c_char * room)()
-        self._text_at, self._room, self._bytes = addressof(self._text), room, memoryview(self._text).cast("B")
+        self._text_at, self._room, self._bytes = byref(self._text), ready_size(room), memoryview(self._text).cast("B")
 
     def _make_records(self, count: int) -> None:
         self._records = (Record * count)()
-        self._records_at, self._most, self._fields = addressof(self._records), count, memoryview(self._records).cast("B")
+        self._records_at, self._most, self._fields = byref(self._records), ready_size(count), memoryview(self._records).cast("B")
 
     def total(self) -> int:
         """The number that `total_at` has."""
         return self._total.value
 
-    def text_of(self, call: Any, *words: int) -> str:
+    def place(self) -> int:
+        """The number that `place_at` has."""
+        return self._place.value
+
+    def text_of(self, call: Any, *words: Any) -> str:
         """The text that a call writes into a buffer, which is made longer where it has less room than is needed."""
         code = call(*words, self._text_at, self._room, self._length_at)
         if code == SHORT_BUFFER:
@@ -44,12 +50,12 @@ class Buffers:
             raise_fault(code)
         return str(self._bytes[: self._length.value], "utf-8")
 
-    def records_of(self, cutter: int) -> bytes:
+    def records_of(self, cutter: Any) -> bytes:
         """The records of the words of the line that was cut last, whose number `count_at` has. `FIELDS` reads them."""
         count = self._count.value
-        if count > self._most:
+        if count > len(self._records):
             self._make_records(2 * count)
-        code = WORDS(cutter, 0, self._records_at, count, self.count_at)
+        code = WORDS(cutter, FIRST, self._records_at, self._most, self.count_at)
         if code != OK:
             raise_fault(code)
         return bytes(self._fields[: count * FIELDS.size])

@@ -29,8 +29,10 @@ class Cutter:
 
     `parse` and `parse_lines` print in the cutter's format: `"wakati"`, a `Format`, or else a line for each word, with its feature, and EOS.
 
-    A cutter pickles as what it was made of, the paths or names of its images, its grouping and its format. A process loads the images once
-    for all cutters that it gets so, and not at all where it has a cutter of them, as after a fork.
+    With `skip_digest` the images are loaded without the test of their digest, which takes most of the time. All other tests are made.
+
+    A cutter pickles as what it was made of, the paths or names of its images, whether their digests are skipped, its grouping and its format.
+    A process loads the images once for all cutters that it gets so, and not at all where it has a cutter of them, as after a fork.
     """
 
     def __init__(
@@ -40,16 +42,18 @@ class Cutter:
         grouping: int = GROUPING,
         format: Union[None, str, Format] = None,
         fields: Optional[Sequence[Optional[str]]] = None,
+        *,
+        skip_digest: bool = False,
     ) -> None:
         if isinstance(users, (str, bytes, os.PathLike)):
             raise TypeError("users are several images, in a list")
         if isinstance(fields, (str, bytes)):
             raise TypeError("fields are several names, in a list")
         image, users = default() if image is None else image, tuple(users)
-        self._origin = origin_of(image, users)
+        self._origin = origin_of(image, users, skip_digest)
         self._fields = names_of(image, fields)
         self._names = with_common(self._fields)
-        self._handles = LOADED.new(self._origin, image, users)
+        self._handles = LOADED.new(self._origin, image, users, skip_digest)
         self._texts = texts_of(format)
         self._with_handle(lambda handle: handle.set_format(self._texts))
         self.set_grouping(grouping)

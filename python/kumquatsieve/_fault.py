@@ -12,23 +12,31 @@ class Fault(Exception):
     """Why a call was refused.
 
     `code` and `name` are those of `jseg --explain`. `number` is the section, key, token or user dictionary that is at fault, and for a
-    format the byte in its text `part`; `place` is the line's number among those that were cut by one call, counted from 1. What there is
-    none of is None.
+    format the byte in its text `part`; `place` is the line's number among those that were cut by one call, counted from 1; `at` is the byte of
+    a line in UTF-8, where the library says it. What there is none of is None.
     """
 
     def __init__(
-        self, code: str, name: str, number: Optional[int] = None, part: Optional[str] = None, place: Optional[int] = None
+        self,
+        code: str,
+        name: str,
+        number: Optional[int] = None,
+        part: Optional[str] = None,
+        place: Optional[int] = None,
+        at: Optional[int] = None,
     ) -> None:
         # All of them are the exception's arguments, from which it is made again where it is unpickled.
-        super().__init__(code, name, number, part, place)
+        super().__init__(code, name, number, part, place, at)
         self.code = code
         self.name = name
         self.number = number
         self.part = part
         self.place = place
+        self.at = at
 
     def __str__(self) -> str:
         what = " ".join(str(word) for word in (self.code, self.name, self.part, self.number) if word is not None)
+        what = what if self.at is None else f"{what} at byte {self.at}"
         what = f"{what}: {ADVICE[self.code]}" if self.code in ADVICE else what
         return what if self.place is None else f"line {self.place}: {what}"
 
@@ -41,14 +49,20 @@ def words_of(code: int) -> Tuple[str, str]:
     return letters, name
 
 
-def fault_of(code: int, number: Optional[int] = None, part: Optional[str] = None, place: Optional[int] = None) -> Exception:
+def fault_of(
+    code: int,
+    number: Optional[int] = None,
+    part: Optional[str] = None,
+    place: Optional[int] = None,
+    at: Optional[int] = None,
+) -> Exception:
     """What a code means, as an exception."""
     if code == MEMORY:
         return MemoryError()
     letters, name = words_of(code)
-    return Fault(letters, name, number, part, place)
+    return Fault(letters, name, number, part, place, at)
 
 
-def raise_fault(code: int, number: Optional[int] = None, part: Optional[str] = None) -> None:
+def raise_fault(code: int, number: Optional[int] = None, part: Optional[str] = None, at: Optional[int] = None) -> None:
     """Raises what a code means."""
-    raise fault_of(code, number, part)
+    raise fault_of(code, number, part, at=at)

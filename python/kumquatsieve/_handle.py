@@ -1,11 +1,11 @@
 """One cutter of the library's."""
 import weakref
-from ctypes import addressof, c_size_t, c_uint32, c_uint64, c_void_p, string_at
+from ctypes import addressof, byref, c_size_t, c_uint32, c_uint64, c_void_p, string_at
 from typing import Any, Iterator, List, Optional, Tuple
 
 from ._buffers import FIELDS, Buffers
 from ._fault import Fault, fault_of, raise_fault
-from ._library import LIBRARY, OK, PARTS, Slot
+from ._library import LIBRARY, OK, PARTS, Slot, ready_size
 from ._texts import lines_of
 
 Texts = Tuple[bytes, bytes, bytes, bytes]
@@ -19,7 +19,11 @@ Answers = Tuple[List[str], Optional[Exception]]
 GROUPING = 24
 DEFAULT: Texts = (b"%m\\t%H\\n", b"%m\\t%H\\n", b"", b"EOS\\n")
 WAKATI: Texts = (b"%m ", b"%m ", b"", b"\\n")
+
+# The codes with which the library sets the number of an image's fault, the place in a format, and the place in a line.
 NUMBERED = {0x4C03, 0x4C04, 0x4C05, 0x4C06, 0x4C07, 0x4F02, 0x4F03}
+IN_FORMAT = {0x5001, 0x5002, 0x5003, 0x4703}
+IN_LINE = {0x4B01, 0x4703, 0x4704}
 
 # What tells all words of a line in one call: a line for each surface, or for each surface and feature.
 SURFACES: Texts = (b"%m\\n", b"%m\\n", b"", b"")
@@ -40,24 +44,24 @@ class Handle:
 
     def __init__(self) -> None:
         self._slot = Slot()
-        self._at = addressof(self._slot)
+        self._at = byref(self._slot)
         self._buffers = Buffers()
         self._texts = DEFAULT
         self.grouping = GROUPING
         self.close = weakref.finalize(self, LIBRARY.free, self._slot)
         self.close.atexit = False
 
-    def load(self, image: Any, length: int) -> None:
+    def load(self, image: Any, length: int, skip_digest: bool) -> None:
         """Fills an empty handle with a system dictionary."""
-        self._take_image(LIBRARY.load, image, length)
+        self._take_image(LIBRARY.load_by, image, length, skip_digest)
 
-    def add_user(self, image: Any, length: int) -> None:
+    def add_user(self, image: Any, length: int, skip_digest: bool) -> None:
         """Lays a user dictionary over the others, before they are shared."""
-        self._take_image(LIBRARY.add_user, image, length)
+        self._take_image(LIBRARY.add_user_by, image, length, skip_digest)
 
-    def _take_image(self, call: Any, image: Any, length: int) -> None:
+    def _take_image(self, call: Any, image: Any, length: int, skip_digest: bool) -> None:
         number = c_uint64()
-        code = call(self._at, image, length, addressof(number))
+        code = call(self._at, image, length, skip_digest, addressof(number))
         if code != OK:
             raise_fault(code, number.value if code in NUMBERED else None)
 
@@ -92,7 +96,7 @@ class Handle:
         """The same where a line feed stands in a feature."""
         for number, (_, start, end, *_) in enumerate(FIELDS.iter_unpack(records)):
             yield line[start:end].decode()
-            yield self._buffers.text_of(FEATURE, self._at, number)
+            yield self._buffers.text_of(FEATURE, self._at, ready_size(number))
 
     def surfaces(self, line: bytes) -> List[str]:
         """The surfaces of a line's words."""
@@ -157,9 +161,9 @@ class Handle:
 
     def _cut(self, line: bytes) -> None:
         buffers = self._buffers
-        code = CUT(self._at, line, len(line), buffers.count_at, buffers.total_at)
+        code = CUT(self._at, line, ready_size(len(line)), buffers.count_at, buffers.total_at, buffers.place_at)
         if code != OK:
-            raise_fault(code)
+            raise_fault(code, at=buffers.place() if code in IN_LINE else None)
 
     def _lines(self, texts: Texts) -> List[str]:
         """The words that were cut last in a format whose texts end in line feeds, and the empty text behind the last one."""
@@ -174,6 +178,8 @@ class Handle:
         part, at = c_uint32(), c_size_t()
         lengths = [piece for text in texts for piece in (text, len(text))]
         code = LIBRARY.set_format(self._at, *lengths, addressof(part), addressof(at))
-        if code != OK:
+        if code in IN_FORMAT:
             raise_fault(code, at.value, PARTS[part.value])
+        if code != OK:
+            raise_fault(code)
         self._texts = texts

@@ -81,19 +81,21 @@ def default() -> str:
 
 
 class Origin(NamedTuple):
-    """The images that a cutter was made of: a path, or the bare name of an installed one, which another machine may have elsewhere."""
+    """What a cutter was made of: each image by a path, or by the bare name of an installed one, which another machine may have elsewhere; and
+    whether their digests were skipped."""
 
     image: str
     users: Tuple[str, ...]
+    skip_digest: bool
 
     def paths(self) -> Tuple[str, ...]:
         return tuple(map(path_of, (self.image, *self.users)))
 
 
-def origin_of(image: Image, users: Sequence[Image]) -> Optional[Origin]:
+def origin_of(image: Image, users: Sequence[Image], skip_digest: bool) -> Optional[Origin]:
     """What a cutter of these images is made of; None where one is in memory."""
     names = [name_of(one) for one in (image, *users) if isinstance(one, (str, os.PathLike))]
-    return Origin(names[0], tuple(names[1:])) if len(names) == 1 + len(users) else None
+    return Origin(names[0], tuple(names[1:]), skip_digest) if len(names) == 1 + len(users) else None
 
 
 def name_of(image: Union[str, "os.PathLike[str]"]) -> str:
@@ -102,14 +104,14 @@ def name_of(image: Union[str, "os.PathLike[str]"]) -> str:
     return os.path.abspath(name) if "/" in name or is_file(name) else name
 
 
-def hand(image: Image, take: Callable[[Any, int], None]) -> None:
-    """Hands an image's bytes and their length to a call of the library. Those of a file are mapped, and not read into memory of
-    Python's."""
+def hand(image: Image, take: Callable[[Any, int, bool], None], skip_digest: bool) -> None:
+    """Hands an image's bytes and their length to a call of the library, with whether their digest is skipped. The bytes of a file are mapped,
+    and not read into memory of Python's."""
     if isinstance(image, (str, os.PathLike)):
         with open(path_of(image), "rb") as file:
-            take(*lent(bytes_of(file)))
+            take(*lent(bytes_of(file)), skip_digest)
     else:
-        take(*lent(image))
+        take(*lent(image), skip_digest)
 
 
 def bytes_of(file: BinaryIO) -> Any:

@@ -3,7 +3,7 @@ import ctypes
 import os
 from pathlib import Path
 from types import SimpleNamespace
-from typing import Any, Dict, List
+from typing import Any, Callable, Dict, List, Optional
 
 NAME = "libkumquatsieve.so.0"
 VARIABLE = "KUMQUATSIEVE_LIBRARY"
@@ -15,7 +15,14 @@ SHORT_BUFFER = 0x4B07
 PARTS = ("node", "unk", "bos", "eos")
 
 # The calls that may take long, during which other threads run. During the others none does, so no fork of another thread's falls into one.
-LONG = ("load", "add_user", "cut", "cut_lines", "copy_print")
+LONG = ("load_by", "add_user_by", "cut", "cut_lines", "copy_print")
+
+# The calls that are made for each line. To convert an argument takes ctypes longer than many a call, so these are given nothing that it would
+# convert: bytes, what `byref` makes of an output, which is made once, and what `ready_size` makes of a number.
+READY = ("cut", "words", "copy_print", "copy_feature")
+
+# Makes a size of a number, which has as many bytes as an address.
+ready_size: Callable[[int], Any] = ctypes.c_void_p.from_param
 
 
 class Slot(ctypes.Structure):
@@ -49,24 +56,20 @@ def place() -> str:
     return os.environ.get(VARIABLE) or (str(beside) if beside.exists() else NAME)
 
 
-def arguments() -> Dict[str, List[Any]]:
-    """The types of each call's arguments; a text is its bytes and their length. What a call writes is given by its address, which is made
-    once: a pointer that is made for each call takes longer than many a call."""
+def arguments() -> Dict[str, Optional[List[Any]]]:
+    """The types of each call's arguments, none for those in `READY`; a text is its bytes and their length."""
     address, size = ctypes.c_void_p, ctypes.c_size_t
     text = [ctypes.c_char_p, size]
     return {
-        "load": [address, address, size, address],
-        "add_user": [address, address, size, address],
+        "load_by": [address, address, size, ctypes.c_bool, address],
+        "add_user_by": [address, address, size, ctypes.c_bool, address],
         "share": [address, address],
         "free": [ctypes.POINTER(Slot)],
         "set_format": [address, *text * 4, address, address],
         "set_grouping": [address, ctypes.c_uint32],
-        "cut": [address, *text, address, address],
         "cut_lines": [address, *text, address, address, address],
-        "words": [address, size, address, size, address],
-        "copy_feature": [address, size, address, size, address],
-        "copy_print": [address, address, size, address],
         "fault": [ctypes.c_uint32, ctypes.c_char_p, size, address],
+        **dict.fromkeys(READY),
     }
 
 

@@ -1,5 +1,6 @@
 """What a cutter answers to many lines."""
-from typing import Callable, Generic, Iterator, TypeVar
+from itertools import chain
+from typing import Callable, Generic, Iterator, List, TypeVar
 
 from ._fault import Fault
 from ._handle import Answers
@@ -45,18 +46,18 @@ def one_by_one(source: Source, answer: Callable[[bytes], T]) -> Callable[[Encode
 def many_at_once(source: Source, answer: Callable[[bytes], Answers]) -> Callable[[Encoder], Iterator[str]]:
     """The answers to about a megabyte of lines at once. Those before a fault come before it."""
 
-    def begin(encoder: Encoder) -> Iterator[str]:
+    def batches(encoder: Encoder) -> Iterator[List[str]]:
         number = 0
         for text in pieces(source, encoder):
             answers, fault = answer(text)
-            yield from answers
+            yield answers
             number += len(answers)
             if fault is not None:
                 raise placed(fault, number + 1) from None
 
-    return begin
+    return lambda encoder: chain.from_iterable(batches(encoder))
 
 
 def placed(fault: Exception, number: int) -> Exception:
     """A fault that says which line was refused."""
-    return Fault(fault.code, fault.name, fault.number, fault.part, number) if isinstance(fault, Fault) else fault
+    return Fault(fault.code, fault.name, fault.number, fault.part, number, fault.at) if isinstance(fault, Fault) else fault

@@ -21,12 +21,12 @@ def key_of(origin: Origin) -> Key:
     return Key(origin, tuple((stat.st_dev, stat.st_ino, stat.st_size, stat.st_mtime_ns) for stat in stats))
 
 
-def load(image: Image, users: Sequence[Image]) -> Handle:
+def load(image: Image, users: Sequence[Image], skip_digest: bool) -> Handle:
     """A handle of a system dictionary with users' laid over it."""
     handle = Handle()
-    hand(image, handle.load)
+    hand(image, handle.load, skip_digest)
     for user in users:
-        hand(user, handle.add_user)
+        hand(user, handle.add_user, skip_digest)
     return handle
 
 
@@ -46,10 +46,10 @@ class Loaded:
         """Also in the child of a fork, where the thread that had the lock may be none of its own."""
         self._lock = threading.RLock()
 
-    def new(self, origin: Optional[Origin], image: Image, users: Sequence[Image]) -> Handles:
+    def new(self, origin: Optional[Origin], image: Image, users: Sequence[Image], skip_digest: bool) -> Handles:
         """Loads images for a cutter."""
         key = key_of(origin) if origin else None
-        handles = Handles(load(image, users))
+        handles = Handles(load(image, users, skip_digest))
         if key:
             self._known[key] = handles
         return handles

@@ -74,7 +74,7 @@ def whole_lines(parts: Iterator[Any], encoder: Encoder) -> Iterator[bytes]:
 
 def with_plain_ends(text: bytes) -> bytes:
     """A text whose lines end in a line feed, without the carriage return that may stand before it."""
-    return text.replace(b"\r\n", b"\n")
+    return text.replace(b"\r\n", b"\n") if b"\r" in text else text
 
 
 def batches(lines: Iterable[Union[str, bytes]], encoder: Encoder) -> Iterator[bytes]:
@@ -99,5 +99,5 @@ def one_line(item: object, number: int, encoder: Encoder) -> bytes:
     """A line without its own end, in which no other stands."""
     line = of_line(item, number, encoder)
     if b"\n" in line:
-        raise fault_of(LINE_FEED, place=number)
+        raise fault_of(LINE_FEED, place=number, at=line.index(b"\n"))
     return line

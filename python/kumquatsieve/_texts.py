@@ -22,7 +22,7 @@ def line_of(line: str) -> bytes:
         text = line.encode()
     except (UnicodeEncodeError, AttributeError):
         text = encoded(line)
-    return without_end(text) if b"\n" in text else text
+    return without_end(text) if "\n" in line else text
 
 
 def without_end(line: bytes) -> bytes:

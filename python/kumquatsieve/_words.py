@@ -1,5 +1,5 @@
 """Words of a line, by their attributes."""
-from itertools import count, repeat
+from itertools import count
 from typing import Any, Dict, Iterable, List, Optional, Tuple
 
 from ._buffers import FIELDS
@@ -51,12 +51,8 @@ class Word:
 
     surface: str
     feature: str
-
-    def __init__(self, surface: str, feature: str, line: Line, number: int) -> None:
-        self.surface = surface
-        self.feature = feature
-        self._line = line
-        self._number = number
+    _line: Line
+    _number: int
 
     byte_start = of_record(1, "Where it begins in the line, in bytes of UTF-8.")
     byte_end = of_record(2, "Where it ends in the line, in bytes of UTF-8.")
@@ -146,7 +142,15 @@ TAKEN = frozenset(name for name in dir(Word) if not name.startswith("_"))
 def words_of(text: bytes, told: Told, names: Dict[str, int]) -> Words:
     """The words of a line, of what a handle told of them."""
     total, records, texts = told
-    each = iter(texts)
-    words = Words(map(Word, each, each, repeat(Line(text, records, names)), count()))
+    line, each = Line(text, records, names), iter(texts)
+    words = Words()
     words.total = total
+    # To call a function of Python's for each word takes longer than to fill it in here.
+    for surface, feature, number in zip(each, each, count()):
+        word = Word()
+        word.surface = surface
+        word.feature = feature
+        word._line = line
+        word._number = number
+        words.append(word)
     return words

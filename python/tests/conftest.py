@@ -34,6 +34,25 @@ def with_feature(system: str, feature: str, path: Path) -> str:
     return str(path)
 
 
+def with_another_digest(image: str, path: Path) -> str:
+    """The image with another last byte."""
+    *front, last = Path(image).read_bytes()
+    path.write_bytes(bytes([*front, last ^ 1]))
+    return str(path)
+
+
+@pytest.fixture(scope="session")
+def damaged(system: str, tmp_path_factory: pytest.TempPathFactory) -> str:
+    """The sample's image with another digest."""
+    return with_another_digest(system, tmp_path_factory.mktemp("damaged") / "damaged.img")
+
+
+@pytest.fixture(scope="session")
+def damaged_user(user: str, tmp_path_factory: pytest.TempPathFactory) -> str:
+    """The image of the user dictionary with another digest."""
+    return with_another_digest(user, tmp_path_factory.mktemp("damaged") / "user.img")
+
+
 @pytest.fixture(scope="session")
 def odd(system: str, tmp_path_factory: pytest.TempPathFactory) -> str:
     """The sample's image with a line feed in a feature, which no source can have."""

@@ -13,12 +13,14 @@ FAULTS = [
     (("L4", "BadSection", 5), "L4 BadSection 5"),
     (("P2", "BadItem", 0, "node"), "P2 BadItem node 0"),
     (("G3", "NotUtf8", None, None, 7), "line 7: G3 NotUtf8"),
+    (("G3", "NotUtf8", None, None, 7, 2), "line 7: G3 NotUtf8 at byte 2"),
+    (("G4", "TooLong", None, None, None, 1048577), "G4 TooLong at byte 1048577"),
 ]
 WAIT = 60
 
 
 def parts_of(fault):
-    return fault.code, fault.name, fault.number, fault.part, fault.place
+    return fault.code, fault.name, fault.number, fault.part, fault.place, fault.at
 
 
 def refused(image):
@@ -34,7 +36,7 @@ def test_a_fault_says_what_and_where(given, said):
 @pytest.mark.parametrize("again", [lambda fault: pickle.loads(pickle.dumps(fault)), copy.copy, copy.deepcopy])
 def test_a_fault_is_the_same_again(given, said, again):
     fault = again(Fault(*given))
-    assert parts_of(fault) == given + (None,) * (5 - len(given))
+    assert parts_of(fault) == given + (None,) * (6 - len(given))
     assert str(fault) == said
 
 
@@ -43,4 +45,4 @@ def test_a_fault_in_a_worker_comes_to_whoever_waits(system, start):
     with multiprocessing.get_context(start).Pool(1) as pool:
         with pytest.raises(Fault) as fault:
             pool.apply_async(refused, (system,)).get(WAIT)
-    assert fault.value.code == "G3"
+    assert (fault.value.code, fault.value.at) == ("G3", 1)

@@ -95,6 +95,21 @@ def test_an_empty_file_is_refused(tmp_path):
         Cutter(tmp_path / "empty.img")
 
 
+@pytest.mark.parametrize("form", [str, read])
+@pytest.mark.parametrize("names", [("damaged", "user"), ("system", "damaged_user")])
+def test_another_digest_is_refused_where_it_is_not_skipped(request, names, form):
+    image, user = (form(request.getfixturevalue(name)) for name in names)
+    with pytest.raises(Fault, match="L8 Digest"):
+        Cutter(image, [user])
+    assert Cutter(image, [user], skip_digest=True).wakati(LINE) == [LINE]
+
+
+def test_all_else_is_tested_where_the_digest_is_skipped(system, user):
+    for image, fault in ((read(system)[:-1], "L1"), (b"x" + read(system)[1:], "L2"), (user, "O1")):
+        with pytest.raises(Fault, match=fault):
+            Cutter(image, skip_digest=True)
+
+
 def test_a_pipe_is_read(system):
     """What can't be mapped, as `<(zstd -dc image.zst)` of a shell."""
     out, into = os.pipe()

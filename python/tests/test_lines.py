@@ -125,8 +125,9 @@ def test_what_is_no_line_is_named(cutter, way, bad):
 
 @pytest.mark.parametrize("way", WAYS)
 def test_two_lines_for_one_are_refused(cutter, way):
-    with pytest.raises(Fault, match="line 2: K1"):
+    with pytest.raises(Fault, match="line 2: K1") as fault:
         list(BEGIN[way](cutter, ["もも", "もも\nもも", "もも"]))
+    assert fault.value.at == 6
 
 
 def test_lines_come_as_soon_as_they_are_there(cutter):
