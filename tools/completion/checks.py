@@ -5,12 +5,12 @@ from pathlib import Path
 
 from kumquatsieve_import.command_line import NAMES
 from kumquatsieve_import.encodings import CHOICES
-from run_rows.codes import codes_of_programs
+from run_rows.codes import CODES_OF_CALLS, codes_of_programs
 
 from .asked import FILE, FOLDER, has_terminals, of_bash, of_zsh
 
 FILES, FOLDERS, NOTHING = {FILE, FOLDER}, {FOLDER}, set()
-CODES = {code.split()[0] for code in codes_of_programs()}
+CODES = {code.split()[0] for code in (*CODES_OF_CALLS, *codes_of_programs())}
 ENCODINGS = set(CHOICES.replace(" or ", ", ").split(", "))
 DEBIANS = {name.decode() for name in NAMES}
 # A program stands in PREFIX/bin, and its image `ipadic` where that one is installed.

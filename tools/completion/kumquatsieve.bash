@@ -4,8 +4,8 @@
 #
 # `cur` is the word that is completed, and `prev` the one before it: bash takes `--out=x` for three words.
 
-_kumquatsieve_codes="C1 C2 C3 C4 C5 C6 C7 F1 F2 G1 G2 G3 G4 G5 I1 I2 I3 L1 L2 L3 L4 L5 L6 L7 L8 M1 M2 M3 M4 Memory O1 O2 O3 P1 P2 P3
-    S1 S2 S3 S4 S5 U1 U2"
+_kumquatsieve_codes="C1 C2 C3 C4 C5 C6 C7 F1 F2 G1 G2 G3 G4 G5 I1 I2 I3 K1 K2 K3 K4 K5 K6 K7 K8 L1 L2 L3 L4 L5 L6 L7 L8 M1 M2 M3 M4 Memory
+    O1 O2 O3 P1 P2 P3 S1 S2 S3 S4 S5 U1 U2"
 _kumquatsieve_encodings="utf-8 euc-jp euc-jis-2004 cp932 iso-2022-jp"
 
 # Of these words those that begin so.
@@ -90,7 +90,7 @@ _kumquatsieve_jseg() {
     -O) _kumquatsieve_of wakati ;;
     --explain) _kumquatsieve_of "$_kumquatsieve_codes" ;;
     -M | -F | -U | -B | -E) ;;
-    *) _kumquatsieve_of "-d -u --sources --sample -M -O -F -U -B -E -v --explain -h --help -V --version" ;;
+    *) _kumquatsieve_of "-d -u --sources --sample --skip-digest -M -O -F -U -B -E -v --explain -h --help -V --version" ;;
     esac
 }
 
@@ -103,7 +103,7 @@ _kumquatsieve_cut() {
     -u) _kumquatsieve_files ;;
     -O) _kumquatsieve_of wakati ;;
     -j | -M | -F | -U | -B | -E) ;;
-    *) _kumquatsieve_of "-d -u -j -M -O -F -U -B -E -v -h --help -V --version" ;;
+    *) _kumquatsieve_of "-d -u --skip-digest -j -M -O -F -U -B -E -v -h --help -V --version" ;;
     esac
 }
 
@@ -126,7 +126,7 @@ _kumquatsieve_dictc() {
             elif [[ ${COMP_WORDS[1]} = system ]]; then
                 _kumquatsieve_of "--matrix --char --unk --out -v -h --help"
             else
-                _kumquatsieve_of "--dic --out -v -h --help"
+                _kumquatsieve_of "--dic --skip-digest --out -v -h --help"
             fi
             ;;
         esac

@@ -12,9 +12,13 @@ from typing import NamedTuple, Optional
 TOP = Path(__file__).resolve().parent.parent.parent
 # How often the honest input's time a hostile one may take.
 MOST = 3
+# Seconds of the processor that are no chance.
+CLEAR = 0.2
 # Seconds of the processor after which a run is ended, and the bytes of memory that it may have where nothing else is said.
 LONGEST = 120
 ROOM = 4 << 30
+# How often small inputs are run, since other work disturbs short runs most.
+QUICK_ROUNDS = 10
 # What jseg prints where only the number of words counts, and whether they are known.
 MARKS = ["-F", "w", "-U", "u", "-E", "\\n"]
 
@@ -63,25 +67,28 @@ def seconds_of(what, run):
 
 
 def times_of(shape, rounds):
-    """The least time of each of both, by turns. What takes long enough is run once."""
+    """The least time of each of both, by turns. Where the first round leaves no doubt that the bound is missed, it is the only one."""
     times = ([], [])
     for number in range(rounds):
         for part, run in zip(times, (shape.honest, shape.hostile)):
             part.append(seconds_of(f"{shape.name}, {'hostile' if part is times[1] else 'honest'}", run))
-        if number == 0 and times[1][0] > max(2, 4 * MOST * times[0][0]):
+        if number == 0 and times[1][0] > max(CLEAR, 4 * MOST * times[0][0]):
             break
     return min(times[0]), min(times[1])
 
 
-def judged(shapes, known, rounds):
-    """Prints a row for each shape, and answers the faults: a bound that is missed, or one that is met and is known not to be."""
+def judged(shapes, known, options):
+    """Prints a row for each shape, and answers the faults: a bound that is missed, or one that is met and is known not to be. Of small inputs the
+    latter is told alone, since what costs much there may not show."""
     print(f"{'shape':28} {'honest':>9} {'hostile':>9} {'ratio':>8}  {'bound of ' + str(MOST):11} size")
     faults = [f"KNOWN names no shape: {name}" for name in known if name not in {shape.name for shape in shapes}]
     for shape in shapes:
-        honest, hostile = times_of(shape, rounds)
+        honest, hostile = times_of(shape, options.rounds)
         is_met = hostile <= MOST * honest
         print(f"{shape.name:28} {honest:7.3f} s {hostile:7.3f} s {hostile / honest:8.2f}  {'met' if is_met else 'not met':11} {shape.size}", flush=True)
-        if is_met and shape.name in known:
+        if is_met and shape.name in known and options.quick:
+            print("    known, and met at this size")
+        elif is_met and shape.name in known:
             faults.append(f"{shape.name}: its bound is met now: take it off KNOWN")
         elif not is_met and shape.name in known:
             print(f"    known: {known[shape.name]}")
@@ -91,14 +98,20 @@ def judged(shapes, known, rounds):
 
 
 def chosen(about, rounds, programs, **others):
-    """The options of a script: how often each input is run, and where the programs stand. Where one is not there, the script ends."""
+    """The options of a script: how often each input is run, and where the programs stand. Where one is not there, the script ends. Each of the
+    others has a default, one for small inputs, and what is told of it."""
     options = argparse.ArgumentParser(description=about, formatter_class=argparse.RawDescriptionHelpFormatter)
-    options.add_argument("--rounds", type=int, default=rounds, metavar="N", help="how often each input is run")
+    options.add_argument("--rounds", type=int, metavar="N", help=f"how often each input is run; {rounds}, and {QUICK_ROUNDS} of small ones")
+    options.add_argument("--quick", action="store_true", help="small inputs, at which the ratios show too")
     for name in programs:
         options.add_argument(f"--{name}", type=Path, default=TOP / "crates" / name / "out" / name)
-    for name, (default, told) in others.items():
-        options.add_argument(f"--{name}", type=int, default=default, metavar="N", help=told)
+    for name, (_, _, told) in others.items():
+        options.add_argument(f"--{name}", type=int, metavar="N", help=told)
     found = options.parse_args()
+    found.rounds = found.rounds or (QUICK_ROUNDS if found.quick else rounds)
+    for name, (usual, small, _) in others.items():
+        if getattr(found, name) is None:
+            setattr(found, name, small if found.quick else usual)
     missing = [str(getattr(found, name)) for name in programs if not getattr(found, name).exists()]
     if missing:
         print(f"nothing was measured: {' and '.join(missing)} not built; `rt run` in the crate's folder builds it", file=sys.stderr)

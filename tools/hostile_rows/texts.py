@@ -1,20 +1,31 @@
 """Texts, and dictionaries over which they are hostile."""
+from typing import NamedTuple
+
 from .dictionaries import CATEGORIES, MAPPINGS, NAMES, Sources
 from .measuring import MARKS, Run, Shape
 
-LINE_BYTES = 2**20
-BLANK_WORDS = 4096
-ENTRIES = 4_000
-UNKNOWN_ENTRIES = 1_000
 LONGEST_UNKNOWN = 15
-QUOTES = 100_000
 COMMAS = 65_540
 SHOWN = 65_535
-WORDS = 10_000
-RANGES = 20_000
-ABOVE = 260_000
-STEM_BYTES = 8_000
-STEM_LINE_BYTES = 2**17
+
+
+class Sizes(NamedTuple):
+    """How much of each there is, in characters where nothing else is said."""
+
+    line_bytes: int = 2**20
+    blank_words: int = 4096
+    entries: int = 4_000
+    unknown_entries: int = 1_000
+    quotes: int = 100_000
+    words: int = 10_000
+    ranges: int = 20_000
+    above: int = 260_000
+    stem: int = 8_000
+    stem_line: int = 2**17
+
+
+# What shows the same ratios in seconds.
+QUICK = Sizes(line_bytes=2**18, entries=1_500, words=1_000, above=30_000, stem=2_000, stem_line=2**15)
 
 
 class Cutting:
@@ -23,6 +34,7 @@ class Cutting:
     def __init__(self, options, folder):
         self.options = options
         self.folder = folder
+        self.sizes = QUICK if options.quick else Sizes()
         self.count = 0
 
     def image(self, sources):
@@ -35,33 +47,35 @@ class Cutting:
 
 def blanks(cutting):
     """Words end at many places of one run of blanks, which goes to the line's end."""
-    lexicon = "".join(f"a{' ' * blanks},1,1,{1 + blanks},x\n" for blanks in range(BLANK_WORDS))
+    length = cutting.sizes.line_bytes
+    lexicon = "".join(f"a{' ' * blanks},1,1,{1 + blanks},x\n" for blanks in range(cutting.sizes.blank_words))
     image = cutting.image(Sources(lexicon))
-    plain = cutting.run(image, MARKS, "a " * (LINE_BYTES // 2), "w" * (LINE_BYTES // 2))
-    return Shape("blanks", "a line of 1 MiB", plain, cutting.run(image, MARKS, "a" + " " * (LINE_BYTES - 1), "w"))
+    plain = cutting.run(image, MARKS, "a " * (length // 2), "w" * (length // 2))
+    return Shape("blanks", f"a line of {length // 1024} KiB", plain, cutting.run(image, MARKS, "a" + " " * (length - 1), "w"))
 
 
 def left_ids(cutting):
     """Each entry of a surface has a left id of its own: who compares each end of a place for each left id compares their product."""
-    matrix = f"2 {ENTRIES + 1}\n"
-    surfaces = [chr(0x4E00 + i) for i in range(ENTRIES)]
+    count = cutting.sizes.entries
+    matrix = f"2 {count + 1}\n"
+    surfaces = [chr(0x4E00 + i) for i in range(count)]
     honest = cutting.image(Sources("".join(f"{surface},{i},1,0,x\n" for i, surface in enumerate(surfaces, 1)), matrix))
-    hostile = cutting.image(Sources("".join(f"あ,{i},1,0,x\n" for i in range(1, ENTRIES + 1)), matrix))
+    hostile = cutting.image(Sources("".join(f"あ,{i},1,0,x\n" for i in range(1, count + 1)), matrix))
     runs = cutting.run(honest, MARKS, "".join(surfaces[:40]), "w" * 40), cutting.run(hostile, MARKS, "あ" * 40, "w" * 40)
-    return Shape("left ids of a surface", f"{ENTRIES} entries, a quarter of 16,000; 120 bytes of text", *runs)
+    return Shape("left ids of a surface", f"{count} entries of 16,000; 120 bytes of text", *runs)
 
 
 def unknown_entries(cutting):
     """Each unknown word of 1 to 15 characters has many entries. In the honest input they are those of a category that the text has not."""
+    count = cutting.sizes.unknown_entries
 
     def image(many):
         rest = "".join(f"{name},1,1,1,x\n" for name in NAMES)
-        unk = "".join(f"{many},{i},1,1,x\n" for i in range(1, UNKNOWN_ENTRIES + 1)) + rest
-        return cutting.image(Sources("z,1,1,1,x\n", f"2 {UNKNOWN_ENTRIES + 1}\n", unk=unk))
+        unk = "".join(f"{many},{i},1,1,x\n" for i in range(1, count + 1)) + rest
+        return cutting.image(Sources("z,1,1,1,x\n", f"2 {count + 1}\n", unk=unk))
 
     runs = [cutting.run(image(many), MARKS, "あ" * 30, "u" * (30 // LONGEST_UNKNOWN)) for many in ("KATAKANA", "HIRAGANA")]
-    size = f"{UNKNOWN_ENTRIES} entries of LENGTH {LONGEST_UNKNOWN}, a quarter of 4,000; 90 bytes of text"
-    return Shape("unknown entries", size, *runs)
+    return Shape("unknown entries", f"{count} entries of 4,000, of LENGTH {LONGEST_UNKNOWN}; 90 bytes of text", *runs)
 
 
 def with_features(cutting, name, size, feature, shown, printed):
@@ -70,22 +84,23 @@ def with_features(cutting, name, size, feature, shown, printed):
     count = len(feature) // len(f"b0000,1,1,1,{short}\n")
     honest = cutting.image(Sources(f"a,1,1,1,{short}\n" + "".join(f"b{i:04},1,1,1,{short}\n" for i in range(count))))
     hostile = cutting.image(Sources(f"a,1,1,1,{feature}\n"))
-    words = ["-F", f"%f[{shown}]", "-E", "\\n"]
+    words, times = ["-F", f"%f[{shown}]", "-E", "\\n"], cutting.sizes.words
     kept = "seven" if shown == 7 else ""
-    return Shape(name, size, cutting.run(honest, words, "a" * WORDS, kept * WORDS), cutting.run(hostile, words, "a" * WORDS, printed * WORDS))
+    runs = cutting.run(honest, words, "a" * times, kept * times), cutting.run(hostile, words, "a" * times, printed * times)
+    return Shape(name, f"{size}; {times} bytes of text", *runs)
 
 
 def quotes(cutting):
     """A field of doubled quotes stands before the one that is printed."""
-    feature = '0,"' + '""' * (QUOTES // 2) + '",2,3,4,5,6,late'
-    size = f"{QUOTES} bytes of quotes, a tenth of 1 MB; {WORDS} bytes of text"
-    return with_features(cutting, "quotes in a feature", size, feature, 7, "late")
+    count = cutting.sizes.quotes
+    feature = '0,"' + '""' * (count // 2) + '",2,3,4,5,6,late'
+    return with_features(cutting, "quotes in a feature", f"{count} bytes of quotes, of 1 MB", feature, 7, "late")
 
 
 def commas(cutting):
     """The last field that can be printed is."""
     feature = "," * SHOWN + "late" + "," * (COMMAS - SHOWN)
-    return with_features(cutting, "commas in a feature", f"{COMMAS} commas; {WORDS} bytes of text", feature, SHOWN, "late")
+    return with_features(cutting, "commas in a feature", f"{COMMAS} commas", feature, SHOWN, "late")
 
 
 def grouping(cutting, name, size, mappings, text):
@@ -99,22 +114,24 @@ def grouping(cutting, name, size, mappings, text):
 def ranges(cutting):
     """The categories of characters above U+FFFF are looked up among many ranges; neighbours differ in their second category."""
     kinds = ("KANJI", "KANJI OTHER")
-    mappings = "".join(f"0x{low:X}..0x{low + 1:X} {kinds[i % 2]}\n" for i, low in enumerate(range(0x20000, 0x20000 + 2 * RANGES, 2)))
-    text = "".join(chr(0x20000 + i % (2 * RANGES)) for i in range(ABOVE))
-    size = f"{ABOVE} characters above U+FFFF in {RANGES} ranges; -M 1000 beside -M 24"
+    count, length = cutting.sizes.ranges, cutting.sizes.above
+    mappings = "".join(f"0x{low:X}..0x{low + 1:X} {kinds[i % 2]}\n" for i, low in enumerate(range(0x20000, 0x20000 + 2 * count, 2)))
+    text = "".join(chr(0x20000 + i % (2 * count)) for i in range(length))
+    size = f"{length} characters above U+FFFF in {count} ranges; -M 1000 beside -M 24"
     return grouping(cutting, "grouping over ranges", size, mappings, text)
 
 
 def katakana(cutting):
-    return grouping(cutting, "grouping of katakana", "1 MiB of ア; -M 1000 beside -M 24", "", "ア" * (LINE_BYTES // 3))
+    length = cutting.sizes.line_bytes
+    return grouping(cutting, "grouping of katakana", f"{length // 1024} KiB of ア; -M 1000 beside -M 24", "", "ア" * (length // 3))
 
 
 def stem(cutting):
     """A surface begins at each place, and ends at none: who walks it at each place walks it all. The honest one differs in its first letter."""
-    hostile, honest = ("a" * (STEM_BYTES - 1) + "b", "b" + "a" * (STEM_BYTES - 1))
-    text = "a" * STEM_LINE_BYTES
+    length, text = cutting.sizes.stem, "a" * cutting.sizes.stem_line
+    hostile, honest = ("a" * (length - 1) + "b", "b" + "a" * (length - 1))
     runs = [cutting.run(cutting.image(Sources(f"{surface},1,1,1,x\n")), MARKS, text, "u" * len(text)) for surface in (honest, hostile)]
-    return Shape("a stem at each place", f"a surface of {STEM_BYTES} bytes; {STEM_LINE_BYTES // 1024} KiB of a, an eighth of 1 MiB", *runs)
+    return Shape("a stem at each place", f"a surface of {length} bytes; {len(text) // 1024} KiB of a, of 1 MiB", *runs)
 
 
 def shapes(cutting):

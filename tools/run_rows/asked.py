@@ -1,7 +1,7 @@
 """What the programs say of themselves and of their work: versions, explanations, `-v`, and what to do in place of MeCab's options."""
-from .codes import codes_of_programs
+from .codes import CODES_OF_CALLS, codes_of_programs
 from .images import LAYOUT_1
-from .run import ANY, LEXICON, MATRIX, SYSTEM, USER, Has, Run
+from .run import ANY, LEXICON, MATRIX, SYSTEM, USER, Has, Path, Run
 from .texts import MO
 
 VERSION = "0.1.0\nimage layouts read: 1, 2, 3; written: 3\n"
@@ -11,9 +11,20 @@ MARK = b"\xef\xbb\xbf"
 DENIED = 0o000
 
 
+PROGRAMS = "dictc", "jseg"
+
+
+def asked_otherwise(program):
+    """Words, how the answer begins, and what it has: codes in small letters, names, names of several faults, and all codes."""
+    yield f"{program} --explain g3", "G3 NotUtf8\nMeaning: ", ()
+    yield f"{program} --explain BADSECTION", "L4 BadSection\nMeaning: ", ()
+    yield f"{program} --explain NotUtf8", "S1 NotUtf8\nMeaning: ", ("\n\nG3 NotUtf8\nMeaning: ",)
+    yield f"{program} --explain", "", ("L4 BadSection\n", "Memory\n", *(f"{code}\n" for code in CODES_OF_CALLS))
+
+
 def explained(code):
     """Both programs explain a code."""
-    for program in ("dictc", "jseg"):
+    for program in PROGRAMS:
         words = f"{program} --explain {code.split()[0]}"
         yield Run(words, words, out=Has(f"{code}\nMeaning: ", ("\nUsual cause: ", "\nWhat to do: ")))
 
@@ -42,6 +53,9 @@ HABITS = [
     ("jseg -d sys.img -b 1000000", "-b is not needed"),
     ("jseg -d sys.img -o out.txt", "> FILE"),
     ("jseg -r mecabrc -d sys.img", "dicrc"),
+    ("jseg -d sys.img -a", "-a is not known"),
+    ("jseg --nbest=2 -d sys.img", "-N is not known"),
+    ("jseg --dicdir=sys", "write -d IMG"),
 ]
 COMPILED, SOURCES = {"dic": {}, "dic/sys.dic": b"x"}, {"dic": {}, "dic/matrix.def": MATRIX}
 
@@ -54,18 +68,22 @@ WHY = [
     (f"{SYSTEM} -v none.csv", "none.csv", None, "it is not there"),
     (f"{SYSTEM} -v folder", "folder", {}, "it is a directory"),
     ("dictc user -v --dic none.img --out new.img user.csv", "none.img", None, "it is not there"),
+    ("jseg -v -d memory", "memory", Path("/proc/self/mem"), "a read of it failed"),
 ]
 
 STEPS = ["connection costs of 2 right ids and 2 left ids", "6 categories", "unknown words", "3 entries up to a/lexicon.csv"]
 SHARES = ["connection costs: 8 bytes", "categories of code points: ", "keys: ", "group index: ", "tokens: ", "features: "]
 
 ROWS = [
-    *(Run(f"{name} {option}", f"{name} {option}", out=f"{name} {VERSION}") for name in ("dictc", "jseg") for option in ("--version", "-V")),
+    *(Run(f"{name} {option}", f"{name} {option}", out=f"{name} {VERSION}") for name in PROGRAMS for option in ("--version", "-V")),
     *(run for code in sorted(codes_of_programs()) for run in explained("Memory" if code == "Memory" else code)),
-    *(Run(words, words, err=Has("error: no fault has the code"), status=2) for words in ("jseg --explain X9", "dictc --explain l4")),
-    *(Run(words, words, err=Has("error: ", (near,)), status=2) for words, near in NEAR),
-    *(Run(words, words, "も\n", err=Has("error: ", (told,)), status=2) for words, told in HABITS),
-    *(Run(f"MeCab's, {files}", "jseg -d dic", err=Has("error: dic is a dictionary of MeCab"), status=2, files=files) for files in (COMPILED, SOURCES)),
+    *(run for code in CODES_OF_CALLS for run in explained(code)),
+    *(Run(words, words, out=Has(begin, told)) for program in PROGRAMS for words, begin, told in asked_otherwise(program)),
+    *(Run(words, words, err=Has(f"{words.split()[0]}: no fault has the code or name 'X9'"), status=2) for words in ("jseg --explain X9", "dictc --explain X9")),
+    *(Run(words, words, err=Has(f"{words.split()[0]}: ", (near,)), status=2) for words, near in NEAR),
+    *(Run(words, words, "も\n", err=Has("jseg: ", (told,)), status=2) for words, told in HABITS),
+    Run("an option of none", "jseg -q", err=Has("jseg: unexpected argument '-q' found\n\nUsage: "), status=2),
+    *(Run(f"MeCab's, {files}", "jseg -d dic", err=Has("jseg: dic is a dictionary of MeCab"), status=2, files=files) for files in (COMPILED, SOURCES)),
     *(Run(f"{words}: {why}", words, err=Has("", (f": {path}: {why}\n", f": {path}: F1 File\n")), status=3, files={path: there}) for words, path, there, why in WHY),
     Run("no permission", "jseg -d sys.img -v", err=Has("", ("sys.img: permission to read it is missing\n",)), status=3, modes={"sys.img": DENIED}),
     Run("a name that is not UTF-8", "jseg --sources a -v", err=Has("", ("a: a name in this directory is not UTF-8\n",)), status=3, files={"a/\udcff": b""}),

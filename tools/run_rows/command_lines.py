@@ -71,7 +71,7 @@ INPUTS = [
 
 ROWS = [
     *(Run(words, words, out=Has("", ("Usage: ", *texts))) for words, texts in HELP),
-    *(Run(what, words, "も\n", err=Has("error: "), status=2) for what, words in WRONG),
+    *(Run(what, words, "も\n", err=Has(f"{words.split()[0]}: "), status=2) for what, words in WRONG),
     Run("an argument that is not UTF-8", "jseg --sample -F \udcff", err="an argument is not UTF-8", status=2),
     Run("a path that is not UTF-8", f"{SYSTEM} \udcff.csv", err="an argument is not UTF-8", status=2),
     *(Run(words, words, err=f"--out names a file that is read: {told}", status=2, files=SPARE) for words, told in INPUTS),

@@ -6,12 +6,18 @@ import shutil
 import socket
 import subprocess
 import tempfile
+import threading
 import tty
+from contextlib import suppress
 from pathlib import Path
 
 NOBODY = 65534
-SECONDS = 60
-FAILING = Path(__file__).resolve().parent.parent / "fail.c"
+TOOLS = Path(__file__).resolve().parent.parent
+
+# A lexicon of one entry more than a dictionary may have.
+ENTRY = b"a,0,0,0,\n"
+ENTRIES = 2**28 + 1
+AT_ONCE = 2**16
 
 
 class Outcome:
@@ -46,9 +52,28 @@ def failing_input(text):
     return ours
 
 
-def input_of(kind, text, folder):
+def feed(writer):
+    """Writes entries as long as they are read."""
+    with suppress(BrokenPipeError), open(writer, "wb", buffering=0) as pipe:
+        for _ in range(ENTRIES // AT_ONCE):
+            pipe.write(ENTRY * AT_ONCE)
+        pipe.write(ENTRY * (ENTRIES % AT_ONCE))
+
+
+def entries_input(user):
+    """The end of a pipe that the user may open by its path, too."""
+    ours, theirs = os.pipe()
+    if user is not None:
+        os.fchown(ours, user, user)
+    threading.Thread(target=feed, args=(theirs,), daemon=True).start()
+    return ours
+
+
+def input_of(kind, text, folder, user):
     if kind == "failing":
         return failing_input(text)
+    if kind == "entries":
+        return entries_input(user)
     return os.open(folder, os.O_RDONLY) if kind == "directory" else subprocess.PIPE
 
 
@@ -78,20 +103,29 @@ def messages(reader):
 
 
 class Programs:
-    """The programs, installed where nobody may run them, and a library whose calls fail."""
+    """The programs, installed where nobody may run them, a library whose calls fail, and a heap that repeats."""
 
     def __init__(self, folder, paths):
         (folder / "bin").mkdir()
         self.places = {path.name: shutil.copy(path, folder / "bin") for path in paths}
         self.images = folder / "share" / "kumquatsieve"
-        self.failing = folder / "fail.so"
-        subprocess.run(["gcc", "-std=c11", "-O2", "-shared", "-fPIC", FAILING, "-o", self.failing], check=True)
+        self.failing, self.repeating = self.library(folder, "fail"), self.library(folder, "repeat")
         self.user = NOBODY if os.geteuid() == 0 else None
+
+    def library(self, folder, name):
+        """A library to be preloaded, built from a file of tools."""
+        built = folder / f"{name}.so"
+        subprocess.run(["gcc", "-std=c11", "-O2", "-shared", "-fPIC", TOOLS / f"{name}.c", "-o", built], check=True)
+        return str(built)
+
+    def preloaded(self, under):
+        if under.fails:
+            return {"LD_PRELOAD": self.failing, "FAIL": under.fails}
+        return {"LD_PRELOAD": self.repeating} if under.repeats else {}
 
     def run(self, words, text, folder, under):
         words = shlex.split(words)
-        place = {"LD_PRELOAD": str(self.failing), "FAIL": under.fails} if under.fails else {}
-        stdin, stdout = input_of(under.stdin, text, folder), output_of(under.stdout)
+        stdin, stdout = input_of(under.stdin, text, folder, self.user), output_of(under.stdout)
         reader, writer = socket.socketpair(socket.AF_UNIX, socket.SOCK_SEQPACKET)
         stderr = os.open("/dev/full", os.O_WRONLY) if under.stderr == "full" else writer
         process = subprocess.Popen(
@@ -100,14 +134,14 @@ class Programs:
             stdout=stdout,
             stderr=stderr,
             cwd=folder,
-            env=place,
+            env=self.preloaded(under),
             user=self.user,
             group=self.user,
             extra_groups=None if self.user is None else [],
             restore_signals=under.killed or not under.most,
             preexec_fn=limits(under, under.stdin == "closed", under.stdout == "closed"),
         )
-        out = process.communicate(text if stdin == subprocess.PIPE else None, SECONDS)[0]
+        out = process.communicate(text if stdin == subprocess.PIPE else None, under.seconds)[0]
         if under.stdout == "file":
             out = os.pread(stdout, 1 << 20, 0)
         writer.close()

@@ -27,13 +27,15 @@ class Has(NamedTuple):
 class Under(NamedTuple):
     """What a run meets beside its arguments, its files and its text."""
 
-    stdin: str = "text"  # directory, closed, or failing behind the text
+    stdin: str = "text"  # directory, closed, failing behind the text, or entries: a lexicon of one more than a dictionary may have
     stdout: str = "kept"  # full, closed, or unread: a pipe without a reader
     stderr: str = "kept"  # full
     most: int = 0  # how many bytes a file may have: a longer one fails. 0: any number
     killed: bool = False  # a longer one kills the run
     memory: int = 0  # how many bytes of memory it may take. 0: any number
     fails: str = ""  # the call of the C library that fails: rename, fsync, write or fchmod
+    repeats: bool = False  # its large blocks of memory repeat, so that they take few bytes
+    seconds: int = 60  # how long it may take
     taken: str = ""  # a file that is there; {pid} in its name is the number of the process
 
 

@@ -1,5 +1,5 @@
 """Sources that are refused."""
-from .run import CHARS, LEXICON, SYSTEM, UNK, USER, Run
+from .run import CHARS, LEXICON, SYSTEM, UNK, USER, Run, Under
 
 MANY = b"".join(b"CATEGORY%d 0 0 0\n" % i for i in range(13))
 LONG = b"z" * 65_536 + b",1,1,1,X\n"
@@ -66,3 +66,7 @@ ROWS += [
     Run("unk.def before the lexicon", "jseg --sources a", err=S2, status=1, files=BAD_UNK),
     Run("lines before ids", f"{SYSTEM} a/lexicon.csv", err=S3, status=1, files=BAD_IDS),
 ]
+
+# 2^28 entries are 15 GB. These are all of one line, so that memory which repeats holds them.
+MANY_ENTRIES = Under(stdin="entries", repeats=True, seconds=600)
+ROWS.append(Run("too many entries", f"{SYSTEM} /dev/stdin", err="/dev/stdin:268435457: S5 TooMany", status=1, under=MANY_ENTRIES))
