@@ -23,7 +23,8 @@ int main(int given, char **arguments) {
     if (kumquatsieve_load(&cutter, image, size, &number) != KUMQUATSIEVE_OK) return 1;
     free(image);
     const char *line = arguments[2];
-    if (kumquatsieve_cut(&cutter, (const uint8_t *)line, strlen(line), &count, &total, NULL) != KUMQUATSIEVE_OK) return 1;
+    uint32_t answer = kumquatsieve_cut(&cutter, (const uint8_t *)line, strlen(line), &count, &total, NULL);
+    if (answer != KUMQUATSIEVE_OK) return 1;
     kumquatsieve_words(&cutter, 0, words, MOST, &count);
     for (size_t i = 0; i < count && i < MOST; i++) {
         kumquatsieve_feature(&cutter, i, &feature, &length);
