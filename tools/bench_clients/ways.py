@@ -68,7 +68,7 @@ def build_nodes(folder, sources):
 
 
 def library_commands(options, folder, sources):
-    """Builds the libraries, the example in C and the program that reads nodes, and answers a function that tells the command of a way."""
+    """Builds the libraries, the example in C and the program that reads nodes, and answers a function that gives the command of a way."""
     prefix, cut, nodes = folder / "prefix", folder / "cut", ["--mecab"] if can_bench_nodes() else []
     subprocess.run([TOP / "tools" / "build-library", "--built", *nodes, prefix], check=True, stderr=subprocess.DEVNULL)
     archive = prefix / "lib" / "libkumquatsieve.a"

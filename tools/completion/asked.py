@@ -35,7 +35,7 @@ def of_bash(words, folder):
 
 
 def has_terminals():
-    """Whether the machine gives a terminal to who asks for one."""
+    """Whether the machine gives a terminal to a program that asks for one."""
     try:
         for end in pty.openpty():
             os.close(end)

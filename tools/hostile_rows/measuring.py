@@ -34,7 +34,7 @@ class Run(NamedTuple):
 
 
 class Shape(NamedTuple):
-    """A hostile input beside an honest one. `size` tells how large both are, and which part that is of what was asked for."""
+    """A hostile input beside an honest one. `size` says how large both are, and which part that is of what was asked for."""
 
     name: str
     size: str
@@ -67,7 +67,7 @@ def seconds_of(what, run):
 
 
 def times_of(shape, rounds):
-    """The least time of each of both, by turns. Where the first round leaves no doubt that the bound is missed, it is the only one."""
+    """The least time of each of both, which run in turn. Where the first round leaves no doubt that the bound is missed, it is the only one."""
     times = ([], [])
     for number in range(rounds):
         for part, run in zip(times, (shape.honest, shape.hostile)):
@@ -79,7 +79,7 @@ def times_of(shape, rounds):
 
 def judged(shapes, known, options):
     """Prints a row for each shape, and answers the faults: a bound that is missed, or one that is met and is known not to be. Of small inputs the
-    latter is told alone, since what costs much there may not show."""
+    latter is only reported, since what costs much there may not show."""
     print(f"{'shape':28} {'honest':>9} {'hostile':>9} {'ratio':>8}  {'bound of ' + str(MOST):11} size")
     faults = [f"KNOWN names no shape: {name}" for name in known if name not in {shape.name for shape in shapes}]
     for shape in shapes:
@@ -99,7 +99,7 @@ def judged(shapes, known, options):
 
 def chosen(about, rounds, programs, **others):
     """The options of a script: how often each input is run, and where the programs stand. Where one is not there, the script ends. Each of the
-    others has a default, one for small inputs, and what is told of it."""
+    others has a default, one for small inputs, and what `--help` says of it."""
     options = argparse.ArgumentParser(description=about, formatter_class=argparse.RawDescriptionHelpFormatter)
     options.add_argument("--rounds", type=int, metavar="N", help=f"how often each input is run; {rounds}, and {QUICK_ROUNDS} of small ones")
     options.add_argument("--quick", action="store_true", help="small inputs, at which the ratios show too")
@@ -120,7 +120,7 @@ def chosen(about, rounds, programs, **others):
 
 
 def ended(faults):
-    """The script's status, after its faults were told."""
+    """The script's status, after its faults were reported."""
     for fault in faults:
         print(fault, file=sys.stderr)
     return 1 if faults else 0

@@ -55,7 +55,7 @@ def blanks(cutting):
 
 
 def left_ids(cutting):
-    """Each entry of a surface has a left id of its own: who compares each end of a place for each left id compares their product."""
+    """Each entry of a surface has a left id of its own. A search that compares each end of a place for each left id makes their product of comparisons."""
     count = cutting.sizes.entries
     matrix = f"2 {count + 1}\n"
     surfaces = [chr(0x4E00 + i) for i in range(count)]
@@ -127,7 +127,7 @@ def katakana(cutting):
 
 
 def stem(cutting):
-    """A surface begins at each place, and ends at none: who walks it at each place walks it all. The honest one differs in its first letter."""
+    """A surface begins at each place, and ends at none. A walk at each place goes over all of it. The honest one differs in its first letter."""
     length, text = cutting.sizes.stem, "a" * cutting.sizes.stem_line
     hostile, honest = ("a" * (length - 1) + "b", "b" + "a" * (length - 1))
     runs = [cutting.run(cutting.image(Sources(f"{surface},1,1,1,x\n")), MARKS, text, "u" * len(text)) for surface in (honest, hostile)]

@@ -1,4 +1,4 @@
-"""Sources in each encoding, and those of which it can't be told: what is compiled are the same sources in UTF-8."""
+"""Sources in each encoding, and those whose encoding can't be found: what is compiled are the same sources in UTF-8."""
 import subprocess
 from typing import NamedTuple
 
@@ -6,7 +6,7 @@ from .running import FILES, compiled, files_of, in_code, lay
 
 
 class Row(NamedTuple):
-    """A folder, the encoding that is reported, and what its lexicons are in UTF-8; where it is refused, what is told."""
+    """A folder, the encoding that is reported, and what its lexicons are in UTF-8; where it is refused, what is printed."""
 
     name: str
     files: dict

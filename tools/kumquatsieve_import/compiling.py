@@ -1,4 +1,4 @@
-"""dictc compiles the folder of sources in UTF-8. What it says is told with the paths of the sources."""
+"""dictc compiles the folder of sources in UTF-8. What it says is reported with the paths of the sources."""
 import os
 import re
 import selectors
@@ -40,7 +40,7 @@ def lines_of(pipe, wait):
 
 
 def places_of(process, paths):
-    """How far a process is in the files that it has open, where the system tells that."""
+    """How far a process is in the files that it has open, where the system says so."""
     folder = f"/proc/{process}"
     try:
         for number in os.listdir(f"{folder}/fd"):

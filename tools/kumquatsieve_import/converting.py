@@ -57,7 +57,7 @@ def converted(source, encoding):
 
 
 def is_as_wanted(source, encoding, teller):
-    """Whether a source can be read where it stands. Of matrix.def only the beginning tells that."""
+    """Whether a source can be read where it stands. Of matrix.def only the beginning decides that."""
     if source.name == b"matrix.def":
         with naming(source.path), open(source.path, "rb") as file:
             return file.read(len(MARK)) != MARK
@@ -71,7 +71,7 @@ def is_as_wanted(source, encoding, teller):
 
 
 def write_converted(source, encoding, target, teller):
-    """Writes a source in UTF-8, and tells what it leaves out."""
+    """Writes a source in UTF-8, and reports what it leaves out."""
     done = 0
     with naming(target), open(target, "wb", buffering=0) as file:
         for chunk, text, lines in converted(source, encoding):

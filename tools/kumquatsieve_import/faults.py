@@ -18,7 +18,7 @@ def shown(path):
 
 
 class Fault(Exception):
-    """A fault that is told in one line."""
+    """A fault that is reported in one line."""
 
     def __init__(self, status, text):
         super().__init__(text)
@@ -40,7 +40,7 @@ def of_file(path, error):
 
 @contextmanager
 def naming(path):
-    """What fails in here is told with this path."""
+    """What fails in here is reported with this path."""
     try:
         yield
     except OSError as error:

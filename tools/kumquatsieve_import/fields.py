@@ -49,7 +49,7 @@ KNOWN = (
 
 
 class Found(NamedTuple):
-    """The names that were found, none where they can't be told, and what is reported of them."""
+    """The names that were found, none where they are not known, and what is reported of them."""
 
     names: list
     said: str

@@ -1,9 +1,9 @@
 """Which encoding the sources are in, found from all files together.
 
-Only lines with more than ASCII tell something, and lines with an escape character. An encoding in which all of them are is taken where it is
-the only one. Where several are, as of a few characters, the one that dicrc names is; where none is, the one in which by far most of them are,
-and the others are left out. What that doesn't decide is refused, and so is what could only be guessed: half-width kana for most of a text, as
-CP932 makes of EUC-JP, and escape sequences of ISO-2022-JP.
+Only lines with more than ASCII, or with an escape character, say something. An encoding in which all of them are is taken where it is the only
+one. Where there are several, as with a few characters, the one that dicrc names is taken. Where there is none, the one is taken in which by far
+most of the lines are, and the other lines are left out. What that doesn't decide is refused. What could only be guessed is refused too: half-width
+kana for most of a text, as CP932 makes of EUC-JP, and escape sequences of ISO-2022-JP.
 """
 import re
 

@@ -74,7 +74,7 @@ class Import:
         return found
 
     def name_fields(self, names, dicrc, work, beside):
-        """The new file of the fields' names, None where they can't be told or kept. What tells them is UTF-8 by now."""
+        """The new file of the fields' names, or None where they are not known or can't be kept. Their source is UTF-8 by now."""
         if not self.is_kept(FIELDS):
             return None
         paths = {path: os.path.join(work, name) for name, path in names.items() if name.endswith(b".csv")}

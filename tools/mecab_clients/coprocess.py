@@ -1,5 +1,5 @@
 """Writes lines to the program mecab one after another, each when the last one was answered: coprocess.py. Then it closes the pipe, and prints what
-came. An answer that doesn't come in ten seconds is told."""
+came. An answer that doesn't come in ten seconds is reported."""
 import os
 import select
 import subprocess

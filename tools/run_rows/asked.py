@@ -39,7 +39,7 @@ NEAR = [
     ("jseg --explian L4", "'--explain'"),
 ]
 
-# What MeCab's users type first, and what they are told. (words, in the line)
+# What MeCab's users type first, and what to do instead. (words, in the line)
 HABITS = [
     ("jseg sys.img text.txt", "jseg -d IMG < FILE"),
     ("jseg -d sys.img text.txt", "jseg -d IMG < FILE"),

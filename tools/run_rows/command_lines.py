@@ -54,7 +54,7 @@ WRONG = [
 # An image that would take the place of a file that is read. Nothing is lost.
 SPARE = {"spare.csv": LEXICON, "link.img": Path("sys.img"), "link": Path("a")}
 INPUTS = [
-    # (words, the path that is told)
+    # (words, the path that is printed)
     ("dictc user --dic sys.img --out sys.img user.csv", "sys.img"),
     ("dictc user --dic sys.img --out user.csv user.csv", "user.csv"),
     ("dictc user --dic sys.img --out spare.csv user.csv spare.csv", "spare.csv"),

@@ -13,7 +13,7 @@ def to(path):
     return ALL.replace("new.img", path)
 
 
-# What can't be read. (what, words, the path that is told, what stands there)
+# What can't be read. (what, words, the path that is printed, what stands there)
 READ = [
     ("no matrix.def", ALL, "a/matrix.def", None),
     ("no char.def", ALL, "a/char.def", None),
@@ -35,7 +35,7 @@ READ = [
 ]
 NOT_UTF8 = [{"a/\udcff": b""}, {"a/\udcff.csv": b""}]
 
-# What can't be read by whom isn't allowed to. (words, the path that is told, its mode)
+# What a user may not read. (words, the path that is printed, its mode)
 REFUSED = [
     (ALL, "a/matrix.def", DENIED),
     (ALL, "a/lexicon.csv", DENIED),
@@ -73,7 +73,7 @@ FAILING = [
 ]
 LEFT = {"new.img.{pid}.0.new": b"of a killed run"}
 
-# What has a control character is told in one line. (path, as it is told)
+# What has a control character is printed in one line. (path, as it is printed)
 CONTROLS = [
     ("a\nb", r"a\nb"),
     ("\r\t", r"\r\t"),

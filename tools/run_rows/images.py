@@ -31,7 +31,7 @@ LAYOUT_2 += cells({0: (1, -2), 1: (-1, 99), 99: (1, 0)}) + bytes.fromhex(TAIL)
 
 
 def with_digest(image):
-    """As layout 3: behind the bytes stands their SHA-256."""
+    """As layout 3: the SHA-256 of the bytes stands after them."""
     image = changed(image, (8, b"\3"))
     return image + hashlib.sha256(image).digest()
 

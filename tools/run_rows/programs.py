@@ -44,7 +44,7 @@ def limits(under, stdin_closed, stdout_closed):
 
 
 def failing_input(text):
-    """The end of a terminal whose other end wrote a text and went away: behind the text a read fails."""
+    """The end of a terminal whose other end wrote a text and went away: after the text a read fails."""
     ours, theirs = os.openpty()
     tty.setraw(theirs)
     os.write(theirs, text)
@@ -78,7 +78,7 @@ def input_of(kind, text, folder, user):
 
 
 def output_of(kind):
-    """Where standard output goes. What is told of it is read where it is kept."""
+    """Where standard output goes. What is written to a file is read from that file."""
     if kind == "unread":
         reader, writer = os.pipe()
         os.close(reader)

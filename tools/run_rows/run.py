@@ -10,7 +10,7 @@ DEFINITIONS = "--matrix a/matrix.def --char a/char.def --unk a/unk.def"
 SYSTEM = f"dictc system {DEFINITIONS} --out new.img"
 USER = "dictc user --dic sys.img --out new.img"
 
-# A file whose bytes no row tells.
+# A file whose bytes no row gives.
 ANY = object()
 
 

@@ -5,7 +5,7 @@ MANY = b"".join(b"CATEGORY%d 0 0 0\n" % i for i in range(13))
 LONG = b"z" * 65_536 + b",1,1,1,X\n"
 
 DEFINITIONS = [
-    # (file, its bytes, the line that is told, code, name and number)
+    # (file, its bytes, the line that is printed, code, name and number)
     ("matrix.def", b"", 0, "M1 BadHeader"),
     ("matrix.def", b"\n0 2\n", 2, "M1 BadHeader"),
     ("matrix.def", b"2 2\n0 0 40000\n", 2, "M2 BadRow"),
@@ -28,7 +28,7 @@ DEFINITIONS = [
 ]
 
 LEXICONS = [
-    # (its bytes, the line that is told, code and name)
+    # (its bytes, the line that is printed, code and name)
     (LEXICON + b"\xff,1,1,1,X\n", 4, "S1 NotUtf8"),
     (b'"ab,1,1,10,X\n', 1, "S2 TooFewFields"),
     (LEXICON + b"a,1,1,-32769,X\n", 4, "S3 BadNumber"),
@@ -56,7 +56,7 @@ def of_lexicon(data, line, fault):
 
 ROWS = [run for row in DEFINITIONS for run in of_definition(*row)] + [run for row in LEXICONS for run in of_lexicon(*row)]
 
-# What is told first.
+# What is reported first.
 BAD_CHARS = {"a/char.def": CHARS + b"0x3007 OTHER\n", "a/unk.def": b"X", "a/lexicon.csv": b"X"}
 BAD_UNK = {"a/unk.def": UNK + b"X", "a/lexicon.csv": b"X"}
 BAD_IDS = {"a/unk.def": UNK + b"KANJI,2,1,1000,X\nKANJI,1,1,x,X\n", "a/lexicon.csv": b"X"}
