@@ -46,13 +46,17 @@ IsLoadRefusal digest image (cut.Image fault) = IsFaultOf digest image fault
 IsLoadRefusal digest image (cut.Overlay fault) = IsImage digest image × (fault_of_images image [] ≡ Some fault)
 IsLoadRefusal digest image fault = ⊥
 
--- why a user's image is not laid over others: another cutter shares them, or it is no image, or the first fault of them all
+-- why a user's image does not go over others: it is no image, or the first fault of them all
+abbrev pub IsLayRefusal : DigestTest → Images → List ℕ → CutFault → Type 0
+IsLayRefusal digest images user cut.Memory = Unit {0}
+IsLayRefusal digest images user (cut.Image fault) = IsFaultOf digest user fault
+IsLayRefusal digest images user (cut.Overlay fault) = IsImage digest user × (fault_of_images images.system (images.users ++ user ∷ []) ≡ Some fault)
+IsLayRefusal digest images user fault = ⊥
+
+-- why a cutter doesn't lay it over its own: another cutter shares these, or it does not go over them
 abbrev pub IsUserRefusal : DigestTest → Images → List ℕ → CutFault → Type 0
-IsUserRefusal digest images user cut.Memory = Unit {0}
 IsUserRefusal digest images user cut.Shared = Unit {0}
-IsUserRefusal digest images user (cut.Image fault) = IsFaultOf digest user fault
-IsUserRefusal digest images user (cut.Overlay fault) = IsImage digest user × (fault_of_images images.system (images.users ++ user ∷ []) ≡ Some fault)
-IsUserRefusal digest images user fault = ⊥
+IsUserRefusal digest images user fault = IsLayRefusal digest images user fault
 
 -- why a user's dictionary is not added to others: the first fault of them all
 abbrev pub IsAddRefusal : List ℕ → List (List ℕ) → CutFault → Type 0

@@ -2,7 +2,7 @@
 
 ghost use Rattle.std.specs.Prelude.{◌≡◌, ◌≤◌, ◌∷◌, ◌++◌, [], None, take, vec_len, IfOk, IfErr, OnOk, OnErr};
 ghost use Rattle.cutter.specs.Cutters.{GoOver, overlay_in, with_user};
-ghost use Rattle.cutter.specs.Faults.{IsAddRefusal, IsImage, IsLoadRefusal, IsUserRefusal};
+ghost use Rattle.cutter.specs.Faults.{IsAddRefusal, IsImage, IsLayRefusal, IsLoadRefusal};
 ghost use Rattle.mj_model.specs.declared.limits.TheConstants.{GROUPING_MAX};
 ghost use Rattle.word_lookup.specs.Overlays.{fault_of_images, overlay_of};
 
@@ -61,7 +61,7 @@ impl OwnedDictionaries {
         ensures accepted { OnOk result (IsImage digest image.items) }
         ensures fits { OnOk result
             (fault_of_images self.old.system (self.old.users ++ image.items ∷ []) ≡ None) }
-        ensures refused { IfErr result (IsUserRefusal digest self.old image.items) }
+        ensures refused { IfErr result (IsLayRefusal digest self.old image.items) }
         ensures kept { OnErr result (self.new ≡ self.old) }
     {
         let user = load_by(alloc, image, digest)?;
