@@ -2,11 +2,12 @@
 use Rattle.std.specs.Prelude.{◌≡◌, ◌≢◌, ℕ, ℤ, List, [], length, Option, None}
 use Rattle.cutter.specs.Cutters.{Cut, Held, IsLoaded, OfCut, with_user}
 use Rattle.cutter.specs.declared.fault.CutFault.{CutFault}
-use Rattle.cutter.specs.Faults.{IsImage, IsUserRefusal}
+use Rattle.cutter.specs.Faults.{IsImage, IsOneLine, IsUserRefusal}
 use Rattle.cutter_c.specs.declared.cutting.PathSize.{PathSize}
 use Rattle.cutter_c.specs.Handles.{IsRefusal, Moves}
 use Rattle.cutter_c.specs.Outputs.{IsPlaceIn, OnlyFaultsSet, OnlyOkSets, TellsPlaced}
 use Rattle.image_bytes.specs.declared.digest_test.DigestTest.{DigestTest}
+use Rattle.line_stream.specs.GoodLines.{IsGood}
 use Rattle.word_lookup.specs.Overlays.{fault_of_images}
 
 -- a cutter holds a system's image alone, which may be loaded
@@ -43,9 +44,17 @@ pub record IsCutInto (text : List ℕ) (size : PathSize) (old new : Held) : Type
 abbrev pub size_told : ℕ → ℤ → PathSize
 size_told count total = record { count = count; total = total }
 
--- C is told by 0 how large the path is into which a handle's cutter cut a text, or else why the cutter is as it was, and where the text is
--- at fault
-pub record TellsCut (old new : Option Held) (text : List ℕ) (Refused : List ℕ → CutFault → Type 0) (size_before size : PathSize) (at_before at code : ℕ) : Type 0 where
+-- a text that is cut, and a line that is cut, as words that are not taken apart: good text, and of a line one line of it
+unfoldable pub IsGoodText : List ℕ → Type 0
+IsGoodText text = IsGood text
+
+unfoldable pub IsGoodLine : List ℕ → Type 0
+IsGoodLine line = IsOneLine line × IsGood line
+
+-- C is told by 0 how large the path is into which a handle's cutter cut a text that may be cut, or else why the cutter is as it was, and where
+-- the text is at fault
+pub record TellsCut (old new : Option Held) (text : List ℕ) (Accepted : List ℕ → Type 0) (Refused : List ℕ → CutFault → Type 0) (size_before size : PathSize) (at_before at code : ℕ) : Type 0 where
+  pub accepted : code ≡ 0 → Accepted text
   pub done : code ≡ 0 → Moves old new (IsCutInto text size)
   pub refused : code ≢ 0 → TellsPlaced (IsRefusal old (λ _. Refused text)) (IsPlaceIn text) at_before at code
   pub kept : code ≢ 0 → new ≡ old

@@ -67,9 +67,12 @@ IsPlaceInTexts texts before place fault = place ≡ before
 abbrev pub four : List ℕ → List ℕ → List ℕ → List ℕ → List (List ℕ)
 four node unk bos eos = node ∷ unk ∷ bos ∷ eos ∷ []
 
--- a format's texts, their refusal and the place of their fault, of texts that are lent
+-- a format's texts, what they have to be, their refusal and the place of their fault, of texts that are lent
 abbrev pub texts_lent : Texts → FormatTexts
 texts_lent t = texts_in t.node.now t.unk.now t.bos.now t.eos.now
+
+abbrev pub AreUtf8Lent : Texts → Type 0
+AreUtf8Lent t = AreUtf8 t.node.now t.unk.now t.bos.now t.eos.now
 
 abbrev pub IsRefusedIn : Texts → CutFault → Type 0
 IsRefusedIn t fault = IsSettingRefusal t.node.now t.unk.now t.bos.now t.eos.now fault

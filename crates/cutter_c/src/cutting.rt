@@ -3,7 +3,7 @@
 ghost use Rattle.std.specs.Prelude.{◌≡◌, IfOk, IfErr, OnOk, OnErr};
 ghost use Rattle.cutter.specs.Cutters.{OfCut};
 ghost use Rattle.cutter.specs.Faults.{IsLineRefusal, IsNothingCut, IsTextRefusal};
-ghost use Rattle.cutter_c.specs.Calls.{HasSize, IsCutInto, size_told};
+ghost use Rattle.cutter_c.specs.Calls.{HasSize, IsCutInto, IsGoodLine, IsGoodText, size_told};
 ghost use Rattle.cutter_c.specs.Codes.{told_code};
 ghost use Rattle.cutter_c.specs.Outputs.{IsPlaceFor, IsPlaceIfBad};
 
@@ -22,9 +22,11 @@ pub struct PathSize {
 
 impl Session {
     /// Cuts a line.
+    #[tactic(auto, unfolding(crate::specs::Calls::IsGoodLine))]
     pub fn cut(&mut self, line: &[u8]) -> Result<PathSize, CutFault>
         ensures cut { IfOk result
             (λ size. IsCutInto line.now size self.old.cutter self.new.cutter) }
+        ensures accepted { OnOk result (IsGoodLine line.now) }
         ensures refused { IfErr result (IsLineRefusal line.now) }
         ensures kept { OnErr result (self.new.cutter ≡ self.old.cutter) }
     {
@@ -33,9 +35,11 @@ impl Session {
     }
 
     /// The same of a text.
+    #[tactic(auto, unfolding(crate::specs::Calls::IsGoodText))]
     pub fn cut_text(&mut self, text: &[u8]) -> Result<PathSize, CutFault>
         ensures cut { IfOk result
             (λ size. IsCutInto text.now size self.old.cutter self.new.cutter) }
+        ensures accepted { OnOk result (IsGoodText text.now) }
         ensures refused { IfErr result (IsTextRefusal text.now) }
         ensures kept { OnErr result (self.new.cutter ≡ self.old.cutter) }
     {

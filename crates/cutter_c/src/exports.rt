@@ -2,11 +2,11 @@
 
 ghost use Rattle.std.specs.Prelude.{◌≡◌, ◌≢◌, None};
 ghost use Rattle.cutter.specs.Faults.{IsGroupingRefusal, IsLineRefusal, IsLoadRefusal, IsTextRefusal};
-ghost use Rattle.cutter_c.specs.Calls.{IsExtended, IsLoadedFrom, IsShared, IsUserFault, TellsCut, size_told};
+ghost use Rattle.cutter_c.specs.Calls.{IsExtended, IsGoodLine, IsGoodText, IsLoadedFrom, IsShared, IsUserFault, TellsCut, size_told};
 ghost use Rattle.cutter_c.specs.Handles.{Fills, FillsFrom, IsFillRefusal, IsRefusal, IsShareRefusal, Moves, TellsCall, TellsChange, TellsNumbered, cutter_in};
 ghost use Rattle.cutter_c.specs.Outputs.{OnlyFaultsSet, TellsPlaced};
 ghost use Rattle.image_bytes.specs.declared.digest_test.DigestTest.TheVariants.{Made};
-ghost use Rattle.cutter_c.specs.Settings.{IsPlaceInTexts, IsRegrouped, IsSettingRefusal, SetsFormat, four, place_at, texts_in};
+ghost use Rattle.cutter_c.specs.Settings.{AreUtf8, IsPlaceInTexts, IsRegrouped, IsSettingRefusal, SetsFormat, four, place_at, texts_in};
 
 use crate::codes::{code_told, told};
 use crate::cutting::told_cut;
@@ -89,6 +89,7 @@ pub extern "C" fn kumquatsieve_set_format(
 ) -> u32
     ensures set { (result ≡ 0) → Moves (cutter_in cutter.old) (cutter_in cutter.new)
         (SetsFormat (texts_in node.now unk.now bos.now eos.now)) }
+    ensures accepted { (result ≡ 0) → AreUtf8 node.now unk.now bos.now eos.now }
     ensures refused { (result ≢ 0) → TellsPlaced
         (IsRefusal (cutter_in cutter.old) (λ _. IsSettingRefusal node.now unk.now bos.now eos.now))
         (IsPlaceInTexts (four node.now unk.now bos.now eos.now))
@@ -129,7 +130,8 @@ pub extern "C" fn kumquatsieve_cut(
     total: &mut i64,
     at: &mut usize,
 ) -> u32
-    ensures { TellsCut (cutter_in cutter.old) (cutter_in cutter.new) line.now IsLineRefusal
+    ensures { TellsCut (cutter_in cutter.old) (cutter_in cutter.new)
+        line.now IsGoodLine IsLineRefusal
         (size_told count.old total.old) (size_told count.new total.new) at.old at.new result }
 {
     let answer = cutter.call(alloc, |session| session.cut(line));
@@ -146,7 +148,8 @@ pub extern "C" fn kumquatsieve_cut_text(
     total: &mut i64,
     at: &mut usize,
 ) -> u32
-    ensures { TellsCut (cutter_in cutter.old) (cutter_in cutter.new) text.now IsTextRefusal
+    ensures { TellsCut (cutter_in cutter.old) (cutter_in cutter.new)
+        text.now IsGoodText IsTextRefusal
         (size_told count.old total.old) (size_told count.new total.new) at.old at.new result }
 {
     let answer = cutter.call(alloc, |session| session.cut_text(text));

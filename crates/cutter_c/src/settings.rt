@@ -5,7 +5,7 @@ ghost use Rattle.std.specs.Str.{IsValidUpTo};
 ghost use Rattle.cutter.specs.Faults.{IsGroupingRefusal};
 ghost use Rattle.cutter_c.specs.Handles.{IsRefusal, Moves, cutter_in};
 ghost use Rattle.cutter_c.specs.Outputs.{IsPlaceFor};
-ghost use Rattle.cutter_c.specs.Settings.{IsNoText, IsPlaceLent, IsRefusedIn, IsRegrouped, SetsFormat, part_number, place_at, texts_lent};
+ghost use Rattle.cutter_c.specs.Settings.{AreUtf8Lent, IsNoText, IsPlaceLent, IsRefusedIn, IsRegrouped, SetsFormat, part_number, place_at, texts_lent};
 
 use crate::fault::CallFault;
 use crate::handle::Handle;
@@ -68,6 +68,7 @@ fn set_texts(
     at: &mut usize,
 ) -> Result<(), CutFault>
     ensures read { OnOk result (SetsFormat (texts_lent texts.entry) cutter.old cutter.new) }
+    ensures accepted { OnOk result (AreUtf8Lent texts.entry) }
     ensures refused { IfErr result (IsRefusedIn texts.entry) }
     ensures place { IfErr result (IsPlaceLent texts.entry
         (place_at part.old at.old) (place_at part.new at.new)) }
@@ -105,6 +106,7 @@ pub fn set_format(
 ) -> Result<(), CallFault>
     ensures read { OnOk result (Moves (cutter_in cutter.old) (cutter_in cutter.new)
         (SetsFormat (texts_lent texts.entry))) }
+    ensures accepted { OnOk result (AreUtf8Lent texts.entry) }
     ensures refused { IfErr result (IsRefusal (cutter_in cutter.old)
         (λ _. IsRefusedIn texts.entry)) }
     ensures place { IfErr result (IsPlaceFor (IsPlaceLent texts.entry)

@@ -13,6 +13,7 @@ returns c =
     let at = c.told_cut.new.at in
     let refused : IfErr c.call-answer.result (IsRefusal old (λ _. IsLineRefusal line)) = search rules in
     record {
+      accepted = search rules;
       done = search rules;
       refused = tells_placed old line IsLineRefusal before at (line_placed line before at) c.call-answer.result c.told_cut.result c.told_cut.ensures.code refused c.told_cut.ensures.place;
       kept = search rules;
