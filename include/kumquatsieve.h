@@ -54,8 +54,7 @@ typedef struct kumquatsieve_dictionary kumquatsieve_dictionary;
    dictionary 0, the system's, or 1 and more, the users' in their order; where known is 0 in the system's, whose unknown words come
    behind those of its lexicon. category is the number of the first category of the surface's first character, in the order of char.def.
    total is the cost of the path up to and with the word: that of the words and connections from the line's beginning on, without the
-   connection to its end. feature_length is the length of its feature in bytes. These two were added behind the other fields; with them no
-   other structure changed, and no code. */
+   connection to its end. feature_length is the length of its feature in bytes. */
 typedef struct kumquatsieve_word {
     size_t place;
     size_t start;

@@ -1,4 +1,4 @@
-/* kumquatsieve-cut: cuts the text on standard input into words, by all processors. */
+/* kumquatsieve-cut: cuts the text on standard input into words, on all processors. */
 #include "cut.h"
 #include <signal.h>
 #include <stdlib.h>
