@@ -1,5 +1,6 @@
 """Where the library writes what it answers to a cutter: memory that is used again from line to line."""
 import struct
+import sys
 from ctypes import byref, c_char, c_int64, c_size_t, sizeof
 from typing import Any
 
@@ -12,6 +13,14 @@ assert FIELDS.size == sizeof(Record)
 
 WORDS = LIBRARY.words
 FIRST = ready_size(0)
+
+# Bytes from an address on, of which a part is taken: an array of each length would be a type of its own, which ctypes keeps.
+ALL = c_char * sys.maxsize
+
+
+def bytes_at(address: int, length: int) -> memoryview:
+    """The bytes at an address, which are not copied. `ctypes.string_at` takes lengths of 32 bits alone."""
+    return memoryview(ALL.from_address(address)).cast("B")[:length]
 
 
 class Buffers:

@@ -1,9 +1,9 @@
 """One cutter of the library's."""
 import weakref
-from ctypes import addressof, byref, c_size_t, c_uint32, c_uint64, c_void_p, string_at
+from ctypes import addressof, byref, c_size_t, c_uint32, c_uint64, c_void_p
 from typing import Any, Iterator, List, Optional, Tuple
 
-from ._buffers import FIELDS, Buffers
+from ._buffers import FIELDS, Buffers, bytes_at
 from ._fault import Fault, fault_of, raise_fault
 from ._library import LIBRARY, OK, PARTS, Slot, ready_size
 from ._texts import lines_of
@@ -144,7 +144,7 @@ class Handle:
         self.set_format(texts)
         out, length, lines = c_void_p(), c_size_t(), c_uint64()
         code = CUT_LINES(self._at, text, len(text), addressof(out), addressof(length), addressof(lines))
-        printed = str(string_at(out, length.value), "utf-8")
+        printed = str(bytes_at(out.value or 0, length.value), "utf-8")
         if code != OK:
             return printed, lines.value - 1, fault_of(code)
         return printed, lines.value, None

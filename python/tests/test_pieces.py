@@ -1,7 +1,7 @@
 """Texts that come in pieces of many lines, each of which the library cuts in one call."""
 import io
 import tracemalloc
-from ctypes import c_uint64
+from ctypes import addressof, c_size_t, c_uint64, c_void_p, create_string_buffer
 
 import pytest
 
@@ -125,6 +125,25 @@ def test_out_of_memory_comes_behind_the_lines_before_it(cutter, monkeypatch, way
     assert next(answers)
     with pytest.raises(MemoryError):
         next(answers)
+
+
+@pytest.mark.parametrize("length", [5, 2**31 - 1, 2**31, 2**32 + 5])
+def test_an_output_may_have_any_length(cutter, monkeypatch, length):
+    """One that the library would have to make is counted, and looked at where it begins."""
+    output, taken = create_string_buffer(b"mo\nmo\n"), []
+
+    def told(_at, _text, _length, out, size, lines):
+        c_void_p.from_address(out).value, c_size_t.from_address(size).value, c_uint64.from_address(lines).value = addressof(output), length, 2
+        return 0
+
+    def decoded(given, encoding):
+        taken.append((len(given), bytes(given[:5]), encoding))
+        return "mo\nmo\n"
+
+    monkeypatch.setattr(_handle, "CUT_LINES", told)
+    monkeypatch.setattr(_handle, "str", decoded, raising=False)
+    assert list(cutter.wakati_lines("mo\nmo\n")) == ["mo", "mo"]
+    assert taken == [(length, b"mo\nmo", "utf-8")]
 
 
 class Endless(io.RawIOBase):
