@@ -2,7 +2,7 @@
 import struct
 import sys
 from ctypes import byref, c_char, c_int64, c_size_t, sizeof
-from typing import Any
+from typing import Any, Tuple
 
 from ._fault import raise_fault
 from ._library import LIBRARY, OK, SHORT_BUFFER, Record, ready_size
@@ -17,10 +17,19 @@ FIRST = ready_size(0)
 # Bytes from an address on, of which a part is taken: an array of each length would be a type of its own, which ctypes keeps.
 ALL = c_char * sys.maxsize
 
+# A buffer as a call is given it, its address and how much it may have; and its bytes.
+Buffer = Tuple[Any, Any, memoryview]
+
 
 def bytes_at(address: int, length: int) -> memoryview:
     """The bytes at an address, which are not copied. `ctypes.string_at` takes lengths of 32 bits alone."""
     return memoryview(ALL.from_address(address)).cast("B")[:length]
+
+
+def buffer_of(kind: Any, count: int) -> Buffer:
+    """Room for so many of a kind."""
+    made = (kind * count)()
+    return byref(made), ready_size(count), memoryview(made).cast("B")
 
 
 class Buffers:
@@ -30,16 +39,7 @@ class Buffers:
         self._count, self._length, self._total, self._place = c_size_t(), c_size_t(), c_int64(), c_size_t()
         numbers = self._count, self._total, self._place, self._length
         self.count_at, self.total_at, self.place_at, self._length_at = map(byref, numbers)
-        self._make_text(4096)
-        self._make_records(64)
-
-    def _make_text(self, room: int) -> None:
-        self._text = (c_char * room)()
-        self._text_at, self._room, self._bytes = byref(self._text), ready_size(room), memoryview(self._text).cast("B")
-
-    def _make_records(self, count: int) -> None:
-        self._records = (Record * count)()
-        self._records_at, self._most, self._fields = byref(self._records), ready_size(count), memoryview(self._records).cast("B")
+        self._text, self._records = buffer_of(c_char, 4096), buffer_of(Record, 64)
 
     def total(self) -> int:
         """The number that `total_at` has."""
@@ -51,20 +51,22 @@ class Buffers:
 
     def text_of(self, call: Any, *words: Any) -> str:
         """The text that a call writes into a buffer, which is made longer where it has less room than is needed."""
-        code = call(*words, self._text_at, self._room, self._length_at)
+        at, room, text = self._text
+        code = call(*words, at, room, self._length_at)
         if code == SHORT_BUFFER:
-            self._make_text(2 * self._length.value)
-            code = call(*words, self._text_at, self._room, self._length_at)
+            at, room, text = self._text = buffer_of(c_char, 2 * self._length.value)
+            code = call(*words, at, room, self._length_at)
         if code != OK:
             raise_fault(code)
-        return str(self._bytes[: self._length.value], "utf-8")
+        return str(text[: self._length.value], "utf-8")
 
     def records_of(self, cutter: Any) -> bytes:
         """The records of the words of the line that was cut last, whose number `count_at` has. `FIELDS` reads them."""
-        count = self._count.value
-        if count > len(self._records):
-            self._make_records(2 * count)
-        code = WORDS(cutter, FIRST, self._records_at, self._most, self.count_at)
+        size = self._count.value * FIELDS.size
+        if size > len(self._records[2]):
+            self._records = buffer_of(Record, 2 * self._count.value)
+        at, most, fields = self._records
+        code = WORDS(cutter, FIRST, at, most, self.count_at)
         if code != OK:
             raise_fault(code)
-        return bytes(self._fields[: count * FIELDS.size])
+        return bytes(fields[:size])

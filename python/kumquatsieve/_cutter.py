@@ -1,18 +1,16 @@
 """Cuts lines into words."""
 import os
-from typing import Any, Callable, Dict, List, Optional, Sequence, Tuple, Type, TypeVar, Union
+from typing import Any, Dict, List, Optional, Sequence, Tuple, Type, Union
 
 from ._fields import names_beside, numbered, with_common
 from ._formats import Format, texts_of
-from ._handle import DEFAULT, GROUPING, Answers, Handle, Texts
+from ._handle import DEFAULT, GROUPING, Answers, Handle
 from ._images import Image, Origin, default, origin_of, path_of
 from ._lines import Lines, many_at_once, one_by_one
 from ._loaded import LOADED
 from ._sources import Source
 from ._texts import line_of
 from ._words import TAKEN, Words, words_of
-
-T = TypeVar("T")
 
 
 class Cutter:
@@ -55,7 +53,7 @@ class Cutter:
         self._names = with_common(self._fields)
         self._handles = LOADED.new(self._origin, image, users, skip_digest)
         self._texts = texts_of(format)
-        self._with_handle(lambda handle: handle.set_format(self._texts))
+        self._handles.call(Handle.set_format, self._texts)
         self.set_grouping(grouping)
 
     @property
@@ -97,52 +95,28 @@ class Cutter:
         later."""
         if not 0 <= grouping < 2**32:
             raise ValueError(f"grouping is 0 to 1,000, and not {grouping}")
-        self._with_handle(lambda handle: handle.set_grouping(grouping))
+        self._handles.call(Handle.set_grouping, grouping)
         self._handles.grouping = grouping
-
-    def _with_handle(self, call: Callable[[Handle], T]) -> T:
-        handle = self._handles.take()
-        try:
-            return call(handle)
-        finally:
-            self._handles.give(handle)
 
     def cut(self, line: str) -> Words:
         """The words of a line. Its own end, as a file's lines have it, is dropped; another line feed is refused."""
         return self._words(line_of(line))
 
     def _words(self, text: bytes) -> Words:
-        handle = self._handles.take()
-        try:
-            told = handle.told(text)
-        finally:
-            self._handles.give(handle)
-        return words_of(text, told, self._names)
+        return words_of(text, self._handles.call(Handle.told, text), self._names)
 
     def wakati(self, line: str) -> List[str]:
         """The surfaces of a line's words."""
-        text = line_of(line)
-        handle = self._handles.take()
-        try:
-            return handle.surfaces(text)
-        finally:
-            self._handles.give(handle)
+        return self._handles.call(Handle.surfaces, line_of(line))
 
     def parse(self, line: str) -> str:
         """The text of a line in the cutter's format."""
-        return self._printed(line_of(line), self._texts)
+        return self._handles.call(Handle.printed, line_of(line), self._texts)
 
     def format(self, line: str, node: Optional[str] = None, unk: Optional[str] = None, bos: str = "", eos: str = "EOS\\n") -> str:
         """The text of a line in another format than the cutter's, whose parts are those of `Format`. Without `node` a line for each word,
         with its feature."""
-        return self._printed(line_of(line), DEFAULT if node is None else texts_of(Format(node, unk, bos, eos)))
-
-    def _printed(self, text: bytes, texts: Texts) -> str:
-        handle = self._handles.take()
-        try:
-            return handle.printed(text, texts)
-        finally:
-            self._handles.give(handle)
+        return self._handles.call(Handle.printed, line_of(line), DEFAULT if node is None else texts_of(Format(node, unk, bos, eos)))
 
     def lines(self, source: Source, errors: str = "strict") -> Lines[Words]:
         """The words of each line of a text, of a file or of an iterable of lines, as soon as the line is there.
@@ -163,10 +137,10 @@ class Cutter:
         return Lines(errors, many_at_once(source, self._printed_lines))
 
     def _joined(self, text: bytes) -> Answers:
-        return self._with_handle(lambda handle: handle.joined_lines(text))
+        return self._handles.call(Handle.joined_lines, text)
 
     def _printed_lines(self, text: bytes) -> Answers:
-        return self._with_handle(lambda handle: handle.printed_lines(text, self._texts))
+        return self._handles.call(Handle.printed_lines, text, self._texts)
 
 
 def names_of(image: Image, fields: Optional[Sequence[Optional[str]]]) -> Dict[str, int]:

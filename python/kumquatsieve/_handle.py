@@ -1,5 +1,6 @@
 """One cutter of the library's."""
 import weakref
+from contextvars import copy_context
 from ctypes import addressof, byref, c_size_t, c_uint32, c_uint64, c_void_p
 from typing import Any, Iterator, List, Optional, Tuple
 
@@ -36,20 +37,37 @@ CUT, CUT_LINES, PRINT, FEATURE = LIBRARY.cut, LIBRARY.cut_lines, LIBRARY.copy_pr
 
 
 class Handle:
-    """A cutter of the library's, with the memory that its answers are written to. It is used by one thread at a time.
+    """A cutter of the library's, with the memory that its answers are written to. It is used by one thread at a time, `owner`, in a context of
+    Python's that is made for each call.
 
-    `close` gives back what it holds, and is called where nobody has the handle any more; but not when Python ends, since a thread may still
-    cut then.
+    What it holds is given back by `close`, and else by `ending` where nobody has the handle any more; but not when Python ends, since a thread may
+    still cut then.
+
+    A handler of signals may raise an exception between any two steps, and the handle cuts on. So what is known of the library's state is forgotten
+    before that is changed, and known again behind it.
     """
 
     def __init__(self) -> None:
         self._slot = Slot()
         self._at = byref(self._slot)
         self._buffers = Buffers()
-        self._texts = DEFAULT
-        self.grouping = GROUPING
-        self.close = weakref.finalize(self, LIBRARY.free, self._slot)
-        self.close.atexit = False
+        self._texts: Optional[Texts] = DEFAULT
+        self.grouping: Optional[int] = GROUPING
+        self.owner, self.context = 0, copy_context()
+        self.ending = weakref.finalize(self, LIBRARY.free, self._slot)
+        self.ending.atexit = False
+
+    def close(self) -> None:
+        """Gives back what it holds, and nothing the second time."""
+        LIBRARY.free(self._slot)
+
+    def runs(self) -> bool:
+        """Whether its owner makes a call with it now: a context that is entered can't be entered."""
+        try:
+            self.context.run(bool)
+        except RuntimeError:
+            return True
+        return False
 
     def load(self, image: Any, length: int, skip_digest: bool) -> None:
         """Fills an empty handle with a system dictionary."""
@@ -76,6 +94,7 @@ class Handle:
 
     def set_grouping(self, grouping: int) -> None:
         """How many characters may follow the first one of a grouped unknown word."""
+        self.grouping = None
         code = LIBRARY.set_grouping(self._at, grouping)
         if code != OK:
             raise_fault(code)
@@ -177,6 +196,7 @@ class Handle:
             return
         part, at = c_uint32(), c_size_t()
         lengths = [piece for text in texts for piece in (text, len(text))]
+        self._texts = None
         code = LIBRARY.set_format(self._at, *lengths, addressof(part), addressof(at))
         if code in IN_FORMAT:
             raise_fault(code, at.value, PARTS[part.value])

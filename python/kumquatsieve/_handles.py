@@ -1,101 +1,117 @@
 """Handles for the threads that call one cutter."""
 import os
-import threading
+import time
 import weakref
+from contextvars import copy_context
 from threading import get_ident
-from typing import Dict, List
+from typing import Any, Callable, List, Set, TypeVar
 
+from ._fault import Fault
 from ._handle import Handle
+
+T = TypeVar("T")
+
+# How often `close` looks whether the calls of other threads have ended, in seconds.
+LOOK = 0.001
 
 
 class Handles:
     """Handles over the same dictionaries. Each call takes one and gives it back, so that as many are made as calls run at once.
 
-    The first one never cuts: the others are shared from it. So it is at rest whenever a process forks, whatever the threads do. A handle goes
-    from list to list in steps that no thread can divide, and stands in one of them at most; the lock is for what is made and closed.
+    A handler of signals may raise an exception between any two steps of a thread, and so behind the last one that Python makes sure of. So no step
+    here is owed for another one: there is no lock to be let go and no count to be put right. A handle that a call has stands in no list, and where
+    an exception keeps it from being given back it goes as what nobody holds. Whether a call has a handle is told by a context, which `Context.run`
+    enters, and leaves whatever the call raises; both are within one step of Python's, so no handler comes between.
+
+    The first one never cuts: the others are shared from it. So it is at rest whenever a process forks, whatever the threads do.
     """
 
     def __init__(self, first: Handle) -> None:
         self.grouping = first.grouping
         self._first = first
         self._free: List[Handle] = []
-        self._used: Dict[Handle, int] = {}
+        self._made: Set["weakref.ref[Handle]"] = set()
         self._closed = False
-        self._begin()
         ALL.add(self)
 
-    def _begin(self) -> None:
-        # A handler of signals may call the cutter while its thread has the lock.
-        self._lock = threading.RLock()
-        self._returned = threading.Condition(self._lock)
-
-    def take(self) -> Handle:
-        """A handle for this thread, which gives it back."""
+    def call(self, what: Callable[..., T], *given: Any) -> T:
+        """What a method of Handle's answers, with a handle that no other call has."""
         try:
             handle = self._free.pop()
         except IndexError:
             handle = self._new()
-        self._used[handle] = get_ident()
-        if self._closed or handle.grouping != self.grouping:
-            self._adapt(handle)
-        return handle
-
-    def _adapt(self, handle: Handle) -> None:
-        """Sets the grouping of a handle that was just taken, if the cutter wasn't closed in the meantime."""
+        handle.owner = get_ident()
+        handle.context = context = copy_context()
         try:
+            return context.run(self._within, what, handle, given)
+        finally:
+            self._free.append(handle)
+            if self._closed:
+                self._clear()
+
+    def _within(self, what: Callable[..., T], handle: Handle, given: Any) -> T:
+        """The call itself. Its context is entered, so `close`, which says that it closes and then looks for contexts, finds this one, or this call
+        finds that it closes."""
+        if self._closed or handle.grouping != self.grouping:
             self.look()
             handle.set_grouping(self.grouping)
-        except BaseException:
-            self.give(handle)
-            raise
-
-    def give(self, handle: Handle) -> None:
-        """Takes a handle back."""
-        del self._used[handle]
-        self._free.append(handle)
-        if self._closed:
-            self._clear()
+        return what(handle, *given)
 
     def share(self) -> "Handles":
         """Others over the same dictionaries, with the same grouping, which are closed by themselves."""
-        other = Handles(self._new())
+        other = Handles(self._shared())
         other.grouping = self.grouping
         return other
 
     def _new(self) -> Handle:
-        with self._lock:
-            self.look()
+        handle = self._shared()
+        self._made.add(weakref.ref(handle, self._made.discard))
+        return handle
+
+    def _shared(self) -> Handle:
+        self.look()
+        try:
             return self._first.share()
+        except Fault:
+            # It was closed in the meantime.
+            self.look()
+            raise
 
     def look(self) -> None:
         """What is closed says so."""
         if self._closed:
-            raise ValueError("the cutter is closed")
+            raise ValueError("the cutter is closed") from None
 
     def close(self) -> None:
         """Gives back what all of them hold, after the calls of other threads have ended. A call of this thread's own, out of which a
         handler of signals may have come here, gives back its own handle."""
-        with self._lock:
-            self._closed = True
-            self._first.close()
-            self._clear()
-            while any(owner != get_ident() for owner in list(self._used.values())):
-                self._returned.wait()
+        self._closed = True
+        self._first.close()
+        while not self._clear():
+            time.sleep(LOOK)
 
-    def _clear(self) -> None:
-        """Of a closed cutter, gives back what the free ones hold."""
-        with self._lock:
-            while self._free:
-                self._free.pop().close()
-            self._returned.notify_all()
+    def _clear(self) -> bool:
+        """Of a closed cutter, gives back what the handles hold that no call has; whether no call of another thread has one."""
+        self._free.clear()
+        running = set(self.running())
+        for handle in self._there():
+            if handle not in running:
+                handle.close()
+        return all(handle.owner == get_ident() for handle in running)
+
+    def running(self) -> List[Handle]:
+        """Those that a call has."""
+        return [handle for handle in self._there() if handle.runs()]
+
+    def _there(self) -> List[Handle]:
+        return [handle for handle in [known() for known in list(self._made)] if handle is not None]
 
     def after_fork(self) -> None:
         """In the child of a fork: what other threads had stands in the middle of a call for ever, so it is neither used nor freed."""
-        self._begin()
-        for handle, owner in list(self._used.items()):
-            if owner != get_ident():
-                handle.close.detach()
-                del self._used[handle]
+        for handle in self.running():
+            if handle.owner != get_ident():
+                handle.ending.detach()
+                self._made.discard(weakref.ref(handle))
 
 
 ALL: "weakref.WeakSet[Handles]" = weakref.WeakSet()

@@ -64,9 +64,9 @@ def test_close_waits_for_the_calls_that_run(system, call):
     """While they do, this thread runs too."""
     cutter, done = Cutter(system, format=Format("%m", eos="")), []
     threads = [begun(lambda: done.append("".join(call(cutter, LONG)).replace(" ", ""))) for _ in range(2)]
-    assert len(cutter._handles._used) == 2
+    assert len(cutter._handles.running()) == 2
     cutter.close()
-    assert cutter._handles._used == {}
+    assert cutter._handles.running() == []
     for thread in threads:
         thread.join(WAIT)
     assert done == [LONG, LONG] and cutter._handles._free == []
@@ -145,12 +145,12 @@ def test_a_copy_shares_the_dictionaries_and_is_closed_by_itself(system, user, ag
 def test_what_nobody_has_any_more_is_given_back(system):
     cutter = Cutter(system)
     cutter.wakati(LINE)
-    closes = [handle.close for handle in (cutter._handles._first, *cutter._handles._free)]
+    ends = [handle.ending for handle in (cutter._handles._first, *cutter._handles._free)]
     gone = weakref.ref(cutter)
     del cutter
     gc.collect()
     assert gone() is None
-    assert [close.alive for close in closes] == [False, False]
+    assert [end.alive for end in ends] == [False, False]
 
 
 def status_of(child):

@@ -43,7 +43,7 @@ def test_threads_get_what_one_gets(system, user, made_up, often):
     alone = [CALLS[call](cutter, line) for call, line in tasks]
     with ThreadPoolExecutor(THREADS) as threads:
         assert list(threads.map(lambda task: CALLS[task[0]](cutter, task[1]), tasks)) == alone
-    assert len(cutter._handles._free) <= THREADS and not cutter._handles._used
+    assert len(cutter._handles._free) <= THREADS and not cutter._handles.running()
 
 
 @pytest.mark.parametrize("call", [Cutter.wakati_lines, Cutter.parse_lines])
