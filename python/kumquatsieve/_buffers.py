@@ -36,26 +36,18 @@ class Buffers:
     """A text, the words of a line, and the numbers that tell how many of each there are; what a call is given for each is made once."""
 
     def __init__(self) -> None:
-        self._count, self._length, self._total, self._place = c_size_t(), c_size_t(), c_int64(), c_size_t()
-        numbers = self._count, self._total, self._place, self._length
-        self.count_at, self.total_at, self.place_at, self._length_at = map(byref, numbers)
+        self.total, self.place, self._count, self._length = c_int64(), c_size_t(), c_size_t(), c_size_t()
+        numbers = self.total, self.place, self._count, self._length
+        self.total_at, self.place_at, self.count_at, self._length_at = map(byref, numbers)
         self._text, self._records = buffer_of(c_char, 4096), buffer_of(Record, 64)
 
-    def total(self) -> int:
-        """The number that `total_at` has."""
-        return self._total.value
-
-    def place(self) -> int:
-        """The number that `place_at` has."""
-        return self._place.value
-
-    def text_of(self, call: Any, *words: Any) -> str:
+    def text_of(self, call: Any, cutter: Any) -> str:
         """The text that a call writes into a buffer, which is made longer where it has less room than is needed."""
         at, room, text = self._text
-        code = call(*words, at, room, self._length_at)
+        code = call(cutter, at, room, self._length_at)
         if code == SHORT_BUFFER:
             at, room, text = self._text = buffer_of(c_char, 2 * self._length.value)
-            code = call(*words, at, room, self._length_at)
+            code = call(cutter, at, room, self._length_at)
         if code != OK:
             raise_fault(code)
         return str(text[: self._length.value], "utf-8")

@@ -4,7 +4,7 @@ from typing import Any, Dict, List, Optional, Sequence, Tuple, Type, Union
 
 from ._fields import names_beside, numbered, with_common
 from ._formats import Format, texts_of
-from ._handle import DEFAULT, GROUPING, Answers, Handle
+from ._handle import DEFAULT, GROUPING, SURFACES, WAKATI, WORDS, Answers, Handle
 from ._images import Image, Origin, default, origin_of, path_of
 from ._lines import Lines, many_at_once, one_by_one
 from ._loaded import LOADED
@@ -53,7 +53,7 @@ class Cutter:
         self._names = with_common(self._fields)
         self._handles = LOADED.new(self._origin, image, users, skip_digest)
         self._texts = texts_of(format)
-        self._handles.call(Handle.set_format, self._texts)
+        self._handles.call(Handle.printed, b"", self._texts)
         self.set_grouping(grouping)
 
     @property
@@ -95,19 +95,18 @@ class Cutter:
         later."""
         if not 0 <= grouping < 2**32:
             raise ValueError(f"grouping is 0 to 1,000, and not {grouping}")
-        self._handles.call(Handle.set_grouping, grouping)
-        self._handles.grouping = grouping
+        self._handles.set_grouping(grouping)
 
     def cut(self, line: str) -> Words:
         """The words of a line. Its own end, as a file's lines have it, is dropped; another line feed is refused."""
         return self._words(line_of(line))
 
     def _words(self, text: bytes) -> Words:
-        return words_of(text, self._handles.call(Handle.told, text), self._names)
+        return words_of(text, self._handles.call(Handle.told, text, WORDS), self._names)
 
     def wakati(self, line: str) -> List[str]:
         """The surfaces of a line's words."""
-        return self._handles.call(Handle.surfaces, line_of(line))
+        return self._handles.call(Handle.surfaces, line_of(line), SURFACES)
 
     def parse(self, line: str) -> str:
         """The text of a line in the cutter's format."""
@@ -137,7 +136,7 @@ class Cutter:
         return Lines(errors, many_at_once(source, self._printed_lines))
 
     def _joined(self, text: bytes) -> Answers:
-        return self._handles.call(Handle.joined_lines, text)
+        return self._handles.call(Handle.joined_lines, text, WAKATI)
 
     def _printed_lines(self, text: bytes) -> Answers:
         return self._handles.call(Handle.printed_lines, text, self._texts)

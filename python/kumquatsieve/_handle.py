@@ -2,6 +2,7 @@
 import weakref
 from contextvars import copy_context
 from ctypes import addressof, byref, c_size_t, c_uint32, c_uint64, c_void_p
+from functools import partial
 from typing import Any, Iterator, List, Optional, Tuple
 
 from ._buffers import FIELDS, Buffers, bytes_at
@@ -34,6 +35,11 @@ WORDS: Texts = (b"%m\\n%H\\n", b"%m\\n%H\\n", b"", b"")
 MARK = "\uffff"
 
 CUT, CUT_LINES, PRINT, FEATURE = LIBRARY.cut, LIBRARY.cut_lines, LIBRARY.copy_print, LIBRARY.copy_feature
+
+
+def feature(number: Any, cutter: Any, *room: Any) -> int:
+    """The library's call for the feature of a word, with its number first."""
+    return int(FEATURE(cutter, number, *room))
 
 
 class Handle:
@@ -92,7 +98,7 @@ class Handle:
             raise_fault(code)
         return other
 
-    def set_grouping(self, grouping: int) -> None:
+    def set_grouping(self, grouping: int, _: object = None) -> None:
         """How many characters may follow the first one of a grouped unknown word."""
         self.grouping = None
         code = LIBRARY.set_grouping(self._at, grouping)
@@ -100,12 +106,12 @@ class Handle:
             raise_fault(code)
         self.grouping = grouping
 
-    def told(self, line: bytes) -> Told:
-        """What is told of the words of a line."""
+    def told(self, line: bytes, texts: Texts) -> Told:
+        """What is told of the words of a line, in the texts `WORDS`."""
         self._cut(line)
-        total = self._buffers.total()
+        total = self._buffers.total.value
         records = self._buffers.records_of(self._at)
-        lines = self._lines(WORDS)
+        lines = self._lines(texts)
         lines.pop()
         if FIELDS.size * len(lines) != 2 * len(records):
             lines = list(self._told_apart(line, records))
@@ -115,12 +121,12 @@ class Handle:
         """The same where a line feed stands in a feature."""
         for number, (_, start, end, *_) in enumerate(FIELDS.iter_unpack(records)):
             yield line[start:end].decode()
-            yield self._buffers.text_of(FEATURE, self._at, ready_size(number))
+            yield self._buffers.text_of(partial(feature, ready_size(number)), self._at)
 
-    def surfaces(self, line: bytes) -> List[str]:
-        """The surfaces of a line's words."""
+    def surfaces(self, line: bytes, texts: Texts) -> List[str]:
+        """The surfaces of a line's words, in the texts `SURFACES`."""
         self._cut(line)
-        lines = self._lines(SURFACES)
+        lines = self._lines(texts)
         lines.pop()
         return lines
 
@@ -131,13 +137,13 @@ class Handle:
         self._cut(line)
         return self._buffers.text_of(PRINT, self._at)
 
-    def joined_lines(self, text: bytes) -> Answers:
-        """The surfaces of each line of a text with a blank between two.
+    def joined_lines(self, text: bytes, texts: Texts) -> Answers:
+        """The surfaces of each line of a text with a blank between two, in the texts `WAKATI`.
 
         Each line prints a line feed at its end, and no other: a surface is a part of a line, so it has none. What is before it is a blank
         where the line has words, and that blank is dropped; or else the line feed of the line before.
         """
-        printed, _, fault = self._cut_lines(text, WAKATI)
+        printed, _, fault = self._cut_lines(text, texts)
         answers = printed.replace(" \n", "\n").split("\n")
         answers.pop()
         return answers, fault
@@ -182,7 +188,7 @@ class Handle:
         buffers = self._buffers
         code = CUT(self._at, line, ready_size(len(line)), buffers.count_at, buffers.total_at, buffers.place_at)
         if code != OK:
-            raise_fault(code, at=buffers.place() if code in IN_LINE else None)
+            raise_fault(code, at=buffers.place.value if code in IN_LINE else None)
 
     def _lines(self, texts: Texts) -> List[str]:
         """The words that were cut last in a format whose texts end in line feeds, and the empty text behind the last one."""

@@ -4,11 +4,13 @@ import time
 import weakref
 from contextvars import copy_context
 from threading import get_ident
-from typing import Any, Callable, List, Set, TypeVar
+from typing import Callable, List, Set, TypeVar
 
 from ._fault import Fault
 from ._handle import Handle
 
+A = TypeVar("A")
+B = TypeVar("B")
 T = TypeVar("T")
 
 # How often `close` looks whether the calls of other threads have ended, in seconds.
@@ -34,8 +36,8 @@ class Handles:
         self._closed = False
         ALL.add(self)
 
-    def call(self, what: Callable[..., T], *given: Any) -> T:
-        """What a method of Handle's answers, with a handle that no other call has."""
+    def call(self, what: Callable[[Handle, A, B], T], first: A, second: B) -> T:
+        """What a method of Handle's answers to what it is given, with a handle that no other call has."""
         try:
             handle = self._free.pop()
         except IndexError:
@@ -43,19 +45,24 @@ class Handles:
         handle.owner = get_ident()
         handle.context = context = copy_context()
         try:
-            return context.run(self._within, what, handle, given)
+            return context.run(self._within, what, handle, first, second)
         finally:
             self._free.append(handle)
             if self._closed:
                 self._clear()
 
-    def _within(self, what: Callable[..., T], handle: Handle, given: Any) -> T:
+    def _within(self, what: Callable[[Handle, A, B], T], handle: Handle, first: A, second: B) -> T:
         """The call itself. Its context is entered, so `close`, which says that it closes and then looks for contexts, finds this one, or this call
         finds that it closes."""
         if self._closed or handle.grouping != self.grouping:
             self.look()
             handle.set_grouping(self.grouping)
-        return what(handle, *given)
+        return what(handle, first, second)
+
+    def set_grouping(self, grouping: int) -> None:
+        """How many characters may follow the first one of a grouped unknown word, for the calls that begin later."""
+        self.call(Handle.set_grouping, grouping, None)
+        self.grouping = grouping
 
     def share(self) -> "Handles":
         """Others over the same dictionaries, with the same grouping, which are closed by themselves."""
