@@ -1,14 +1,15 @@
 """Cuts lines into words."""
 import os
+from operator import index
 from typing import Any, Dict, List, Optional, Sequence, Tuple, Type, Union
 
 from ._fields import names_beside, numbered, with_common
-from ._formats import Format, texts_of
-from ._handle import DEFAULT, GROUPING, SURFACES, WAKATI, WORDS, Answers, Handle
+from ._formats import NODE, Format, texts_of
+from ._handle import GROUPING, SURFACES, WAKATI, WORDS, Answers, Handle
 from ._images import Image, Origin, default, origin_of, path_of
 from ._lines import Lines, many_at_once, one_by_one
 from ._loaded import LOADED
-from ._sources import Source
+from ._sources import TEXTS, Source, checked
 from ._texts import line_of
 from ._words import TAKEN, Words, words_of
 
@@ -43,7 +44,7 @@ class Cutter:
         *,
         skip_digest: bool = False,
     ) -> None:
-        if isinstance(users, (str, bytes, os.PathLike)):
+        if isinstance(users, (*TEXTS, os.PathLike)):
             raise TypeError("users are several images, in a list")
         if isinstance(fields, (str, bytes)):
             raise TypeError("fields are several names, in a list")
@@ -93,6 +94,7 @@ class Cutter:
     def set_grouping(self, grouping: int) -> None:
         """How many characters may follow the first one of a grouped unknown word, at most 1,000. It holds for the calls that begin
         later."""
+        grouping = index(grouping)
         if not 0 <= grouping < 2**32:
             raise ValueError(f"grouping is 0 to 1,000, and not {grouping}")
         self._handles.set_grouping(grouping)
@@ -115,7 +117,7 @@ class Cutter:
     def format(self, line: str, node: Optional[str] = None, unk: Optional[str] = None, bos: str = "", eos: str = "EOS\\n") -> str:
         """The text of a line in another format than the cutter's, whose parts are those of `Format`. Without `node` a line for each word,
         with its feature."""
-        return self._handles.call(Handle.printed, line_of(line), DEFAULT if node is None else texts_of(Format(node, unk, bos, eos)))
+        return self._handles.call(Handle.printed, line_of(line), texts_of(Format(NODE if node is None else node, unk, bos, eos)))
 
     def lines(self, source: Source, errors: str = "strict") -> Lines[Words]:
         """The words of each line of a text, of a file or of an iterable of lines, as soon as the line is there.
@@ -123,17 +125,17 @@ class Cutter:
         A fault says the line's number in `place`. What is no UTF-8 is refused; with errors="replace" it is U+FFFD, as Python's decoder has
         it, and `replaced` of the answer counts them.
         """
-        return Lines(errors, one_by_one(source, self._words))
+        return Lines(errors, one_by_one(checked(source), self._words))
 
     def wakati_lines(self, source: Source, errors: str = "strict") -> Lines[str]:
         """The surfaces of each line with a blank between two, as `lines` has it. About a megabyte is read at once, and cut by one call of
         the library, during which other threads run."""
-        return Lines(errors, many_at_once(source, self._joined))
+        return Lines(errors, many_at_once(checked(source), self._joined))
 
     def parse_lines(self, source: Source, errors: str = "strict") -> Lines[str]:
         """The text of each line in the cutter's format, as `wakati_lines` has it. Joined it is what `jseg` prints for the source, but for
         carriage returns at line ends, which `jseg` takes for characters."""
-        return Lines(errors, many_at_once(source, self._printed_lines))
+        return Lines(errors, many_at_once(checked(source), self._printed_lines))
 
     def _joined(self, text: bytes) -> Answers:
         return self._handles.call(Handle.joined_lines, text, WAKATI)

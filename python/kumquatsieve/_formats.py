@@ -4,6 +4,9 @@ from typing import NamedTuple, Optional, Union
 from ._handle import DEFAULT, WAKATI, Texts
 from ._texts import encoded
 
+# The text of a word where none is given.
+NODE = DEFAULT[0].decode()
+
 
 class Format(NamedTuple):
     """An output format in MeCab's items and escapes: `node` for a known word, `unk` for an unknown one (as `node` where it isn't given),
@@ -23,5 +26,9 @@ def texts_of(format: Union[None, str, Format]) -> Texts:
         if format != "wakati":
             raise ValueError(f"{format!r} is no format: it is 'wakati' or a Format")
         return WAKATI
-    node, unk, bos, eos = format
-    return encoded(node), encoded(node if unk is None else unk), encoded(bos), encoded(eos)
+    try:
+        node, unk, bos, eos = format
+    except (TypeError, ValueError):
+        raise ValueError(f"{format!r} is no format: it is 'wakati' or a Format") from None
+    node, unk, bos, eos = (encoded(text, "a format's text") for text in (node, node if unk is None else unk, bos, eos))
+    return node, unk, bos, eos

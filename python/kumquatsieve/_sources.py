@@ -2,7 +2,7 @@
 import mmap
 from typing import IO, Any, Iterable, Iterator, List, Union
 
-from ._fault import Fault, fault_of
+from ._fault import fault_of
 from ._library import LINE_FEED
 from ._texts import Encoder, lines_of
 
@@ -15,6 +15,13 @@ TEXTS = (str, bytes, bytearray, memoryview, mmap.mmap)
 # with it.
 PIECE = 1_000_000
 TOO_LONG = 2**20 + 2
+
+
+def checked(source: Source) -> Source:
+    """A source, where it is one."""
+    if isinstance(source, TEXTS) or any(hasattr(source, name) for name in ("read", "__iter__", "__getitem__")):
+        return source
+    raise TypeError(f"a source is a text, an open file or lines, not {type(source).__name__}")
 
 
 def lines_as_they_come(source: Source, encoder: Encoder) -> Iterator[bytes]:
@@ -44,7 +51,13 @@ def pieces(source: Source, encoder: Encoder) -> Iterator[bytes]:
 
 
 def slices(text: Any) -> Iterator[Any]:
-    return (text[at : at + PIECE] for at in range(0, len(text), PIECE))
+    """Parts of a text, which may not get longer or shorter meanwhile, as a bytearray may."""
+    size = len(text)
+    for at in range(0, size, PIECE):
+        part = text[at : at + PIECE]
+        if len(text) != size:
+            raise RuntimeError(f"the {type(text).__name__} changed its size while it was cut")
+        yield part
 
 
 def reads(file: Any) -> Iterator[Any]:
@@ -78,20 +91,21 @@ def with_plain_ends(text: bytes) -> bytes:
 
 
 def batches(lines: Iterable[Union[str, bytes]], encoder: Encoder) -> Iterator[bytes]:
-    """Lines, so many at once that they are about a megabyte. Those before an item that is no line, or more than one, go first."""
+    """Lines, so many at once that they are about a megabyte. Those before an item that is no line, or more than one, go first, and so do those
+    before an exception of the iterable's own."""
     batch: List[bytes] = []
     size = 0
-    for number, item in enumerate(lines, 1):
-        try:
+    try:
+        for number, item in enumerate(lines, 1):
             line = one_line(item, number, encoder)
-        except (TypeError, Fault):
-            yield b"".join(batch)
-            raise
-        batch += line, b"\n"
-        size += len(line)
-        if size >= PIECE:
-            yield b"".join(batch)
-            batch, size = [], 0
+            batch += line, b"\n"
+            size += len(line)
+            if size >= PIECE:
+                yield b"".join(batch)
+                batch, size = [], 0
+    except Exception:
+        yield b"".join(batch)
+        raise
     yield b"".join(batch)
 
 

@@ -4,25 +4,27 @@ from typing import List
 
 SURROGATE = re.compile("[\ud800-\udfff]")
 ERRORS = ("strict", "replace")
+# A caller's own kind of str may have another method of this name.
+ENCODE = str.encode
 
 
-def encoded(text: str) -> bytes:
+def encoded(text: str, what: str = "a line") -> bytes:
     """A text in UTF-8. Half of a pair of surrogates is no character, and the library refuses what is made of it."""
     try:
-        return text.encode()
+        return ENCODE(text)
     except UnicodeEncodeError:
-        return text.encode("utf-8", "surrogatepass")
-    except AttributeError:
-        raise TypeError(f"a line is a str, not {type(text).__name__}") from None
+        return ENCODE(text, "utf-8", "surrogatepass")
+    except TypeError:
+        raise TypeError(f"{what} is a str, not {type(text).__name__}") from None
 
 
 def line_of(line: str) -> bytes:
-    """A line in UTF-8 without its own end."""
+    """A line in UTF-8 without its own end. A caller's own kind of str is taken for its text, and what is like one for none."""
     try:
-        text = line.encode()
-    except (UnicodeEncodeError, AttributeError):
+        text = ENCODE(line)
+    except (UnicodeEncodeError, TypeError):
         text = encoded(line)
-    return without_end(text) if "\n" in line else text
+    return without_end(text) if b"\n" in text else text
 
 
 def without_end(line: bytes) -> bytes:

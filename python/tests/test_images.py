@@ -78,9 +78,10 @@ def test_what_is_no_image_is_named(image):
         Cutter(image)
 
 
-def test_users_are_a_list(system, user):
-    with pytest.raises(TypeError, match="list"):
-        Cutter(system, user)
+@pytest.mark.parametrize("form", [str, Path, read, FORMS["bytearray"], FORMS["memoryview"], FORMS["mmap to read"]])
+def test_users_are_a_list(system, user, form):
+    with pytest.raises(TypeError, match="users are several images, in a list"):
+        Cutter(system, form(user))
 
 
 @pytest.mark.parametrize("image", [b"", bytearray(), memoryview(b"")])

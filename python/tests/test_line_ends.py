@@ -1,4 +1,6 @@
 """A line's own end is no part of it, and another line is refused."""
+from collections import UserString
+
 import pytest
 
 from kumquatsieve import Cutter, Fault
@@ -24,7 +26,26 @@ KEPT = [
     ("すもも\x0b", "すもも\x0b"),
     ("すもも\x85\n", "すもも\x85"),
 ]
-NO_LINES = [None, 1.5, b"a", ["a"]]
+
+
+class Encodes:
+    """What has a str's method, as a tag of HTML may."""
+
+    def encode(self, *_):
+        return b"a"
+
+
+class Own(str):
+    """A caller's own kind of str, which shows itself otherwise."""
+
+    def encode(self, *_):
+        return b"other"
+
+    def __contains__(self, _):
+        return False
+
+
+NO_LINES = [None, 1.5, b"a", ["a"], UserString("a"), Encodes()]
 
 CALLS = [
     lambda cutter, line: [word.surface for word in cutter.cut(line)],
@@ -55,6 +76,12 @@ def test_more_than_one_line_is_refused(cutter, call, line):
 @pytest.mark.parametrize("line, kept", KEPT)
 def test_other_characters_are_kept(cutter, call, line, kept):
     assert "".join(call(cutter, line)) == kept
+
+
+@pytest.mark.parametrize("call", CALLS)
+def test_a_kind_of_str_is_its_text(cutter, call):
+    assert call(cutter, Own("すもももも\n")) == WORDS
+    assert list(cutter.wakati_lines([Own("すもももも\n")])) == list(cutter.wakati_lines(Own("すもももも"))) == [" ".join(WORDS)]
 
 
 @pytest.mark.parametrize("call", CALLS)

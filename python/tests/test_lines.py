@@ -3,6 +3,8 @@ import io
 import mmap
 import os
 import pickle
+import re
+from pathlib import Path
 
 import pytest
 
@@ -123,6 +125,39 @@ def test_what_is_no_line_is_named(cutter, way, bad):
         next(answers)
 
 
+@pytest.mark.parametrize("source", [None, 3, Path("text.txt"), object()])
+@pytest.mark.parametrize("way", WAYS)
+def test_what_is_no_source_is_named_at_once(cutter, way, source):
+    with pytest.raises(TypeError, match=f"a source is a text, an open file or lines, not {type(source).__name__}"):
+        BEGIN[way](cutter, source)
+
+
+@pytest.mark.parametrize("way", WAYS)
+def test_an_exception_of_the_source_comes_behind_the_lines_before_it(cutter, way):
+    def source():
+        yield from LINES[:2]
+        raise OSError("the source's")
+
+    answers = BEGIN[way](cutter, source())
+    assert len([next(answers), next(answers)]) == 2
+    with pytest.raises(OSError, match="the source's"):
+        next(answers)
+    with pytest.raises(StopIteration):
+        next(answers)
+
+
+@pytest.mark.parametrize("change", [bytearray.clear, lambda text: text.extend(text), bytearray.pop])
+@pytest.mark.parametrize("way", WAYS)
+def test_a_text_that_changes_its_size_is_refused(cutter, monkeypatch, way, change):
+    monkeypatch.setattr(_sources, "PIECE", 8)
+    text = bytearray(b"ab\n" * 10)
+    answers = BEGIN[way](cutter, text)
+    next(answers)
+    change(text)
+    with pytest.raises(RuntimeError, match="the bytearray changed its size while it was cut"):
+        list(answers)
+
+
 @pytest.mark.parametrize("way", WAYS)
 def test_two_lines_for_one_are_refused(cutter, way):
     with pytest.raises(Fault, match="line 2: K1") as fault:
@@ -184,11 +219,34 @@ def test_the_cutters_format(system, format, printed):
         assert cutter.format("もも", "%m", eos="") == "もも"
 
 
+# What one call has for its format beside the line, and what it prints.
+PARTS = [
+    ({}, PRINTED[0]),
+    ({"eos": ""}, PRINTED[0][:-4]),
+    ({"bos": "[", "eos": "]"}, "[" + PRINTED[0][:-4] + "]"),
+    ({"node": "%m,", "unk": "?"}, "すもも,もも,EOS\n"),
+    ({"node": ""}, "EOS\n"),
+]
+
+
+@pytest.mark.parametrize("parts, printed", PARTS)
+def test_each_part_of_a_calls_format_is_obeyed(cutter, parts, printed):
+    assert cutter.format("すもももも", **parts) == printed
+
+
+def test_a_part_for_unknown_words_alone(cutter):
+    assert cutter.format("もも zz", unk="?", eos="") == "もも\t名詞,もも\n?"
+
+
 def test_formats_are_refused_when_the_cutter_is_made(system):
     with pytest.raises(Fault, match="P2 BadItem eos 1"):
         Cutter(system, format=Format("%m", eos=".%q"))
-    with pytest.raises(ValueError, match="'chasen' is no format"):
-        Cutter(system, format="chasen")
+    for format in ("chasen", 3, ("%m", "%m"), b"wakati"):
+        with pytest.raises(ValueError, match=f"{re.escape(repr(format))} is no format"):
+            Cutter(system, format=format)
+    for format in (Format(3), Format("%m", bos=None), Format("%m", eos=b"")):
+        with pytest.raises(TypeError, match="a format's text is a str, not (int|NoneType|bytes)"):
+            Cutter(system, format=format)
 
 
 def test_many_lines_are_what_one_line_gives(cutter):

@@ -6,7 +6,7 @@ from concurrent.futures import ThreadPoolExecutor
 
 import pytest
 
-from kumquatsieve import Cutter, Format
+from kumquatsieve import Cutter, Fault, Format
 
 THREADS = 4
 LETTERS = "すもうち東京都a1 　。𠮷\t"
@@ -79,6 +79,29 @@ def test_a_grouping_that_is_set_holds_for_the_calls_after_it(system, often):
 def test_a_grouping_that_is_no_number_of_the_library(system, grouping):
     with pytest.raises(ValueError, match="grouping"):
         Cutter(system, grouping=grouping)
+
+
+@pytest.mark.parametrize("grouping", [2.0, "3", None])
+def test_a_grouping_that_is_no_number(system, grouping):
+    with pytest.raises(TypeError, match="integer"):
+        Cutter(system, grouping=grouping)
+
+
+def test_a_grouping_may_be_any_kind_of_integer(system):
+    """As one of numpy's."""
+
+    class Three:
+        def __index__(self):
+            return 3
+
+    assert Cutter(system, grouping=Three()).wakati("abcdefgh") == Cutter(system, grouping=3).wakati("abcdefgh")
+
+
+def test_a_grouping_that_is_refused_leaves_that_before(system):
+    cutter = Cutter(system, grouping=3)
+    with pytest.raises(Fault, match="K4"):
+        cutter.set_grouping(1001)
+    assert cutter.wakati("abcdefgh") == Cutter(system, grouping=3).wakati("abcdefgh")
 
 
 def test_a_generator_may_be_called_by_other_threads_in_turn(system):
