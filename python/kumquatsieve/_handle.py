@@ -1,5 +1,4 @@
 """One cutter of the library's."""
-import weakref
 from contextvars import copy_context
 from ctypes import addressof, byref, c_size_t, c_uint32, c_uint64, c_void_p
 from functools import partial
@@ -46,8 +45,7 @@ class Handle:
     """A cutter of the library's, with the memory that its answers are written to. It is used by one thread at a time, `owner`, in a context of
     Python's that is made for each call.
 
-    What it holds is given back by `close`, and else by `ending` where nobody has the handle any more; but not when Python ends, since a thread may
-    still cut then.
+    What it holds is given back by `close`, and else where nobody has its slot any more.
 
     A handler of signals may raise an exception between any two steps, and the handle cuts on. So what is known of the library's state is forgotten
     before that is changed, and known again behind it.
@@ -60,12 +58,14 @@ class Handle:
         self._texts: Optional[Texts] = DEFAULT
         self.grouping: Optional[int] = GROUPING
         self.owner, self.context = 0, copy_context()
-        self.ending = weakref.finalize(self, LIBRARY.free, self._slot)
-        self.ending.atexit = False
 
     def close(self) -> None:
         """Gives back what it holds, and nothing the second time."""
         LIBRARY.free(self._slot)
+
+    def forget(self) -> None:
+        """Makes it empty, and gives back nothing."""
+        self._slot.held = False
 
     def runs(self) -> bool:
         """Whether its owner makes a call with it now: a context that is entered can't be entered."""

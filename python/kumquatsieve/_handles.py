@@ -34,7 +34,7 @@ class Handles:
         self._free: List[Handle] = []
         self._made: Set["weakref.ref[Handle]"] = set()
         self._closed = False
-        ALL.add(self)
+        ALL.add(weakref.ref(self, ALL.discard))
 
     def call(self, what: Callable[[Handle, A, B], T], first: A, second: B) -> T:
         """What a method of Handle's answers to what it is given, with a handle that no other call has."""
@@ -117,16 +117,19 @@ class Handles:
         """In the child of a fork: what other threads had stands in the middle of a call for ever, so it is neither used nor freed."""
         for handle in self.running():
             if handle.owner != get_ident():
-                handle.ending.detach()
+                handle.forget()
                 self._made.discard(weakref.ref(handle))
 
 
-ALL: "weakref.WeakSet[Handles]" = weakref.WeakSet()
+# What is called where one of them ends is C's, as for a handle.
+ALL: Set["weakref.ref[Handles]"] = set()
 
 
 def begin_in_child() -> None:
-    for handles in list(ALL):
-        handles.after_fork()
+    for known in list(ALL):
+        handles = known()
+        if handles is not None:
+            handles.after_fork()
 
 
 os.register_at_fork(after_in_child=begin_in_child)

@@ -26,7 +26,7 @@ ready_size: Callable[[int], Any] = ctypes.c_void_p.from_param
 
 
 class Slot(ctypes.Structure):
-    """What the library keeps of a cutter."""
+    """What the library keeps of a cutter. Where nobody has it any more it is given back, by `free` as `__del__`."""
 
     _fields_ = [("held", ctypes.c_bool), ("at", ctypes.c_void_p)]
 
@@ -95,4 +95,13 @@ def call_of(library: ctypes.CDLL, name: str) -> Any:
         raise ImportError(f"{place()}: it has no {name}, so it is older than this module, or another library") from None
 
 
+def method_of(call: Any) -> Any:
+    """A call as a method, which Python's own C binds. An exception of a handler of signals is lost in a method of Python's that is called where
+    something ends, and what that was to do is not done; none comes between the steps of this one."""
+    make = ctypes.PyDLL(None).PyInstanceMethod_New
+    make.argtypes, make.restype = [ctypes.py_object], ctypes.py_object
+    return make(call)
+
+
 LIBRARY = load()
+setattr(Slot, "__del__", method_of(LIBRARY.free))

@@ -38,7 +38,7 @@ class Loaded:
     """
 
     def __init__(self) -> None:
-        self._known: "weakref.WeakValueDictionary[Key, Handles]" = weakref.WeakValueDictionary()
+        self._known: Dict[Key, "weakref.ref[Handles]"] = {}
         self._kept: Dict[Origin, Tuple[Key, Handles]] = {}
         self.begin()
 
@@ -51,8 +51,14 @@ class Loaded:
         key = key_of(origin) if origin else None
         handles = Handles(load(image, users, skip_digest))
         if key:
-            self._known[key] = handles
+            self._know(key, handles)
         return handles
+
+    def _know(self, key: Key, handles: Handles) -> None:
+        """Those that are gone are forgotten here, since Python's own dictionary of what may go calls functions of Python's where something ends."""
+        for gone in [known for known, found in list(self._known.items()) if found() is None]:
+            self._known.pop(gone, None)
+        self._known[key] = weakref.ref(handles)
 
     def again(self, origin: Origin) -> Handles:
         """What a cutter of this origin cuts with that came from another process."""
@@ -66,9 +72,11 @@ class Loaded:
 
     def _shared(self, key: Key) -> Optional[Handles]:
         """Handles over the dictionaries of a cutter that is there and not closed."""
+        known = self._known.get(key)
+        handles = known() if known else None
         try:
-            return self._known[key].share()
-        except (KeyError, ValueError):
+            return handles.share() if handles else None
+        except ValueError:
             return None
 
 

@@ -145,12 +145,23 @@ def test_a_copy_shares_the_dictionaries_and_is_closed_by_itself(system, user, ag
 def test_what_nobody_has_any_more_is_given_back(system):
     cutter = Cutter(system)
     cutter.wakati(LINE)
-    ends = [handle.ending for handle in (cutter._handles._first, *cutter._handles._free)]
+    slots = [weakref.ref(handle._slot) for handle in (cutter._handles._first, *cutter._handles._free)]
     gone = weakref.ref(cutter)
     del cutter
     gc.collect()
     assert gone() is None
-    assert [end.alive for end in ends] == [False, False]
+    assert [slot() for slot in slots] == [None, None]
+
+
+def test_what_nobody_has_any_more_gives_all_memory_back(system):
+    """A cut of this line takes more than 100 MB, and a traceback may be the last that has the handle."""
+    sizes = []
+    for _ in range(6):
+        assert Cutter(system).wakati(LONG)
+        with pytest.raises(Fault):
+            Cutter(system).wakati(LONG + "\ud800")
+        sizes.append(resident())
+    assert sizes[-1] - sizes[1] < 100_000_000
 
 
 def status_of(child):

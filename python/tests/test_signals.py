@@ -154,6 +154,19 @@ def test_a_close_before_any_step_of_which_an_exception_comes_is_made_again(first
             break
 
 
+def test_no_exception_is_lost_where_a_cutter_ends(first, monkeypatch):
+    """As one is that comes in a method of Python's that is called there; what holds the library's memory wouldn't be given back either."""
+    lost = []
+    monkeypatch.setattr(sys, "unraisablehook", lost.append)
+
+    def end():
+        assert not lost
+        first.share().wakati("もも")
+
+    interrupt(end, 3 * TIMES)
+    assert not lost
+
+
 def test_the_callers_context_is_seen_by_a_handler(first):
     variable, seen = contextvars.ContextVar("variable"), []
     variable.set("the caller's")
