@@ -7,7 +7,7 @@ from threading import get_ident
 from typing import Callable, List, Set, TypeVar
 
 from ._fault import Fault
-from ._handle import Handle
+from ._handle import GROUPING, Handle
 
 A = TypeVar("A")
 B = TypeVar("B")
@@ -29,7 +29,7 @@ class Handles:
     """
 
     def __init__(self, first: Handle) -> None:
-        self.grouping = first.grouping
+        self.grouping = GROUPING
         self._first = first
         self._free: List[Handle] = []
         self._made: Set["weakref.ref[Handle]"] = set()
