@@ -9,7 +9,8 @@ from ._library import LIBRARY, OK, SHORT_BUFFER, Record, ready_size
 
 # A record's fields, as `Record` has them; what is missing to the next record is left out.
 FIELDS = struct.Struct("@NNNNIHHhBBqN0q")
-assert FIELDS.size == sizeof(Record)
+RECORD = FIELDS.size
+assert RECORD == sizeof(Record)
 
 WORDS = LIBRARY.words
 FIRST = ready_size(0)
@@ -17,8 +18,8 @@ FIRST = ready_size(0)
 # Bytes from an address on, of which a part is taken: an array of each length would be a type of its own, which ctypes keeps.
 ALL = c_char * sys.maxsize
 
-# A buffer as a call is given it, its address and how much it may have; and its bytes.
-Buffer = Tuple[Any, Any, memoryview]
+# A buffer as a call is given it, its address and how much it may have; and its bytes, and how many they are.
+Buffer = Tuple[Any, Any, memoryview, int]
 
 
 def bytes_at(address: int, length: int) -> memoryview:
@@ -29,7 +30,7 @@ def bytes_at(address: int, length: int) -> memoryview:
 def buffer_of(kind: Any, count: int) -> Buffer:
     """Room for so many of a kind."""
     made = (kind * count)()
-    return byref(made), ready_size(count), memoryview(made).cast("B")
+    return byref(made), ready_size(count), memoryview(made).cast("B"), sizeof(made)
 
 
 class Buffers:
@@ -43,10 +44,10 @@ class Buffers:
 
     def text_of(self, call: Any, cutter: Any) -> str:
         """The text that a call writes into a buffer, which is made longer where it has less room than is needed."""
-        at, room, text = self._text
+        at, room, text, _ = self._text
         code = call(cutter, at, room, self._length_at)
         if code == SHORT_BUFFER:
-            at, room, text = self._text = buffer_of(c_char, 2 * self._length.value)
+            at, room, text, _ = self._text = buffer_of(c_char, 2 * self._length.value)
             code = call(cutter, at, room, self._length_at)
         if code != OK:
             raise_fault(code)
@@ -54,10 +55,10 @@ class Buffers:
 
     def records_of(self, cutter: Any) -> bytes:
         """The records of the words of the line that was cut last, whose number `count_at` has. `FIELDS` reads them."""
-        size = self._count.value * FIELDS.size
-        if size > len(self._records[2]):
-            self._records = buffer_of(Record, 2 * self._count.value)
-        at, most, fields = self._records
+        at, most, fields, room = self._records
+        size = self._count.value * RECORD
+        if size > room:
+            at, most, fields, _ = self._records = buffer_of(Record, 2 * self._count.value)
         code = WORDS(cutter, FIRST, at, most, self.count_at)
         if code != OK:
             raise_fault(code)

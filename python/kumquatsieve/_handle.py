@@ -26,7 +26,7 @@ NUMBERED = {0x4C03, 0x4C04, 0x4C05, 0x4C06, 0x4C07, 0x4F02, 0x4F03}
 IN_FORMAT = {0x5001, 0x5002, 0x5003, 0x4703}
 IN_LINE = {0x4B01, 0x4703, 0x4704}
 
-# What tells all words of a line in one call: a line for each surface, or for each surface and feature.
+# What tells all words of a line in one call: a line for each surface, or for each surface and feature. So an empty text is behind the last one.
 SURFACES: Texts = (b"%m\\n", b"%m\\n", b"", b"")
 WORDS: Texts = (b"%m\\n%H\\n", b"%m\\n%H\\n", b"", b"")
 
@@ -42,8 +42,8 @@ def feature(number: Any, cutter: Any, *room: Any) -> int:
 
 
 class Handle:
-    """A cutter of the library's, with the memory that its answers are written to. It is used by one thread at a time, `owner`, in a context of
-    Python's that is made for each call.
+    """A cutter of the library's, with the memory that its answers are written to. It is used by one call at a time, in a context of Python's that
+    is made for that call.
 
     What it holds is given back by `close`, and else where nobody has its slot any more.
 
@@ -57,7 +57,7 @@ class Handle:
         self._buffers = Buffers()
         self._texts: Optional[Texts] = DEFAULT
         self.grouping: Optional[int] = GROUPING
-        self.owner, self.context = 0, copy_context()
+        self.context = copy_context()
 
     def close(self) -> None:
         """Gives back what it holds, and nothing the second time."""
@@ -68,7 +68,7 @@ class Handle:
         self._slot.held = False
 
     def runs(self) -> bool:
-        """Whether its owner makes a call with it now: a context that is entered can't be entered."""
+        """Whether a call has it now: a context that is entered can't be entered."""
         try:
             self.context.run(bool)
         except RuntimeError:
@@ -108,10 +108,13 @@ class Handle:
 
     def told(self, line: bytes, texts: Texts) -> Told:
         """What is told of the words of a line, in the texts `WORDS`."""
+        if texts is not self._texts:
+            self.set_format(texts)
         self._cut(line)
-        total = self._buffers.total.value
-        records = self._buffers.records_of(self._at)
-        lines = self._lines(texts)
+        buffers = self._buffers
+        total = buffers.total.value
+        records = buffers.records_of(self._at)
+        lines = buffers.text_of(PRINT, self._at).split("\n")
         lines.pop()
         if FIELDS.size * len(lines) != 2 * len(records):
             lines = list(self._told_apart(line, records))
@@ -125,8 +128,10 @@ class Handle:
 
     def surfaces(self, line: bytes, texts: Texts) -> List[str]:
         """The surfaces of a line's words, in the texts `SURFACES`."""
+        if texts is not self._texts:
+            self.set_format(texts)
         self._cut(line)
-        lines = self._lines(texts)
+        lines = self._buffers.text_of(PRINT, self._at).split("\n")
         lines.pop()
         return lines
 
@@ -189,12 +194,6 @@ class Handle:
         code = CUT(self._at, line, ready_size(len(line)), buffers.count_at, buffers.total_at, buffers.place_at)
         if code != OK:
             raise_fault(code, at=buffers.place.value if code in IN_LINE else None)
-
-    def _lines(self, texts: Texts) -> List[str]:
-        """The words that were cut last in a format whose texts end in line feeds, and the empty text behind the last one."""
-        if texts is not self._texts:
-            self.set_format(texts)
-        return self._buffers.text_of(PRINT, self._at).split("\n")
 
     def set_format(self, texts: Texts) -> None:
         """Sets the four texts of the format, where they are others."""

@@ -1,10 +1,11 @@
 """Handles for the threads that call one cutter."""
 import os
+import sys
 import time
 import weakref
 from contextvars import copy_context
-from threading import get_ident
-from typing import Callable, List, Set, TypeVar
+from types import FrameType
+from typing import Callable, List, Optional, Set, TypeVar
 
 from ._fault import Fault
 from ._handle import GROUPING, Handle
@@ -42,7 +43,6 @@ class Handles:
             handle = self._free.pop()
         except IndexError:
             handle = self._new()
-        handle.owner = get_ident()
         handle.context = context = copy_context()
         try:
             return context.run(self._within, what, handle, first, second)
@@ -104,7 +104,7 @@ class Handles:
         for handle in self._there():
             if handle not in running:
                 handle.close()
-        return all(handle.owner == get_ident() for handle in running)
+        return running <= own()
 
     def running(self) -> List[Handle]:
         """Those that a call has."""
@@ -115,10 +115,20 @@ class Handles:
 
     def after_fork(self) -> None:
         """In the child of a fork: what other threads had stands in the middle of a call for ever, so it is neither used nor freed."""
-        for handle in self.running():
-            if handle.owner != get_ident():
-                handle.forget()
-                self._made.discard(weakref.ref(handle))
+        for handle in set(self.running()) - own():
+            handle.forget()
+            self._made.discard(weakref.ref(handle))
+
+
+def own() -> Set[Handle]:
+    """The handles that calls of this thread have, out of which a handler of signals came here."""
+    found: Set[Handle] = set()
+    frame: Optional[FrameType] = sys._getframe()
+    while frame is not None:
+        if frame.f_code is Handles._within.__code__:
+            found.add(frame.f_locals["handle"])
+        frame = frame.f_back
+    return found
 
 
 # What is called where one of them ends is C's, as for a handle.
