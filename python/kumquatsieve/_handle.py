@@ -1,5 +1,5 @@
 """One cutter of the library's."""
-from contextvars import copy_context
+from contextvars import Context
 from ctypes import addressof, byref, c_size_t, c_uint32, c_uint64, c_void_p
 from functools import partial
 from typing import Any, Iterator, List, Optional, Tuple
@@ -33,6 +33,9 @@ WORDS: Texts = (b"%m\\n%H\\n", b"%m\\n%H\\n", b"", b"")
 # What each line prints first, where many are printed at once: a code point that Unicode keeps for a program's own use.
 MARK = "\uffff"
 
+# The context of handles that no call has. It is that of no call, and keeps none of a caller's variables.
+IDLE = Context()
+
 CUT, CUT_LINES, PRINT, FEATURE = LIBRARY.cut, LIBRARY.cut_lines, LIBRARY.copy_print, LIBRARY.copy_feature
 
 
@@ -45,10 +48,10 @@ class Handle:
     """A cutter of the library's, with the memory that its answers are written to. It is used by one call at a time, in a context of Python's that
     is made for that call.
 
-    What it holds is given back by `close`, and else where nobody has its slot any more.
+    What it holds is given back by `close`. Without that it is given back where nothing refers to the slot any more.
 
     A handler of signals may raise an exception between any two steps, and the handle cuts on. So what is known of the library's state is forgotten
-    before that is changed, and known again behind it.
+    before that state is changed, and known again after it.
     """
 
     def __init__(self) -> None:
@@ -57,7 +60,7 @@ class Handle:
         self._buffers = Buffers()
         self._texts: Optional[Texts] = DEFAULT
         self.grouping: Optional[int] = GROUPING
-        self.context = copy_context()
+        self.context = IDLE
 
     def close(self) -> None:
         """Gives back what it holds, and nothing the second time."""

@@ -8,7 +8,7 @@ from types import FrameType
 from typing import Callable, List, Optional, Set, TypeVar
 
 from ._fault import Fault
-from ._handle import GROUPING, Handle
+from ._handle import GROUPING, IDLE, Handle
 
 A = TypeVar("A")
 B = TypeVar("B")
@@ -21,10 +21,10 @@ LOOK = 0.001
 class Handles:
     """Handles over the same dictionaries. Each call takes one and gives it back, so that as many are made as calls run at once.
 
-    A handler of signals may raise an exception between any two steps of a thread, and so behind the last one that Python makes sure of. So no step
-    here is owed for another one: there is no lock to be let go and no count to be put right. A handle that a call has stands in no list, and where
-    an exception keeps it from being given back it goes as what nobody holds. Whether a call has a handle is told by a context, which `Context.run`
-    enters, and leaves whatever the call raises; both are within one step of Python's, so no handler comes between.
+    A handler of signals may raise an exception between any two steps of a thread, also before the first one of a `finally`. So no step here is owed
+    for another one. There is no lock to let go, and no count to put right. A handle that a call has stands in no list. Where an exception keeps it
+    from being given back, it ends as any object to which nothing refers. Whether a call has a handle is told by a context. `Context.run` enters it,
+    calls, and leaves it whatever the call raises. That is one call of C, and no handler comes between its parts and the call.
 
     The first one never cuts: the others are shared from it. So it is at rest whenever a process forks, whatever the threads do.
     """
@@ -47,13 +47,14 @@ class Handles:
         try:
             return context.run(self._within, what, handle, first, second)
         finally:
+            handle.context = IDLE
             self._free.append(handle)
             if self._closed:
                 self._clear()
 
     def _within(self, what: Callable[[Handle, A, B], T], handle: Handle, first: A, second: B) -> T:
-        """The call itself. Its context is entered, so `close`, which says that it closes and then looks for contexts, finds this one, or this call
-        finds that it closes."""
+        """The call itself, in the handle's context. `close` says that it closes, and then looks for contexts that are entered. So it finds this one,
+        or this call finds that it closes."""
         if self._closed or handle.grouping != self.grouping:
             self.look()
             handle.set_grouping(self.grouping)
@@ -114,7 +115,7 @@ class Handles:
         return [handle for handle in [known() for known in list(self._made)] if handle is not None]
 
     def after_fork(self) -> None:
-        """In the child of a fork: what other threads had stands in the middle of a call for ever, so it is neither used nor freed."""
+        """In the child of a fork. What other threads had stands in the middle of a call for ever, so it is neither used nor freed."""
         for handle in set(self.running()) - own():
             handle.forget()
             self._made.discard(weakref.ref(handle))

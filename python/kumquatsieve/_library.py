@@ -97,8 +97,12 @@ def call_of(library: ctypes.CDLL, name: str) -> Any:
 
 def method_of(call: Any) -> Any:
     """A call as a method, which Python's own C binds. An exception of a handler of signals is lost in a method of Python's that is called where
-    something ends, and what that was to do is not done; none comes between the steps of this one."""
-    make = ctypes.PyDLL(None).PyInstanceMethod_New
+    something ends, and what that was to do is not done. None comes between the steps of this one. A program that has Python inside may hide Python's
+    own calls from ctypes; the method is Python's there."""
+    try:
+        make = ctypes.PyDLL(None).PyInstanceMethod_New
+    except AttributeError:
+        return lambda slot: call(slot)
     make.argtypes, make.restype = [ctypes.py_object], ctypes.py_object
     return make(call)
 

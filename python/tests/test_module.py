@@ -8,6 +8,7 @@ from pathlib import Path
 import pytest
 
 import kumquatsieve
+from kumquatsieve import _library
 
 TOP = Path(__file__).resolve().parent.parent.parent
 
@@ -33,6 +34,17 @@ def test_a_library_that_is_not_there_is_named():
     code = "import os; os.environ['KUMQUATSIEVE_LIBRARY'] = 'none.so'; import kumquatsieve"
     done = subprocess.run([sys.executable, "-c", code], capture_output=True, text=True)
     assert done.returncode == 1 and "ImportError: none.so" in done.stderr and "KUMQUATSIEVE_LIBRARY" in done.stderr
+
+
+@pytest.mark.parametrize("hidden", [False, True])
+def test_a_call_is_a_method_of_what_ends(monkeypatch, hidden):
+    """Also in a program that hides Python's own calls from ctypes."""
+    if hidden:
+        monkeypatch.setattr(_library.ctypes, "PyDLL", lambda _: object())
+    ended = []
+    kind = type("Kind", (), {"__del__": _library.method_of(lambda one: ended.append(type(one)))})
+    kind()
+    assert ended == [kind]
 
 
 def test_a_library_without_a_call_is_named():

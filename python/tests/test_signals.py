@@ -5,6 +5,7 @@ import random
 import signal
 import sys
 import threading
+import weakref
 from itertools import count
 
 import pytest
@@ -180,3 +181,21 @@ def test_the_callers_context_is_seen_by_a_handler(first):
         signal.setitimer(signal.ITIMER_REAL, 0)
         signal.signal(signal.SIGALRM, before)
     assert set(seen) == {"the caller's"}
+
+
+def test_a_callers_context_is_not_kept(first):
+    """What a variable of it has goes with the caller, though the handle stays."""
+
+    class Thing:
+        pass
+
+    variable = contextvars.ContextVar("variable")
+
+    def call():
+        thing = Thing()
+        variable.set(thing)
+        first.wakati("もも")
+        return weakref.ref(thing)
+
+    gone = contextvars.copy_context().run(call)
+    assert gone() is None
