@@ -8,7 +8,7 @@ use Rattle.image_bytes.specs.ImageFaults.{IsImageFault}
 use Rattle.cutter.specs.declared.fault.CutFault.{CutFault}
 use Rattle.cutter.specs.declared.fault.CutFault.TheVariants as cut
 use Rattle.cutter.specs.Cutters.{Images}
-use Rattle.cutter.specs.Faults.{IsAddRefusal, IsFaultOf, IsImage, IsLayRefusal, IsLoadRefusal, IsUserRefusal}
+use Rattle.cutter.specs.Faults.{IsAddRefusal, IsFaultOf, IsImage, IsLayRefusal, IsLoadRefusal}
 use Rattle.cutter.specs.FaultWords.{told_of_image}
 
 -- what holds of want of memory, and of an image's fault that is so, holds of the fault as it is told
@@ -54,22 +54,3 @@ pub add_refused : {T : Type 0} (digest : DigestTest) (r : Result T CutFault) (im
     → IfErr r (IsLayRefusal digest images user)
 add_refused digest (Ok x) images user formed h = tt
 add_refused digest (Err fault) images user formed h = add_fault digest images user fault formed h
-
-refusal_of_user : (digest : DigestTest) (images : Images) (user : List ℕ) (fault : CutFault) → IsLayRefusal digest images user fault → IsUserRefusal digest images user fault
-refusal_of_user digest images user (cut.Image f) h = h
-refusal_of_user digest images user (cut.Overlay f) h = h
-refusal_of_user digest images user (cut.Format f) h = absurd h
-refusal_of_user digest images user cut.NotUtf8 h = absurd h
-refusal_of_user digest images user cut.TooLong h = absurd h
-refusal_of_user digest images user (cut.LineFeed n) h = absurd h
-refusal_of_user digest images user cut.NothingCut h = absurd h
-refusal_of_user digest images user cut.Shared h = tt
-refusal_of_user digest images user cut.BadGrouping h = absurd h
-refusal_of_user digest images user (cut.NoWord n) h = absurd h
-refusal_of_user digest images user cut.Memory h = tt
-
--- what does not go over a cutter's images is refused by it
-pub user_not_laid : {T : Type 0} (digest : DigestTest) (r : Result T CutFault) (images : Images) (user : List ℕ) → IfErr r (IsLayRefusal digest images user)
-    → IfErr r (IsUserRefusal digest images user)
-user_not_laid digest (Ok x) images user h = tt
-user_not_laid digest (Err fault) images user h = refusal_of_user digest images user fault h
