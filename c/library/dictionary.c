@@ -19,8 +19,9 @@ static void unlock(void) {
     pthread_mutex_unlock(&shared);
 }
 
-/* A child has the forking thread alone: what another one had locked would stay so. */
-__attribute__((constructor)) static void keep_over_forks(void) {
+/* A child has the forking thread alone: what another one had locked would stay so. What is noted first is locked last at a fork. So this is noted
+   before whatever else is linked in, whose locks may be held while this one is taken, as those of c/mecab are; no program may be earlier than 101. */
+__attribute__((constructor(101))) static void keep_over_forks(void) {
     pthread_atfork(lock, unlock, unlock);
 }
 

@@ -31,7 +31,8 @@ static void unlock_all(void) {
     unlock_loads();
 }
 
-/* A child has the forking thread alone: what another one had locked would stay so. */
+/* A child has the forking thread alone: what another one had locked would stay so. At a fork these are locked before the lock of c/library, which
+   is noted earlier: images are given back under the lock of loads, and that takes the other one. */
 __attribute__((constructor)) static void keep_over_forks(void) {
     pthread_atfork(lock_all, unlock_all, unlock_all);
 }

@@ -3,6 +3,7 @@
 #include "layer.h"
 #include <dlfcn.h>
 #include <stdio.h>
+#include <string.h>
 
 #ifndef MECAB_LIBRARY
 #define MECAB_LIBRARY "/usr/lib/libmecab.so.2"
@@ -10,9 +11,17 @@
 
 typedef int tool(int count, char **words);
 
-static int hand_on(const char *name, tool *here, int count, char **words) {
+/* What dlsym answers is copied, since C has no cast from it to a function. */
+static tool *find_tool(const char *name) {
     void *library = dlopen(MECAB_LIBRARY, RTLD_NOW | RTLD_LOCAL | RTLD_DEEPBIND);
-    tool *there = library ? (tool *)dlsym(library, name) : NULL;
+    void *at = library ? dlsym(library, name) : NULL;
+    tool *found = NULL;
+    memcpy(&found, &at, sizeof found);
+    return found;
+}
+
+static int hand_on(const char *name, tool *here, int count, char **words) {
+    tool *there = find_tool(name);
     if (there && there != here) return there(count, words);
     fail_left_out(common_fault(), name);
     fprintf(stderr, "%s\n", common_fault()->text);

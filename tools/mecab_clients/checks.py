@@ -51,6 +51,18 @@ def check_growths(folder, library):
     print(f"mecab-clients: {count} growths, each refused in turn: none ends the program", flush=True)
 
 
+def check_forks(folder, library):
+    """Forks while other threads load images and give them back: no lock is held in a child, and no two threads wait for each other's."""
+    ours = dict(os.environ, LD_LIBRARY_PATH=str(library.parent))
+    image, one, other = folder / "sample.img", folder / "one.img", folder / "other.img"
+    for copy in (one, other):
+        shutil.copyfile(image, copy)
+    told = run([compiled(CLIENTS / "forks.c", folder, library), image, one, other], ours).decode()
+    if told != "2000 of 2000 children answered\n":
+        sys.exit(f"mecab-clients: forks while images are loaded: {told}")
+    print(f"mecab-clients: forks while images are loaded by turns: {told}", end="", flush=True)
+
+
 def check_threads(folder, library, lines, dictionary):
     """One tagger in four threads, with no race that valgrind's helgrind finds, or gcc's ThreadSanitizer in the layer."""
     ours = dict(os.environ, LD_LIBRARY_PATH=str(library.parent))

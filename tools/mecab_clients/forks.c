@@ -1,5 +1,6 @@
-/* Forks 200 times while three threads parse by one tagger: forks DICTIONARY. Each child parses by that tagger, opens and parses by one of its
-   own, and ends; one that hangs is ended by its clock. Prints how many answered. */
+/* Forks while three threads parse by one tagger: forks DICTIONARY, 200 times; or forks DICTIONARY ONE OTHER, 2,000 times, while the threads open ONE
+   and OTHER by turns, which are so loaded and given back all the time. Each child parses by that tagger, opens and parses by one of its own, and
+   ends; one that hangs is ended by its clock, and so is the program itself. Prints how many answered. */
 #include <mecab.h>
 #include <pthread.h>
 #include <stdatomic.h>
@@ -9,12 +10,17 @@
 #include <sys/wait.h>
 #include <unistd.h>
 
-enum { THREADS = 3, FORKS = 200, SECONDS = 20 };
+enum { THREADS = 3, FORKS = 200, FORKS_OF_TWO = 2000, SECONDS = 20, ALL_SECONDS = 300, WORDS = 4096 };
 
 static const char LINE[] = "すもももももももものうち";
-static char options[4096];
-static char wanted[4096];
+static char options[WORDS];
+static char turns[2][WORDS];
+static char wanted[WORDS];
 static atomic_bool is_over;
+
+static void set_words(char *words, const char *dictionary) {
+    snprintf(words, WORDS, "-d %s", dictionary);
+}
 
 static int answers(mecab_t *tagger) {
     mecab_lattice_t *lattice = mecab_lattice_new();
@@ -28,9 +34,10 @@ static int answers(mecab_t *tagger) {
 }
 
 static void *work(void *tagger) {
-    while (!is_over) {
-        if (!answers(tagger)) abort();
-        mecab_destroy(mecab_new2(options));
+    for (size_t turn = 0; !is_over; turn++) {
+        mecab_t *own = mecab_new2(turns[turn % 2]);
+        if (!own || !answers(tagger)) abort();
+        mecab_destroy(own);
     }
     return NULL;
 }
@@ -44,26 +51,35 @@ static int child(mecab_t *tagger) {
     return same ? 0 : 1;
 }
 
+/* How many of so many children answered. */
+static int answered(mecab_t *tagger, int forks) {
+    int count = 0, status = 0;
+    for (int i = 0; i < forks; i++) {
+        pid_t made = fork();
+        if (made == 0) _exit(child(tagger));
+        if (made < 0 || waitpid(made, &status, 0) != made) exit(1);
+        count += WIFEXITED(status) && WEXITSTATUS(status) == 0;
+    }
+    return count;
+}
+
 int main(int given, char **paths) {
     pthread_t threads[THREADS];
-    int answered = 0, status = 0;
-    if (given != 2) return 2;
-    snprintf(options, sizeof options, "-d %s", paths[1]);
+    if (given != 2 && given != 4) return 2;
+    int forks = given == 2 ? FORKS : FORKS_OF_TWO;
+    alarm(ALL_SECONDS);
+    set_words(options, paths[1]);
+    for (int i = 0; i < 2; i++) set_words(turns[i], given == 2 ? paths[1] : paths[2 + i]);
     mecab_t *tagger = mecab_new2(options);
     if (!tagger) return 1;
     snprintf(wanted, sizeof wanted, "%s", mecab_sparse_tostr(tagger, LINE));
     for (int i = 0; i < THREADS; i++) {
         if (pthread_create(&threads[i], NULL, work, tagger) != 0) return 1;
     }
-    for (int i = 0; i < FORKS; i++) {
-        pid_t made = fork();
-        if (made == 0) _exit(child(tagger));
-        if (made < 0 || waitpid(made, &status, 0) != made) return 1;
-        answered += WIFEXITED(status) && WEXITSTATUS(status) == 0;
-    }
+    int count = answered(tagger, forks);
     is_over = 1;
     for (int i = 0; i < THREADS; i++) pthread_join(threads[i], NULL);
-    printf("%d of %d children answered\n", answered, FORKS);
+    printf("%d of %d children answered\n", count, forks);
     mecab_destroy(tagger);
     return 0;
 }
