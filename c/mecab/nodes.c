@@ -82,7 +82,7 @@ static void exchange_features(const char *feature, mecab_node_t *nodes, size_t c
     }
 }
 
-/* Features, and the ids that are found by them. */
+/* Features, and the ids that are found by them. The first refuse a word whose token is past those that either has room for. */
 static bool set_features(mecab_lattice_t *lattice, mecab_node_t *nodes, size_t count, fault *error) {
     const tables *of = lattice->tables;
     if (!find_features(features_of(of->images), &lattice->cutter, lattice->words, nodes, count, error)) return false;

@@ -63,16 +63,31 @@ def check_forks(folder, library):
     print(f"mecab-clients: forks while images are loaded by turns: {told}", end="", flush=True)
 
 
+def with_layer(folder, library, source, *flags):
+    """A program with the layer compiled into it by flags of its own."""
+    prefix, program = library.parents[3], folder / f"with-layer-{source.stem}"
+    layer = [*sorted((TOP / "c" / "mecab").glob("*.c")), prefix / "lib" / "libkumquatsieve.a"]
+    words = ["-std=gnu11", "-O1", "-g", "-Wall", "-Wextra", *flags, f"-I{prefix / 'include'}", "-pthread"]
+    run(["gcc", *words, source, *layer, "-ldl", "-o", program], os.environ)
+    return program
+
+
+def check_rewritten(folder, library):
+    """An image that is written over while it is loaded: gcc's AddressSanitizer finds no word past what was made room for."""
+    image = folder / "rewritten.img"
+    shutil.copyfile(folder / "sample.img", image)
+    image.with_suffix(".dicrc").write_text("bos-feature = B\n")
+    image.with_suffix(".pos-id.def").write_text("* 1\n")
+    program = with_layer(folder, library, CLIENTS / "rewritten.c", "-fsanitize=address", "-Wl,--wrap=kumquatsieve_dictionary_make")
+    print(run([program, image], os.environ).decode(), end="", flush=True)
+
+
 def check_threads(folder, library, lines, dictionary):
     """One tagger in four threads, with no race that valgrind's helgrind finds, or gcc's ThreadSanitizer in the layer."""
     ours = dict(os.environ, LD_LIBRARY_PATH=str(library.parent))
     program = compiled(CLIENTS / "one_tagger.c", folder, library)
     run(["valgrind", "-q", "--tool=helgrind", "--error-exitcode=9", program, dictionary, first_lines(lines, 20, folder)], ours)
-    prefix = library.parents[3]
-    layer = [*sorted((TOP / "c" / "mecab").glob("*.c")), prefix / "lib" / "libkumquatsieve.a"]
-    program = folder / "watched"
-    flags = ["-std=gnu11", "-O1", "-g", "-fsanitize=thread", f"-I{prefix / 'include'}", "-pthread"]
-    run(["gcc", *flags, CLIENTS / "one_tagger.c", *layer, "-ldl", "-o", program], os.environ)
+    program = with_layer(folder, library, CLIENTS / "one_tagger.c", "-fsanitize=thread")
     run([program, dictionary, first_lines(lines, 1000, folder)], os.environ)
     print("mecab-clients: one tagger in four threads: no race", flush=True)
 
