@@ -5,7 +5,10 @@ import shutil
 import subprocess
 import sys
 
-from mecab_clients.common import CLIENTS, HEADER, PYTHON, TOP, compiled, first_lines, run
+from mecab_clients.common import CLIENTS, HEADER, PYTHON, TOP, VALGRIND, compiled, first_lines, run, with_layer
+
+# The programs that are run over the sample's dictionary.
+OVER_THE_SAMPLE = ("calls.c", "classes.cc", "sharing.c", "odd_texts.c")
 
 
 def check_names(library):
@@ -19,16 +22,32 @@ def check_names(library):
     print(f"mecab-clients: each of the {len(declared)} calls of MeCab's header is exported, and named in docs/LIBMECAB.md", flush=True)
 
 
+def write_image(folder, name, odd=""):
+    """An image of the sample's sources, and of a lexicon of this text beside theirs."""
+    image, source, beside = folder / f"{name}.img", TOP / "examples" / "sample", folder / f"{name}.csv"
+    sources = [word for kind in ("matrix", "char", "unk") for word in (f"--{kind}", source / f"{kind}.def")]
+    beside.write_text(odd)
+    run([TOP / "crates" / "dictc" / "out" / "dictc", "system", *sources, "--out", image, source / "lexicon.csv", beside], os.environ)
+    return image
+
+
+def check_made():
+    """Each call of MeCab's header, and each function of its classes, stands in a program that is run under valgrind."""
+    declared = re.findall(r"^ *(?:virtual|static|MECAB_DLL_EXTERN)\b[^;(~]*?\b(\w+) *\(", HEADER.read_text(), re.MULTILINE)
+    text = "".join((CLIENTS / name).read_text() for name in (*OVER_THE_SAMPLE, "programs.c"))
+    missing = [name for name in sorted(set(declared)) if not re.search(rf"\b{name}\b", text)]
+    if missing:
+        sys.exit(f"mecab-clients: run by nothing: {' '.join(missing)}")
+
+
 def check_calls(folder, library):
-    """Each call of the C interface, and odd texts, with no error and no block left under valgrind."""
-    image, source, odd = folder / "sample.img", TOP / "examples" / "sample", folder / "odd.csv"
-    sources = [word for name in ("matrix", "char", "unk") for word in (f"--{name}", source / f"{name}.def")]
-    odd.write_text("空,1,1,-1000,名詞,\0空\n")
-    run([TOP / "crates" / "dictc" / "out" / "dictc", "system", *sources, "--out", image, source / "lexicon.csv", odd], os.environ)
+    """Each call of the C interface, each function of the classes, and odd texts, with no error and no block left under valgrind."""
+    image = write_image(folder, "sample", "空,1,1,-1000,名詞,\0空\n")
     ours = dict(os.environ, LD_LIBRARY_PATH=str(library.parent))
-    for source in ("calls.c", "sharing.c", "odd_texts.c"):
+    check_made()
+    for source in OVER_THE_SAMPLE:
         program = compiled(CLIENTS / source, folder, library)
-        print(run(["valgrind", "-q", "--leak-check=full", "--error-exitcode=9", program, image], ours).decode(), end="", flush=True)
+        print(run([*VALGRIND, program, image], ours).decode(), end="", flush=True)
 
 
 def check_growths(folder, library):
@@ -61,15 +80,6 @@ def check_forks(folder, library):
     if told != "2000 of 2000 children answered\n":
         sys.exit(f"mecab-clients: forks while images are loaded: {told}")
     print(f"mecab-clients: forks while images are loaded by turns: {told}", end="", flush=True)
-
-
-def with_layer(folder, library, source, *flags):
-    """A program with the layer compiled into it by flags of its own."""
-    prefix, program = library.parents[3], folder / f"with-layer-{source.stem}"
-    layer = [*sorted((TOP / "c" / "mecab").glob("*.c")), prefix / "lib" / "libkumquatsieve.a"]
-    words = ["-std=gnu11", "-O1", "-g", "-Wall", "-Wextra", *flags, f"-I{prefix / 'include'}", "-pthread"]
-    run(["gcc", *words, source, *layer, "-ldl", "-o", program], os.environ)
-    return program
 
 
 def check_rewritten(folder, library):

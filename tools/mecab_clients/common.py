@@ -10,6 +10,7 @@ CLIENTS = TOP / "tools" / "mecab_clients"
 PYTHON = "/usr/bin/python3"
 COMPILED = Path("/var/lib/mecab/dic/ipadic-utf8")
 HEADER = Path("/usr/include/mecab.h")
+VALGRIND = ["valgrind", "-q", "--leak-check=full", "--error-exitcode=9"]
 IPADIC, INDEX = Path("/usr/share/mecab/dic/ipadic"), Path("/usr/lib/mecab/mecab-dict-index")
 
 
@@ -25,8 +26,19 @@ def run(command, environment, text=b""):
 
 
 def compiled(source, folder, *more):
-    program = folder / source.stem
-    run(["gcc", "-std=gnu11", "-O1", "-g", "-Wall", "-Wextra", source, *more, "-pthread", "-o", program], os.environ)
+    """A program in C, or in C++ where its name ends so."""
+    program = folder / source.name.replace(".", "-")
+    compiler = ["g++", "-std=c++17"] if source.suffix == ".cc" else ["gcc", "-std=gnu11"]
+    run([*compiler, "-O1", "-g", "-Wall", "-Wextra", "-Wpedantic", "-Werror", source, *more, "-pthread", "-o", program], os.environ)
+    return program
+
+
+def with_layer(folder, library, source, *flags):
+    """A program with the layer compiled into it by flags of its own."""
+    prefix, program = library.parents[3], folder / f"with-layer-{source.stem}"
+    layer = [*sorted((TOP / "c" / "mecab").glob("*.c")), prefix / "lib" / "libkumquatsieve.a"]
+    words = ["-std=gnu11", "-O1", "-g", "-Wall", "-Wextra", "-Wpedantic", "-Werror", *flags, f"-I{prefix / 'include'}", "-pthread"]
+    run(["gcc", *words, source, *layer, "-ldl", "-o", program], os.environ)
     return program
 
 
