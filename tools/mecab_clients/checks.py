@@ -22,12 +22,12 @@ def check_names(library):
     print(f"mecab-clients: each of the {len(declared)} calls of MeCab's header is exported, and named in docs/LIBMECAB.md", flush=True)
 
 
-def write_image(folder, name, odd=""):
-    """An image of the sample's sources, and of a lexicon of this text beside theirs."""
-    image, source, beside = folder / f"{name}.img", TOP / "examples" / "sample", folder / f"{name}.csv"
+def write_image(folder, name, lexicon):
+    """An image of the sample's sources, but for the lexicon, which has this text."""
+    image, source, written = folder / f"{name}.img", TOP / "examples" / "sample", folder / f"{name}.csv"
     sources = [word for kind in ("matrix", "char", "unk") for word in (f"--{kind}", source / f"{kind}.def")]
-    beside.write_text(odd)
-    run([TOP / "crates" / "dictc" / "out" / "dictc", "system", *sources, "--out", image, source / "lexicon.csv", beside], os.environ)
+    written.write_text(lexicon)
+    run([TOP / "crates" / "dictc" / "out" / "dictc", "system", *sources, "--out", image, written], os.environ)
     return image
 
 
@@ -42,12 +42,21 @@ def check_made():
 
 def check_calls(folder, library):
     """Each call of the C interface, each function of the classes, and odd texts, with no error and no block left under valgrind."""
-    image = write_image(folder, "sample", "空,1,1,-1000,名詞,\0空\n")
+    lexicon = (TOP / "examples" / "sample" / "lexicon.csv").read_text()
+    image = write_image(folder, "sample", lexicon + "空,1,1,-1000,名詞,\0空\n")
     ours = dict(os.environ, LD_LIBRARY_PATH=str(library.parent))
     check_made()
     for source in OVER_THE_SAMPLE:
         program = compiled(CLIENTS / source, folder, library)
         print(run([*VALGRIND, program, image], ours).decode(), end="", flush=True)
+
+
+def check_replaced(folder, library):
+    """A file that takes the place of an image that is loaded."""
+    lexicon = (TOP / "examples" / "sample" / "lexicon.csv").read_text()
+    images = write_image(folder, "first", lexicon), write_image(folder, "second", lexicon.replace("名詞,もも", "記号,もも"))
+    ours = dict(os.environ, LD_LIBRARY_PATH=str(library.parent))
+    print(run([*VALGRIND, compiled(CLIENTS / "replaced.c", folder, library), *images], ours).decode(), end="", flush=True)
 
 
 def check_growths(folder, library):
