@@ -1,5 +1,6 @@
 /* Which image is meant, and which settings go with it. */
 #include "layer.h"
+#include <errno.h>
 #include <limits.h>
 #include <stdlib.h>
 #include <string.h>
@@ -168,10 +169,16 @@ char *beside(const char *image, const char *ending) {
     return made;
 }
 
+/* Whether there is no such name, or can be none. What is there and can't be read, as a link that leads nowhere, is reported by who reads it. */
+static bool is_missing(const char *path) {
+    struct stat of;
+    return lstat(path, &of) != 0 && (errno == ENOENT || errno == ENOTDIR || errno == ENAMETOOLONG);
+}
+
 static bool read_beside(settings *to, const char *image, fault *error) {
     char *path = beside(image, ".dicrc");
     if (!path) return fail_memory(error);
-    bool is_read = access(path, F_OK) != 0 || (read_settings(to, path, error) && set(to, HAS_DICRC, "1", error));
+    bool is_read = is_missing(path) || (read_settings(to, path, error) && set(to, HAS_DICRC, "1", error));
     free(path);
     return is_read;
 }

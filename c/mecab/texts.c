@@ -8,9 +8,9 @@ static const char EOS[] = "EOS\\n";
 static const char *const PARTS[PART_COUNT] = {"node-format", "unk-format", "bos-format", "eos-format", "eon-format"};
 static const char *const DEFAULTS[PART_COUNT] = {NODE, NODE, "", EOS, ""};
 
-/* No two formats have the same number. 1 is that of parsing.c. */
-static atomic_ulong last_number = 2;
-static const format LINES = {.style = LINES_STYLE, .texts = {NODE, NODE, "", EOS, ""}, .number = 2, .is_proved = true};
+/* No two formats have the same number. 0 is none's: a lattice's cutter has it before a format was chosen. */
+static atomic_ulong last_number = 1;
+static const format LINES = {.style = LINES_STYLE, .texts = {NODE, NODE, "", EOS, ""}, .number = 1, .is_proved = true};
 static const format WAKATI = {.style = WAKATI_STYLE, .texts = {"%m ", "%m ", "", "\\n", ""}, .is_proved = true};
 static const format NONE = {.style = NO_STYLE, .texts = {"", "", "", "", ""}, .is_proved = true};
 

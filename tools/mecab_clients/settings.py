@@ -1,25 +1,33 @@
-"""Which image the program mecab takes, and which settings it refuses: rows of what is named where. Each row has a folder of its own, in which
-HERE stands for the folder, and USER for a user dictionary that MeCab has compiled. damaged.img has another digest than its bytes, and short.img
-lacks its last byte."""
+"""Which images the program mecab takes, and which settings it refuses: rows of what is named where. Each row has a folder of its own, in which
+HERE stands for the folder, SHARED for PREFIX/share/kumquatsieve, and USER for a user dictionary that MeCab has compiled. damaged.img has another
+digest than its bytes, short.img lacks its last byte, and user.img and more.img are users' dictionaries."""
 import os
+import shutil
 import subprocess
 import sys
 from dataclasses import dataclass, field
+from pathlib import Path
+
+from mecab_clients.common import TOP, run
 
 
 @dataclass
 class Row:
-    """What is named, and the image that is taken or what standard error says."""
+    """What is named, also by links and by images in SHARED; and the images that are taken, the system's first, or what standard error says."""
     what: str
     options: list = field(default_factory=list)
     files: dict = field(default_factory=dict)
     environment: dict = field(default_factory=dict)
     image: str = ""
     said: str = ""
+    users: tuple = ()
+    links: dict = field(default_factory=dict)
+    shared: tuple = ()
 
 
 IPADIC, INDEX = "/usr/share/mecab/dic/ipadic", "/usr/lib/mecab/mecab-dict-index"
 A, B = {"KUMQUATSIEVE_DICTIONARY": "HERE/a.img"}, {"MECABRC": "HERE/rc"}
+LONGEST = f"{'x' * 250}.img"
 OF_C = {"home/.mecabrc": "dicdir = HERE/c.img\n"}
 ROWS = [
     Row("-d before all", ["-d", "HERE/b.img", "-r", "HERE/rc"], {"rc": "dicdir = HERE/c.img\n"}, A, image="b.img"),
@@ -40,6 +48,26 @@ ROWS = [
     Row("a dicrc without =", ["-d", "HERE/a.img"], {"a.dicrc": "cost-factor 800\n"}, said="a.dicrc: line 1: no `=`"),
     Row("a pos-id.def without a number", ["-d", "HERE/a.img"], {"a.dicrc": "", "a.pos-id.def": "* 1\n名詞 x\n"}, said="a.pos-id.def: line 2: "),
     Row("a user dictionary of MeCab's", ["-d", "HERE/a.img", "-u", "USER"], said="user.dic is a dictionary of MeCab's: `dictc user --dic IMG "),
+    Row("a dicrc that is a link to itself", ["-d", "HERE/a.img"], links={"a.dicrc": "a.dicrc"}, said="a.dicrc: Too many levels of symbolic links"),
+    Row("a dicrc that is a link to nothing", ["-d", "HERE/a.img"], links={"a.dicrc": "b.dicrc"}, said="a.dicrc: No such file or directory"),
+    Row("a dicrc that is a folder", ["-d", "HERE/a.img"], {"a.dicrc/file": ""}, said="a.dicrc: line 1: Is a directory"),
+    Row("no dicrc can be beside a name of 254 bytes", ["-d", f"HERE/{LONGEST}"], image=LONGEST),
+    Row("users' dictionaries of a file", ["-r", "HERE/rc"], {"rc": "dicdir = HERE/b.img\nuserdic = HERE/user.img,HERE/more.img\n"},
+        image="b.img", users=("user.img", "more.img")),
+    Row("-u before a file's", ["-r", "HERE/rc", "-u", "HERE/more.img"], {"rc": "dicdir = HERE/b.img\nuserdic = HERE/user.img\n"},
+        image="b.img", users=("more.img",)),
+    Row("a user dictionary of a file that is not there", ["-r", "HERE/rc"], {"rc": "dicdir = HERE/b.img\nuserdic = HERE/d.img\n"},
+        said="d.img: can't be opened"),
+    Row("an image by its name", ["-d", "own"], shared=("own.img",), image="SHARED/own.img"),
+    Row("a name of no image", ["-d", "own"], said="SHARED/own.img: can't be opened"),
+    Row("the machine's image", [], shared=("kumquatsieve.img",), image="SHARED/kumquatsieve.img"),
+    Row("the machine's image behind MECABRC's file", [], {"rc": "dicdir=HERE/b.img\n"}, B, shared=("kumquatsieve.img",), image="b.img"),
+    Row("a compiled folder of MeCab's", ["-d", "HERE/ipadic-utf8"], {"ipadic-utf8/sys.dic": ""}, shared=("ipadic.img",), image="SHARED/ipadic.img"),
+    Row("a folder of MeCab's sources", ["-d", "HERE/naist-jdic"], {"naist-jdic/matrix.def": ""}, shared=("naist.img",), image="SHARED/naist.img"),
+    Row("a file's folder of MeCab's", ["-r", "HERE/rc"], {"rc": "dicdir = HERE/ipadic-utf8/\n", "ipadic-utf8/sys.dic": ""},
+        shared=("ipadic.img",), image="SHARED/ipadic.img"),
+    Row("a link to a folder of MeCab's", ["-d", "HERE/debian"], {"juman-utf8/sys.dic": ""}, links={"debian": "juman-utf8"},
+        shared=("juman.img",), image="SHARED/juman.img"),
     Row("partial parsing in a file", ["-r", "HERE/rc"], {"rc": "dicdir = HERE/b.img\npartial = 1\n"}, said="partial parsing is not supported"),
 ]
 
@@ -54,36 +82,61 @@ def compile_user(path):
 
 def images_of(sample):
     """The images in a folder, by their paths."""
-    whole = sample.read_bytes()
-    images = {path: whole for path in ("a.img", "b.img", "c.img", "with/kumquatsieve.img")}
+    whole, user = sample.read_bytes(), sample.with_name("settings-user.img").read_bytes()
+    images = {path: whole for path in ("a.img", "b.img", "c.img", LONGEST, "with/kumquatsieve.img")} | {"user.img": user, "more.img": user}
     return images | {"damaged.img": whole[:-1] + bytes([whole[-1] ^ 1]), "short.img": whole[:-1]}
 
 
-def told(row, folder, sample, library):
-    """The program's status, and what it prints of its dictionary or says."""
-    here = lambda text: text.replace("HERE", str(folder)).replace("USER", str(folder.parent / "user.dic"))
+def compile_users_image(sample):
+    """An image of a user dictionary of a word, for the sample's."""
+    source = sample.with_name("settings-user.csv")
+    source.write_text("ももも,1,1,1,名詞,ももも\n")
+    run([TOP / "crates" / "dictc" / "out" / "dictc", "user", "--dic", sample, "--out", source.with_suffix(".img"), source], os.environ)
+
+
+def write_files(row, folder, sample, here):
     for path, image in images_of(sample).items():
         (folder / path).parent.mkdir(parents=True, exist_ok=True)
         (folder / path).write_bytes(image)
     for path, text in row.files.items():
         (folder / path).parent.mkdir(parents=True, exist_ok=True)
         (folder / path).write_text(here(text))
-    environment = {name: value for name, value in os.environ.items() if name not in ("MECABRC", "KUMQUATSIEVE_DICTIONARY")}
+    for path, to in row.links.items():
+        (folder / path).symlink_to(to)
+
+
+def told(row, folder, sample, library, here):
+    """The program's status, and what it prints of its dictionaries or says."""
+    environment = {name: value for name, value in os.environ.items() if name not in ("MECABRC", "KUMQUATSIEVE_DICTIONARY", "XDG_DATA_HOME")}
     environment |= {"HOME": str(folder / "home"), "LD_LIBRARY_PATH": str(library.parent)}
     environment |= {name: here(value) for name, value in row.environment.items()}
+    shared = [Path(here(f"SHARED/{name}")) for name in row.shared]
+    for path in shared:
+        shutil.copyfile(sample, path)
     done = subprocess.run(["mecab", "-D", *map(here, row.options)], capture_output=True, text=True, env=environment)
+    for path in shared:
+        path.unlink()
     return done.returncode, done.stdout, done.stderr
+
+
+def is_right(row, answer, here):
+    status, printed, said = answer
+    if not row.image:
+        return status == 1 and not printed and here(row.said) in said
+    wanted = [here(name if name.startswith("SHARED/") else f"HERE/{name}") for name in (row.image, *row.users)]
+    named = [line.removeprefix("filename:\t") for line in printed.replace("folder/../", "").splitlines() if line.startswith("filename:")]
+    return status == 0 and named == wanted
 
 
 def check_settings(folder, library):
     compile_user(folder / "user.dic")
+    sample, shared = folder / "sample.img", library.parents[3] / "share" / "kumquatsieve"
+    compile_users_image(sample)
     for number, row in enumerate(ROWS):
         own = folder / f"settings-{number}"
-        status, printed, said = told(row, own, folder / "sample.img", library)
-        if row.image:
-            taken = status == 0 and f"filename:\t{own}/{row.image}\n" in printed.replace("folder/../", "")
-        else:
-            taken = status == 1 and not printed and row.said in said
-        if not taken:
-            sys.exit(f"mecab-clients: {row.what}: status {status}, {printed}{said}")
+        here = lambda text: text.replace("HERE", str(own)).replace("SHARED", str(shared)).replace("USER", str(folder / "user.dic"))
+        write_files(row, own, sample, here)
+        answer = told(row, own, sample, library, here)
+        if not is_right(row, answer, here):
+            sys.exit(f"mecab-clients: {row.what}: status {answer[0]}, {answer[1]}{answer[2]}")
     print(f"mecab-clients: {len(ROWS)} rows of settings lead to their images, or are refused", flush=True)
