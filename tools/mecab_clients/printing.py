@@ -9,6 +9,8 @@ from pathlib import Path
 
 from mecab_clients.common import CLIENTS, INDEX, IPADIC, PYTHON, TOP, compiled, dictionary_of, first_lines, run, works
 from mecab_clients.dictionaries import over_dictionaries
+from mecab_clients.examples import printed_by_examples
+from mecab_clients.own_formats import printed_in_own_formats
 
 JAR = Path("/usr/share/java/MeCab-0.996.jar")
 POSTGRESQL = Path("/usr/lib/postgresql")
@@ -129,6 +131,8 @@ def clients():
         ("C, each field of each node, with users' dictionaries", INDEX.exists() and IPADIC.exists(), printed_by_fields_with_users),
         *over_dictionaries(),
         ("mecab with options and formats", works("mecab", "--version"), printed_by_options),
+        ("formats of a dicrc of no dictionary", works("mecab", "--version"), printed_in_own_formats),
+        ("C and C++ as in MeCab's documents", True, printed_by_examples),
         ("mecab as a coprocess", works("mecab", "--version"), coprocess),
         ("Text::MeCab", works("perl", "-MText::MeCab", "-e", "1"), perl),
         ("MeCab.pm", works("perl", "-MMeCab", "-e", "1"), lattices),

@@ -1,0 +1,39 @@
+/* Prints each line in a dictionary's own format: endings DICTIONARY TYPE LINES. The text, the best path as the first of several, with what stands at
+   their end, and each node by itself, also that of the beginning and the end. */
+#include <mecab.h>
+#include <stdio.h>
+#include <stdlib.h>
+#include <string.h>
+
+static int tell(mecab_t *tagger, const char *line) {
+    const char *text = mecab_sparse_tostr(tagger, line);
+    if (!text) return 0;
+    printf("%s|", text);
+    text = mecab_nbest_sparse_tostr(tagger, 1, line);
+    if (!text) return 0;
+    printf("%s|", text);
+    for (const mecab_node_t *node = mecab_sparse_tonode(tagger, line); node; node = node->next) {
+        text = mecab_format_node(tagger, node);
+        printf("%u %s|", node->stat, text ? text : "none");
+    }
+    return 1;
+}
+
+int main(int given, char **words) {
+    char options[4096], *line = NULL;
+    size_t room = 0;
+    int told = 1;
+    FILE *file = given == 4 ? fopen(words[3], "r") : NULL;
+    if (!file) return 2;
+    snprintf(options, sizeof options, "-d %s -O %s", words[1], words[2]);
+    mecab_t *tagger = mecab_new2(options);
+    if (!tagger) return 1;
+    while (told && getline(&line, &room, file) > 0) {
+        line[strcspn(line, "\n")] = '\0';
+        told = tell(tagger, line);
+    }
+    free(line);
+    fclose(file);
+    mecab_destroy(tagger);
+    return told ? 0 : 1;
+}
