@@ -5,7 +5,7 @@ import shutil
 import subprocess
 import sys
 
-from mecab_clients.common import CLIENTS, HEADER, PYTHON, TOP, VALGRIND, compiled, first_lines, run, with_layer
+from mecab_clients.common import CLIENTS, HEADER, PYTHON, TOP, VALGRIND, compiled, first_lines, refusing, run, with_layer
 
 # The programs that are run over the sample's dictionary.
 OVER_THE_SAMPLE = ("calls.c", "classes.cc", "sharing.c", "odd_texts.c")
@@ -61,16 +61,15 @@ def check_replaced(folder, library):
 
 def check_growths(folder, library):
     """Each growth of the heap refused in turn: the call that wanted it says so, or does without."""
-    image, heap, report = folder / "sample.img", folder / "refuse.so", folder / "growths-told"
+    image, ours = folder / "sample.img", dict(os.environ, LD_LIBRARY_PATH=str(library.parent))
     image.with_suffix(".dicrc").write_text("bos-feature = B,*\nnode-format-x = %m %F-[0,1] %h\\n\n")
     image.with_suffix(".pos-id.def").write_text("名詞 3\n* 4\n")
-    run(["gcc", "-shared", "-fPIC", "-O1", TOP / "tools" / "refuse.c", "-o", heap, "-ldl"], os.environ)
     program = compiled(CLIENTS / "growths.c", folder, library)
     count = 0
     for options in ("-C", "-Ox"):
         for number in range(1, 10_000):
-            ours = dict(os.environ, LD_LIBRARY_PATH=str(library.parent), LD_PRELOAD=str(heap), REFUSE=str(number), REFUSE_REPORT=str(report))
-            status = subprocess.run([program, image, options], env=ours, stderr=subprocess.DEVNULL).returncode
+            environment, report = refusing(folder, ours, number)
+            status = subprocess.run([program, image, options], env=environment, stderr=subprocess.DEVNULL).returncode
             if "refused 0" in report.read_text():
                 break
             if status not in (0, 1):

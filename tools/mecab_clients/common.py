@@ -42,6 +42,14 @@ def with_layer(folder, library, source, *flags):
     return program
 
 
+def refusing(folder, environment, number):
+    """The environment in which the growth of the heap of this number is refused, and the file that says whether there was one."""
+    heap, report = folder / "refuse.so", folder / "growths"
+    if not heap.exists():
+        run(["gcc", "-shared", "-fPIC", "-O1", TOP / "tools" / "refuse.c", "-o", heap, "-ldl"], os.environ)
+    return dict(environment, LD_PRELOAD=str(heap), REFUSE=str(number), REFUSE_REPORT=str(report)), report
+
+
 def dictionary_of(environment):
     """The dictionary that the environment names for ours, and else Debian's."""
     return environment.get("KUMQUATSIEVE_DICTIONARY", COMPILED)

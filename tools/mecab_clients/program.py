@@ -5,7 +5,7 @@ import subprocess
 import sys
 from dataclasses import dataclass, field
 
-from mecab_clients.common import CLIENTS, VALGRIND, compiled, run
+from mecab_clients.common import CLIENTS, VALGRIND, compiled, refusing, run
 
 MOMO, SUMOMO = "もも\t名詞,もも\nEOS\n".encode(), "すもも\t名詞,すもも\nもも\t名詞,もも\nEOS\n".encode()
 LONG, LONG_CUT = ("もも" * 2_000 + "\n").encode(), ("もも " * 2_000 + "\n").encode()
@@ -80,14 +80,14 @@ def check_rows(folder, library):
 
 def check_refused_memory(folder, library):
     """Each growth of the heap of the program refused in turn: it says so with the line's number, or prints all."""
-    heap, report, text = folder / "refuse.so", folder / "growths-of-mecab", folder / "two-lines"
+    text = folder / "two-lines"
     text.write_text(f"もも\n{'もも' * 40_000}\n")
     command = ["mecab", "-r", "/dev/null", "-d", folder / "sample.img", "-Owakati", text]
     environment = dict(os.environ, LD_LIBRARY_PATH=str(library.parent))
     whole, said = run(command, environment), set()
     for number in range(1, 10_000):
-        refusing = dict(environment, LD_PRELOAD=str(heap), REFUSE=str(number), REFUSE_REPORT=str(report))
-        done = subprocess.run(list(map(str, command)), env=refusing, capture_output=True)
+        refused, report = refusing(folder, environment, number)
+        done = subprocess.run(list(map(str, command)), env=refused, capture_output=True)
         if "refused 0" in report.read_text():
             break
         told = done.stderr.decode()
