@@ -25,7 +25,8 @@ void tell_node(const MeCab::Node *node) {
 
 void tell_dictionaries(const MeCab::DictionaryInfo *info) {
     for (; info != nullptr; info = info->next) {
-        std::cout << info->charset << ' ' << info->size << ' ' << info->type << ' ' << info->lsize << ' ' << info->rsize << ' ' << info->version << '\n';
+        std::cout << info->charset << ' ' << info->size << ' ' << info->type << ' ' << info->version << '\n';
+        std::cout << info->lsize << ' ' << info->rsize << '\n';
     }
 }
 
