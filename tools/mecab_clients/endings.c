@@ -1,15 +1,24 @@
-/* Prints each line in a dictionary's own format: endings DICTIONARY TYPE LINES. The text, the best path as the first of several, with what stands at
-   their end, and each node by itself, also that of the beginning and the end. */
+/* Prints each line in a dictionary's own format: endings DICTIONARY TYPE LINES. The text, and each node by itself, also that of the beginning and the
+   end. Then the best path of some sentences as the first of several, with what stands behind these. Of paths that cost the same MeCab may give
+   another one then, so these are sentences with one best path. */
 #include <mecab.h>
 #include <stdio.h>
 #include <stdlib.h>
 #include <string.h>
 
+static const char *const SENTENCES[] = {"すもももももももものうち", "東京都に住む", " a b ", ""};
+
+static int tell_first_of_several(mecab_t *tagger) {
+    for (size_t i = 0; i < sizeof SENTENCES / sizeof *SENTENCES; i++) {
+        const char *text = mecab_nbest_sparse_tostr(tagger, 1, SENTENCES[i]);
+        if (!text) return 0;
+        printf("%s|", text);
+    }
+    return 1;
+}
+
 static int tell(mecab_t *tagger, const char *line) {
     const char *text = mecab_sparse_tostr(tagger, line);
-    if (!text) return 0;
-    printf("%s|", text);
-    text = mecab_nbest_sparse_tostr(tagger, 1, line);
     if (!text) return 0;
     printf("%s|", text);
     for (const mecab_node_t *node = mecab_sparse_tonode(tagger, line); node; node = node->next) {
@@ -32,6 +41,7 @@ int main(int given, char **words) {
         line[strcspn(line, "\n")] = '\0';
         told = tell(tagger, line);
     }
+    told = told && tell_first_of_several(tagger);
     free(line);
     fclose(file);
     mecab_destroy(tagger);
