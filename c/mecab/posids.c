@@ -15,11 +15,12 @@ typedef struct rule {
     uint16_t id;
 } rule;
 
-/* The rules, and for each token of each dictionary its id and one, once it was found, else 0. */
+/* The rules, of which the longest has so many fields, and for each token of each dictionary its id and one, once it was found, else 0. */
 struct posids {
     rule *rules;
     size_t count;
     size_t room;
+    size_t longest;
     size_t dictionary_count;
     _Atomic uint32_t **ids;
 };
@@ -51,6 +52,7 @@ static bool add_rule(posids *to, const char *pattern, size_t length, unsigned lo
     if (!new->text) return fail_memory(error);
     to->count++;
     if (!add_fields_of(new, error)) return false;
+    if (new->field_count > to->longest) to->longest = new->field_count;
     if (to->count > 1) new->shared = shared_of(new - 1, new);
     return true;
 }
@@ -98,8 +100,9 @@ static bool make_ids(posids *to, const images *of, fault *error) {
 posids *read_posids(const char *path, const images *of, fault *error) {
     posids *made = calloc(1, sizeof *made);
     FILE *file = made ? fopen(path, "re") : NULL;
+    int why = errno;
     bool is_read = made && make_ids(made, of, error);
-    if (is_read && !file && errno != ENOENT) is_read = fail(error, "%s: %s", path, strerror(errno));
+    if (is_read && !file && why != ENOENT) is_read = fail(error, "%s: %s", path, strerror(why));
     if (is_read) is_read = file ? read_rules(made, file, path, error) : add_rule(made, "*", 1, 1, error);
     if (file) fclose(file);
     if (is_read) return made;
@@ -121,9 +124,10 @@ static bool is_one_of(const char *list, size_t length, const char *field) {
 
 /* A pattern that begins with `*` matches all, and one in brackets each of what stands between bars. (MeCab) */
 static bool matches(const char *pattern, const char *field) {
-    size_t length = strlen(pattern);
     if (*pattern == '*' || strcmp(pattern, field) == 0) return true;
-    return length >= 3 && pattern[0] == '(' && pattern[length - 1] == ')' && is_one_of(pattern + 1, length - 2, field);
+    if (*pattern != '(') return false;
+    size_t length = strlen(pattern);
+    return length >= 3 && pattern[length - 1] == ')' && is_one_of(pattern + 1, length - 2, field);
 }
 
 /* How many fields of a rule match, before the first one that doesn't. */
@@ -145,11 +149,13 @@ static uint16_t id_by_fields(const posids *of, const char *const *fields, size_t
     return NO_ID;
 }
 
+/* What is behind the longest rule is not looked at, so one field more has it. */
 static bool find_id(const posids *of, const char *feature, uint16_t *id, fault *error) {
     const char *fields[FIELD_MAX];
     char *copy = strdup(feature);
     if (!copy) return fail_memory(error);
-    *id = id_by_fields(of, fields, cut_fields(copy, fields, FIELD_MAX));
+    size_t most = of->longest < FIELD_MAX ? of->longest + 1 : FIELD_MAX;
+    *id = id_by_fields(of, fields, cut_fields(copy, fields, most));
     free(copy);
     return true;
 }
