@@ -1,0 +1,11 @@
+pub mod Lists
+pub mod LeastLemmas
+pub mod PathParts
+pub mod ReachLemmas
+pub mod TotalLemmas
+pub mod RestLemmas
+pub mod SourceLemmas
+pub mod StepLemmas
+pub mod NodeLemmas
+pub mod SampleLemmas
+pub mod OnPathLemmas

@@ -1,0 +1,44 @@
+use Rattle.std.proofs.Common.{◌≡◌, ◌<◌, ◌∙◌, Option, length, refl, ap, arith}
+use Rattle.std.proofs.lemmas.List.{length_push}
+use Rattle.mj_model.specs.declared.word.Word.{Word}
+use Rattle.std.proofs.lemmas.Option.{slice_get_read}
+use Rattle.lattice_nodes.specs.declared.cost.ChainCost.{ChainCost}
+use Rattle.lattice_nodes.specs.Least.{IsLeastOf, number_of}
+use Rattle.lattice_nodes.specs.Totals.{CostsUpToBelow}
+use Rattle.lattice_nodes.proofs.SourceLemmas.{follows_bos}
+use Rattle.lattice_nodes.proofs.StepLemmas.{begun, begun_all, holds_pushed}
+use Rattle.lattice_nodes.proofs.totals.first_totals.Goals as goal
+
+pub first_total-requires : goal.first_total-requires
+first_total-requires g c =
+    let t = g.S.WordSource.says c.args.source.now in
+    let r = c.args.reached.now in
+    let i = c.loop-i.i in
+    let ok = r.words.ok in
+    let less : i < length r.words.items = omega (arith, c.loop-i-test.true, c.len-i-end.ensures, ok.0) in
+    follows_bos t r c.requires.source c.requires.reached i c.index.result.now (slice_get_read r.words.items (length r.words.items) i c.index.result.now refl less c.index.ensures)
+
+pub loop-i-preserved : goal.loop-i-preserved
+loop-i-preserved g c =
+    let t = g.S.WordSource.says c.args.source.now in
+    let r = c.args.reached.now in
+    let i = c.loop-i.i in
+    let ok = r.words.ok in
+    let less : i < length r.words.items = omega (arith, c.loop-i-test.true, c.len-i-end.ensures, ok.0) in
+    let w = c.index.result.now in
+    let at = slice_get_read r.words.items (length r.words.items) i w refl less c.index.ensures in
+    let long = c.loop-i.invariant.long in
+    record {
+      long = ap length c.in_ok-push.ensures.items ∙ (let more = length_push c.loop-i.totals.items c.first_total.result in omega (arith, more, long));
+      each = holds_pushed (λ (v : Word) (o : Option ChainCost). IsLeastOf (CostsUpToBelow t.words t.connection r.words.items 0 v) (number_of o)) r.words.items c.loop-i.totals.items c.push.new.self.items c.first_total.result i w
+          long at c.in_ok-push.ensures.items (begun t r c.requires.source c.requires.reached i w c.first_total.result at c.first_total.ensures) c.loop-i.invariant.each;
+    }
+
+pub returns : goal.returns
+returns g c =
+    let t = g.S.WordSource.says c.args.source.now in
+    let r = c.args.reached.now in
+    let ok = r.words.ok in
+    let long = c.loop-i.invariant.long in
+    let all : length c.loop-i.totals.items ≡ length r.words.items = omega (arith, long, c.loop-i.auto.i-end, c.loop-i-test.false, c.len-i-end.ensures, ok.0) in
+    begun_all t r c.requires.source c.requires.reached c.loop-i.totals.items all c.loop-i.invariant.each

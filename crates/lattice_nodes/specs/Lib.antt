@@ -1,0 +1,8 @@
+pub mod Least
+pub mod LatticeNodes
+pub mod Reaching
+pub mod Totals
+pub mod Rests
+pub mod Assembled
+pub mod Sample
+pub mod OnPath

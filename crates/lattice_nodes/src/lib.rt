@@ -1,0 +1,17 @@
+//! The lattice of a text as a value: its words, and what the chains and the paths through each cost, over any source of words.
+#![tactic(auto)]
+
+mod cost;
+mod lattice_node;
+mod nodes;
+mod on_path;
+mod reaching;
+mod rests;
+mod totals;
+
+pub use lattice_node::LatticeNode;
+pub use nodes::lattice_nodes;
+pub use on_path::nodes_on_path;
+
+#[cfg(test)]
+mod tests;
