@@ -1,6 +1,7 @@
 //! What both programs answer about themselves and their faults.
 
 use crate::explanation::{codes, explained};
+use crate::one_line::OneLine;
 use crate::options_fault::OptionsFault;
 use crate::row::{FLAG, MAY_HAVE_VALUE, Name, Row};
 use clap::ArgMatches;
@@ -53,6 +54,7 @@ pub(crate) fn answer_explain(
     };
     let text = explained(alloc, asked)?;
     if text.is_empty() {
+        let asked = OneLine(asked);
         let told = format!(in alloc; "no fault has the code or name '{asked}'")?;
         return Err(OptionsFault::wrong(alloc, program, told.as_str()));
     }

@@ -4,5 +4,5 @@ mod choices;
 mod command;
 mod rows;
 
-pub use choices::{Base, Options};
+pub use choices::{Asked, Base, IdsOptions, Options};
 pub use command::options;

@@ -5,11 +5,13 @@ mod about;
 pub mod dictc;
 mod explanation;
 pub mod jseg;
+mod one_line;
 mod options_fault;
 mod row;
 mod words;
 
 pub use about::VERSION;
 pub use explanation::{Explanation, explanation_of};
+pub use one_line::OneLine;
 pub use options_fault::OptionsFault;
 pub use words::words_given;

@@ -1,5 +1,6 @@
 //! Why a command line makes no choices.
 
+use crate::one_line::{OneLine, ToldLines};
 use clap::Error;
 use clap::error::ErrorKind as ParserKind;
 use std::alloc::{AllocError, Global};
@@ -60,6 +61,30 @@ impl OptionsFault {
         }
     }
 
+    /// The same with the control characters of words escaped. The lines of the text stay.
+    pub(crate) fn in_lines(self, alloc: Global) -> OptionsFault {
+        match self {
+            OptionsFault::Bad(text) => match format!(in alloc; "{}", ToldLines(text.as_str())) {
+                Ok(text) => OptionsFault::Bad(text),
+                Err(_) => OptionsFault::Memory,
+            },
+            other => other,
+        }
+    }
+
+    /// The same with what to write in place of a word that begins as an option and is meant as the name of a file.
+    pub(crate) fn with_file_tip(self, alloc: Global, word: Option<&str>) -> OptionsFault {
+        match (self, word) {
+            (OptionsFault::Bad(text), Some(word)) => {
+                match with_file_tip(alloc, text.as_str(), word) {
+                    Ok(text) => OptionsFault::Bad(text),
+                    Err(_) => OptionsFault::Memory,
+                }
+            }
+            (other, _) => other,
+        }
+    }
+
     /// The fault that the parser tells with this text, which begins with the program's name in place of the parser's word.
     fn begun(alloc: Global, program: &str, text: &str) -> OptionsFault {
         let told = text.strip_prefix("error: ").unwrap_or(text);
@@ -100,6 +125,14 @@ fn without_tip(alloc: Global, text: &str) -> Result<String, AllocError> {
         kept.push_str(part)?;
     }
     Ok(kept)
+}
+
+/// The parts of a text, with a tip behind the first one and without the parser's own.
+fn with_file_tip(alloc: Global, text: &str, word: &str) -> Result<String, AllocError> {
+    let text = without_tip(alloc, text)?;
+    let word = OneLine(word);
+    let (first, others) = text.split_once("\n\n").unwrap_or((text.as_str(), ""));
+    format!(in alloc; "{first}\n\n  tip: for the file '{word}' write './{word}'\n\n{others}")
 }
 
 impl From<AllocError> for OptionsFault {

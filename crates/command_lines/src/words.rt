@@ -1,5 +1,6 @@
 //! The words of a command line, and what a command finds in them.
 
+use crate::one_line::WORDS_FEED;
 use crate::options_fault::OptionsFault;
 use clap::{ArgMatches, Command};
 use std::alloc::{AllocError, Global};
@@ -17,6 +18,35 @@ fn words(rt: &HostRuntime) -> io::Result<Vec<String>> {
         words.push(word)?;
     }
     Ok(words)
+}
+
+/// Words with another character in place of each line feed. Told by `OptionsFault::in_lines` they stand in the lines of the parser's text.
+pub(crate) fn without_feeds(alloc: Global, words: &[String]) -> Result<Vec<String>, AllocError> {
+    words
+        .iter()
+        .map(|word| word.replace(alloc, '\n', WORDS_FEED))
+        .try_collect(alloc)
+}
+
+/// The first word that begins with `-` behind one of these options, each of which takes the name of a file.
+pub(crate) fn file_behind<'a>(words: &'a [String], options: &[&str]) -> Option<&'a str> {
+    let mut is_next = false;
+    for word in words {
+        if is_next && word.starts_with('-') {
+            return Some(word.as_str());
+        }
+        is_next = options.iter().any(|option| word.as_str() == *option);
+    }
+    None
+}
+
+/// The first word before `--` that begins with `-` and has the `.` of a file's name, and no `=` of an option's value.
+pub(crate) fn file_among(words: &[String]) -> Option<&str> {
+    words
+        .iter()
+        .map(|word| word.as_str())
+        .take_while(|word| *word != "--")
+        .find(|word| word.starts_with('-') && word.contains('.') && !word.contains('='))
 }
 
 /// What a command finds in words.

@@ -1,2 +1,7 @@
+pub mod Beside
+pub mod FileLines
+pub mod Listings
 pub mod MatrixFiles
+pub mod PairRows
+pub mod Templates
 pub mod ToldSteps

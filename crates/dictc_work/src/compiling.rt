@@ -1,6 +1,9 @@
 //! Dictionaries are compiled from the files that the command line names.
 
+use crate::all_faults::{is_of_a_line, tell_faults};
+use crate::beside::Beside;
 use crate::matrix_file::MatrixFile;
+use crate::no_image::NoImage;
 use crate::reporting::tell_counts;
 use crate::shares::say_shares;
 use crate::step_teller::StepTeller;
@@ -9,20 +12,23 @@ use dict_compile::{
     CompileUserFault, Compiled, OtherSources, compile_others_watched, compile_user_watched,
 };
 use dict_image::{Dict, DigestTest};
+use matrix_def::Matrix;
 use mj_model::{OverlayFault, SourceFault};
 use programs::{
-    Fault, Narrator, SourceFiles, Stage, WholeFile, dictionary_at, lexicon_path, read_files, texts,
-    write_file,
+    Fault, Narrator, Progress, SourceFiles, Stage, WholeFile, dictionary_at, lexicon_path,
+    read_files, texts, write_file,
 };
-use std::alloc::Global;
 use std::string::String;
 
+/// The name of the program.
+const PROGRAM: &str = "dictc";
+
 /// Compiles what the options ask for, and tells what was compiled on standard output.
-pub fn compile_told(rt: &HostRuntime, options: &Options) -> Result<(), Fault> {
-    let narrator = Narrator::new(rt, "dictc", options.verbose);
+pub fn compile_told(rt: &HostRuntime, options: &Options) -> Result<(), NoImage> {
+    let narrator = Narrator::new(rt, PROGRAM, options.verbose);
     let compiled = compile_image(rt, options, &narrator)?;
     say_shares(&narrator, &compiled.image);
-    tell_counts(&compiled, &mut rt.stdout())
+    Ok(tell_counts(&compiled, &mut rt.stdout())?)
 }
 
 /// Compiles what the options ask for, and writes its image.
@@ -30,9 +36,9 @@ pub fn compile_image(
     rt: &HostRuntime,
     options: &Options,
     narrator: &Narrator<'_>,
-) -> Result<Compiled, Fault> {
+) -> Result<Compiled, NoImage> {
     let compiled = compile_files(rt, options, narrator);
-    if let Err(fault) = &compiled {
+    if let Err(NoImage::Fault(fault)) = &compiled {
         narrator.say_why(fault);
     }
     let compiled = compiled?;
@@ -54,10 +60,10 @@ fn compile_files(
     rt: &HostRuntime,
     options: &Options,
     narrator: &Narrator<'_>,
-) -> Result<Compiled, Fault> {
+) -> Result<Compiled, NoImage> {
     match &options.base {
         Base::Definitions { matrix, chars, unk } => {
-            let costs = MatrixFile::read(rt, matrix.as_str())?;
+            let costs = read_costs(rt, matrix.as_str())?;
             let files = SourceFiles {
                 matrix: String::from_str(rt.alloc(), matrix.as_str())?,
                 chars: WholeFile::read(rt, chars.as_str())?,
@@ -65,71 +71,116 @@ fn compile_files(
                 lexicons: read_files(rt, &options.lexicons)?,
             };
             files.say(narrator, costs.bytes, &costs.first);
-            compile_sources(rt.alloc(), costs, &files, narrator)
+            compile_sources(rt, costs, files, narrator, options.all_faults)
         }
         Base::System { dic, skip_digest } => {
-            let system = dictionary_at(rt, dic.as_str(), DigestTest::skipped_if(*skip_digest))?;
-            narrator.say(Stage::Loaded { path: dic.as_str() });
-            compile_user_files(rt, (dic.as_str(), &system), &options.lexicons, narrator)
+            let dic = dic.as_str();
+            let system = dictionary_at(rt, dic, DigestTest::skipped_if(*skip_digest))?;
+            narrator.say(Stage::Loaded { path: dic });
+            let files = read_files(rt, &options.lexicons)?;
+            for file in &files {
+                narrator.say_source(file);
+            }
+            compile_user_files(rt, (dic, &system), files, narrator, options.all_faults)
         }
     }
 }
 
+/// Reads a `matrix.def`, which may be large, while a terminal is told how far it is.
+fn read_costs(rt: &HostRuntime, path: &str) -> Result<MatrixFile, Fault> {
+    let progress = Progress::new(rt);
+    let costs = MatrixFile::read(rt, path, &progress);
+    progress.erase();
+    costs
+}
+
 /// Compiles a system dictionary of the costs of `matrix.def` and of the other files.
 fn compile_sources(
-    alloc: Global,
+    rt: &HostRuntime,
     costs: MatrixFile,
+    mut files: SourceFiles,
+    narrator: &Narrator<'_>,
+    all_faults: bool,
+) -> Result<Compiled, NoImage> {
+    narrator.say(Stage::Compiling {
+        lexicons: files.lexicons.len(),
+    });
+    let matrix = costs.matrix().map_err(|fault| Fault::of_source(
+        rt.alloc(),
+        files.path(fault.file),
+        fault,
+    ))?;
+    let sizes = matrix.sizes();
+    let fault = match compile_others(rt, matrix, &files, narrator) {
+        Ok(compiled) => return Ok(compiled),
+        Err(fault) => fault,
+    };
+    if !all_faults || !is_of_a_line(fault) {
+        let path = files.path(fault.file);
+        return Err(NoImage::Fault(Fault::of_source(rt.alloc(), path, fault)));
+    }
+    let header = format!(in rt.alloc(); "{} {}\n", sizes.right, sizes.left)?;
+    let beside = Beside::Definitions {
+        matrix: header.as_bytes(),
+        chars: &files.chars.bytes,
+        unk: &files.unk.bytes,
+    };
+    tell_faults(rt, PROGRAM, beside, &mut files.lexicons, fault);
+    Err(NoImage::Told)
+}
+
+/// The same of the costs that were read, or the first fault of the other files.
+fn compile_others(
+    rt: &HostRuntime,
+    matrix: Matrix,
     files: &SourceFiles,
     narrator: &Narrator<'_>,
-) -> Result<Compiled, Fault> {
-    let lexicons = texts(alloc, &files.lexicons)?;
-    narrator.say(Stage::Compiling {
-        lexicons: lexicons.len(),
-    });
+) -> Result<Compiled, SourceFault> {
+    let lexicons = texts(rt.alloc(), &files.lexicons)?;
     let others = OtherSources {
         chars: &files.chars.bytes,
         unk: &files.unk.bytes,
         lexicons: &lexicons,
     };
-    compile_others(
-        alloc,
-        costs,
-        &others,
-        StepTeller::new(narrator, &files.lexicons),
-    )
-    .map_err(|fault| Fault::of_source(alloc, files.path(fault.file), fault))
-}
-
-/// The same of the bytes of the other files, or the first fault of all.
-fn compile_others(
-    alloc: Global,
-    costs: MatrixFile,
-    others: &OtherSources<'_>,
-    mut teller: StepTeller<'_>,
-) -> Result<Compiled, SourceFault> {
-    compile_others_watched(alloc, costs.matrix()?, others, &mut teller)
+    let mut teller = StepTeller::new(narrator, &files.lexicons);
+    compile_others_watched(rt.alloc(), matrix, &others, &mut teller)
 }
 
 /// Compiles a user dictionary for the system dictionary that was loaded from a path.
 fn compile_user_files(
     rt: &HostRuntime,
     (dic, system): (&str, &Dict),
-    lexicons: &[String],
+    mut files: Vec<WholeFile>,
     narrator: &Narrator<'_>,
-) -> Result<Compiled, Fault> {
-    let files = read_files(rt, lexicons)?;
-    for file in &files {
-        narrator.say_source(file);
-    }
-    let texts = texts(rt.alloc(), &files)?;
+    all_faults: bool,
+) -> Result<Compiled, NoImage> {
     narrator.say(Stage::Compiling {
-        lexicons: texts.len(),
+        lexicons: files.len(),
     });
-    let mut teller = StepTeller::new(narrator, &files);
-    compile_user_watched(rt.alloc(), system, &texts, &mut teller).map_err(|fault| match fault {
-        CompileUserFault::NotSystem => Fault::of_overlay(rt.alloc(), dic, OverlayFault::NotSystem),
-        CompileUserFault::Source(fault) => {
-            Fault::of_source(rt.alloc(), lexicon_path(&files, fault.file), fault)
+    let fault = match compile_lexicons(rt, system, &files, narrator) {
+        Ok(compiled) => return Ok(compiled),
+        Err(CompileUserFault::NotSystem) => {
+            let fault = Fault::of_overlay(rt.alloc(), dic, OverlayFault::NotSystem);
+            return Err(NoImage::Fault(fault));
         }
-    })
+        Err(CompileUserFault::Source(fault)) => fault,
+    };
+    if !all_faults || !is_of_a_line(fault) {
+        let path = lexicon_path(&files, fault.file);
+        return Err(NoImage::Fault(Fault::of_source(rt.alloc(), path, fault)));
+    }
+    tell_faults(rt, PROGRAM, Beside::System(system), &mut files, fault);
+    Err(NoImage::Told)
+}
+
+/// The same, or the first fault of its lexicons.
+fn compile_lexicons(
+    rt: &HostRuntime,
+    system: &Dict,
+    files: &[WholeFile],
+    narrator: &Narrator<'_>,
+) -> Result<Compiled, CompileUserFault> {
+    let texts = texts(rt.alloc(), files).map_err(SourceFault::from)?;
+    let mut teller = StepTeller::new(narrator, files);
+    compile_user_watched(rt.alloc(), system, &texts, &mut teller)
 }

@@ -1,20 +1,41 @@
 //! The files that a run reads: its image takes the place of none.
 
 use command_lines::OptionsFault;
-use command_lines::dictc::{Base, Options, options};
-use programs::OneLine;
+use command_lines::dictc::{Asked, Base, Options, options};
+use programs::{OneLine, image_path};
 use std::alloc::Global;
 use std::fs;
 use std::os::unix::fs::MetadataExt;
 use std::string::String;
 
 /// Reads the words that follow the program's name. The image to write is no file that is read.
-pub fn options_given(rt: &HostRuntime, words: Vec<String>) -> Result<Options, OptionsFault> {
-    let options = options(rt.alloc(), words)?;
-    if loses_an_input(rt, &options) {
-        return Err(lost_input(rt.alloc(), options.out.as_str()));
+pub fn options_given(rt: &HostRuntime, words: Vec<String>) -> Result<Asked, OptionsFault> {
+    let mut asked = options(rt.alloc(), words)?;
+    find_images(rt, &mut asked)?;
+    if let Asked::Image(options) = &asked {
+        if loses_an_input(rt, options) {
+            return Err(lost_input(rt.alloc(), options.out.as_str()));
+        }
     }
-    Ok(options)
+    Ok(asked)
+}
+
+/// Puts the paths of images in the place of their names.
+fn find_images(rt: &HostRuntime, asked: &mut Asked) -> Result<(), OptionsFault> {
+    match asked {
+        Asked::Image(options) => {
+            if let Base::System { dic, .. } = &mut options.base {
+                *dic = image_path(rt, dic.as_str())?;
+            }
+        }
+        Asked::Ids(options) => {
+            options.dic = image_path(rt, options.dic.as_str())?;
+            for user in &mut options.users {
+                *user = image_path(rt, user.as_str())?;
+            }
+        }
+    }
+    Ok(())
 }
 
 /// Whether the image to write would take the place of a file that is read.

@@ -11,7 +11,7 @@ ghost use Rattle.mj_model.specs.FirstFault.{IsRefusal};
 
 use matrix_def::{Matrix, MatrixReader};
 use mj_model::{READS_MAX, SourceFault};
-use programs::{Fault, Pieces, read_into};
+use programs::{Doing, Fault, Pieces, Progress, read_into};
 use std::alloc::{AllocError, Global};
 use std::fs;
 use std::io::Read;
@@ -47,28 +47,82 @@ impl Pieces for MatrixFile {
     }
 }
 
+/// Who is told how much of a file was read: the path of the file, and its length, or 0 where that is not known.
+#[derive(Clone, Copy)]
+pub struct ReadProgress<'a> {
+    pub progress: &'a Progress<'a>,
+    pub path: &'a str,
+    pub all: u64,
+}
+
+/// A file that is read while it is told how far that is.
+#[derive(Drop)]
+struct ToldFile<'a> {
+    file: MatrixFile,
+    reading: ReadProgress<'a>,
+}
+
+impl<'a> Pieces for ToldFile<'a> {
+    ghost given = { λ told bytes. HasTaken bytes told.file };
+
+    fn with(self, piece: &[u8]) -> Result<ToldFile<'a>, AllocError> {
+        let ToldFile { file, reading } = self;
+        let file = file.with(piece)?;
+        reading.progress.tell(Doing::Reading {
+            path: reading.path,
+            bytes: file.bytes as u64,
+            all: reading.all,
+        });
+        Ok(ToldFile { file, reading })
+    }
+}
+
 impl MatrixFile {
-    /// Reads the file at a path, within `READS_MAX` reads.
-    pub fn read<R: Files + AllocGlobal>(rt: &R, path: &str) -> Result<MatrixFile, Fault>
+    /// Reads the file at a path, within `READS_MAX` reads, and tells how far it is.
+    pub fn read<R: Files + AllocGlobal>(
+        rt: &R,
+        path: &str,
+        progress: &Progress<'_>,
+    ) -> Result<MatrixFile, Fault>
         ensures taken { IfOk result (IsOfAFile R.File.remaining) }
         ensures fault { IfErr result (Names File path.now) }
     {
+        let reading = ReadProgress {
+            progress,
+            path,
+            all: fs::metadata(rt, path).map_or(0, |found| found.len()),
+        };
         match fs::open(rt, path) {
-            Ok(mut file) => MatrixFile::read_from(rt.alloc(), path, &mut file),
+            Ok(mut file) => MatrixFile::read_from(rt.alloc(), reading, &mut file),
             Err(error) => Err(Fault::of_file(rt.alloc(), path, &error)),
         }
     }
 
     /// Reads what is left of a file that was opened at a path, within `READS_MAX` reads.
-    pub fn read_from<F: Read>(alloc: Global, path: &str, file: &mut F) -> Result<MatrixFile, Fault>
+    pub fn read_from<F: Read>(
+        alloc: Global,
+        reading: ReadProgress<'_>,
+        file: &mut F,
+    ) -> Result<MatrixFile, Fault>
         ensures taken { IfOk result (λ taken.
             IfSome (F.remaining file.old) (λ known. HasTaken known taken)) }
         ensures end { IfOk result (λ _. IsAtEnd (F.remaining file.new)) }
-        ensures fault { IfErr result (Names File path.now) }
+        ensures fault { IfErr result (Names File reading.entry.path.now) }
     {
-        match read_into(alloc, file, READS_MAX, MatrixFile::nothing(alloc)) {
-            Ok(taken) => Ok(taken),
-            Err(fault) => Err(Fault::of_reading(alloc, path, fault)),
+        let nothing = MatrixFile::nothing(alloc).told_to(reading);
+        match read_into(alloc, file, READS_MAX, nothing) {
+            Ok(taken) => Ok(taken.file),
+            Err(fault) => Err(Fault::of_reading(alloc, reading.path, fault)),
+        }
+    }
+
+    /// The same, while it is told how far it is after each further piece.
+    fn told_to(self, reading: ReadProgress<'_>) -> ToldFile<'_>
+        ensures { result.file ≡ self }
+    {
+        ToldFile {
+            file: self,
+            reading,
         }
     }
 

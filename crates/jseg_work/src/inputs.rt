@@ -1,9 +1,8 @@
 //! The choices of a command line, with the image that it means.
 
-use crate::installed::image_path;
 use command_lines::OptionsFault;
-use command_lines::jseg::{Input, Options, options};
-use programs::OneLine;
+use command_lines::jseg::{Input, Task, task};
+use programs::{OneLine, image_path};
 use std::alloc::Global;
 use std::fs;
 use std::string::String;
@@ -14,17 +13,28 @@ const PROGRAM: &str = "jseg";
 /// What a directory of MeCab has: a compiled dictionary, or sources.
 const MECAB_FILES: [&str; 2] = ["sys.dic", "matrix.def"];
 
-/// Reads the words that follow the program's name. `-d` names no dictionary of MeCab.
-pub fn options_given(rt: &HostRuntime, words: Vec<String>) -> Result<Options, OptionsFault> {
-    let mut options = options(rt.alloc(), words)?;
-    if let Input::Images { dic, .. } = &mut options.input {
-        let path = image_path(rt, dic.as_str()).map_err(|_| OptionsFault::Memory)?;
-        if is_mecab_directory(rt, path.as_str()) {
-            return Err(mecab_directory(rt.alloc(), path.as_str()));
-        }
-        *dic = path;
+/// Reads the words that follow the program's name, and finds the images that they name. `-d` names no dictionary of MeCab.
+pub fn task_given(rt: &HostRuntime, words: Vec<String>) -> Result<Task, OptionsFault> {
+    let mut task = task(rt.alloc(), words)?;
+    if let Task::Cut(options) = &mut task {
+        find_images(rt, &mut options.input)?;
     }
-    Ok(options)
+    Ok(task)
+}
+
+/// Puts the path of each image in the place of its name.
+fn find_images(rt: &HostRuntime, input: &mut Input) -> Result<(), OptionsFault> {
+    let Input::Images { dic, users, .. } = input else {
+        return Ok(());
+    };
+    *dic = image_path(rt, dic.as_str())?;
+    for user in users {
+        *user = image_path(rt, user.as_str())?;
+    }
+    if is_mecab_directory(rt, dic.as_str()) {
+        return Err(mecab_directory(rt.alloc(), dic.as_str()));
+    }
+    Ok(())
 }
 
 /// Whether a directory has a dictionary of MeCab.

@@ -1,14 +1,15 @@
-//! What `jseg` does: the text on standard input is cut by the dictionary that its command line names.
+//! What `jseg` does: the text on standard input is cut by the dictionary that its command line names, or images are listed.
 #![tactic(auto)]
 
 mod cutting;
 mod formatting;
 mod images;
 mod inputs;
-mod installed;
+mod listing;
 mod source_directory;
+mod work;
 
-pub use cutting::cut;
 pub use images::overlay_fault;
-pub use inputs::options_given;
+pub use inputs::task_given;
 pub use source_directory::{Directory, read_directory};
+pub use work::{do_task, say_more};

@@ -1,3 +1,7 @@
 pub mod Faults
+pub mod Homes
+pub mod ImageHeads
+pub mod ImageRows
 pub mod Paths
 pub mod Reading
+pub mod Writing

@@ -4,7 +4,7 @@ ghost use Rattle.std.specs.Prelude.{◌≡◌, ◌⊎◌, None, IfSome, true, fa
 ghost use Rattle.std.specs.IoError.{error_kind};
 ghost use Rattle.programs.specs.Faults.{BelongsToNoFile, IsForMemory, Names, fault_words};
 ghost use Rattle.programs.specs.declared.fault.Fault.TheVariants.{File, Memory, Source, Sources};
-ghost use Rattle.programs.specs.declared.fault.Fault.TheVariants.{Overlay};
+ghost use Rattle.programs.specs.declared.fault.Fault.TheVariants.{Image, Overlay};
 
 use crate::reading::ReadFault;
 use mj_model::{
@@ -79,6 +79,16 @@ impl Fault {
             return Fault::Memory;
         };
         Fault::Source(path, fault)
+    }
+
+    /// The fault of the image at a path.
+    pub fn of_image(alloc: Global, path: &str, fault: ImageFault) -> Fault
+        ensures { Names (λ told. Image told fault) path.now result }
+    {
+        let Ok(path) = String::from_str(alloc, path) else {
+            return Fault::Memory;
+        };
+        Fault::Image(path, fault)
     }
 
     /// The fault of the image at a path among those that are laid over one another.

@@ -1,28 +1,51 @@
 //! What the programs share: files read and written whole, images, what is told.
 #![tactic(auto)]
 
+mod beginning;
+mod early_end;
 mod fault;
 mod file_trouble;
+mod folder_names;
+mod front;
+mod homes;
+mod homes_told;
+mod image_head;
+mod image_reading;
 mod images;
+mod named_image;
 mod narrator;
-mod one_line;
+mod output;
 mod program;
+mod progress;
 mod reading;
 mod reporting;
+mod row_of_image;
 mod source_files;
 mod stage;
+mod surroundings;
 mod whole_file;
 mod writing;
 
+pub use beginning::Beginning;
+pub use command_lines::OneLine;
+pub use early_end::EarlyEnd;
 pub use fault::Fault;
 pub use file_trouble::FileTrouble;
-pub use images::{dictionaries_at, dictionary_at};
+pub use folder_names::{image_names, in_byte_order};
+pub use homes::image_in;
+pub use homes_told::{say_homes, told_names};
+pub use image_reading::{ImageReadFault, read_image};
+pub use images::{dictionaries_at, dictionary_at, image_at};
+pub use named_image::image_path;
 pub use narrator::Narrator;
-pub use one_line::OneLine;
+pub use output::{Printed, write_whole};
 pub use program::run_program;
+pub use progress::{Doing, Progress};
 pub use reading::{Pieces, ReadFault, read_into, read_whole};
 pub use reporting::report;
+pub use row_of_image::image_row;
 pub use source_files::{SourceFiles, lexicon_path};
 pub use stage::Stage;
+pub use surroundings::{Surroundings, prefix_of};
 pub use whole_file::{WholeFile, read_files, texts};
 pub use writing::{write_as, write_file};

@@ -2,11 +2,13 @@
 
 use crate::fault::Fault;
 use crate::file_trouble::FileTrouble;
-use crate::one_line::OneLine;
+use crate::output::write_whole;
 use crate::stage::Stage;
 use crate::whole_file::WholeFile;
+use command_lines::OneLine;
 use mj_model::{FormatFault, FormatPart};
 use std::fmt::Display;
+use std::io::IsTerminal;
 use std::time::{Duration, Instant};
 
 /// The first bytes of a file that begins with U+FEFF.
@@ -32,6 +34,11 @@ impl<'a> Narrator<'a> {
         Narrator { rt, program, began }
     }
 
+    /// Whether lines are asked for.
+    pub(crate) fn is_asked(&self) -> bool {
+        self.began.is_some()
+    }
+
     /// Says a step of the work, with the seconds since it began.
     pub fn say(&self, stage: Stage<'_>) {
         let Some(began) = self.began else {
@@ -41,7 +48,16 @@ impl<'a> Narrator<'a> {
         let (seconds, hundredths) = (spent.as_secs(), spent.subsec_millis() / 10);
         let line = format!(in self.rt.alloc(); "{seconds}.{hundredths:02} s: {stage}");
         if let Ok(line) = line {
-            self.write(&line);
+            self.tell(&line);
+        }
+    }
+
+    /// Says what whoever sits at a terminal has to know, also where no steps are asked for: programs that read standard error are not told.
+    pub fn say_unasked(&self, stage: Stage<'_>) {
+        if self.began.is_some() {
+            self.say(stage);
+        } else if self.rt.stderr().is_terminal() {
+            self.tell(&stage);
         }
     }
 
@@ -54,7 +70,7 @@ impl<'a> Narrator<'a> {
     pub fn say_read(&self, path: &str, bytes: usize, first: &[u8]) {
         self.say(Stage::Read { path, bytes });
         if first.starts_with(BYTE_ORDER_MARK) {
-            self.say(Stage::ByteOrderMark { path });
+            self.say_unasked(Stage::ByteOrderMark { path });
         }
     }
 
@@ -76,14 +92,14 @@ impl<'a> Narrator<'a> {
             _ => return,
         };
         if let Ok(line) = line {
-            self.write(&line);
+            self.tell(&line);
         }
     }
 
     /// Writes a line after the program's name, in one write.
-    fn write<T: Display>(&self, line: &T) {
+    pub(crate) fn tell<T: Display>(&self, line: &T) {
         if let Ok(text) = format!(in self.rt.alloc(); "{}: {line}\n", self.program) {
-            let _ = self.rt.eprint(&text);
+            let _ = write_whole(&mut self.rt.stderr(), text.as_bytes());
         }
     }
 }

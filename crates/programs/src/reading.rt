@@ -79,7 +79,7 @@ pub fn read_into<R: Read, P: Pieces + Drop>(
     read_through(reader, &mut buffer, reads, pieces)
 }
 
-fn new_buffer(alloc: Global) -> Result<Vec<u8>, AllocError>
+pub(crate) fn new_buffer(alloc: Global) -> Result<Vec<u8>, AllocError>
     ensures { IfOk result (λ buffer. 0 < vec_len buffer) }
 {
     vec![in alloc; 0; BUFFER]

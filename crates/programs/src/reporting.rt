@@ -1,18 +1,20 @@
 //! The line that a program ends with on standard error, and the exit status.
 
 use crate::fault::{Fault, belongs_to_a_file};
-use crate::one_line::OneLine;
+use crate::output::Printed;
+use command_lines::OneLine;
 use mj_model::{FormatFault, ImageFault, NamedFault, RunFault, SourceFault, SourceKind};
 use std::alloc::Global;
-use std::fmt::{self, Display, Formatter};
-use std::io::Write;
+use std::fmt::{self, Display, Formatter, Write};
+use std::io;
 
 /// Writes the fault's line, in one write where memory for it is given, and answers the status.
 ///
 /// A failed write of it is ignored.
-pub fn report<W: Write>(alloc: Global, program: &str, fault: &Fault, err: &mut W) -> u8 {
+pub fn report<W: io::Write>(alloc: Global, program: &str, fault: &Fault, err: &mut W) -> u8 {
+    let mut err = Printed(err);
     let _ = match format!(in alloc; "{program}: {fault}\n") {
-        Ok(line) => err.write_all(line.as_bytes()),
+        Ok(line) => err.write_str(line.as_str()),
         Err(_) => writeln!(err, "{program}: {fault}"),
     };
     status(fault)
@@ -20,7 +22,7 @@ pub fn report<W: Write>(alloc: Global, program: &str, fault: &Fault, err: &mut W
 
 /// The line behind the program's name. The path is left out where the fault belongs to no file.
 impl Display for Fault {
-    fn fmt<W: fmt::Write>(&self, f: &mut Formatter<W>) -> fmt::Result {
+    fn fmt<W: Write>(&self, f: &mut Formatter<W>) -> fmt::Result {
         match self {
             Fault::File(path) => write!(
                 f,

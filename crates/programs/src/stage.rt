@@ -1,6 +1,6 @@
 //! The steps of a program's work, as `-v` tells them.
 
-use crate::one_line::OneLine;
+use command_lines::OneLine;
 use std::fmt::{self, Display, Formatter, Write};
 
 /// A step of a program's work. Sizes are in bytes.
@@ -59,6 +59,10 @@ pub enum Stage<'a> {
         bytes: u64,
         percent: u128,
     },
+    /// No entry of the dictionaries has a feature that begins with these fields.
+    NoEntry {
+        feature: &'a str,
+    },
     /// The text was cut, of so many lines.
     Cut {
         lines: u64,
@@ -101,6 +105,7 @@ impl Display for Stage<'_> {
                 bytes,
                 percent,
             } => { write!(f, "{section}: {bytes} bytes, {percent} %") }
+            Stage::NoEntry { feature } => write!(f, "no entry fits '{}'", OneLine(feature)),
             Stage::Cut { lines } => write!(f, "cut {lines} lines"),
         }
     }

@@ -2,6 +2,15 @@
 
 use std::string::String;
 
+/// What the program is asked to do.
+#[derive(PartialEq, Drop)]
+pub enum Task {
+    /// To cut the text on standard input.
+    Cut(Options),
+    /// To list the images that a bare name may find.
+    ListImages { verbose: bool },
+}
+
 /// By what the text is cut.
 #[derive(PartialEq, Drop)]
 pub enum Input {
@@ -17,7 +26,7 @@ pub enum Input {
     Sample,
 }
 
-/// The choices of a command line, as given.
+/// The choices of a command line by which a text is cut, as given.
 #[derive(PartialEq, Drop)]
 pub struct Options {
     pub input: Input,

@@ -1,12 +1,12 @@
 //! What is asked for by a command line of `jseg`.
 
-use super::choices::{Input, Options};
+use super::choices::{Input, Options, Task};
 use super::mecab_habits::{HABITS, habit_in};
 use super::rows::{INPUTS, ROWS};
 use crate::about::{VERSION, answer_explain};
 use crate::options_fault::OptionsFault;
 use crate::row::with_rows;
-use crate::words::{found, text_of, texts_of};
+use crate::words::{file_behind, found, text_of, texts_of, without_feeds};
 use clap::{ArgGroup, ArgMatches, Command};
 use mj_model::GROUPING_DEFAULT;
 use std::alloc::{AllocError, Global};
@@ -15,19 +15,35 @@ use std::string::String;
 /// The name of the program.
 pub(crate) const NAME: &str = "jseg";
 
+/// The options that take the name of a file or a directory.
+const FILES: [&str; 3] = ["-d", "-u", "--sources"];
+
 /// What is said where nothing says by what the text is to be cut.
 const NO_INPUT: &str = "one of -d IMG, --sources DIR and --sample has to be given";
 
 /// Reads the words that follow the program's name.
-pub fn options(alloc: Global, words: Vec<String>) -> Result<Options, OptionsFault> {
-    let matches = found(alloc, NAME, command(alloc)?, words.as_slice()).map_err(
-        |fault| fault.without_tip(alloc),
-    )?;
+pub fn task(alloc: Global, words: Vec<String>) -> Result<Task, OptionsFault> {
+    let told = without_feeds(alloc, &words)?;
+    if let Err(fault) = found(alloc, NAME, command(alloc)?, told.as_slice()) {
+        return Err(refusal(alloc, fault, &words));
+    }
+    let matches = found(alloc, NAME, command(alloc)?, words.as_slice())?;
     answer_explain(alloc, NAME, &matches)?;
     match habit_in(&matches) {
         Some(instead) => Err(OptionsFault::wrong(alloc, NAME, instead)),
-        None => choices(alloc, &matches),
+        None if matches.get_flag("dictionaries") => Ok(Task::ListImages {
+            verbose: matches.get_flag("verbose"),
+        }),
+        None => Ok(Task::Cut(choices(alloc, &matches)?)),
     }
+}
+
+/// The parser's fault as it is told of these words. The parser's own tip is for a program that takes words.
+fn refusal(alloc: Global, fault: OptionsFault, words: &[String]) -> OptionsFault {
+    fault
+        .in_lines(alloc)
+        .without_tip(alloc)
+        .with_file_tip(alloc, file_behind(words, &FILES))
 }
 
 /// What the program takes.
@@ -41,13 +57,14 @@ fn command<'a>(alloc: Global) -> Result<Command<'a>, AllocError> {
     command.group(input_group(alloc)?)
 }
 
-/// Of what the text is cut by only one is given.
+/// Of what the text is cut by only one is given, or that no text is cut.
 fn input_group<'a>(alloc: Global) -> Result<ArgGroup<'a>, AllocError> {
-    let [dic, sources, sample] = INPUTS;
+    let [dic, sources, sample, dictionaries] = INPUTS;
     ArgGroup::new(alloc, "input")
         .arg(dic)?
         .arg(sources)?
-        .arg(sample)
+        .arg(sample)?
+        .arg(dictionaries)
 }
 
 /// The choices that were found.

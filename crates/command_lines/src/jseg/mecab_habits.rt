@@ -32,7 +32,7 @@ pub(super) static HABITS: [Row; 24] = [
     Row { id: "rcfile", name: Both('r', "rcfile"), taken: REFUSED, values: &[], excluded: &[],
         help: "-r is not known: jseg reads no dicrc, so give its formats with -F, -U, -B and -E" },
     Row { id: "dictionary-info", name: Both('D', "dictionary-info"), taken: REFUSED, values: &[], excluded: &[],
-        help: "-D is not known: -v tells what is loaded" },
+        help: "-D is not known: -v tells what is loaded, and --dictionaries what is installed" },
     Row { id: "dump-config", name: Both('P', "dump-config"), taken: REFUSED, values: &[], excluded: &[],
         help: "-P is not known: --help lists what jseg takes" },
     Row { id: "input-buffer-size", name: Both('b', "input-buffer-size"), taken: REFUSED, values: &[], excluded: &[],
@@ -64,21 +64,21 @@ const WAKATI: &str = "wakati";
 static OUTPUTS: [(&str, &str); 3] = [
     (
         "chasen",
-        "-O chasen is not known: for IPADIC write -F '%m\\t%f[7]\\t%f[6]\\t%f[0]-%f[1]-%f[2]-%f[3]\\t%f[4]\\t%f[5]\\n'",
+        "-O chasen is not known: run 'mecab -d IMG -Ochasen', or for IPADIC write -F '%m\\t%f[7]\\t%f[6]\\t%f[0]-%f[1]-%f[2]-%f[3]\\t%f[4]\\t%f[5]\\n'",
     ),
     (
         "yomi",
-        "-O yomi is not known: for IPADIC write -F '%pS%f[7]' -U '%M' -E '\\n'",
+        "-O yomi is not known: run 'mecab -d IMG -Oyomi', or for IPADIC write -F '%pS%f[7]' -U '%M' -E '\\n'",
     ),
     (
         "simple",
-        "-O simple is not known: for IPADIC write -F '%m\\t%f[0]-%f[1]-%f[2]-%f[3]\\n'",
+        "-O simple is not known: run 'mecab -d IMG -Osimple', or for IPADIC write -F '%m\\t%f[0]-%f[1]-%f[2]-%f[3]\\n'",
     ),
 ];
 
 /// What to do in place of any other name.
 const OTHER_OUTPUT: &str =
-    "-O takes wakati alone: MeCab reads other names in the dictionary's dicrc, so give that format with -F, -U, -B and -E";
+    "-O takes wakati alone: MeCab reads other names in the dictionary's dicrc, so run 'mecab -d IMG -O NAME', or give that format with -F, -U, -B and -E";
 
 /// What to do instead, where one of these was given, or an output format of another name.
 pub(super) fn habit_in(matches: &ArgMatches<'_>) -> Option<&'static str> {

@@ -6,8 +6,20 @@ use crate::row::{FLAG, Row, TEXT, Taken, VALUE, VALUES};
 use clap::builder::ValueParser;
 use mj_model::GROUPING_MAX;
 
-/// The ids of the options that say by what the text is cut. One of them is given.
-pub(super) const INPUTS: [&str; 3] = ["dic", "sources", "sample"];
+/// The ids of the options that say by what the text is cut, or that none is. One of them is given.
+pub(super) const INPUTS: [&str; 4] = ["dic", "sources", "sample", "dictionaries"];
+
+/// The ids of the other options of a text.
+const OF_TEXTS: &[&str] = &[
+    "users",
+    "skip-digest",
+    "grouping",
+    "output",
+    "node",
+    "unk",
+    "bos",
+    "eos",
+];
 
 /// A number from 0 to `GROUPING_MAX`.
 const GROUPING: Taken = Taken {
@@ -17,7 +29,7 @@ const GROUPING: Taken = Taken {
 
 /// The options, in the order of help.
 #[rattlefmt::skip]
-pub(super) static ROWS: [Row; 13] = [
+pub(super) static ROWS: [Row; 14] = [
     Row { id: "dic", name: Letter('d'), taken: VALUE, values: &["IMG"], excluded: &[],
         help: "Cut the text with the system dictionary of an image" },
     Row { id: "users", name: Letter('u'), taken: VALUES, values: &["IMG"], excluded: &["sources", "sample"],
@@ -39,6 +51,8 @@ pub(super) static ROWS: [Row; 13] = [
         help: "What is printed before the first word of a line" },
     Row { id: "eos", name: Letter('E'), taken: TEXT, values: &["FORMAT"], excluded: &[],
         help: "What is printed after the last word of a line" },
+    Row { id: "dictionaries", name: Long("dictionaries"), taken: FLAG, values: &[], excluded: OF_TEXTS,
+        help: "List the images that a bare name may find, and cut nothing: name, bytes, entries, path" },
     VERBOSE,
     EXPLAIN,
 ];

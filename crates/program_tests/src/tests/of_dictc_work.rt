@@ -2,6 +2,7 @@
 
 mod compilations;
 mod directories;
+mod ids;
 mod inputs;
 mod told;
 

@@ -2,6 +2,9 @@
 
 mod failing_files;
 mod files;
+mod homes;
+mod image_reading;
+mod image_rows;
 mod reading;
 mod told;
 mod writing;

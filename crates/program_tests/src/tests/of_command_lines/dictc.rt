@@ -1,7 +1,7 @@
 //! Command lines of `dictc`.
 
 use crate::tests::words;
-use command_lines::dictc::{Base, Options, options};
+use command_lines::dictc::{Asked as AskedFor, Base, IdsOptions, Options, options};
 use std::alloc::{AllocError, Global};
 use std::string::String;
 use std::test::Fail;
@@ -14,6 +14,8 @@ enum Asked {
     System(&'static str),
     /// The same, and what is done is to be said.
     Told(&'static str),
+    /// The same, and all faults are to be told.
+    AllFaults(&'static str),
     /// A user dictionary for this system, of these lexicons.
     User(&'static str, &'static str),
     /// The same, without the test of the system's digest.
@@ -23,7 +25,7 @@ enum Asked {
 impl Asked {
     fn options(self, alloc: Global) -> Result<Options, AllocError> {
         let (base, lexicons) = match self {
-            Asked::System(lexicons) | Asked::Told(lexicons) => {
+            Asked::System(lexicons) | Asked::Told(lexicons) | Asked::AllFaults(lexicons) => {
                 let definitions = Base::Definitions {
                     matrix: String::from_str(alloc, "m")?,
                     chars: String::from_str(alloc, "c")?,
@@ -43,6 +45,7 @@ impl Asked {
             base,
             out: String::from_str(alloc, "o")?,
             lexicons: words(alloc, lexicons)?,
+            all_faults: matches!(self, Asked::AllFaults(_)),
             verbose: matches!(self, Asked::Told(_)),
         })
     }
@@ -50,12 +53,13 @@ impl Asked {
 
 #[test]
 fn command_lines(rt: HostRuntime) -> Result<(), Fail> {
-    use Asked::{System, Told, Trusting, User};
+    use Asked::{AllFaults, System, Told, Trusting, User};
     #[rattlefmt::skip]
     let rows = [
         // (what, words, what is asked for)
         ("a system", "system --matrix m --char c --unk u --out o a.csv", System("a.csv")),
         ("options with =", "system b --out=o --unk=u a --char=c --matrix=m", System("b a")),
+        ("all faults", "system --matrix m --char c --unk u --out o --all-faults a.csv", AllFaults("a.csv")),
         ("what is done", "system --matrix m --char c --unk u --out o -v a.csv", Told("a.csv")),
         ("a user", "user --dic sys.img --out o a.csv", User("sys.img", "a.csv")),
         ("a user, without the digest", "user --skip-digest --dic s --out o a", Trusting("s", "a")),
@@ -64,7 +68,35 @@ fn command_lines(rt: HostRuntime) -> Result<(), Fail> {
     ];
     for (what, given, asked) in rows {
         match options(rt.alloc(), words(rt.alloc(), given)?) {
-            Ok(options) => assert!(rt; options == asked.options(rt.alloc())?, "{what}"),
+            Ok(found) => {
+                let wanted = AskedFor::Image(asked.options(rt.alloc())?);
+                assert!(rt; found == wanted, "{what}");
+            }
+            Err(_) => assert!(rt; false, "{what}"),
+        }
+    }
+    Ok(())
+}
+
+#[test]
+fn command_lines_of_ids(rt: HostRuntime) -> Result<(), Fail> {
+    #[rattlefmt::skip]
+    let rows = [
+        // (what, words, images of users, whether the digest is skipped, whether steps are said)
+        ("a system",       "ids --dic s 名詞,*",                  "",    false, false),
+        ("users",          "ids --dic s -u a -u b 名詞,*",        "a b", false, false),
+        ("with all words", "ids -v --skip-digest 名詞,* --dic=s", "",    true,  true),
+    ];
+    for (what, given, users, skip_digest, verbose) in rows {
+        let wanted = AskedFor::Ids(IdsOptions {
+            dic: String::from_str(rt.alloc(), "s")?,
+            users: words(rt.alloc(), users)?,
+            skip_digest,
+            feature: String::from_str(rt.alloc(), "名詞,*")?,
+            verbose,
+        });
+        match options(rt.alloc(), words(rt.alloc(), given)?) {
+            Ok(found) => assert!(rt; found == wanted, "{what}"),
             Err(_) => assert!(rt; false, "{what}"),
         }
     }
@@ -100,6 +132,14 @@ fn command_lines_that_end_at_once(rt: HostRuntime) -> Result<(), Fail> {
         ("a user without an image", "user --dic s a", BAD),
         ("a user without a lexicon", "user --dic s --out o", BAD),
         ("a user with a matrix", "user --dic s --matrix m --out o a", BAD),
+        ("help for ids", "ids --help", HELP),
+        ("ids of no image", "ids 名詞", BAD),
+        ("ids of no part of speech", "ids --dic s", BAD),
+        ("ids of two", "ids --dic s 名詞 動詞", BAD),
+        ("a file like an option", "user --dic s --out o -x.csv", (2, "write './-x.csv'\n\nUsage: ")),
+        ("the same as a value", "user --dic s a --out -o", (2, "write './-o'\n\n")),
+        ("controls", "user\u{1b} a\nb", (2, "dictc: unrecognized subcommand 'user\\u{1b}'")),
+        ("a line feed", "user --a\nb", (2, "dictc: unexpected argument '--a\\nb' found\n")),
         ("an option twice", "user --dic s --dic s --out o a", BAD),
         ("no value", "user --dic s a --out", BAD),
     ];

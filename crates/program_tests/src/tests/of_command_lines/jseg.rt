@@ -2,7 +2,8 @@
 
 use super::is_text;
 use crate::tests::words;
-use command_lines::jseg::{Input, options};
+use command_lines::OptionsFault;
+use command_lines::jseg::{Input, Options, Task, task};
 use std::alloc::{AllocError, Global};
 use std::string::String;
 use std::test::Fail;
@@ -32,6 +33,14 @@ impl Asked {
     }
 }
 
+/// The choices of a command line that has a text cut.
+fn options(alloc: Global, words: Vec<String>) -> Result<Option<Options>, OptionsFault> {
+    Ok(match task(alloc, words)? {
+        Task::Cut(options) => Some(options),
+        Task::ListImages { .. } => None,
+    })
+}
+
 #[test]
 fn command_lines(rt: HostRuntime) -> Result<(), Fail> {
     use Asked::{Directory, Images, Sample, Trusted};
@@ -53,13 +62,12 @@ fn command_lines(rt: HostRuntime) -> Result<(), Fail> {
         ("a format and a grouping",   "-d s -O wakati -M 3", Images("s", ""),            3),
     ];
     for (what, given, asked, grouping) in rows {
-        match options(rt.alloc(), words(rt.alloc(), given)?) {
-            Ok(options) => {
-                assert!(rt; options.input == asked.input(rt.alloc())?, "{what}");
-                assert!(rt; options.grouping == grouping, "{what}");
-            }
-            Err(_) => assert!(rt; false, "{what}"),
-        }
+        let Ok(Some(options)) = options(rt.alloc(), words(rt.alloc(), given)?) else {
+            assert!(rt; false, "{what}");
+            return Ok(());
+        };
+        assert!(rt; options.input == asked.input(rt.alloc())?, "{what}");
+        assert!(rt; options.grouping == grouping, "{what}");
     }
     Ok(())
 }
@@ -82,7 +90,10 @@ fn format_options(rt: HostRuntime) -> Result<(), Fail> {
         for word in given {
             words.push(String::from_str(rt.alloc(), word)?)?;
         }
-        let options = options(rt.alloc(), words)?;
+        let Ok(Some(options)) = options(rt.alloc(), words) else {
+            assert!(rt; false, "{what}");
+            return Ok(());
+        };
         let got = [
             &options.output,
             &options.node,
@@ -97,9 +108,25 @@ fn format_options(rt: HostRuntime) -> Result<(), Fail> {
     Ok(())
 }
 
+/// The list of images is asked for alone, or with what says what is done.
+#[test]
+fn lists(rt: HostRuntime) -> Result<(), Fail> {
+    let rows = [
+        // (words, whether they ask for what is done)
+        ("--dictionaries", false),
+        ("--dictionaries -v", true),
+        ("-v --dictionaries", true),
+    ];
+    for (given, verbose) in rows {
+        let task = task(rt.alloc(), words(rt.alloc(), given)?).ok();
+        assert!(rt; task == Some(Task::ListImages { verbose }), "{given}");
+    }
+    Ok(())
+}
+
 #[test]
 fn help(rt: HostRuntime) -> Result<(), Fail> {
-    let Err(fault) = options(rt.alloc(), words(rt.alloc(), "--help")?) else {
+    let Err(fault) = task(rt.alloc(), words(rt.alloc(), "--help")?) else {
         assert!(rt; false, "it is no choice");
         return Ok(());
     };
@@ -125,10 +152,16 @@ fn answers(rt: HostRuntime) -> Result<(), Fail> {
         ("--explain X9",     2, "jseg: no fault has the code or name 'X9'\n"),
         ("--simple",         2, "'--sample'"),
         ("--soures a",       2, "'--sources'"),
+        ("--x\u{1b}[2J",      2, "jseg: unexpected argument '--x\\u{1b}[2J' found\n"),
+        ("--a\nb",           2, "jseg: unexpected argument '--a\\nb' found\n"),
+        ("--sample -M 7\n",  2, "jseg: invalid value '7\\n' for '-M <N>': "),
+        ("--explain L4\t",   2, "jseg: no fault has the code or name 'L4\\t'\n"),
+        ("-d -x.img",        2, "\n\n  tip: for the file '-x.img' write './-x.img'\n\n"),
+        ("--smple -d s.img", 2, "'--sample'"),
         ("-q",               2, "jseg: unexpected argument '-q' found\n\nUsage: jseg "),
     ];
     for (given, status, text) in rows {
-        let Err(fault) = options(rt.alloc(), words(rt.alloc(), given)?) else {
+        let Err(fault) = task(rt.alloc(), words(rt.alloc(), given)?) else {
             assert!(rt; false, "{given}");
             return Ok(());
         };
@@ -140,7 +173,7 @@ fn answers(rt: HostRuntime) -> Result<(), Fail> {
 
 /// Whether a command line ends with status 2 and with this in its text.
 fn is_refused(rt: &HostRuntime, given: &str, text: &str) -> Result<bool, Fail> {
-    let fault = options(rt.alloc(), words(rt.alloc(), given)?).err();
+    let fault = task(rt.alloc(), words(rt.alloc(), given)?).err();
     Ok(fault.is_some_and(|fault| fault.status() == 2
         && fault.text().starts_with("jseg: ")
         && fault.text().contains(text)))
@@ -224,6 +257,17 @@ fn wrong_command_lines(rt: HostRuntime) -> Result<(), Fail> {
         ("grouping no number", "--sample -M x"),
         ("grouping without a value", "--sample -M"),
         ("grouping twice", "--sample -M 1 -M 2"),
+        ("a list and an image", "--dictionaries -d a"),
+        ("a list and a directory", "--sources a --dictionaries"),
+        ("a list and the sample", "--dictionaries --sample"),
+        ("a list and a user", "--dictionaries -u a"),
+        ("a list without digests", "--skip-digest --dictionaries"),
+        ("a list and a grouping", "--dictionaries -M 3"),
+        ("a list and an output", "--dictionaries -O wakati"),
+        ("a list and a format", "--dictionaries -F a"),
+        ("a list and an end", "-E a --dictionaries"),
+        ("two lists", "--dictionaries --dictionaries"),
+        ("a list of a name", "--dictionaries ipadic"),
     ];
     for (what, given) in rows {
         assert!(rt; is_refused(&rt, given, "jseg: ")?, "{what}");

@@ -3,7 +3,7 @@
 use super::in_directory;
 use crate::tests::new_directory;
 use command_lines::dictc::{Base, Options};
-use dictc_work::compile_image;
+use dictc_work::{NoImage, compile_image};
 use mj_model::ImageFault;
 use programs::{Fault, Narrator};
 use std::test::Fail;
@@ -29,6 +29,7 @@ fn options_in(rt: &HostRuntime, dir: &str, user: bool) -> io::Result<Options> {
         base,
         out: in_directory(rt, dir, "img")?,
         lexicons,
+        all_faults: false,
         verbose: false,
     })
 }
@@ -52,7 +53,7 @@ fn files_that_cannot_be_read(rt: HostRuntime) -> Result<(), Fail> {
         }
         let path = in_directory(&rt, dir.as_str(), wanted)?;
         match &compile_image(&rt, &options_in(&rt, dir.as_str(), user)?, &quiet) {
-            Err(Fault::File(told)) => assert!(rt; *told == path, "{wanted}"),
+            Err(NoImage::Fault(Fault::File(told))) => assert!(rt; *told == path, "{wanted}"),
             _ => assert!(rt; false, "{wanted}"),
         }
         assert!(rt;
@@ -74,7 +75,9 @@ fn images_that_are_none(rt: HostRuntime) -> Result<(), Fail> {
     fs::remove_dir_all(&rt, dir.as_str())?;
     // The image is loaded before the lexicon is read, which isn't there.
     match &compiled {
-        Err(Fault::Image(told, ImageFault::Truncated)) => assert!(rt; *told == path),
+        Err(NoImage::Fault(Fault::Image(told, ImageFault::Truncated))) => assert!(rt;
+            *told == path
+        ),
         _ => assert!(rt; false),
     }
     Ok(())

@@ -4,6 +4,7 @@ use std::alloc::{Allocator, Global};
 use std::cell::Cell;
 use std::fs::{File, Metadata, OpenFile, OpenOptions, Permissions};
 use std::io::{self, ErrorKind, Read, Seek, SeekFrom, Write};
+use std::os::unix::fs::PermissionsExt;
 use std::path::PathBuf;
 use std::rt::Files;
 
@@ -14,6 +15,8 @@ pub(crate) struct FailingFiles<'a> {
     /// How many bytes a file takes in all, and how many at once.
     pub room: usize,
     pub at_once: usize,
+    /// Whether a signal interrupts the first write of each file.
+    pub interrupts: bool,
     /// Whether its bytes can be stored.
     pub syncs: bool,
     /// Whether it can get another name.
@@ -22,12 +25,28 @@ pub(crate) struct FailingFiles<'a> {
     pub opened: Cell<usize>,
 }
 
+impl<'a> FailingFiles<'a> {
+    /// The system's files, of which no call fails.
+    pub(crate) fn none(rt: &'a HostRuntime) -> FailingFiles<'a> {
+        FailingFiles {
+            rt,
+            room: usize::MAX,
+            at_once: usize::MAX,
+            interrupts: false,
+            syncs: true,
+            renames: true,
+            opened: Cell::new(0),
+        }
+    }
+}
+
 /// A file of these.
 #[derive(Drop)]
 pub(crate) struct FailingFile {
     file: File,
     room: usize,
     at_once: usize,
+    interrupts: bool,
     syncs: bool,
 }
 
@@ -43,6 +62,10 @@ impl Read for FailingFile {
 
 impl Write for FailingFile {
     fn write(&mut self, buf: &[u8]) -> io::Result<usize> {
+        if self.interrupts {
+            self.interrupts = false;
+            return Err(io::Error::from(ErrorKind::Interrupted));
+        }
         let taken = buf.len().min(self.at_once).min(self.room);
         if taken == 0 {
             return Err(refused());
@@ -83,7 +106,12 @@ impl OpenFile for FailingFile {
         self.file.sync_data()
     }
 
+    /// Refuses a mode that forbids what the file's own allowed until now.
     fn set_permissions(&self, perm: Permissions) -> io::Result<()> {
+        let until_now = self.file.metadata()?.permissions().mode();
+        if until_now & !perm.mode() & 0o777 != 0 {
+            return Err(refused());
+        }
         self.file.set_permissions(perm)
     }
 }
@@ -108,6 +136,7 @@ impl Files for FailingFiles<'_> {
             file,
             room: self.room,
             at_once: self.at_once,
+            interrupts: self.interrupts,
             syncs: self.syncs,
         })
     }

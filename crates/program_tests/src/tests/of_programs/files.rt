@@ -7,7 +7,6 @@ use dict_image::DigestTest;
 use mj_model::ImageFault;
 use programs::{Fault, SourceFiles, WholeFile, dictionary_at, read_files, texts, write_file};
 use std::alloc::{AllocError, Global};
-use std::cell::Cell;
 use std::io::ErrorKind;
 use std::string::String;
 use std::test::Fail;
@@ -101,14 +100,7 @@ fn files_in_their_order(rt: HostRuntime) -> Result<(), Fail> {
         fs::write(&rt, path.as_str(), name)?;
         paths.push(path)?;
     }
-    let runtime = FailingFiles {
-        rt: &rt,
-        room: 0,
-        at_once: 0,
-        syncs: false,
-        renames: false,
-        opened: Cell::new(0),
-    };
+    let runtime = FailingFiles::none(&rt);
     let files = read_files(&runtime, &paths)?;
     fs::remove_dir_all(&rt, dir.as_str())?;
     assert!(rt; runtime.opened.get() == 3);

@@ -4,7 +4,6 @@ use super::failing_files::FailingFiles;
 use super::names_in;
 use crate::tests::new_directory;
 use programs::{Fault, write_as, write_file};
-use std::cell::Cell;
 use std::fs::{self, Permissions};
 use std::io;
 use std::os::unix::fs::{PermissionsExt, symlink};
@@ -51,25 +50,26 @@ fn whole_or_not_at_all(rt: HostRuntime) -> Result<(), Fail> {
     let (dir, path) = new_place(&rt, "whole")?;
     #[rattlefmt::skip]
     let rows = [
-        // (what, room, bytes at once, whether it is synced, renamed, and so written)
-        ("all at once",    9, 9, true,  true,  true),
-        ("short writes",   9, 2, true,  true,  true),
-        ("single bytes",   9, 1, true,  true,  true),
-        ("no room",        0, 9, true,  true,  false),
-        ("room for some",  8, 9, true,  true,  false),
-        ("for some bytes", 5, 1, true,  true,  false),
-        ("not synced",     9, 9, false, true,  false),
-        ("not renamed",    9, 9, true,  false, false),
+        // (what, room, bytes at once, whether it is interrupted, synced, renamed, and so written)
+        ("all at once",    9, 9, false, true,  true,  true),
+        ("short writes",   9, 2, false, true,  true,  true),
+        ("single bytes",   9, 1, false, true,  true,  true),
+        ("no room",        0, 9, false, true,  true,  false),
+        ("room for some",  8, 9, false, true,  true,  false),
+        ("for some bytes", 5, 1, false, true,  true,  false),
+        ("interrupted",    9, 9, true,  true,  true,  false),
+        ("not synced",     9, 9, false, false, true,  false),
+        ("not renamed",    9, 9, false, true,  false, false),
     ];
-    for (what, room, at_once, syncs, renames, is_written) in rows {
+    for (what, room, at_once, interrupts, syncs, renames, is_written) in rows {
         fs::write(&rt, path.as_str(), "old")?;
         let files = FailingFiles {
-            rt: &rt,
             room,
             at_once,
+            interrupts,
             syncs,
             renames,
-            opened: Cell::new(0),
+            ..FailingFiles::none(&rt)
         };
         let written = write_as(&files, 7, path.as_str(), b"new bytes");
         let wanted = if is_written { "new bytes" } else { "old" };
@@ -84,8 +84,8 @@ fn whole_or_not_at_all(rt: HostRuntime) -> Result<(), Fail> {
 #[test]
 fn names_that_are_taken(rt: HostRuntime) -> Result<(), Fail> {
     let (dir, path) = new_place(&rt, "taken")?;
-    let first = format!(in rt.alloc(); "{path}.7.0.new")?;
-    let second = format!(in rt.alloc(); "{path}.7.1.new")?;
+    let first = format!(in rt.alloc(); "{dir}/.kumquatsieve.7.0.new")?;
+    let second = format!(in rt.alloc(); "{dir}/.kumquatsieve.7.1.new")?;
     fs::write(&rt, first.as_str(), "of another run")?;
     fs::create_dir(&rt, second.as_str())?;
     assert!(rt; write_as(&rt, 7, path.as_str(), b"new").is_ok());
@@ -96,13 +96,36 @@ fn names_that_are_taken(rt: HostRuntime) -> Result<(), Fail> {
     Ok(())
 }
 
+/// A name has up to 255 bytes: that of the new file is a short one.
+#[test]
+fn long_names(rt: HostRuntime) -> Result<(), Fail> {
+    let dir = new_directory(&rt, "long")?;
+    for length in [240, 241, 254, 255] {
+        let mut path = format!(in rt.alloc(); "{dir}/")?;
+        for _ in 0..length {
+            path.push('n')?;
+        }
+        for bytes in [b"first", b"other"] {
+            assert!(rt; write_file(&rt, path.as_str(), bytes).is_ok(), "{length}");
+            assert!(rt; has_bytes(&rt, path.as_str(), bytes)?, "{length}");
+        }
+    }
+    assert!(rt; names_in(&rt, dir.as_str())? == 4);
+    fs::remove_dir_all(&rt, dir.as_str())?;
+    Ok(())
+}
+
 #[test]
 fn modes_are_kept(rt: HostRuntime) -> Result<(), Fail> {
     let (dir, path) = new_place(&rt, "modes")?;
     fs::write(&rt, path.as_str(), "old")?;
     for mode in [0o600, 0o444, 0o664] {
         fs::set_permissions(&rt, path.as_str(), Permissions::from_mode(mode))?;
-        assert!(rt; write_file(&rt, path.as_str(), b"new").is_ok(), "{mode:o}");
+        let files = FailingFiles::none(&rt);
+        assert!(rt;
+            write_as(&files, 7, path.as_str(), b"new").is_ok(),
+            "{mode:o}"
+        );
         let kept = fs::metadata(&rt, path.as_str())?.permissions().mode();
         assert!(rt; kept & 0o777 == mode, "{mode:o}");
     }

@@ -1,0 +1,141 @@
+//! The rows of `dictc ids` on standard output.
+
+use super::counted_dict::CountedDict;
+use super::pair_row::PairRow;
+use super::pair_rows::rows_of_pairs;
+use super::template::Template;
+use command_lines::dictc::IdsOptions;
+use dict_image::{Dict, DigestTest};
+use mj_model::OverlayFault;
+use programs::{Fault, Narrator, Progress, Stage, WholeFile, image_at, write_whole};
+use std::alloc::{AllocError, Global};
+use std::io::{self, Write};
+use std::slice;
+use std::string::String;
+use word_lookup::Dictionaries;
+
+/// The names of the columns.
+const HEADING: &str =
+    "left\tright\tentries\tleast\tlower_quartile\tmedian\tupper_quartile\tgreatest\n";
+
+/// Tells the ids and costs of the entries that the options ask for, on standard output.
+pub fn tell_ids(rt: &HostRuntime, options: &IdsOptions) -> Result<(), Fault> {
+    let narrator = Narrator::new(rt, "dictc", options.verbose);
+    let rows = rows_asked(rt, options, &narrator);
+    if let Err(fault) = &rows {
+        narrator.say_why(fault);
+    }
+    let rows = rows?;
+    if rows.is_empty() {
+        narrator.say_unasked(Stage::NoEntry {
+            feature: options.feature.as_str(),
+        });
+    }
+    let text = text_of(rt.alloc(), &rows)?;
+    write_rows(&text, &mut rt.stdout()).map_err(|_| Fault::Output)
+}
+
+/// The rows of the entries that the options ask for.
+fn rows_asked(
+    rt: &HostRuntime,
+    options: &IdsOptions,
+    narrator: &Narrator<'_>,
+) -> Result<Vec<PairRow>, Fault> {
+    let digest = DigestTest::skipped_if(options.skip_digest);
+    let dic = options.dic.as_str();
+    let system = dictionary_at(rt, dic, digest, narrator)?;
+    let mut users = Vec::new(rt.alloc());
+    for path in &options.users {
+        let user = dictionary_at(rt, path.as_str(), digest, narrator)?;
+        users.push(user).map_err(AllocError::from)?;
+    }
+    check_system(&system.dict).map_err(|fault| Fault::of_overlay(rt.alloc(), dic, fault))?;
+    for (i, user) in users.iter().enumerate() {
+        let fault = fault_of_user(&system.dict, &user.dict, i);
+        if let (Some(fault), Some(path)) = (fault, options.users.get(i)) {
+            return Err(Fault::of_overlay(rt.alloc(), path.as_str(), fault));
+        }
+    }
+    Ok(rows_of(rt.alloc(), options, &system, &users)?)
+}
+
+/// The dictionary of the image at a path, and that it was loaded is said.
+fn dictionary_at(
+    rt: &HostRuntime,
+    path: &str,
+    digest: DigestTest,
+    narrator: &Narrator<'_>,
+) -> Result<CountedDict, Fault> {
+    let progress = Progress::of_load(rt, path);
+    let loaded = load_at(rt, path, digest);
+    progress.erase();
+    let dict = loaded?;
+    narrator.say(Stage::Loaded { path });
+    Ok(dict)
+}
+
+/// The same, while a terminal is told.
+fn load_at(rt: &HostRuntime, path: &str, digest: DigestTest) -> Result<CountedDict, Fault> {
+    let WholeFile { path, bytes } = image_at(rt, path)?;
+    CountedDict::load(rt.alloc(), bytes, digest).map_err(|fault| Fault::Image(path, fault))
+}
+
+/// Whether a dictionary is a system's.
+fn check_system(system: &Dict) -> Result<(), OverlayFault> {
+    Dictionaries::new(system, &[]).map(|_| ())
+}
+
+/// Why user dictionary `i` can't be laid over a system's; None where it can.
+fn fault_of_user(system: &Dict, user: &Dict, i: usize) -> Option<OverlayFault> {
+    match Dictionaries::new(system, slice::from_ref(user)) {
+        Ok(_) => None,
+        Err(OverlayFault::NotSystem) => Some(OverlayFault::NotSystem),
+        Err(OverlayFault::NotUser(_)) => Some(OverlayFault::NotUser(i)),
+        Err(OverlayFault::OtherSizes(_)) => Some(OverlayFault::OtherSizes(i)),
+    }
+}
+
+/// The rows of the entries of all dictionaries that fit what was asked for.
+fn rows_of(
+    alloc: Global,
+    options: &IdsOptions,
+    system: &CountedDict,
+    users: &[CountedDict],
+) -> Result<Vec<PairRow>, AllocError> {
+    let template = Template::of(alloc, options.feature.as_str())?;
+    let mut entries = Vec::new(alloc);
+    system.append_entries(&mut entries)?;
+    for user in users {
+        user.append_entries(&mut entries)?;
+    }
+    rows_of_pairs(alloc, &template, &entries)
+}
+
+/// The names of the columns, and a line for each row.
+pub fn text_of(alloc: Global, rows: &[PairRow]) -> Result<String, AllocError> {
+    let mut text = String::from_str(alloc, HEADING)?;
+    for row in rows {
+        text.push_str(line_of(alloc, row)?.as_str())?;
+    }
+    Ok(text)
+}
+
+/// The line of a row.
+fn line_of(alloc: Global, row: &PairRow) -> Result<String, AllocError> {
+    format!(in alloc;
+        "{}\t{}\t{}\t{}\t{}\t{}\t{}\t{}\n",
+        row.left,
+        row.right,
+        row.entries,
+        row.least,
+        row.lower_quartile,
+        row.median,
+        row.upper_quartile,
+        row.greatest
+    )
+}
+
+fn write_rows<W: Write>(text: &String, out: &mut W) -> io::Result<()> {
+    write_whole(out, text.as_bytes())?;
+    out.flush()
+}

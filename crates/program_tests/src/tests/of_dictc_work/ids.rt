@@ -1,0 +1,85 @@
+//! Which entries fit a part of speech, and what is told of them.
+
+use dict_image::EntryRef;
+use dictc_work::{Template, rows_of_pairs, text_of};
+use std::test::Fail;
+
+/// The names of the columns.
+const HEADING: &str =
+    "left\tright\tentries\tleast\tlower_quartile\tmedian\tupper_quartile\tgreatest\n";
+
+/// Entries: (left id, right id, cost, feature).
+#[rattlefmt::skip]
+static ENTRIES: [(u16, u16, i16, &str); 10] = [
+    (5, 6, 40, "名詞,一般,a"),
+    (5, 6, -10, "名詞,一般,b"),
+    (5, 6, 30, "名詞,一般"),
+    (5, 6, 20, "名詞,一般"),
+    (5, 6, 50, "名詞,一般"),
+    (3, 9, 7, "名詞,固有名詞"),
+    (3, 8, 7, "\"名詞\", 固有名詞"),
+    (2, 9, 7, "動詞,自立"),
+    (2, 9, 9, "名詞"),
+    (1, 1, 0, "*,一般"),
+];
+
+#[test]
+fn entries_that_fit(rt: HostRuntime) -> Result<(), Fail> {
+    #[rattlefmt::skip]
+    let rows = [
+        // (a template, how many entries fit)
+        ("名詞",          8),
+        ("名詞,一般",     5),
+        ("名詞,一般,a",   1),
+        ("\"名詞\",一般", 5),
+        ("*,一般",        6),
+        (",一般",         6),
+        ("",              10),
+        ("*",             10),
+        ("名詞,*,*,*",    8),
+        ("名詞,一般,*,b", 0),
+        ("名",            0),
+    ];
+    let mut room = Vec::new(rt.alloc());
+    for (text, wanted) in rows {
+        let template = Template::of(rt.alloc(), text)?;
+        let mut fitting = Vec::new(rt.alloc());
+        for (_left, _right, _cost, feature) in &ENTRIES {
+            if template.fits(feature, &mut room)? {
+                fitting.push(*feature)?;
+            }
+        }
+        assert!(rt; fitting.len() == wanted, "{text}");
+    }
+    Ok(())
+}
+
+#[test]
+fn lines_of_pairs(rt: HostRuntime) -> Result<(), Fail> {
+    #[rattlefmt::skip]
+    let rows = [
+        // (a template, lines)
+        ("名詞", "5\t6\t5\t-10\t20\t30\t40\t50\n2\t9\t1\t9\t9\t9\t9\t9\n3\t8\t1\t7\t7\t7\t7\t7\n3\t9\t1\t7\t7\t7\t7\t7\n"),
+        ("*,一般", "5\t6\t5\t-10\t20\t30\t40\t50\n1\t1\t1\t0\t0\t0\t0\t0\n"),
+        ("助詞", ""),
+    ];
+    let mut entries = Vec::new(rt.alloc());
+    for (token, (left, right, cost, feature)) in ENTRIES.iter().enumerate() {
+        let (left, right, cost, token) = (*left, *right, *cost, token as u32);
+        let feature = *feature;
+        entries.push(EntryRef {
+            left,
+            right,
+            cost,
+            feature,
+            token,
+        })?;
+    }
+    for (text, lines) in rows {
+        let template = Template::of(rt.alloc(), text)?;
+        let found = text_of(rt.alloc(), &rows_of_pairs(rt.alloc(), &template, &entries)?)?;
+        let wanted = format!(in rt.alloc(); "{HEADING}{lines}")?;
+        assert!(rt; found == wanted, "{text}");
+    }
+    Ok(())
+}

@@ -1,0 +1,5 @@
+pub mod HomeLemmas
+mod ImageHeadLemmas
+mod ReadOn
+mod Results
+mod WrittenBytes

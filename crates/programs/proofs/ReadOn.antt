@@ -1,0 +1,39 @@
+-- What a reader gave in two steps, and in all.
+use Rattle.std.proofs.Common.{◌≡◌, ℕ, ◌+◌, ◌≤◌, List, [], ◌++◌, length, subst, sym, ap, ◌∙◌, append_assoc, arith, Vec, Global}
+use Rattle.std.specs.Prelude.{Option, IfSome}
+use Rattle.std.proofs.lemmas.List.{length-append}
+use Rattle.std.specs.Io.KnownBytes.{Consumes, IsAtEnd}
+use Rattle.std.proofs.KnownBytes.{Consumes-all, Consumes-trans}
+use Rattle.programs.specs.Reading.{GivesAtLeast, IsFront, IsReadOn}
+use Rattle.programs.specs.declared.front.Front.{Front}
+use Rattle.programs.specs.declared.front.Front.TheVariants.{More}
+
+-- what was read to the end is all that was left
+pub read_is_all : (a b : Option (List ℕ)) (now : List ℕ) → IsReadOn [] a b now → IsAtEnd b → IfSome a (λ known. now ≡ known)
+read_is_all a b now read at_end = Consumes-all a b read.0 [] now read.1 at_end read.2
+
+-- what was read behind earlier bytes, and then behind these
+pub read_further : (a b c : Option (List ℕ)) (earlier first now : List ℕ) → IsReadOn earlier a b first → IsReadOn first b c now → IsReadOn earlier a c now
+read_further a b c earlier first now one two =
+    (one.0 ++ two.0, Consumes-trans a b c one.0 two.0 one.1 two.1, two.2 ∙ ap (λ l. l ++ two.0) one.2 ∙ append_assoc earlier one.0 two.0)
+
+-- the reads that were left gave a byte each too
+pub gives_further : (reads left : ℕ) (a b c : Option (List ℕ)) (first : List ℕ) → IsReadOn [] a b first → reads ≤ length first + left → GivesAtLeast left b c → GivesAtLeast reads a c
+gives_further reads left a b c first one few two =
+    let whole = length-append one.0 two.0 in
+    let front = ap length one.2 in
+    let many = two.2 in
+    (one.0 ++ two.0, Consumes-trans a b c one.0 two.0 one.1 two.1, omega (arith, few, many, whole, front))
+
+-- what was read behind nothing was consumed
+pub consumed : (a b : Option (List ℕ)) (now : List ℕ) → IsReadOn [] a b now → Consumes a b now
+consumed a b now read = subst (Consumes a b) (sym read.2) read.1
+
+-- what was read behind nothing, where there is more
+pub begun : (most reads left : ℕ) (earlier : List ℕ) (a b : Option (List ℕ)) (front : Front) (bytes : Vec ℕ Global) → earlier ≡ [] → front ≡ More bytes left
+    → IsFront most reads earlier a b front → IsReadOn [] a b bytes.items × (reads ≤ length bytes.items + left)
+begun most reads left earlier a b front bytes none is read =
+    let more = subst (IsFront most reads earlier a b) is read in
+    let few = more.2 in
+    let nothing = ap length none in
+    (subst (λ (e : List ℕ). IsReadOn e a b bytes.items) none more.0, omega (arith, few, nothing))

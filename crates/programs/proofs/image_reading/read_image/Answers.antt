@@ -1,0 +1,59 @@
+use Rattle.std.proofs.Common.{◌≡◌, ℕ, List, [], subst, sym, ◌∙◌}
+use Rattle.std.specs.Prelude.{IfSome}
+use Rattle.std.specs.Io.KnownBytes.{IsAtEnd}
+use Rattle.std.proofs.lemmas.Result.{err_from_is_err_and}
+use Rattle.programs.specs.ImageHeads.{IsFaultOfEach, IsHead, IsRefusalAt, IsRestRefusal}
+use Rattle.programs.specs.Reading.{IsReadOn}
+use Rattle.programs.proofs.ImageHeadLemmas.{refused_at, refused_behind}
+use Rattle.programs.proofs.ReadOn.{begun, consumed, gives_further, read_further, read_is_all}
+use Rattle.programs.proofs.Results.{if_err_so, if_ok_both}
+use Rattle.programs.proofs.image_reading.read_image.Goals as goal
+
+pub returns-in_err-first-in-Ok-clause-refused : goal.returns-in_err-first-in-Ok-clause-refused
+returns-in_err-first-in-Ok-clause-refused g c =
+    let p = err_from_is_err_and c.from_residual-in_err-first-in-Ok.result c.from_residual-in_err-first-in-Ok.ensures.1 in
+    rw (p.1, p.2) tt
+
+pub read_rest-requires-clause-head : goal.read_rest-requires-clause-head
+read_rest-requires-clause-head g c =
+    subst (λ (first : List ℕ). IsHead first c.in-Ok.told) (c.deref.ensures.value ∙ sym c.in_ok-first-in-Ok.ensures) c.in-Ok.ensures.told
+
+pub returns-in-Ok-clause-whole : goal.returns-in-Ok-clause-whole
+returns-in-Ok-clause-whole g c =
+    let a = g.R.Read.remaining c.args.reader.now in
+    let b = g.R.Read.remaining c.read_past.new.reader in
+    let e = g.R.Read.remaining c.read_rest.new.reader in
+    let first = c.in_ok-first-in-Ok.first.items in
+    let start = begun _ c.args.reads c.in-Ok-More.left c.new.result.items a b c.in-Ok-More.field-0 c.in-Ok-More.bytes c.new.ensures.items c.in-Ok-More.field-0-is c.in-Ok-More.ensures.front in
+    let read = subst (IsReadOn [] a b) (sym c.in_ok-first-in-Ok.ensures) start.0 in
+    if_ok_both (λ bytes. IsReadOn first b e bytes.items) (λ bytes. IsAtEnd e) (λ bytes. IfSome a (λ known. bytes.items ≡ known)) c.read_rest.result
+    (λ bytes more at_end. read_is_all a e bytes.items (read_further a b e [] first bytes.items read more) at_end)
+    c.read_rest.ensures.whole c.read_rest.ensures.end
+
+pub returns-in-Ok-clause-endless : goal.returns-in-Ok-clause-endless
+returns-in-Ok-clause-endless g c =
+    let a = g.R.Read.remaining c.args.reader.now in
+    let b = g.R.Read.remaining c.read_past.new.reader in
+    let e = g.R.Read.remaining c.read_rest.new.reader in
+    let start = begun _ c.args.reads c.in-Ok-More.left c.new.result.items a b c.in-Ok-More.field-0 c.in-Ok-More.bytes c.new.ensures.items c.in-Ok-More.field-0-is c.in-Ok-More.ensures.front in
+    λ endless. gives_further c.args.reads c.in-Ok-More.left a b e c.in-Ok-More.bytes.items start.0 start.1 (c.read_rest.ensures.endless endless)
+
+pub returns-in-Ok-clause-refused : goal.returns-in-Ok-clause-refused
+returns-in-Ok-clause-refused g c =
+    let a = g.R.Read.remaining c.args.reader.now in
+    let b = g.R.Read.remaining c.read_past.new.reader in
+    let first = c.in_ok-first-in-Ok.first.items in
+    let start = begun _ c.args.reads c.in-Ok-More.left c.new.result.items a b c.in-Ok-More.field-0 c.in-Ok-More.bytes c.new.ensures.items c.in-Ok-More.field-0-is c.in-Ok-More.ensures.front in
+    let read = subst (IsReadOn [] a b) (sym c.in_ok-first-in-Ok.ensures) start.0 in
+    if_err_so (IsRestRefusal first b) (IsRefusalAt c.args.known a) c.read_rest.result
+    (λ fault rest. refused_behind c.args.known a b first fault (consumed a b first read) rest)
+    c.read_rest.ensures.refused
+
+pub returns-in-Ok-More-clause-refused : goal.returns-in-Ok-More-clause-refused
+returns-in-Ok-More-clause-refused g c =
+    let a = g.R.Read.remaining c.args.reader.now in
+    let b = g.R.Read.remaining c.read_past.new.reader in
+    let fault = c.in-Err-judge_head.fault in
+    let start = begun _ c.args.reads c.in-Ok-More.left c.new.result.items a b c.in-Ok-More.field-0 c.in-Ok-More.bytes c.new.ensures.items c.in-Ok-More.field-0-is c.in-Ok-More.ensures.front in
+    refused_at c.args.known a b c.in-Ok-More.bytes.items fault (consumed a b c.in-Ok-More.bytes.items start.0)
+    (subst (λ (first : List ℕ). IsFaultOfEach c.args.known first fault) c.deref.ensures.value c.in-Err-judge_head.ensures.refused)

@@ -1,0 +1,59 @@
+//! The names of the images in a folder.
+
+ghost use Rattle.std.specs.Prelude.{IfOk, IsPermutation, IsSorted, string_cmp};
+
+use crate::homes::image_in;
+use crate::named_image::is_file;
+use std::alloc::AllocError;
+use std::io::ErrorKind;
+use std::string::String;
+use std::{fs, io};
+
+/// The names of the images in a folder, in byte order: of each `NAME.img` that is no directory. A folder that can't be read has none, and a
+/// name that is not UTF-8 can't be given to a program.
+pub fn image_names(rt: &HostRuntime, folder: &str) -> Result<Vec<String>, AllocError> {
+    match names_in(rt, folder) {
+        Ok(names) => in_byte_order(names),
+        Err(error) if error.kind() == ErrorKind::OutOfMemory => Err(AllocError),
+        Err(_) => Ok(Vec::new(rt.alloc())),
+    }
+}
+
+/// Names in byte order.
+pub fn in_byte_order(mut names: Vec<String>) -> Result<Vec<String>, AllocError>
+    ensures same { IfOk result (λ ordered. IsPermutation names.items ordered.items) }
+    ensures order { IfOk result (λ ordered. IsSorted string_cmp ordered.items) }
+{
+    names.sort()?;
+    Ok(names)
+}
+
+/// The same in no order.
+fn names_in(rt: &HostRuntime, folder: &str) -> io::Result<Vec<String>> {
+    let mut names = Vec::new(rt.alloc());
+    for entry in fs::read_dir(rt, folder)? {
+        match entry {
+            Ok(entry) => add_name(rt, folder, entry.file_name(), &mut names)?,
+            Err(error) if error.kind() == ErrorKind::OutOfMemory => return Err(error),
+            Err(_) => {}
+        }
+    }
+    Ok(names)
+}
+
+/// Adds the name of the image that a file of a folder is, if it is one.
+fn add_name(
+    rt: &HostRuntime,
+    folder: &str,
+    file: &str,
+    names: &mut Vec<String>,
+) -> Result<(), AllocError> {
+    let Some(name) = file.strip_suffix(".img") else {
+        return Ok(());
+    };
+    let path = image_in(rt.alloc(), folder, name)?;
+    if !name.is_empty() && is_file(rt, path.as_str()) {
+        names.push(String::from_str(rt.alloc(), name)?)?;
+    }
+    Ok(())
+}

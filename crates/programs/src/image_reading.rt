@@ -1,0 +1,102 @@
+//! The bytes of an image, whose first ones are judged before the others are read.
+
+ghost use Rattle.std.specs.Prelude.{◌≡◌, ◌<◌, Err, IfErr, IfOk, IfSome, length};
+ghost use Rattle.std.specs.Io.KnownBytes.{IsAtEnd};
+ghost use Rattle.programs.specs.ImageHeads.{IsHead, IsRefusalAt, IsRestRefusal};
+ghost use Rattle.programs.specs.Reading.{GivesAtLeast, IsReadOn};
+ghost use Rattle.programs.specs.declared.image_reading.ImageReadFault.TheVariants.{Read};
+ghost use Rattle.programs.specs.declared.reading.ReadFault.TheVariants.{Endless, Memory};
+
+use crate::front::{Front, read_past};
+use crate::image_head::judge_head;
+use crate::reading::{ReadFault, new_buffer};
+use image_bytes::HEADER_LENGTH;
+use mj_model::ImageFault;
+use std::alloc::{AllocError, Global};
+use std::io;
+
+/// Why the bytes of an image can't be had.
+#[derive(Debug, Drop)]
+pub enum ImageReadFault {
+    /// They can't be read.
+    Read(ReadFault),
+    /// They are those of no image, as the first of them and their number say.
+    Image(ImageFault),
+}
+
+impl From<AllocError> for ImageReadFault {
+    ghost from_gives = { λ _ fault. fault ≡ Read Memory };
+
+    fn from(_refused: AllocError) -> ImageReadFault {
+        ImageReadFault::Read(ReadFault::Memory)
+    }
+}
+
+/// The bytes of a reader that ends within so many reads, where their first ones are those of an image.
+///
+/// `known` is how many bytes there are in all, where that is known. What the header says is judged
+/// before memory for the other bytes is taken. Of a reader that has more bytes than the header
+/// tells no more than one read behind these is made.
+pub fn read_image<R: io::Read>(
+    alloc: Global,
+    reader: &mut R,
+    known: Option<u64>,
+    reads: u64,
+) -> Result<Vec<u8>, ImageReadFault>
+    ensures whole { IfOk result (λ bytes.
+        IfSome (R.remaining reader.old) (λ known. bytes.items ≡ known)) }
+    ensures end { IfOk result (λ _. IsAtEnd (R.remaining reader.new)) }
+    // It is called endless only where each of the reads gave a byte at least.
+    ensures endless { result ≡ Err (Read Endless)
+        → GivesAtLeast reads (R.remaining reader.old) (R.remaining reader.new) }
+    // An image is refused only with the fault that its bytes have.
+    ensures refused { IfErr result (IsRefusalAt known (R.remaining reader.old)) }
+{
+    let mut buffer = new_buffer(alloc)?;
+    let head = HEADER_LENGTH as u64 - 1;
+    match read_past(reader, &mut buffer, reads, Vec::new(alloc), head) {
+        Ok(Front::Whole(bytes)) => Ok(bytes),
+        Ok(Front::More { bytes, reads: left }) => match judge_head(&bytes, known) {
+            Ok(told) => {
+                let first = with_room(bytes, told, known)?;
+                read_rest(reader, &mut buffer, first, told, left)
+            }
+            Err(fault) => Err(ImageReadFault::Image(fault)),
+        },
+        Err(fault) => Err(ImageReadFault::Read(fault)),
+    }
+}
+
+/// The same behind the first bytes, which tell how many there are.
+fn read_rest<R: io::Read>(
+    reader: &mut R,
+    buffer: &mut [u8],
+    first: Vec<u8>,
+    told: u64,
+    reads: u64,
+) -> Result<Vec<u8>, ImageReadFault>
+    requires buffer { 0 < length buffer.old }
+    requires head { IsHead first.items told }
+    ensures whole { IfOk result (λ bytes. IsReadOn first.items (R.remaining reader.old)
+        (R.remaining reader.new) bytes.items) }
+    ensures end { IfOk result (λ _. IsAtEnd (R.remaining reader.new)) }
+    ensures endless { result ≡ Err (Read Endless)
+        → GivesAtLeast reads (R.remaining reader.old) (R.remaining reader.new) }
+    ensures refused { IfErr result (IsRestRefusal first.items (R.remaining reader.old)) }
+{
+    match read_past(reader, buffer, reads, first, told) {
+        Ok(Front::Whole(bytes)) => Ok(bytes),
+        Ok(Front::More { .. }) => Err(ImageReadFault::Image(ImageFault::BadSection(9))),
+        Err(fault) => Err(ImageReadFault::Read(fault)),
+    }
+}
+
+/// The same bytes, with room for as many as are told where so many are known to come.
+fn with_room(mut bytes: Vec<u8>, told: u64, known: Option<u64>) -> Result<Vec<u8>, AllocError>
+    ensures { IfOk result (λ roomy. roomy.items ≡ bytes.items) }
+{
+    if known == Some(told) {
+        bytes.reserve_exact((told as usize).saturating_sub(bytes.len()))?;
+    }
+    Ok(bytes)
+}

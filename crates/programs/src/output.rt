@@ -1,0 +1,38 @@
+//! Bytes that a writer takes.
+
+ghost use Rattle.std.specs.Prelude.{OnErr, OnOk};
+ghost use Rattle.std.specs.Io.KnownBytes.{Appends};
+ghost use Rattle.programs.specs.Writing.{AppendsFront};
+
+use std::fmt;
+use std::io::{self, ErrorKind, Write};
+
+/// Writes all bytes, in as many calls as the writer takes them in.
+///
+/// A call that fails is not made again, whatever its error, and one that takes no byte has failed.
+pub fn write_whole<W: Write>(writer: &mut W, bytes: &[u8]) -> io::Result<()>
+    ensures written { OnOk result
+        (Appends (W.contents writer.old) (W.contents writer.new) bytes.now) }
+    ensures cut { OnErr result
+        (AppendsFront (W.contents writer.old) (W.contents writer.new) bytes.now) }
+{
+    let mut sent = 0;
+    while sent < bytes.len() {
+        match writer.write(&bytes[sent..]) {
+            Ok(0) => return Err(io::Error::from(ErrorKind::WriteZero)),
+            Ok(taken) => sent += taken,
+            Err(error) => return Err(error),
+        }
+    }
+    Ok(())
+}
+
+/// A writer to which text is printed, each part of it by `write_whole`.
+#[derive(Drop)]
+pub struct Printed<'a, W>(pub &'a mut W);
+
+impl<W: Write> fmt::Write for Printed<'_, W> {
+    fn write_str(&mut self, text: &str) -> fmt::Result {
+        write_whole(self.0, text.as_bytes()).map_err(|_| fmt::Error)
+    }
+}
