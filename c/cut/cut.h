@@ -40,7 +40,7 @@ typedef struct fault {
    kumquatsieve_load_by. */
 typedef struct options {
     char *dic;
-    const char **users;
+    char **users;
     size_t user_count;
     bool skip_digest;
     const char *node, *unk, *bos, *eos;
@@ -76,17 +76,23 @@ void say(const char *format, ...) __attribute__((format(printf, 1, 2)));
 bool is_utf8(const char *text);
 char *one_line(const char *text);
 
-/* paths.c. The path of the image that -d names, which the caller frees: NULL for want of memory. What is wrong with a path. */
-char *image_path(const char *name);
+/* paths.c. The path of the image that -d or -u names, which the caller frees: NULL for want of memory. The homes of this program's images. What is
+   wrong with a path. */
+struct homes;
+char *find_image(const char *name);
+bool find_own_homes(struct homes *found);
 bool is_mecab_directory(const char *path);
 const char *trouble_with(const char *path);
 
-/* files.c. A file's bytes, which the caller frees; else a fault. */
+/* missing.c. With -v, where an image was looked for. */
+void tell_homes(const fault *why);
+
+/* images.c. An image's bytes, which the caller frees; else a fault. One whose header or length is at fault is not read further. */
 typedef struct whole_file {
     uint8_t *at;
     size_t length;
 } whole_file;
-bool read_whole(const char *path, whole_file *whole, fault *why);
+bool read_image(const char *path, whole_file *whole, fault *why);
 
 /* formats.c. Whether the format that is asked for is one; sets it to a cutter that has a dictionary. */
 bool check_format(const options *asked, fault *why);

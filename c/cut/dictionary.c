@@ -16,7 +16,7 @@ static bool is_of_overlay(uint32_t code) {
 static bool load_system(const char *path, kumquatsieve_cutter *cutter, bool skip_digest, fault *why) {
     whole_file image;
     uint64_t number = 0;
-    if (!read_whole(path, &image, why)) return false;
+    if (!read_image(path, &image, why)) return false;
     uint32_t code = kumquatsieve_load_by(cutter, image.at, image.length, skip_digest, &number);
     free(image.at);
     return !fails(why, code, path, number);
@@ -34,7 +34,7 @@ static uint32_t look_at(const whole_file *image, bool skip_digest, uint64_t *num
 static bool add_user(const char *path, kumquatsieve_cutter *cutter, bool skip_digest, bool only_look, fault *why) {
     whole_file image;
     uint64_t number = 0;
-    if (!read_whole(path, &image, why)) return false;
+    if (!read_image(path, &image, why)) return false;
     uint32_t code = only_look ? look_at(&image, skip_digest, &number)
                               : kumquatsieve_add_user_by(cutter, image.at, image.length, skip_digest, &number);
     free(image.at);

@@ -3,7 +3,7 @@
 #include <string.h>
 
 const char HELP[] =
-    "Cuts the Japanese text on standard input into words, by all processors\n"
+    "Cuts the Japanese text on standard input into words, on all processors\n"
     "\n"
     "Usage: " PROGRAM " [OPTIONS] -d IMG < TEXT\n"
     "\n"
@@ -32,6 +32,7 @@ static const struct {
     {0, "sources", "--sources is not known: " PROGRAM " takes images, so compile the sources with dictc, or use jseg"},
     {0, "sample", "--sample is not known: " PROGRAM " takes images, so use jseg"},
     {0, "explain", "--explain is not known: jseg --explain says what a code means"},
+    {0, "dictionaries", "--dictionaries is not known: jseg --dictionaries lists the images that a bare name may find"},
     {'N', "nbest", "-N is not known: " PROGRAM " writes the one best path, so leave it out"},
     {'a', "all-morphs", "-a is not known: " PROGRAM " writes the one best path, so leave it out"},
     {'l', "lattice-level", "-l is not known: " PROGRAM " writes the one best path, so leave it out"},
@@ -43,7 +44,7 @@ static const struct {
     {'x', "unk-feature", "-x is not known: give -U a format that has the text in place of %H"},
     {'o', "output", "-o is not known: " PROGRAM " writes to standard output, so end with '> FILE'"},
     {'r', "rcfile", "-r is not known: " PROGRAM " reads no dicrc, so give its formats with -F, -U, -B and -E"},
-    {'D', "dictionary-info", "-D is not known: -v tells what is loaded"},
+    {'D', "dictionary-info", "-D is not known: -v tells what is loaded, and jseg --dictionaries what is installed"},
     {'P', "dump-config", "-P is not known: --help lists what " PROGRAM " takes"},
     {'b', "input-buffer-size", "-b is not needed: a line may have 1,048,576 bytes, so leave it out"},
     {'C', "allocate-sentence", "-C is not needed: " PROGRAM " keeps each line itself, so leave it out"},
@@ -88,12 +89,14 @@ const char *instead_of_output(const char *name) {
         const char *name, *instead;
     } KNOWN[] = {
         {"wakati", NULL},
-        {"chasen", "-O chasen is not known: for IPADIC write -F '%m\\t%f[7]\\t%f[6]\\t%f[0]-%f[1]-%f[2]-%f[3]\\t%f[4]\\t%f[5]\\n'"},
-        {"yomi", "-O yomi is not known: for IPADIC write -F '%pS%f[7]' -U '%M' -E '\\n'"},
-        {"simple", "-O simple is not known: for IPADIC write -F '%m\\t%f[0]-%f[1]-%f[2]-%f[3]\\n'"},
+        {"chasen", "-O chasen is not known: run 'mecab -d IMG -Ochasen', "
+                   "or for IPADIC write -F '%m\\t%f[7]\\t%f[6]\\t%f[0]-%f[1]-%f[2]-%f[3]\\t%f[4]\\t%f[5]\\n'"},
+        {"yomi", "-O yomi is not known: run 'mecab -d IMG -Oyomi', or for IPADIC write -F '%pS%f[7]' -U '%M' -E '\\n'"},
+        {"simple", "-O simple is not known: run 'mecab -d IMG -Osimple', or for IPADIC write -F '%m\\t%f[0]-%f[1]-%f[2]-%f[3]\\n'"},
     };
     for (size_t i = 0; i < sizeof KNOWN / sizeof *KNOWN; i++) {
         if (strcmp(name, KNOWN[i].name) == 0) return KNOWN[i].instead;
     }
-    return "-O takes wakati alone: MeCab reads other names in the dictionary's dicrc, so give that format with -F, -U, -B and -E";
+    return "-O takes wakati alone: MeCab reads other names in the dictionary's dicrc, so run 'mecab -d IMG -O NAME', "
+           "or give that format with -F, -U, -B and -E";
 }

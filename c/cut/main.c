@@ -5,7 +5,9 @@
 
 static int end_by(const fault *why) {
     tell_why(why);
-    return tell_fault(why);
+    int status = tell_fault(why);
+    tell_homes(why);
+    return status;
 }
 
 static int cut_by(const options *asked) {
@@ -33,6 +35,7 @@ int main(int count, char **words) {
         status = cut_by(&asked);
     }
     free(asked.dic);
+    for (size_t i = 0; i < asked.user_count; i++) free(asked.users[i]);
     free(asked.users);
     return status;
 }

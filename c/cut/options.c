@@ -2,6 +2,7 @@
 #include "cut.h"
 #include <limits.h>
 #include <sched.h>
+#include <stdio.h>
 #include <stdlib.h>
 #include <string.h>
 #include <unistd.h>
@@ -19,48 +20,61 @@ static const row ROWS[] = {
     {'E', "FORMAT", true, false}, {'v', NULL, false, false},
 };
 
-/* What was read of a command line: `at` is the next word, and a letter that was given is true. */
+/* What was read of a command line: `at` is the next word, and a letter that was given is true. The users' names are as many as the options say. */
 typedef struct reading {
     char **words;
     int count, at;
     options *asked;
-    const char *dic, *output;
+    const char *dic, *output, **users;
+    int *status;
     bool given[UCHAR_MAX + 1];
 } reading;
 
 typedef enum step { NEXT, ENDED, WRONG } step;
 
-/* `instead` is what to do in place of it, or NULL. */
-static step unexpected(const char *word, const char *instead) {
-    if (instead) {
-        tell_wrong("%s", instead);
-    } else {
-        tell_wrong("unexpected argument '%s' found", word);
-    }
+static step no_memory(reading *of) {
+    *of->status = tell_fault(&(fault){.code = KUMQUATSIEVE_MEMORY});
+    return ENDED;
+}
+
+/* Tells what is wrong with a word, which stands in one line between two texts. */
+static step wrong_with(reading *of, const char *before, const char *word, const char *behind) {
+    char *line = one_line(word);
+    if (!line) return no_memory(of);
+    tell_wrong("%s '%s' %s", before, line, behind);
+    free(line);
     return WRONG;
 }
 
-static step wrong_word(const char *word) {
-    return unexpected(word, instead_of_word(word));
+/* `instead` is what to do in place of it, or NULL. */
+static step unexpected(reading *of, const char *word, const char *instead) {
+    if (!instead) return wrong_with(of, "unexpected argument", word, "found");
+    tell_wrong("%s", instead);
+    return WRONG;
+}
+
+static step wrong_word(reading *of, const char *word) {
+    return unexpected(of, word, instead_of_word(word));
 }
 
 /* What is printed where the program is asked about itself. */
-static step answer(const char *text, int *status) {
-    *status = print_text(text) ? STATUS_DONE : tell_fault(&(fault){.code = FAULT_OUTPUT});
+static step answer(reading *of, const char *text) {
+    *of->status = print_text(text) ? STATUS_DONE : tell_fault(&(fault){.code = FAULT_OUTPUT});
     return ENDED;
 }
 
 /* A number from `least` to `most`, in digits that a sign may stand before. */
-static step read_number(const row *of, const char *text, long least, long most, uint32_t *number) {
+static step read_number(reading *of, const row *option, const char *text, long least, long most, uint32_t *number) {
     const char *digits = text + (*text == '+' || *text == '-');
     if (*digits == '\0' || digits[strspn(digits, "0123456789")] != '\0') {
-        tell_wrong("invalid value '%s' for '-%c <%s>': it is no number", text, of->letter, of->value);
-        return WRONG;
+        char behind[64];
+        snprintf(behind, sizeof behind, "for '-%c <%s>': it is no number", option->letter, option->value);
+        return wrong_with(of, "invalid value", text, behind);
     }
     /* A number that is too large for a long is the largest one. */
     long found = strtol(text, NULL, 10);
     if (found < least || found > most) {
-        tell_wrong("invalid value '%s' for '-%c <%s>': %s is not in %ld..=%ld", text, of->letter, of->value, text, least, most);
+        tell_wrong("invalid value '%s' for '-%c <%s>': %s is not in %ld..=%ld", text, option->letter, option->value, text, least, most);
         return WRONG;
     }
     *number = (uint32_t)found;
@@ -71,9 +85,9 @@ static step set_value(reading *of, const row *option, const char *value) {
     options *asked = of->asked;
     switch (option->letter) {
     case 'd': of->dic = value; break;
-    case 'u': asked->users[asked->user_count++] = value; break;
-    case 'j': return read_number(option, value, 1, THREADS_MOST, &asked->threads);
-    case 'M': return read_number(option, value, 0, GROUPING_MOST, &asked->grouping);
+    case 'u': of->users[asked->user_count++] = value; break;
+    case 'j': return read_number(of, option, value, 1, THREADS_MOST, &asked->threads);
+    case 'M': return read_number(of, option, value, 0, GROUPING_MOST, &asked->grouping);
     case 'O': of->output = value; break;
     case 'F': asked->node = value; break;
     case 'U': asked->unk = value; break;
@@ -93,13 +107,24 @@ static const char *value_of(reading *of, const row *option, const char *rest) {
     return next;
 }
 
+/* Where the next word begins with `-`, what to write in its place if it names a file. */
+static step missing_value(reading *of, const row *option) {
+    bool may_be_file = of->at < of->count && strcmp(option->value, "IMG") == 0;
+    char *line = may_be_file ? one_line(of->words[of->at]) : NULL;
+    if (may_be_file && !line) return no_memory(of);
+    if (line) {
+        tell_wrong("a value is required for '-%c <%s>' but none was supplied\n\n  tip: for the file '%s' write './%s'", option->letter, option->value,
+            line, line);
+    } else {
+        tell_wrong("a value is required for '-%c <%s>' but none was supplied", option->letter, option->value);
+    }
+    free(line);
+    return WRONG;
+}
+
 static step read_value(reading *of, const row *option, const char *rest) {
     const char *value = value_of(of, option, rest);
-    if (!value) {
-        tell_wrong("a value is required for '-%c <%s>' but none was supplied", option->letter, option->value);
-        return WRONG;
-    }
-    return set_value(of, option, value);
+    return value ? set_value(of, option, value) : missing_value(of, option);
 }
 
 static const row *row_of(char letter) {
@@ -117,12 +142,12 @@ static step given_twice(const char *name, const char *value) {
 }
 
 /* The letters of a word that begins with one `-`. */
-static step read_letters(reading *of, const char *word, int *status) {
+static step read_letters(reading *of, const char *word) {
     for (const char *at = word + 1; *at; at++) {
         const row *option = row_of(*at);
-        if (*at == 'h') return answer(HELP, status);
-        if (*at == 'V') return answer(VERSION, status);
-        if (!option) return unexpected(word, instead_of_letter(*at));
+        if (*at == 'h') return answer(of, HELP);
+        if (*at == 'V') return answer(of, VERSION);
+        if (!option) return unexpected(of, word, instead_of_letter(*at));
         if (of->given[(unsigned char)*at] && !option->is_repeated) return given_twice((char[]){'-', *at, '\0'}, option->value);
         of->given[(unsigned char)*at] = true;
         if (option->value) return read_value(of, option, at + 1);
@@ -137,14 +162,14 @@ static step read_skip_digest(reading *of, const char *word) {
     return NEXT;
 }
 
-static step read_word(reading *of, int *status) {
+static step read_word(reading *of) {
     const char *word = of->words[of->at++];
-    if (strcmp(word, "--help") == 0) return answer(HELP, status);
-    if (strcmp(word, "--version") == 0) return answer(VERSION, status);
+    if (strcmp(word, "--help") == 0) return answer(of, HELP);
+    if (strcmp(word, "--version") == 0) return answer(of, VERSION);
     if (strcmp(word, "--skip-digest") == 0) return read_skip_digest(of, word);
-    if (strcmp(word, "--") == 0) return of->at == of->count ? NEXT : wrong_word(of->words[of->at]);
-    if (word[0] != '-' || word[1] == '\0' || word[1] == '-') return wrong_word(word);
-    return read_letters(of, word, status);
+    if (strcmp(word, "--") == 0) return of->at == of->count ? NEXT : wrong_word(of, of->words[of->at]);
+    if (word[0] != '-' || word[1] == '\0' || word[1] == '-') return wrong_word(of, word);
+    return read_letters(of, word);
 }
 
 /* The processors that this process may run on. */
@@ -154,32 +179,36 @@ static uint32_t processors(void) {
     return count < 1 ? 1 : count > THREADS_MOST ? THREADS_MOST : (uint32_t)count;
 }
 
-static step wrong_directory(const char *path, int *status) {
+static step wrong_directory(reading *of, const char *path) {
     char *line = one_line(path);
-    if (!line) {
-        *status = tell_fault(&(fault){.code = KUMQUATSIEVE_MEMORY});
-        return ENDED;
-    }
+    if (!line) return no_memory(of);
     tell_wrong("%s is a dictionary of MeCab: make an image of its sources with 'kumquatsieve-import SOURCES IMG', and give that with -d", line);
     free(line);
     return WRONG;
 }
 
+/* Finds the images that are named; false for want of memory. */
+static bool find_images(reading *of) {
+    options *asked = of->asked;
+    asked->dic = find_image(of->dic);
+    for (size_t i = 0; asked->dic && i < asked->user_count; i++) {
+        asked->users[i] = find_image(of->users[i]);
+        if (!asked->users[i]) return false;
+    }
+    return asked->dic != NULL;
+}
+
 /* What words alone don't say: an image and an output format that the program has. */
-static step finish(reading *of, int *status) {
+static step finish(reading *of) {
     const char *instead = of->output ? instead_of_output(of->output) : NULL;
     of->asked->is_wakati = of->output != NULL;
     if (instead || !of->dic) {
         tell_wrong("%s", instead ? instead : "-d IMG has to be given");
         return WRONG;
     }
-    of->asked->dic = image_path(of->dic);
-    if (!of->asked->dic) {
-        *status = tell_fault(&(fault){.code = KUMQUATSIEVE_MEMORY});
-        return ENDED;
-    }
+    if (!find_images(of)) return no_memory(of);
     if (!is_mecab_directory(of->asked->dic)) return NEXT;
-    return wrong_directory(of->asked->dic, status);
+    return wrong_directory(of, of->asked->dic);
 }
 
 static bool are_utf8(char **words, int count) {
@@ -189,20 +218,28 @@ static bool are_utf8(char **words, int count) {
     return true;
 }
 
-bool read_options(int count, char **words, options *asked, int *status) {
-    reading own = {.words = words, .count = count, .at = 1, .asked = asked};
+static bool read_words(reading *of) {
     step now = NEXT;
-    *asked = (options){.users = calloc((size_t)count + 1, sizeof *asked->users), .grouping = GROUPING_DEFAULT, .threads = processors()};
-    *status = STATUS_WRONG;
-    if (!asked->users) {
-        *status = tell_fault(&(fault){.code = KUMQUATSIEVE_MEMORY});
-        return false;
-    }
-    if (!are_utf8(words, count)) {
+    if (!are_utf8(of->words, of->count)) {
         tell("an argument is not UTF-8");
         return false;
     }
-    while (now == NEXT && own.at < count) now = read_word(&own, status);
-    if (now == NEXT) now = finish(&own, status);
+    while (now == NEXT && of->at < of->count) now = read_word(of);
+    if (now == NEXT) now = finish(of);
     return now == NEXT;
+}
+
+bool read_options(int count, char **words, options *asked, int *status) {
+    size_t room = (size_t)count + 1;
+    *asked = (options){.users = calloc(room, sizeof *asked->users), .grouping = GROUPING_DEFAULT, .threads = processors()};
+    reading own = {.words = words, .count = count, .at = 1, .asked = asked, .users = calloc(room, sizeof *own.users), .status = status};
+    bool is_read = false;
+    *status = STATUS_WRONG;
+    if (asked->users && own.users) {
+        is_read = read_words(&own);
+    } else {
+        *status = tell_fault(&(fault){.code = KUMQUATSIEVE_MEMORY});
+    }
+    free(own.users);
+    return is_read;
 }

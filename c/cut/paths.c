@@ -1,5 +1,6 @@
-/* Paths: that of an installed image, and what stands at one. */
+/* Paths: that of an image by its name, and what stands at one. */
 #include "cut.h"
+#include "homes.h"
 #include <errno.h>
 #include <fcntl.h>
 #include <limits.h>
@@ -9,12 +10,6 @@
 #include <sys/stat.h>
 #include <unistd.h>
 
-/* Whether there is something at a path, and no directory. */
-static bool is_file(const char *path) {
-    struct stat found;
-    return stat(path, &found) == 0 && !S_ISDIR(found.st_mode);
-}
-
 /* Cuts a path before its last name; false where it has none. */
 static bool to_parent(char *path) {
     char *slash = strrchr(path, '/');
@@ -23,24 +18,22 @@ static bool to_parent(char *path) {
     return true;
 }
 
-/* The path of the image of a name that is installed with the program: of PREFIX/bin/kumquatsieve-cut it is PREFIX/share/kumquatsieve/NAME.img. */
-static char *installed(const char *name) {
-    char program[PATH_MAX + 1], *path = NULL;
+/* PREFIX, where this program is PREFIX/bin/kumquatsieve-cut, in room for a path; NULL where the system doesn't say where it is. */
+static const char *own_prefix(char program[static PATH_MAX + 1]) {
     ssize_t length = readlink("/proc/self/exe", program, PATH_MAX);
     if (length <= 0) return NULL;
     program[length] = '\0';
-    if (!to_parent(program) || !to_parent(program)) return NULL;
-    if (asprintf(&path, "%s/share/kumquatsieve/%s.img", program, name) < 0) return NULL;
-    if (is_file(path)) return path;
-    free(path);
-    return NULL;
+    return to_parent(program) && to_parent(program) ? program : NULL;
 }
 
-/* A bare name that no file has is that of an installed image. Where there is none it stays the name. */
-char *image_path(const char *name) {
-    char *path = NULL;
-    if (!strchr(name, '/') && !is_file(name)) path = installed(name);
-    return path ? path : strdup(name);
+char *find_image(const char *name) {
+    char program[PATH_MAX + 1];
+    return image_path(name, own_prefix(program));
+}
+
+bool find_own_homes(homes *found) {
+    char program[PATH_MAX + 1];
+    return find_homes(own_prefix(program), found);
 }
 
 static bool has(const char *directory, const char *name) {

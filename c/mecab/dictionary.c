@@ -7,21 +7,26 @@ static const char BOS_FEATURE[] = "BOS/EOS";
 
 enum { GROUPING = 24 };
 
-/* The paths of the system's image and of the users', whose list has commas. */
-static size_t cut_paths(char **paths, char *image, char *users) {
+/* The paths of the system's image and of the users', whose list has commas; those of the users are to be freed. 0 for want of memory. */
+static size_t find_paths(char **paths, char *image, char *users) {
     size_t count = 0;
     char *rest = NULL;
     paths[count++] = image;
-    for (char *path = strtok_r(users, ",", &rest); path; path = strtok_r(NULL, ",", &rest)) paths[count++] = path;
+    for (char *name = strtok_r(users, ",", &rest); name; name = strtok_r(NULL, ",", &rest)) {
+        paths[count] = find_user_image(name);
+        if (!paths[count++]) return 0;
+    }
     return count;
 }
 
 static images *open_all(char *image, const char *users, fault *error) {
     char *list = strdup(users ? users : "");
-    char **paths = list ? malloc((strlen(list) + 2) * sizeof *paths) : NULL;
+    char **paths = list ? calloc(strlen(list) + 2, sizeof *paths) : NULL;
+    size_t count = paths ? find_paths(paths, image, list) : 0;
     images *opened = NULL;
-    if (paths) opened = open_images(paths, cut_paths(paths, image, list), error);
+    if (count > 0) opened = open_images(paths, count, error);
     else fail_memory(error);
+    for (size_t i = 1; paths && paths[i]; i++) free(paths[i]);
     free(paths);
     free(list);
     return opened;

@@ -1,4 +1,6 @@
 /* Which image is meant, and which settings go with it. */
+#define _GNU_SOURCE
+#include "homes.h"
 #include "layer.h"
 #include <errno.h>
 #include <limits.h>
@@ -11,9 +13,9 @@
 #define PREFIX "/usr/local"
 #endif
 
-static const char IMAGE[] = "kumquatsieve.img";
+/* The image of who names none, and of a folder that is named. */
+static const char NAME[] = "kumquatsieve", IMAGE[] = "kumquatsieve.img";
 static const char VARIABLE[] = "KUMQUATSIEVE_DICTIONARY";
-static const char SHARED[] = PREFIX "/share/kumquatsieve";
 static const char SYSTEM_SETTINGS[] = "/etc/mecabrc";
 static const char RC_PATH[] = "$(rcpath)";
 
@@ -31,15 +33,11 @@ static bool is_file(const char *path) {
 }
 
 /* A folder's file, NULL where there is no memory. */
-static char *joined(const char *folder, const char *name, size_t name_length, const char *ending) {
-    size_t length = strlen(folder) + name_length + strlen(ending) + 2;
-    char *path = malloc(length);
-    if (path) snprintf(path, length, "%s/%.*s%s", folder, (int)name_length, name, ending);
-    return path;
-}
-
 static char *in_folder(const char *folder, const char *name) {
-    return joined(folder, name, strlen(name), "");
+    size_t length = strlen(folder) + strlen(name) + 2;
+    char *path = malloc(length);
+    if (path) snprintf(path, length, "%s/%s", folder, name);
+    return path;
 }
 
 static bool is_in_folder(const char *folder, const char *name) {
@@ -67,47 +65,41 @@ static size_t length_of_name(const char *name) {
 }
 
 /* Those that kumquatsieve-import knows by their names. */
-static bool is_known(const char *name, size_t length) {
+static bool is_known(const char *name) {
     static const char *const NAMES[] = {"ipadic", "juman", "naist", "unidic"};
     for (size_t i = 0; i < sizeof NAMES / sizeof *NAMES; i++) {
-        if (strlen(NAMES[i]) == length && strncmp(NAMES[i], name, length) == 0) return true;
+        if (strcmp(NAMES[i], name) == 0) return true;
     }
     return false;
 }
 
-static bool fail_not_imported(fault *error, const char *folder, const char *name, size_t length) {
-    int shown = (int)length;
-    if (is_known(name, length)) {
-        return fail(error, "%s is a dictionary of MeCab's: `kumquatsieve-import %.*s` makes an image of its sources", folder, shown, name);
+static bool fail_not_imported(fault *error, const char *folder, const char *name) {
+    if (is_known(name)) {
+        return fail(error, "%s is a dictionary of MeCab's: `kumquatsieve-import %s` makes an image of its sources", folder, name);
     }
-    return fail(
-        error, "%s is a dictionary of MeCab's: `kumquatsieve-import SOURCES %s/%.*s.img` makes an image of its sources", folder, SHARED, shown, name
-    );
+    char *home = run_time_home(PREFIX);
+    if (!home) return fail_memory(error);
+    fail(error, "%s is a dictionary of MeCab's: `kumquatsieve-import SOURCES %s/%s.img` makes an image of its sources", folder, home, name);
+    free(home);
+    return false;
 }
 
 /* The image that was imported from a folder of MeCab's, by its name. */
 static char *imported(const char *folder, fault *error) {
     char whole[PATH_MAX];
     const char *path = realpath(folder, whole) ? whole : folder;
-    const char *name = strrchr(path, '/') ? strrchr(path, '/') + 1 : path;
-    size_t length = length_of_name(name);
-    char *image = joined(SHARED, name, length, ".img");
-    if (!image || is_file(image)) {
-        if (!image) fail_memory(error);
-        return image;
-    }
-    free(image);
-    fail_not_imported(error, folder, name, length);
-    return NULL;
+    const char *last = strrchr(path, '/') ? strrchr(path, '/') + 1 : path;
+    char *name = strndup(last, length_of_name(last)), *image = NULL;
+    if (!name || !find_in_homes(name, PREFIX, &image)) fail_memory(error);
+    else if (!image) fail_not_imported(error, folder, name);
+    free(name);
+    return image;
 }
 
-/* The image that is named: a file, or that of a folder, or one by its name in PREFIX/share/kumquatsieve. */
+/* The image that is named: a file, or that of a folder, or one in a home by its name. */
 static char *image_of(const char *name, fault *error) {
-    char *path = NULL;
     if (is_folder(name) && !is_in_folder(name, IMAGE) && is_of_mecab(name)) return imported(name, error);
-    if (is_folder(name)) path = in_folder(name, IMAGE);
-    else if (is_file(name) || strchr(name, '/')) path = strdup(name);
-    else path = joined(SHARED, name, strlen(name), ".img");
+    char *path = is_folder(name) ? in_folder(name, IMAGE) : image_path(name, PREFIX);
     if (!path) fail_memory(error);
     return path;
 }
@@ -128,7 +120,7 @@ static char *with_rc_path(const char *value, const char *file) {
 
 /* The option's file, or the user's own, or that of the environment, or the system's. (MeCab) Only the last one may be missing, and the user's. */
 static source read_sources(settings *to, char **file, fault *error) {
-    const char *given = setting_of(to, "rcfile"), *home = getenv("HOME"), *named = getenv("MECABRC");
+    const char *given = setting_of(to, "rcfile"), *home = secure_getenv("HOME"), *named = secure_getenv("MECABRC");
     source from = given && *given ? GIVEN_SOURCE : USERS_SOURCE;
     char *own = home ? in_folder(home, ".mecabrc") : NULL;
     if (from == GIVEN_SOURCE) *file = strdup(given);
@@ -143,19 +135,25 @@ static source read_sources(settings *to, char **file, fault *error) {
     return from;
 }
 
+/* The path at which the machine's own image would stand. */
+static char *awaited_image(void) {
+    char *home = run_time_home(PREFIX), *path = home ? in_folder(home, IMAGE) : NULL;
+    free(home);
+    return path;
+}
+
 /* What is nearer to the caller goes before what is the machine's. The folder of the system's settings goes last: it is MeCab's own. */
 static char *chosen_name(const char *option, const char *setting, source from) {
-    char *shared = in_folder(SHARED, IMAGE);
-    const char *named = getenv(VARIABLE);
+    const char *named = secure_getenv(VARIABLE);
     const char *chosen = option;
+    char *own = NULL;
     if (!chosen && from == GIVEN_SOURCE) chosen = setting;
     if (!chosen && named && *named) chosen = named;
     if (!chosen && from == USERS_SOURCE) chosen = setting;
-    if (!chosen && !(shared && is_file(shared))) chosen = setting;
-    if (!chosen) return shared;
-    char *copy = strdup(chosen);
-    free(shared);
-    return copy;
+    if (chosen) return strdup(chosen);
+    if (!find_in_homes(NAME, PREFIX, &own)) return NULL;
+    if (own) return own;
+    return setting ? strdup(setting) : awaited_image();
 }
 
 /* The settings beside an image NAME.img are NAME.dicrc and NAME.pos-id.def. Where the image is a link they are beside what it leads to. */
@@ -209,4 +207,9 @@ char *find_image(settings *to, fault *error) {
     if (image && read_beside(to, image, error)) return image;
     free(image);
     return NULL;
+}
+
+/* The path of a user's image, NULL for want of memory. */
+char *find_user_image(const char *name) {
+    return image_path(name, PREFIX);
 }

@@ -96,6 +96,7 @@ bool read_options_of(settings *to, const char *line, fault *error);
 
 /* finding.c */
 char *find_image(settings *to, fault *error);
+char *find_user_image(const char *name);
 char *beside(const char *image, const char *ending);
 
 /* lock.c. The one is held over a load of images. The other one is for all that models and lattices share; it is held for a few steps, never
