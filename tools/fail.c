@@ -1,6 +1,7 @@
 // One call of the C library that fails, to be preloaded (LD_PRELOAD) by `tools/runs` and `tools/cut-lines`.
 //
-//     FAIL=rename       the call that fails: rename, fsync, fchmod, write to a file, as on a full device, read of standard input, or pthread_create
+//     FAIL=rename       the call that fails: rename, fsync, fchmod, write to a file, as on a full device, read of standard input, or pthread_create;
+//                       or `interrupted write`: the first write to a file, as a signal interrupts it
 //     FAIL_AFTER=N      how many calls of read or pthread_create don't fail before; none where it isn't given
 #define _GNU_SOURCE
 #include <dlfcn.h>
@@ -39,8 +40,14 @@ static int is_file(int file) {
     return fstat(file, &found) == 0 && S_ISREG(found.st_mode);
 }
 
+// Whether this is the first write that a signal could have interrupted.
+static int is_interrupted(void) {
+    static atomic_int interrupted;
+    return fails("interrupted write", EINTR) && atomic_exchange(&interrupted, 1) == 0;
+}
+
 ssize_t write(int file, const void *bytes, size_t count) {
-    return is_file(file) && fails("write", ENOSPC) ? -1 : syscall(SYS_write, file, bytes, count);
+    return is_file(file) && (fails("write", ENOSPC) || is_interrupted()) ? -1 : syscall(SYS_write, file, bytes, count);
 }
 
 // Whether the calls that don't fail are over.

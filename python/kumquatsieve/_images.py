@@ -20,22 +20,37 @@ KIND = slice(12, 16)
 SYSTEM = bytes(4)
 
 
+def own_home() -> Optional[Path]:
+    """The user's own folder of images. A variable that is not absolute counts for nothing. (XDG Base Directory Specification)"""
+    share, home = os.environ.get("XDG_DATA_HOME", ""), os.environ.get("HOME", "")
+    if os.path.isabs(share):
+        return Path(share, "kumquatsieve")
+    return Path(home, ".local", "share", "kumquatsieve") if os.path.isabs(home) else None
+
+
+def homes_of(prefix: Path) -> List[Path]:
+    """Where what is installed to a prefix has images: those that are made on the system, in /var under /usr, and those that came with it."""
+    root = Path("/") if prefix == Path("/usr") else prefix
+    return [root / "var" / "lib" / "kumquatsieve", prefix / "share" / "kumquatsieve"]
+
+
 def folders() -> List[Path]:
-    """Where installed images are: beside the `jseg` that a shell runs, as that has it, then of this Python, of /usr/local and of /usr."""
-    jseg = shutil.which("jseg")
+    """Where images live: the user's own, then beside the `jseg` that a shell runs, as that has it, of this Python, of /usr/local and of /usr."""
+    jseg, own = shutil.which("jseg"), own_home()
     prefixes = [Path(jseg).resolve().parent.parent] if jseg else []
     prefixes += map(Path, (sys.prefix, "/usr/local", "/usr"))
-    return [prefix / "share" / "kumquatsieve" for prefix in dict.fromkeys(prefixes)]
+    found = [own] if own else []
+    return list(dict.fromkeys(found + [home for prefix in prefixes for home in homes_of(prefix)]))
 
 
 def dictionaries() -> Dict[str, str]:
-    """The paths of the system dictionaries that are installed, by their names."""
-    found: Dict[str, str] = {}
+    """The paths of the system dictionaries that are installed, by their names: of a name that stands in two folders, the one that is found."""
+    found: Dict[str, Path] = {}
     for folder in folders():
-        for path in sorted(folder.glob("*" + ENDING)):
-            if is_system(path):
-                found.setdefault(path.stem, str(path))
-    return found
+        for path in sorted(folder.glob("?*" + ENDING)):
+            if is_file(str(path)):
+                found.setdefault(path.stem, path)
+    return {name: str(path) for name, path in found.items() if is_system(path)}
 
 
 def is_system(path: Path) -> bool:

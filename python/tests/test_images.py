@@ -40,20 +40,27 @@ FORMS = {
 }
 
 
+def systems(prefix):
+    """The folders of a prefix: of what is made at run time, and of what came with the programs."""
+    return [Path("/" if str(prefix) == "/usr" else prefix, "var/lib/kumquatsieve"), Path(prefix, "share/kumquatsieve")]
+
+
 @pytest.fixture
 def installed(tmp_path, monkeypatch):
-    """A prefix whose jseg a shell would run, and nothing installed beside it; a folder to stand in."""
+    """The folder of what is made at run time under a prefix whose jseg a shell would run; the user's own and that of what came with jseg are
+    there too, all empty. A folder to stand in."""
     prefix, here = tmp_path / "prefix", tmp_path / "here"
-    for folder in (prefix / "bin", prefix / "share" / "kumquatsieve", here):
+    for folder in (prefix / "bin", *systems(prefix), here, tmp_path / "data" / "kumquatsieve"):
         folder.mkdir(parents=True)
     jseg = prefix / "bin" / "jseg"
     jseg.write_text("#!/bin/sh\n")
     jseg.chmod(0o755)
     monkeypatch.setenv("PATH", str(prefix / "bin"))
     monkeypatch.delenv("KUMQUATSIEVE_DICTIONARY", raising=False)
-    monkeypatch.setattr(kumquatsieve._images, "folders", lambda: whole()[:1])
+    monkeypatch.setenv("XDG_DATA_HOME", str(tmp_path / "data"))
+    monkeypatch.setattr(kumquatsieve._images, "folders", lambda: whole()[:3])
     monkeypatch.chdir(here)
-    return prefix / "share" / "kumquatsieve"
+    return prefix / "var" / "lib" / "kumquatsieve"
 
 
 whole = kumquatsieve._images.folders
@@ -191,6 +198,40 @@ def test_without_a_name_the_variable_is_obeyed(system, installed, monkeypatch, f
     assert Cutter().wakati(LINE) == WORDS
 
 
-def test_the_folders_are_of_jseg_and_of_this_python(installed):
-    prefixes = [str(installed.parent.parent), *dict.fromkeys([sys.prefix, "/usr/local", "/usr"])]
-    assert whole() == [Path(prefix, "share", "kumquatsieve") for prefix in prefixes]
+def test_the_first_folder_that_has_a_name_wins(system, user, installed, tmp_path):
+    own, (_, shared) = tmp_path / "data" / "kumquatsieve", systems(installed.parents[2])
+    shutil.copy(system, shared / "sample.img")
+    assert kumquatsieve.dictionaries() == {"sample": str(shared / "sample.img")}
+    shutil.copy(system, installed / "sample.img")
+    assert kumquatsieve.dictionaries() == {"sample": str(installed / "sample.img")}
+    shutil.copy(system, own / "sample.img")
+    shutil.copy(user, shared / "words.img")
+    assert kumquatsieve.dictionaries() == {"sample": str(own / "sample.img")}
+    assert Cutter("sample", ["words"]).wakati(LINE) == [LINE]
+    (own / "sample.img").write_bytes(b"x")
+    assert kumquatsieve.dictionaries() == {}
+    with pytest.raises(Fault, match="L1 Truncated"):
+        Cutter("sample")
+
+
+# XDG_DATA_HOME, HOME, and the user's own folder.
+OWN = [
+    ("/d", "/home/a", "/d/kumquatsieve"),
+    ("/d", None, "/d/kumquatsieve"),
+    ("d", "/home/a", "/home/a/.local/share/kumquatsieve"),
+    ("", "/home/a", "/home/a/.local/share/kumquatsieve"),
+    (None, "/home/a", "/home/a/.local/share/kumquatsieve"),
+    (None, "a", None),
+    (None, None, None),
+]
+
+
+@pytest.mark.parametrize("data, home, own", OWN)
+def test_the_folders_are_of_the_user_of_jseg_and_of_this_python(installed, monkeypatch, data, home, own):
+    for name, value in (("XDG_DATA_HOME", data), ("HOME", home)):
+        if value is None:
+            monkeypatch.delenv(name, raising=False)
+        else:
+            monkeypatch.setenv(name, value)
+    prefixes = dict.fromkeys([str(installed.parents[2]), sys.prefix, "/usr/local", "/usr"])
+    assert whole() == [*([Path(own)] if own else []), *(home for prefix in prefixes for home in systems(prefix))]

@@ -23,10 +23,15 @@ WHERE_NOTHING = {"default": {FILE, FOLDER}, "dirnames": {FOLDER}}
 ALWAYS = {"plusdirs": {FOLDER}}
 
 
+def surroundings():
+    """The environment without the folder of the user's own images."""
+    return {name: value for name, value in os.environ.items() if name != "XDG_DATA_HOME"}
+
+
 def of_bash(words, folder):
     """What bash completes after these words, of which the last one has begun."""
     asked = ["bash", "--norc", "-c", OF_BASH, "bash", HERE / "kumquatsieve.bash", *words]
-    done = subprocess.run(asked, capture_output=True, text=True, cwd=folder)
+    done = subprocess.run(asked, capture_output=True, text=True, cwd=folder, env={**surroundings(), "HOME": str(folder.parent)})
     if done.returncode != 0 or done.stderr:
         sys.exit(f"bash can't complete {' '.join(words)}: {done.stderr}")
     *found, noted = filter(None, done.stdout.split("\n"))
@@ -50,8 +55,8 @@ def of_zsh(words, folder):
     process, terminal = pty.fork()
     if process == 0:
         os.chdir(folder)
-        os.environ |= {"ASKED": str(answer), "COMPLETIONS": str(HERE), "HOME": str(folder.parent), "TERM": "dumb"}
-        os.execvp("zsh", ["zsh", "-f", "-i"])
+        place = {**surroundings(), "ASKED": str(answer), "COMPLETIONS": str(HERE), "HOME": str(folder.parent), "TERM": "dumb"}
+        os.execvpe("zsh", ["zsh", "-f", "-i"], place)
     os.write(terminal, f". {HERE}/asked.zsh\n{' '.join(words)}\x18".encode())
     printed = printed_on(terminal)
     os.waitpid(process, 0)

@@ -3,7 +3,7 @@ import shutil
 import tempfile
 from pathlib import Path
 
-from kumquatsieve_import.command_line import NAMES
+from kumquatsieve_import.command_line import NAMES as DEBIANS_NAMES
 from kumquatsieve_import.encodings import CHOICES
 from run_rows.codes import CODES_OF_CALLS, codes_of_programs
 
@@ -12,27 +12,28 @@ from .asked import FILE, FOLDER, has_terminals, of_bash, of_zsh
 FILES, FOLDERS, NOTHING = {FILE, FOLDER}, {FOLDER}, set()
 CODES = {code.split()[0] for code in (*CODES_OF_CALLS, *codes_of_programs())}
 ENCODINGS = set(CHOICES.replace(" or ", ", ").split(", "))
-DEBIANS = {name.decode() for name in NAMES}
-# A program stands in PREFIX/bin, and its image `ipadic` where that one is installed.
+DEBIANS = {name.decode() for name in DEBIANS_NAMES}
+# The images that stand in homes. A program stands in PREFIX/bin, and PREFIX is the user's home too.
+HOMES = (".local/share/kumquatsieve/own.img", "var/lib/kumquatsieve/ipadic.img", "share/kumquatsieve/shared.img")
+NAMES = {"own", "ipadic", "shared"}
 ROWS = [
-    ("PREFIX/bin/jseg -d ", {"ipadic", *FILES}),
+    *((f"PREFIX/bin/{words} ", NAMES | FILES) for words in ("jseg -d", "jseg -u", "dictc user --dic", "kumquatsieve-cut -d", "kumquatsieve-cut -u")),
+    *((f"PREFIX/bin/dictc ids {option} ", NAMES | FILES) for option in ("--dic", "-u")),
     ("PREFIX/bin/jseg -d i", {"ipadic"}),
     ("PREFIX/bin/jseg -d a-f", FILES),
-    ("PREFIX/bin/dictc user --dic ", FILES),
-    ("PREFIX/bin/dictc user --dic ip", {"PREFIX/share/kumquatsieve/ipadic.img"}),
-    ("PREFIX/bin/kumquatsieve-cut -d ", {"ipadic", *FILES}),
-    ("jseg -u ", FILES),
-    ("kumquatsieve-cut -u ", FILES),
+    ("PREFIX/bin/jseg -u o", {"own"}),
+    ("PREFIX/bin/dictc user --dic sh", {"shared"}),
     ("jseg --sources ", FOLDERS),
     ("jseg -O ", {"wakati"}),
     ("kumquatsieve-cut -O ", {"wakati"}),
     ("jseg --explain ", CODES),
     *((f"jseg {option} -", NOTHING) for option in ("-M", "-F", "-U", "-B", "-E")),
     *((f"kumquatsieve-cut {option} -", NOTHING) for option in ("-j", "-M", "-F", "-U", "-B", "-E")),
-    ("dictc help ", {"system", "user"}),
+    ("dictc help ", {"system", "user", "ids"}),
     ("dictc --explain ", CODES),
     *((f"dictc system {option} ", FILES) for option in ("--matrix", "--char", "--unk", "--out")),
     ("dictc user --out ", FILES),
+    ("dictc ids ", NOTHING),
     ("dictc system ", FILES),
     ("dictc user a ", FILES),
     ("kumquatsieve-import ", DEBIANS | FOLDERS),
@@ -59,7 +60,7 @@ def faults(helped):
 
 def made_folder(prefix):
     """A folder with a file and a folder, beside what is installed."""
-    for path in ("bin/jseg", "bin/dictc", "bin/kumquatsieve-cut", "share/kumquatsieve/ipadic.img", f"here/{FILE}"):
+    for path in ("bin/jseg", "bin/dictc", "bin/kumquatsieve-cut", *HOMES, f"here/{FILE}"):
         (prefix / path).parent.mkdir(parents=True, exist_ok=True)
         (prefix / path).touch(0o755)
     (prefix / "here" / FOLDER).mkdir()

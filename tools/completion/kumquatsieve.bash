@@ -23,22 +23,42 @@ _kumquatsieve_folders() {
     compopt -o dirnames
 }
 
-# The names of the images that are installed with a program: of PREFIX/bin/jseg those in PREFIX/share/kumquatsieve.
-_kumquatsieve_installed() {
-    local program image
+# The folders of the user's own images, and of those that are installed with a program: of PREFIX/bin/jseg PREFIX/var/lib/kumquatsieve, which is
+# /var/lib/kumquatsieve under /usr, and PREFIX/share/kumquatsieve.
+_kumquatsieve_homes() {
+    local program prefix
+    if [[ ${XDG_DATA_HOME-} = /* ]]; then
+        homes=("$XDG_DATA_HOME/kumquatsieve")
+    elif [[ ${HOME-} = /* ]]; then
+        homes=("$HOME/.local/share/kumquatsieve")
+    fi
     program=$(type -P -- "${COMP_WORDS[0]/#\~/$HOME}") && program=$(readlink -f -- "$program") || return 0
-    installed=${program%/*/*}/share/kumquatsieve
-    for image in "$installed"/*.img; do
-        [[ -f $image ]] || continue
-        image=${image##*/}
-        names+=("${image%.img}")
+    prefix=${program%/*/*}
+    if [[ $prefix = /usr ]]; then
+        homes+=(/var/lib/kumquatsieve)
+    else
+        homes+=("$prefix/var/lib/kumquatsieve")
+    fi
+    homes+=("$prefix/share/kumquatsieve")
+}
+
+# The names of the images that stand there.
+_kumquatsieve_names() {
+    local home image homes=()
+    _kumquatsieve_homes
+    for home in "${homes[@]}"; do
+        for image in "$home"/*.img; do
+            [[ -f $image ]] || continue
+            image=${image##*/}
+            names+=("${image%.img}")
+        done
     done
 }
 
-# An image by its file, or by the name under which it is installed.
-_kumquatsieve_image_or_name() {
-    local installed names=()
-    _kumquatsieve_installed
+# An image by its file, or by its name.
+_kumquatsieve_image() {
+    local names=()
+    _kumquatsieve_names
     _kumquatsieve_of "${names[*]}"
     if [[ ${#COMPREPLY[@]} = 0 ]]; then
         _kumquatsieve_files
@@ -46,17 +66,6 @@ _kumquatsieve_image_or_name() {
         mapfile -t -O "${#COMPREPLY[@]}" COMPREPLY < <(compgen -f -- "$cur")
         compopt -o filenames
     fi
-}
-
-# An image by its file. The name of an installed one becomes its path where no file begins so.
-_kumquatsieve_image() {
-    local installed names=() name
-    _kumquatsieve_files
-    [[ -n $cur && $cur != */* ]] && ! compgen -f -- "$cur" > /dev/null || return 0
-    _kumquatsieve_installed
-    for name in "${names[@]}"; do
-        [[ $name != "$cur"* ]] || COMPREPLY+=("$installed/$name.img")
-    done
 }
 
 # Sets `cur` and `prev`.
@@ -84,13 +93,12 @@ _kumquatsieve_jseg() {
     COMPREPLY=()
     _kumquatsieve_words
     case $prev in
-    -d) _kumquatsieve_image_or_name ;;
-    -u) _kumquatsieve_files ;;
+    -d | -u) _kumquatsieve_image ;;
     --sources) _kumquatsieve_folders ;;
     -O) _kumquatsieve_of wakati ;;
     --explain) _kumquatsieve_of "$_kumquatsieve_codes" ;;
     -M | -F | -U | -B | -E) ;;
-    *) _kumquatsieve_of "-d -u --sources --sample --skip-digest -M -O -F -U -B -E -v --explain -h --help -V --version" ;;
+    *) _kumquatsieve_of "-d -u --sources --sample --dictionaries --skip-digest -M -O -F -U -B -E -v --explain -h --help -V --version" ;;
     esac
 }
 
@@ -99,8 +107,7 @@ _kumquatsieve_cut() {
     COMPREPLY=()
     _kumquatsieve_words
     case $prev in
-    -d) _kumquatsieve_image_or_name ;;
-    -u) _kumquatsieve_files ;;
+    -d | -u) _kumquatsieve_image ;;
     -O) _kumquatsieve_of wakati ;;
     -j | -M | -F | -U | -B | -E) ;;
     *) _kumquatsieve_of "-d -u --skip-digest -j -M -O -F -U -B -E -v -h --help -V --version" ;;
@@ -113,20 +120,21 @@ _kumquatsieve_dictc() {
     _kumquatsieve_words
     case $prev in
     --matrix | --char | --unk | --out) _kumquatsieve_files ;;
-    --dic) _kumquatsieve_image ;;
+    --dic | -u) _kumquatsieve_image ;;
     --explain) _kumquatsieve_of "$_kumquatsieve_codes" ;;
     *)
         case ${COMP_WORDS[1]}:$COMP_CWORD in
         -*:1) _kumquatsieve_of "--explain -h --help -V --version" ;;
-        *:1) _kumquatsieve_of "system user help" ;;
-        help:2) _kumquatsieve_of "system user" ;;
+        *:1) _kumquatsieve_of "system user ids help" ;;
+        help:2) _kumquatsieve_of "system user ids" ;;
+        ids:*) [[ $cur != -* ]] || _kumquatsieve_of "--dic -u --skip-digest -v -h --help" ;;
         system:* | user:*)
             if _kumquatsieve_has -- || [[ $cur != -* ]]; then
                 _kumquatsieve_files
             elif [[ ${COMP_WORDS[1]} = system ]]; then
-                _kumquatsieve_of "--matrix --char --unk --out -v -h --help"
+                _kumquatsieve_of "--matrix --char --unk --out --all-faults -v -h --help"
             else
-                _kumquatsieve_of "--dic --skip-digest --out -v -h --help"
+                _kumquatsieve_of "--dic --skip-digest --out --all-faults -v -h --help"
             fi
             ;;
         esac

@@ -1,5 +1,6 @@
 """What kumquatsieve-cut is asked by its command line, beside what jseg is: rows of words, the status, and how standard error begins."""
 import re
+import shlex
 import subprocess
 
 NAME = "kumquatsieve-cut"
@@ -33,6 +34,14 @@ WRONG = [
     ("--sources=a", "--sources is not known"),
     ("--sample", "--sample is not known"),
     ("--explain L4", "--explain is not known"),
+    ("--dictionaries", "--dictionaries is not known"),
+    ("'--x\x1b[2J\ny'", r"unexpected argument '--x\u{1b}[2J\ny' found"),
+    ("-\x7f", r"unexpected argument '-\u{7f}' found"),
+    ("-j '2\r'", r"invalid value '2\r' for '-j <N>': it is no number"),
+    ("-M '\x9b1'", r"invalid value '\u{9b}1' for '-M <N>': it is no number"),
+    ("-d -x.img", "a value is required for '-d <IMG>' but none was supplied\n\n  tip: for the file '-x.img' write './-x.img'"),
+    ("-u '-\x07'", r"a value is required for '-u <IMG>' but none was supplied" "\n\n" r"  tip: for the file '-\u{7}' write './-\u{7}'"),
+    ("-M -x.img", "a value is required for '-M <N>' but none was supplied\n\nFor more"),
     ("-d none text.txt", f"{NAME} reads the text on standard input"),
     ("-d none -- text.txt", f"{NAME} reads the text on standard input"),
 ]
@@ -41,7 +50,7 @@ WRONG = [
 def faults(program, page):
     """What is not as it should be of a wrong command line, of --version, and of the options that --help and the manual page list."""
     for words, begin in WRONG:
-        done = subprocess.run([program, *words.split()], capture_output=True, text=True)
+        done = subprocess.run([program, *shlex.split(words)], capture_output=True, text=True)
         if done.returncode != 2 or done.stdout or not done.stderr.startswith(f"{NAME}: {begin}"):
             yield f"{words!r}: status {done.returncode}, {done.stderr!r}"
     version = subprocess.run([program, "--version"], capture_output=True, text=True)

@@ -24,12 +24,14 @@ MARKS = ["-F", "w", "-U", "u", "-E", "\\n"]
 
 
 class Run(NamedTuple):
-    """A command over a text, the statuses that it may end with, what it prints, where that is looked at, and the bytes of memory that it may have."""
+    """A command over a text, the statuses that it may end with, what it prints and what it ends with on standard error, where these are looked
+    at, and the bytes of memory that it may have."""
 
     command: list
     text: bytes = b""
     statuses: tuple = (0,)
     printed: Optional[bytes] = None
+    told: bytes = b""
     room: int = ROOM
 
 
@@ -63,6 +65,9 @@ def seconds_of(what, run):
             sys.exit(f"{what}: status {started.returncode}: {told.read(1000).decode(errors='replace').strip()}")
         if run.printed is not None and printed.read() != run.printed:
             sys.exit(f"{what}: prints something else than it should")
+        fault = told.read()
+        if not fault.endswith(run.told):
+            sys.exit(f"{what}: tells {fault[:1000].decode(errors='replace').strip()}, and not {run.told.decode().strip()}")
     return used.ru_utime + used.ru_stime
 
 

@@ -10,6 +10,7 @@ from .encodings import missing_converter
 from .faults import FILE, MEMORY, Ended, Fault, naming, shown
 from .fields import FIELDS, find_names, write_names
 from .finding import find_encoding
+from .homes import home_for
 from .placing import Place
 from .sources import DICRC, SETTINGS, Source, debian_folder, encoding_told, read_folder
 from .telling import Teller
@@ -27,16 +28,13 @@ class Import:
         path = debian_folder(NAMES[choices.name]) if choices.is_debian() else choices.name.rstrip(b"/") or b"/"
         self.folder = read_folder(path)
         self.dictc = dictc_beside(own)
-        self.place = Place(choices.image if choices.image is not None else self.installed())
+        self.home = home_for(os.path.dirname(own)) if choices.image is None else None
+        self.place = Place(choices.image if self.home is None else os.path.join(self.home.path, choices.name + b".img"))
         self.place.check(self.folder, [*SETTINGS, FIELDS])
 
-    def installed(self):
-        """The path at which `jseg -d NAME` looks."""
-        return os.path.join(os.path.dirname(self.own), b"share", b"kumquatsieve", self.choices.name + b".img")
-
     def run(self):
-        if self.choices.image is None:
-            self.workshop.make_parents(self.place.folder)
+        if self.home is not None:
+            self.make_home()
         beside = self.workshop.new_folder(None if self.place.is_device() else self.place.folder)
         work = self.workshop.new_folder()
         folder, teller = self.folder, self.teller
@@ -55,6 +53,12 @@ class Import:
         removed = [path for path in map(self.place.beside, (name for name in settings if not settings[name])) if path and os.path.lexists(path)]
         self.place.put(os.path.join(beside, NEW), settings, self.workshop)
         self.tell_end(counted, size, settings, removed)
+
+    def make_home(self):
+        """Makes the home where it isn't there. What stands in that of all users, all may read."""
+        if self.home.is_shared:
+            os.umask(0o022)
+        self.workshop.make_parents(self.home.path)
 
     def convert(self, encoding, work):
         """Makes the sources UTF-8 by names of their own, which are UTF-8 whatever the sources' are."""
@@ -104,6 +108,8 @@ class Import:
     def tell_end(self, counted, size, settings, removed):
         self.teller.report(counted)
         self.teller.report(f"image: {shown(self.place.named)}, {size} bytes, {self.teller.seconds():.0f} s")
+        if self.home is not None:
+            self.teller.report(self.home.said)
         beside = [(self.place.beside(name), name == FIELDS) for name, path in settings.items() if path]
         kept = [path for path, is_made in beside if not is_made]
         made = [path for path, is_made in beside if is_made]

@@ -72,7 +72,7 @@ class Workshop:
         return self.folders[-1]
 
     def make_parents(self, folder):
-        """Makes a folder, and those that it stands in: each goes again where it stays empty."""
+        """Makes a folder that all may read, and those that it stands in: each goes again where it stays empty."""
         missing = []
         while not os.path.isdir(folder):
             missing.append(folder)
@@ -81,6 +81,8 @@ class Workshop:
             with naming(path), self.signals.held():
                 os.mkdir(path)
                 self.made.append(path)
+                if path == missing[0]:
+                    os.chmod(path, 0o755)
 
     def start(self, words, folder):
         """A process whose output and errors are read. It ignores what this one does, so that a full file is a failed write to it."""

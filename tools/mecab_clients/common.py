@@ -36,8 +36,9 @@ def compiled(source, folder, *more):
 def with_layer(folder, library, source, *flags):
     """A program with the layer compiled into it by flags of its own."""
     prefix, program = library.parents[3], folder / f"with-layer-{source.stem}"
-    layer = [*sorted((TOP / "c" / "mecab").glob("*.c")), prefix / "lib" / "libkumquatsieve.a"]
-    words = ["-std=gnu11", "-O1", "-g", "-Wall", "-Wextra", "-Wpedantic", "-Werror", *flags, f"-I{prefix / 'include'}", "-pthread"]
+    layer = [*sorted((TOP / "c").glob("homes/*.c")), *sorted((TOP / "c").glob("mecab/*.c")), prefix / "lib" / "libkumquatsieve.a"]
+    headers = [f"-I{prefix / 'include'}", f"-I{TOP / 'c' / 'homes'}"]
+    words = ["-std=gnu11", "-O1", "-g", "-Wall", "-Wextra", "-Wpedantic", "-Werror", *flags, *headers, "-pthread"]
     run(["gcc", *words, source, *layer, "-ldl", "-o", program], os.environ)
     return program
 

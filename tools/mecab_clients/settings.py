@@ -1,6 +1,7 @@
 """Which images the program mecab takes, and which settings it refuses: rows of what is named where. Each row has a folder of its own, in which
-HERE stands for the folder, SHARED for PREFIX/share/kumquatsieve, and USER for a user dictionary that MeCab has compiled. damaged.img has another
-digest than its bytes, short.img lacks its last byte, and user.img and more.img are users' dictionaries."""
+HERE stands for the folder, MADE and SHARED for the folders of images of the library's prefix, OWN for that of the user, and USER for a user
+dictionary that MeCab has compiled. damaged.img has another digest than its bytes, short.img lacks its last byte, and user.img and more.img are
+users' dictionaries."""
 import os
 import shutil
 import subprocess
@@ -13,7 +14,7 @@ from mecab_clients.common import TOP, run
 
 @dataclass
 class Row:
-    """What is named, also by links and by images in SHARED; and the images that are taken, the system's first, or what standard error says."""
+    """What is named, also by links and by images in homes; and the images that are taken, the system's first, or what standard error says."""
     what: str
     options: list = field(default_factory=list)
     files: dict = field(default_factory=dict)
@@ -22,13 +23,14 @@ class Row:
     said: str = ""
     users: tuple = ()
     links: dict = field(default_factory=dict)
-    shared: tuple = ()
+    homes: tuple = ()
 
 
 IPADIC, INDEX = "/usr/share/mecab/dic/ipadic", "/usr/lib/mecab/mecab-dict-index"
 A, B = {"KUMQUATSIEVE_DICTIONARY": "HERE/a.img"}, {"MECABRC": "HERE/rc"}
 LONGEST = f"{'x' * 250}.img"
 OF_C = {"home/.mecabrc": "dicdir = HERE/c.img\n"}
+DATA, RELATIVE = {"XDG_DATA_HOME": "HERE/data"}, {"XDG_DATA_HOME": "data"}
 ROWS = [
     Row("-d before all", ["-d", "HERE/b.img", "-r", "HERE/rc"], {"rc": "dicdir = HERE/c.img\n"}, A, image="b.img"),
     Row("the file of -r before the variable", ["-r", "HERE/rc"], {"rc": "; of MeCab\n\ndicdir = HERE/c.img\n"}, A, image="c.img"),
@@ -58,16 +60,25 @@ ROWS = [
         image="b.img", users=("more.img",)),
     Row("a user dictionary of a file that is not there", ["-r", "HERE/rc"], {"rc": "dicdir = HERE/b.img\nuserdic = HERE/d.img\n"},
         said="d.img: can't be opened"),
-    Row("an image by its name", ["-d", "own"], shared=("own.img",), image="SHARED/own.img"),
-    Row("a name of no image", ["-d", "own"], said="SHARED/own.img: can't be opened"),
-    Row("the machine's image", [], shared=("kumquatsieve.img",), image="SHARED/kumquatsieve.img"),
-    Row("the machine's image behind MECABRC's file", [], {"rc": "dicdir=HERE/b.img\n"}, B, shared=("kumquatsieve.img",), image="b.img"),
-    Row("a compiled folder of MeCab's", ["-d", "HERE/ipadic-utf8"], {"ipadic-utf8/sys.dic": ""}, shared=("ipadic.img",), image="SHARED/ipadic.img"),
-    Row("a folder of MeCab's sources", ["-d", "HERE/naist-jdic"], {"naist-jdic/matrix.def": ""}, shared=("naist.img",), image="SHARED/naist.img"),
+    Row("an image by its name", ["-d", "own"], homes=("SHARED/own.img",), image="SHARED/own.img"),
+    Row("a name of no image", ["-d", "own"], said="own: can't be opened"),
+    Row("an image in the user's data", ["-d", "x"], {}, DATA, homes=("HERE/data/kumquatsieve/x.img", "OWN/x.img", "MADE/x.img"),
+        image="data/kumquatsieve/x.img"),
+    Row("an image in the user's home", ["-d", "x"], {}, RELATIVE, homes=("OWN/x.img", "MADE/x.img", "SHARED/x.img"), image="OWN/x.img"),
+    Row("a home that is not looked at", ["-d", "x"], {}, DATA, homes=("OWN/x.img",), said="x: can't be opened"),
+    Row("an image that was made on the system", ["-d", "x"], homes=("MADE/x.img", "SHARED/x.img"), image="MADE/x.img"),
+    Row("an image by its name in the variable", [], {}, {"KUMQUATSIEVE_DICTIONARY": "x"}, homes=("MADE/x.img",), image="MADE/x.img"),
+    Row("the user's image before the machine's", [], homes=("OWN/kumquatsieve.img", "MADE/kumquatsieve.img"), image="OWN/kumquatsieve.img"),
+    Row("the machine's image", [], homes=("SHARED/kumquatsieve.img",), image="SHARED/kumquatsieve.img"),
+    Row("the machine's image behind MECABRC's file", [], {"rc": "dicdir=HERE/b.img\n"}, B, homes=("SHARED/kumquatsieve.img",), image="b.img"),
+    Row("a compiled folder of MeCab's", ["-d", "HERE/ipadic-utf8"], {"ipadic-utf8/sys.dic": ""},
+        homes=("SHARED/ipadic.img",), image="SHARED/ipadic.img"),
+    Row("a folder of MeCab's sources", ["-d", "HERE/naist-jdic"], {"naist-jdic/matrix.def": ""},
+        homes=("SHARED/naist.img",), image="SHARED/naist.img"),
     Row("a file's folder of MeCab's", ["-r", "HERE/rc"], {"rc": "dicdir = HERE/ipadic-utf8/\n", "ipadic-utf8/sys.dic": ""},
-        shared=("ipadic.img",), image="SHARED/ipadic.img"),
+        homes=("SHARED/ipadic.img",), image="SHARED/ipadic.img"),
     Row("a link to a folder of MeCab's", ["-d", "HERE/debian"], {"juman-utf8/sys.dic": ""}, links={"debian": "juman-utf8"},
-        shared=("juman.img",), image="SHARED/juman.img"),
+        homes=("SHARED/juman.img",), image="SHARED/juman.img"),
     Row("partial parsing in a file", ["-r", "HERE/rc"], {"rc": "dicdir = HERE/b.img\npartial = 1\n"}, said="partial parsing is not supported"),
 ]
 
@@ -110,31 +121,40 @@ def told(row, folder, sample, library, here):
     environment = {name: value for name, value in os.environ.items() if name not in ("MECABRC", "KUMQUATSIEVE_DICTIONARY", "XDG_DATA_HOME")}
     environment |= {"HOME": str(folder / "home"), "LD_LIBRARY_PATH": str(library.parent)}
     environment |= {name: here(value) for name, value in row.environment.items()}
-    shared = [Path(here(f"SHARED/{name}")) for name in row.shared]
-    for path in shared:
+    homes = [Path(here(name)) for name in row.homes]
+    for path in homes:
+        path.parent.mkdir(parents=True, exist_ok=True)
         shutil.copyfile(sample, path)
     done = subprocess.run(["mecab", "-D", *map(here, row.options)], capture_output=True, text=True, env=environment)
-    for path in shared:
+    for path in homes:
         path.unlink()
     return done.returncode, done.stdout, done.stderr
+
+
+def in_place(text, own, prefix):
+    """A row's text with the paths of this place."""
+    homes = {"OWN": own / "home" / ".local" / "share", "MADE": prefix / "var" / "lib", "SHARED": prefix / "share"}
+    for name, home in homes.items():
+        text = text.replace(f"{name}/", f"{home}/kumquatsieve/")
+    return text.replace("HERE", str(own)).replace("USER", str(own.parent / "user.dic"))
 
 
 def is_right(row, answer, here):
     status, printed, said = answer
     if not row.image:
         return status == 1 and not printed and here(row.said) in said
-    wanted = [here(name if name.startswith("SHARED/") else f"HERE/{name}") for name in (row.image, *row.users)]
+    wanted = [here(name if name.startswith(("OWN/", "MADE/", "SHARED/")) else f"HERE/{name}") for name in (row.image, *row.users)]
     named = [line.removeprefix("filename:\t") for line in printed.replace("folder/../", "").splitlines() if line.startswith("filename:")]
     return status == 0 and named == wanted
 
 
 def check_settings(folder, library):
     compile_user(folder / "user.dic")
-    sample, shared = folder / "sample.img", library.parents[3] / "share" / "kumquatsieve"
+    sample, prefix = folder / "sample.img", library.parents[3]
     compile_users_image(sample)
     for number, row in enumerate(ROWS):
         own = folder / f"settings-{number}"
-        here = lambda text: text.replace("HERE", str(own)).replace("SHARED", str(shared)).replace("USER", str(folder / "user.dic"))
+        here = lambda text: in_place(text, own, prefix)
         write_files(row, own, sample, here)
         answer = told(row, own, sample, library, here)
         if not is_right(row, answer, here):

@@ -1,7 +1,7 @@
 """What the programs say of themselves and of their work: versions, explanations, `-v`, and what to do in place of MeCab's options."""
 from .codes import CODES_OF_CALLS, codes_of_programs
 from .images import LAYOUT_1
-from .run import ANY, LEXICON, MATRIX, SYSTEM, USER, Has, Path, Run
+from .run import ANY, LEXICON, MATRIX, SYSTEM, USER, Exactly, Has, Path, Run, Under
 from .texts import MO
 
 VERSION = "0.1.0\nimage layouts read: 1, 2, 3; written: 3\n"
@@ -47,7 +47,9 @@ HABITS = [
     ("jseg -Ochasen", "-F '%m\\t%f[7]\\t%f[6]\\t%f[0]-%f[1]-%f[2]-%f[3]\\t%f[4]\\t%f[5]\\n'"),
     ("jseg -d sys.img -O yomi", "-F '%pS%f[7]' -U '%M' -E '\\n'"),
     ("jseg -d sys.img -O simple", "-F '%m\\t%f[0]-%f[1]-%f[2]-%f[3]\\n'"),
+    ("jseg -d sys.img -O chasen", "run 'mecab -d IMG -Ochasen'"),
     ("jseg -d sys.img -O dump", "dicrc"),
+    ("jseg -d sys.img -O dump", "run 'mecab -d IMG -O NAME'"),
     ("jseg -N 2", "-N is not known"),
     ("jseg -d sys.img -N2", "-N is not known"),
     ("jseg -d sys.img -b 1000000", "-b is not needed"),
@@ -71,6 +73,29 @@ WHY = [
     ("jseg -v -d memory", "memory", Path("/proc/self/mem"), "a read of it failed"),
 ]
 
+# What is told on a terminal, and nowhere else: a byte order mark, and a file that takes longer than two seconds, whose line is erased behind it.
+# (what, words, what is there, what is left, where standard error goes, what is told, under what)
+ERASED = "\x1b[K"
+NOTE = "dictc: mark.csv begins with a byte order mark, which counts as text\n"
+READING = f"\rreading /dev/stdin: {len(MATRIX)} bytes{ERASED}\r{ERASED}"
+MARKED, ANY_IMAGE = {"mark.csv": MARK + LEXICON}, {"new.img": ANY}
+FROM_INPUT = f"{SYSTEM.replace('a/matrix.def', '/dev/stdin')} a/lexicon.csv"
+TOLD = [
+    ("a mark before a lexicon,", f"{SYSTEM} mark.csv", MARKED, ANY_IMAGE, "on a terminal", NOTE, Under(stderr="terminal")),
+    ("a mark before a user's lexicon,", f"{USER} mark.csv", MARKED, ANY_IMAGE, "on a terminal", NOTE, Under(stderr="terminal")),
+    ("a mark before a lexicon,", f"{SYSTEM} mark.csv", MARKED, ANY_IMAGE, "read by a program", "", Under()),
+    ("a slow matrix.def", FROM_INPUT, {}, MADE, "on a terminal", READING, Under(stdin="slow", stderr="terminal")),
+    ("a slow matrix.def", FROM_INPUT, {}, MADE, "read by a program", "", Under(stdin="slow")),
+]
+
+# The load of an image that is large, and none.
+LOAD_LARGE = "dictc user --dic large.img --out new.img user.csv"
+LARGE = [
+    # (where standard error goes, what is told)
+    ("terminal", Exactly(f"\rloading large.img{ERASED}\r{ERASED}dictc: large.img: L2 BadMagic\n")),
+    ("kept", "large.img: L2 BadMagic"),
+]
+
 STEPS = ["connection costs of 2 right ids and 2 left ids", "6 categories", "unknown words", "3 entries up to a/lexicon.csv"]
 SHARES = ["connection costs: 8 bytes", "categories of code points: ", "keys: ", "group index: ", "tokens: ", "features: "]
 
@@ -90,11 +115,10 @@ ROWS = [
     *(Run(f"which option: {option}", f"jseg --sample -v {option} %q", err=Has("", (f"the text of {option}\n", "P2 BadItem 0\n")), status=2) for option in ("-F", "-U", "-B", "-E")),
     Run("a mark before matrix.def", "jseg --sources a -v", err=Has("", ("a/matrix.def begins with a byte order mark", "a/matrix.def:1: M1 BadHeader")), status=1, files={"a/matrix.def": MARK + MATRIX}),
     Run("a mark before a lexicon", f"{SYSTEM} -v mark.csv", out=LINE, err=Has("", ("mark.csv begins with a byte order mark",)), files={"mark.csv": MARK + LEXICON}, left={"new.img": ANY}),
+    *(Run(f"{what} {where}", words, MATRIX, out=LINE, err=Exactly(told), files=files, left=left, under=under) for what, words, files, left, where, told, under in TOLD),
+    *(Run(f"a large image, {where}", LOAD_LARGE, err=err, status=1, files={"large.img": 1 << 28}, under=Under(stderr=where)) for where, err in LARGE),
+    Run("nothing to know, on a terminal", f"{SYSTEM} a/lexicon.csv", out=LINE, left=MADE, under=Under(stderr="terminal")),
     Run("what dictc does", f"{SYSTEM} -v a/lexicon.csv", out=LINE, err=Has("dictc: ", ("read a/matrix.def: ", "compiling 1 lexicons", *STEPS, "sorted 3 entries", "compiled 3 entries", "wrote new.img: ", *SHARES)), left=MADE),
     Run("what dictc does for a user", f"{USER} -v user.csv", out="1 entries, 0 skipped\n", err=Has("dictc: ", ("loaded sys.img", "read user.csv: ", "1 entries up to user.csv", "sorted 1 entries", "wrote new.img: ")), left={"new.img": "user.img"}),
     Run("what jseg does", "jseg -d sys.img -v", "も\n", MO, err=Has("jseg: ", ("loaded sys.img", "cut 1 lines"))),
-    Run("an installed image", "jseg -d installed", "も\n", MO),
-    Run("a file before an installed image", "jseg -d installed", err="installed: L1 Truncated", status=1, files={"installed": LAYOUT_1[:100]}),
-    Run("a folder of its name", "jseg -d installed", "も\n", MO, files={"installed": {}}),
-    Run("a path of its name", "jseg -d ./installed", err="./installed: F1 File", status=3),
 ]

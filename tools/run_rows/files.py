@@ -7,6 +7,9 @@ OLD = {"new.img": b"old"}
 ALL = f"{SYSTEM} a/lexicon.csv"
 DENIED = 0o000
 NO_LISTING = 0o311
+# The longest name of a file.
+LONGEST = "n" * 255
+
 
 def to(path):
     """Compiles the sample to a path."""
@@ -52,6 +55,8 @@ WRITTEN = [
     ("a new file", ALL, {}, MADE),
     ("in place of an old one", ALL, OLD, MADE),
     ("by a link", to("link"), LINKED, {"folder/new.img": "sys.img"}),
+    ("by a name of 255 bytes", to(LONGEST), {}, {LONGEST: "sys.img"}),
+    ("in place of the one of that name", to(f"a/{LONGEST}"), {f"a/{LONGEST}": b"old"}, {f"a/{LONGEST}": "sys.img"}),
     ("in place of a link to nothing", ALL, {"new.img": Path("none")}, MADE),
     ("a device", to("/dev/null"), {}, {}),
 ]
@@ -70,8 +75,10 @@ FAILING = [
     ("a full device", Under(fails="write")),
     ("not synced", Under(fails="fsync")),
     ("a refused rename", Under(fails="rename")),
+    ("an interrupted write", Under(fails="interrupted write")),
 ]
-LEFT = {"new.img.{pid}.0.new": b"of a killed run"}
+BESIDE = ".kumquatsieve.{pid}.0.new"
+LEFT = {BESIDE: b"of a killed run"}
 
 # What has a control character is printed in one line. (path, as it is printed)
 CONTROLS = [
@@ -101,8 +108,8 @@ ROWS = [
     *(Run(f"{what}, by a link", to("link"), err="link: F1 File", status=3, files=LINKED, under=under) for what, under in FAILING),
     Run("a mode that can't be kept", ALL, err="new.img: F1 File", status=3, files=OLD, under=Under(fails="fchmod")),
     Run("refused sources", f"{ALL} user.csv", err="user.csv:1: S2 TooFewFields", status=1, files={**OLD, "user.csv": b"X"}),
-    Run("killed while it writes", ALL, status=-25, files=OLD, left={"new.img.{pid}.0.new": ANY}, under=Under(most=SMALL, killed=True)),
-    Run("the name of a killed run", ALL, out=LINE, files=OLD, left={**MADE, **LEFT}, under=Under(taken="new.img.{pid}.0.new")),
+    Run("killed while it writes", ALL, status=-25, files=OLD, left={BESIDE: ANY}, under=Under(most=SMALL, killed=True)),
+    Run("the name of a killed run", ALL, out=LINE, files=OLD, left={**MADE, **LEFT}, under=Under(taken=BESIDE)),
     *(Run(f"mode {mode:o} is kept", ALL, out=LINE, files=OLD, left=MADE, modes={"new.img": mode}) for mode in (0o600, 0o444, 0o664, 0o777)),
     *(Run(f"a path with controls, {told}", f"jseg -d {shell(path)}", err=f"{told}: F1 File", status=3) for path, told in CONTROLS),
 ]

@@ -73,6 +73,7 @@ def of_refused(image, fault):
 # Images that are intact but for their digest: the one digest is another, and the other that of another feature.
 UNTESTED = {"digest.img": changed(LAYOUT_3, (960, bytes([LAYOUT_3[960] ^ 1]))), "feature.img": changed(LAYOUT_3, (928, b"Y"))}
 OTHER_SIZES = {"other.img": changed(LAYOUT_1, (20, b"\3"))}
+ENDLESS = ["jseg -d /dev/zero", "jseg -d sys.img -u /dev/zero", "dictc user --dic /dev/zero --out new.img user.csv"]
 OLDER = {"1.img": LAYOUT_1, "2.img": LAYOUT_2, "3.img": LAYOUT_3}
 
 ROWS = [run for row in REFUSED for run in of_refused(*row)] + [
@@ -82,6 +83,7 @@ ROWS = [run for row in REFUSED for run in of_refused(*row)] + [
     Run("layout 1 as the system's", "jseg -d 1.img", "もも\n", err="1.img: O1 NotSystem", status=1, files=OLDER),
     Run("another digest", "jseg -d sys.img --skip-digest -u digest.img", "a\n", "a\tX\nEOS\n", files=UNTESTED),
     Run("a feature under an old digest", "jseg -d sys.img --skip-digest -u feature.img", "a\n", "a\tY\nEOS\n", files=UNTESTED),
+    *(Run(f"no end, {words}", words, "も\n", err="/dev/zero: L2 BadMagic", status=1) for words in ENDLESS),
     Run("dictc skips it too", "dictc user --skip-digest --dic digest.img --out new.img user.csv", err="digest.img: O1 NotSystem", status=1, files=UNTESTED),
     Run("a user's as the system's", "jseg -d user.img", "も\n", err="user.img: O1 NotSystem", status=1),
     Run("for a user's", "dictc user --dic user.img --out new.img user.csv", err="user.img: O1 NotSystem", status=1),

@@ -7,6 +7,7 @@ import socket
 import subprocess
 import tempfile
 import threading
+import time
 import tty
 from contextlib import suppress
 from pathlib import Path
@@ -60,12 +61,21 @@ def feed(writer):
         pipe.write(ENTRY * (ENTRIES % AT_ONCE))
 
 
-def entries_input(user):
-    """The end of a pipe that the user may open by its path, too."""
+def feed_slowly(writer, text):
+    """Writes the halves of a text, the second one so late that a reader loses patience."""
+    half = len(text) // 2
+    with suppress(BrokenPipeError), open(writer, "wb", buffering=0) as pipe:
+        pipe.write(text[:half])
+        time.sleep(2.2)
+        pipe.write(text[half:])
+
+
+def fed_input(user, feeding, *given):
+    """The end of a pipe that the user may open by its path, too, and that is fed meanwhile."""
     ours, theirs = os.pipe()
     if user is not None:
         os.fchown(ours, user, user)
-    threading.Thread(target=feed, args=(theirs,), daemon=True).start()
+    threading.Thread(target=feeding, args=(theirs, *given), daemon=True).start()
     return ours
 
 
@@ -73,7 +83,9 @@ def input_of(kind, text, folder, user):
     if kind == "failing":
         return failing_input(text)
     if kind == "entries":
-        return entries_input(user)
+        return fed_input(user, feed)
+    if kind == "slow":
+        return fed_input(user, feed_slowly, text)
     return os.open(folder, os.O_RDONLY) if kind == "directory" else subprocess.PIPE
 
 
@@ -102,13 +114,39 @@ def messages(reader):
         found.append(message.decode())
 
 
+def shown(terminal):
+    """What was written to the other end of a terminal, which is closed."""
+    found = b""
+    with suppress(OSError):
+        while data := os.read(terminal, 1 << 16):
+            found += data
+    os.close(terminal)
+    return [found.decode()] if found else []
+
+
+def error_output(kind):
+    """Where standard error goes, and what gives, once the end that goes there is closed, what was written."""
+    if kind == "terminal":
+        ours, theirs = os.openpty()
+        tty.setraw(theirs)
+        return theirs, lambda: shown(ours)
+    reader, writer = socket.socketpair(socket.AF_UNIX, socket.SOCK_SEQPACKET)
+    if kind == "full":
+        writer.close()
+        return os.open("/dev/full", os.O_WRONLY), lambda: messages(reader)
+    return writer.detach(), lambda: messages(reader)
+
+
 class Programs:
     """The programs, installed where nobody may run them, a library whose calls fail, and a heap that repeats."""
 
     def __init__(self, folder, paths):
-        (folder / "bin").mkdir()
-        self.places = {path.name: shutil.copy(path, folder / "bin") for path in paths}
-        self.images = folder / "share" / "kumquatsieve"
+        self.prefix = folder
+        self.places = {}
+        for kind, prefix in (("", folder), ("bare-", folder / "bare")):
+            (prefix / "bin").mkdir(parents=True)
+            self.places |= {f"{kind}{path.name}": shutil.copy(path, prefix / "bin") for path in paths}
+        self.made, self.shared = folder / "var" / "lib" / "kumquatsieve", folder / "share" / "kumquatsieve"
         self.failing, self.repeating = self.library(folder, "fail"), self.library(folder, "repeat")
         self.user = NOBODY if os.geteuid() == 0 else None
 
@@ -126,15 +164,14 @@ class Programs:
     def run(self, words, text, folder, under):
         words = shlex.split(words)
         stdin, stdout = input_of(under.stdin, text, folder, self.user), output_of(under.stdout)
-        reader, writer = socket.socketpair(socket.AF_UNIX, socket.SOCK_SEQPACKET)
-        stderr = os.open("/dev/full", os.O_WRONLY) if under.stderr == "full" else writer
+        stderr, told = error_output(under.stderr)
         process = subprocess.Popen(
             [self.places[words[0]], *words[1:]],
             stdin=stdin,
             stdout=stdout,
             stderr=stderr,
             cwd=folder,
-            env=self.preloaded(under),
+            env={**self.preloaded(under), **{name: value.replace("HERE", str(folder)) for name, value in under.variables.items()}},
             user=self.user,
             group=self.user,
             extra_groups=None if self.user is None else [],
@@ -144,8 +181,7 @@ class Programs:
         out = process.communicate(text if stdin == subprocess.PIPE else None, under.seconds)[0]
         if under.stdout == "file":
             out = os.pread(stdout, 1 << 20, 0)
-        writer.close()
         for end in (stdin, stdout, stderr):
             if isinstance(end, int) and end >= 0:
                 os.close(end)
-        return Outcome(process, out or b"", messages(reader))
+        return Outcome(process, out or b"", told())

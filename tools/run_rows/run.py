@@ -15,33 +15,50 @@ ANY = object()
 
 
 class Has(NamedTuple):
-    """A text that begins so, and has these words."""
+    """A text that begins so, has these words, and lacks others."""
 
     begin: str
     words: tuple = ()
+    lacks: tuple = ()
 
     def fits(self, text):
-        return text.startswith(self.begin) and all(word in text for word in self.words)
+        return text.startswith(self.begin) and all(word in text for word in self.words) and not any(word in text for word in self.lacks)
+
+    def changed(self, change):
+        """The same with another form of each text."""
+        return Has(change(self.begin), tuple(map(change, self.words)), tuple(map(change, self.lacks)))
+
+
+class Exactly(Has):
+    """A text that is this one, of any number of lines."""
+
+    def fits(self, text):
+        return text == self.begin
 
 
 class Under(NamedTuple):
     """What a run meets beside its arguments, its files and its text."""
 
-    stdin: str = "text"  # directory, closed, failing behind the text, or entries: a lexicon of one more than a dictionary may have
+    stdin: str = "text"  # directory, closed, failing behind the text, slow: its second half comes after two seconds, or entries: a lexicon of one more than a dictionary may have
     stdout: str = "kept"  # full, closed, or unread: a pipe without a reader
-    stderr: str = "kept"  # full
+    stderr: str = "kept"  # full, or terminal: what is written there is kept too
     most: int = 0  # how many bytes a file may have: a longer one fails. 0: any number
     killed: bool = False  # a longer one kills the run
     memory: int = 0  # how many bytes of memory it may take. 0: any number
-    fails: str = ""  # the call of the C library that fails: rename, fsync, write or fchmod
+    fails: str = ""  # the call of the C library that fails: rename, fsync, write, interrupted write (the first one alone), or fchmod
     repeats: bool = False  # its large blocks of memory repeat, so that they take few bytes
     seconds: int = 60  # how long it may take
     taken: str = ""  # a file that is there; {pid} in its name is the number of the process
+    variables: dict = {}  # of its environment; HERE is the folder that it runs in
 
 
 class Run(NamedTuple):
     """A run in a new folder, in which the folder a has the sample's sources, sys.img is their image, user.img and second.img are images of
-    user dictionaries for it, and user.csv is the lexicon of the first."""
+    user dictionaries for it, and user.csv is the lexicon of the first.
+
+    The programs are installed to PREFIX, and to PREFIX/bare as bare-jseg, which has no images. There the images `both` and `made` were made at run
+    time, and `installed` came with the programs, beside a `both` that is damaged. In words and in texts that are printed HERE is the folder of the
+    run."""
 
     name: str
     words: str  # the program and its arguments, as a shell takes them apart
@@ -49,7 +66,7 @@ class Run(NamedTuple):
     out: str = ""  # on standard output
     err: str = ""  # on standard error: one line, behind the program's name and `: `
     status: int = 0
-    files: dict = {}  # what else is there: bytes, None for what isn't, a Path for a link, {} for a folder
+    files: dict = {}  # what else is there: bytes, or the number of bytes of 0, None for what isn't, a Path for a link, {} for a folder
     left: dict = {}  # what is changed: bytes, the name of a file that it is equal to, ANY, or None
     modes: dict = {}  # who may read and write a file, before the run and behind it
     then: str = ""  # a second command: it gets the text, and its output follows

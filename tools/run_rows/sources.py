@@ -1,5 +1,5 @@
 """Sources that are refused."""
-from .run import CHARS, LEXICON, SYSTEM, UNK, USER, Run, Under
+from .run import CHARS, LEXICON, SYSTEM, UNK, USER, Exactly, Run, Under
 
 MANY = b"".join(b"CATEGORY%d 0 0 0\n" % i for i in range(13))
 LONG = b"z" * 65_536 + b",1,1,1,X\n"
@@ -55,6 +55,42 @@ def of_lexicon(data, line, fault):
 
 
 ROWS = [run for row in DEFINITIONS for run in of_definition(*row)] + [run for row in LEXICONS for run in of_lexicon(*row)]
+
+# All faults of lexicons, each with its line: those of each file, its ids behind its lines; nothing is written.
+FAULTY = "も,1,1,20,助詞\na,1,1\r\n\nb,1,1,x,X\n\tc,2,1,5,\x01\n".encode() + b"\xff,1,1,1,X"
+FAULTS = [
+    # (line, code and name, the line as it is told)
+    (2, "S2 TooFewFields", "a,1,1"),
+    (4, "S3 BadNumber", "b,1,1,x,X"),
+    (6, "S1 NotUtf8", "\ufffd,1,1,1,X"),
+    (5, "I1 IdOutside", "\\tc,2,1,5,\\u{1}"),
+]
+LONG_LINE = "も" * 300
+TWENTY = b"".join(b"%d,1,1\n" % number for number in range(25))
+MORE = "dictc: 20 faults were reported, and there may be more\n"
+
+
+def told_faults(path, faults):
+    """What is told of them: of each its line, and the text of that in the file."""
+    return "".join(f"dictc: {path}:{line}: {fault}\n  {text}\n" for line, fault, text in faults)
+
+
+def of_all(what, words, err, files):
+    """What is told with --all-faults. No image is left."""
+    return Run(f"all faults: {what}", f"{words} --all-faults", err=Exactly(err), status=1, files=files)
+
+
+TWO = {"bad.csv": FAULTY, "other.csv": b"c,1,1\n"}
+ROWS += [
+    of_all("of a system", f"{SYSTEM} a/lexicon.csv bad.csv", told_faults("bad.csv", FAULTS), TWO),
+    of_all("of a user", f"{USER} bad.csv", told_faults("bad.csv", FAULTS), TWO),
+    of_all("of two files", f"{USER} bad.csv other.csv", told_faults("bad.csv", FAULTS) + told_faults("other.csv", [(1, "S2 TooFewFields", "c,1,1")]), TWO),
+    of_all("one", f"{USER} other.csv", told_faults("other.csv", [(1, "S2 TooFewFields", "c,1,1")]), TWO),
+    of_all("a long line", f"{USER} long.csv", told_faults("long.csv", [(1, "S2 TooFewFields", LONG_LINE[:200] + "..")]), {"long.csv": LONG_LINE.encode()}),
+    of_all("20 of 25", f"{USER} many.csv", told_faults("many.csv", [(n + 1, "S2 TooFewFields", f"{n},1,1") for n in range(20)]) + MORE, {"many.csv": TWENTY}),
+    of_all("no line of a lexicon", f"{SYSTEM} bad.csv", "dictc: a/unk.def:7: S2 TooFewFields\n", {**TWO, "a/unk.def": UNK + b"KANJI,1,1\n"}),
+    Run("all faults: none", f"{SYSTEM} --all-faults a/lexicon.csv", out="3 entries, 0 skipped\n", left={"new.img": "sys.img"}),
+]
 
 # What is reported first.
 BAD_CHARS = {"a/char.def": CHARS + b"0x3007 OTHER\n", "a/unk.def": b"X", "a/lexicon.csv": b"X"}

@@ -8,7 +8,9 @@ LARGE = {"a/matrix.def": b"32767 32767\n"}
 FAILING = Under(stdin="failing")
 MEMORY = Under(memory=512 << 20)
 FULL, CLOSED, UNREAD = (Under(stdout=stdout) for stdout in ("full", "closed", "unread"))
+INTERRUPTED = Under(stdout="file", fails="interrupted write")
 DEVICES = [("full", FULL), ("closed", CLOSED), ("unread", UNREAD)]
+CUTS = ["jseg --sample", "jseg -d sys.img"]
 HELP = ["dictc --help", "dictc system --help", "dictc user --help", "jseg --help"]
 
 ROWS = [
@@ -20,6 +22,8 @@ ROWS = [
     *(Run(f"output {what}, an image", "jseg -d sys.img", "すもももも\n", err="G2 Write 0", status=3, under=under) for what, under in DEVICES),
     Run("output of 5 bytes", "jseg --sample", "すもももも\n", b"\xe3\x81\x99\xe3\x82", "G2 Write 5", 3, under=Under(stdout="file", most=5)),
     Run("output of 52 bytes", "jseg --sample", "すもももも\n", SUMOMO, under=Under(stdout="file", most=52)),
+    *(Run(f"{words}, interrupted", words, "すもももも\n", err="G2 Write 0", status=3, under=INTERRUPTED) for words in CUTS),
+    *(Run(f"{words}, interrupted", words, err="F2 Output", status=3, under=INTERRUPTED) for words in HELP),
     Run("nothing to write", "jseg --sample", under=FULL),
     *(Run(f"what was compiled, {what}", ALL, err="F2 Output", status=3, left=MADE, under=under) for what, under in DEVICES),
     *(Run(f"{words}, {what}", words, err="F2 Output", status=3, under=under) for words in HELP for what, under in DEVICES),
