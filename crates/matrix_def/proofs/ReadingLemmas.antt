@@ -12,7 +12,7 @@ use Rattle.mj_model.specs.declared.matrix_sizes.MatrixSizes.{MatrixSizes}
 use Rattle.mj_model.specs.declared.source_fault.SourceFault.{SourceFault}
 use Rattle.mj_model.specs.declared.source_fault.SourceKind.{SourceKind}
 use Rattle.mj_model.specs.Bytes.{is_line_feed, line_feed}
-use Rattle.mj_model.specs.Connection.{Cell, connection_from, connection_under, connection_unless, row_fault}
+use Rattle.mj_model.specs.Connection.{Cell, connection_from, connection_under, connection_unless, cell_fault, row_fault}
 use Rattle.mj_model.specs.FirstFault.{first_fault}
 use Rattle.mj_model.specs.Lines.{is_blank_line, numbered_lines, source_lines, without_return}
 use Rattle.lex_source.specs.Cuts.{IsCut}
@@ -20,8 +20,10 @@ use Rattle.lex_source.specs.Filled.{nonblank_lines}
 use Rattle.lex_source.proofs.LineLemmas.{cut_lines, last_line}
 use Rattle.matrix_def.specs.Costs.{CostTable, IsMatrix, cell_at}
 use Rattle.matrix_def.specs.declared.standing.Standing.{Standing}
+use Rattle.matrix_def.specs.Held.{IsHeldAs, IsSameLine, SaysTheSame}
 use Rattle.matrix_def.specs.Reading.{Fill, HasNoFeed, HasRead, ReaderSeen, StandsAfter, row_of, told_lines, told_number}
 use Rattle.matrix_def.specs.Rows.{IsRow}
+use Rattle.matrix_def.proofs.HeldLemmas.{feed_append, held_with, same_line}
 use Rattle.matrix_def.proofs.NumberLemmas.{told_line}
 use Rattle.matrix_def.proofs.RowLemmas.{row_bad, row_filled}
 
@@ -57,29 +59,45 @@ one_filled : (number : ℕ) (line : List ℕ) (b : Bool) → is_blank_line line 
 one_filled number line true is = ap (λ (b : Bool). cond (not b) ((number, line) ∷ []) []) is
 one_filled number line false is = ap (λ (b : Bool). cond (not b) ((number, line) ∷ []) []) is
 
--- the same line under another number
-pub row_found : (number n : ℕ) (bytes line : List ℕ) (rest : List (ℕ × List ℕ)) → HasNoFeed bytes → nonblank_lines (numbered_lines bytes) ≡ (n, line) ∷ rest → row_of number bytes ≡ (number, line) ∷ []
-row_found number n bytes line rest none is =
+-- a line that is read of them, which is not blank
+line_found : (n : ℕ) (bytes line : List ℕ) (rest : List (ℕ × List ℕ)) → HasNoFeed bytes → nonblank_lines (numbered_lines bytes) ≡ (n, line) ∷ rest
+    → (line ≡ without_return bytes) × (is_blank_line (without_return bytes) ≡ false)
+line_found n bytes line rest none is =
     let w : List ℕ = without_return bytes in
     let first : (n, line) ∷ rest ≡ nonblank_lines ((1, w) ∷ []) = sym is ∙ row_is 1 bytes none in
     elim (cases_Bool (is_blank_line w)) [
       | inl blank ↦ let no : (n, line) ∷ rest ≡ [] = first ∙ one_filled 1 w true blank in absurd (cc)
       | inr full ↦
           let same : (n, line) ∷ rest ≡ (1, w) ∷ [] = first ∙ one_filled 1 w false full in
-          let same_line : line ≡ w = ap (λ (rows : List (ℕ × List ℕ)). (get_or rows 0 (0, [])).1) same in
-          row_is number bytes none ∙ one_filled number w false full ∙ ap (λ (l : List ℕ). (number, l) ∷ []) (sym same_line)
+          (ap (λ (rows : List (ℕ × List ℕ)). (get_or rows 0 (0, [])).1) same, full)
     ]
 
-pub row_missing : (number : ℕ) (bytes : List ℕ) → HasNoFeed bytes → nonblank_lines (numbered_lines bytes) ≡ [] → row_of number bytes ≡ []
-row_missing number bytes none is =
+-- bytes that say the same are a line under another number
+pub row_found : (number n : ℕ) (bytes line came : List ℕ) (rest : List (ℕ × List ℕ)) → HasNoFeed bytes → HasNoFeed came → IsSameLine came bytes
+    → nonblank_lines (numbered_lines bytes) ≡ (n, line) ∷ rest → (row_of number came ≡ (number, without_return came) ∷ []) × SaysTheSame (without_return came) line
+row_found number n bytes line came rest none none_came same is =
+    let found = line_found n bytes line rest none is in (
+      row_is number came none_came ∙ one_filled number (without_return came) false (same.blank ∙ found.1),
+      subst (SaysTheSame (without_return came)) (sym found.0) same,
+    )
+
+pub row_missing : (number : ℕ) (bytes came : List ℕ) → HasNoFeed bytes → HasNoFeed came → IsSameLine came bytes → nonblank_lines (numbered_lines bytes) ≡ [] → row_of number came ≡ []
+row_missing number bytes came none none_came same is =
     let w : List ℕ = without_return bytes in
     let first : [] ≡ nonblank_lines ((1, w) ∷ []) = sym is ∙ row_is 1 bytes none in
     elim (cases_Bool (is_blank_line w)) [
-      | inl blank ↦ row_is number bytes none ∙ one_filled number w true blank
+      | inl blank ↦ row_is number came none_came ∙ one_filled number (without_return came) true (same.blank ∙ blank)
       | inr full ↦
           let no : 0 ≡ 1 = ap (λ (rows : List (ℕ × List ℕ)). length rows) (first ∙ one_filled 1 w false full) in
           absurd (omega (arith, no))
     ]
+
+-- a row that says the same
+pub row_same : (sizes : MatrixSizes) (line other : List ℕ) (cell : Cell) → SaysTheSame other line → IsRow sizes line cell → IsRow sizes other cell
+row_same sizes line other cell same r = record { listed = same.cell ∙ r.listed; within = r.within }
+
+pub fault_same : (sizes : MatrixSizes) (line other : List ℕ) (kind : SourceKind) → SaysTheSame other line → row_fault sizes line ≡ Some kind → row_fault sizes other ≡ Some kind
+fault_same sizes line other kind same bad = ap (cell_fault sizes) same.cell ∙ bad
 
 enumerate-append : {X : Type 0} (n m : ℕ) (xs ys : List X) → m ≡ n + length xs → enumerate_from n (xs ++ ys) ≡ enumerate_from n xs ++ enumerate_from m ys
 enumerate-append {X = X} n m [] ys is = ap (λ (k : ℕ). enumerate_from k ys) (omega (arith, is))
@@ -135,31 +153,35 @@ fill_refused lines m number line kind f bad more =
 -- ---- what the reader was given
 
 -- all lines that are not blank: those that ended, and the one that began
-lines_read : (bytes : List ℕ) (number : ℕ) (r : ReaderSeen) (h : HasRead bytes r) → HasNoFeed r.begun → number ≡ told_number (r.ended + 1)
-    → nonblank_lines (told_lines 1 (source_lines bytes)) ≡ nonblank_lines (told_lines 1 h.lines) ++ row_of number r.begun
-lines_read bytes number r h none number_is =
-    ap (λ (bs : List ℕ). nonblank_lines (told_lines 1 (source_lines bs))) h.parts ∙ ap (λ (ls : List (List ℕ)). nonblank_lines (told_lines 1 ls)) (h.cut r.begun)
-    ∙ filled-append 1 (1 + length h.lines) h.lines (source_lines r.begun) refl
-    ∙ ap (λ (rows : List (ℕ × List ℕ)). nonblank_lines (told_lines 1 h.lines) ++ rows) (told_row (1 + length h.lines) number r.begun none (omega (arith, number_is, h.counted)))
+lines_read : (bytes : List ℕ) (number : ℕ) (r : ReaderSeen) (h : HasRead bytes r) → number ≡ told_number (r.ended + 1)
+    → nonblank_lines (told_lines 1 (source_lines bytes)) ≡ nonblank_lines (told_lines 1 h.lines) ++ row_of number h.came
+lines_read bytes number r h number_is =
+    ap (λ (bs : List ℕ). nonblank_lines (told_lines 1 (source_lines bs))) h.parts ∙ ap (λ (ls : List (List ℕ)). nonblank_lines (told_lines 1 ls)) (h.cut h.came)
+    ∙ filled-append 1 (1 + length h.lines) h.lines (source_lines h.came) refl
+    ∙ ap (λ (rows : List (ℕ × List ℕ)). nonblank_lines (told_lines 1 h.lines) ++ rows) (told_row (1 + length h.lines) number h.came h.unended (omega (arith, number_is, h.counted)))
 
 -- where reading stands with the line that began, if no more follows
-pub all_read : (bytes line : List ℕ) (number : ℕ) (r : ReaderSeen) (new : Standing) → HasRead bytes r → HasNoFeed r.begun → number ≡ told_number (r.ended + 1) → line ≡ r.begun
-    → ((lines : List (ℕ × List ℕ)) → StandsAfter lines r.standing → StandsAfter (lines ++ row_of number line) new) → StandsAfter (nonblank_lines (told_lines 1 (source_lines bytes))) new
-all_read bytes line number r new h none number_is line_is after =
+pub all_read : (bytes line : List ℕ) (number : ℕ) (r : ReaderSeen) (new : Standing) → HasRead bytes r → number ≡ told_number (r.ended + 1) → line ≡ r.begun
+    → ((lines : List (ℕ × List ℕ)) (came : List ℕ) → StandsAfter lines r.standing → HasNoFeed came → IsSameLine came line → StandsAfter (lines ++ row_of number came) new)
+    → StandsAfter (nonblank_lines (told_lines 1 (source_lines bytes))) new
+all_read bytes line number r new h number_is line_is after =
     let lines : List (ℕ × List ℕ) = nonblank_lines (told_lines 1 h.lines) in
-    subst (λ (all : List (ℕ × List ℕ)). StandsAfter all new) (ap (λ (bs : List ℕ). lines ++ row_of number bs) line_is ∙ sym (lines_read bytes number r h none number_is)) (after lines h.stands)
+    let same : IsSameLine h.came line = same_line h.came line (h.came ++ []) (r.begun ++ []) (sym (append-nil h.came)) (line_is ∙ sym (append-nil r.begun)) (h.held []) in
+    subst (λ (all : List (ℕ × List ℕ)). StandsAfter all new) (sym (lines_read bytes number r h number_is)) (after lines h.came h.stands h.unended same)
 
 -- the line that began ends
-pub line_read : (bytes part : List ℕ) (r new : ReaderSeen) → HasRead bytes r → HasNoFeed (r.begun ++ part) → new.begun ≡ [] → new.ended ≡ told_number (r.ended + 1)
-    → ((lines : List (ℕ × List ℕ)) → StandsAfter lines r.standing → StandsAfter (lines ++ row_of new.ended (r.begun ++ part)) new.standing) → HasRead ((bytes ++ part) ++ line_feed ∷ []) new
-line_read bytes part r new h none begun ended after =
-    let line : List ℕ = r.begun ++ part in
+pub line_read : (bytes part : List ℕ) (r new : ReaderSeen) → HasRead bytes r → HasNoFeed part → new.begun ≡ [] → new.ended ≡ told_number (r.ended + 1)
+    → ((lines : List (ℕ × List ℕ)) (came : List ℕ) → StandsAfter lines r.standing → HasNoFeed came → IsSameLine came (r.begun ++ part) → StandsAfter (lines ++ row_of new.ended came) new.standing)
+    → HasRead ((bytes ++ part) ++ line_feed ∷ []) new
+line_read bytes part r new h none_more begun ended after =
+    let line : List ℕ = h.came ++ part in
+    let none : HasNoFeed line = feed_append h.came part h.unended none_more in
     let w : List ℕ = without_return line in
     let all : List ℕ = (bytes ++ part) ++ line_feed ∷ [] in
     let turned : (more : List ℕ) → all ++ more ≡ h.closed ++ (line ++ line_feed ∷ more) = λ more.
     ap (λ (bs : List ℕ). ((bs ++ part) ++ line_feed ∷ []) ++ more) h.parts
-    ∙ append_assoc ((h.closed ++ r.begun) ++ part) (line_feed ∷ []) more
-    ∙ ap (λ (bs : List ℕ). bs ++ line_feed ∷ more) (append_assoc h.closed r.begun part)
+    ∙ append_assoc ((h.closed ++ h.came) ++ part) (line_feed ∷ []) more
+    ∙ ap (λ (bs : List ℕ). bs ++ line_feed ∷ more) (append_assoc h.closed h.came part)
     ∙ append_assoc h.closed line (line_feed ∷ more) in
     let number : told_number (1 + length h.lines) ≡ new.ended = omega (arith, ended, h.counted) in
     let rows : nonblank_lines (told_lines 1 (h.lines ++ w ∷ [])) ≡ nonblank_lines (told_lines 1 h.lines) ++ row_of new.ended line =
@@ -169,18 +191,33 @@ line_read bytes part r new h none begun ended after =
     record {
       closed = all;
       lines = h.lines ++ w ∷ [];
-      parts = sym (ap (λ (bs : List ℕ). all ++ bs) begun ∙ append-nil all);
+      came = [];
+      parts = sym (append-nil all);
+      unended = refl;
+      held = held_with [] new.begun begun;
       cut = λ more.
           ap source_lines (turned more) ∙ h.cut (line ++ line_feed ∷ more) ∙ ap (λ (ls : List (List ℕ)). h.lines ++ ls) (line_first line more none)
           ∙ sym (append_assoc h.lines (w ∷ []) (source_lines more));
       counted = let long = length-append h.lines (w ∷ []) in omega (arith, ended, h.counted, long);
-      stands = subst (λ (rows : List (ℕ × List ℕ)). StandsAfter rows new.standing) (sym rows) (after (nonblank_lines (told_lines 1 h.lines)) h.stands);
+      stands = subst (λ (rows : List (ℕ × List ℕ)). StandsAfter rows new.standing) (sym rows) (after (nonblank_lines (told_lines 1 h.lines)) line h.stands none (h.held part));
     }
 
--- ---- a piece
+-- the line that began goes on
+pub begun_read : (bytes part : List ℕ) (r new : ReaderSeen) → HasRead bytes r → HasNoFeed part → new.ended ≡ r.ended → new.standing ≡ r.standing
+    → ((came : List ℕ) → IsHeldAs came r.begun → IsHeldAs (came ++ part) new.begun) → HasRead (bytes ++ part) new
+begun_read bytes part r new h none ended standing held = record {
+  closed = h.closed;
+  lines = h.lines;
+  came = h.came ++ part;
+  parts = ap (λ (bs : List ℕ). bs ++ part) h.parts ∙ append_assoc h.closed h.came part;
+  unended = feed_append h.came part h.unended none;
+  held = held h.came h.held;
+  cut = h.cut;
+  counted = ended ∙ h.counted;
+  stands = subst (StandsAfter (nonblank_lines (told_lines 1 h.lines))) (sym standing) h.stands;
+}
 
-pub no_feed_append : (xs ys : List ℕ) → HasNoFeed xs → HasNoFeed ys → HasNoFeed (xs ++ ys)
-no_feed_append xs ys before behind = list_any-append is_line_feed xs ys ∙ ap (λ (b : Bool). b || list_any is_line_feed ys) before ∙ behind
+-- ---- a piece
 
 -- a line of a piece is cut behind those that were read
 pub piece_cut : (piece done rest part behind : List ℕ) → piece ≡ done ++ rest → rest ≡ part ++ line_feed ∷ behind → piece ≡ ((done ++ part) ++ line_feed ∷ []) ++ behind

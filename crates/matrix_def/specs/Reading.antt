@@ -8,6 +8,7 @@ use Rattle.mj_model.specs.Connection.{Connection, connection_from, sizes_from, w
 use Rattle.mj_model.specs.Lines.{source_lines}
 use Rattle.lex_source.specs.Filled.{nonblank_lines}
 use Rattle.matrix_def.specs.Costs.{CostTable, IsMatrix, IsTableOf}
+use Rattle.matrix_def.specs.Held.{IsHeldAs}
 use Rattle.matrix_def.specs.Rows.{IsFilledBy}
 use Rattle.matrix_def.specs.declared.standing.Standing.{Standing}
 use Rattle.matrix_def.specs.declared.standing.Standing.TheVariants.{Header, Rows, Refused}
@@ -52,17 +53,20 @@ StandsAfter lines (Refused fault) = (more : List (ℕ × List ℕ)) → connecti
 abbrev pub IsTableFrom : List (ℕ × List ℕ) → CostTable → Type 0
 IsTableFrom lines m = (c : Connection) × (connection_from lines ≡ Ok c) × IsTableOf c m
 
--- how many lines ended, the bytes of the line that began behind them, and where reading stands
+-- how many lines ended, bytes that say what the line that began behind them says, and where reading stands
 pub record ReaderSeen : Type 0 where
   pub ended : ℕ
   pub begun : List ℕ
   pub standing : Standing
 
--- the reader was given these bytes: those of lines that ended, and those of the line that began
+-- the reader was given these bytes: those of lines that ended, and those of the line that began, which may be held as others
 pub record HasRead (bytes : List ℕ) (r : ReaderSeen) : Type 0 where
   pub closed : List ℕ
   pub lines : List (List ℕ)
-  pub parts : bytes ≡ closed ++ r.begun
+  pub came : List ℕ
+  pub parts : bytes ≡ closed ++ came
+  pub unended : HasNoFeed came
+  pub held : IsHeldAs came r.begun
   pub cut : (more : List ℕ) → source_lines (closed ++ more) ≡ lines ++ source_lines more
   pub counted : r.ended ≡ told_number (length lines)
   pub stands : StandsAfter (nonblank_lines (told_lines 1 lines)) r.standing

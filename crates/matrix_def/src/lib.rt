@@ -1,6 +1,7 @@
 //! Connection costs, as `matrix.def` lists them.
 #![tactic(auto)]
 
+mod begun;
 mod matrix;
 mod read;
 mod reader;

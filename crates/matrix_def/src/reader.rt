@@ -5,6 +5,7 @@ ghost use Rattle.mj_model.specs.FirstFault.{IsRefusal};
 ghost use Rattle.matrix_def.specs.Costs.{IsTableIn};
 ghost use Rattle.matrix_def.specs.Reading.{HasNoFeed, HasRead, told_connection};
 
+use crate::begun::append_bytes;
 use crate::matrix::Matrix;
 use crate::standing::Standing;
 use lex_source::split_first;
@@ -14,13 +15,14 @@ use std::marker::Model;
 
 /// Reads a `matrix.def` whose bytes come in pieces, of any lengths and cut anywhere.
 ///
-/// It keeps the table of costs and the line that did not end yet, and none of the bytes before it.
+/// It keeps the table of costs, and of the line that did not end yet as many bytes as say the same: no more than three words and
+/// the beginning of a fourth, without further blanks, leading zeros and digits.
 #[derive(Drop)]
 pub struct MatrixReader {
     alloc: Global,
     /// How many lines ended, as far as 64 bits count.
     ended: u64,
-    /// The bytes of the line that began behind them.
+    /// What the line that began behind them says so far.
     begun: Vec<u8>,
     standing: Standing,
 }
@@ -87,13 +89,24 @@ impl MatrixReader {
     }
 
     /// After bytes of a line that does not end with them.
-    fn read_begun(mut self, part: &[u8]) -> Result<MatrixReader, AllocError>
+    fn read_begun(self, part: &[u8]) -> Result<MatrixReader, AllocError>
         requires { HasNoFeed part.now }
         ensures { (bytes : List ℕ) → HasRead bytes self
             → IfOk result (HasRead (bytes ++ part.now)) }
     {
-        self.begun.extend_from_slice(part)?;
-        Ok(self)
+        let MatrixReader {
+            alloc,
+            ended,
+            mut begun,
+            standing,
+        } = self;
+        append_bytes(&mut begun, part)?;
+        Ok(MatrixReader {
+            alloc,
+            ended,
+            begun,
+            standing,
+        })
     }
 
     /// What the bytes say: what `read_matrix` reads of them as one slice. Of a fault behind 2^64 lines the line is told as the last that

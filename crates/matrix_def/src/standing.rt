@@ -1,6 +1,7 @@
 //! Where the reading of `matrix.def` stands.
 ghost use Rattle.std.specs.Prelude.{◌≡◌, ℕ, List, [], ◌∷◌, ◌++◌, Err, IfOk, IfErr};
 ghost use Rattle.mj_model.specs.Connection.{connection_from};
+ghost use Rattle.matrix_def.specs.Held.{IsSameLine, SaysTheSame};
 ghost use Rattle.matrix_def.specs.Reading.{Fill, HasNoFeed, IsTableFrom, StandsAfter, row_of};
 
 use crate::matrix::Matrix;
@@ -21,7 +22,7 @@ pub(crate) enum Standing {
 }
 
 impl Standing {
-    /// After a further line, by its number and its bytes before the LF.
+    /// After a further line, by its number and what its bytes before the LF say.
     pub(crate) fn after(
         self,
         alloc: Global,
@@ -29,8 +30,9 @@ impl Standing {
         bytes: &[u8],
     ) -> Result<Standing, AllocError>
         requires { HasNoFeed bytes.now }
-        ensures { (lines : List (ℕ × List ℕ)) → StandsAfter lines self
-            → IfOk result (StandsAfter (lines ++ row_of number bytes.now)) }
+        ensures { (lines : List (ℕ × List ℕ)) (came : List ℕ) → StandsAfter lines self
+            → HasNoFeed came → IsSameLine came bytes.now
+            → IfOk result (StandsAfter (lines ++ row_of number came)) }
     {
         match FilledLines::new(bytes).next() {
             Some((_, line)) => self.after_filled(alloc, number, line),
@@ -40,8 +42,9 @@ impl Standing {
 
     /// After a further line that is not blank.
     fn after_filled(self, alloc: Global, number: u64, line: &[u8]) -> Result<Standing, AllocError>
-        ensures { (lines : List (ℕ × List ℕ)) → StandsAfter lines self
-            → IfOk result (StandsAfter (lines ++ (number, line.now) ∷ [])) }
+        ensures { (lines : List (ℕ × List ℕ)) (came : List ℕ) → StandsAfter lines self
+            → SaysTheSame came line.now
+            → IfOk result (StandsAfter (lines ++ (number, came) ∷ [])) }
     {
         match self {
             Standing::Header => after_header(alloc, number, line),
@@ -67,7 +70,8 @@ impl Standing {
 
 /// After the first line that is not blank.
 fn after_header(alloc: Global, number: u64, line: &[u8]) -> Result<Standing, AllocError>
-    ensures { IfOk result (StandsAfter ((number, line.now) ∷ [])) }
+    ensures { (came : List ℕ) → SaysTheSame came line.now
+        → IfOk result (StandsAfter ((number, came) ∷ [])) }
 {
     let Some(sizes) = read_sizes(line) else {
         return Ok(Standing::Refused(SourceKind::BadHeader.at(MATRIX_FILE, number)));
@@ -80,8 +84,9 @@ fn after_header(alloc: Global, number: u64, line: &[u8]) -> Result<Standing, All
 
 /// After a further row: its cost is set, or it is at fault.
 fn after_row(mut matrix: Matrix, number: u64, row: &[u8]) -> Standing
-    ensures { (lines : List (ℕ × List ℕ)) → Fill lines matrix
-        → StandsAfter (lines ++ (number, row.now) ∷ []) result }
+    ensures { (lines : List (ℕ × List ℕ)) (came : List ℕ) → Fill lines matrix
+        → SaysTheSame came row.now
+        → StandsAfter (lines ++ (number, came) ∷ []) result }
 {
     match read_row(matrix.sizes(), row) {
         Ok(cell) => {

@@ -8,20 +8,22 @@ use Rattle.mj_model.specs.declared.source_fault.SourceFault.{SourceFault}
 use Rattle.mj_model.specs.Connection.{row_fault}
 use Rattle.matrix_def.specs.Costs.{CostTable, cell_at}
 use Rattle.matrix_def.specs.Rows.{IsRow, cell_of}
-use Rattle.matrix_def.proofs.ReadingLemmas.{fill_more, fill_refused}
+use Rattle.matrix_def.proofs.ReadingLemmas.{fault_same, fill_more, fill_refused, row_same}
 use Rattle.matrix_def.proofs.standing.after_row.Goals as goal
 
 pub returns-in-Ok : goal.returns-in-Ok
-returns-in-Ok c = λ lines fill.
+returns-in-Ok c = λ lines came fill same.
     let fits : SFits w16 c.in-Ok.cell.cost = search rules in
     let m : CostTable = c.args.matrix in
-    fill_more lines m c.set.new.self c.args.number c.args.row.now (cell_of c.in-Ok.cell) fill
-    (subst (λ (sizes : MatrixSizes). IsRow sizes c.args.row.now (cell_of c.in-Ok.cell)) c.sizes.ensures.sizes c.in-Ok.ensures)
+    let row = row_same _ c.args.row.now came (cell_of c.in-Ok.cell) same c.in-Ok.ensures in
+    fill_more lines m c.set.new.self c.args.number came (cell_of c.in-Ok.cell) fill
+    (subst (λ (sizes : MatrixSizes). IsRow sizes came (cell_of c.in-Ok.cell)) c.sizes.ensures.sizes row)
     (c.set.ensures.value ∙ ap (λ (z : ℤ). record m { costs = set m.costs (cell_at m c.in-Ok.cell.right c.in-Ok.cell.left) z }) (to_z-of_z w16 c.in-Ok.cell.cost fits))
     c.set.ensures.formed
 
 pub returns-in-Err : goal.returns-in-Err
-returns-in-Err c = λ lines fill more.
-    fill_refused lines c.args.matrix c.args.number c.args.row.now c.in-Err.kind fill
-    (subst (λ (sizes : MatrixSizes). row_fault sizes c.args.row.now ≡ Some c.in-Err.kind) c.sizes.ensures.sizes c.in-Err.ensures) more
+returns-in-Err c = λ lines came fill same more.
+    let bad = fault_same _ c.args.row.now came c.in-Err.kind same c.in-Err.ensures in
+    fill_refused lines c.args.matrix c.args.number came c.in-Err.kind fill
+    (subst (λ (sizes : MatrixSizes). row_fault sizes came ≡ Some c.in-Err.kind) c.sizes.ensures.sizes bad) more
     ∙ ap (λ (fault : SourceFault). Err fault) (sym c.at.ensures)

@@ -14,7 +14,7 @@ stands c bytes given =
     let seen : ReaderSeen = record { ended = c.self.inside.ended; begun = c.self.inside.begun.items; standing = c.self.inside.standing } in
     let number : c.saturating_add-number.result ≡ told_number (seen.ended + 1) = search rules in
     let line : c.deref.result.now ≡ seen.begun = search rules in
-    all_read bytes c.deref.result.now c.saturating_add-number.result seen c.in_ok-after.field-0 (subst (HasRead bytes) (sym c.self.view_is) given) c.self.invariant number line c.in_ok-after.ensures
+    all_read bytes c.deref.result.now c.saturating_add-number.result seen c.in_ok-after.field-0 (subst (HasRead bytes) (sym c.self.view_is) given) number line c.in_ok-after.ensures
 
 pub returns-clause-accepted : goal.returns-clause-accepted
 returns-clause-accepted c = λ bytes given.

@@ -1,6 +1,7 @@
-use Rattle.std.proofs.Common.{◌≡◌, ℕ, ◌+◌, List, ◌++◌, subst, sym, rules}
-use Rattle.matrix_def.specs.Reading.{HasRead, ReaderSeen, StandsAfter, row_of, told_number}
-use Rattle.matrix_def.proofs.ReadingLemmas.{line_read, no_feed_append}
+use Rattle.std.proofs.Common.{◌≡◌, ◌+◌, ◌++◌, subst, sym, rules}
+use Rattle.matrix_def.specs.Held.{IsSameLine}
+use Rattle.matrix_def.specs.Reading.{HasRead, ReaderSeen, told_number}
+use Rattle.matrix_def.proofs.ReadingLemmas.{line_read}
 use Rattle.matrix_def.proofs.reader.MatrixReader.read_to_end.Goals as goal
 
 pub returns : goal.returns
@@ -10,5 +11,5 @@ returns c = λ bytes given.
     let number : c.saturating_add-number.result ≡ told_number (seen.ended + 1) = search rules in
     let line : c.deref.result.now ≡ seen.begun ++ c.args.part.now = search rules in
     line_read bytes c.args.part.now seen (record { ended = c.saturating_add-number.result; begun = c.clear.new.self.items; standing = c.in_ok-standing.standing }) h
-    (no_feed_append seen.begun c.args.part.now c.self.invariant c.requires) c.clear.ensures.items number
-    (λ lines before. subst (λ (l : List ℕ). StandsAfter (lines ++ row_of c.saturating_add-number.result l) c.in_ok-standing.standing) line (c.in_ok-standing.ensures lines before))
+    c.requires c.clear.ensures.items number
+    (λ lines came before none same. c.in_ok-standing.ensures lines came before none (subst (IsSameLine came) (sym line) same))
