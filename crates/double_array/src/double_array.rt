@@ -75,7 +75,9 @@ impl DoubleArray {
         ensures full { IfErr result (λ fault. fault ≡ Full
             → 2 ^ 30 - length key.now - 600 < length self.old) }
 
-        // While there is room after its last used cell the array stays as long as it is. It is never shorter.
+        // For a key of the map, and while there is room after its last used cell, the array stays as long as it is. It is never shorter.
+        ensures present { IfOk result
+            (λ inserted. IsSome inserted.old → length self.new ≡ length self.old) }
         ensures space { HasSpace self.old (length key.now) → length self.new ≡ length self.old }
         ensures least { length self.old ≤ length self.new }
         ensures growth { length self.new ≤ length self.old + length key.now + 600 }

@@ -44,6 +44,8 @@ pub(crate) fn insert_key(pool: &mut CellPool, key: &[u8], value: u32) -> Result<
         (λ inserted. HaveMoved pool.old.cells pool.new.cells key.now inserted.moved) }
     ensures few { IfOk result (λ inserted. inserted.moved ≤ 257) }
     ensures stays { IfOk result (λ inserted. IsSome inserted.old → inserted.moved ≡ 0) }
+    ensures present { IfOk result (λ inserted. IsSome inserted.old
+        → length pool.new.cells ≡ length pool.old.cells) }
     ensures least { length pool.old.cells ≤ length pool.new.cells }
     ensures most { length pool.new.cells ≤ length pool.old.cells + length key.now + 600 }
     ensures space { HasSpace pool.old.cells (length key.now)

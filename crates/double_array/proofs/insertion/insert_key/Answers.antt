@@ -73,6 +73,9 @@ returns-in-Some-clause-moved c =
 pub returns-in-Some-clause-space : goal.returns-in-Some-clause-space
 returns-in-Some-clause-space c = λ space. ap length c.replace_value.ensures.cells ∙ length-set c.args.pool.now.cells c.in-Some.end _
 
+pub returns-in-Some-clause-present : goal.returns-in-Some-clause-present
+returns-in-Some-clause-present c = λ present. ap length c.replace_value.ensures.cells ∙ length-set c.args.pool.now.cells c.in-Some.end _
+
 pub returns-in_ok-make_room-in-None-clause-moved : goal.returns-in_ok-make_room-in-None-clause-moved
 returns-in_ok-make_room-in-None-clause-moved c =
     moved_in_all c.args.pool.now.cells c.make_room.new.pool.cells c.clear_way-cleared.new.pool.cells c.add_tail.new.pool.cells c.args.key.now c.clear_way-cleared.result.moved c.in_ok-make_room-in-None.ensures.room.same
