@@ -40,6 +40,7 @@ impl<'a, C: CellRead> Model for Prefixes<'a, C> {
 
 impl<'a, C: CellRead> Prefixes<'a, C> {
     /// Reads the root.
+    #[inline(always)]
     pub(crate) fn new(cells: &'a C, text: &'a [u8]) -> Prefixes<'a, C>
         requires { AreCells (C.cells cells.now) }
         ensures hits { result.hits ≡ prefixes_of (C.cells cells.now) text.now }
@@ -70,6 +71,7 @@ impl<'a, C: CellRead> Iterator for Prefixes<'a, C> {
 
     ghost remaining = { item_count (λ it. it.hits) };
 
+    #[inline(always)]
     fn next(&mut self) -> Option<Hit> {
         next_hit(self.cells, self.text, &mut self.walk)
     }

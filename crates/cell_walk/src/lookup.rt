@@ -24,6 +24,7 @@ pub fn get<C: CellRead>(cells: &C, key: &[u8]) -> Option<u32>
 }
 
 /// The keys of the map that begin a text, the shortest first, each with its value.
+#[inline(always)]
 pub fn prefixes<'a, C: CellRead>(cells: &'a C, text: &'a [u8]) -> Prefixes<'a, C>
     requires { AreCells (C.cells cells.now) }
     ensures hits { result.hits ≡ prefixes_of (C.cells cells.now) text.now }

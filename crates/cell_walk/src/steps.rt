@@ -15,6 +15,7 @@ pub(crate) struct Place {
 }
 
 /// The cell of a number, if there is one. A walk reads each cell through this call, which counts it.
+#[inline(always)]
 fn read<C: CellRead>(cells: &C, i: usize, reads: &mut u64) -> Option<(i32, i32)>
     requires { reads.old + 1 < 2 ^ 64 }
     ensures cell { result ≡ slice_get (C.cells cells.now) i }
@@ -28,6 +29,7 @@ fn read<C: CellRead>(cells: &C, i: usize, reads: &mut u64) -> Option<(i32, i32)>
 }
 
 /// The base of a cell, if it is a child of this state.
+#[inline(always)]
 fn child<C: CellRead>(cells: &C, state: usize, i: usize, reads: &mut u64) -> Option<i32>
     requires { reads.old + 1 < 2 ^ 64 }
     ensures child { IsChildBase (C.cells cells.now) state i result }
@@ -42,6 +44,7 @@ fn child<C: CellRead>(cells: &C, state: usize, i: usize, reads: &mut u64) -> Opt
 }
 
 /// The state from which all walks begin.
+#[inline(always)]
 pub(crate) fn root<C: CellRead>(cells: &C, reads: &mut u64) -> Place
     requires cells { AreCells (C.cells cells.now) }
     requires reads { reads.old + 1 < 2 ^ 64 }
@@ -59,6 +62,7 @@ pub(crate) fn root<C: CellRead>(cells: &C, reads: &mut u64) -> Place
 }
 
 /// The step on a byte.
+#[inline(always)]
 pub(crate) fn step<C: CellRead>(cells: &C, from: Place, byte: u8, reads: &mut u64) -> Option<Place>
     requires cells { AreCells (C.cells cells.now) }
     requires from { IsAt (C.cells cells.now) from }
@@ -76,6 +80,7 @@ pub(crate) fn step<C: CellRead>(cells: &C, from: Place, byte: u8, reads: &mut u6
 }
 
 /// The value of the key that leads to a state, if it has one.
+#[inline(always)]
 pub(crate) fn value_at<C: CellRead>(cells: &C, from: Place, reads: &mut u64) -> Option<u32>
     requires cells { AreCells (C.cells cells.now) }
     requires from { IsAt (C.cells cells.now) from }

@@ -25,6 +25,7 @@ pub(crate) struct Walk {
 }
 
 /// A walk that begins.
+#[inline(always)]
 pub(crate) fn begin<C: CellRead>(cells: &C, text: &[u8]) -> Walk
     requires { AreCells (C.cells cells.now) }
     ensures walking { IsWalking (C.cells cells.now) text.now result }
@@ -42,6 +43,7 @@ pub(crate) fn begin<C: CellRead>(cells: &C, text: &[u8]) -> Walk
 }
 
 /// The next hit of a walk.
+#[inline(always)]
 pub(crate) fn next_hit<C: CellRead>(cells: &C, text: &[u8], walk: &mut Walk) -> Option<Hit>
     requires { IsWalking (C.cells cells.now) text.now walk.old }
     ensures walking { IsWalking (C.cells cells.now) text.now walk.new }
@@ -62,6 +64,7 @@ pub(crate) fn next_hit<C: CellRead>(cells: &C, text: &[u8], walk: &mut Walk) -> 
 }
 
 /// Goes on by a byte: the place there, or None where the walk ends.
+#[inline(always)]
 fn advance<C: CellRead>(cells: &C, text: &[u8], walk: &mut Walk) -> Option<Place>
     requires { IsWalking (C.cells cells.now) text.now walk.old }
     ensures walking { IsWalkBut (value_reads (C.cells cells.now) result)

@@ -97,6 +97,7 @@ impl Dict {
     }
 
     /// The numbers of the header.
+    #[inline(always)]
     pub(crate) fn header(&self) -> &Header
         ensures numbers { result.now ≡ header_of self.now }
         ensures formed { IsImage self.now }
@@ -105,6 +106,7 @@ impl Dict {
     }
 
     /// The bytes of a section.
+    #[inline(always)]
     pub(crate) fn section(&self, section: Section) -> &[u8]
         ensures section { result.now ≡ section_of self.now (number_of section) }
         ensures formed { IsImage self.now }
@@ -113,6 +115,7 @@ impl Dict {
     }
 
     /// Where connection costs are looked up.
+    #[inline(always)]
     pub(crate) fn cost_table(&self) -> &CostTable
         ensures table { IsCostTable (header_of self.now).sizes (section_of self.now 1) result.now }
         ensures formed { IsImage self.now }
@@ -121,6 +124,7 @@ impl Dict {
     }
 
     /// Where the categories of code points are looked up.
+    #[inline(always)]
     pub(crate) fn info_table(&self) -> &InfoTable
         ensures table { IsInfoTable (kind_of (header_of self.now))
             (info_form (header_of self.now).layout) (section_of self.now 3) result.now }
@@ -130,6 +134,7 @@ impl Dict {
     }
 
     /// What the categories say, by their numbers.
+    #[inline(always)]
     pub(crate) fn categories(&self) -> &[Category]
         ensures categories { result.now ≡ (image_tables self.now).categories }
         ensures formed { IsImage self.now }
@@ -138,6 +143,7 @@ impl Dict {
     }
 
     /// The keys, to look one up.
+    #[inline(always)]
     fn key_table(&self) -> KeyTable<'_>
         ensures table { IsTableOf (key_form (header_of self.now).layout) (header_of self.now).groups
             (section_of self.now 5) result }
@@ -164,6 +170,7 @@ impl Dict {
     }
 
     /// The keys that begin a text, with their groups.
+    #[inline(always)]
     pub(crate) fn hits<'a>(&'a self, text: &'a [u8]) -> KeyHits<'a>
         ensures hits { (hits_seen result).hits ≡ hits_in (key_form (header_of self.now).layout)
             (header_of self.now).groups (section_of self.now 5) text.now }
@@ -180,6 +187,7 @@ impl Dict {
     }
 
     /// The entries of a group.
+    #[inline(always)]
     pub(crate) fn group(&self, i: u32) -> Entries<'_>
         requires { i < (header_of self.now).groups }
         ensures { result ≡ tokens_in (section_of self.now 7) (section_of self.now 8)
@@ -198,10 +206,12 @@ impl Dict {
 impl CellRead for Dict {
     ghost cells = { λ bytes. stored_cells (section_of bytes 5) };
 
+    #[inline(always)]
     fn len(&self) -> usize {
         self.section(Section::Keys).len() / 8
     }
 
+    #[inline(always)]
     fn cell(&self, i: usize) -> (i32, i32) {
         ImageCells {
             bytes: self.section(Section::Keys),

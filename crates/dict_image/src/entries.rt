@@ -52,6 +52,7 @@ impl<'a> Entries<'a> {
     }
 
     /// The entries of list `i` of an index.
+    #[inline(always)]
     pub(crate) fn of_list(
         index: &[u8],
         tokens: &'a [u8],
@@ -73,6 +74,7 @@ impl<'a> Entries<'a> {
     }
 
     /// The numbers of the entries that are left.
+    #[inline(always)]
     pub fn row(&self) -> TokenRow
         ensures { map (λ t. t.number) self.now ≡ range_with_len result.first result.count }
     {

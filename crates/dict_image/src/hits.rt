@@ -46,6 +46,7 @@ impl<'a> Model for Prefixes<'a> {
 }
 
 impl<'a> Prefixes<'a> {
+    #[inline(always)]
     pub(crate) fn new(dict: &'a Dict, text: &'a [u8]) -> Prefixes<'a>
         ensures prefixes { result.prefixes ≡ prefixes_in text.now (image_tables dict.now).lexicon }
         ensures cells { result.cells
@@ -79,12 +80,14 @@ impl<'a> Iterator for Prefixes<'a> {
 
     ghost remaining = { item_count (λ it. it.prefixes) };
 
+    #[inline(always)]
     fn next(&mut self) -> Option<(usize, Entries<'a>)> {
         next_prefix(self.dict, &mut self.hits)
     }
 }
 
 /// The surface of the next hit.
+#[inline(always)]
 fn next_prefix<'a>(dict: &'a Dict, hits: &mut KeyHits<'a>) -> Option<(usize, Entries<'a>)>
     requires groups { AllByRecursion (λ hit. hit.1 < (header_of dict.now).groups)
         (hits_seen hits.old).hits }

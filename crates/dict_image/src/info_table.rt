@@ -71,6 +71,7 @@ fn end_in_plane(ranges: &[u8], i: usize) -> usize
 }
 
 /// The categories of a code point: by its entry in the basic plane, and beyond it by a binary search.
+#[inline(always)]
 pub(crate) fn plane_info(entries: &[u32], ranges: &[u8], code: u32) -> CharInfo
     requires order { AreInOrder ranges.now }
     requires entries { AreOfPlane ranges.now entries.now }

@@ -17,6 +17,7 @@ pub(crate) fn listed_at(entries: &[u8], code: u32) -> CharInfo
 }
 
 /// The categories in an entry: bits 0 to 17 are their set, those above the first of them.
+#[inline(always)]
 pub(crate) fn info_of(entry: u32) -> CharInfo
     requires { entry / 2 ^ 18 < 256 }
     ensures { result ≡ info_of_entry entry }

@@ -18,6 +18,7 @@ pub(crate) enum KeyHits<'a> {
 
 impl<'a> KeyHits<'a> {
     /// The next key.
+    #[inline(always)]
     pub(crate) fn next_hit(&mut self) -> Option<Hit>
         ensures hits { YieldsFirstBy (λ hit. (hit.length, hit.value))
             (λ it. (hits_seen it).hits) self.old result self.new }

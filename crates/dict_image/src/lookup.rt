@@ -22,6 +22,7 @@ impl Dict {
     }
 
     /// The surfaces that begin a text, the shortest first: their lengths in bytes, and their entries.
+    #[inline(always)]
     pub fn prefixes<'a>(&'a self, text: &'a str) -> Prefixes<'a>
         ensures prefixes { result.prefixes ≡ prefixes_in text.now (image_tables self.now).lexicon }
         ensures cells { result.cells

@@ -18,6 +18,7 @@ use mj_model::{Category, CharInfo};
 impl Dict {
     /// What it costs to set a word of left id `next_left` behind one of right id `prev_right`. Smaller is preferred, and
     /// BOS and EOS have id 0. (MeCab, `matrix.def`)
+    #[inline(always)]
     pub fn cost(&self, prev_right: u16, next_left: u16) -> i16
         requires system { (image_tables self.now).kind ≡ System }
         requires pair { IsTrue (is_pair (image_tables self.now).sizes prev_right next_left) }
@@ -32,6 +33,7 @@ impl Dict {
     }
 
     /// The categories of a character. Those of one beyond the basic plane take the time of a binary search at most.
+    #[inline(always)]
     pub fn info(&self, c: char) -> CharInfo
         requires { (image_tables self.now).kind ≡ System }
         ensures info { result ≡ (image_tables self.now).info c }
@@ -51,6 +53,7 @@ impl Dict {
     }
 
     /// Category `i`.
+    #[inline(always)]
     pub fn category(&self, i: usize) -> Category
         requires { i < length (image_tables self.now).categories }
         ensures { slice_get (image_tables self.now).categories i ≡ Some result }
@@ -67,6 +70,7 @@ impl Dict {
     }
 
     /// The unknown entries of category `i`. There is at least one.
+    #[inline(always)]
     pub fn unknown(&self, i: usize) -> Entries<'_>
         requires { i < length (image_tables self.now).categories }
         ensures unknown { result ≡ (image_tables self.now).unknown i }

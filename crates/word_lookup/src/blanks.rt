@@ -13,6 +13,7 @@ use paths::BlankRun;
 
 impl<'a> Dictionaries<'a> {
     /// The place behind the blanks of a place, in bytes.
+    #[inline(always)]
     pub fn blanks(&self, text: &str, place: usize) -> usize
         requires { IsTrue (is_place text.now place) }
         ensures { result ≡ skip (overlay_of self.now) text.now place }
@@ -26,6 +27,7 @@ impl<'a> Dictionaries<'a> {
 
     /// Whether a text begins with a blank: its first character shares a category with U+0020. Most places have none, and no more is
     /// looked at there.
+    #[inline(always)]
     fn begins_with_blank(&self, text: &str) -> bool
         ensures { result ≡ begins_with_blank (overlay_of self.now) text.now }
     {
@@ -37,6 +39,7 @@ impl<'a> Dictionaries<'a> {
 
     /// The same, for places of one text in turn. `last` is the run of blanks that was looked at last, if one was: of a place in it only
     /// the first character is looked at.
+    #[inline(always)]
     pub(crate) fn blanks_in_turn(
         &self,
         text: &str,
@@ -61,6 +64,7 @@ impl<'a> Dictionaries<'a> {
     }
 
     /// The same of a place in a run of blanks: they go on to its end, or there are none.
+    #[inline(always)]
     fn blanks_within(&self, run: BlankRun, text: &str, place: usize) -> usize
         requires place { IsTrue (is_place text.now place) }
         requires run { IsBlankRun (overlay_of self.now) text.now run }

@@ -111,6 +111,7 @@ impl<'a> Dictionaries<'a> {
 
     /// The same, where it is one of them.
     #[tactic(auto, unfolding(crate::specs::Overlays::overlay_of))]
+    #[inline(always)]
     pub(crate) fn numbered(&self, number: usize) -> &'a Dict
         requires { number ≤ length self.now.users.now }
         ensures tables { slice_get (all_tables (overlay_of self.now)) number

@@ -13,6 +13,7 @@ use std::alloc::AllocError;
 impl<'a> Dictionaries<'a> {
     /// Appends the surfaces of the known words that begin here: those of the system, then those of each user. On `Err` some may stand
     /// behind what was there before.
+    #[inline(always)]
     pub(crate) fn append_known(
         &self,
         at: WordStart<'_>,
@@ -29,6 +30,7 @@ impl<'a> Dictionaries<'a> {
     }
 
     /// Appends those of the dictionary with a number; shorter ones first.
+    #[inline(always)]
     fn append_known_of(
         &self,
         number: usize,

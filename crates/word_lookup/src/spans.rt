@@ -20,6 +20,7 @@ pub struct Spans {
 }
 
 /// The unknown spans of a text that begins with the character `first`, which has the categories `info`.
+#[inline(always)]
 pub fn spans_from(
     system: &Dict,
     grouping: u16,
@@ -54,6 +55,7 @@ pub fn spans_from(
 }
 
 /// Whether unknown words are made: always where nothing is known.
+#[inline(always)]
 fn makes_words(category: Category, none_known: bool) -> bool
     ensures { result ≡ (category.invoke || none_known) }
 {
@@ -61,6 +63,7 @@ fn makes_words(category: Category, none_known: bool) -> bool
 }
 
 /// How many characters of the run behind the first one matter.
+#[inline(always)]
 fn look_ahead(category: Category, grouping: u16) -> usize
     ensures { result ≡ looked_ahead category grouping }
 {
@@ -71,6 +74,7 @@ fn look_ahead(category: Category, grouping: u16) -> usize
 }
 
 /// The whole run, where the category groups and no more characters than the grouping follow the first.
+#[inline(always)]
 fn grouped_run(category: Category, grouping: u16, first: char, run: Run) -> Option<Run>
     requires { len_utf8 first + run.bytes < 2 ^ 64 }
     ensures { result ≡ grouped_with category grouping first run }
@@ -86,6 +90,7 @@ fn grouped_run(category: Category, grouping: u16, first: char, run: Run) -> Opti
 }
 
 /// The longest of the lengths from 1 on.
+#[inline(always)]
 fn longest_length(category: Category, following: usize, alike: usize) -> usize
     ensures { result ≡ longest_of category following alike }
 {
@@ -98,6 +103,7 @@ fn longest_length(category: Category, following: usize, alike: usize) -> usize
 }
 
 /// One character, where nothing else is there.
+#[inline(always)]
 fn at_least_one(none_known: bool, spans: Spans) -> Spans
     ensures spans { spans_in result ≡ one_if_none none_known (spans_in spans) }
     ensures grouped { result.grouped ≡ spans.grouped }

@@ -19,6 +19,7 @@ impl<'a> Dictionaries<'a> {
     /// Appends the words of a place to `out` as surfaces, in the order of `words_at`, for places of one text in turn: `last` is the run
     /// of blanks that was looked at last, and none before the first place. Where places rise, a run of blanks is looked at once, however
     /// many places in it are asked for. On `Err` memory was refused, and `out` is as before.
+    #[inline(always)]
     pub fn surfaces_in_turn(
         &self,
         text: &str,
@@ -49,6 +50,7 @@ impl<'a> Dictionaries<'a> {
     }
 
     /// Appends the surfaces of a place, which begin at `start`. On `Err` some may stand behind what was there before.
+    #[inline(always)]
     fn append_surfaces(
         &self,
         text: &str,
@@ -74,6 +76,7 @@ impl<'a> Dictionaries<'a> {
     }
 
     /// Appends the surfaces of the unknown words that begin here.
+    #[inline(always)]
     fn append_unknown(
         &self,
         at: WordStart<'_>,

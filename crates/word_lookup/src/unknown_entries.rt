@@ -23,6 +23,7 @@ pub struct UnknownEntries<'a> {
 
 impl<'a> UnknownEntries<'a> {
     /// Appends the surfaces of these spans.
+    #[inline(always)]
     pub fn append_spans(
         self,
         spans: Spans,
@@ -44,6 +45,7 @@ impl<'a> UnknownEntries<'a> {
     }
 
     /// Appends those of 1 character to `longest` characters.
+    #[inline(always)]
     fn append_lengths(
         self,
         longest: usize,
@@ -66,6 +68,7 @@ impl<'a> UnknownEntries<'a> {
     }
 
     /// Appends that of the unknown words that end at `end`.
+    #[inline(always)]
     fn append_surface(
         self,
         at: WordStart<'_>,

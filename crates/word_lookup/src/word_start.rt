@@ -22,6 +22,7 @@ impl WordStart<'_> {
     ghost use Rattle.word_lookup.specs.SurfacesHere.{surface_here};
 
     /// The surface of entries of a list that ends at `end`.
+    #[inline(always)]
     pub(crate) fn surface(self, list: EntryList, row: TokenRow, end: usize) -> Surface
         ensures { result ≡ surface_here self.entry list row end }
     {
@@ -37,6 +38,7 @@ impl WordStart<'_> {
 }
 
 /// The rest of a text from a place on.
+#[inline(always)]
 pub(crate) fn behind(text: &str, place: usize) -> &str
     requires { IsTrue (is_place text.now place) }
     ensures { result.now ≡ drop place text.now }
