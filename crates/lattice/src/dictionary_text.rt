@@ -1,16 +1,14 @@
-//! The best path of a text over dictionaries.
+//! A text over dictionaries: its best path and its lattice.
 
-ghost use Rattle.std.specs.Prelude.{◌≡◌, ◌≤◌, length, IsTrue, IfOk};
+ghost use Rattle.std.specs.Prelude.{◌≡◌, ◌≤◌, length, All, IfOk};
 ghost use Rattle.mj_model.specs.declared.limits.TheConstants.{SENTENCE_MAX};
-ghost use Rattle.paths.specs.Blanks.{skip};
 ghost use Rattle.paths.specs.BestOver.{IsBestOver, cost_over};
-ghost use Rattle.mj_model.specs.Connection.{is_pair};
-ghost use Rattle.paths.specs.Words.{is_place, words};
-ghost use Rattle.word_lookup.specs.BlankRuns.{IsBlankRun, IsKept};
 ghost use Rattle.word_lookup.specs.Overlays.{overlay_of};
-ghost use Rattle.word_lookup.specs.Surfaces.{surface_words};
+ghost use Rattle.lattice_nodes.specs.LatticeNodes.{AreWordsOfLattice, HasLeastThrough, HasLeastTotal};
+ghost use Rattle.lattice.specs.TextOver.{text_over};
 
 use crate::lattice::Lattice;
+use lattice_nodes::{LatticeNode, lattice_nodes};
 use mj_model::Word;
 use path_search::WordSource;
 use paths::{BlankRun, Path, Surface};
@@ -29,21 +27,13 @@ impl<'a> WordSource for DictionaryText<'a> {
 
     ghost words_in = { λ words. words };
 
-    ghost says = { λ s. record {
-      text_length = length s.text.now;
-      words = words (overlay_of s.dictionaries.now) s.text.now;
-      surface_words = surface_words (overlay_of s.dictionaries.now);
-      connection = (overlay_of s.dictionaries.now).system.connection;
-      is_place = λ p. IsTrue (is_place s.text.now p);
-      is_pair = λ right left. IsTrue (is_pair (overlay_of s.dictionaries.now).system.sizes right left);
-      is_blank_run = IsBlankRun (overlay_of s.dictionaries.now) s.text.now;
-      is_kept = λ p last. IsKept p (skip (overlay_of s.dictionaries.now) s.text.now p) last;
-    } };
+    ghost says = { λ s. text_over (overlay_of s.dictionaries.now) s.text.now };
 
     fn length(&self) -> usize {
         self.text.len()
     }
 
+    #[inline(always)]
     fn surfaces_at(
         &self,
         place: usize,
@@ -81,4 +71,24 @@ pub fn best_path(
 {
     let mut lattice = Lattice::new(alloc);
     lattice.best(dictionaries, text)
+}
+
+/// The nodes of the lattice of a text of at most `SENTENCE_MAX` bytes: by place, and those of a place in the order of its words.
+pub fn lattice_of(
+    alloc: Global,
+    dictionaries: &Dictionaries<'_>,
+    text: &str,
+) -> Result<Vec<LatticeNode>, AllocError>
+    requires { length text.now ≤ SENTENCE_MAX }
+    // The words that some chain reaches, in their order, each once.
+    ensures words { IfOk result (λ nodes.
+        AreWordsOfLattice (text_over (overlay_of dictionaries.now) text.now) nodes.items) }
+    // The least cost of the chains up to and with each.
+    ensures totals { IfOk result (λ nodes.
+        All (HasLeastTotal (text_over (overlay_of dictionaries.now) text.now)) nodes.items) }
+    // The least cost of the paths that have each, or none where no path has it.
+    ensures through { IfOk result (λ nodes.
+        All (HasLeastThrough (text_over (overlay_of dictionaries.now) text.now)) nodes.items) }
+{
+    lattice_nodes(alloc, &DictionaryText { dictionaries, text })
 }

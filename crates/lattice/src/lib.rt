@@ -1,10 +1,13 @@
-//! The best path of a text over dictionaries.
+//! The best path of a text over dictionaries, and its lattice.
 #![tactic(auto)]
 
 mod dictionary_text;
 mod lattice;
+mod marking;
 
-pub use dictionary_text::best_path;
+pub use dictionary_text::{best_path, lattice_of};
 pub use lattice::Lattice;
+pub use lattice_nodes::{LatticeNode, nodes_on_path};
+pub use marking::{MarkedLattice, marked_lattice};
 pub use path_search::WordSource;
 pub use paths::Path;

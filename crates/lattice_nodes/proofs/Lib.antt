@@ -7,5 +7,4 @@ pub mod RestLemmas
 pub mod SourceLemmas
 pub mod StepLemmas
 pub mod NodeLemmas
-pub mod SampleLemmas
 pub mod OnPathLemmas

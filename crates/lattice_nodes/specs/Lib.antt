@@ -4,5 +4,4 @@ pub mod Reaching
 pub mod Totals
 pub mod Rests
 pub mod Assembled
-pub mod Sample
 pub mod OnPath

@@ -12,6 +12,3 @@ mod totals;
 pub use lattice_node::LatticeNode;
 pub use nodes::lattice_nodes;
 pub use on_path::nodes_on_path;
-
-#[cfg(test)]
-mod tests;

@@ -1,0 +1,48 @@
+-- The words of a lattice's nodes stand in the text: a chain leads to each, so its place is the text's beginning or where a word ends.
+use Rattle.std.proofs.Common.{◌≡◌, ℕ, ◌≤◌, List, [], ◌∷◌, length, Some, sym, ap, ◌∙◌, subst, arith, slice_get}
+use Rattle.std.specs.Prelude.{IsTrue, IsUtf8}
+use Rattle.std.specs.Option.{option_map}
+use Rattle.std.proofs.lemmas.Option.{slice_get-map}
+use Rattle.mj_model.specs.declared.limits.TheConstants.{SENTENCE_MAX}
+use Rattle.mj_model.specs.declared.word.Word.{Word}
+use Rattle.mj_model.specs.Tables.{Overlay}
+use Rattle.paths.specs.ChainsBack.{IsChainTo}
+use Rattle.paths.specs.Searchable.{StaysOnPlaces}
+use Rattle.paths.specs.Words.{is_place, words}
+use Rattle.paths.proofs.PlaceWords.{in_words}
+use Rattle.word_lookup.specs.declared.dictionaries.Dictionaries.{Dictionaries}
+use Rattle.word_lookup.specs.Overlays.{overlay_of}
+use Rattle.word_lookup.proofs.DictionaryLaws.{has_words, searchable}
+use Rattle.word_lookup.proofs.PlaceLemmas.{place_behind_blanks}
+use Rattle.lattice_nodes.specs.declared.lattice_node.LatticeNode.{LatticeNode}
+use Rattle.lattice_nodes.specs.LatticeNodes.{AreWordsOfLattice, IsReached}
+use Rattle.lattice.specs.TextOver.{StandsIn, text_over}
+
+abbrev Places : List ℕ → ℕ → Type 0
+Places text p = IsTrue (is_place text p)
+
+chain_ends : (o : Overlay) (text : List ℕ) → StaysOnPlaces (Places text) (words o text) → (ws : List Word) (p : ℕ) → IsChainTo (words o text) ws p → Places text p
+chain_ends o text stays [] p h = subst (Places text) (sym h) stays.begins
+chain_ends o text stays (w ∷ ws) p h = subst (Places text) h.0 (stays.word_ends_there w.place w h.1)
+
+reached_stands : (d : Dictionaries) (text : List ℕ) (w : Word) → IsUtf8 text → length text ≤ SENTENCE_MAX → IsReached (words (overlay_of d) text) w → StandsIn text w
+reached_stands d text w utf8 short reached =
+    let o = overlay_of d in
+    let stays = (searchable d text utf8 short).places in
+    let chain = reached.1 in
+    let a = in_words o text w.place w (has_words d) chain.1 in
+    let start = a.start_is in
+    let longer = a.longer in
+    let within = a.within in
+    record {
+      forward = omega (arith, longer);
+      within = within;
+      begins = place_behind_blanks o text w.place w.start (chain_ends o text stays reached.0 w.place chain.2) start (omega (arith, longer, within));
+      ends = stays.word_ends_there w.place w chain.1;
+    }
+
+pub node_stands : (d : Dictionaries) (text : List ℕ) (nodes : List LatticeNode) → IsUtf8 text → length text ≤ SENTENCE_MAX → AreWordsOfLattice (text_over (overlay_of d) text) nodes
+    → (i : ℕ) (n : LatticeNode) → slice_get nodes i ≡ Some n → StandsIn text n.word
+node_stands d text nodes utf8 short are i n at =
+    let word = λ (m : LatticeNode). m.word in
+    reached_stands d text n.word utf8 short (are.each i n.word (slice_get-map word nodes i ∙ ap (option_map word) at))
