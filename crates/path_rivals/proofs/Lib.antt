@@ -1,0 +1,2 @@
+pub mod RivalLemmas
+pub mod BoundaryLemmas

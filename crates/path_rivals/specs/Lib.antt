@@ -1,0 +1,4 @@
+pub mod Crossing
+pub mod Boundaries
+pub mod Rivals
+pub mod Steps
