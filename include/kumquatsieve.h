@@ -7,7 +7,7 @@
    as text; a full cutter is not copied; one call at a time for each cutter, which may go from thread to thread; no call from a signal
    handler, and none in a forked child with a cutter that another thread was calling.
 
-   NULL may stand for bytes whose length is 0, for an output that is not wanted, and for a cutter that is given back. The end of this header sees
+   NULL may stand for bytes whose length is 0, for an output that is not wanted, and for a cutter or a buffer that is given back. The end of this header sees
    to that; who calls the library past the header, as from another language, gives a place for each.
 
    An output that a call's answer doesn't set is as it was. Each call says which answers set which outputs; where it says nothing, 0 alone does.
@@ -46,6 +46,21 @@ typedef struct kumquatsieve_image {
     size_t length;
 } kumquatsieve_image;
 
+/* The bytes of an image that come in pieces, as from a file that is read, so that the image stands in memory once. Begin with
+   KUMQUATSIEVE_NO_BYTES, or what kumquatsieve_no_bytes answers. The fields are the library's. A buffer is used by one call at a time, and one that has
+   bytes is not copied. */
+typedef struct kumquatsieve_buffer {
+    bool held;
+    void *at;
+} kumquatsieve_buffer;
+
+#define KUMQUATSIEVE_NO_BYTES {false, NULL}
+
+static inline kumquatsieve_buffer kumquatsieve_no_bytes(void) {
+    kumquatsieve_buffer buffer = KUMQUATSIEVE_NO_BYTES;
+    return buffer;
+}
+
 /* Dictionaries that are loaded once, for cutters on any number of threads. Nothing changes them. */
 typedef struct kumquatsieve_dictionary kumquatsieve_dictionary;
 
@@ -69,6 +84,18 @@ typedef struct kumquatsieve_word {
     int64_t total;
     size_t feature_length;
 } kumquatsieve_word;
+
+/* A node of the lattice of the line that was cut last: a word that some chain of words from the line's beginning reaches, whether it is on the best
+   path or not. The fields of `word` are those of a word of the line, but that total is the least cost of the chains up to and with it. through is the
+   least cost of the paths of the whole line that have it, with the connection to the line's end: what it is more than the *total of the cut is what
+   the node lost by. reaches_end is 1 where some path has it; where none has, it is a dead end, and reaches_end and through are 0. on_best is 1 where
+   it is a word of the best path, and else 0. */
+typedef struct kumquatsieve_node {
+    kumquatsieve_word word;
+    int64_t through;
+    uint8_t reaches_end;
+    uint8_t on_best;
+} kumquatsieve_node;
 
 /* What a call answers: 0, out of memory, or a fault, whose letter and number are those of `jseg --explain`. After a fault the cutter
    is as before, and answers the next call as it would have, but where a call says otherwise. */
@@ -119,13 +146,25 @@ uint32_t kumquatsieve_add_user(kumquatsieve_cutter *cutter, const uint8_t *image
 uint32_t kumquatsieve_load_by(kumquatsieve_cutter *cutter, const uint8_t *image, size_t length, bool skip_digest, uint64_t *number);
 uint32_t kumquatsieve_add_user_by(kumquatsieve_cutter *cutter, const uint8_t *image, size_t length, bool skip_digest, uint64_t *number);
 
+/* Appends a piece to the bytes of a buffer. Where it has none yet, room for so many bytes is taken first: the length of the file, so that no byte is
+   moved. It answers 0, or 1 for out of memory; then the buffer is as it was. */
+uint32_t kumquatsieve_buffer_append(kumquatsieve_buffer *buffer, size_t room, const uint8_t *piece, size_t length);
+
+/* As kumquatsieve_load_by and kumquatsieve_add_user_by, with the image whose bytes a buffer has. They are taken and not copied, and the buffer is
+   empty after each answer. */
+uint32_t kumquatsieve_load_buffer(kumquatsieve_cutter *cutter, kumquatsieve_buffer *buffer, bool skip_digest, uint64_t *number);
+uint32_t kumquatsieve_add_user_buffer(kumquatsieve_cutter *cutter, kumquatsieve_buffer *buffer, bool skip_digest, uint64_t *number);
+
+/* Gives back the bytes of a buffer, which is empty then. Of an empty one nothing. */
+void kumquatsieve_buffer_free(kumquatsieve_buffer *buffer);
+
 /* Fills an empty cutter with the dictionaries, the format and the grouping of another one. No dictionary is copied; while two share
    theirs, no user dictionary can be added. Each thread wants a cutter of its own. */
 uint32_t kumquatsieve_share(kumquatsieve_cutter *cutter, kumquatsieve_cutter *other);
 
 /* Makes a dictionary of the image of a system dictionary, the first one, and of those of user dictionaries, which are laid over it in their order.
    All are copied. `how` is 0, or KUMQUATSIEVE_SKIP_DIGEST. *dictionary is set where all are accepted. Otherwise *image is the number of the one at fault,
-   from 0, and *number is set as by kumquatsieve_load. Without an image the answer is K5, and no output is set. This call and the three after it are
+   from 0, and *number is set as by kumquatsieve_load. Without an image the answer is K5, and no output is set. This call and the four after it are
    written in C over the proved ones. */
 uint32_t kumquatsieve_dictionary_make(
     kumquatsieve_dictionary **dictionary, const kumquatsieve_image *images, size_t count, unsigned how, size_t *image, uint64_t *number
@@ -133,6 +172,10 @@ uint32_t kumquatsieve_dictionary_make(
 
 /* The digests are not tested, as by kumquatsieve_load_by. */
 #define KUMQUATSIEVE_SKIP_DIGEST 1u
+
+/* Makes a dictionary of those of a cutter, as of one that kumquatsieve_load_buffer filled, which is empty then. After another answer the cutter is as it
+   was, and *dictionary too: K5 of an empty one. */
+uint32_t kumquatsieve_dictionary_of(kumquatsieve_dictionary **dictionary, kumquatsieve_cutter *cutter);
 
 /* Fills an empty cutter with these dictionaries, the default format, and a grouping of 24 characters. No dictionary is copied, and any number of
    threads may make cutters over one at a time. */
@@ -190,6 +233,21 @@ uint32_t kumquatsieve_copy_feature(
     kumquatsieve_cutter *cutter, size_t number, uint8_t *out, size_t room, size_t *needed
 );
 
+/* Writes the nodes of the lattice of the line that was cut last from number `first` on, as far as there is room: by place, and those of a place in
+   the order of its words, by which ties are decided. *count is the number of all nodes. The lattice is made for the call and not kept: the time is
+   linear in its nodes and in the connections between them, and the memory in its nodes, whatever room there is. Who doesn't know the count guesses
+   the room, and calls again where *count is more. */
+uint32_t kumquatsieve_nodes(
+    kumquatsieve_cutter *cutter, size_t first, kumquatsieve_node *nodes, size_t room, size_t *count
+);
+
+/* The feature of an entry of the cutter's dictionaries, by what a word or a node has as known, dictionary and token, in the cutter's own buffer:
+   *feature is valid until the next call with this cutter. Where no entry has these numbers it is empty. Of an unknown word the dictionary is not
+   looked at. No line need have been cut. */
+uint32_t kumquatsieve_entry_feature(
+    kumquatsieve_cutter *cutter, bool known, size_t dictionary, uint32_t token, const uint8_t **feature, size_t *length
+);
+
 /* The text of the line that was cut last, in the format, in the cutter's own buffer: *text is valid until the next call with this cutter. */
 uint32_t kumquatsieve_print(kumquatsieve_cutter *cutter, const uint8_t **text, size_t *length);
 
@@ -236,6 +294,28 @@ static inline uint32_t kumquatsieve_guarded_add_user_by(
 ) {
     uint64_t unread = 0;
     return (kumquatsieve_add_user_by)(cutter, kumquatsieve_guarded_bytes(image, length), length, skip_digest, number ? number : &unread);
+}
+
+static inline uint32_t kumquatsieve_guarded_buffer_append(kumquatsieve_buffer *buffer, size_t room, const uint8_t *piece, size_t length) {
+    return (kumquatsieve_buffer_append)(buffer, room, kumquatsieve_guarded_bytes(piece, length), length);
+}
+
+static inline uint32_t kumquatsieve_guarded_load_buffer(
+    kumquatsieve_cutter *cutter, kumquatsieve_buffer *buffer, bool skip_digest, uint64_t *number
+) {
+    uint64_t unread = 0;
+    return (kumquatsieve_load_buffer)(cutter, buffer, skip_digest, number ? number : &unread);
+}
+
+static inline uint32_t kumquatsieve_guarded_add_user_buffer(
+    kumquatsieve_cutter *cutter, kumquatsieve_buffer *buffer, bool skip_digest, uint64_t *number
+) {
+    uint64_t unread = 0;
+    return (kumquatsieve_add_user_buffer)(cutter, buffer, skip_digest, number ? number : &unread);
+}
+
+static inline void kumquatsieve_guarded_buffer_free(kumquatsieve_buffer *buffer) {
+    if (buffer) (kumquatsieve_buffer_free)(buffer);
 }
 
 static inline void kumquatsieve_guarded_free(kumquatsieve_cutter *cutter) {
@@ -303,6 +383,22 @@ static inline uint32_t kumquatsieve_guarded_copy_feature(
     return (kumquatsieve_copy_feature)(cutter, number, out || room > 0 ? out : &none, room, needed ? needed : &unread);
 }
 
+static inline uint32_t kumquatsieve_guarded_nodes(
+    kumquatsieve_cutter *cutter, size_t first, kumquatsieve_node *nodes, size_t room, size_t *count
+) {
+    kumquatsieve_node none;
+    size_t unread = 0;
+    return (kumquatsieve_nodes)(cutter, first, nodes || room > 0 ? nodes : &none, room, count ? count : &unread);
+}
+
+static inline uint32_t kumquatsieve_guarded_entry_feature(
+    kumquatsieve_cutter *cutter, bool known, size_t dictionary, uint32_t token, const uint8_t **feature, size_t *length
+) {
+    const uint8_t *unread = NULL;
+    size_t unread_length = 0;
+    return (kumquatsieve_entry_feature)(cutter, known, dictionary, token, feature ? feature : &unread, length ? length : &unread_length);
+}
+
 static inline uint32_t kumquatsieve_guarded_print(kumquatsieve_cutter *cutter, const uint8_t **text, size_t *length) {
     const uint8_t *unread = NULL;
     size_t unread_length = 0;
@@ -339,6 +435,11 @@ static inline uint32_t kumquatsieve_guarded_fault(uint32_t code, uint8_t *out, s
     kumquatsieve_guarded_load_by(cutter, image, length, skip_digest, number)
 #define kumquatsieve_add_user_by(cutter, image, length, skip_digest, number) \
     kumquatsieve_guarded_add_user_by(cutter, image, length, skip_digest, number)
+#define kumquatsieve_buffer_append(buffer, room, piece, length) kumquatsieve_guarded_buffer_append(buffer, room, piece, length)
+#define kumquatsieve_load_buffer(cutter, buffer, skip_digest, number) kumquatsieve_guarded_load_buffer(cutter, buffer, skip_digest, number)
+#define kumquatsieve_add_user_buffer(cutter, buffer, skip_digest, number) \
+    kumquatsieve_guarded_add_user_buffer(cutter, buffer, skip_digest, number)
+#define kumquatsieve_buffer_free(buffer) kumquatsieve_guarded_buffer_free(buffer)
 #define kumquatsieve_free(cutter) kumquatsieve_guarded_free(cutter)
 #define kumquatsieve_set_format(cutter, node, node_length, unk, unk_length, bos, bos_length, eos, eos_length, part, at) \
     kumquatsieve_guarded_set_format(cutter, node, node_length, unk, unk_length, bos, bos_length, eos, eos_length, part, at)
@@ -348,6 +449,9 @@ static inline uint32_t kumquatsieve_guarded_fault(uint32_t code, uint8_t *out, s
 #define kumquatsieve_feature(cutter, number, feature, length) kumquatsieve_guarded_feature(cutter, number, feature, length)
 #define kumquatsieve_features(cutter, features, length) kumquatsieve_guarded_features(cutter, features, length)
 #define kumquatsieve_copy_feature(cutter, number, out, room, needed) kumquatsieve_guarded_copy_feature(cutter, number, out, room, needed)
+#define kumquatsieve_nodes(cutter, first, nodes, room, count) kumquatsieve_guarded_nodes(cutter, first, nodes, room, count)
+#define kumquatsieve_entry_feature(cutter, known, dictionary, token, feature, length) \
+    kumquatsieve_guarded_entry_feature(cutter, known, dictionary, token, feature, length)
 #define kumquatsieve_print(cutter, text, length) kumquatsieve_guarded_print(cutter, text, length)
 #define kumquatsieve_copy_print(cutter, out, room, needed) kumquatsieve_guarded_copy_print(cutter, out, room, needed)
 #define kumquatsieve_cut_lines(cutter, text, length, out, out_length, lines) \

@@ -53,13 +53,29 @@ uint32_t kumquatsieve_dictionary_make(
     if (!made) return KUMQUATSIEVE_MEMORY;
     *made = (kumquatsieve_dictionary){KUMQUATSIEVE_EMPTY, 1};
     uint32_t code = load_all(&made->base, images, count, how, &at, number);
-    if (code == KUMQUATSIEVE_OK) {
+    if (code == KUMQUATSIEVE_OK && dictionary) {
         *dictionary = made;
         return code;
     }
-    if (image) *image = at;
+    if (code != KUMQUATSIEVE_OK && image) *image = at;
     kumquatsieve_free(&made->base);
     free(made);
+    return code;
+}
+
+uint32_t kumquatsieve_dictionary_of(kumquatsieve_dictionary **dictionary, kumquatsieve_cutter *cutter) {
+    kumquatsieve_cutter other = KUMQUATSIEVE_EMPTY;
+    kumquatsieve_dictionary *made = malloc(sizeof *made);
+    if (!made) return KUMQUATSIEVE_MEMORY;
+    uint32_t code = kumquatsieve_share(&other, cutter);
+    kumquatsieve_free(&other);
+    if (code != KUMQUATSIEVE_OK) {
+        free(made);
+        return code;
+    }
+    *made = (kumquatsieve_dictionary){*cutter, 1};
+    *cutter = kumquatsieve_empty();
+    *dictionary = made;
     return code;
 }
 

@@ -1,4 +1,4 @@
--- What was cut last, as it is lent, and features that were appended.
+-- What was cut last, as it is lent, its lattice, and features that were appended.
 use Rattle.std.proofs.Common.{◌≡◌, ℕ, ◌+◌, ◌<◌, ◌≤◌, List, [], ◌∷◌, ◌++◌, length, take, get_or, Some, subst, sym, ap, ◌∙◌, append_assoc, append-nil}
 use Rattle.std.specs.Prelude.{IsUtf8, Option}
 use Rattle.std.specs.Option.{IsSomeAnd}
@@ -11,11 +11,13 @@ use Rattle.mj_model.specs.Tables.{Overlay}
 use Rattle.paths.specs.BestOver.{IsBestOver}
 use Rattle.out_format.proofs.FollowLemmas.{path_followable}
 use Rattle.word_lookup.specs.Overlays.{overlay_of}
-use Rattle.cutter.specs.Cutters.{Cut, Held, IsCutOver, OfCut, overlay_held}
+use Rattle.lattice.specs.declared.marking.MarkedLattice.{MarkedLattice}
+use Rattle.lattice.specs.TextOver.{IsMarkedOver}
+use Rattle.cutter.specs.Cutters.{Cut, Held, IsCutOver, IsLatticeOfCut, OfCut, overlay_held}
 use Rattle.cutter.specs.declared.last_words.LastWords.{LastWords}
 use Rattle.cutter.specs.Reaching.{AreLast, features_of}
 
-best_of : (o same : Overlay) (text line : List ℕ) (words path : List Word) → IsBestOver o line path → same ≡ o → text ≡ line → words ≡ path → IsBestOver same text words
+pub best_of : (o same : Overlay) (text line : List ℕ) (words path : List Word) → IsBestOver o line path → same ≡ o → text ≡ line → words ≡ path → IsBestOver same text words
 best_of o same text line words path best a b c =
     subst (λ (p : Overlay). IsBestOver p text words) (sym a) (subst (λ (t : List ℕ). IsBestOver o t words) (sym b) (subst (λ (ws : List Word). IsBestOver o line ws) (sym c) best))
 
@@ -31,6 +33,14 @@ last_is h c last is cut same text words =
       follow = path_followable last.dictionaries last.text.now last.words.now (subst IsUtf8 (sym text) cut.is_utf8) (subst (λ (t : List ℕ). length t ≤ SENTENCE_MAX) (sym text) cut.short) (best.to, best.path);
     } in
     subst (λ (v : Option Cut). IsSomeAnd v (λ (d : Cut). IsCutOver (overlay_held h) d × AreLast h last d)) (sym is) (cut, lent)
+
+-- the lattice of what was cut last, made by dictionaries that make its overlay
+pub lattice_is : (h : Held) (c : Cut) (lattice : MarkedLattice) (o : Overlay) (words : List Word) → h.cut ≡ Some c → IsCutOver (overlay_held h) c → o ≡ overlay_held h → words ≡ c.words
+    → IsMarkedOver o c.text words lattice → OfCut h (IsLatticeOfCut h lattice)
+lattice_is h c lattice o words is cut same path marked =
+    let of_cut : IsLatticeOfCut h lattice c =
+    subst (λ (p : Overlay). IsMarkedOver p c.text c.words lattice) same (subst (λ (ws : List Word). IsMarkedOver o c.text ws lattice) path marked) in
+    subst (λ (v : Option Cut). IsSomeAnd v (λ (d : Cut). IsCutOver (overlay_held h) d × IsLatticeOfCut h lattice d)) (sym is) (cut, of_cut)
 
 -- the feature of the next word
 pub feature_more : (o : Overlay) (words : List Word) (i : ℕ) (d : Word) (old now next feature : List ℕ) → i < length words → now ≡ old ++ features_of o (take i words)

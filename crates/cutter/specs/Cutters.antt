@@ -2,6 +2,8 @@
 use Rattle.std.specs.Prelude.{◌≡◌, ℕ, ℤ, ◌≤◌, List, ◌∷◌, [], ◌++◌, length, map, Option, Some, None, slice_get, IsUtf8}
 use Rattle.std.specs.Option.{IsSomeAnd}
 use Rattle.image_bytes.specs.ImageMeaning.{image_tables}
+use Rattle.lattice.specs.declared.marking.MarkedLattice.{MarkedLattice}
+use Rattle.lattice.specs.TextOver.{IsMarkedOver}
 use Rattle.mj_model.specs.declared.limits.TheConstants.{GROUPING_DEFAULT, GROUPING_MAX, SENTENCE_MAX}
 use Rattle.mj_model.specs.declared.word.Word.{Word}
 use Rattle.mj_model.specs.Printed.{feature_of}
@@ -84,6 +86,10 @@ OfCut h Is = IsSomeAnd h.cut (λ c. IsCutOver (overlay_held h) c × Is c)
 -- the text of the path in the cutter's format
 abbrev pub ShowsCut : Held → Cut → List ℕ → Type 0
 ShowsCut h c shown = ShowsPath (overlay_held h) h.format c.text c.words shown
+
+-- the lattice of the text that was cut, with the words of the path marked
+abbrev pub IsLatticeOfCut : Held → MarkedLattice → Cut → Type 0
+IsLatticeOfCut h lattice c = IsMarkedOver (overlay_held h) c.text c.words lattice
 
 -- an output grows by the feature of the word with a number
 abbrev pub GrowsByFeature : Held → ℕ → List ℕ → List ℕ → Cut → Type 0

@@ -1,22 +1,25 @@
 //! Lines and texts cut into words, and what is told of them.
 
-ghost use Rattle.std.specs.Prelude.{◌≡◌, ◌≤◌, Some, IfOk, IfErr, OnOk, OnErr};
-ghost use Rattle.cutter.specs.Cutters.{GrowsByFeature, HasCategory, IsCutOver, OfCut, ShowsCut, overlay_held};
+ghost use Rattle.std.specs.Prelude.{◌≡◌, ◌≤◌, ◌++◌, Some, IfOk, IfErr, OnOk, OnErr};
+ghost use Rattle.cutter.specs.Cutters.{GrowsByFeature, HasCategory, IsCutOver, IsLatticeOfCut, OfCut, ShowsCut, overlay_held};
 ghost use Rattle.cutter.specs.Faults.{IsFeatureRefusal, IsLineRefusal, IsNothingCut, IsOneLine, IsPrintRefusal, IsTextRefusal, IsWordRefusal};
 ghost use Rattle.cutter.specs.Kept.{cut_lent};
+ghost use Rattle.cutter.specs.declared.fault.CutFault.TheVariants.{Memory};
 ghost use Rattle.cutter.specs.Reaching.{AreLast, GrowsByFeatures};
 ghost use Rattle.line_stream.specs.GoodLines.{IsGood};
 ghost use Rattle.mj_model.specs.Lists.{GrowsBy};
+ghost use Rattle.mj_model.specs.Printed.{feature_of};
 ghost use Rattle.mj_model.specs.declared.limits.TheConstants.{GROUPING_MAX as GroupingMax};
 
 use crate::categories::category_at;
 use crate::cutter::Cutter;
 use crate::fault::CutFault;
-use crate::features::append_features;
+use crate::features::{append_feature_of, append_features};
 use crate::last_words::LastWords;
+use lattice::{MarkedLattice, marked_lattice};
 use line_stream::text_of;
 use memchr::memchr;
-use mj_model::Word;
+use mj_model::{Origin, Word};
 use out_format::print;
 use paths::Path;
 
@@ -80,6 +83,18 @@ impl Cutter {
         })
     }
 
+    /// Its lattice, with the words of its path marked. It is made at each call, and nothing of it is kept.
+    pub fn lattice(&self) -> Result<MarkedLattice, CutFault>
+        ensures lattice { IfOk result
+            (λ lattice. OfCut self.now (IsLatticeOfCut self.now lattice)) }
+        ensures refused { IfErr result (IsPrintRefusal self.now) }
+    {
+        let (text, path) = self.last_cut()?;
+        let dictionaries = self.dictionaries.with_grouping(self.grouping);
+        let lattice = marked_lattice(self.alloc, &dictionaries, text, &path.words)?;
+        Ok(lattice)
+    }
+
     /// What its path costs.
     pub fn total(&self) -> Result<i64, CutFault>
         ensures total { IfOk result (λ total. OfCut self.now (λ c. total ≡ c.total)) }
@@ -114,6 +129,18 @@ impl Cutter {
         let (_, path) = self.last_cut()?;
         let dictionaries = self.dictionaries.with_grouping(self.grouping);
         append_features(&dictionaries, &path.words, out)?;
+        Ok(())
+    }
+
+    /// Appends the feature of an entry of its dictionaries, which is empty where none has this number.
+    pub fn append_entry_feature(&self, origin: Origin, out: &mut Vec<u8>) -> Result<(), CutFault>
+        ensures appended { OnOk result
+            (out.new.items ≡ out.old.items ++ feature_of (overlay_held self.now) origin) }
+        ensures refused { IfErr result (λ fault. fault ≡ Memory) }
+        ensures kept { OnErr result (out.new.items ≡ out.old.items) }
+    {
+        let dictionaries = self.dictionaries.with_grouping(self.grouping);
+        append_feature_of(&dictionaries, origin, out)?;
         Ok(())
     }
 

@@ -2,9 +2,10 @@
 
 ghost use Rattle.std.specs.Prelude.{◌≡◌, ◌++◌, take, vec_len, OnOk, OnErr};
 ghost use Rattle.cutter.specs.Reaching.{features_of};
+ghost use Rattle.mj_model.specs.Printed.{feature_of};
 ghost use Rattle.word_lookup.specs.Overlays.{overlay_of};
 
-use mj_model::Word;
+use mj_model::{Origin, Word};
 use std::alloc::AllocError;
 use word_lookup::Dictionaries;
 
@@ -40,4 +41,33 @@ fn append_each(
         out.extend_from_slice(dictionaries.feature(word).as_bytes())?;
     }
     Ok(())
+}
+
+/// Appends the feature of an entry. On an error `out` is as before.
+pub fn append_feature_of(
+    dictionaries: &Dictionaries<'_>,
+    origin: Origin,
+    out: &mut Vec<u8>,
+) -> Result<(), AllocError>
+    ensures appended { OnOk result
+        (out.new.items ≡ out.old.items ++ feature_of (overlay_of dictionaries.now) origin) }
+    ensures kept { OnErr result (out.new.items ≡ out.old.items) }
+{
+    let word = word_of(origin);
+    out.extend_from_slice(dictionaries.feature(&word).as_bytes())
+}
+
+/// A word of an entry, without a surface, since features are told of words.
+fn word_of(origin: Origin) -> Word
+    ensures { result.origin ≡ origin }
+{
+    Word {
+        place: 0,
+        start: 0,
+        end: 0,
+        left: 0,
+        right: 0,
+        cost: 0,
+        origin,
+    }
 }

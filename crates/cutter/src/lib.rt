@@ -15,4 +15,5 @@ pub use cutter::Cutter;
 pub use dict_image::DigestTest;
 pub use fault::CutFault;
 pub use last_words::{LastWords, Reached};
+pub use lattice::{LatticeNode, MarkedLattice};
 pub use text_lines::LinesFault;

@@ -2,8 +2,7 @@
 use Rattle.std.proofs.Common.{◌≡◌, ℕ, ◌+◌, ◌<◌, List, [], ◌∷◌, ◌++◌, length, take, drop, get_or, sym, ap, ◌∙◌, arith}
 use Rattle.std.specs.Prelude.{min, slice_set}
 use Rattle.std.proofs.lemmas.List.{append_assoc, drop_more, length-set, length-take-le, set_at, take_more}
-use Rattle.cutter_c.specs.Words.{with_words_in_front}
-use Rattle.cutter_c.specs.declared.words.CWord.{CWord}
+use Rattle.cutter_c.specs.Outputs.{with_front}
 
 -- so many elements stand at the front, and behind them the buffer is as before
 pub record IsFilling {X : Type 0} (all : List X) (i : ℕ) (before now : List X) : Type 0 where
@@ -25,5 +24,5 @@ filling_more {X} all i before now x f low room is =
     }
 
 -- a buffer that has as many as there is room for
-pub filling_ends : (all : List CWord) (i : ℕ) (before now : List CWord) → IsFilling all i before now → i ≡ min (length all) (length before) → now ≡ with_words_in_front all before
-filling_ends all i before now f ends = f.written ∙ ap (λ (n : ℕ). take n all ++ drop n before) ends
+pub filling_ends : {X : Type 0} (all : List X) (i : ℕ) (before now : List X) → IsFilling all i before now → i ≡ min (length all) (length before) → now ≡ with_front all before
+filling_ends {X} all i before now f ends = f.written ∙ ap (λ (n : ℕ). take n all ++ drop n before) ends

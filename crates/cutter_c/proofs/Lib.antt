@@ -1,9 +1,13 @@
 pub mod SlotValues
 pub mod PassedTypes
 pub mod BoxCalls
+pub mod BufferTypes
+pub mod BufferCalls
+pub mod BufferSlotValues
 pub mod CalledLemmas
 pub mod SettingLemmas
 pub mod PlaceLemmas
 pub mod TextLemmas
 pub mod FillLemmas
 pub mod WalkLemmas
+pub mod NodeLemmas

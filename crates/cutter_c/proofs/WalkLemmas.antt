@@ -7,7 +7,8 @@ use Rattle.cutter.specs.Cutters.{Cut, Held, IsCutOver, OfCut, overlay_held}
 use Rattle.cutter.specs.Reaching.{AreLast, MayFollow, at_bos, reached_with}
 use Rattle.cutter.specs.declared.last_words.LastWords.{LastWords}
 use Rattle.cutter.specs.declared.last_words.Reached.{Reached}
-use Rattle.cutter_c.specs.Words.{AreTold, c_word, c_word_in, c_words, with_words_in_front}
+use Rattle.cutter_c.specs.Outputs.{with_front}
+use Rattle.cutter_c.specs.Words.{AreTold, c_word, c_word_in, c_words}
 use Rattle.cutter_c.specs.declared.words.CWord.{CWord}
 use Rattle.mj_model.specs.declared.word.Word.{Word}
 use Rattle.mj_model.specs.Printed.{feature_of}
@@ -82,19 +83,19 @@ module _ (h : Held) (last : LastWords) (first from count : ℕ) (before : Reache
   abbrev left : List CWord
   left = c_words (overlay_of last.dictionaries) last.text.now before (drop from last.words.now)
 
-  told_of : (c : Cut) → AreLast h last c → from ≡ min first (length last.words.now) → drop from lent_words ≡ left → new ≡ with_words_in_front left old → count ≡ length last.words.now
+  told_of : (c : Cut) → AreLast h last c → from ≡ min first (length last.words.now) → drop from lent_words ≡ left → new ≡ with_front left old → count ≡ length last.words.now
       → AreTold h first count old new c
   told_of c lent least walked written counts =
       let same : lent_words ≡ c_words (overlay_held h) c.text at_bos c.words = λ i. c_words (lent.dictionaries i) (lent.text i) at_bos (lent.words i) in
       let many = length-c_words (overlay_of last.dictionaries) last.text.now at_bos last.words.now in
       let all_from : drop from lent_words ≡ drop first lent_words = ap (λ (n : ℕ). drop n lent_words) (least ∙ ap (λ (n : ℕ). min first n) (sym many)) ∙ drop_min first lent_words in
       record {
-        written = written ∙ ap (λ (xs : List CWord). with_words_in_front xs old) (sym walked ∙ all_from ∙ ap (drop first) same);
+        written = written ∙ ap (λ (xs : List CWord). with_front xs old) (sym walked ∙ all_from ∙ ap (drop first) same);
         all = counts ∙ ap (λ (ws : List Word). length ws) lent.words;
       }
 
   -- the words that were written are those of what was cut last
-  pub are_told : OfCut h (AreLast h last) → from ≡ min first (length last.words.now) → drop from lent_words ≡ left → new ≡ with_words_in_front left old → count ≡ length last.words.now
+  pub are_told : OfCut h (AreLast h last) → from ≡ min first (length last.words.now) → drop from lent_words ≡ left → new ≡ with_front left old → count ≡ length last.words.now
       → OfCut h (AreTold h first count old new)
   are_told lent least walked written counts =
       of_cut h.cut (IsCutOver (overlay_held h)) (AreLast h last) (AreTold h first count old new) (λ c is. told_of c is least walked written counts) lent

@@ -1,33 +1,42 @@
 -- What is asked of the path that was cut last, and how it is told in a buffer.
-use Rattle.std.specs.Prelude.{◌≡◌, ◌≢◌, ℕ, ◌<◌, List, ◌++◌, length, drop, slice_get, Option, Some, None}
+use Rattle.std.specs.Prelude.{◌≡◌, ◌≢◌, ℕ, ◌<◌, List, ◌++◌, Bool, if◌then◌else◌, length, drop, slice_get, Option, Some, None}
 use Rattle.std.specs.Option.{IsSomeAnd}
+use Rattle.mj_model.specs.declared.word.Origin.{Origin}
+use Rattle.mj_model.specs.declared.word.Origin.TheVariants.{Known, Unknown}
 use Rattle.mj_model.specs.declared.word.Word.{Word}
 use Rattle.mj_model.specs.Printed.{feature_of}
 use Rattle.cutter.specs.Cutters.{Cut, Held, OfCut, ShowsCut, overlay_held}
 use Rattle.cutter.specs.declared.fault.CutFault.{CutFault}
+use Rattle.cutter.specs.declared.fault.CutFault.TheVariants as cut
 use Rattle.cutter.specs.Faults.{IsFeatureRefusal, IsPrintRefusal}
 use Rattle.cutter.specs.Reaching.{features_of}
 use Rattle.cutter_c.specs.declared.fault.CallFault.{CallFault}
 use Rattle.cutter_c.specs.declared.fault.CallFault.TheVariants as call
 use Rattle.cutter_c.specs.Handles.{TellsCall}
 use Rattle.cutter_c.specs.declared.telling.Asked.{Asked}
-use Rattle.cutter_c.specs.declared.telling.Asked.TheVariants.{Path, Feature, Features}
+use Rattle.cutter_c.specs.declared.telling.Asked.TheVariants.{Path, Feature, Features, EntryFeature}
+
+-- an entry by its number, in the lexicon of a dictionary or among the system's unknown entries
+abbrev pub entry_by : Bool → ℕ → ℕ → Origin
+entry_by known dictionary token = if known then Known dictionary token else Unknown token
 
 -- the feature of the word with a number
 abbrev pub HasFeature : Held → ℕ → List ℕ → Cut → Type 0
 HasFeature h number feature c = IsSomeAnd (slice_get c.words number) (λ (w : Word). feature ≡ feature_of (overlay_held h) w.origin)
 
--- bytes are what is asked: the path in the format, a feature, or all features
+-- bytes are what is asked: the path in the format, a word's feature, all features, or the feature of an entry
 abbrev pub IsTold : Asked → Held → List ℕ → Type 0
 IsTold Path h bytes = OfCut h (λ c. ShowsCut h c bytes)
 IsTold (Feature number) h bytes = OfCut h (HasFeature h number bytes)
 IsTold Features h bytes = OfCut h (λ c. bytes ≡ features_of (overlay_held h) c.words)
+IsTold (EntryFeature origin) h bytes = bytes ≡ feature_of (overlay_held h) origin
 
 -- why it is not told
 abbrev pub IsAskedRefusal : Asked → Held → CutFault → Type 0
 IsAskedRefusal Path h fault = IsPrintRefusal h fault
 IsAskedRefusal (Feature number) h fault = IsFeatureRefusal h number fault
 IsAskedRefusal Features h fault = IsPrintRefusal h fault
+IsAskedRefusal (EntryFeature origin) h fault = fault ≡ cut.Memory
 
 -- bytes stand at the front of a buffer, and behind them it is as before
 abbrev pub IsCopied : List ℕ → List ℕ → List ℕ → Type 0

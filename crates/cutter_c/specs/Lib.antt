@@ -2,10 +2,13 @@ pub mod CallWords
 pub mod Codes
 pub mod Outputs
 pub mod Owned
+pub mod OwnedBuffers
+pub mod Buffers
 pub mod Handles
 pub mod Calls
 pub mod Settings
 pub mod Asked
 pub mod Texts
 pub mod Words
+pub mod Nodes
 pub mod TextLines

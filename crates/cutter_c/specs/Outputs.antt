@@ -1,11 +1,15 @@
 -- What a call leaves in its outputs. One rule holds of all: an output that a call's answer does not set is as it was.
-use Rattle.std.specs.Prelude.{◌≡◌, ◌≢◌, ℕ, List, length, IsUtf8}
+use Rattle.std.specs.Prelude.{◌≡◌, ◌≢◌, ℕ, List, ◌++◌, length, take, drop, min, IsUtf8}
 use Rattle.std.specs.Str.{IsValidUpTo}
 use Rattle.cutter.specs.declared.fault.CutFault.{CutFault}
 use Rattle.cutter.specs.declared.fault.CutFault.TheVariants as cut
 use Rattle.cutter_c.specs.Codes.{call_code}
 use Rattle.cutter_c.specs.declared.fault.CallFault.{CallFault}
 use Rattle.cutter_c.specs.declared.fault.CallFault.TheVariants as call
+
+-- a buffer with elements at its front, as many as have room
+abbrev pub with_front : {T : Type 0} → List T → List T → List T
+with_front all out = let n = min (length all) (length out) in take n all ++ drop n out
 
 -- only success sets an output
 abbrev pub OnlyOkSets : {T : Type 0} → ℕ → T → T → Type 0

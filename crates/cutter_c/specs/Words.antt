@@ -1,5 +1,5 @@
 -- Words as C sees them.
-use Rattle.std.specs.Prelude.{◌≡◌, ℕ, ℤ, List, [], ◌∷◌, ◌++◌, length, take, drop, min}
+use Rattle.std.specs.Prelude.{◌≡◌, ℕ, ℤ, List, [], ◌∷◌, length, drop}
 use Rattle.mj_model.specs.declared.word.Origin.{Origin}
 use Rattle.mj_model.specs.declared.word.Origin.TheVariants.{Known, Unknown}
 use Rattle.mj_model.specs.declared.word.Word.{Word}
@@ -10,6 +10,7 @@ use Rattle.paths.specs.Blanks.{chars_from}
 use Rattle.cutter.specs.Cutters.{Cut, Held, overlay_held}
 use Rattle.cutter.specs.declared.last_words.Reached.{Reached}
 use Rattle.cutter.specs.Reaching.{at_bos, reached_with}
+use Rattle.cutter_c.specs.Outputs.{with_front}
 use Rattle.cutter_c.specs.declared.words.CWord.{CWord}
 
 -- whether an entry is of a lexicon, the number of its dictionary, and its number there
@@ -51,11 +52,7 @@ abbrev pub c_words : Overlay → List ℕ → Reached → List Word → List CWo
 c_words o text before [] = []
 c_words o text before (w ∷ ws) = let now = reached_with o before w in c_word_in o text now.total w ∷ c_words o text now ws
 
--- a buffer with words at its front, as many as have room
-abbrev pub with_words_in_front : List CWord → List CWord → List CWord
-with_words_in_front words out = let n = min (length words) (length out) in take n words ++ drop n out
-
 -- the words from a number on were written, and all are so many
 pub record AreTold (h : Held) (first count : ℕ) (old new : List CWord) (c : Cut) : Type 0 where
-  pub written : new ≡ with_words_in_front (drop first (c_words (overlay_held h) c.text at_bos c.words)) old
+  pub written : new ≡ with_front (drop first (c_words (overlay_held h) c.text at_bos c.words)) old
   pub all : count ≡ length c.words

@@ -31,6 +31,26 @@ pub fn load(
     Ok(())
 }
 
+/// The same, of an image whose bytes are taken and not copied.
+pub fn load_owned(
+    alloc: Global,
+    cutter: &mut Handle,
+    image: Vec<u8>,
+    digest: DigestTest,
+) -> Result<(), CallFault>
+    ensures loaded { OnOk result (Fills (cutter_in cutter.old) (cutter_in cutter.new)
+        (IsLoadedFrom digest image.items)) }
+    ensures refused { IfErr result
+        (IsFillRefusal (cutter_in cutter.old) (IsLoadRefusal digest image.items)) }
+    ensures kept { OnErr result (cutter_in cutter.new ≡ cutter_in cutter.old) }
+{
+    if cutter.is_full() {
+        return Err(CallFault::FullCutter);
+    }
+    cutter.put(Session::over(alloc, image, digest)?);
+    Ok(())
+}
+
 /// Fills an empty handle with a cutter over the dictionaries of another handle's.
 pub fn share(alloc: Global, cutter: &mut Handle, other: &mut Handle) -> Result<(), CallFault>
     ensures shared { OnOk result

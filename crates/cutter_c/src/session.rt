@@ -22,7 +22,15 @@ impl Session {
             (λ session. IsLoadedFrom digest image.now session.value.cutter) }
         ensures refused { IfErr result (IsLoadRefusal digest image.now) }
     {
-        let image = Vec::from_slice(alloc, image)?;
+        Session::over(alloc, Vec::from_slice(alloc, image)?, digest)
+    }
+
+    /// The session of a system's image.
+    pub fn over(alloc: Global, image: Vec<u8>, digest: DigestTest) -> Result<Box<Session>, CutFault>
+        ensures loaded { IfOk result
+            (λ session. IsLoadedFrom digest image.items session.value.cutter) }
+        ensures refused { IfErr result (IsLoadRefusal digest image.items) }
+    {
         Session::of(alloc, Cutter::load(alloc, image, digest)?)
     }
 
@@ -55,7 +63,16 @@ impl Session {
         ensures refused { IfErr result (IsUserFault digest image.now self.old.cutter) }
         ensures kept { OnErr result (self.new.cutter ≡ self.old.cutter) }
     {
-        let image = Vec::from_slice(alloc, image)?;
+        self.add_owned_user(Vec::from_slice(alloc, image)?, digest)
+    }
+
+    /// Lays a user's image over the dictionaries.
+    pub fn add_owned_user(&mut self, image: Vec<u8>, digest: DigestTest) -> Result<(), CutFault>
+        ensures added { OnOk result
+            (IsExtended digest image.items self.old.cutter self.new.cutter) }
+        ensures refused { IfErr result (IsUserFault digest image.items self.old.cutter) }
+        ensures kept { OnErr result (self.new.cutter ≡ self.old.cutter) }
+    {
         self.cutter.add_user(image, digest)
     }
 }

@@ -12,9 +12,10 @@ use crate::fault::CallFault;
 use crate::handle::Handle;
 use crate::session::Session;
 use cutter::CutFault;
+use mj_model::Origin;
 use std::alloc::Global;
 
-/// What is asked of the path that was cut last.
+/// What is asked of the path that was cut last, or of the dictionaries.
 #[derive(Clone, Copy, Debug, PartialEq, Eq, Drop)]
 pub enum Asked {
     /// Its text in the format.
@@ -23,6 +24,8 @@ pub enum Asked {
     Feature(usize),
     /// The features of all words, one behind another.
     Features,
+    /// The feature of an entry, which need not be a word's of the path.
+    EntryFeature(Origin),
 }
 
 /// Bytes that are lent to C: where they lie, and how many they are.
@@ -59,6 +62,9 @@ impl Session {
             Asked::Path => self.cutter.print(&mut self.output),
             Asked::Feature(number) => self.cutter.append_feature(number, &mut self.output),
             Asked::Features => self.cutter.append_features(&mut self.output),
+            Asked::EntryFeature(origin) => self
+                .cutter
+                .append_entry_feature(origin, &mut self.output),
         }
     }
 

@@ -6,7 +6,8 @@ ghost use Rattle.cutter.specs.Cutters.{OfCut};
 ghost use Rattle.cutter.specs.Faults.{IsNothingCut};
 ghost use Rattle.cutter.specs.Reaching.{MayFollow, at_bos};
 ghost use Rattle.cutter_c.specs.Handles.{IsRefusal, cutter_in};
-ghost use Rattle.cutter_c.specs.Words.{AreTold, c_word, c_words, with_words_in_front};
+ghost use Rattle.cutter_c.specs.Outputs.{with_front};
+ghost use Rattle.cutter_c.specs.Words.{AreTold, c_word, c_words};
 ghost use Rattle.word_lookup.specs.Overlays.{overlay_of};
 
 use crate::fault::CallFault;
@@ -39,7 +40,7 @@ pub struct CWord {
 }
 
 /// A word with its category, what the path costs up to and with it, and the length of its feature.
-fn word_for_c(word: &Word, category: u8, total: i64, feature_length: usize) -> CWord
+pub fn word_for_c(word: &Word, category: u8, total: i64, feature_length: usize) -> CWord
     ensures { result ≡ c_word word.now category total feature_length }
 {
     let (known, dictionary, token) = match word.origin {
@@ -83,7 +84,7 @@ fn reached_before(last: &LastWords<'_>, number: usize) -> Reached
 /// Writes words of the path, which follow from where it has come to, into a buffer, as far as there is room.
 fn fill(last: &LastWords<'_>, words: &[Word], before: Reached, out: &mut [CWord])
     requires { MayFollow (overlay_of last.now.dictionaries) last.now.text.now before words.now }
-    ensures { out.new ≡ with_words_in_front
+    ensures { out.new ≡ with_front
         (c_words (overlay_of last.now.dictionaries) last.now.text.now before words.now) out.old }
 {
     let mut reached = before;

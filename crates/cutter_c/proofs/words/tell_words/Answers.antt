@@ -2,7 +2,8 @@ use Rattle.std.proofs.Common.{◌≡◌, List, rules, refl, length, sym, ap, sub
 use Rattle.std.specs.Prelude.{min}
 use Rattle.std.proofs.lemmas.List.{take_rest}
 use Rattle.cutter.specs.Reaching.{MayFollow}
-use Rattle.cutter_c.specs.Words.{c_words, with_words_in_front}
+use Rattle.cutter_c.specs.Outputs.{with_front}
+use Rattle.cutter_c.specs.Words.{c_words}
 use Rattle.cutter_c.proofs.WalkLemmas.{are_told, follow_of}
 use Rattle.mj_model.specs.declared.word.Word.{Word}
 use Rattle.word_lookup.specs.Overlays.{overlay_of}
@@ -22,4 +23,4 @@ returns-clause-told c =
     let before = c.reached_before-before.result in
     let from : c.min-from.result ≡ min c.args.first (length l.words.now) = search rules in
     are_told c.args.cutter.now l c.args.first c.min-from.result _ before c.args.out.now _ c.in_ok-last.ensures.words from c.reached_before-before.ensures.words
-    (c.fill.ensures ∙ ap (λ (ws : List Word). with_words_in_front (c_words (overlay_of l.dictionaries) l.text.now before ws) c.args.out.now) (take_rest l.words.now c.min-from.result)) refl
+    (c.fill.ensures ∙ ap (λ (ws : List Word). with_front (c_words (overlay_of l.dictionaries) l.text.now before ws) c.args.out.now) (take_rest l.words.now c.min-from.result)) refl

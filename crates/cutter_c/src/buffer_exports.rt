@@ -1,0 +1,94 @@
+//! What C calls to load an image that comes in pieces, so that it stands in memory once.
+
+ghost use Rattle.std.specs.Prelude.{◌≡◌, ◌≢◌, ◌++◌, []};
+ghost use Rattle.cutter.specs.Faults.{IsLoadRefusal};
+ghost use Rattle.cutter_c.specs.Buffers.{gathered};
+ghost use Rattle.cutter_c.specs.Calls.{IsExtended, IsLoadedFrom, IsUserFault};
+ghost use Rattle.cutter_c.specs.Codes.{memory};
+ghost use Rattle.cutter_c.specs.Handles.{Fills, IsFillRefusal, IsRefusal, Moves, TellsNumbered, cutter_in};
+ghost use Rattle.cutter_c.specs.Outputs.{OnlyFaultsSet};
+ghost use Rattle.image_bytes.specs.DigestTests.{test_by};
+
+use crate::buffer_handle::BufferHandle;
+use crate::codes::{MEMORY, OK, told};
+use crate::handle::Handle;
+use crate::loading;
+use cutter::DigestTest;
+use std::alloc::Global;
+
+/// Appends a piece to the bytes of a buffer. Where it has none yet, room for so many is taken first, so that no byte is moved until
+/// there are more.
+#[unsafe(no_mangle)]
+pub extern "C" fn kumquatsieve_buffer_append(
+    alloc: Global,
+    buffer: &mut BufferHandle,
+    room: usize,
+    piece: &[u8],
+) -> u32
+    ensures appended { (result ≡ 0) → gathered buffer.new ≡ gathered buffer.old ++ piece.now }
+    ensures refused { (result ≢ 0) → result ≡ memory }
+    ensures kept { (result ≢ 0) → gathered buffer.new ≡ gathered buffer.old }
+{
+    match buffer.append(alloc, room, piece) {
+        Ok(()) => OK,
+        Err(_) => MEMORY,
+    }
+}
+
+/// Fills an empty handle with the cutter of a system's image, whose bytes are those of a buffer, which are taken and not copied. The
+/// digest is not tested where `skip_digest` says so. `number` is set where a fault has one. The buffer is empty after each answer.
+#[unsafe(no_mangle)]
+pub extern "C" fn kumquatsieve_load_buffer(
+    alloc: Global,
+    cutter: &mut Handle,
+    buffer: &mut BufferHandle,
+    skip_digest: bool,
+    number: &mut u64,
+) -> u32
+    ensures loaded { (result ≡ 0) → Fills (cutter_in cutter.old) (cutter_in cutter.new)
+        (IsLoadedFrom (test_by skip_digest) (gathered buffer.old)) }
+    ensures refused { (result ≢ 0) → TellsNumbered
+        (IsFillRefusal (cutter_in cutter.old)
+        (IsLoadRefusal (test_by skip_digest) (gathered buffer.old)))
+        number.old number.new result }
+    ensures kept { (result ≢ 0) → cutter_in cutter.new ≡ cutter_in cutter.old }
+    ensures unset { OnlyFaultsSet result number.old number.new }
+    ensures spent { gathered buffer.new ≡ [] }
+{
+    let image = buffer.take_bytes(alloc);
+    let digest = DigestTest::skipped_if(skip_digest);
+    told(loading::load_owned(alloc, cutter, image, digest), number)
+}
+
+/// Lays a user's image, whose bytes are those of a buffer, over the dictionaries of a handle's cutter, in the same way.
+#[unsafe(no_mangle)]
+pub extern "C" fn kumquatsieve_add_user_buffer(
+    alloc: Global,
+    cutter: &mut Handle,
+    buffer: &mut BufferHandle,
+    skip_digest: bool,
+    number: &mut u64,
+) -> u32
+    ensures added { (result ≡ 0) → Moves (cutter_in cutter.old) (cutter_in cutter.new)
+        (IsExtended (test_by skip_digest) (gathered buffer.old)) }
+    ensures refused { (result ≢ 0) → TellsNumbered
+        (IsRefusal (cutter_in cutter.old)
+        (IsUserFault (test_by skip_digest) (gathered buffer.old)))
+        number.old number.new result }
+    ensures kept { (result ≢ 0) → cutter_in cutter.new ≡ cutter_in cutter.old }
+    ensures unset { OnlyFaultsSet result number.old number.new }
+    ensures spent { gathered buffer.new ≡ [] }
+{
+    let image = buffer.take_bytes(alloc);
+    let digest = DigestTest::skipped_if(skip_digest);
+    let answer = cutter.call(alloc, move |session| session.add_owned_user(image, digest));
+    told(answer, number)
+}
+
+/// Gives back the bytes of a buffer, which is empty then.
+#[unsafe(no_mangle)]
+pub extern "C" fn kumquatsieve_buffer_free(alloc: Global, buffer: &mut BufferHandle)
+    ensures { gathered buffer.new ≡ [] }
+{
+    buffer.take(alloc);
+}
