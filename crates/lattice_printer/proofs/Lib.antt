@@ -1,0 +1,4 @@
+pub mod ShownWords
+pub mod ShownNodes
+pub mod PrintableNodes
+pub mod BadLines

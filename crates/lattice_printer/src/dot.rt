@@ -1,0 +1,128 @@
+//! A lattice as a graph for Graphviz.
+
+ghost use Rattle.std.specs.Prelude.{◌≡◌, ◌++◌, take, vec_len, OnOk};
+ghost use Rattle.mj_model.specs.Lists.{GrowsBy};
+ghost use Rattle.lattice_printer.specs.Dot.{ShowsWord, box_costs, box_front, box_style, dot_head, edge_style, lost_word};
+ghost use Rattle.lattice_printer.specs.NodesInLine.{IsPrintable, marked_of, overlay_in};
+
+use crate::escapes::{Escape, append_escaped};
+use crate::marked_node::MarkedNode;
+use crate::piece::{Piece, append_pieces};
+use crate::tsv::cost_or_none;
+use lex_source::append_field;
+use std::alloc::AllocError;
+
+/// Appends what stands before the words of a line. On an error a part of it may stand in `out`.
+pub fn append_dot_head(text: &str, out: &mut Vec<u8>) -> Result<(), AllocError>
+    ensures appended { OnOk result (out.new.items ≡ out.old.items ++ dot_head text.now) }
+    ensures kept { take (vec_len out.old) out.new.items ≡ out.old.items }
+{
+    append_pieces(
+        &[
+            Piece::Bytes(b"digraph {\n  rankdir=LR;\n  label=\""),
+            Piece::Escaped(Escape::Label, text.as_bytes()),
+            Piece::Bytes(b"\";\n  node [shape=circle];\n"),
+        ],
+        out,
+    )
+}
+
+/// Appends a node's box and edges; `field` is memory for the first field of its feature. On an error a part of them may stand in `out`.
+pub fn append_word(
+    marked: &MarkedNode<'_>,
+    field: &mut Vec<u8>,
+    out: &mut Vec<u8>,
+) -> Result<(), AllocError>
+    requires { IsPrintable marked.now }
+    ensures appended { OnOk result (GrowsBy (ShowsWord (overlay_in marked.now) marked.now.text.now
+        marked.now.best (marked_of marked.now)) out.old.items out.new.items) }
+    ensures kept { take (vec_len out.old) out.new.items ≡ out.old.items }
+{
+    field.clear();
+    let _found = append_field(field, marked.feature(), 0)?;
+    append_front(marked, out)?;
+    append_escaped(Escape::Label, field, out)?;
+    append_costs(marked, out)
+}
+
+/// Appends a node's box up to its surface. On an error a part of it may stand in `out`.
+fn append_front(marked: &MarkedNode<'_>, out: &mut Vec<u8>) -> Result<(), AllocError>
+    requires { IsPrintable marked.now }
+    ensures appended { OnOk result (out.new.items ≡ out.old.items
+        ++ box_front marked.now.text.now (marked_of marked.now)) }
+    ensures kept { take (vec_len out.old) out.new.items ≡ out.old.items }
+{
+    append_pieces(
+        &[
+            Piece::Bytes(b"  w"),
+            Piece::Count(marked.number),
+            Piece::Bytes(b" [shape=box"),
+            Piece::Bytes(box_style(marked.is_best)),
+            Piece::Bytes(b", label=\""),
+            Piece::Escaped(Escape::Label, marked.surface()),
+            Piece::Bytes(b"\\n"),
+        ],
+        out,
+    )
+}
+
+/// Appends the rest of a node's box, and its edges. On an error a part of them may stand in `out`.
+fn append_costs(marked: &MarkedNode<'_>, out: &mut Vec<u8>) -> Result<(), AllocError>
+    requires { IsPrintable marked.now }
+    ensures appended { OnOk result (out.new.items ≡ out.old.items
+        ++ box_costs marked.now.best (marked_of marked.now)) }
+    ensures kept { take (vec_len out.old) out.new.items ≡ out.old.items }
+{
+    let node = marked.node;
+    let word = &node.word;
+    let lost = marked.lost();
+    append_pieces(
+        &[
+            Piece::Bytes(b"\\ncost "),
+            Piece::Cost(i64::from(word.cost)),
+            Piece::Bytes(b"\\ntotal "),
+            Piece::Cost(node.total),
+            Piece::Bytes(b"\\n"),
+            Piece::Bytes(lost_word(lost)),
+            cost_or_none(lost),
+            Piece::Bytes(b"\"];\n  "),
+            Piece::Count(word.place),
+            Piece::Bytes(b" -> w"),
+            Piece::Count(marked.number),
+            Piece::Bytes(b" -> "),
+            Piece::Count(word.end),
+            Piece::Bytes(edge_style(marked.is_best)),
+            Piece::Bytes(b";\n"),
+        ],
+        out,
+    )
+}
+
+fn box_style(is_best: bool) -> &'static [u8]
+    ensures { result.now ≡ box_style is_best }
+{
+    if is_best {
+        b", color=red, penwidth=2"
+    } else {
+        b""
+    }
+}
+
+fn edge_style(is_best: bool) -> &'static [u8]
+    ensures { result.now ≡ edge_style is_best }
+{
+    if is_best {
+        b" [color=red, penwidth=2]"
+    } else {
+        b""
+    }
+}
+
+fn lost_word(lost: Option<i64>) -> &'static [u8]
+    ensures { result.now ≡ lost_word lost }
+{
+    match lost {
+        Some(_) => b"lost ",
+        None => b"no path",
+    }
+}

@@ -1,0 +1,16 @@
+//! Lines printed as their lattices: tables of their words, or graphs for Graphviz.
+#![tactic(auto)]
+
+mod dot;
+mod escapes;
+mod format;
+mod marked_node;
+mod piece;
+mod printer;
+mod run;
+mod sheet;
+mod tsv;
+
+pub use format::{LatticeForm, LatticeFormat};
+pub use printer::{LatticeMemory, LatticePrinter};
+pub use run::print_lattices;
