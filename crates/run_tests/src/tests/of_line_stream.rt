@@ -1,0 +1,72 @@
+//! The bound on reads. That of the public calls is so great that no test reaches it, so this asks the loop itself.
+
+use line_stream::run_over;
+use mj_model::{Counted, RunFault, sample};
+use out_format::Format;
+use std::alloc::Global;
+use std::io;
+use std::io::Read;
+use std::process::Abort;
+use std::test::Fail;
+use test_samples::system_dict;
+use word_lookup::Dictionaries;
+use words_printer::{LineMemory, WordsPrinter};
+
+/// Gives a byte a read.
+#[derive(Drop)]
+struct ByteByByte<'a> {
+    bytes: &'a [u8],
+}
+
+impl Read for ByteByByte<'_> {
+    fn read(&mut self, buf: &mut [u8]) -> io::Result<usize> {
+        let bytes = self.bytes;
+        let most = bytes.len().min(1).min(buf.len());
+        buf[..most].copy_from_slice(&bytes[..most]);
+        self.bytes = &bytes[most..];
+        Ok(most)
+    }
+}
+
+/// Asks for the answer of a run over a text with at most 4 reads, and for its first line's output.
+fn expect_bounded(
+    rt: &(impl Abort + Alloc<A = Global>),
+    format: &Format,
+    what: &str,
+    text: &str,
+    answer: Result<u64, RunFault>,
+) -> Result<(), Fail> {
+    let system = system_dict(rt.alloc(), &sample())?;
+    let printer = WordsPrinter {
+        alloc: rt.alloc(),
+        dictionaries: Dictionaries::new(&system, &[])?,
+        format,
+    };
+    let mut kept = LineMemory::new(rt.alloc());
+    let mut input = Counted::new(ByteByByte {
+        bytes: text.as_bytes(),
+    });
+    let mut out = Counted::new(Vec::new(rt.alloc()));
+    let got = run_over(rt.alloc(), &printer, &mut kept, &mut input, &mut out, 4);
+    assert!(rt; got == answer, "{what}");
+    assert!(rt;
+        out.get_ref().as_slice() == "ab\t未知\nEOS\n".as_bytes(),
+        "{what}"
+    );
+    Ok(())
+}
+
+#[test]
+fn bound_on_reads(rt: HostRuntime) -> Result<(), Fail> {
+    let format = Format::default_of(rt.alloc())?;
+    #[rattlefmt::skip]
+    let rows = [
+        // (what, text, answer)
+        ("no end in 4 reads",  "ab\ncd\n", Err(RunFault::InputTooLong(2))),
+        ("the end at the 4th", "ab\n",     Ok(1)),
+    ];
+    for (what, text, answer) in rows {
+        expect_bounded(&rt, &format, what, text, answer)?;
+    }
+    Ok(())
+}

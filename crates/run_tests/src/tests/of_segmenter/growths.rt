@@ -1,0 +1,54 @@
+//! Runs whose growths of memory `tools/growths` counts and compares.
+
+use mj_model::{Counted, sample};
+use out_format::Format;
+use segmenter::segment;
+use std::alloc::Global;
+use std::process::Abort;
+use std::test::Fail;
+use test_samples::{letters, system_dict};
+use word_lookup::Dictionaries;
+
+/// How many letters a line has.
+const LETTERS: usize = 2_000;
+
+/// What a line prints.
+const PRINTED: &str = "1989840\n";
+
+/// So many lines of letters, at most two.
+fn lines_of_letters(alloc: Global, lines: usize) -> Result<Vec<u8>, Fail> {
+    let letters = letters(alloc, LETTERS)?;
+    let mut text = Vec::with_capacity(alloc, 2 * LETTERS + 2)?;
+    for _line in 0..lines {
+        text.extend_from_slice(letters.as_bytes())?;
+        text.push(b'\n')?;
+    }
+    Ok(text)
+}
+
+/// Cuts so many lines of letters, at most two.
+fn cut(rt: &(impl Abort + Alloc<A = Global>), lines: usize) -> Result<(), Fail> {
+    let format = Format::parse(rt.alloc(), "", None, "", "%pc\\n")?;
+    let dict = system_dict(rt.alloc(), &sample())?;
+    let dictionaries = Dictionaries::new(&dict, &[])?;
+    let text = lines_of_letters(rt.alloc(), lines)?;
+    let mut reader = Counted::new(text.as_slice());
+    let mut written = Vec::with_capacity(rt.alloc(), 2 * PRINTED.len())?;
+    let mut writer = Counted::new(&mut written);
+    let answer = segment(rt.alloc(), &dictionaries, &format, &mut reader, &mut writer);
+    assert!(rt; answer == Ok(lines as u64));
+    assert_eq!(rt; written.len(), lines.saturating_mul(PRINTED.len()));
+    assert!(rt; written.starts_with(PRINTED.as_bytes()));
+    assert!(rt; written.ends_with(PRINTED.as_bytes()));
+    Ok(())
+}
+
+#[test]
+fn one_line(rt: HostRuntime) -> Result<(), Fail> {
+    cut(&rt, 1)
+}
+
+#[test]
+fn two_lines(rt: HostRuntime) -> Result<(), Fail> {
+    cut(&rt, 2)
+}

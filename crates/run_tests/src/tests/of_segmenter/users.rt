@@ -1,0 +1,158 @@
+//! User dictionaries over the sample.
+
+use dict_compile::compile_user;
+use dict_image::load;
+use mj_model::{Counted, RunFault, SourceFault, SourceKind, Sources, sample};
+use out_format::Format;
+use segmenter::segment;
+use std::alloc::Global;
+use std::process::Abort;
+use std::test::Fail;
+use test_samples::{run, run_in, system_dict};
+use word_lookup::Dictionaries;
+
+const USER: &str = "もも,1,1,1,名詞,ユーザ\n";
+
+const MOMO: &str = "もも\n";
+
+/// Asks that a run with users prints this in a format.
+fn expect_output(
+    rt: &(impl Abort + Alloc<A = Global>),
+    what: &str,
+    format: &Format,
+    users: &[&[&[u8]]],
+    output: &str,
+) {
+    let outcome = run_in(rt.alloc(), format, &sample(), users, MOMO.as_bytes());
+    assert!(rt; outcome.answer == Ok(1), "{what}");
+    assert!(rt; outcome.written.as_slice() == output.as_bytes(), "{what}");
+}
+
+#[test]
+fn users_words(rt: HostRuntime) -> Result<(), Fail> {
+    let format = Format::default_of(rt.alloc())?;
+    let user = USER.as_bytes();
+    let cheap = "もも,1,1,1,A\n".as_bytes();
+    let same = "もも,1,1,1,B\n".as_bytes();
+    let dear = "もも,1,1,3000,C\n".as_bytes();
+    let of_system = "もも\t名詞,もも\nEOS\n";
+    let of_user = "もも\t名詞,ユーザ\nEOS\n";
+    let a = "もも\tA\nEOS\n";
+    let b = "もも\tB\nEOS\n";
+    expect_output(&rt, "no user", &format, &[], of_system);
+    expect_output(&rt, "user_dictionary", &format, &[&[user]], of_user);
+    expect_output(&rt, "two users tie", &format, &[&[cheap], &[same]], a);
+    expect_output(&rt, "tie the other way", &format, &[&[same], &[cheap]], b);
+    expect_output(&rt, "a dear word", &format, &[&[dear]], of_system);
+    expect_output(&rt, "two lexicons", &format, &[&[dear, user]], of_user);
+    Ok(())
+}
+
+#[test]
+fn costs_of_users_words(rt: HostRuntime) -> Result<(), Fail> {
+    let format = Format::parse(rt.alloc(), "%m/%f[1]/%pc ", None, "", "%pc\\n")?;
+    let user = USER.as_bytes();
+    let same = "もも,1,1,1,名詞,B\n".as_bytes();
+    let output = "もも/ユーザ/11 16\n";
+    expect_output(&rt, "user_dictionary", &format, &[&[user]], output);
+    expect_output(&rt, "equal users", &format, &[&[user], &[user]], output);
+    expect_output(&rt, "two users tie", &format, &[&[user], &[same]], output);
+    Ok(())
+}
+
+/// Asks that a run with users is refused for a fault of this user's lexicons, on line 1, with nothing read or written.
+fn expect_refusal(
+    rt: &(impl Abort + Alloc<A = Global>),
+    what: &str,
+    users: &[&[&[u8]]],
+    user: usize,
+    file: u32,
+    kind: SourceKind,
+) {
+    let outcome = run(rt.alloc(), &sample(), users, MOMO.as_bytes());
+    let fault = SourceFault {
+        file,
+        line: 1,
+        kind,
+    };
+    assert!(rt;
+        outcome.is_refusal(RunFault::UserSource(user, fault)),
+        "{what}"
+    );
+}
+
+#[test]
+fn refused_users(rt: HostRuntime) {
+    let user = USER.as_bytes();
+    let bad = "も,1,1,x,Z\n".as_bytes();
+    let outside = "も,2,1,5,Z\n".as_bytes();
+    let number = SourceKind::BadNumber;
+    let id = SourceKind::IdOutside;
+    expect_refusal(&rt, "the second user", &[&[user], &[bad]], 1, 3, number);
+    expect_refusal(&rt, "both users", &[&[outside], &[bad]], 0, 3, id);
+    expect_refusal(
+        &rt,
+        "a user's second lexicon",
+        &[&[user, bad]],
+        0,
+        4,
+        number,
+    );
+    expect_refusal(&rt, "an id outside", &[&[outside]], 0, 3, id);
+}
+
+#[test]
+fn sources_before_users(rt: HostRuntime) {
+    let sources = Sources {
+        lexicons: &[b"a,1,1\n"],
+        ..sample()
+    };
+    let users: [&[&[u8]]; 1] = [&["も,1,1,x,Z\n".as_bytes()]];
+    let outcome = run(rt.alloc(), &sources, &users, MOMO.as_bytes());
+    let fault = SourceFault {
+        file: 3,
+        line: 1,
+        kind: SourceKind::TooFewFields,
+    };
+    assert!(rt; outcome.is_refusal(RunFault::Source(fault)));
+}
+
+/// Asks that a run over images prints this in a format.
+fn expect_segmented(
+    rt: &(impl Abort + Alloc<A = Global>),
+    what: &str,
+    dictionaries: &Dictionaries<'_>,
+    format: &Format,
+    output: &str,
+) {
+    let mut reader = Counted::new("すもももも\n".as_bytes());
+    let mut written = Vec::new(rt.alloc());
+    let mut writer = Counted::new(&mut written);
+    let got = segment(rt.alloc(), dictionaries, format, &mut reader, &mut writer);
+    assert!(rt; got == Ok(1), "{what}");
+    assert!(rt; written.as_slice() == output.as_bytes(), "{what}");
+}
+
+#[test]
+fn segment_over_images(rt: HostRuntime) -> Result<(), Fail> {
+    let alloc = rt.alloc();
+    let system = system_dict(alloc, &sample())?;
+    let compiled = compile_user(alloc, &system, &[USER.as_bytes()])?;
+    assert_eq!(rt; compiled.entries, 1);
+    let users = [load(alloc, compiled.image)?];
+    let words = Format::default_of(alloc)?;
+    let costs = Format::parse(alloc, "%m/%f[1]/%pc ", None, "", "%pc\\n")?;
+    #[rattlefmt::skip]
+    let rows = [
+        // (what, format, whether the user's dictionary is laid over it, output)
+        ("sumomo",          &words, false, "すもも\t名詞,すもも\nもも\t名詞,もも\nEOS\n"),
+        ("costs of sumomo", &costs, false, "すもも/すもも/110 もも/もも/147 152\n"),
+        ("with a user",     &costs, true,  "すもも/すもも/110 もも/ユーザ/118 123\n"),
+    ];
+    for (what, format, with_user, output) in rows {
+        let laid_over = if with_user { &users[..] } else { &users[..0] };
+        let dictionaries = Dictionaries::new(&system, laid_over)?;
+        expect_segmented(&rt, what, &dictionaries, format, output);
+    }
+    Ok(())
+}

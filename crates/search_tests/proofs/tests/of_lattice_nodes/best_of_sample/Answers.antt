@@ -1,0 +1,22 @@
+use Rattle.std.proofs.Common.{sym, subst}
+use Rattle.lattice_nodes.specs.OnPath.{AreByPlace, HaveRisingPlaces}
+use Rattle.search_tests.specs.Sample.{sample_words}
+use Rattle.lattice_nodes.proofs.OnPathLemmas.{lattice_by_place, path_rises}
+use Rattle.search_tests.proofs.SampleLemmas.{sample_is_searchable}
+use Rattle.search_tests.proofs.tests.of_lattice_nodes.best_of_sample.Goals as goal
+
+pub lattice_nodes-requires : goal.lattice_nodes-requires
+lattice_nodes-requires c = sample_is_searchable c.args.sample.now.words.items c.args.sample.now.length c.requires
+
+pub fill-requires : goal.fill-requires
+fill-requires c = sample_is_searchable c.args.sample.now.words.items c.args.sample.now.length c.requires
+
+pub nodes_on_path-requires : goal.nodes_on_path-requires
+nodes_on_path-requires c =
+    let ws = c.args.sample.now.words.items in
+    let len = c.args.sample.now.length in
+    let best = c.in_ok-fill.ensures.best in
+    record {
+      nodes = subst AreByPlace (sym c.deref.ensures.value) (lattice_by_place (sample_words ws 0 len) len c.in_ok-nodes.nodes.items c.in_ok-nodes.ensures.words);
+      path = subst HaveRisingPlaces (sym c.deref-2.ensures.value) (path_rises (sample_words ws 0 len) len (sample_is_searchable ws len c.requires).source.are c.fill.new.path.words.items 0 best.to best.path.chain);
+    }

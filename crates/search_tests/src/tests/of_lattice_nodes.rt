@@ -1,0 +1,145 @@
+//! The lattices of small texts.
+
+ghost use Rattle.std.specs.Prelude.{◌≤◌, ◌^◌};
+
+use super::sample::{A, AB, B, C, Sample, WordRow, sample_of};
+use lattice_nodes::{LatticeNode, lattice_nodes, nodes_on_path};
+use mj_model::Origin;
+use path_search::Search;
+use paths::Path;
+use std::alloc::{AllocError, Global};
+use std::process::Abort;
+use std::test::Fail;
+
+fn nodes_of_sample(alloc: Global, sample: &Sample) -> Result<Vec<LatticeNode>, AllocError>
+    requires { sample.now.length ≤ 2 ^ 20 }
+{
+    lattice_nodes(alloc, sample)
+}
+
+/// For each node whether it is on the best path.
+fn best_of_sample(alloc: Global, sample: &Sample) -> Result<Vec<bool>, AllocError>
+    requires { sample.now.length ≤ 2 ^ 20 }
+{
+    let nodes = lattice_nodes(alloc, sample)?;
+    let mut path = Path {
+        words: Vec::new(alloc),
+        total: 0,
+    };
+    Search::new(alloc).fill(sample, &mut path)?;
+    nodes_on_path(alloc, &nodes, &path.words)
+}
+
+/// Each node by the number of its word, its total and the least cost of the paths through it, and whether it is on the best path.
+fn expect_nodes(
+    rt: &impl Abort,
+    nodes: &[LatticeNode],
+    best: &[bool],
+    wanted: &[(usize, i64, Option<i64>, bool)],
+    what: &str,
+) {
+    assert_eq!(rt; nodes.len(), wanted.len(), "{what}");
+    assert_eq!(rt; best.len(), wanted.len(), "{what}");
+    for (node, (number, total, through, _)) in nodes.iter().zip(wanted.iter()) {
+        let origin = Origin::Known {
+            dict: *number,
+            token: 0,
+        };
+        assert_eq!(rt; node.word.origin, origin, "{what}");
+        assert_eq!(rt; node.total, *total, "{what}");
+        assert_eq!(rt; node.through, *through, "{what}");
+    }
+    for (on, (_, _, _, is_best)) in best.iter().zip(wanted.iter()) {
+        assert_eq!(rt; *on, *is_best, "{what}");
+    }
+}
+
+const DEAR_A: WordRow = (0, 1, 50);
+
+const DEAR_AB: WordRow = (0, 2, 40);
+
+const ABC: WordRow = (0, 3, 100);
+
+// A connection from BOS costs 10, one between words 7 and one to EOS 5. So `A` has the total 10 + 10 = 20, and `B` after it 20 + 7 + 10 = 37;
+// the path of both costs 37 + 5 = 42.
+#[rattlefmt::skip]
+static LATTICES: [(&str, u16, &[WordRow], &[(usize, i64, Option<i64>, bool)]); 9] = [
+    // (what, length, words, nodes)
+    ("one word", 1, &[A], &[(0, 20, Some(25), true)]),
+    // 10 + 27 = 37, and 37 + 5 = 42; of equal costs that path is best whose last differing word has the later place
+    (
+        "words of a place stand together",
+        2,
+        &[A, B, AB],
+        &[
+            (0, 20, Some(42), true),
+            (2, 37, Some(42), false),
+            (1, 37, Some(42), true),
+        ],
+    ),
+    // 10 + 50 = 60, and 60 + 7 + 10 + 5 = 82
+    (
+        "a dearer word",
+        2,
+        &[A, DEAR_A, B],
+        &[
+            (0, 20, Some(42), true),
+            (1, 60, Some(82), false),
+            (2, 37, Some(42), true),
+        ],
+    ),
+    // 10 + 100 = 110, and 110 + 5 = 115
+    (
+        "dead ends",
+        3,
+        &[A, B, ABC],
+        &[
+            (0, 20, None, false),
+            (2, 110, Some(115), true),
+            (1, 37, None, false),
+        ],
+    ),
+    (
+        "a word that no chain reaches",
+        3,
+        &[A, C],
+        &[(0, 20, Some(25), true)],
+    ),
+    (
+        "paths that end before the text",
+        3,
+        &[A, B],
+        &[(0, 20, Some(42), true), (1, 37, Some(42), true)],
+    ),
+    // 10 + 40 = 50; 37 + 7 + 10 = 54, and 54 + 5 = 59; 50 + 7 + 10 + 5 = 72
+    (
+        "the least of the words before it",
+        3,
+        &[A, DEAR_AB, B, C],
+        &[
+            (0, 20, Some(59), true),
+            (1, 50, Some(72), false),
+            (2, 37, Some(59), true),
+            (3, 54, Some(59), true),
+        ],
+    ),
+    // 10 - 500 = -490, -490 + 7 - 3 = -486, and -486 + 5 = -481
+    (
+        "costs below 0",
+        2,
+        &[(0, 1, -500), (1, 2, -3)],
+        &[(0, -490, Some(-481), true), (1, -486, Some(-481), true)],
+    ),
+    ("empty text", 0, &[], &[]),
+];
+
+#[test]
+fn lattices(rt: HostRuntime) -> Result<(), Fail> {
+    for (what, length, words, wanted) in &LATTICES {
+        let sample = sample_of(rt.alloc(), *length, words)?;
+        let nodes = nodes_of_sample(rt.alloc(), &sample)?;
+        let best = best_of_sample(rt.alloc(), &sample)?;
+        expect_nodes(&rt, &nodes, &best, wanted, what);
+    }
+    Ok(())
+}

@@ -1,0 +1,8 @@
+//! Words of places, with their blanks and categories.
+
+mod characters;
+mod expected_words;
+mod layouts;
+mod overlays;
+mod starved;
+mod words;

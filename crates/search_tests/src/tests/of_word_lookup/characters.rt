@@ -1,0 +1,78 @@
+//! Blanks and categories.
+
+use super::expected_words::is_at;
+use mj_model::sample;
+use std::alloc::Global;
+use std::process::Abort;
+use std::test::Fail;
+use test_samples::system;
+use word_lookup::Dictionaries;
+
+/// The place behind the blanks of a place, over the sample's dictionary with a further line of `char.def`.
+fn blanks_behind(
+    alloc: Global,
+    line: &str,
+    text: &str,
+    place: usize,
+) -> Result<Option<usize>, Fail> {
+    let system = system(alloc, line, sample().lexicons)?;
+    let dictionaries = Dictionaries::new(&system, &[])?;
+    if is_at(text, place) {
+        Ok(Some(dictionaries.blanks(text, place)))
+    } else {
+        Ok(None)
+    }
+}
+
+#[rattlefmt::skip]
+static BLANKS: [(&str, &str, &str, usize, usize); 7] = [
+    // (what, a further line of char.def, text, place, place behind the blanks)
+    ("no blank", "", "も", 0, 0),
+    ("one blank", "", " すもも  もも ", 0, 1),
+    ("two blanks", "", " すもも  もも ", 10, 12),
+    ("a blank at the end", "", " すもも  もも ", 18, 19),
+    ("only_blanks", "", "   ", 0, 3),
+    ("a wide blank", "0x3000 SPACE\n", "\u{3000}も", 0, 3),
+    ("on over a letter", "0x0009 SPACE ALPHA\n", "\tzも", 0, 2),
+];
+
+#[test]
+fn blanks(rt: HostRuntime) -> Result<(), Fail> {
+    for (what, line, text, place, behind) in &BLANKS {
+        let found = blanks_behind(rt.alloc(), line, text, *place)?;
+        assert_eq!(rt; found, Some(*behind), "{what}");
+    }
+    Ok(())
+}
+
+/// Asks for the categories of a character, and for the first of them.
+fn expect_categories(
+    rt: &(impl Abort + Alloc<A = Global>),
+    what: &str,
+    line: &str,
+    c: char,
+    categories: (u32, u8),
+) -> Result<(), Fail> {
+    let system = system(rt.alloc(), line, sample().lexicons)?;
+    let info = Dictionaries::new(&system, &[])?.info(c);
+    assert_eq!(rt; (info.bits, info.first()), categories, "{what}");
+    Ok(())
+}
+
+#[rattlefmt::skip]
+static CATEGORIES: [(&str, &str, char, (u32, u8)); 5] = [
+    // (what, a further line of char.def, character, (set of categories, first one))
+    ("a letter", "", 'z', (4, 2)),
+    ("a blank", "", ' ', (2, 1)),
+    ("two categories", "0x30FC KATAKANA HIRAGANA\n", 'ー', (40, 3)),
+    ("not mapped", "", '𠮷', (1, 0)),
+    ("mapped", "0x20000..0x2A6DF KANJI\n", '𠮷', (16, 4)),
+];
+
+#[test]
+fn categories(rt: HostRuntime) -> Result<(), Fail> {
+    for (what, line, c, categories) in &CATEGORIES {
+        expect_categories(&rt, what, line, *c, *categories)?;
+    }
+    Ok(())
+}

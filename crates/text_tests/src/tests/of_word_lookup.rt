@@ -1,6 +1,0 @@
-//! Words of places, with their blanks and categories.
-
-mod characters;
-pub mod expected_words;
-mod overlays;
-mod words;
