@@ -1,32 +1,40 @@
-//! What is said after the fault of an image that the command line names.
+//! What is said after a fault.
 
 use crate::no_image::NoImage;
 use command_lines::dictc::{Asked, Base};
 use programs::{Fault, Narrator, say_homes};
 
-/// Says, where that is asked for, where an image of the command line was looked for, if the fault was that it can't be read.
+/// Says to a person where an image of the command line was looked for, if the fault was that it can't be read, and what explains the fault.
 pub fn say_more(rt: &HostRuntime, asked: &Asked, end: &NoImage) {
     let NoImage::Fault(fault) = end else {
         return;
     };
-    let Fault::File(path) = fault else {
-        return;
-    };
-    if let Some(is_asked) = asked_of_image(asked, path.as_str()) {
-        say_homes(rt, &Narrator::new(rt, "dictc", is_asked), fault);
+    let narrator = Narrator::new(rt, "dictc", is_asked(asked));
+    if let Fault::File(path) = fault {
+        if is_image(asked, path.as_str()) {
+            say_homes(rt, &narrator, fault);
+        }
+    }
+    narrator.say_explanation(fault);
+}
+
+/// Whether the program says what it does.
+fn is_asked(asked: &Asked) -> bool {
+    match asked {
+        Asked::Image(options) => options.verbose,
+        Asked::Ids(options) => options.verbose,
     }
 }
 
-/// Whether the program says what it does, if a path is that of an image of the command line.
-fn asked_of_image(asked: &Asked, path: &str) -> Option<bool> {
+/// Whether a path is that of an image of the command line, which is read.
+fn is_image(asked: &Asked, path: &str) -> bool {
     match asked {
         Asked::Image(options) => match &options.base {
-            Base::System { dic, .. } if dic.as_str() == path => Some(options.verbose),
-            _ => None,
+            Base::System { dic, .. } => dic.as_str() == path,
+            Base::Definitions { .. } => false,
         },
         Asked::Ids(options) => {
-            let is_user = options.users.iter().any(|user| user.as_str() == path);
-            (is_user || options.dic.as_str() == path).then_some(options.verbose)
+            options.dic.as_str() == path || options.users.iter().any(|user| user.as_str() == path)
         }
     }
 }

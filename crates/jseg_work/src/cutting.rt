@@ -1,21 +1,21 @@
 //! Standard input is cut by the dictionary that the command line names.
 
-use crate::formatting::format_of;
+use crate::formatting::{Printed, printed_for, text_given};
 use crate::images::cut_by_images;
 use crate::source_directory::{Directory, read_directory};
+use crate::source_lattices::print_source_lattices;
 use command_lines::jseg::{Input, Options};
 use dict_image::DigestTest;
-use mj_model::{Counted, GROUPING_MAX, NO_FILE, RunFault, Sources};
-use out_format::Format;
+use mj_model::{Counted, FormatFault, GROUPING_MAX, NO_FILE, RunFault, Sources};
 use programs::{Fault, Narrator, Stage, texts};
 use segmenter::{run_sources, sample};
 use std::io::Write;
 
-/// How words are cut and printed, and what is said meanwhile.
+/// How lines are cut and printed, and what is said meanwhile.
 #[derive(Drop)]
 pub struct Manner<'a> {
     pub grouping: u16,
-    pub format: Format,
+    pub printed: Printed,
     pub narrator: Narrator<'a>,
 }
 
@@ -25,16 +25,26 @@ pub fn cut(rt: &HostRuntime, options: &Options) -> Result<(), Fault> {
     let lines = cut_lines(rt, options, narrator);
     match &lines {
         Ok(lines) => narrator.say(Stage::Cut { lines: *lines }),
-        Err(fault) => narrator.say_why(fault),
+        Err(fault) => say_why(&narrator, options, fault),
     }
     lines.map(|_lines| ())
+}
+
+/// Says to a person why there is no output, and of a format's text where its fault is.
+fn say_why(narrator: &Narrator<'_>, options: &Options, fault: &Fault) {
+    narrator.say_why(fault);
+    if let Fault::Format(FormatFault::Bad { part, at, .. }) = fault {
+        if let Some(text) = text_given(options, *part) {
+            narrator.say_mark(text, *at);
+        }
+    }
 }
 
 /// Cuts it, and answers how many lines it has.
 fn cut_lines(rt: &HostRuntime, options: &Options, narrator: Narrator<'_>) -> Result<u64, Fault> {
     let manner = Manner {
         grouping: options.grouping,
-        format: format_of(rt.alloc(), options).map_err(Fault::Format)?,
+        printed: printed_for(rt.alloc(), options).map_err(Fault::Format)?,
         narrator,
     };
     match &options.input {
@@ -81,15 +91,26 @@ fn cut_by_directory(rt: &HostRuntime, dir: &str, manner: &Manner<'_>) -> Result<
 fn cut_by(rt: &HostRuntime, sources: &Sources<'_>, manner: &Manner<'_>) -> Result<u64, RunFault> {
     let mut reader = Counted::new(rt.reader());
     let mut writer = Counted::new(rt.stdout());
-    let cut = run_sources(
-        rt.alloc(),
-        sources,
-        &[],
-        manner.grouping.min(GROUPING_MAX),
-        &manner.format,
-        &mut reader,
-        &mut writer,
-    );
+    let grouping = manner.grouping.min(GROUPING_MAX);
+    let cut = match &manner.printed {
+        Printed::Words(format) => run_sources(
+            rt.alloc(),
+            sources,
+            &[],
+            grouping,
+            format,
+            &mut reader,
+            &mut writer,
+        ),
+        Printed::Lattices(format) => print_source_lattices(
+            rt.alloc(),
+            sources,
+            grouping,
+            *format,
+            &mut reader,
+            &mut writer,
+        ),
+    };
     if cut.is_err() {
         let _ = writer.flush();
     }

@@ -1,13 +1,38 @@
-//! The output format that the command line asks for.
+//! What the command line asks to print.
 
-use command_lines::jseg::Options;
-use mj_model::FormatFault;
+use command_lines::jseg::{Form, Options};
+use lattice_printer::{LatticeForm, LatticeFormat};
+use mj_model::{FormatFault, FormatPart};
 use out_format::Format;
 use std::alloc::Global;
 use std::string::String;
 
+/// What is printed of each line.
+#[derive(Drop)]
+pub enum Printed {
+    /// The words of its best path
+    Words(Format),
+    /// Its lattice
+    Lattices(LatticeFormat),
+}
+
+/// What is printed: lattices, where they are asked for.
+pub fn printed_for(alloc: Global, options: &Options) -> Result<Printed, FormatFault> {
+    let Some(choice) = options.lattice else {
+        return Ok(Printed::Words(format_of(alloc, options)?));
+    };
+    let form = match choice.form {
+        Form::Tsv => LatticeForm::Tsv,
+        Form::Dot => LatticeForm::Dot,
+    };
+    Ok(Printed::Lattices(LatticeFormat {
+        form,
+        within: choice.within,
+    }))
+}
+
 /// The format by name, or that of the four texts; those that weren't given are MeCab's.
-pub fn format_of(alloc: Global, options: &Options) -> Result<Format, FormatFault> {
+fn format_of(alloc: Global, options: &Options) -> Result<Format, FormatFault> {
     if options.output.is_some() {
         return Ok(Format::wakati(alloc)?);
     }
@@ -18,6 +43,17 @@ pub fn format_of(alloc: Global, options: &Options) -> Result<Format, FormatFault
         text_or(&options.bos, ""),
         text_or(&options.eos, "EOS\\n"),
     )
+}
+
+/// The text of a part of the format, where it is given.
+pub fn text_given(options: &Options, part: FormatPart) -> Option<&str> {
+    let given = match part {
+        FormatPart::Node => &options.node,
+        FormatPart::Unk => &options.unk,
+        FormatPart::Bos => &options.bos,
+        FormatPart::Eos => &options.eos,
+    };
+    given.as_ref().map(|text| text.as_str())
 }
 
 fn text_or<'a>(given: &'a Option<String>, otherwise: &'a str) -> &'a str {

@@ -1,7 +1,9 @@
 //! Standard input is cut by the images that the command line names.
 
 use crate::cutting::Manner;
+use crate::formatting::Printed;
 use dict_image::DigestTest;
+use lattice_printer::print_lattices;
 use mj_model::{Counted, GROUPING_MAX, OverlayFault};
 use programs::{Fault, Stage, dictionaries_at, dictionary_at};
 use segmenter::segment;
@@ -26,13 +28,18 @@ pub fn cut_by_images(
         .with_grouping(manner.grouping.min(GROUPING_MAX));
     let mut reader = Counted::new(rt.reader());
     let mut writer = Counted::new(rt.stdout());
-    let cut = segment(
-        rt.alloc(),
-        &dictionaries,
-        &manner.format,
-        &mut reader,
-        &mut writer,
-    );
+    let cut = match &manner.printed {
+        Printed::Words(format) => {
+            segment(rt.alloc(), &dictionaries, format, &mut reader, &mut writer)
+        }
+        Printed::Lattices(format) => print_lattices(
+            rt.alloc(),
+            &dictionaries,
+            *format,
+            &mut reader,
+            &mut writer,
+        ),
+    };
     if cut.is_err() {
         let _ = writer.flush();
     }

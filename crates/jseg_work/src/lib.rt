@@ -7,6 +7,7 @@ mod images;
 mod inputs;
 mod listing;
 mod source_directory;
+mod source_lattices;
 mod work;
 
 pub use images::overlay_fault;

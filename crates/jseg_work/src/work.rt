@@ -13,12 +13,14 @@ pub fn do_task(rt: &HostRuntime, task: &Task) -> Result<(), Fault> {
     }
 }
 
-/// Says, where that is asked for, where the image of a fault was looked for.
+/// Says to a person where the image of a fault was looked for, and what explains the fault.
 pub fn say_more(rt: &HostRuntime, task: &Task, fault: &Fault) {
     let Task::Cut(options) = task else {
         return;
     };
+    let narrator = Narrator::new(rt, "jseg", options.verbose);
     if matches!(options.input, Input::Images { .. }) {
-        say_homes(rt, &Narrator::new(rt, "jseg", options.verbose), fault);
+        say_homes(rt, &narrator, fault);
     }
+    narrator.say_explanation(fault);
 }

@@ -1,6 +1,7 @@
 -- What faults tell: which of them name a path, and the code and the name of each.
 use Rattle.std.specs.Prelude.{◌≡◌, ◌⊎◌, ℕ, List, Contains, String, string_bytes, codes}
 use Rattle.std.specs.declared.alloc.Global.{Global}
+use Rattle.mj_model.specs.declared.image_fault.ImageFault.{ImageFault}
 use Rattle.mj_model.specs.declared.source_fault.SourceKind.{SourceKind}
 use Rattle.mj_model.specs.declared.source_fault.SourceKind.TheVariants as kind
 use Rattle.mj_model.specs.FaultWords.{Words, source_words, format_words, run_words}
@@ -23,6 +24,10 @@ Names fault_at path told = (told ≡ Memory) ⊎ ((name : String Global) × (tol
 -- so of one of the files at some paths
 abbrev pub NamesOneOf : List (String Global) → Fault → Type 0
 NamesOneOf paths told = (told ≡ Memory) ⊎ ((path : String Global) × Contains paths path × Names File (string_bytes path) told)
+
+-- so of an image at a path: its file can't be read, or it is refused
+abbrev pub NamesFileOrImage : List ℕ → Fault → Type 0
+NamesFileOrImage path told = Names File path told ⊎ ((fault : ImageFault) × Names (λ name. Image name fault) path told)
 
 -- want of memory is why a reader's bytes can't be had
 abbrev pub IsForMemory : ReadFault → Type 0

@@ -17,7 +17,7 @@ pub fn say_homes(rt: &HostRuntime, narrator: &Narrator<'_>, fault: &Fault) {
     let Fault::File(name) = fault else {
         return;
     };
-    if narrator.is_asked() && is_looked_for(rt, name.as_str()) {
+    if narrator.is_heard() && is_looked_for(rt, name.as_str()) {
         // Lines for which memory is refused are left out.
         let _ = say_folders(rt, narrator);
     }

@@ -1,6 +1,7 @@
 //! Dictionaries of images.
 
-ghost use Rattle.std.specs.Prelude.{◌≡◌, IfOk, string_bytes};
+ghost use Rattle.std.specs.Prelude.{◌≡◌, IfErr, IfOk, string_bytes};
+ghost use Rattle.programs.specs.Faults.{NamesFileOrImage};
 ghost use Rattle.programs.specs.Reading.{AreOfAFile};
 
 use crate::fault::Fault;
@@ -46,6 +47,7 @@ pub fn dictionaries_at(
 pub fn image_at<R: Files + AllocGlobal>(rt: &R, path: &str) -> Result<WholeFile, Fault>
     ensures path { IfOk result (λ whole. string_bytes whole.path ≡ path.now) }
     ensures bytes { IfOk result (λ whole. AreOfAFile R.File.remaining whole.bytes.items) }
+    ensures fault { IfErr result (NamesFileOrImage path.now) }
 {
     let mut file = match fs::open(rt, path) {
         Ok(file) => file,

@@ -6,13 +6,22 @@ use crate::output::write_whole;
 use crate::stage::Stage;
 use crate::whole_file::WholeFile;
 use command_lines::OneLine;
-use mj_model::{FormatFault, FormatPart};
+use mj_model::{FormatFault, FormatPart, NamedFault, SourceKind};
+use std::alloc::{AllocError, Global};
 use std::fmt::Display;
 use std::io::IsTerminal;
+use std::string::String;
 use std::time::{Duration, Instant};
 
 /// The first bytes of a file that begins with U+FEFF.
 const BYTE_ORDER_MARK: &[u8] = b"\xef\xbb\xbf";
+
+/// What takes sources that are not UTF-8.
+const CONVERTER: &str =
+    "kumquatsieve-import takes sources that are not UTF-8: a directory of them, and lexicons with --user";
+
+/// From this character on most take two columns of a terminal: the first of Hangul's, before kana and kanji.
+const WIDE: char = '\u{1100}';
 
 /// Writes lines to standard error while a program works, or none. A failed write is ignored.
 #[derive(Clone, Copy)]
@@ -34,9 +43,9 @@ impl<'a> Narrator<'a> {
         Narrator { rt, program, began }
     }
 
-    /// Whether lines are asked for.
-    pub(crate) fn is_asked(&self) -> bool {
-        self.began.is_some()
+    /// Whether a person is told more of a fault than its line: where steps are asked for, and on a terminal.
+    pub(crate) fn is_heard(&self) -> bool {
+        self.began.is_some() || self.rt.stderr().is_terminal()
     }
 
     /// Says a step of the work, with the seconds since it began.
@@ -74,9 +83,9 @@ impl<'a> Narrator<'a> {
         }
     }
 
-    /// Says of a file that was to be read why it can't be, and of a format which option has it.
+    /// Says of a file that was to be read why it can't be, of a format which option has it, and of a source that is not UTF-8 what takes it.
     pub fn say_why(&self, fault: &Fault) {
-        if self.began.is_none() {
+        if !self.is_heard() {
             return;
         }
         let line = match fault {
@@ -89,8 +98,36 @@ impl<'a> Narrator<'a> {
                 let option = option_of(*part);
                 format!(in self.rt.alloc(); "the fault is in the text of {option}")
             }
+            Fault::Source(_, fault) if fault.kind == SourceKind::NotUtf8 => {
+                String::from_str(self.rt.alloc(), CONVERTER)
+            }
             _ => return,
         };
+        if let Ok(line) = line {
+            self.tell(&line);
+        }
+    }
+
+    /// Says where a text has its fault: the text in one line, and a mark under the byte.
+    pub fn say_mark(&self, text: &str, at: usize) {
+        if self.is_heard() {
+            if let Ok(mark) = mark_under(self.rt.alloc(), text, at) {
+                self.tell(&OneLine(text));
+                self.tell(&mark);
+            }
+        }
+    }
+
+    /// Says what explains a fault.
+    pub fn say_explanation(&self, fault: &Fault) {
+        if !self.is_heard() {
+            return;
+        }
+        let line = format!(in self.rt.alloc();
+            "'{} --explain {}' prints what that means and what to do",
+            self.program,
+            fault.code()
+        );
         if let Ok(line) = line {
             self.tell(&line);
         }
@@ -102,6 +139,17 @@ impl<'a> Narrator<'a> {
             let _ = write_whole(&mut self.rt.stderr(), text.as_bytes());
         }
     }
+}
+
+/// A mark below a byte of a text that is told in one line.
+fn mark_under(alloc: Global, text: &str, at: usize) -> Result<String, AllocError> {
+    let before = format!(in alloc; "{}", OneLine(text.get(..at).unwrap_or("")))?;
+    let mut mark = String::new(alloc);
+    for character in before.chars() {
+        mark.push_str(if character < WIDE { " " } else { "  " })?;
+    }
+    mark.push_str("^")?;
+    Ok(mark)
 }
 
 /// The option that gives a text of a format.

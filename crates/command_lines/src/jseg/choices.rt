@@ -26,6 +26,21 @@ pub enum Input {
     Sample,
 }
 
+/// The form of a printed lattice.
+#[derive(Clone, Copy, Debug, PartialEq, Eq, Drop)]
+pub enum Form {
+    Tsv,
+    Dot,
+}
+
+/// How the lattice of each line is printed.
+#[derive(Clone, Copy, Debug, PartialEq, Eq, Drop)]
+pub struct LatticeChoice {
+    pub form: Form,
+    /// By how much a word may have lost at most, where not all are printed.
+    pub within: Option<i64>,
+}
+
 /// The choices of a command line by which a text is cut, as given.
 #[derive(PartialEq, Drop)]
 pub struct Options {
@@ -42,6 +57,8 @@ pub struct Options {
     pub bos: Option<String>,
     /// What is printed behind the last word of a line.
     pub eos: Option<String>,
+    /// How lattices are printed in place of best paths, where they are.
+    pub lattice: Option<LatticeChoice>,
     /// Whether the program says on standard error what it does.
     pub verbose: bool,
 }

@@ -1,6 +1,6 @@
 //! What is asked for by a command line of `jseg`.
 
-use super::choices::{Input, Options, Task};
+use super::choices::{Form, Input, LatticeChoice, Options, Task};
 use super::mecab_habits::{HABITS, habit_in};
 use super::rows::{INPUTS, ROWS};
 use crate::about::{VERSION, answer_explain};
@@ -20,6 +20,9 @@ const FILES: [&str; 3] = ["-d", "-u", "--sources"];
 
 /// What is said where nothing says by what the text is to be cut.
 const NO_INPUT: &str = "one of -d IMG, --sources DIR and --sample has to be given";
+
+/// What is said where no lattice is printed.
+const NO_LATTICE: &str = "--within N is for --lattice FORM";
 
 /// Reads the words that follow the program's name.
 pub fn task(alloc: Global, words: Vec<String>) -> Result<Task, OptionsFault> {
@@ -80,6 +83,7 @@ fn choices(alloc: Global, matches: &ArgMatches<'_>) -> Result<Options, OptionsFa
         unk: text_of(alloc, matches, "unk")?,
         bos: text_of(alloc, matches, "bos")?,
         eos: text_of(alloc, matches, "eos")?,
+        lattice: lattice(alloc, matches)?,
         verbose: matches.get_flag("verbose"),
     })
 }
@@ -97,4 +101,17 @@ fn input(alloc: Global, matches: &ArgMatches<'_>) -> Result<Option<Input>, Alloc
         return Ok(Some(Input::Sources(dir)));
     }
     Ok(matches.get_flag("sample").then_some(Input::Sample))
+}
+
+/// How lattices are printed; None where best paths are.
+fn lattice(alloc: Global, matches: &ArgMatches<'_>) -> Result<Option<LatticeChoice>, OptionsFault> {
+    let within = matches.get_one("within");
+    let Some(name) = matches.get_str("lattice") else {
+        return match within {
+            Some(_) => Err(OptionsFault::wrong(alloc, NAME, NO_LATTICE)),
+            None => Ok(None),
+        };
+    };
+    let form = if name == "dot" { Form::Dot } else { Form::Tsv };
+    Ok(Some(LatticeChoice { form, within }))
 }

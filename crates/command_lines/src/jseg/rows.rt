@@ -19,7 +19,27 @@ const OF_TEXTS: &[&str] = &[
     "unk",
     "bos",
     "eos",
+    "lattice",
+    "within",
 ];
+
+/// The ids of the options that say how the words of the best path are printed.
+const OF_WORDS: &[&str] = &["output", "node", "unk", "bos", "eos"];
+
+/// The forms of a printed lattice.
+pub(super) const FORMS: [&str; 2] = ["tsv", "dot"];
+
+/// The name of a form.
+const FORM: Taken = Taken {
+    parser: ValueParser::Names(&FORMS),
+    ..VALUE
+};
+
+/// A cost from 0 on.
+const COST: Taken = Taken {
+    parser: ValueParser::Signed(0, i64::MAX),
+    ..VALUE
+};
 
 /// A number from 0 to `GROUPING_MAX`.
 const GROUPING: Taken = Taken {
@@ -29,7 +49,7 @@ const GROUPING: Taken = Taken {
 
 /// The options, in the order of help.
 #[rattlefmt::skip]
-pub(super) static ROWS: [Row; 14] = [
+pub(super) static ROWS: [Row; 16] = [
     Row { id: "dic", name: Letter('d'), taken: VALUE, values: &["IMG"], excluded: &[],
         help: "Cut the text with the system dictionary of an image" },
     Row { id: "users", name: Letter('u'), taken: VALUES, values: &["IMG"], excluded: &["sources", "sample"],
@@ -51,6 +71,10 @@ pub(super) static ROWS: [Row; 14] = [
         help: "What is printed before the first word of a line" },
     Row { id: "eos", name: Letter('E'), taken: TEXT, values: &["FORMAT"], excluded: &[],
         help: "What is printed after the last word of a line" },
+    Row { id: "lattice", name: Long("lattice"), taken: FORM, values: &["FORM"], excluded: OF_WORDS,
+        help: "Print the lattice of each line: tsv, a table of its words, or dot, a graph for Graphviz" },
+    Row { id: "within", name: Long("within"), taken: COST, values: &["N"], excluded: &[],
+        help: "With --lattice, leave out the words that lost by more than N and those without a path" },
     Row { id: "dictionaries", name: Long("dictionaries"), taken: FLAG, values: &[], excluded: OF_TEXTS,
         help: "List the images that a bare name may find, and cut nothing: name, bytes, entries, path" },
     VERBOSE,

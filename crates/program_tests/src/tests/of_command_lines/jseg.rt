@@ -3,7 +3,7 @@
 use super::is_text;
 use crate::tests::words;
 use command_lines::OptionsFault;
-use command_lines::jseg::{Input, Options, Task, task};
+use command_lines::jseg::{Form, Input, LatticeChoice, Options, Task, task};
 use std::alloc::{AllocError, Global};
 use std::string::String;
 use std::test::Fail;
@@ -104,6 +104,29 @@ fn format_options(rt: HostRuntime) -> Result<(), Fail> {
         for (got, wanted) in got.iter().zip(wanted.iter()) {
             assert!(rt; is_text(got, *wanted), "{what}");
         }
+    }
+    Ok(())
+}
+
+#[test]
+fn lattice_options(rt: HostRuntime) -> Result<(), Fail> {
+    #[rattlefmt::skip]
+    let rows = [
+        // (words, the form and the bound)
+        ("--sample",                                  None),
+        ("--sample --lattice tsv",                    Some((Form::Tsv, None))),
+        ("--lattice=dot -d s",                        Some((Form::Dot, None))),
+        ("--sources a --lattice dot --within 0",      Some((Form::Dot, Some(0)))),
+        ("--within 300000 --lattice tsv --sample -v", Some((Form::Tsv, Some(300_000)))),
+    ];
+    for (given, wanted) in rows {
+        let words = words(rt.alloc(), given)?;
+        let Ok(Some(options)) = options(rt.alloc(), words) else {
+            assert!(rt; false, "{given}");
+            return Ok(());
+        };
+        let wanted = wanted.map(|(form, within)| LatticeChoice { form, within });
+        assert!(rt; options.lattice == wanted, "{given}");
     }
     Ok(())
 }
