@@ -42,13 +42,13 @@ static bool read_grouping(tables *to, const char *text, fault *error) {
 }
 
 /* An image without settings beside it has no ids. */
-static bool read_ids(tables *to, const char *image, const settings *from, fault *error) {
-    if (!is_set(from, HAS_DICRC)) return true;
-    char *path = beside(image, ".pos-id.def");
-    if (!path) return fail_memory(error);
-    to->posids = read_posids(path, to->images, error);
-    free(path);
-    return to->posids != NULL;
+static bool take_tokens(tables *to, const char *image, const settings *from, fault *error) {
+    bool has_settings = is_set(from, HAS_DICRC);
+    char *rules = has_settings ? beside(image, ".pos-id.def") : NULL;
+    if (has_settings && !rules) return fail_memory(error);
+    to->tokens = tokens_over(to->images, rules, error);
+    free(rules);
+    return to->tokens != NULL;
 }
 
 static bool copy_feature(char **to, const char *feature, fault *error) {
@@ -58,7 +58,6 @@ static bool copy_feature(char **to, const char *feature, fault *error) {
 
 static void free_tables(tables *of) {
     release_images(of->images);
-    free_posids(of->posids);
     free(of->bos_feature);
     free(of->unk_feature);
     free(of);
@@ -69,8 +68,9 @@ static bool fill_tables(tables *to, char *path, const settings *from, fault *err
     if (!read_grouping(to, setting_of(from, "max-grouping-size"), error)) return false;
     if (!copy_feature(&to->bos_feature, bos && *bos ? bos : BOS_FEATURE, error)) return false;
     if (unk && *unk && !copy_feature(&to->unk_feature, unk, error)) return false;
+    to->boundary = (mecab_node_t){.feature = to->bos_feature, .isbest = 1};
     to->images = open_all(path, setting_of(from, "userdic"), error);
-    return to->images && read_ids(to, path, from, error);
+    return to->images && take_tokens(to, path, from, error);
 }
 
 tables *load_tables(settings *from, fault *error) {

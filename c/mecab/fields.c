@@ -21,7 +21,7 @@ static char *unquoted(char *field) {
 size_t cut_fields(char *text, const char **fields, size_t most) {
     size_t count = 0;
     while (*text && count < most) {
-        text += strspn(text, " \t");
+        while (*text == ' ' || *text == '\t') text++;
         if (*text == '"') {
             fields[count++] = text + 1;
             text = unquoted(text + 1);

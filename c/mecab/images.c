@@ -6,7 +6,6 @@
 #include <stdlib.h>
 #include <string.h>
 #include <sys/mman.h>
-#include <sys/stat.h>
 #include <unistd.h>
 
 /* Where an image's header says its sizes: right ids, left ids, tokens of the lexicon, unknown tokens behind those. (docs/FORMAT.md) */
@@ -14,25 +13,17 @@ enum { RIGHT_AT = 16, LEFT_AT = 20, TOKENS_AT = 32, UNKNOWN_AT = 36, HEADER = 10
 
 static const unsigned OF_MECAB = 0xef718f77U;
 
-/* What tells a file from others, and from what it was before. */
-typedef struct identity {
-    dev_t device;
-    ino_t number;
-    off_t size;
-    struct timespec modified;
-    struct timespec changed;
-} identity;
-
-/* A system's image and those of users that are laid over it, with the features of their words. The count and the list are under the lock of
-   lock.c. */
+/* A system's image and those of users that are laid over it, with what nodes take of their tokens, by each rules for ids that were asked for. Tokens
+   are counted through all images: those of one stand from its start on, and end where the next one's start. The holders and the list of all are under
+   the one lock of lock.c, and the tokens under that of loads. */
 struct images {
     images *next;
     unsigned long holders;
     size_t count;
     identity *files;
-    size_t *token_counts;
+    size_t *starts;
     kumquatsieve_dictionary *dictionary;
-    features *features;
+    tokens *tokens;
     mecab_dictionary_info_t *infos;
 };
 
@@ -42,19 +33,6 @@ static images *kept;
 
 static bool is_file(const struct stat *of, const char *path, fault *error) {
     return S_ISREG(of->st_mode) || fail(error, "%s: is no file", path);
-}
-
-static identity identity_of(const struct stat *of) {
-    return (identity){of->st_dev, of->st_ino, of->st_size, of->st_mtim, of->st_ctim};
-}
-
-static bool are_at(struct timespec one, struct timespec other) {
-    return one.tv_sec == other.tv_sec && one.tv_nsec == other.tv_nsec;
-}
-
-static bool are_same(const identity *one, const identity *other) {
-    return one->device == other->device && one->number == other->number && one->size == other->size && are_at(one->modified, other->modified)
-        && are_at(one->changed, other->changed);
 }
 
 /* The images of these files, held, where the process has them. The lock is the caller's. */
@@ -142,7 +120,7 @@ static bool add_info(mecab_dictionary_info_t **last, const char *path, const kum
 static bool keep_header(images *to, const char *path, const kumquatsieve_image *image, size_t number) {
     mecab_dictionary_info_t **last = &to->infos;
     while (*last) last = &(*last)->next;
-    to->token_counts[number] = (size_t)number_at(image, TOKENS_AT) + number_at(image, UNKNOWN_AT);
+    to->starts[number + 1] = to->starts[number] + number_at(image, TOKENS_AT) + number_at(image, UNKNOWN_AT);
     return add_info(last, path, image, number == 0 ? MECAB_SYS_DIC : MECAB_USR_DIC);
 }
 
@@ -174,7 +152,7 @@ static bool load_mapped(images *to, char *const *paths, fault *error) {
 
 static void free_images(images *of) {
     kumquatsieve_dictionary_release(of->dictionary);
-    free_features(of->features);
+    free_tokens(of->tokens);
     for (mecab_dictionary_info_t *info = of->infos; info;) {
         mecab_dictionary_info_t *next = info->next;
         free((char *)info->filename);
@@ -182,7 +160,7 @@ static void free_images(images *of) {
         info = next;
     }
     free(of->files);
-    free(of->token_counts);
+    free(of->starts);
     free(of);
 }
 
@@ -195,9 +173,8 @@ static images *load_all(char *const *paths, size_t count, fault *error) {
     made->count = count;
     made->holders = 1;
     made->files = calloc(count, sizeof *made->files);
-    made->token_counts = calloc(count, sizeof *made->token_counts);
-    bool is_loaded = made->files && made->token_counts ? load_mapped(made, paths, error) : fail_memory(error);
-    if (is_loaded && !(made->features = make_features(made->token_counts, count))) is_loaded = fail_memory(error);
+    made->starts = calloc(count + 1, sizeof *made->starts);
+    bool is_loaded = made->files && made->starts ? load_mapped(made, paths, error) : fail_memory(error);
     if (is_loaded) return made;
     free_images(made);
     return NULL;
@@ -246,20 +223,15 @@ void release_images(images *of) {
     if (before) free_images(before);
 }
 
-size_t image_count(const images *of) {
-    return of->count;
-}
-
-size_t token_count(const images *of, size_t image) {
-    return of->token_counts[image];
+tokens *tokens_over(images *of, const char *rules, fault *error) {
+    lock_loads();
+    tokens *found = tokens_in(&of->tokens, of->starts, of->starts[of->count], rules, error);
+    unlock_loads();
+    return found;
 }
 
 const mecab_dictionary_info_t *infos_of(const images *of) {
     return of->infos;
-}
-
-features *features_of(const images *of) {
-    return of->features;
 }
 
 bool cutter_over_images(kumquatsieve_cutter *to, const images *from, fault *error) {

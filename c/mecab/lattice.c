@@ -31,6 +31,8 @@ void mecab_lattice_destroy(mecab_lattice_t *lattice) {
     free_bytes(&lattice->listed);
     free(lattice->words);
     free(lattice->nodes);
+    free(lattice->found);
+    free(lattice->others);
     free(lattice->begins);
     free(lattice->ends);
     mecab_model_destroy(lattice->model);

@@ -7,26 +7,49 @@
 #include <kumquatsieve.h>
 #include <mecab.h>
 #include <stdatomic.h>
+#include <sys/stat.h>
+
+/* What is declared here is the library's own: other libraries of a program don't replace it. */
+#pragma GCC visibility push(hidden)
 
 /* Images that are loaded. (images.c) */
 typedef struct images images;
 
-/* Features of their words. (features.c) */
-typedef struct features features;
+/* What tells a file from others, and from what it was before. (identity.c) */
+typedef struct identity {
+    dev_t device;
+    ino_t number;
+    off_t size;
+    struct timespec modified;
+    struct timespec changed;
+} identity;
 
-/* Part-of-speech ids of their words. (posids.c) */
+/* Rules for ids of parts of speech. (posids.c) */
 typedef struct posids posids;
 
-/* The dictionaries of a model and what goes with them, which stay as they are; no two have the same number, which is above 0. The holders are
-   the model and the lattices that were cut by it; their count is under the lock of lock.c. */
+/* What nodes take of the tokens of their words: for each token a node of no place and no path, or NULL where no word of it came yet. The next one has
+   other rules for ids; without rules each id is 0. (tokens.c) */
+typedef struct tokens {
+    struct tokens *next;
+    const size_t *starts;
+    size_t count;
+    _Atomic(mecab_node_t *) *nodes;
+    posids *posids;
+    identity rules;
+} tokens;
+
+/* The dictionaries of a model and what goes with them, which stay as they are; no two have the same number, which is above 0. The boundary is what the
+   nodes of a beginning and an end have in common. The holders are the model and the lattices that were cut by it; their count is under the lock of
+   lock.c. */
 typedef struct tables {
     unsigned long number;
     unsigned long holders;
     images *images;
-    posids *posids;
+    tokens *tokens;
     uint32_t grouping;
     char *bos_feature;
     char *unk_feature;
+    mecab_node_t boundary;
 } tables;
 
 /* Which tables taggers take, and what is asked of new ones. It goes with the last of its holders: its owner, its taggers and its lattices. All
@@ -51,9 +74,10 @@ struct mecab_t {
 };
 
 /* A sentence and, once it was parsed, its best path: the nodes from its beginning to its end, and, once that was asked for, its text in the
-   format of its model, or the default one where it has none. The cutter is over the tables of the tagger that parsed it last; `chosen` is
-   the number of the cutter's format, 0 where none was chosen. A sentence is odd where it was not cut as it is, and told where its best path was
-   given as the first of several. */
+   format of its model, or the default one where it has none, and the nodes of the whole lattice: those that are not on the path are `others`. The
+   cutter is over the tables of the tagger that parsed it last; `chosen` is the number of the cutter's format, 0 where none was chosen. A sentence is
+   odd where it was not cut as it is, placed where the nodes of the lattice stand at their places, chained where all of them are linked in place of
+   the path, and told where its best path was given as the first of several. */
 struct mecab_lattice_t {
     mecab_model_t *model;
     tables *tables;
@@ -67,6 +91,11 @@ struct mecab_lattice_t {
     mecab_node_t *nodes;
     size_t nodes_room;
     size_t count;
+    kumquatsieve_node *found;
+    size_t found_room;
+    size_t found_count;
+    mecab_node_t *others;
+    size_t others_room;
     mecab_node_t **begins;
     mecab_node_t **ends;
     size_t places_room;
@@ -79,6 +108,7 @@ struct mecab_lattice_t {
     bool is_odd;
     bool is_printed;
     bool is_placed;
+    bool is_chained;
     bool is_told;
     bool is_constrained;
     int request;
@@ -106,23 +136,25 @@ void unlock_loads(void);
 void lock_shared(void);
 void unlock_shared(void);
 
-/* images.c */
+/* identity.c */
+identity identity_of(const struct stat *of);
+bool are_same(const identity *one, const identity *other);
+
+/* images.c. What nodes take of tokens stays as long as its images; the rules are those of a file, or none. */
 images *open_images(char *const *paths, size_t count, fault *error);
 void release_images(images *of);
-size_t image_count(const images *of);
-size_t token_count(const images *of, size_t image);
 const mecab_dictionary_info_t *infos_of(const images *of);
-features *features_of(const images *of);
+tokens *tokens_over(images *of, const char *rules, fault *error);
 bool cutter_over_images(kumquatsieve_cutter *to, const images *from, fault *error);
 
-/* features.c. make_features answers NULL where there is no memory. */
-features *make_features(const size_t *token_counts, size_t image_count);
-bool find_features(features *of, kumquatsieve_cutter *cutter, const kumquatsieve_word *words, mecab_node_t *nodes, size_t count, fault *error);
-void free_features(features *of);
+/* tokens.c */
+tokens *tokens_in(tokens **list, const size_t *starts, size_t count, const char *rules, fault *error);
+bool keep_token(const tokens *of, kumquatsieve_cutter *cutter, const kumquatsieve_word *word, fault *error);
+void free_tokens(tokens *list);
 
-/* posids.c */
-posids *read_posids(const char *path, const images *of, fault *error);
-bool find_posids(const posids *of, const kumquatsieve_word *words, mecab_node_t *nodes, size_t count, fault *error);
+/* posids.c. Where there is no file each id is that of MeCab's compiler then. */
+posids *read_posids(FILE *file, const char *path, fault *error);
+uint16_t posid_of(const posids *of, char *feature);
 void free_posids(posids *of);
 
 /* dictionary.c */
@@ -164,18 +196,26 @@ typedef struct part {
 } part;
 
 /* nodes.c */
-bool begin_nodes(mecab_lattice_t *lattice, fault *error);
 bool add_nodes(mecab_lattice_t *lattice, part *of, fault *error);
-void end_nodes(mecab_lattice_t *lattice, long cost);
 bool make_nodes(mecab_lattice_t *lattice, fault *error);
+bool make_others(mecab_lattice_t *lattice, fault *error);
+
+/* whole.c */
+bool add_found(mecab_lattice_t *lattice, part *of, fault *error);
+bool find_nodes(mecab_lattice_t *lattice, fault *error);
+
+/* places.c */
+bool chain_all(mecab_lattice_t *lattice, fault *error);
 
 /* odd.c */
 bool is_odd(uint32_t code);
-bool cut_odd(mecab_lattice_t *lattice, fault *error);
+bool add_odd(mecab_lattice_t *lattice, long *cost, fault *error);
+bool find_odd(mecab_lattice_t *lattice, fault *error);
 
 /* parsing.c */
 void forget_path(mecab_lattice_t *lattice);
 bool parse(mecab_model_t *model, mecab_lattice_t *lattice, bool nodes, fault *error);
 const char *text_of(mecab_lattice_t *lattice, fault *error);
 
+#pragma GCC visibility pop
 #endif

@@ -1,19 +1,25 @@
 /* What needs more than the best path: each answers NULL or 0, and says so. */
 #include "layer.h"
 
-#define OF_LATTICE(type, name, none, ...)               \
-    type name(mecab_lattice_t *lattice, ##__VA_ARGS__) { \
-        fail_left_out(&lattice->error, #name);          \
-        return none;                                    \
-    }
-
 #pragma GCC diagnostic ignored "-Wunused-parameter"
 
+mecab_node_t *mecab_lattice_new_node(mecab_lattice_t *lattice) {
+    fail_left_out(&lattice->error, __func__);
+    return NULL;
+}
 
-OF_LATTICE(mecab_node_t *, mecab_lattice_new_node, NULL)
-OF_LATTICE(int, mecab_lattice_has_constraint, 0)
-OF_LATTICE(int, mecab_lattice_get_boundary_constraint, 0, size_t at)
-OF_LATTICE(const char *, mecab_lattice_get_feature_constraint, NULL, size_t at)
+int mecab_lattice_has_constraint(mecab_lattice_t *lattice) {
+    return fail_left_out(&lattice->error, __func__);
+}
+
+int mecab_lattice_get_boundary_constraint(mecab_lattice_t *lattice, size_t at) {
+    return fail_left_out(&lattice->error, __func__);
+}
+
+const char *mecab_lattice_get_feature_constraint(mecab_lattice_t *lattice, size_t at) {
+    fail_left_out(&lattice->error, __func__);
+    return NULL;
+}
 
 /* These answer nothing, so that the sentence is refused where it is parsed, and no older result stays. */
 static void constrain(mecab_lattice_t *lattice, const char *what) {

@@ -8,7 +8,6 @@ static const double THETA = 0.75;
 /* What needs more than the best path of each sentence is refused before one comes. */
 static bool are_had(const settings *from, fault *error) {
     if (is_set(from, "partial")) return fail_left_out(error, "partial parsing");
-    if (is_set(from, "all-morphs")) return fail_left_out(error, "the output of all morphs");
     return number_of(from, "nbest", 1) <= 1 || fail_left_out(error, "N-best");
 }
 
@@ -25,6 +24,7 @@ static int request_of(const settings *from) {
     long level = number_of(from, "lattice-level", 0);
     int request = MECAB_ONE_BEST;
     if (is_set(from, "allocate-sentence")) request |= MECAB_ALLOCATE_SENTENCE;
+    if (is_set(from, "all-morphs")) request |= MECAB_ALL_MORPHS;
     if (is_set(from, "marginal") || level >= 2) request |= MECAB_MARGINAL_PROB;
     if (level >= 1) request |= MECAB_NBEST;
     return request;

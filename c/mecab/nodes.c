@@ -2,38 +2,29 @@
 #include "layer.h"
 #include <stdlib.h>
 
-/* So many more words, and nodes for them and for the end. */
+static bool grow_words(mecab_lattice_t *lattice, size_t wanted, fault *error) {
+    size_t room = 2 * wanted + 8;
+    kumquatsieve_word *words = realloc(lattice->words, room * sizeof *words);
+    if (!words) return fail_memory(error);
+    lattice->words = words;
+    lattice->words_room = room;
+    return true;
+}
+
+static bool grow_nodes(mecab_lattice_t *lattice, size_t wanted, fault *error) {
+    size_t room = 2 * wanted + 8;
+    mecab_node_t *nodes = realloc(lattice->nodes, room * sizeof *nodes);
+    if (!nodes) return fail_memory(error);
+    lattice->nodes = nodes;
+    lattice->nodes_room = room;
+    return true;
+}
+
+/* So many words, and further nodes for them and for the end. */
 static bool has_room(mecab_lattice_t *lattice, size_t count, fault *error) {
-    size_t nodes_wanted = lattice->count + count + 1;
-    if (count > lattice->words_room) {
-        kumquatsieve_word *words = realloc(lattice->words, (2 * count + 8) * sizeof *words);
-        if (!words) return fail_memory(error);
-        lattice->words = words;
-        lattice->words_room = 2 * count + 8;
-    }
-    if (nodes_wanted > lattice->nodes_room) {
-        mecab_node_t *nodes = realloc(lattice->nodes, (2 * nodes_wanted + 8) * sizeof *nodes);
-        if (!nodes) return fail_memory(error);
-        lattice->nodes = nodes;
-        lattice->nodes_room = 2 * nodes_wanted + 8;
-    }
-    return true;
-}
-
-static mecab_node_t *add_boundary(mecab_lattice_t *lattice, const char *surface, unsigned char stat) {
-    mecab_node_t *node = &lattice->nodes[lattice->count];
-    *node = (mecab_node_t){
-        .surface = surface, .feature = lattice->tables->bos_feature, .stat = stat, .id = (unsigned)lattice->count, .isbest = 1,
-    };
-    lattice->count++;
-    return node;
-}
-
-bool begin_nodes(mecab_lattice_t *lattice, fault *error) {
-    lattice->count = 0;
-    if (!has_room(lattice, 1, error)) return false;
-    add_boundary(lattice, lattice->sentence, MECAB_BOS_NODE);
-    return true;
+    size_t wanted = lattice->count + count + 1;
+    if (count > lattice->words_room && !grow_words(lattice, count, error)) return false;
+    return wanted <= lattice->nodes_room || grow_nodes(lattice, wanted, error);
 }
 
 /* A word's places are those of the text that was cut; here they become those of the sentence, and the costs those from its beginning on. A word
@@ -48,31 +39,39 @@ static void move_words(kumquatsieve_word *words, size_t count, part *of) {
     of->cost += (long)of->total;
 }
 
-/* Each field by itself: a node that is made empty first costs twice the steps. MeCab's nodes have 16 bits for a length. */
-static bool set_node(mecab_node_t *node, size_t id, const kumquatsieve_word *word, const char *sentence) {
-    node->prev = node->next = node->enext = node->bnext = NULL;
-    node->rpath = node->lpath = NULL;
-    node->surface = sentence + word->start;
-    node->id = (unsigned)id;
-    node->length = (unsigned short)(word->end - word->start);
-    node->rlength = (unsigned short)(word->end - word->place);
-    node->rcAttr = word->right;
-    node->lcAttr = word->left;
-    node->posid = 0;
-    node->char_type = word->category;
-    node->stat = word->known ? MECAB_NOR_NODE : MECAB_UNK_NODE;
-    node->isbest = 1;
-    node->alpha = node->beta = node->prob = 0;
-    node->wcost = word->cost;
-    node->cost = (long)word->total;
-    return word->end - word->place <= UINT16_MAX;
-}
-
-static bool set_nodes(mecab_node_t *nodes, size_t first, const kumquatsieve_word *words, size_t count, const char *sentence) {
+/* MeCab's nodes have 16 bits for a length. */
+static bool are_short(const kumquatsieve_word *words, size_t count) {
     for (size_t i = 0; i < count; i++) {
-        if (!set_node(&nodes[i], first + i, &words[i], sentence)) return false;
+        if (words[i].end - words[i].place > UINT16_MAX) return false;
     }
     return true;
+}
+
+/* Sets a node of a word, which has no neighbors then. False, and nothing is set, where the word's token has no node yet, or is past those of its
+   dictionary. */
+static inline bool set_node(const tokens *of, mecab_node_t *node, const kumquatsieve_word *word, const char *sentence) {
+    size_t token = of->starts[word->dictionary] + word->token;
+    if (token >= of->starts[word->dictionary + 1]) return false;
+    const mecab_node_t *kept = atomic_load_explicit(&of->nodes[token], memory_order_acquire);
+    if (!kept) return false;
+    *node = *kept;
+    node->surface = sentence + word->start;
+    node->length = (unsigned short)(word->end - word->start);
+    node->rlength = (unsigned short)(word->end - word->place);
+    node->char_type = word->category;
+    node->cost = (long)word->total;
+    return true;
+}
+
+/* Sets nodes of the path, each between its neighbors, up to the first word that none can be set of. Answers how many. */
+static size_t set_nodes(const tokens *of, mecab_node_t *node, size_t id, const kumquatsieve_word *words, size_t count, const char *sentence) {
+    const kumquatsieve_word *word = words, *end = words + count;
+    for (; word < end && set_node(of, node, word, sentence); word++, node++) {
+        node->prev = node - 1;
+        node->next = node + 1;
+        node->id = (unsigned)id++;
+    }
+    return (size_t)(word - words);
 }
 
 /* What a model says in place of the features of unknown words. */
@@ -82,45 +81,110 @@ static void exchange_features(const char *feature, mecab_node_t *nodes, size_t c
     }
 }
 
-/* Features, and the ids that are found by them. The first refuse a word whose token is past those that either has room for. */
-static bool set_features(mecab_lattice_t *lattice, mecab_node_t *nodes, size_t count, fault *error) {
-    const tables *of = lattice->tables;
-    if (!find_features(features_of(of->images), &lattice->cutter, lattice->words, nodes, count, error)) return false;
-    if (of->posids && !find_posids(of->posids, lattice->words, nodes, count, error)) return false;
-    if (of->unk_feature) exchange_features(of->unk_feature, nodes, count);
+/* The nodes of all words that were cut last. */
+static bool set_all(mecab_lattice_t *lattice, mecab_node_t *nodes, size_t count, fault *error) {
+    const tokens *of = lattice->tables->tokens;
+    for (size_t done = 0;;) {
+        const kumquatsieve_word *words = lattice->words + done;
+        done += set_nodes(of, nodes + done, lattice->count + done, words, count - done, lattice->sentence);
+        if (done == count) break;
+        if (!keep_token(of, &lattice->cutter, &lattice->words[done], error)) return false;
+    }
+    if (lattice->tables->unk_feature) exchange_features(lattice->tables->unk_feature, nodes, count);
     return true;
 }
 
 /* The words of what was cut last, as nodes behind those of the parts before. */
 bool add_nodes(mecab_lattice_t *lattice, part *of, fault *error) {
-    size_t count = of->word_count, first = lattice->count;
-    if (!has_room(lattice, count + 1, error)) return false;
+    size_t count = of->word_count;
+    if (!has_room(lattice, count, error)) return false;
     uint32_t code = kumquatsieve_words(&lattice->cutter, 0, lattice->words, count, &count);
     if (code != KUMQUATSIEVE_OK) return fail_code(error, "words", code);
     if (of->text) move_words(lattice->words, count, of);
-    if (!set_nodes(&lattice->nodes[first], first, lattice->words, count, lattice->sentence)) {
+    if (lattice->size > UINT16_MAX && !are_short(lattice->words, count)) {
         return fail(error, "a word with its blanks has more than %d bytes", UINT16_MAX);
     }
+    if (!set_all(lattice, &lattice->nodes[lattice->count], count, error)) return false;
     lattice->count += count;
-    return set_features(lattice, &lattice->nodes[first], count, error);
+    return true;
 }
 
-void end_nodes(mecab_lattice_t *lattice, long cost) {
-    add_boundary(lattice, lattice->sentence + lattice->size, MECAB_EOS_NODE)->cost = cost;
+static bool add_whole(mecab_lattice_t *lattice, long *cost, fault *error) {
+    part whole = {.word_count = lattice->word_count};
+    *cost = (long)lattice->total;
+    return add_nodes(lattice, &whole, error);
+}
+
+/* The beginning and the end, around the words. */
+static void add_boundaries(mecab_lattice_t *lattice, long cost) {
+    mecab_node_t *first = lattice->nodes, *end = first + lattice->count;
+    *first = *end = lattice->tables->boundary;
+    first->surface = lattice->sentence;
+    first->stat = MECAB_BOS_NODE;
+    first->next = first + 1;
+    end->surface = lattice->sentence + lattice->size;
+    end->stat = MECAB_EOS_NODE;
+    end->id = (unsigned)lattice->count;
+    end->prev = end - 1;
+    end->cost = cost;
+    lattice->count++;
+}
+
+/* Links the nodes of all parts anew: those of the first ones may have been moved when others were added. */
+static void link_nodes(mecab_lattice_t *lattice) {
     for (size_t i = 1; i < lattice->count; i++) {
         lattice->nodes[i - 1].next = &lattice->nodes[i];
         lattice->nodes[i].prev = &lattice->nodes[i - 1];
     }
 }
 
-/* The nodes of a sentence that was cut as it is. */
+/* The nodes of a sentence that was cut. */
 bool make_nodes(mecab_lattice_t *lattice, fault *error) {
-    part whole = {.word_count = lattice->word_count};
+    long cost = 0;
     if (lattice->count > 0) return true;
-    if (!begin_nodes(lattice, error) || !add_nodes(lattice, &whole, error)) {
+    lattice->count = 1;
+    bool is_added = lattice->is_odd ? add_odd(lattice, &cost, error) : add_whole(lattice, &cost, error);
+    if (!is_added) {
         lattice->count = 0;
         return false;
     }
-    end_nodes(lattice, (long)lattice->total);
+    add_boundaries(lattice, cost);
+    if (lattice->is_odd) link_nodes(lattice);
+    return true;
+}
+
+/* Room for the nodes that are not on the path. They don't move while the sentence stays. */
+static bool has_others_room(mecab_lattice_t *lattice, fault *error) {
+    if (lattice->found_count <= lattice->others_room) return true;
+    free(lattice->others);
+    lattice->others_room = 0;
+    lattice->others = malloc(lattice->found_count * sizeof *lattice->others);
+    if (!lattice->others) return fail_memory(error);
+    lattice->others_room = lattice->found_count;
+    return true;
+}
+
+static bool make_other(mecab_lattice_t *lattice, mecab_node_t *node, const kumquatsieve_word *word, fault *error) {
+    const tokens *of = lattice->tables->tokens;
+    if (!are_short(word, 1)) return fail(error, "a word with its blanks has more than %d bytes", UINT16_MAX);
+    while (!set_node(of, node, word, lattice->sentence)) {
+        if (!keep_token(of, &lattice->cutter, word, error)) return false;
+    }
+    node->isbest = 0;
+    return true;
+}
+
+/* The nodes of the words that were found and are not on the path, in their order. */
+bool make_others(mecab_lattice_t *lattice, fault *error) {
+    if (!has_others_room(lattice, error)) return false;
+    mecab_node_t *node = lattice->others;
+    for (size_t i = 0; i < lattice->found_count; i++) {
+        const kumquatsieve_node *found = &lattice->found[i];
+        if (found->on_best) continue;
+        if (!make_other(lattice, node, &found->word, error)) return false;
+        node++;
+    }
+    const char *feature = lattice->tables->unk_feature;
+    if (feature) exchange_features(feature, lattice->others, (size_t)(node - lattice->others));
     return true;
 }

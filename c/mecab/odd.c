@@ -5,21 +5,22 @@
 /* A sentence of the library has at most so many bytes. */
 enum { PART_MAX = 1048576 };
 
-static bool cut_part(mecab_lattice_t *lattice, part *of, size_t length, fault *error) {
+/* What is taken of each part, once it was cut. */
+typedef bool take(mecab_lattice_t *lattice, part *of, fault *error);
+
+static bool cut_part(mecab_lattice_t *lattice, part *of, size_t length, take *from, fault *error) {
     const uint8_t *text = (const uint8_t *)of->text->text.at + of->at;
     uint32_t code = kumquatsieve_cut_text(&lattice->cutter, text, length, &of->word_count, &of->total, NULL);
-    return code == KUMQUATSIEVE_OK ? add_nodes(lattice, of, error) : fail_code(error, "sentence", code);
+    return code == KUMQUATSIEVE_OK ? from(lattice, of, error) : fail_code(error, "sentence", code);
 }
 
-static bool cut_parts(mecab_lattice_t *lattice, repaired *text, fault *error) {
-    part one = {.text = text};
-    if (!begin_nodes(lattice, error)) return false;
-    while (one.at < text->text.length) {
-        size_t length = part_of(text->text.at + one.at, text->text.length - one.at, PART_MAX);
-        if (!cut_part(lattice, &one, length, error)) return false;
-        one.at += length;
+static bool cut_parts(mecab_lattice_t *lattice, part *of, take *from, fault *error) {
+    const bytes *text = &of->text->text;
+    while (of->at < text->length) {
+        size_t length = part_of(text->at + of->at, text->length - of->at, PART_MAX);
+        if (!cut_part(lattice, of, length, from, error)) return false;
+        of->at += length;
     }
-    end_nodes(lattice, one.cost);
     return true;
 }
 
@@ -28,13 +29,24 @@ bool is_odd(uint32_t code) {
 }
 
 /* The nodes are one list, with the bytes that were given, so that the words join to the sentence. */
-bool cut_odd(mecab_lattice_t *lattice, fault *error) {
+bool add_odd(mecab_lattice_t *lattice, long *cost, fault *error) {
     repaired text = {0};
+    part one = {.text = &text};
     bool is_cut = repair(&text, lattice->sentence, lattice->size) || fail_memory(error);
-    is_cut = is_cut && cut_parts(lattice, &text, error);
+    is_cut = is_cut && cut_parts(lattice, &one, add_nodes, error);
     lattice->bad_bytes = text.bad;
     if (is_cut && text.bad > 0) fail(error, "%zu bytes that are not UTF-8 were cut as U+FFFD", text.bad);
-    if (!is_cut) lattice->count = 0;
+    *cost = one.cost;
     free_repaired(&text);
     return is_cut;
+}
+
+/* All nodes of such a sentence: its parts are cut once more, since of each the lattice is there only until the next one is cut. */
+bool find_odd(mecab_lattice_t *lattice, fault *error) {
+    repaired text = {0};
+    part one = {.text = &text};
+    bool is_found = repair(&text, lattice->sentence, lattice->size) || fail_memory(error);
+    is_found = is_found && cut_parts(lattice, &one, add_found, error);
+    free_repaired(&text);
+    return is_found;
 }

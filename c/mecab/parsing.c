@@ -23,7 +23,6 @@ static bool take_tables(mecab_model_t *model, mecab_lattice_t *lattice, fault *e
 static bool is_had(const mecab_lattice_t *lattice, bool nodes, fault *error) {
     int request = lattice->request;
     if (request & MECAB_PARTIAL) return fail_left_out(error, "partial parsing");
-    if (request & MECAB_ALL_MORPHS) return fail_left_out(error, "the output of all morphs");
     if (nodes && request & MECAB_MARGINAL_PROB) return fail_left_out(error, "a marginal probability");
     if (lattice->is_constrained) return fail_left_out(error, "a constraint");
     return lattice->sentence != NULL || fail(error, "no sentence is set");
@@ -31,7 +30,7 @@ static bool is_had(const mecab_lattice_t *lattice, bool nodes, fault *error) {
 
 void forget_path(mecab_lattice_t *lattice) {
     lattice->count = lattice->word_count = lattice->bad_bytes = 0;
-    lattice->is_cut = lattice->is_odd = lattice->is_printed = lattice->is_placed = lattice->is_told = false;
+    lattice->is_cut = lattice->is_odd = lattice->is_printed = lattice->is_placed = lattice->is_chained = lattice->is_told = false;
 }
 
 bool parse(mecab_model_t *model, mecab_lattice_t *lattice, bool nodes, fault *error) {
@@ -40,12 +39,13 @@ bool parse(mecab_model_t *model, mecab_lattice_t *lattice, bool nodes, fault *er
     if (!is_had(lattice, nodes, error) || !take_tables(model, lattice, error)) return false;
     const uint8_t *sentence = (const uint8_t *)lattice->sentence;
     uint32_t code = kumquatsieve_cut_text(&lattice->cutter, sentence, lattice->size, &lattice->word_count, &lattice->total, NULL);
-    lattice->is_odd = is_odd(code);
+    lattice->is_odd = code != KUMQUATSIEVE_OK && is_odd(code);
     if (code != KUMQUATSIEVE_OK && !lattice->is_odd) return fail_code(error, "sentence", code);
-    if (lattice->is_odd && !cut_odd(lattice, error)) return false;
-    if (nodes && !make_nodes(lattice, error)) return false;
+    if ((nodes || lattice->is_odd) && !make_nodes(lattice, error)) return false;
     lattice->is_cut = true;
-    return true;
+    if (!(lattice->request & MECAB_ALL_MORPHS) || chain_all(lattice, error)) return true;
+    forget_path(lattice);
+    return false;
 }
 
 static bool print_into(mecab_lattice_t *lattice, const format *texts, fault *error) {
@@ -63,8 +63,8 @@ static bool print_into(mecab_lattice_t *lattice, const format *texts, fault *err
 /* By the library, where it has the format and the sentence was cut as it is, and by the nodes else. */
 static bool print_text(mecab_lattice_t *lattice, fault *error) {
     const format *texts = format_of(lattice);
-    bool is_changed = lattice->tables->unk_feature != NULL;
-    if (texts->is_proved && !lattice->is_odd && !is_changed) return print_into(lattice, texts, error);
+    bool is_changed = lattice->is_odd || lattice->is_chained || lattice->tables->unk_feature != NULL;
+    if (texts->is_proved && !is_changed) return print_into(lattice, texts, error);
     if (!make_nodes(lattice, error)) return false;
     return (set_bytes(&lattice->printed, "", 0) || fail_memory(error)) && print_path(texts, lattice, &lattice->printed, error);
 }

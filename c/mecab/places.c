@@ -1,49 +1,105 @@
-/* The nodes of the best path by the places where they begin and end, as arrays over a sentence. */
+/* The nodes of the lattice by the places where they begin and end, as arrays over a sentence. */
 #include "layer.h"
 #include <stdlib.h>
 
 /* MeCab's arrays go some places beyond the sentence. */
 enum { BEYOND = 4 };
 
-static bool has_room(mecab_lattice_t *lattice, size_t room) {
+static bool has_room(mecab_lattice_t *lattice, fault *error) {
+    size_t room = lattice->size + BEYOND;
     if (room <= lattice->places_room) return true;
     mecab_node_t **begins = realloc(lattice->begins, room * sizeof *begins);
     if (begins) lattice->begins = begins;
     mecab_node_t **ends = realloc(lattice->ends, room * sizeof *ends);
     if (ends) lattice->ends = ends;
-    if (!begins || !ends) return fail_memory(&lattice->error);
+    if (!begins || !ends) return fail_memory(error);
     lattice->places_room = room;
     return true;
 }
 
-/* A word begins with its blanks. The beginning ends where the sentence begins, and the end begins where it ends. (MeCab) */
-static bool has_places(mecab_lattice_t *lattice) {
-    size_t room = lattice->size + BEYOND;
-    if (lattice->is_placed) return true;
-    if (!has_room(lattice, room)) return false;
-    for (size_t i = 0; i < room; i++) lattice->begins[i] = lattice->ends[i] = NULL;
-    for (size_t i = 0; i < lattice->count; i++) {
-        mecab_node_t *node = &lattice->nodes[i];
-        size_t end = (size_t)(node->surface - lattice->sentence) + node->length;
-        if (node->stat != MECAB_BOS_NODE) lattice->begins[end - node->rlength] = node;
-        if (node->stat != MECAB_EOS_NODE) lattice->ends[end] = node;
+static void clear(mecab_lattice_t *lattice) {
+    for (size_t i = 0; i < lattice->size + BEYOND; i++) lattice->begins[i] = lattice->ends[i] = NULL;
+}
+
+/* A word begins with its blanks, and of those that begin at a place the last one is the first in its list. All nodes are counted through. (MeCab) */
+static void link_begins(mecab_lattice_t *lattice) {
+    mecab_node_t *best = lattice->nodes + 1, *other = lattice->others;
+    for (size_t i = 0; i < lattice->found_count; i++) {
+        const kumquatsieve_node *found = &lattice->found[i];
+        mecab_node_t *node = found->on_best ? best++ : other++, **first = &lattice->begins[found->word.place];
+        node->id = (unsigned)(i + 1);
+        node->bnext = *first;
+        *first = node;
     }
-    lattice->is_placed = true;
+}
+
+static void add_end(mecab_lattice_t *lattice, mecab_node_t *node, size_t end) {
+    node->enext = lattice->ends[end];
+    lattice->ends[end] = node;
+}
+
+/* Of those that end at a place the one is the first in its list that was connected last: place by place, and at a place in the order of the list of
+   those that begin there. (MeCab) */
+static void link_ends(mecab_lattice_t *lattice) {
+    for (size_t at = 0; at < lattice->size; at++) {
+        for (mecab_node_t *node = lattice->begins[at]; node; node = node->bnext) add_end(lattice, node, at + node->rlength);
+    }
+}
+
+/* The beginning ends where the sentence begins, and the end begins where it ends. The end is also one of those that end where the last word
+   does. (MeCab) */
+static void link_boundaries(mecab_lattice_t *lattice) {
+    mecab_node_t *first = lattice->nodes, *end = &lattice->nodes[lattice->count - 1], *last = end - 1;
+    end->id = (unsigned)(lattice->found_count + 1);
+    add_end(lattice, end, (size_t)(last->surface - lattice->sentence) + last->length);
+    lattice->ends[0] = first;
+    lattice->begins[lattice->size] = end;
+}
+
+static bool place_nodes(mecab_lattice_t *lattice, fault *error) {
+    if (!make_nodes(lattice, error) || !find_nodes(lattice, error) || !make_others(lattice, error) || !has_room(lattice, error)) return false;
+    clear(lattice);
+    lattice->ends[0] = lattice->nodes;
+    link_begins(lattice);
+    link_ends(lattice);
+    link_boundaries(lattice);
+    return true;
+}
+
+/* The whole lattice is made when it is asked for. Before a sentence is parsed no place has a node. */
+static bool has_places(mecab_lattice_t *lattice, fault *error) {
+    if (lattice->is_placed) return true;
+    if (lattice->is_cut) lattice->is_placed = place_nodes(lattice, error);
+    else if ((lattice->is_placed = has_room(lattice, error))) clear(lattice);
+    return lattice->is_placed;
+}
+
+/* Links all nodes, in the order of the places where they begin, in place of those of the path. (MeCab) */
+bool chain_all(mecab_lattice_t *lattice, fault *error) {
+    if (!has_places(lattice, error)) return false;
+    mecab_node_t *last = lattice->nodes;
+    for (size_t at = 0; at <= lattice->size; at++) {
+        for (mecab_node_t *node = lattice->begins[at]; node; last = node, node = node->bnext) {
+            last->next = node;
+            node->prev = last;
+        }
+    }
+    lattice->is_chained = true;
     return true;
 }
 
 mecab_node_t **mecab_lattice_get_all_begin_nodes(mecab_lattice_t *lattice) {
-    return has_places(lattice) ? lattice->begins : NULL;
+    return has_places(lattice, &lattice->error) ? lattice->begins : NULL;
 }
 
 mecab_node_t **mecab_lattice_get_all_end_nodes(mecab_lattice_t *lattice) {
-    return has_places(lattice) ? lattice->ends : NULL;
+    return has_places(lattice, &lattice->error) ? lattice->ends : NULL;
 }
 
 mecab_node_t *mecab_lattice_get_begin_nodes(mecab_lattice_t *lattice, size_t at) {
-    return has_places(lattice) && at <= lattice->size ? lattice->begins[at] : NULL;
+    return has_places(lattice, &lattice->error) && at <= lattice->size ? lattice->begins[at] : NULL;
 }
 
 mecab_node_t *mecab_lattice_get_end_nodes(mecab_lattice_t *lattice, size_t at) {
-    return has_places(lattice) && at <= lattice->size ? lattice->ends[at] : NULL;
+    return has_places(lattice, &lattice->error) && at <= lattice->size ? lattice->ends[at] : NULL;
 }

@@ -6,23 +6,23 @@
 
 enum { FIELD_MAX = 512, NO_ID = 65535 };
 
-/* A rule's fields, of which each has to match a feature's, and its id. The first `shared` fields are those of the rule before. */
+/* A rule's fields, of which each has to match a feature's, and its id. The first `shared` fields are those of the rule before. `other` is the number of
+   the next rule whose first field is another one. */
 typedef struct rule {
     char *text;
     const char **fields;
     size_t field_count;
     size_t shared;
+    size_t other;
     uint16_t id;
 } rule;
 
-/* The rules, of which the longest has so many fields, and for each token of each dictionary its id and one, once it was found, else 0. */
+/* The rules, of which the longest has so many fields. */
 struct posids {
     rule *rules;
     size_t count;
     size_t room;
     size_t longest;
-    size_t dictionary_count;
-    _Atomic uint32_t **ids;
 };
 
 static bool add_fields_of(rule *to, fault *error) {
@@ -85,28 +85,25 @@ static bool read_rules(posids *to, FILE *file, const char *path, fault *error) {
     return is_read;
 }
 
-static bool make_ids(posids *to, const images *of, fault *error) {
-    to->dictionary_count = image_count(of);
-    to->ids = calloc(to->dictionary_count, sizeof *to->ids);
-    bool is_made = to->ids != NULL;
-    for (size_t i = 0; is_made && i < to->dictionary_count; i++) {
-        to->ids[i] = calloc(token_count(of, i) + 1, sizeof **to->ids);
-        is_made = to->ids[i] != NULL;
+static void link_others(posids *of) {
+    size_t other = of->count;
+    for (size_t i = of->count; i > 0; i--) {
+        of->rules[i - 1].other = other;
+        if (of->rules[i - 1].shared == 0) other = i - 1;
     }
-    return is_made || fail_memory(error);
 }
 
 /* Without the file each id is that of MeCab's compiler, which has one rule for all features then. */
-posids *read_posids(const char *path, const images *of, fault *error) {
+posids *read_posids(FILE *file, const char *path, fault *error) {
     posids *made = calloc(1, sizeof *made);
-    FILE *file = made ? fopen(path, "re") : NULL;
-    int why = errno;
-    bool is_read = made && make_ids(made, of, error);
-    if (is_read && !file && why != ENOENT) is_read = fail(error, "%s: %s", path, strerror(why));
-    if (is_read) is_read = file ? read_rules(made, file, path, error) : add_rule(made, "*", 1, 1, error);
-    if (file) fclose(file);
-    if (is_read) return made;
-    if (!made) fail_memory(error);
+    if (!made) {
+        fail_memory(error);
+        return NULL;
+    }
+    if (file ? read_rules(made, file, path, error) : add_rule(made, "*", 1, 1, error)) {
+        link_others(made);
+        return made;
+    }
     free_posids(made);
     return NULL;
 }
@@ -122,17 +119,20 @@ static bool is_one_of(const char *list, size_t length, const char *field) {
     return false;
 }
 
+static bool are_equal(const char *one, const char *other) {
+    return *one == *other && strcmp(one, other) == 0;
+}
+
 /* A pattern that begins with `*` matches all, and one in brackets each of what stands between bars. (MeCab) */
 static bool matches(const char *pattern, const char *field) {
-    if (*pattern == '*' || strcmp(pattern, field) == 0) return true;
+    if (*pattern == '*' || are_equal(pattern, field)) return true;
     if (*pattern != '(') return false;
     size_t length = strlen(pattern);
     return length >= 3 && pattern[length - 1] == ')' && is_one_of(pattern + 1, length - 2, field);
 }
 
-/* How many fields of a rule match, before the first one that doesn't. */
-static size_t matching(const rule *of, const char *const *fields, size_t count) {
-    size_t matched = 0;
+/* How many fields of a rule match, of which so many are known to, before the first one that doesn't. */
+static size_t matching(const rule *of, size_t matched, const char *const *fields, size_t count) {
     while (matched < of->field_count && matched < count && matches(of->fields[matched], fields[matched])) matched++;
     return matched;
 }
@@ -140,36 +140,20 @@ static size_t matching(const rule *of, const char *const *fields, size_t count) 
 /* That of the first rule that fits. A rule fails where the one before failed, as long as it shares that field. */
 static uint16_t id_by_fields(const posids *of, const char *const *fields, size_t count) {
     size_t matched = 0;
-    for (size_t i = 0; i < of->count; i++) {
+    for (size_t i = 0; i < of->count; i = matched > 0 ? i + 1 : of->rules[i].other) {
         const rule *one = &of->rules[i];
-        if (i > 0 && matched < one->shared) continue;
-        matched = matching(one, fields, count);
+        if (matched < one->shared) continue;
+        matched = matching(one, one->shared, fields, count);
         if (matched == one->field_count) return one->id;
     }
     return NO_ID;
 }
 
-/* What is behind the longest rule is not looked at, so one field more has it. */
-static bool find_id(const posids *of, const char *feature, uint16_t *id, fault *error) {
+/* The id by a feature, which is cut in place. What is behind the longest rule is not looked at, so one field more has it. */
+uint16_t posid_of(const posids *of, char *feature) {
     const char *fields[FIELD_MAX];
-    char *copy = strdup(feature);
-    if (!copy) return fail_memory(error);
     size_t most = of->longest < FIELD_MAX ? of->longest + 1 : FIELD_MAX;
-    *id = id_by_fields(of, fields, cut_fields(copy, fields, most));
-    free(copy);
-    return true;
-}
-
-/* The ids of nodes by their features. Each is found once for each token; threads that find one at the same time find the same. */
-bool find_posids(const posids *of, const kumquatsieve_word *words, mecab_node_t *nodes, size_t count, fault *error) {
-    for (size_t i = 0; i < count; i++) {
-        _Atomic uint32_t *kept = &of->ids[words[i].dictionary][words[i].token];
-        uint32_t known = atomic_load_explicit(kept, memory_order_relaxed);
-        if (known != 0) nodes[i].posid = (uint16_t)(known - 1);
-        else if (!find_id(of, nodes[i].feature, &nodes[i].posid, error)) return false;
-        else atomic_store_explicit(kept, nodes[i].posid + 1u, memory_order_relaxed);
-    }
-    return true;
+    return id_by_fields(of, fields, cut_fields(feature, fields, most));
 }
 
 void free_posids(posids *of) {
@@ -179,7 +163,5 @@ void free_posids(posids *of) {
         free(of->rules[i].fields);
     }
     free(of->rules);
-    for (size_t i = 0; of->ids && i < of->dictionary_count; i++) free(of->ids[i]);
-    free(of->ids);
     free(of);
 }

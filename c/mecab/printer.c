@@ -136,16 +136,16 @@ static bool print_line(const mecab_node_t *node, style style, bytes *to) {
 /* Styles that are no formats of a caller or a dictionary. */
 static bool print_plain(style style, const mecab_lattice_t *lattice, bytes *to) {
     const char *end = style == LINES_STYLE ? "EOS\n" : style == WAKATI_STYLE ? "\n" : "";
-    for (size_t i = 1; i + 1 < lattice->count; i++) {
-        if (!print_line(&lattice->nodes[i], style, to)) return false;
+    for (const mecab_node_t *node = lattice->nodes[0].next; node->next; node = node->next) {
+        if (!print_line(node, style, to)) return false;
     }
     return add_bytes(to, end, strlen(end));
 }
 
 bool print_path(const format *texts, const mecab_lattice_t *lattice, bytes *to, fault *error) {
     if (texts->style != OWN_STYLE) return print_plain(texts->style, lattice, to) || fail_memory(error);
-    for (size_t i = 0; i < lattice->count; i++) {
-        if (!print_by_status(texts, lattice, &lattice->nodes[i], to, error)) return false;
+    for (const mecab_node_t *node = lattice->nodes; node; node = node->next) {
+        if (!print_by_status(texts, lattice, node, to, error)) return false;
     }
     return true;
 }

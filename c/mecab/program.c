@@ -100,8 +100,8 @@ static int run(settings *from) {
 
 static void tell_help(void) {
     printf("Usage: mecab [options] files\n"
-           "MeCab's library over Kumquatsieve. Of MeCab's options it takes -d, -u, -r, -O, -F, -U, -B, -E, -S, -x, -M, -N 1, -o, -C, -D, -v and\n"
-           "-h; -b, -c, -l, -m and -t are taken, and change no text; -a, -p, -P and -N above 1 are refused.\n\n");
+           "MeCab's library over Kumquatsieve. Of MeCab's options it takes -a, -d, -u, -r, -O, -F, -U, -B, -E, -S, -x, -M, -N 1, -o, -C, -D, -v\n"
+           "and -h; -b, -c, -l, -m and -t are taken, and change no text; -p, -P and -N above 1 are refused.\n\n");
 }
 
 int mecab_do(int count, char **words) {

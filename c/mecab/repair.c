@@ -89,8 +89,9 @@ void free_repaired(repaired *of) {
     *of = (repaired){0};
 }
 
-/* Where a place of the repaired text stands in the one that was given. Places are asked for in their order. */
+/* Where a place of the repaired text stands in the one that was given. It is looked for from the place that was asked for last. */
 size_t given_at(repaired *of, size_t at) {
+    while (of->asked > 0 && of->exchanges[of->asked - 1].at > at) of->asked--;
     while (of->asked < of->count && of->exchanges[of->asked].at <= at) of->asked++;
     if (of->asked == 0) return at;
     const exchange *last = &of->exchanges[of->asked - 1];

@@ -1,0 +1,115 @@
+/* What nodes take of the tokens of their words: all but where a word stands and what the path costs up to it. It is found once for each token, when a
+   word of it comes first. */
+#include "layer.h"
+#include <errno.h>
+#include <stdlib.h>
+#include <string.h>
+
+/* Opens a file of rules, which need not be there. */
+static bool open_rules(const char *path, FILE **file, identity *which, fault *error) {
+    struct stat of;
+    *file = fopen(path, "re");
+    if (!*file) return errno == ENOENT || fail(error, "%s: %s", path, strerror(errno));
+    if (fstat(fileno(*file), &of) == 0) {
+        *which = identity_of(&of);
+        return true;
+    }
+    fail(error, "%s: %s", path, strerror(errno));
+    fclose(*file);
+    return false;
+}
+
+static tokens *find(tokens *list, bool has_rules, const identity *rules) {
+    while (list && ((list->posids != NULL) != has_rules || !are_same(&list->rules, rules))) list = list->next;
+    return list;
+}
+
+static tokens *make(const size_t *starts, size_t count, fault *error) {
+    tokens *made = calloc(1, sizeof *made);
+    if (made) made->nodes = calloc(count + 1, sizeof *made->nodes);
+    if (made && made->nodes) {
+        made->starts = starts;
+        made->count = count;
+        return made;
+    }
+    free(made);
+    fail_memory(error);
+    return NULL;
+}
+
+/* New ones before the others. */
+static tokens *add(tokens **list, tokens *new, FILE *file, const char *path, const identity *rules, fault *error) {
+    if (!new) return NULL;
+    new->rules = *rules;
+    if (path && !(new->posids = read_posids(file, path, error))) {
+        free_tokens(new);
+        return NULL;
+    }
+    new->next = *list;
+    *list = new;
+    return new;
+}
+
+/* Those by the rules of a file, which are made where they aren't there yet. */
+tokens *tokens_in(tokens **list, const size_t *starts, size_t count, const char *path, fault *error) {
+    FILE *file = NULL;
+    identity rules = {0};
+    if (path && !open_rules(path, &file, &rules, error)) return NULL;
+    tokens *found = find(*list, path != NULL, &rules);
+    if (!found) found = add(list, make(starts, count, error), file, path, &rules, error);
+    if (file) fclose(file);
+    return found;
+}
+
+/* The node with its feature behind it, as C reads it: one with U+0000 ends there. For an id the feature is cut, and so it is copied once more. */
+static mecab_node_t *make_node(const posids *rules, const kumquatsieve_word *word, const uint8_t *feature, size_t length) {
+    mecab_node_t *made = malloc(sizeof *made + length + 1);
+    if (!made) return NULL;
+    char *text = (char *)(made + 1);
+    *made = (mecab_node_t){.feature = text, .rcAttr = word->right, .lcAttr = word->left, .isbest = 1, .wcost = word->cost};
+    made->stat = word->known ? MECAB_NOR_NODE : MECAB_UNK_NODE;
+    text[length] = '\0';
+    memcpy(text, feature, length);
+    if (rules) {
+        made->posid = posid_of(rules, text);
+        memcpy(text, feature, length);
+    }
+    return made;
+}
+
+static mecab_node_t *node_of(const tokens *of, kumquatsieve_cutter *cutter, const kumquatsieve_word *word, fault *error) {
+    const uint8_t *feature = NULL;
+    size_t length = 0;
+    uint32_t code = kumquatsieve_entry_feature(cutter, word->known, word->dictionary, word->token, &feature, &length);
+    mecab_node_t *made = code == KUMQUATSIEVE_OK ? make_node(of->posids, word, feature, length) : NULL;
+    if (code != KUMQUATSIEVE_OK) fail_code(error, "feature", code);
+    else if (!made) fail_memory(error);
+    return made;
+}
+
+/* Keeps the node of a word's token, where it isn't yet. Threads that want one at the same time make it each, and the first is kept. The counts of tokens
+   are read of a file once more, behind the library's copy of it, so one that is written over in the meantime has others. */
+bool keep_token(const tokens *of, kumquatsieve_cutter *cutter, const kumquatsieve_word *word, fault *error) {
+    size_t token = of->starts[word->dictionary] + word->token;
+    if (token >= of->starts[word->dictionary + 1]) return fail(error, "dictionary %zu was written over while it was loaded", word->dictionary);
+    mecab_node_t *before = atomic_load_explicit(&of->nodes[token], memory_order_acquire), *made = NULL;
+    if (before) return true;
+    if (!(made = node_of(of, cutter, word, error))) return false;
+    if (!atomic_compare_exchange_strong_explicit(&of->nodes[token], &before, made, memory_order_acq_rel, memory_order_acquire)) free(made);
+    return true;
+}
+
+static void free_one(tokens *of) {
+    for (size_t i = 0; i < of->count; i++) free(of->nodes[i]);
+    free((void *)of->nodes);
+    free_posids(of->posids);
+    free(of);
+}
+
+void free_tokens(tokens *list) {
+    while (list) {
+        tokens *next = list->next;
+        free_one(list);
+        list = next;
+    }
+}

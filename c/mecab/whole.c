@@ -1,0 +1,57 @@
+/* The words of the whole lattice of a sentence: those of its best path, and all others that some chain of words leads to. */
+#include "layer.h"
+#include <stdlib.h>
+
+/* How many there are is not known before. So many a byte are guessed. */
+enum { GUESS = 2 };
+
+static bool has_room(mecab_lattice_t *lattice, size_t wanted, fault *error) {
+    if (wanted <= lattice->found_room) return true;
+    kumquatsieve_node *found = realloc(lattice->found, wanted * sizeof *found);
+    if (!found) return fail_memory(error);
+    lattice->found = found;
+    lattice->found_room = wanted;
+    return true;
+}
+
+/* Writes those of what was cut last behind those of the parts before. Where the guess was too low it is asked again. */
+static bool write_found(mecab_lattice_t *lattice, size_t guess, size_t *count, fault *error) {
+    size_t room = 0;
+    for (*count = guess; *count > room;) {
+        if (!has_room(lattice, lattice->found_count + *count, error)) return false;
+        room = lattice->found_room - lattice->found_count;
+        uint32_t code = kumquatsieve_nodes(&lattice->cutter, 0, lattice->found + lattice->found_count, room, count);
+        if (code != KUMQUATSIEVE_OK) return fail_code(error, "nodes", code);
+    }
+    return true;
+}
+
+/* As the words of the path are moved. (nodes.c) What begins a part begins where the path of the part before ended. */
+static void move_found(kumquatsieve_node *found, size_t count, part *of) {
+    size_t place = of->place;
+    for (size_t i = 0; i < count; i++) {
+        kumquatsieve_word *word = &found[i].word;
+        word->place = word->place > 0 ? given_at(of->text, of->at + word->place) : place;
+        word->start = given_at(of->text, of->at + word->start);
+        word->end = given_at(of->text, of->at + word->end);
+        word->total += of->cost;
+        if (found[i].on_best) of->place = word->end;
+    }
+    of->cost += (long)of->total;
+}
+
+bool add_found(mecab_lattice_t *lattice, part *of, fault *error) {
+    size_t count = 0;
+    if (!write_found(lattice, of->word_count + 1, &count, error)) return false;
+    if (of->text) move_found(lattice->found + lattice->found_count, count, of);
+    lattice->found_count += count;
+    return true;
+}
+
+/* By the places where they begin, and those of a place in the order of its words. */
+bool find_nodes(mecab_lattice_t *lattice, fault *error) {
+    part whole = {.word_count = lattice->word_count};
+    lattice->found_count = 0;
+    if (lattice->is_odd) return find_odd(lattice, error);
+    return has_room(lattice, GUESS * lattice->size + 1, error) && add_found(lattice, &whole, error);
+}
