@@ -64,12 +64,14 @@ extern const char HELP[], VERSION[];
 void tell(const char *format, ...) __attribute__((format(printf, 1, 2)));
 void tell_wrong(const char *format, ...) __attribute__((format(printf, 1, 2)));
 int tell_fault(const fault *why);
-void tell_why(const fault *why);
+void tell_why(const options *asked, const fault *why);
+void tell_explanation(const fault *why);
 bool print_text(const char *text);
 
-/* narrator.c. What -v says, with the seconds since the beginning. */
+/* narrator.c. What -v says, with the seconds since the beginning. A person is told more of a fault than its line: with -v, and on a terminal. */
 void begin_narration(void);
 bool is_narrated(void);
+bool is_heard(void);
 void say(const char *format, ...) __attribute__((format(printf, 1, 2)));
 
 /* texts.c. Whether a text is UTF-8; and a path in one line, its control characters escaped, which the caller frees: NULL for want of memory. */
@@ -84,15 +86,12 @@ bool find_own_homes(struct homes *found);
 bool is_mecab_directory(const char *path);
 const char *trouble_with(const char *path);
 
-/* missing.c. With -v, where an image was looked for. */
+/* missing.c. Where an image was looked for, as a person is told. */
 void tell_homes(const fault *why);
 
-/* images.c. An image's bytes, which the caller frees; else a fault. One whose header or length is at fault is not read further. */
-typedef struct whole_file {
-    uint8_t *at;
-    size_t length;
-} whole_file;
-bool read_image(const char *path, whole_file *whole, fault *why);
+/* images.c. An image's bytes in a buffer of the library's, which is empty after a fault. One whose header or length is at fault is not read
+   further. */
+bool read_image(const char *path, kumquatsieve_buffer *whole, fault *why);
 
 /* formats.c. Whether the format that is asked for is one; sets it to a cutter that has a dictionary. */
 bool check_format(const options *asked, fault *why);

@@ -14,30 +14,28 @@ static bool is_of_overlay(uint32_t code) {
 }
 
 static bool load_system(const char *path, kumquatsieve_cutter *cutter, bool skip_digest, fault *why) {
-    whole_file image;
+    kumquatsieve_buffer image;
     uint64_t number = 0;
     if (!read_image(path, &image, why)) return false;
-    uint32_t code = kumquatsieve_load_by(cutter, image.at, image.length, skip_digest, &number);
-    free(image.at);
+    uint32_t code = kumquatsieve_load_buffer(cutter, &image, skip_digest, &number);
     return !fails(why, code, path, number);
 }
 
 /* What is wrong with an image by itself. That it is no system dictionary's is nothing wrong with it. */
-static uint32_t look_at(const whole_file *image, bool skip_digest, uint64_t *number) {
+static uint32_t look_at(kumquatsieve_buffer *image, bool skip_digest, uint64_t *number) {
     kumquatsieve_cutter alone = KUMQUATSIEVE_EMPTY;
-    uint32_t code = kumquatsieve_load_by(&alone, image->at, image->length, skip_digest, number);
+    uint32_t code = kumquatsieve_load_buffer(&alone, image, skip_digest, number);
     kumquatsieve_free(&alone);
     return is_of_overlay(code) ? KUMQUATSIEVE_OK : code;
 }
 
 /* Lays a user dictionary over the others, or only looks at its image where these don't belong together. */
 static bool add_user(const char *path, kumquatsieve_cutter *cutter, bool skip_digest, bool only_look, fault *why) {
-    whole_file image;
+    kumquatsieve_buffer image;
     uint64_t number = 0;
     if (!read_image(path, &image, why)) return false;
     uint32_t code = only_look ? look_at(&image, skip_digest, &number)
-                              : kumquatsieve_add_user_by(cutter, image.at, image.length, skip_digest, &number);
-    free(image.at);
+                              : kumquatsieve_add_user_buffer(cutter, &image, skip_digest, &number);
     return !fails(why, code, path, number);
 }
 

@@ -33,6 +33,8 @@ static const struct {
     {0, "sample", "--sample is not known: " PROGRAM " takes images, so use jseg"},
     {0, "explain", "--explain is not known: jseg --explain says what a code means"},
     {0, "dictionaries", "--dictionaries is not known: jseg --dictionaries lists the images that a bare name may find"},
+    {0, "lattice", "--lattice is not known: jseg --lattice prints the lattice of each line"},
+    {0, "within", "--within is not known: it is for jseg --lattice"},
     {'N', "nbest", "-N is not known: " PROGRAM " writes the one best path, so leave it out"},
     {'a', "all-morphs", "-a is not known: " PROGRAM " writes the one best path, so leave it out"},
     {'l', "lattice-level", "-l is not known: " PROGRAM " writes the one best path, so leave it out"},

@@ -3,10 +3,11 @@
 #include <signal.h>
 #include <stdlib.h>
 
-static int end_by(const fault *why) {
-    tell_why(why);
+static int end_by(const options *asked, const fault *why) {
+    tell_why(asked, why);
     int status = tell_fault(why);
     tell_homes(why);
+    tell_explanation(why);
     return status;
 }
 
@@ -15,11 +16,11 @@ static int cut_by(const options *asked) {
     fault why = {0};
     uint64_t lines = 0;
     int status = STATUS_DONE;
-    if (!make_cutter(asked, &cutter, &why)) return end_by(&why);
+    if (!make_cutter(asked, &cutter, &why)) return end_by(asked, &why);
     if (cut_input(&cutter, asked->threads, &lines)) {
         say("cut %llu lines", (unsigned long long)lines);
     } else {
-        status = tell_fault(&(fault){.code = KUMQUATSIEVE_MEMORY});
+        status = end_by(asked, &(fault){.code = KUMQUATSIEVE_MEMORY});
     }
     kumquatsieve_free(&cutter);
     return status;

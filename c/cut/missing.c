@@ -1,4 +1,4 @@
-/* What is said of an image whose name was looked for and is nowhere, where -v asks for it. */
+/* What a person is told of an image whose name was looked for and is nowhere. */
 #include "cut.h"
 #include "homes.h"
 #include <dirent.h>
@@ -99,13 +99,13 @@ static void tell_folder(const char *folder) {
     free(line);
 }
 
-/* With -v: where the image of a fault was looked for by its bare name, in which folders, and which names are there. Lines for which there is no memory
-   are left out. */
+/* Where the image of a fault was looked for by its bare name, in which folders, and which names are there. Lines for which there is no memory are left
+   out. */
 void tell_homes(const fault *why) {
     homes of;
     names there = {0};
     bool has_memory = true;
-    if (!is_narrated() || why->code != FAULT_FILE || !is_looked_for(why->path) || !find_own_homes(&of)) return;
+    if (!is_heard() || why->code != FAULT_FILE || !is_looked_for(why->path) || !find_own_homes(&of)) return;
     for (size_t i = 0; i < of.count; i++) {
         tell_folder(of.folders[i]);
         has_memory = has_memory && add_names(&there, of.folders[i]);

@@ -4,6 +4,7 @@
 #include <stdio.h>
 #include <stdlib.h>
 #include <time.h>
+#include <unistd.h>
 
 /* Set before the first thread is made. */
 static bool narrated;
@@ -15,6 +16,10 @@ void begin_narration(void) {
 
 bool is_narrated(void) {
     return narrated;
+}
+
+bool is_heard(void) {
+    return narrated || isatty(STDERR_FILENO);
 }
 
 void say(const char *format, ...) {

@@ -32,7 +32,10 @@ typedef struct queue {
 
 /* A fault ends the program from any thread: another one may be waiting in a read that never ends. */
 static _Noreturn void end_early(uint32_t code, uint64_t number) {
-    _exit(tell_fault(&(fault){.code = code, .number = number}));
+    fault why = {.code = code, .number = number};
+    int status = tell_fault(&why);
+    tell_explanation(&why);
+    _exit(status);
 }
 
 static void cut_place(place *own) {

@@ -114,16 +114,51 @@ int tell_fault(const fault *why) {
     return status_of(why->code);
 }
 
-/* With -v: why a file can't be read, and which option has the text of a format that is refused. */
-void tell_why(const fault *why) {
-    char *path = NULL;
-    if (!is_narrated()) return;
-    if (why->code == FAULT_FILE) {
-        const char *trouble = trouble_with(why->path);
-        path = one_line(why->path);
-        if (path) tell("%s: %s", path, trouble);
-    } else if (why->code >> 8 == 'P') {
-        tell("the fault is in the text of %s", OPTION_OF_PART[why->part % 4]);
+/* How many columns of a terminal a text takes: two for a character from Hangul's first on, U+1100, and one for each before it. */
+static int columns_of(const char *text) {
+    int columns = 0;
+    for (const unsigned char *at = (const unsigned char *)text; *at; at++) {
+        bool is_first = (*at & 0xc0) != 0x80, is_wide = *at > 0xe1 || (*at == 0xe1 && at[1] >= 0x84);
+        if (is_first) columns += is_wide ? 2 : 1;
     }
+    return columns;
+}
+
+/* A text in one line, and a mark under a byte of it. */
+static void tell_mark(const char *text, size_t at) {
+    char *front = strndup(text, at), *before = front ? one_line(front) : NULL, *line = one_line(text);
+    if (before && line) {
+        tell("%s", line);
+        tell("%*s^", columns_of(before), "");
+    }
+    free(line);
+    free(before);
+    free(front);
+}
+
+static void tell_format(const options *asked, const fault *why) {
+    const char *const texts[] = {asked->node, asked->unk, asked->bos, asked->eos};
+    tell("the fault is in the text of %s", OPTION_OF_PART[why->part % 4]);
+    if (texts[why->part % 4]) tell_mark(texts[why->part % 4], why->number);
+}
+
+static void tell_trouble(const char *of) {
+    const char *trouble = trouble_with(of);
+    char *path = one_line(of);
+    if (path) tell("%s: %s", path, trouble);
     free(path);
+}
+
+/* Why a file can't be read, and which option has the text of a format that is refused, and where. */
+void tell_why(const options *asked, const fault *why) {
+    if (!is_heard()) return;
+    if (why->code == FAULT_FILE) tell_trouble(why->path);
+    if (why->code >> 8 == 'P') tell_format(asked, why);
+}
+
+/* What explains a fault: the first word of its name, and jseg, which has the explanations. */
+void tell_explanation(const fault *why) {
+    char name[64] = "";
+    name_of(why->code, name, sizeof name);
+    if (is_heard()) tell("'jseg --explain %.*s' prints what that means and what to do", (int)strcspn(name, " "), name);
 }
