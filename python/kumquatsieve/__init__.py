@@ -12,8 +12,9 @@ from ._cutter import Cutter
 from ._fault import Fault
 from ._formats import Format
 from ._images import dictionaries
+from ._lattice import Lattice, Node, Rival
 from ._lines import Lines
 from ._words import Word, Words
 
-__all__ = ["Cutter", "Fault", "Format", "Lines", "Word", "Words", "dictionaries"]
+__all__ = ["Cutter", "Fault", "Format", "Lattice", "Lines", "Node", "Rival", "Word", "Words", "dictionaries"]
 __version__ = "0.1.0"

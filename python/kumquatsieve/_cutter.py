@@ -7,11 +7,15 @@ from ._fields import names_beside, numbered, with_common
 from ._formats import NODE, Format, texts_of
 from ._handle import GROUPING, SURFACES, WAKATI, WORDS, Answers, Handle
 from ._images import Image, Origin, default, origin_of, path_of
+from ._lattice import TAKEN, Lattice, lattice_of
 from ._lines import Lines, many_at_once, one_by_one
 from ._loaded import LOADED
 from ._sources import TEXTS, Source, checked
-from ._texts import line_of
-from ._words import TAKEN, Words, words_of
+from ._texts import encoded, line_of
+from ._words import Words, words_of
+
+# What the calls of a handle are, which Python looks for in a class each time.
+TOLD, LATTICED, SURFACES_OF, PRINTED = Handle.told, Handle.latticed, Handle.surfaces, Handle.printed
 
 
 class Cutter:
@@ -54,7 +58,7 @@ class Cutter:
         self._names = with_common(self._fields)
         self._handles = LOADED.new(self._origin, image, users, skip_digest)
         self._texts = texts_of(format)
-        self._handles.call(Handle.printed, b"", self._texts)
+        self._handles.call(PRINTED, b"", self._texts)
         self.set_grouping(grouping)
 
     @property
@@ -104,20 +108,25 @@ class Cutter:
         return self._words(line_of(line))
 
     def _words(self, text: bytes) -> Words:
-        return words_of(text, self._handles.call(Handle.told, text, WORDS), self._names)
+        return words_of(text, self._handles.call(TOLD, text, WORDS), self._names)
+
+    def lattice(self, line: str) -> Lattice:
+        """The lattice of a line, for who asks why it was cut so. It is made for this call alone, so no other call takes longer for it."""
+        text = line_of(line)
+        return lattice_of(text, self._handles.call(LATTICED, text, None), self._names)
 
     def wakati(self, line: str) -> List[str]:
         """The surfaces of a line's words."""
-        return self._handles.call(Handle.surfaces, line_of(line), SURFACES)
+        return self._handles.call(SURFACES_OF, encoded(line), SURFACES)
 
     def parse(self, line: str) -> str:
         """The text of a line in the cutter's format."""
-        return self._handles.call(Handle.printed, line_of(line), self._texts)
+        return self._handles.call(PRINTED, encoded(line), self._texts)
 
     def format(self, line: str, node: Optional[str] = None, unk: Optional[str] = None, bos: str = "", eos: str = "EOS\\n") -> str:
         """The text of a line in another format than the cutter's, whose parts are those of `Format`. Without `node` a line for each word,
         with its feature."""
-        return self._handles.call(Handle.printed, line_of(line), texts_of(Format(NODE if node is None else node, unk, bos, eos)))
+        return self._handles.call(PRINTED, encoded(line), texts_of(Format(NODE if node is None else node, unk, bos, eos)))
 
     def lines(self, source: Source, errors: str = "strict") -> Lines[Words]:
         """The words of each line of a text, of a file or of an iterable of lines, as soon as the line is there.

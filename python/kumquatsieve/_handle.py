@@ -1,23 +1,32 @@
 """One cutter of the library's."""
+import os
 from contextvars import Context
-from ctypes import addressof, byref, c_size_t, c_uint32, c_uint64, c_void_p
+from ctypes import addressof, byref, c_char, c_size_t, c_uint32, c_uint64
 from functools import partial
-from typing import Any, Iterator, List, Optional, Tuple
+from io import FileIO
+from typing import Any, Dict, Iterator, List, Optional, Tuple
 
-from ._buffers import FIELDS, Buffers, bytes_at
+from ._buffers import FIELDS, NODE_FIELDS, Buffers
 from ._fault import Fault, fault_of, raise_fault
-from ._library import LIBRARY, OK, PARTS, Slot, ready_size
-from ._texts import lines_of
+from ._library import LIBRARY, OK, PARTS, Pieces, Slot, ready_size
+from ._texts import LINE_FEED, lines_of, without_end
 
 Texts = Tuple[bytes, bytes, bytes, bytes]
 
-# What the library tells of a line: the cost of its path, the records of its words, and the surface and the feature of each.
+# What the library tells of a line: the cost of its path, the records of its words or of its nodes, and the surface and the feature of each.
 Told = Tuple[int, bytes, List[str]]
 
 # What each line of a text gave, up to the first that was refused, and why that was.
 Answers = Tuple[List[str], Optional[Exception]]
 
 GROUPING = 24
+
+# How many bytes of a file are read at a time.
+PIECE = 1 << 20
+
+# How many nodes of a lattice are guessed for each byte of the line. Where they are more, the lattice is made twice.
+NODES = 3
+
 DEFAULT: Texts = (b"%m\\t%H\\n", b"%m\\t%H\\n", b"", b"EOS\\n")
 WAKATI: Texts = (b"%m ", b"%m ", b"", b"\\n")
 
@@ -42,6 +51,18 @@ CUT, CUT_LINES, PRINT, FEATURE = LIBRARY.cut, LIBRARY.cut_lines, LIBRARY.copy_pr
 def feature(number: Any, cutter: Any, *room: Any) -> int:
     """The library's call for the feature of a word, with its number first."""
     return int(FEATURE(cutter, number, *room))
+
+
+def pieces_of(file: FileIO) -> Pieces:
+    """The bytes of a file, which is read piece by piece, so that they stand in memory once."""
+    length = os.fstat(file.fileno()).st_size
+    pieces, piece = Pieces(), bytearray(PIECE)
+    at = (c_char * PIECE).from_buffer(piece)
+    for count in iter(lambda: file.readinto(piece), 0):
+        code = LIBRARY.buffer_append(byref(pieces), length, at, count)
+        if code != OK:
+            raise_fault(code)
+    return pieces
 
 
 class Handle:
@@ -80,15 +101,23 @@ class Handle:
 
     def load(self, image: Any, length: int, skip_digest: bool) -> None:
         """Fills an empty handle with a system dictionary."""
-        self._take_image(LIBRARY.load_by, image, length, skip_digest)
+        self._take(LIBRARY.load_by, image, length, skip_digest)
+
+    def load_file(self, file: FileIO, skip_digest: bool) -> None:
+        """The same of a file."""
+        self._take(LIBRARY.load_buffer, byref(pieces_of(file)), skip_digest)
 
     def add_user(self, image: Any, length: int, skip_digest: bool) -> None:
         """Lays a user dictionary over the others, before they are shared."""
-        self._take_image(LIBRARY.add_user_by, image, length, skip_digest)
+        self._take(LIBRARY.add_user_by, image, length, skip_digest)
 
-    def _take_image(self, call: Any, image: Any, length: int, skip_digest: bool) -> None:
+    def add_user_file(self, file: FileIO, skip_digest: bool) -> None:
+        """The same of a file."""
+        self._take(LIBRARY.add_user_buffer, byref(pieces_of(file)), skip_digest)
+
+    def _take(self, call: Any, *image: Any) -> None:
         number = c_uint64()
-        code = call(self._at, image, length, skip_digest, addressof(number))
+        code = call(self._at, *image, addressof(number))
         if code != OK:
             raise_fault(code, number.value if code in NUMBERED else None)
 
@@ -129,21 +158,57 @@ class Handle:
             yield line[start:end].decode()
             yield self._buffers.text_of(partial(feature, ready_size(number)), self._at)
 
+    def latticed(self, line: bytes, _: object) -> Told:
+        """What is told of the nodes of a line's lattice."""
+        self._cut(line)
+        total = self._buffers.total.value
+        records = self._buffers.nodes_of(self._at, NODES * len(line) + 1)
+        texts: List[str] = []
+        features: Dict[Tuple[int, int, int], str] = {}
+        for _, start, end, dictionary, token, _, _, _, known, *_ in NODE_FIELDS.iter_unpack(records):
+            entry = known, dictionary, token
+            if entry not in features:
+                features[entry] = self._entry_feature(*entry)
+            texts += line[start:end].decode(), features[entry]
+        return total, records, texts
+
+    def _entry_feature(self, known: int, dictionary: int, token: int) -> str:
+        """The feature of an entry of the dictionaries."""
+        buffers = self._buffers
+        code = LIBRARY.entry_feature(self._at, known, dictionary, token, buffers.out_at, buffers.length_at)
+        if code != OK:
+            raise_fault(code)
+        return buffers.text_lent()
+
     def surfaces(self, line: bytes, texts: Texts) -> List[str]:
         """The surfaces of a line's words, in the texts `SURFACES`."""
-        if texts is not self._texts:
-            self.set_format(texts)
-        self._cut(line)
-        lines = self._buffers.text_of(PRINT, self._at).split("\n")
+        lines = self.printed(line, texts).split("\n")
         lines.pop()
         return lines
 
     def printed(self, line: bytes, texts: Texts) -> str:
-        """The text of a line in the four texts of a format."""
+        """The text of a line, which may have its own end, in the four texts of a format. The library cuts and prints it in one call."""
         if texts is not self._texts:
             self.set_format(texts)
+        if LINE_FEED in line:
+            line = self._one_line(line)
+        buffers, text = self._buffers, line or b"\n"
+        code = CUT_LINES(self._at, text, ready_size(len(text)), buffers.out_at, buffers.length_at, buffers.lines_at)
+        if code != OK:
+            self._refuse(line, code)
+        return buffers.text_lent()
+
+    def _one_line(self, line: bytes) -> bytes:
+        """A line without its own end. The library would cut what has another one as more lines."""
+        line = without_end(line)
+        if LINE_FEED in line:
+            self._cut(line)
+        return line
+
+    def _refuse(self, line: bytes, code: int) -> None:
+        """Raises why a line was refused. The call that cuts it alone tells the place in it."""
         self._cut(line)
-        return self._buffers.text_of(PRINT, self._at)
+        raise_fault(code)
 
     def joined_lines(self, text: bytes, texts: Texts) -> Answers:
         """The surfaces of each line of a text with a blank between two, in the texts `WAKATI`.
@@ -175,12 +240,12 @@ class Handle:
         """What the lines of a text print in a format, one behind another, up to the first that is refused; how many they are; and why that
         one is refused. The library cuts all of them in one call."""
         self.set_format(texts)
-        out, length, lines = c_void_p(), c_size_t(), c_uint64()
-        code = CUT_LINES(self._at, text, len(text), addressof(out), addressof(length), addressof(lines))
-        printed = str(bytes_at(out.value or 0, length.value), "utf-8")
+        buffers = self._buffers
+        code = CUT_LINES(self._at, text, ready_size(len(text)), buffers.out_at, buffers.length_at, buffers.lines_at)
+        printed = str(buffers.lent(), "utf-8")
         if code != OK:
-            return printed, lines.value - 1, fault_of(code)
-        return printed, lines.value, None
+            return printed, buffers.lines.value - 1, fault_of(code)
+        return printed, buffers.lines.value, None
 
     def _one_by_one(self, lines: List[bytes], texts: Texts) -> Answers:
         """The text of each line in a format, by a call for each."""

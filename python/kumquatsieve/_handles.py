@@ -31,10 +31,10 @@ class Handles:
 
     def __init__(self, first: Handle) -> None:
         self.grouping = GROUPING
+        self.closed = False
         self._first = first
         self._free: List[Handle] = []
         self._made: Set["weakref.ref[Handle]"] = set()
-        self._closed = False
         ALL.add(weakref.ref(self, ALL.discard))
 
     def call(self, what: Callable[[Handle, A, B], T], first: A, second: B) -> T:
@@ -45,20 +45,12 @@ class Handles:
             handle = self._new()
         handle.context = context = copy_context()
         try:
-            return context.run(self._within, what, handle, first, second)
+            return context.run(within, self, what, handle, first, second)
         finally:
             handle.context = IDLE
             self._free.append(handle)
-            if self._closed:
+            if self.closed:
                 self._clear()
-
-    def _within(self, what: Callable[[Handle, A, B], T], handle: Handle, first: A, second: B) -> T:
-        """The call itself, in the handle's context. `close` says that it closes, and then looks for contexts that are entered. So it finds this one,
-        or this call finds that it closes."""
-        if self._closed or handle.grouping != self.grouping:
-            self.look()
-            handle.set_grouping(self.grouping)
-        return what(handle, first, second)
 
     def set_grouping(self, grouping: int) -> None:
         """How many characters may follow the first one of a grouped unknown word, for the calls that begin later."""
@@ -87,13 +79,13 @@ class Handles:
 
     def look(self) -> None:
         """What is closed says so."""
-        if self._closed:
+        if self.closed:
             raise ValueError("the cutter is closed") from None
 
     def close(self) -> None:
         """Gives back what all of them hold, after the calls of other threads have ended. A call of this thread's own, out of which a
         handler of signals may have come here, gives back its own handle."""
-        self._closed = True
+        self.closed = True
         self._first.close()
         while not self._clear():
             time.sleep(LOOK)
@@ -121,12 +113,21 @@ class Handles:
             self._made.discard(weakref.ref(handle))
 
 
+def within(handles: Handles, what: Callable[[Handle, A, B], T], handle: Handle, first: A, second: B) -> T:
+    """A call itself, in the handle's context. `close` says that it closes, and then looks for contexts that are entered. So it finds this one, or
+    this call finds that it closes. It is no method, which Python would make anew for each call."""
+    if handles.closed or handle.grouping != handles.grouping:
+        handles.look()
+        handle.set_grouping(handles.grouping)
+    return what(handle, first, second)
+
+
 def own() -> Set[Handle]:
     """The handles that calls of this thread have, out of which a handler of signals came here."""
     found: Set[Handle] = set()
     frame: Optional[FrameType] = sys._getframe()
     while frame is not None:
-        if frame.f_code is Handles._within.__code__:
+        if frame.f_code is within.__code__:
             found.add(frame.f_locals["handle"])
         frame = frame.f_back
     return found

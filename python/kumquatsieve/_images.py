@@ -2,11 +2,11 @@
 import mmap
 import os
 import shutil
-import stat
 import sys
 from ctypes import c_char
+from io import FileIO
 from pathlib import Path
-from typing import Any, BinaryIO, Callable, Dict, List, NamedTuple, Optional, Sequence, Tuple, Union
+from typing import Any, Callable, Dict, List, NamedTuple, Optional, Sequence, Tuple, Union
 
 Image = Union[str, "os.PathLike[str]", bytes, bytearray, memoryview, mmap.mmap]
 
@@ -119,22 +119,13 @@ def name_of(image: Union[str, "os.PathLike[str]"]) -> str:
     return os.path.abspath(name) if "/" in name or is_file(name) else name
 
 
-def hand(image: Image, take: Callable[[Any, int, bool], None], skip_digest: bool) -> None:
-    """Hands an image's bytes and their length to a call of the library, with whether their digest is skipped. The bytes of a file are mapped,
-    and not read into memory of Python's."""
+def hand(image: Image, take: Callable[[Any, int, bool], None], take_file: Callable[[FileIO, bool], None], skip_digest: bool) -> None:
+    """Hands an image to a call of the library, with whether its digest is skipped: a file, or bytes in memory and their length."""
     if isinstance(image, (str, os.PathLike)):
-        with open(path_of(image), "rb") as file:
-            take(*lent(bytes_of(file)), skip_digest)
+        with open(path_of(image), "rb", buffering=0) as file:
+            take_file(file, skip_digest)
     else:
         take(*lent(image), skip_digest)
-
-
-def bytes_of(file: BinaryIO) -> Any:
-    """The bytes of a file: mapped, with pages that could be written and never are; or read, where it can't be mapped."""
-    of = os.fstat(file.fileno())
-    if stat.S_ISREG(of.st_mode) and of.st_size > 0:
-        return mmap.mmap(file.fileno(), 0, access=mmap.ACCESS_COPY)
-    return file.read()
 
 
 def lent(image: Any) -> Tuple[Any, int]:

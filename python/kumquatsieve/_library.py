@@ -15,11 +15,11 @@ SHORT_BUFFER = 0x4B07
 PARTS = ("node", "unk", "bos", "eos")
 
 # The calls that may take long, during which other threads run. During the others none does, so no fork of another thread's falls into one.
-LONG = ("load_by", "add_user_by", "cut", "cut_lines", "copy_print")
+LONG = ("load_by", "load_buffer", "add_user_by", "add_user_buffer", "cut", "cut_lines", "copy_print", "nodes")
 
 # The calls that are made for each line. To convert an argument takes ctypes longer than many a call, so these are given nothing that it would
 # convert: bytes, what `byref` makes of an output, which is made once, and what `ready_size` makes of a number.
-READY = ("cut", "words", "copy_print", "copy_feature")
+READY = ("cut", "cut_lines", "words", "copy_print", "copy_feature", "nodes")
 
 # Makes a size of a number, which has as many bytes as an address.
 ready_size: Callable[[int], Any] = ctypes.c_void_p.from_param
@@ -27,6 +27,13 @@ ready_size: Callable[[int], Any] = ctypes.c_void_p.from_param
 
 class Slot(ctypes.Structure):
     """What the library keeps of a cutter. Where nobody has it any more it is given back, by `free` as `__del__`."""
+
+    _fields_ = [("held", ctypes.c_bool), ("at", ctypes.c_void_p)]
+
+
+class Pieces(ctypes.Structure):
+    """The bytes of an image that the library has, as far as they came. Where nobody has it any more they are given back, by `buffer_free` as
+    `__del__`."""
 
     _fields_ = [("held", ctypes.c_bool), ("at", ctypes.c_void_p)]
 
@@ -50,6 +57,12 @@ class Record(ctypes.Structure):
     ]
 
 
+class NodeRecord(ctypes.Structure):
+    """A node of a lattice, as the library writes it."""
+
+    _fields_ = [("word", Record), ("through", ctypes.c_int64), ("reaches_end", ctypes.c_uint8), ("on_best", ctypes.c_uint8)]
+
+
 def place() -> str:
     """Where the library is: what the variable names, else beside this module, else where the loader looks."""
     beside = Path(__file__).resolve().parent / NAME
@@ -63,11 +76,15 @@ def arguments() -> Dict[str, Optional[List[Any]]]:
     return {
         "load_by": [address, address, size, ctypes.c_bool, address],
         "add_user_by": [address, address, size, ctypes.c_bool, address],
+        "buffer_append": [address, size, address, size],
+        "load_buffer": [address, address, ctypes.c_bool, address],
+        "add_user_buffer": [address, address, ctypes.c_bool, address],
+        "buffer_free": [ctypes.POINTER(Pieces)],
         "share": [address, address],
         "free": [ctypes.POINTER(Slot)],
         "set_format": [address, *text * 4, address, address],
         "set_grouping": [address, ctypes.c_uint32],
-        "cut_lines": [address, *text, address, address, address],
+        "entry_feature": [address, ctypes.c_bool, size, ctypes.c_uint32, address, address],
         "fault": [ctypes.c_uint32, ctypes.c_char_p, size, address],
         **dict.fromkeys(READY),
     }
@@ -83,7 +100,7 @@ def load() -> SimpleNamespace:
     for name, types in arguments().items():
         call = call_of(beside_others if name in LONG else alone, f"kumquatsieve_{name}")
         call.argtypes = types
-        call.restype = None if name == "free" else ctypes.c_uint32
+        call.restype = None if name in ("free", "buffer_free") else ctypes.c_uint32
         calls[name] = call
     return SimpleNamespace(**calls)
 
@@ -109,3 +126,4 @@ def method_of(call: Any) -> Any:
 
 LIBRARY = load()
 setattr(Slot, "__del__", method_of(LIBRARY.free))
+setattr(Pieces, "__del__", method_of(LIBRARY.buffer_free))

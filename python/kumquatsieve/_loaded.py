@@ -24,9 +24,9 @@ def key_of(origin: Origin) -> Key:
 def load(image: Image, users: Sequence[Image], skip_digest: bool) -> Handle:
     """A handle of a system dictionary with users' laid over it."""
     handle = Handle()
-    hand(image, handle.load, skip_digest)
+    hand(image, handle.load, handle.load_file, skip_digest)
     for user in users:
-        hand(user, handle.add_user, skip_digest)
+        hand(user, handle.add_user, handle.add_user_file, skip_digest)
     return handle
 
 

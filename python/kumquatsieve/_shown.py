@@ -9,17 +9,17 @@ def width_of(text: str) -> int:
     return sum(0 if combining(sign) else 2 if east_asian_width(sign) in "WF" else 1 for sign in text)
 
 
-def table_of(head: List[str], rows: List[List[str]]) -> str:
-    """A table in columns of a terminal: numbers, which are the last two, to the right."""
+def table_of(head: List[str], rows: List[List[str]], numbers: int = 2) -> str:
+    """A table in columns of a terminal: numbers, which are the last columns, to the right."""
     texts = [[text if text.isprintable() else repr(text)[1:-1] for text in row] for row in [head, *rows]]
     widths = [max(map(width_of, column)) for column in zip(*texts)]
-    return "\n".join("  ".join(padded(row, widths)).rstrip() for row in texts)
+    return "\n".join("  ".join(padded(row, widths, len(head) - numbers)).rstrip() for row in texts)
 
 
-def padded(row: List[str], widths: List[int]) -> List[str]:
+def padded(row: List[str], widths: List[int], left: int) -> List[str]:
+    """A row's columns, so many of them to the left and the others to the right."""
     blanks = [" " * (width - width_of(text)) for text, width in zip(row, widths)]
-    left = [text + blank for text, blank in zip(row[:-2], blanks)]
-    return left + [blank + text for text, blank in zip(row[-2:], blanks[-2:])]
+    return [text + blank if number < left else blank + text for number, (text, blank) in enumerate(zip(row, blanks))]
 
 
 def html_of(head: List[str], rows: List[List[str]]) -> str:

@@ -6,6 +6,8 @@ SURROGATE = re.compile("[\ud800-\udfff]")
 ERRORS = ("strict", "replace")
 # A caller's own kind of str may have another method of this name.
 ENCODE = str.encode
+# A byte is looked for by its number: Python asks of each bytes first whether they are one.
+LINE_FEED = 0x0A
 
 
 def encoded(text: str, what: str = "a line") -> bytes:
@@ -24,7 +26,7 @@ def line_of(line: str) -> bytes:
         text = ENCODE(line)
     except (UnicodeEncodeError, TypeError):
         text = encoded(line)
-    return without_end(text) if b"\n" in text else text
+    return without_end(text) if LINE_FEED in text else text
 
 
 def without_end(line: bytes) -> bytes:

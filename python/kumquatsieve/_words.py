@@ -16,12 +16,14 @@ class Line:
 
     __slots__ = ("text", "records", "names", "_places")
 
+    fields = FIELDS
+
     def __init__(self, text: bytes, records: bytes, names: Dict[str, int]) -> None:
         self.text, self.records, self.names = text, records, names
         self._places: Optional[List[Tuple[int, int]]] = None
 
     def record(self, number: int) -> Tuple[Any, ...]:
-        return FIELDS.unpack_from(self.records, number * FIELDS.size)
+        return self.fields.unpack_from(self.records, number * self.fields.size)
 
     def place(self, number: int) -> Tuple[int, int]:
         """Where a word begins and ends in characters."""
@@ -133,10 +135,6 @@ class Words(List[Word]):
 
     def _repr_html_(self) -> str:
         return html_of(*self._columns())
-
-
-# Names that no field of a dictionary may have.
-TAKEN = frozenset(name for name in dir(Word) if not name.startswith("_"))
 
 
 def words_of(text: bytes, told: Told, names: Dict[str, int]) -> Words:

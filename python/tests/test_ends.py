@@ -20,6 +20,7 @@ WAIT = 60
 CALLS = {
     "cut": lambda cutter: cutter.cut(LINE),
     "wakati": lambda cutter: cutter.wakati(LINE),
+    "lattice": lambda cutter: cutter.lattice(LINE),
     "format": lambda cutter: cutter.format(LINE),
     "set_grouping": lambda cutter: cutter.set_grouping(3),
     "share": lambda cutter: cutter.share(),

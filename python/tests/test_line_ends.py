@@ -49,6 +49,7 @@ NO_LINES = [None, 1.5, b"a", ["a"], UserString("a"), Encodes()]
 
 CALLS = [
     lambda cutter, line: [word.surface for word in cutter.cut(line)],
+    lambda cutter, line: [node.surface for node in cutter.lattice(line).best],
     Cutter.wakati,
     lambda cutter, line: cutter.format(line, "%m\\n", eos="").split("\n")[:-1],
 ]

@@ -18,14 +18,14 @@ loads = 0
 
 def count_loads():
     """What a worker begins with."""
-    whole = Handle.load
+    whole = Handle.load_file
 
     def load(*given):
         global loads
         loads += 1
         whole(*given)
 
-    Handle.load = load
+    Handle.load_file = load
 
 
 def cut(cutter):

@@ -1,11 +1,12 @@
 """Texts that come in pieces of many lines, each of which the library cuts in one call."""
 import io
 import tracemalloc
-from ctypes import addressof, c_size_t, c_uint64, c_void_p, create_string_buffer
+from ctypes import addressof, create_string_buffer
 
 import pytest
 
 from kumquatsieve import Cutter, Fault, Format, _handle, _sources
+from kumquatsieve._library import ready_size
 
 LONGEST = 2**20
 # Lines with each kind of end and with characters of one, three and four bytes; the last one has no line feed.
@@ -104,7 +105,7 @@ def test_a_fault_behind_a_mark_has_its_place(cutter):
 def test_a_megabyte_is_one_call(cutter, monkeypatch, way):
     """And none is made for a line."""
     calls, real = [], _handle.CUT_LINES
-    monkeypatch.setattr(_handle, "CUT_LINES", lambda *given: calls.append(given[2]) or real(*given))
+    monkeypatch.setattr(_handle, "CUT_LINES", lambda *given: calls.append(len(given[1])) or real(*given))
     monkeypatch.setattr(_handle, "CUT", None)
     assert len(list(way(cutter, io.BytesIO(b"ab\n" * 500_000)))) == 500_000
     assert calls == [999_999, 500_001]
@@ -116,8 +117,8 @@ def test_out_of_memory_comes_behind_the_lines_before_it(cutter, monkeypatch, way
     real = _handle.CUT_LINES
 
     def refused(at, text, length, out, size, lines):
-        assert real(at, text, text.index(b"\n") + 1, out, size, lines) == 0
-        c_uint64.from_address(lines).value = 2
+        assert real(at, text, ready_size(text.index(b"\n") + 1), out, size, lines) == 0
+        lines._obj.value = 2
         return 1
 
     monkeypatch.setattr(_handle, "CUT_LINES", refused)
@@ -133,7 +134,7 @@ def test_an_output_may_have_any_length(cutter, monkeypatch, length):
     output, taken = create_string_buffer(b"mo\nmo\n"), []
 
     def told(_at, _text, _length, out, size, lines):
-        c_void_p.from_address(out).value, c_size_t.from_address(size).value, c_uint64.from_address(lines).value = addressof(output), length, 2
+        out._obj.value, size._obj.value, lines._obj.value = addressof(output), length, 2
         return 0
 
     def decoded(given, encoding):

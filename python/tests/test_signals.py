@@ -22,6 +22,7 @@ TIMES = 2000
 CALLS = {
     "cut": lambda cutter: [(word.surface, word.feature, word.total) for word in cutter.cut(LINE)],
     "wakati": lambda cutter: cutter.wakati(LINE),
+    "lattice": lambda cutter: [(node.surface, node.feature, node.through) for node in cutter.lattice(LINE[:5]).nodes],
     "parse": lambda cutter: cutter.parse(LINE),
     "format": lambda cutter: cutter.format(LINE, "%m/"),
     "wakati_lines": lambda cutter: list(cutter.wakati_lines(LINE)),

@@ -13,6 +13,7 @@ LETTERS = "すもうち東京都a1 　。𠮷\t"
 CALLS = {
     "cut": lambda cutter, line: [(word.surface, word.feature, word.start, word.total) for word in cutter.cut(line)],
     "wakati": Cutter.wakati,
+    "lattice": lambda cutter, line: [(node.surface, node.feature, node.end, node.through) for node in cutter.lattice(line).nodes],
     "parse": Cutter.parse,
     "format": lambda cutter, line: cutter.format(line, "%m/%f[0] ", eos="\\n"),
     "lines": lambda cutter, line: [words.total for words in cutter.lines([line] * 3)],
