@@ -5,9 +5,9 @@ import subprocess
 from typing import NamedTuple
 
 from .running import FILES, MARK, SAMPLE, in_code, lay
+from .users import USAGE
 
 WORDS = "すもも もも \nもも もも \n"
-USAGE = "usage: kumquatsieve-import [-v] [--encoding NAME] [--] DIR|ipadic|juman|naist|unidic [IMG]"
 NAMES = "utf-8, euc-jp, euc-jis-2004, cp932 or iso-2022-jp"
 WANTED = f"a folder is wanted, and the image to write; {USAGE}"
 

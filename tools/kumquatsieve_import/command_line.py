@@ -5,19 +5,26 @@ from typing import NamedTuple, Optional
 from .encodings import CHOICES, Encoding, encoding_named
 from .faults import WRONG_WORDS, Fault, shown
 
-USAGE = "usage: kumquatsieve-import [-v] [--encoding NAME] [--] DIR|ipadic|juman|naist|unidic [IMG]"
+USAGE = (
+    "usage: kumquatsieve-import [-v] [--encoding NAME] [--] DIR|ipadic|juman|naist|unidic [IMG], "
+    "or kumquatsieve-import [-v] [--encoding NAME] --user DIC --out IMG [--] LEX.."
+)
+# The options with a value.
+VALUED = ("--encoding", "--user", "--out")
 # What a name is in Debian's folder.
 NAMES = {b"ipadic": b"ipadic", b"juman": b"juman", b"naist": b"naist-jdic", b"unidic": b"unidic"}
 
 
 class Choices(NamedTuple):
-    """What was asked for. Without an image's path it is installed by the name of the folder."""
+    """What was asked for. Without an image's path it is installed by the name of the folder. Of a user's dictionary `lexicons` has the files, and
+    `name` that of the system's."""
 
     name: bytes
     image: Optional[bytes]
     encoding: Optional[Encoding]
     is_verbose: bool
     wants_help: bool
+    lexicons: tuple = ()
 
     def is_debian(self):
         return self.name in NAMES
@@ -36,7 +43,7 @@ def encoding_given(name):
 
 def read_words(words):
     """The choices of a command line. Options stand anywhere before `--`."""
-    rest, names, encoding, is_verbose = list(words), [], None, False
+    rest, names, given, is_verbose = list(words), [], {}, False
     while rest:
         word = rest.pop(0)
         name, equals, value = word.partition("=")
@@ -49,11 +56,21 @@ def read_words(words):
             return Choices(b"", None, None, False, True)
         elif word in ("-v", "--verbose"):
             is_verbose = True
-        elif name == "--encoding" and (equals or rest):
-            encoding = encoding_given(value if equals else rest.pop(0))
+        elif name in VALUED and (equals or rest):
+            given[name] = value if equals else rest.pop(0)
         else:
             raise usage_fault(f"{shown(word)} is no option, or lacks its value; a name that begins with - stands after --")
-    return choices_of(list(map(os.fsencode, names)), encoding, is_verbose)
+    encoding = encoding_given(given["--encoding"]) if "--encoding" in given else None
+    names = list(map(os.fsencode, names))
+    if "--user" in given or "--out" in given:
+        return choices_of_user(given.get("--user", ""), given.get("--out", ""), names, encoding, is_verbose)
+    return choices_of(names, encoding, is_verbose)
+
+
+def choices_of_user(dictionary, image, lexicons, encoding, is_verbose):
+    if not dictionary or not image or not lexicons or b"" in lexicons:
+        raise usage_fault("a user's dictionary wants --user, --out and a lexicon")
+    return Choices(os.fsencode(dictionary), os.fsencode(image), encoding, is_verbose, False, tuple(lexicons))
 
 
 def choices_of(names, encoding, is_verbose):

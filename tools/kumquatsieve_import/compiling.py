@@ -4,12 +4,16 @@ import re
 import selectors
 import shutil
 
-from .faults import FILE, MEMORY, Fault, shown
+from .faults import FILE, MEMORY, Fault, naming, shown
 from .telling import SECONDS
 
 # A line of `dictc -v` that says how far it is.
 STEP = re.compile(r"dictc: \d+\.\d+ s: (.*)")
 SAID = re.compile(r"dictc: (.*)")
+# What dictc says behind a fault to whoever asked for steps.
+EXPLAINED = re.compile(r"dictc: 'dictc --explain .*")
+# Where dictc writes the image, beside the place that it takes at the end.
+NEW = b"image"
 
 
 def dictc_beside(own):
@@ -19,6 +23,13 @@ def dictc_beside(own):
     if found is None:
         raise Fault(FILE, f"dictc is neither in {shown(own)} nor on the path")
     return os.path.abspath(found)
+
+
+def place_for_new(work, beside):
+    """What the new image is called in the folder in which dictc runs."""
+    with naming(work):
+        os.symlink(beside, os.path.join(work, b"new"))
+    return b"new/" + NEW
 
 
 def lines_of(pipe, wait):
@@ -77,7 +88,7 @@ class Compilation:
             step = STEP.fullmatch(text)
             if step:
                 self.teller.say_step(self.with_paths(step[1]))
-            else:
+            elif self.teller.tells_steps or not EXPLAINED.fullmatch(text):
                 said = SAID.fullmatch(text)
                 others.append(self.with_paths(said[1] if said else text))
         return others

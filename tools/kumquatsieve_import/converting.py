@@ -70,13 +70,13 @@ def is_as_wanted(source, encoding, teller):
     return True
 
 
-def write_converted(source, encoding, target, teller):
-    """Writes a source in UTF-8, and reports what it leaves out."""
+def write_converted(source, encoding, target, teller, leave_out):
+    """Writes a source in UTF-8. `leave_out` is told of each line that is left out."""
     done = 0
     with naming(target), open(target, "wb", buffering=0) as file:
         for chunk, text, lines in converted(source, encoding):
             for line, why in lines:
-                teller.left_out(source.path, line, why)
+                leave_out(source.path, line, why)
             rest = memoryview(text)
             while rest:
                 rest = rest[file.write(rest):]
@@ -84,10 +84,10 @@ def write_converted(source, encoding, target, teller):
             teller.say_progress(f"making {shown(source.path)} UTF-8", done, source.size)
 
 
-def make_utf_8(source, encoding, target, teller):
+def make_utf_8(source, encoding, target, teller, leave_out):
     """Makes the file, or a link to the source where that is UTF-8 already."""
     if is_as_wanted(source, encoding, teller):
         with naming(target):
             os.symlink(os.path.abspath(source.path), target)
     else:
-        write_converted(source, encoding, target, teller)
+        write_converted(source, encoding, target, teller, leave_out)

@@ -29,6 +29,19 @@ def own_home():
     return os.path.join(home, b".local", b"share", FOLDER) if os.path.isabs(home) else None
 
 
+def image_named(name, prefix):
+    """The image that an option of the programs names: a bare name that no file has is looked for in the homes. None where it is nowhere."""
+    if b"/" in name or is_file(name):
+        return name if os.path.lexists(name) else None
+    homes = filter(None, (own_home(), run_time_home(prefix), os.path.join(prefix, b"share", FOLDER)))
+    return next((path for path in (os.path.join(home, name + b".img") for home in homes) if is_file(path)), None)
+
+
+def is_file(path):
+    """Whether there is something, and no folder."""
+    return os.path.exists(path) and not os.path.isdir(path)
+
+
 def may_write(folder):
     """Whether a file can be put into a folder, which is made where it isn't there. Whoever is root may."""
     while not os.path.lexists(folder):

@@ -4,7 +4,7 @@ import signal
 import sys
 
 from .command_line import NAMES, USAGE, read_words
-from .compiling import Compilation, dictc_beside
+from .compiling import NEW, Compilation, dictc_beside, place_for_new
 from .converting import make_utf_8, write_converted
 from .encodings import missing_converter
 from .faults import FILE, MEMORY, Ended, Fault, naming, shown
@@ -14,10 +14,8 @@ from .homes import home_for
 from .placing import Place
 from .sources import DICRC, SETTINGS, Source, debian_folder, encoding_told, read_folder
 from .telling import Teller
+from .user import UserImport
 from .workshop import Signals, Workshop
-
-# Where dictc writes the image, beside the place that it takes at the end.
-NEW = b"image"
 
 
 class Import:
@@ -65,7 +63,7 @@ class Import:
         names = {source.name: source for source in self.folder.definitions}
         names.update({b"%06d.csv" % number: source for number, source in enumerate(self.folder.lexicons)})
         for name, source in names.items():
-            make_utf_8(source, encoding, os.path.join(work, name), self.teller)
+            make_utf_8(source, encoding, os.path.join(work, name), self.teller, self.teller.left_out)
         return {name: source.path for name, source in names.items()}
 
     def convert_settings(self, encoding, beside):
@@ -74,7 +72,7 @@ class Import:
         for source in [] if self.place.is_device() else self.folder.settings:
             if self.is_kept(source.name):
                 found[source.name] = os.path.join(beside, source.name)
-                write_converted(source, encoding, found[source.name], self.teller)
+                write_converted(source, encoding, found[source.name], self.teller, self.teller.left_out)
         return found
 
     def name_fields(self, names, dicrc, work, beside):
@@ -97,9 +95,7 @@ class Import:
         return self.place.beside(name) is not None
 
     def compile(self, names, work, beside):
-        with naming(work):
-            os.symlink(beside, os.path.join(work, b"new"))
-        new = b"new/" + NEW
+        new = place_for_new(work, beside)
         files = [b"matrix.def", b"--char", b"char.def", b"--unk", b"unk.def", b"--out", new]
         lexicons = [name for name in names if name.endswith(b".csv")]
         compilation = Compilation({**names, new: self.place.named}, self.teller)
@@ -131,7 +127,7 @@ def imported(words, own, workshop, teller):
         missing = missing_converter()
         if missing:
             raise Fault(FILE, f"this Python has no converter of {missing}: it lacks a part of its library (Debian: apt install python3)")
-        Import(choices, own, workshop, teller).run()
+        (UserImport if choices.lexicons else Import)(choices, own, workshop, teller).run()
         return 0
     except Fault as fault:
         teller.say(str(fault))

@@ -42,6 +42,14 @@ class Place:
                 if is_same(path, target):
                     raise Fault(WRONG_WORDS, f"{shown(target)} is a file of the folder that is read: {shown(path)}")
 
+    def check_alone(self, paths):
+        """Refuses a place that is one of these files, which are read, or a folder."""
+        if os.path.isdir(self.image):
+            raise Fault(FILE, f"{shown(self.named)}: it is a folder")
+        for path in paths:
+            if is_same(path, self.named):
+                raise Fault(WRONG_WORDS, f"{shown(self.named)} is a file that is read: {shown(path)}")
+
     def put(self, new, settings, workshop):
         """Gives the new image and the new settings their names: `settings` has a path or None for each name of a file of settings."""
         if self.is_device():

@@ -1,0 +1,59 @@
+"""Lexicons of a user, which dictc compiles for a system dictionary. They are read strictly: no line is left out."""
+import os
+
+from .compiling import NEW, Compilation, dictc_beside, place_for_new
+from .converting import make_utf_8
+from .faults import REFUSED, Fault, naming, shown
+from .finding import find_encoding
+from .homes import image_named
+from .placing import Place
+from .sources import Source, source_at
+
+# What the system dictionary is called in the folder in which dictc runs.
+SYSTEM = b"system.img"
+
+
+def lexicon_at(path):
+    """A lexicon. It has no name, since lines without numbers are dictc's to refuse."""
+    return Source(path, b"", source_at(b"", path).size)
+
+
+def refuse_line(path, line, why):
+    raise Fault(REFUSED, f"{shown(path)}:{line}: {why}")
+
+
+class UserImport:
+    """One import of lexicons: what it reads, and where its image goes."""
+
+    def __init__(self, choices, own, workshop, teller):
+        self.choices, self.workshop, self.teller = choices, workshop, teller
+        self.lexicons = list(map(lexicon_at, choices.lexicons))
+        self.dictc = dictc_beside(own)
+        self.system = image_named(choices.name, os.path.dirname(own))
+        self.place = Place(choices.image)
+        self.place.check_alone([*choices.lexicons, *([self.system] if self.system else [])])
+
+    def run(self):
+        beside = self.workshop.new_folder(None if self.place.is_device() else self.place.folder)
+        work = self.workshop.new_folder()
+        encoding = find_encoding(self.lexicons, self.choices.encoding, None, self.choices.lexicons[0], self.teller)
+        self.teller.report(f"encoding: {encoding.name}")
+        names = {b"%06d.csv" % number: lexicon.path for number, lexicon in enumerate(self.lexicons)}
+        for name, lexicon in zip(names, self.lexicons):
+            make_utf_8(lexicon, encoding, os.path.join(work, name), self.teller, refuse_line)
+        counted = self.compile(names, work, beside)
+        new = os.path.join(beside, NEW)
+        size = os.path.getsize(new)
+        self.place.put(new, {}, self.workshop)
+        self.teller.report(counted)
+        self.teller.report(f"image: {shown(self.place.named)}, {size} bytes, {self.teller.seconds():.0f} s")
+
+    def compile(self, names, work, beside):
+        """What dictc counted. It finds a system dictionary that is nowhere no more than this does, and says so by its name."""
+        new, system = place_for_new(work, beside), self.choices.name
+        if self.system:
+            system = SYSTEM
+            with naming(work):
+                os.symlink(os.path.abspath(self.system), os.path.join(work, SYSTEM))
+        compilation = Compilation({**names, new: self.place.named, system: self.choices.name}, self.teller)
+        return compilation.run([self.dictc, b"user", b"-v", b"--dic=" + system, b"--out", new, *names], work, self.workshop)
