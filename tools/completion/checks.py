@@ -18,6 +18,7 @@ HOMES = (".local/share/kumquatsieve/own.img", "var/lib/kumquatsieve/ipadic.img",
 NAMES = {"own", "ipadic", "shared"}
 ROWS = [
     *((f"PREFIX/bin/{words} ", NAMES | FILES) for words in ("jseg -d", "jseg -u", "dictc user --dic", "kumquatsieve-cut -d", "kumquatsieve-cut -u")),
+    ("PREFIX/bin/kumquatsieve-import --user ", NAMES | FILES),
     *((f"PREFIX/bin/dictc ids {option} ", NAMES | FILES) for option in ("--dic", "-u")),
     ("PREFIX/bin/jseg -d i", {"ipadic"}),
     ("PREFIX/bin/jseg -d a-f", FILES),
@@ -25,9 +26,10 @@ ROWS = [
     ("PREFIX/bin/dictc user --dic sh", {"shared"}),
     ("jseg --sources ", FOLDERS),
     ("jseg -O ", {"wakati"}),
+    ("jseg --lattice ", {"tsv", "dot"}),
     ("kumquatsieve-cut -O ", {"wakati"}),
     ("jseg --explain ", CODES),
-    *((f"jseg {option} -", NOTHING) for option in ("-M", "-F", "-U", "-B", "-E")),
+    *((f"jseg {option} -", NOTHING) for option in ("-M", "-F", "-U", "-B", "-E", "--within")),
     *((f"kumquatsieve-cut {option} -", NOTHING) for option in ("-j", "-M", "-F", "-U", "-B", "-E")),
     ("dictc help ", {"system", "user", "ids"}),
     ("dictc --explain ", CODES),
@@ -39,6 +41,8 @@ ROWS = [
     ("kumquatsieve-import ", DEBIANS | FOLDERS),
     ("kumquatsieve-import -v ipadic ", FILES),
     ("kumquatsieve-import --encoding ", ENCODINGS),
+    ("kumquatsieve-import --user a --out ", FILES),
+    ("kumquatsieve-import --user a --out b ", FILES),
 ]
 
 
@@ -60,7 +64,7 @@ def faults(helped):
 
 def made_folder(prefix):
     """A folder with a file and a folder, beside what is installed."""
-    for path in ("bin/jseg", "bin/dictc", "bin/kumquatsieve-cut", *HOMES, f"here/{FILE}"):
+    for path in ("bin/jseg", "bin/dictc", "bin/kumquatsieve-cut", "bin/kumquatsieve-import", *HOMES, f"here/{FILE}"):
         (prefix / path).parent.mkdir(parents=True, exist_ok=True)
         (prefix / path).touch(0o755)
     (prefix / "here" / FOLDER).mkdir()

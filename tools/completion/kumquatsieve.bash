@@ -96,9 +96,10 @@ _kumquatsieve_jseg() {
     -d | -u) _kumquatsieve_image ;;
     --sources) _kumquatsieve_folders ;;
     -O) _kumquatsieve_of wakati ;;
+    --lattice) _kumquatsieve_of "tsv dot" ;;
     --explain) _kumquatsieve_of "$_kumquatsieve_codes" ;;
-    -M | -F | -U | -B | -E) ;;
-    *) _kumquatsieve_of "-d -u --sources --sample --dictionaries --skip-digest -M -O -F -U -B -E -v --explain -h --help -V --version" ;;
+    -M | -F | -U | -B | -E | --within) ;;
+    *) _kumquatsieve_of "-d -u --sources --sample --dictionaries --skip-digest -M -O -F -U -B -E --lattice --within -v --explain -h --help -V --version" ;;
     esac
 }
 
@@ -158,9 +159,13 @@ _kumquatsieve_import() {
     _kumquatsieve_words
     if [[ $prev = --encoding ]]; then
         _kumquatsieve_of "$_kumquatsieve_encodings"
+    elif [[ $prev = --user ]]; then
+        _kumquatsieve_image
+    elif [[ $prev = --out ]]; then
+        _kumquatsieve_files
     elif [[ $cur = -* ]] && ! _kumquatsieve_has --; then
-        _kumquatsieve_of "--encoding -v --verbose -h --help"
-    elif [[ $(_kumquatsieve_count) = 0 ]]; then
+        _kumquatsieve_of "--encoding --user --out -v --verbose -h --help"
+    elif [[ $(_kumquatsieve_count) = 0 ]] && ! _kumquatsieve_has --user; then
         _kumquatsieve_of "ipadic juman naist unidic"
         compopt -o plusdirs
     else

@@ -8,6 +8,7 @@ static int64_t total;
 static const uint8_t *kept;
 static uint8_t room[256];
 static kumquatsieve_word words[8];
+static kumquatsieve_node nodes[8];
 
 static uint32_t set_format(kumquatsieve_cutter *cutter, const char *node, const char *unk, const char *bos, const char *eos) {
     return kumquatsieve_set_format(cutter, BYTES(node), strlen(node), BYTES(unk), strlen(unk), BYTES(bos), strlen(bos), BYTES(eos), strlen(eos), &part, &at);
@@ -22,6 +23,8 @@ static void calls_of_an_empty_cutter(file user) {
     CHECK(cut(&cutter, LINE) == KUMQUATSIEVE_EMPTY_CUTTER);
     CHECK(kumquatsieve_cut_text(&cutter, BYTES("a"), 1, &count, &total, NULL) == KUMQUATSIEVE_EMPTY_CUTTER);
     CHECK(kumquatsieve_words(&cutter, 0, words, 8, &count) == KUMQUATSIEVE_EMPTY_CUTTER);
+    CHECK(kumquatsieve_nodes(&cutter, 0, nodes, 8, &count) == KUMQUATSIEVE_EMPTY_CUTTER);
+    CHECK(kumquatsieve_entry_feature(&cutter, true, 0, 0, &kept, &length) == KUMQUATSIEVE_EMPTY_CUTTER);
     CHECK(kumquatsieve_feature(&cutter, 0, &kept, &length) == KUMQUATSIEVE_EMPTY_CUTTER);
     CHECK(kumquatsieve_features(&cutter, &kept, &length) == KUMQUATSIEVE_EMPTY_CUTTER);
     CHECK(kumquatsieve_copy_feature(&cutter, 0, room, sizeof room, &length) == KUMQUATSIEVE_EMPTY_CUTTER);
@@ -55,6 +58,7 @@ static void refused_images(file system, file user) {
 static void lines(kumquatsieve_cutter *cutter) {
     static uint8_t long_line[1048577];
     CHECK(kumquatsieve_words(cutter, 0, words, 8, &count) == KUMQUATSIEVE_NOTHING_CUT);
+    CHECK(kumquatsieve_nodes(cutter, 0, nodes, 8, &count) == KUMQUATSIEVE_NOTHING_CUT);
     CHECK(kumquatsieve_print(cutter, &kept, &length) == KUMQUATSIEVE_NOTHING_CUT);
     CHECK(kumquatsieve_features(cutter, &kept, &length) == KUMQUATSIEVE_NOTHING_CUT);
     CHECK(cut(cutter, "a\n") == KUMQUATSIEVE_LINE_FEED);

@@ -50,7 +50,11 @@ static void refused(file system, file user) {
         CHECK_ROW(rows[i].what, kumquatsieve_dictionary_make(&dictionary, rows[i].images, rows[i].count, rows[i].how, &image, &number) == rows[i].code);
         CHECK_ROW(rows[i].what, !dictionary && image == rows[i].image && number == rows[i].number);
         CHECK_ROW(rows[i].what, kumquatsieve_dictionary_make(&dictionary, rows[i].images, rows[i].count, rows[i].how, NULL, NULL) == rows[i].code);
+        CHECK_ROW(rows[i].what, kumquatsieve_dictionary_make(NULL, rows[i].images, rows[i].count, rows[i].how, NULL, NULL) == rows[i].code);
     }
+    const kumquatsieve_image image = image_of(system);
+    CHECK(kumquatsieve_dictionary_make(NULL, NULL, 0, 0, NULL, NULL) == KUMQUATSIEVE_EMPTY_CUTTER);
+    CHECK(kumquatsieve_dictionary_make(NULL, &image, 1, 0, NULL, NULL) == KUMQUATSIEVE_OK);
     free(bad.bytes);
     free(odd.bytes);
 }

@@ -1,10 +1,10 @@
-/* The library writes each field of a word where the header has it: layout SYSTEM.img USER.img. The user's dictionary has すもももも as its third word,
+/* The library writes each field of a word and of a node where the header has it: layout SYSTEM.img USER.img. The user's dictionary has すもももも as its third word,
    with left id 0, right id 1 and cost -30000, so that no two fields that could be exchanged have the same value. */
 #include "check.h"
 
 #define LAYOUT_LINE " もも  すもももも"
 
-enum { WRITTEN = 2, ROOM = 4, BEFORE = 0xaa };
+enum { WRITTEN = 2, ROOM = 4, NODES = 8, BEFORE = 0xaa };
 
 /* The second word of the line: BOS costs 10 before もも, which costs 30, and its connection with the word costs 5. */
 static const kumquatsieve_word WANTED = {
@@ -29,6 +29,22 @@ static void check_fields(const uint8_t *word) {
     CHECK_FIELD(word, feature_length);
 }
 
+/* The nodes are も, もも, も, then すもも and the word, then も, もも, も. The connection of the word with EOS costs 5; すもも reaches the end, and is not
+   on the best path. */
+static void check_nodes(kumquatsieve_cutter *cutter) {
+    static kumquatsieve_node nodes[NODES + 1];
+    const uint8_t *bytes = (const uint8_t *)nodes, *node = bytes + 4 * sizeof *nodes, *other = bytes + 3 * sizeof *nodes;
+    const int64_t through = -29950;
+    size_t count = 0;
+    memset(nodes, BEFORE, sizeof nodes);
+    CHECK(kumquatsieve_nodes(cutter, 0, nodes, NODES + 1, &count) == KUMQUATSIEVE_OK && count == NODES);
+    check_fields(node + offsetof(kumquatsieve_node, word));
+    CHECK(memcmp(node + offsetof(kumquatsieve_node, through), &through, sizeof through) == 0);
+    CHECK(node[offsetof(kumquatsieve_node, reaches_end)] == 1 && node[offsetof(kumquatsieve_node, on_best)] == 1);
+    CHECK(other[offsetof(kumquatsieve_node, reaches_end)] == 1 && other[offsetof(kumquatsieve_node, on_best)] == 0);
+    for (size_t i = NODES * sizeof *nodes; i < sizeof nodes; i++) CHECK(bytes[i] == BEFORE);
+}
+
 int main(int given, char **paths) {
     CHECK(given == 3);
     static kumquatsieve_word words[ROOM];
@@ -43,9 +59,10 @@ int main(int given, char **paths) {
     CHECK(kumquatsieve_words(&cutter, 0, words, ROOM, &count) == KUMQUATSIEVE_OK && count == WRITTEN);
     check_fields(bytes + sizeof(kumquatsieve_word));
     for (size_t i = WRITTEN * sizeof(kumquatsieve_word); i < sizeof words; i++) CHECK(bytes[i] == BEFORE);
+    check_nodes(&cutter);
     kumquatsieve_free(&cutter);
     free(system.bytes);
     free(user.bytes);
-    printf("layout: a word has %zu bytes, and each field lies where the header has it\n", sizeof(kumquatsieve_word));
+    printf("layout: a word has %zu bytes and a node %zu, and each field lies where the header has it\n", sizeof(kumquatsieve_word), sizeof(kumquatsieve_node));
     return 0;
 }

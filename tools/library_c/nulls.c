@@ -14,6 +14,7 @@ static void no_bytes(file system) {
     CHECK(kumquatsieve_set_format(&cutter, BYTES("%q"), 2, NULL, 0, NULL, 0, NULL, 0, NULL, NULL) == KUMQUATSIEVE_BAD_ITEM);
     kumquatsieve_free(&cutter);
     kumquatsieve_free(NULL);
+    kumquatsieve_buffer_free(NULL);
 }
 
 static void no_outputs(file system, file user) {
@@ -24,6 +25,9 @@ static void no_outputs(file system, file user) {
     CHECK(kumquatsieve_cut(&cutter, BYTES(LINE), strlen(LINE), NULL, NULL, NULL) == KUMQUATSIEVE_OK);
     CHECK(kumquatsieve_words(&cutter, 0, NULL, 0, &count) == KUMQUATSIEVE_OK && count > 0);
     CHECK(kumquatsieve_words(&cutter, 0, NULL, 0, NULL) == KUMQUATSIEVE_OK);
+    CHECK(kumquatsieve_nodes(&cutter, 0, NULL, 0, &count) == KUMQUATSIEVE_OK && count > 0);
+    CHECK(kumquatsieve_nodes(&cutter, 0, NULL, 0, NULL) == KUMQUATSIEVE_OK);
+    CHECK(kumquatsieve_entry_feature(&cutter, true, 0, 0, NULL, NULL) == KUMQUATSIEVE_OK);
     CHECK(kumquatsieve_feature(&cutter, 0, NULL, NULL) == KUMQUATSIEVE_OK);
     CHECK(kumquatsieve_features(&cutter, NULL, NULL) == KUMQUATSIEVE_OK);
     CHECK(kumquatsieve_copy_feature(&cutter, 0, NULL, 0, &needed) == KUMQUATSIEVE_SHORT_BUFFER && needed > 0);

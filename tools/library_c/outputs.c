@@ -147,7 +147,7 @@ static void cuts(file system) {
 }
 
 /* What is lent: of the path 9 + 1 + 16 + 1 bytes, 6 + 1 + 13 + 1, and 4 of EOS. A length of UNSET says that no place is set either. */
-typedef enum lender { PATH, FEATURE, FEATURES } lender;
+typedef enum lender { PATH, FEATURE, FEATURES, ENTRY } lender;
 
 static const struct {
     const char *what;
@@ -167,12 +167,17 @@ static const struct {
     {"the features", FEATURES, CUT, 0, KUMQUATSIEVE_OK, 29},
     {"the features: nothing cut", FEATURES, UNCUT, 0, KUMQUATSIEVE_NOTHING_CUT, UNSET},
     {"the features: an empty cutter", FEATURES, EMPTY, 0, KUMQUATSIEVE_EMPTY_CUTTER, UNSET},
+    {"an entry's feature", ENTRY, CUT, 1, KUMQUATSIEVE_OK, 10},
+    {"an entry's feature: no entry", ENTRY, CUT, 9, KUMQUATSIEVE_OK, 0},
+    {"an entry's feature: nothing cut", ENTRY, UNCUT, 1, KUMQUATSIEVE_OK, 10},
+    {"an entry's feature: an empty cutter", ENTRY, EMPTY, 1, KUMQUATSIEVE_EMPTY_CUTTER, UNSET},
 };
 
 static uint32_t lend(kumquatsieve_cutter *cutter, lender lender, size_t number, const uint8_t **text, size_t *length) {
     switch (lender) {
     case PATH: return kumquatsieve_print(cutter, text, length);
     case FEATURE: return kumquatsieve_feature(cutter, number, text, length);
+    case ENTRY: return kumquatsieve_entry_feature(cutter, true, 0, (uint32_t)number, text, length);
     default: return kumquatsieve_features(cutter, text, length);
     }
 }
@@ -189,8 +194,8 @@ static void lent(file system) {
     end(cutters);
 }
 
-/* What is copied, and the words, with the number that is told. */
-typedef enum copier { COPY_PATH, COPY_FEATURE, WORDS, TEXT } copier;
+/* What is copied, and the words and nodes, with the number that is told. */
+typedef enum copier { COPY_PATH, COPY_FEATURE, WORDS, NODES, TEXT } copier;
 
 static const struct {
     const char *what;
@@ -214,6 +219,10 @@ static const struct {
     {"words: none behind the last", WORDS, CUT, 2, 2, KUMQUATSIEVE_OK, 2},
     {"words: nothing cut", WORDS, UNCUT, 0, 2, KUMQUATSIEVE_NOTHING_CUT, UNSET},
     {"words: an empty cutter", WORDS, EMPTY, 0, 2, KUMQUATSIEVE_EMPTY_CUTTER, UNSET},
+    {"nodes", NODES, CUT, 0, 2, KUMQUATSIEVE_OK, 4},
+    {"nodes: none behind the last", NODES, CUT, 4, 2, KUMQUATSIEVE_OK, 4},
+    {"nodes: nothing cut", NODES, UNCUT, 0, 2, KUMQUATSIEVE_NOTHING_CUT, UNSET},
+    {"nodes: an empty cutter", NODES, EMPTY, 0, 2, KUMQUATSIEVE_EMPTY_CUTTER, UNSET},
     {"a fault's text", TEXT, EMPTY, KUMQUATSIEVE_NOT_UTF8, 60, KUMQUATSIEVE_OK, 10},
     {"a fault's text: short", TEXT, EMPTY, KUMQUATSIEVE_NOT_UTF8, 9, KUMQUATSIEVE_SHORT_BUFFER, 10},
     {"no fault's text", TEXT, EMPTY, 78, 0, KUMQUATSIEVE_OK, 0},
@@ -222,10 +231,12 @@ static const struct {
 static uint32_t copy(kumquatsieve_cutter *cutter, copier copier, uint32_t number, size_t room, size_t *told) {
     static uint8_t out[60];
     static kumquatsieve_word words[2];
+    static kumquatsieve_node nodes[2];
     switch (copier) {
     case COPY_PATH: return kumquatsieve_copy_print(cutter, out, room, told);
     case COPY_FEATURE: return kumquatsieve_copy_feature(cutter, number, out, room, told);
     case WORDS: return kumquatsieve_words(cutter, number, words, room, told);
+    case NODES: return kumquatsieve_nodes(cutter, number, nodes, room, told);
     default: return kumquatsieve_fault(number, out, room, told);
     }
 }

@@ -67,6 +67,17 @@ static void ask_lent(kumquatsieve_cutter *cutter) {
     CHECK(is_text(kept, length, "すもももも \n"));
 }
 
+/* すもも and すもももも at the beginning, and the three nodes behind them. */
+static void ask_nodes(kumquatsieve_cutter *cutter) {
+    kumquatsieve_node nodes[5];
+    size_t count = UNSET, length = UNSET;
+    const uint8_t *feature = NULL;
+    while (again(kumquatsieve_nodes(cutter, 0, nodes, 5, &count))) CHECK(count == UNSET);
+    CHECK(count == 5);
+    while (again(kumquatsieve_entry_feature(cutter, true, 0, 0, &feature, &length))) CHECK(!feature && length == UNSET);
+    CHECK(is_text(feature, length, "名詞,すもも"));
+}
+
 static void ask_lines(kumquatsieve_cutter *cutter) {
     const uint8_t *kept = NULL;
     size_t length = UNSET;
@@ -81,6 +92,7 @@ static void run(file system, file user) {
     fill(&cutter, system, user);
     while (again(kumquatsieve_share(&other, &cutter))) CHECK(!other.held);
     ask_path(&other);
+    ask_nodes(&other);
     ask_lent(&other);
     ask_lines(&other);
     kumquatsieve_free(&other);
@@ -97,6 +109,27 @@ static void run_over_a_dictionary(file system, file user) {
     while (again(cut(&cutter, LINE))) continue;
     kumquatsieve_dictionary_release(dictionary);
     kumquatsieve_free(&cutter);
+}
+
+/* The same of an image in two pieces, and of a dictionary made of its cutter. */
+static void run_over_a_buffer(file system, file user) {
+    kumquatsieve_dictionary *dictionary = NULL;
+    kumquatsieve_cutter cutter = KUMQUATSIEVE_EMPTY;
+    kumquatsieve_buffer buffer = KUMQUATSIEVE_NO_BYTES;
+    size_t half = system.length / 2;
+    while (again(kumquatsieve_buffer_append(&buffer, half, system.bytes, half))) continue;
+    while (again(kumquatsieve_buffer_append(&buffer, half, system.bytes + half, system.length - half))) CHECK(buffer.held);
+    while (again(kumquatsieve_load_buffer(&cutter, &buffer, false, NULL))) {
+        CHECK(!cutter.held && !buffer.held);
+        CHECK(kumquatsieve_buffer_append(&buffer, system.length, system.bytes, system.length) == KUMQUATSIEVE_OK);
+    }
+    while (again(kumquatsieve_buffer_append(&buffer, 0, user.bytes, user.length))) continue;
+    while (again(kumquatsieve_add_user_buffer(&cutter, &buffer, false, NULL))) {
+        CHECK(cutter.held && !buffer.held);
+        CHECK(kumquatsieve_buffer_append(&buffer, user.length, user.bytes, user.length) == KUMQUATSIEVE_OK);
+    }
+    while (again(kumquatsieve_dictionary_of(&dictionary, &cutter))) CHECK(!dictionary && cutter.held);
+    kumquatsieve_dictionary_release(dictionary);
 }
 
 static long growths_of(void (*runs)(file, file), file system, file user) {
@@ -124,10 +157,11 @@ static long refuse_each(void (*runs)(file, file), file system, file user, long a
 int main(int given, char **paths) {
     CHECK(given == 3);
     file system = read_file(paths[1]), user = read_file(paths[2]);
-    long alone = growths_of(run, system, user), over = growths_of(run_over_a_dictionary, system, user);
-    CHECK(refuse_each(run, system, user, alone) == alone);
-    CHECK(refuse_each(run_over_a_dictionary, system, user, over) == over);
-    printf("refused: %ld growths; each one that was refused ended its call, and no block is left\n", alone + over);
+    void (*const all[])(file, file) = {run, run_over_a_dictionary, run_over_a_buffer};
+    long counts[ROWS(all)], sum = 0;
+    for (size_t i = 0; i < ROWS(all); i++) sum += counts[i] = growths_of(all[i], system, user);
+    for (size_t i = 0; i < ROWS(all); i++) CHECK(refuse_each(all[i], system, user, counts[i]) == counts[i]);
+    printf("refused: %ld growths; each one that was refused ended its call, and no block is left\n", sum);
     free(system.bytes);
     free(user.bytes);
     return 0;

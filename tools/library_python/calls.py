@@ -15,6 +15,11 @@ LINES = [
     (LINE, [("すもも", 0, 3, 0, 9), ("もも", 3, 5, 9, 15)]),
     (" すもも  もも ", [("すもも", 1, 4, 1, 10), ("もも", 6, 8, 12, 18)]),
 ]
+# The nodes of a line, each with the least cost up to it and through it, and whether it is on the best path.
+LATTICES = [
+    ("", []),
+    (LINE, [("すもも", 110, 152, True), ("も", 137, 169, False), ("もも", 147, 152, True), ("も", 164, 169, False)]),
+]
 FORMATS = [
     ({}, PRINTED),
     ({"node": "%m/%f[0] ", "eos": "\\n"}, "すもも/名詞 もも/名詞 \n"),
@@ -27,7 +32,9 @@ FAULTS = [
     ("K4", None, None, None, lambda: Cutter(SYSTEM, grouping=1001)),
     ("K1", None, None, 1, lambda: Cutter(SYSTEM).cut("a\nb")),
     ("K1", None, None, 0, lambda: Cutter(SYSTEM).wakati("\na")),
+    ("K1", None, None, 1, lambda: Cutter(SYSTEM).lattice("a\nb")),
     ("G3", None, None, 1, lambda: Cutter(SYSTEM).cut("a\ud800")),
+    ("G3", None, None, 1, lambda: Cutter(SYSTEM).lattice("a\ud800")),
     ("G4", None, None, 2**20 + 1, lambda: Cutter(SYSTEM).parse("a" * (2**20 + 1))),
     ("P1", 0, "node", None, lambda: Cutter(SYSTEM).format(LINE, "\\q")),
     ("P3", 1, "node", None, lambda: Cutter(SYSTEM).format(LINE, "a%f[x]")),
@@ -50,6 +57,8 @@ def check_words():
         same(f"wakati {line!r}", [word[0] for word in words], cutter.wakati(line))
         same(f"known {line!r}", [True] * len(words), [word.known for word in found])
     same("features", ["名詞,すもも", "名詞,もも"], [word.feature for word in cutter.cut(LINE)])
+    for line, nodes in LATTICES:
+        same(f"lattice {line!r}", nodes, [(node.surface, node.total, node.through, node.best) for node in cutter.lattice(line).nodes])
     for options, text in FORMATS:
         same(f"format {options}", text, cutter.format(LINE, **options))
     same("an odd feature", ["名詞,すもも", "名詞\nもも"], [word.feature for word in Cutter(ODD).cut(LINE)])

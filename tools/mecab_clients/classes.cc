@@ -62,7 +62,7 @@ void settings_of_taggers() {
     CHECK(tagger->partial() && !tagger->parse(LINE) && is_left_out(tagger->what()));
     tagger->set_partial(false);
     tagger->set_all_morphs(true);
-    CHECK(tagger->all_morphs() && !tagger->parseToNode(LINE));
+    CHECK(tagger->all_morphs() && tagger->parseToNode(LINE)->next->next->next->length == 3);
     tagger->set_all_morphs(false);
     tagger->set_theta(0.5F);
     CHECK(tagger->theta() == 0.5F);
@@ -81,7 +81,8 @@ void sentences_of_lattices(const MeCab::Tagger *tagger) {
     CHECK(lattice->is_available() && lattice->sentence() == LINE && lattice->size() == std::strlen(LINE) && tagger->parse(lattice));
     CHECK(lattice->bos_node()->next->length == 9 && lattice->eos_node()->prev->length == 6);
     CHECK(lattice->begin_nodes()[0] == lattice->bos_node()->next && lattice->begin_nodes(9) == lattice->eos_node()->prev);
-    CHECK(lattice->end_nodes()[0] == lattice->bos_node() && lattice->end_nodes(15) == lattice->eos_node()->prev);
+    CHECK(lattice->end_nodes()[0] == lattice->bos_node() && lattice->end_nodes(15) == lattice->eos_node());
+    CHECK(lattice->begin_nodes(9)->bnext->length == 3 && lattice->end_nodes(15)->enext->enext == lattice->eos_node()->prev);
     lattice->set_sentence(LINE, 9);
     CHECK(tagger->parse(lattice) && is(lattice->toString(), "すもも\t名詞,すもも\nEOS\n"));
     lattice->clear();

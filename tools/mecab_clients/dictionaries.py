@@ -30,7 +30,8 @@ def compile_for_both(source, folder):
         run(command, os.environ)
     compared.write_in_utf8(source / "dicrc", sources.mecab / "dicrc")
     compared.write_in_utf8(source / "dicrc", sources.image.with_suffix(".dicrc"))
-    compared.write_in_utf8(source / "pos-id.def", sources.image.with_suffix(".pos-id.def"))
+    if (source / "pos-id.def").exists():
+        compared.write_in_utf8(source / "pos-id.def", sources.image.with_suffix(".pos-id.def"))
 
 
 def printed_over(name):

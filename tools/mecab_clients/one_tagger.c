@@ -1,5 +1,5 @@
 /* One tagger of MeCab's C interface in four threads, each with a lattice of its own: one_tagger DICTIONARY LINES. Prints what each thread is
-   told of each line, as text and as nodes, thread after thread. */
+   told of each line, as text and as nodes, and what the nodes of the whole lattice cost, thread after thread. */
 #include <mecab.h>
 #include <pthread.h>
 #include <stdio.h>
@@ -38,6 +38,18 @@ static char **read_lines(const char *path, size_t *count) {
     return lines;
 }
 
+/* What all nodes of the lattice cost that end within the sentence. */
+static long cost_of_all(mecab_lattice_t *lattice) {
+    mecab_node_t **begins = mecab_lattice_get_all_begin_nodes(lattice);
+    size_t size = mecab_lattice_get_size(lattice);
+    long cost = 0;
+    if (!begins) stop(mecab_lattice_strerror(lattice));
+    for (size_t at = 0; at <= size; at++) {
+        for (const mecab_node_t *node = begins[at]; node; node = node->bnext) cost += at + node->rlength <= size ? node->cost : 0;
+    }
+    return cost;
+}
+
 static void tell(worker *one, mecab_lattice_t *lattice, const char *line) {
     mecab_lattice_set_sentence(lattice, line);
     if (!mecab_parse_lattice(one->tagger, lattice)) stop(mecab_lattice_strerror(lattice));
@@ -46,6 +58,7 @@ static void tell(worker *one, mecab_lattice_t *lattice, const char *line) {
         fprintf(one->told, "%.*s %s %u %u ", node->length, node->surface, node->feature, node->length, node->rlength);
         fprintf(one->told, "%u %u %u %u %d %ld\n", node->rcAttr, node->lcAttr, node->char_type, node->stat, node->wcost, node->cost);
     }
+    fprintf(one->told, "%ld\n", cost_of_all(lattice));
 }
 
 static void *work(void *at) {

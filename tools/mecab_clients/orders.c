@@ -124,8 +124,8 @@ static void nodes(void) {
     mecab_destroy(tagger);
 }
 
-/* The last word of a path and all before it, found by the arrays, as those of the best path. MeCab has other nodes
-   beside them, and the end among those that end at its place. */
+/* The last word of a path and all before it, found by the arrays, as those of the best path. The order of the other nodes is that of the sources of the
+   dictionary, which here is not the same. */
 static void places(void) {
     mecab_t *tagger = mecab_new2(words(""));
     mecab_lattice_t *lattice = mecab_lattice_new();

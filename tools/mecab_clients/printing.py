@@ -7,10 +7,12 @@ import sys
 import tempfile
 from pathlib import Path
 
+from mecab_clients.all_morphs import printed_of_lattices, printed_with_all_morphs
 from mecab_clients.common import CLIENTS, INDEX, IPADIC, PYTHON, TOP, compiled, dictionary_of, first_lines, run, works
 from mecab_clients.dictionaries import over_dictionaries
 from mecab_clients.examples import printed_by_examples
 from mecab_clients.own_formats import printed_in_own_formats
+from mecab_clients.unidic import printed_over_unidic
 
 JAR = Path("/usr/share/java/MeCab-0.996.jar")
 POSTGRESQL = Path("/usr/lib/postgresql")
@@ -114,6 +116,10 @@ def printed_by_fields_with_users(lines, environment, folder):
     return run([program, dictionary_of(environment), lines, users_of(lines, environment, folder)], environment)
 
 
+def printed_of_lattices_with_users(lines, environment, folder):
+    return printed_of_lattices(lines, environment, folder, [users_of(lines, environment, folder)])
+
+
 def clients():
     """Each client's name, whether it is there, and what it prints of the lines of a file."""
     groonga = works("groonga", "--version") and GROONGA_TOKENIZER.exists()
@@ -129,9 +135,13 @@ def clients():
         ("mecab", works("mecab", "--version"), mecab),
         ("C, each field of each node", True, printed_by_fields),
         ("C, each field of each node, with users' dictionaries", INDEX.exists() and IPADIC.exists(), printed_by_fields_with_users),
+        ("C, the whole lattice", INDEX.exists() and IPADIC.exists(), printed_of_lattices),
+        ("C, the whole lattice, with users' dictionaries", INDEX.exists() and IPADIC.exists(), printed_of_lattices_with_users),
+        ("mecab with all morphs", INDEX.exists() and IPADIC.exists() and works("mecab", "--version"), printed_with_all_morphs),
         *over_dictionaries(),
         ("mecab with options and formats", works("mecab", "--version"), printed_by_options),
         ("formats of a dicrc of no dictionary", works("mecab", "--version"), printed_in_own_formats),
+        ("UniDic's formats", INDEX.exists() and works("mecab", "--version"), printed_over_unidic),
         ("C and C++ as in MeCab's documents", True, printed_by_examples),
         ("mecab as a coprocess", works("mecab", "--version"), coprocess),
         ("Text::MeCab", works("perl", "-MText::MeCab", "-e", "1"), perl),

@@ -1,6 +1,9 @@
 /* A file that takes the place of an image is another image, and so is one that is written anew in its place: replaced IMG OTHER, two images of one
-   system but for a feature of もも. OTHER takes the place of IMG. Under valgrind a read of what is freed is an error. */
+   system but for a feature of もも. OTHER takes the place of IMG. Other rules for ids of parts of speech give other ids of one image. Under valgrind a
+   read of what is freed is an error. */
 #include "check.h"
+#include <stdbool.h>
+#include <unistd.h>
 
 static const char OTHERS[] = "すもも\t名詞,すもも\nもも\t記号,もも\nEOS\n";
 
@@ -17,8 +20,8 @@ static char *whole_of(const char *name, size_t *length) {
     return bytes;
 }
 
-static void write_whole(const char *bytes, size_t length) {
-    FILE *file = fopen(path, "wb");
+static void write_whole(const char *name, const char *bytes, size_t length) {
+    FILE *file = fopen(name, "wb");
     CHECK(file && fwrite(bytes, 1, length, file) == length && fclose(file) == 0);
 }
 
@@ -28,9 +31,42 @@ static mecab_t *opened(void) {
     return tagger;
 }
 
+/* The path of what stands beside the image. */
+static const char *beside(const char *ending) {
+    static char name[4096];
+    snprintf(name, sizeof name, "%.*s%s", (int)(strlen(path) - strlen(".img")), path, ending);
+    return name;
+}
+
+static bool has_id(mecab_t *tagger, unsigned id) {
+    const mecab_node_t *node = mecab_sparse_tonode(tagger, LINE);
+    return node && node->next->posid == id && node->next->next->posid == id && strcmp(node->next->feature, "名詞,すもも") == 0;
+}
+
+/* Taggers of one image by other rules, and by none, each with its own ids as long as it is there. */
+static void rules(void) {
+    mecab_t *none = opened();
+    write_whole(beside(".dicrc"), "cost-factor = 800\n", strlen("cost-factor = 800\n"));
+    mecab_t *missing = opened();
+    write_whole(beside(".pos-id.def"), "名詞 3\n", strlen("名詞 3\n"));
+    mecab_t *one = opened(), *same = opened();
+    write_whole(beside(".pos-id.def"), "記号 3\n名詞 40\n", strlen("記号 3\n名詞 40\n"));
+    mecab_t *other = opened();
+    CHECK(mecab_dictionary_info(none) == mecab_dictionary_info(other) && mecab_dictionary_info(one) == mecab_dictionary_info(other));
+    CHECK(has_id(none, 0) && has_id(missing, 1) && has_id(one, 3) && has_id(other, 40));
+    mecab_destroy(one);
+    CHECK(has_id(none, 0) && has_id(missing, 1) && has_id(same, 3) && has_id(other, 40));
+    CHECK(unlink(beside(".dicrc")) == 0 && unlink(beside(".pos-id.def")) == 0);
+    mecab_destroy(none);
+    mecab_destroy(missing);
+    mecab_destroy(same);
+    mecab_destroy(other);
+}
+
 int main(int given, char **paths) {
     CHECK(given == 3);
     path = paths[1];
+    rules();
     size_t length = 0;
     char *first = whole_of(path, &length);
     mecab_t *before = opened(), *same = opened();
@@ -40,7 +76,7 @@ int main(int given, char **paths) {
     CHECK(strcmp(mecab_sparse_tostr(before, LINE), PRINTED) == 0 && strcmp(mecab_sparse_tostr(same, LINE), PRINTED) == 0);
     mecab_destroy(same);
     mecab_destroy(before);
-    write_whole(first, length);
+    write_whole(path, first, length);
     mecab_t *rewritten = opened();
     CHECK(mecab_dictionary_info(rewritten) != mecab_dictionary_info(renamed) && strcmp(mecab_sparse_tostr(rewritten, LINE), PRINTED) == 0);
     CHECK(strcmp(mecab_sparse_tostr(renamed, LINE), OTHERS) == 0 && strcmp(mecab_sparse_tonode(renamed, LINE)->next->next->feature, "記号,もも") == 0);

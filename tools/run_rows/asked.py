@@ -14,6 +14,20 @@ DENIED = 0o000
 PROGRAMS = "dictc", "jseg"
 
 
+def explained_by(program, code):
+    """The line that says what explains a code."""
+    return f"{program}: '{program} --explain {code}' prints what that means and what to do\n"
+
+
+def beside(words, before, fault, code, status):
+    """A fault on a terminal, and read by a program."""
+    program = words.split()[0]
+    lines = before.replace("{program}", program) + f"{program}: {fault}\n" + explained_by(program, code)
+    files = {**EUC, "text": b"no image"}
+    yield Run(f"{words}, on a terminal", words, err=Exactly(lines), status=status, files=files, under=Under(stderr="terminal"))
+    yield Run(f"{words}, read by a program", words, err=fault, status=status, files=files)
+
+
 def asked_otherwise(program):
     """Words, how the answer begins, and what it has: codes in small letters, names, names of several faults, and all codes."""
     yield f"{program} --explain g3", "G3 NotUtf8\nMeaning: ", ()
@@ -92,8 +106,23 @@ TOLD = [
 LOAD_LARGE = "dictc user --dic large.img --out new.img user.csv"
 LARGE = [
     # (where standard error goes, what is told)
-    ("terminal", Exactly(f"\rloading large.img{ERASED}\r{ERASED}dictc: large.img: L2 BadMagic\n")),
+    ("terminal", Exactly(f"\rloading large.img{ERASED}\r{ERASED}dictc: large.img: L2 BadMagic\n{explained_by('dictc', 'L2')}")),
     ("kept", "large.img: L2 BadMagic"),
+]
+
+# What is said beside a fault, on a terminal and with `-v` alone. (words, the lines before the fault's, that one, its code, the status)
+NOT_THERE = "{program}: none.img: it is not there\n"
+CONVERTER = "{program}: kumquatsieve-import takes sources that are not UTF-8: a directory of them, and lexicons with --user\n"
+EUC = {"euc.csv": LEXICON.decode().encode("euc_jp")}
+BESIDE = [
+    ("jseg -d ./none.img", NOT_THERE.replace("none", "./none"), "./none.img: F1 File", "F1", 3),
+    ("dictc ids --dic ./none.img x", NOT_THERE.replace("none", "./none"), "./none.img: F1 File", "F1", 3),
+    (f"{SYSTEM} euc.csv", CONVERTER, "euc.csv:1: S1 NotUtf8", "S1", 1),
+    (f"{USER} euc.csv", CONVERTER, "euc.csv:1: S1 NotUtf8", "S1", 1),
+    ("jseg -d text", "", "text: L1 Truncated", "L1", 1),
+    ("jseg --sample -F %m%q", "{program}: the fault is in the text of -F\n{program}: %m%q\n{program}:   ^\n", "P2 BadItem 2", "P2", 2),
+    ("jseg --sample -U 'すa\t%q'", "{program}: the fault is in the text of -U\n{program}: すa\\t%q\n{program}:      ^\n", "P2 BadItem 5", "P2", 2),
+    ("jseg --sample -E '\\x'", "{program}: the fault is in the text of -E\n{program}: \\x\n{program}: ^\n", "P1 BadEscape 0", "P1", 2),
 ]
 
 STEPS = ["connection costs of 2 right ids and 2 left ids", "6 categories", "unknown words", "3 entries up to a/lexicon.csv"]
@@ -112,6 +141,7 @@ ROWS = [
     *(Run(f"{words}: {why}", words, err=Has("", (f": {path}: {why}\n", f": {path}: F1 File\n")), status=3, files={path: there}) for words, path, there, why in WHY),
     Run("no permission", "jseg -d sys.img -v", err=Has("", ("sys.img: permission to read it is missing\n",)), status=3, modes={"sys.img": DENIED}),
     Run("a name that is not UTF-8", "jseg --sources a -v", err=Has("", ("a: a name in this directory is not UTF-8\n",)), status=3, files={"a/\udcff": b""}),
+    *(run for row in BESIDE for run in beside(*row)),
     *(Run(f"which option: {option}", f"jseg --sample -v {option} %q", err=Has("", (f"the text of {option}\n", "P2 BadItem 0\n")), status=2) for option in ("-F", "-U", "-B", "-E")),
     Run("a mark before matrix.def", "jseg --sources a -v", err=Has("", ("a/matrix.def begins with a byte order mark", "a/matrix.def:1: M1 BadHeader")), status=1, files={"a/matrix.def": MARK + MATRIX}),
     Run("a mark before a lexicon", f"{SYSTEM} -v mark.csv", out=LINE, err=Has("", ("mark.csv begins with a byte order mark",)), files={"mark.csv": MARK + LEXICON}, left={"new.img": ANY}),

@@ -77,6 +77,7 @@ TOLD = [
     told("jseg -v --sources x", "jseg: x/matrix.def: it is not there\njseg: x/matrix.def: F1 File\n", lacks=("looked for", "images there")),
     told("bare-jseg -v -d x", f"{NOWHERE}jseg: {LOOKED}none; kumquatsieve-import makes one\n".replace("PREFIX", "PREFIX/bare")),
     told("jseg -d x", "jseg: x: F1 File\n", lacks=("looked for", "images there", "not there")),
+    Run("where it was looked for, on a terminal", "jseg -d x", err=Has(NOWHERE + THERE, (" --explain F1' ",)), status=3, under=Under(stderr="terminal")),
 ]
 
 BAD = changed(LAYOUT_1, (112, b"\1"))
