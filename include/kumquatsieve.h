@@ -1,16 +1,16 @@
 #ifndef KUMQUATSIEVE_H
 #define KUMQUATSIEVE_H
-/* Kumquatsieve cuts Japanese text into words, in process. The calls are proved, but for those of a dictionary, which are C over them;
-   docs/LIBRARY.md says what of them, and what they ask of C.
+/* Kumquatsieve cuts Japanese text into words, in process. The calls are proved, except for those of a dictionary, which are in C over the proved
+   ones. docs/LIBRARY.md says what is proved of them, and what they ask of C.
 
-   What C owes, and nothing checks: no output overlaps another argument; what a call points to in a cutter's own buffer is not handed back to it
-   as text; a full cutter is not copied; one call at a time for each cutter, which may go from thread to thread; no call from a signal
-   handler, and none in a forked child with a cutter that another thread was calling.
+   These are the caller's duties, and nothing checks them. No output overlaps another argument. What a call points to in a cutter's own buffer is not
+   handed back to that cutter as text. A full cutter is not copied. One call at a time is made for each cutter, which may go from thread to thread. No
+   call is made from a signal handler, and none in a forked child with a cutter that another thread was calling.
 
-   NULL may stand for bytes whose length is 0, for an output that is not wanted, and for a cutter or a buffer that is given back. The end of this header sees
-   to that; who calls the library past the header, as from another language, gives a place for each.
+   NULL may stand for bytes whose length is 0, for an output that is not wanted, and for a cutter or a buffer that is given back. The end of this
+   header sees to that. Whoever calls the library past the header, as from another language, gives an address for each.
 
-   An output that a call's answer doesn't set is as it was. Each call says which answers set which outputs; where it says nothing, 0 alone does.
+   An output that a call's answer doesn't set is as it was. Each call says which answers set which outputs. Where it says nothing, 0 alone does.
 
    Texts are bytes of UTF-8 with their length. Nothing here ends in a zero byte. Programs of libkumquatsieve.so.0 run with each later library of that
    name: calls, codes and structures stay, and what is new is added. */
@@ -19,15 +19,15 @@
 #include <stdint.h>
 
 #define KUMQUATSIEVE_VERSION "0.1.0"
-/* 10,000 for each first number, 100 for each second one, and the third. */
+/* 10,000 times the first number, plus 100 times the second one, plus the third. */
 #define KUMQUATSIEVE_VERSION_NUMBER 100
 
 #ifdef __cplusplus
 extern "C" {
 #endif
 
-/* What cuts lines: dictionaries, a format, the line that was cut last, and memory that is used again from line to line. Begin with
-   KUMQUATSIEVE_EMPTY, or what kumquatsieve_empty answers. The fields are the library's. */
+/* A cutter: dictionaries, a format, the line that was cut last, and memory that is used again from line to line. Begin with KUMQUATSIEVE_EMPTY, or
+   what kumquatsieve_empty answers. The fields are the library's. */
 typedef struct kumquatsieve_cutter {
     bool held;
     void *at;
@@ -46,9 +46,9 @@ typedef struct kumquatsieve_image {
     size_t length;
 } kumquatsieve_image;
 
-/* The bytes of an image that come in pieces, as from a file that is read, so that the image stands in memory once. Begin with
-   KUMQUATSIEVE_NO_BYTES, or what kumquatsieve_no_bytes answers. The fields are the library's. A buffer is used by one call at a time, and one that has
-   bytes is not copied. */
+/* The bytes of an image that come in pieces, as from a file that is read, so that the image stands in memory once. Begin with KUMQUATSIEVE_NO_BYTES,
+   or what kumquatsieve_no_bytes answers. The fields are the library's. A buffer is used by one call at a time, and a buffer that has bytes is not
+   copied. */
 typedef struct kumquatsieve_buffer {
     bool held;
     void *at;
@@ -64,12 +64,12 @@ static inline kumquatsieve_buffer kumquatsieve_no_bytes(void) {
 /* Dictionaries that are loaded once, for cutters on any number of threads. Nothing changes them. */
 typedef struct kumquatsieve_dictionary kumquatsieve_dictionary;
 
-/* A word of the line that was cut last. Its blanks stand from place to start, its surface from start to end, in bytes from the line's
-   beginning. left and right are context ids, and cost is the word cost. token is the number of its entry: where known is 1 in
-   dictionary 0, the system's, or 1 and more, the users' in their order; where known is 0 in the system's, whose unknown words come
-   behind those of its lexicon. category is the number of the first category of the surface's first character, in the order of char.def.
-   total is the cost of the path up to and with the word: that of the words and connections from the line's beginning on, without the
-   connection to its end. feature_length is the length of its feature in bytes. */
+/* A word of the line that was cut last. Its blanks stand from place to start, its surface from start to end, in bytes from the line's beginning. left
+   and right are context ids, and cost is the word cost. token is the number of the word's entry. Where known is 1, that is an entry of dictionary 0,
+   which is the system's, or of 1 and more, which are the users' in their order. Where known is 0, it is an entry of the system's, whose unknown words
+   come after those of its lexicon. category is the number of the first category of the surface's first character, in the order of char.def. total is
+   the cost of the path up to and with the word: that of the words and connections from the line's beginning on, without the connection to its end.
+   feature_length is the length of the word's feature in bytes. */
 typedef struct kumquatsieve_word {
     size_t place;
     size_t start;
@@ -86,10 +86,10 @@ typedef struct kumquatsieve_word {
 } kumquatsieve_word;
 
 /* A node of the lattice of the line that was cut last: a word that some chain of words from the line's beginning reaches, whether it is on the best
-   path or not. The fields of `word` are those of a word of the line, but that total is the least cost of the chains up to and with it. through is the
-   least cost of the paths of the whole line that have it, with the connection to the line's end: what it is more than the *total of the cut is what
-   the node lost by. reaches_end is 1 where some path has it; where none has, it is a dead end, and reaches_end and through are 0. on_best is 1 where
-   it is a word of the best path, and else 0. */
+   path or not. The fields of `word` are those of a word of the line, except that total is the least cost of the chains up to and with it. through is
+   the least cost of the paths of the whole line that have the word, with the connection to the line's end. through less the *total of the cut is what
+   the node lost by. reaches_end is 1 where some path has the word. Where none has, it is a dead end, and reaches_end and through are 0. on_best is 1
+   where it is a word of the best path, and else 0. */
 typedef struct kumquatsieve_node {
     kumquatsieve_word word;
     int64_t through;
@@ -97,8 +97,8 @@ typedef struct kumquatsieve_node {
     uint8_t on_best;
 } kumquatsieve_node;
 
-/* What a call answers: 0, out of memory, or a fault, whose letter and number are those of `jseg --explain`. After a fault the cutter
-   is as before, and answers the next call as it would have, but where a call says otherwise. */
+/* What a call answers: 0, out of memory, or a fault, whose letter and number are those of `jseg --explain`. After a fault the cutter is as before,
+   and answers the next call as it would have, except where a call says otherwise. */
 enum {
     KUMQUATSIEVE_OK = 0,
     KUMQUATSIEVE_MEMORY = 1,
@@ -133,39 +133,39 @@ enum {
     KUMQUATSIEVE_NO_WORD = 0x4b08       /* K8: the line has no word of this number */
 };
 
-/* Fills an empty cutter with the image of a system dictionary, which is copied, the default format, and a grouping of 24 characters.
-   *number is set by L3 to L7, O2 and O3 alone, to what is said beside each code. */
+/* Fills an empty cutter with the image of a system dictionary, which is copied, the default format, and a grouping of 24 characters. *number is set
+   by L3 to L7, O2 and O3 alone, to what stands beside each code above. */
 uint32_t kumquatsieve_load(kumquatsieve_cutter *cutter, const uint8_t *image, size_t length, uint64_t *number);
 
-/* Lays the image of a user dictionary over the others, which is copied. *number is set as by kumquatsieve_load. */
+/* Lays the image of a user dictionary, which is copied, over the others. *number is set as by kumquatsieve_load. */
 uint32_t kumquatsieve_add_user(kumquatsieve_cutter *cutter, const uint8_t *image, size_t length, uint64_t *number);
 
-/* The two calls before, but that the digest of the image is not tested where skip_digest is true, as MeCab tests nothing. The digest takes most of the
-   time of a load. All other tests are made, and what is proved of a cutter is proved of what the image says, so no damage to it does harm; but
-   that it says what was compiled is the word of who skips the test. */
+/* The two calls before, except that the digest of the image is not tested where skip_digest is true, as MeCab tests nothing. The digest takes most of
+   the time of a load. All other tests are made, and what is proved of a cutter is proved of what the image says, so no damage to it does harm. But
+   nothing tests then that it says what was compiled: who skips the test answers for that. */
 uint32_t kumquatsieve_load_by(kumquatsieve_cutter *cutter, const uint8_t *image, size_t length, bool skip_digest, uint64_t *number);
 uint32_t kumquatsieve_add_user_by(kumquatsieve_cutter *cutter, const uint8_t *image, size_t length, bool skip_digest, uint64_t *number);
 
-/* Appends a piece to the bytes of a buffer. Where it has none yet, room for so many bytes is taken first: the length of the file, so that no byte is
-   moved. It answers 0, or 1 for out of memory; then the buffer is as it was. */
+/* Appends a piece to the bytes of a buffer. Where the buffer has none yet, room for so many bytes is taken first: give the length of the file, so
+   that no byte is moved. The answer is 0, or 1 for out of memory. After 1 the buffer is as it was. */
 uint32_t kumquatsieve_buffer_append(kumquatsieve_buffer *buffer, size_t room, const uint8_t *piece, size_t length);
 
-/* As kumquatsieve_load_by and kumquatsieve_add_user_by, with the image whose bytes a buffer has. They are taken and not copied, and the buffer is
-   empty after each answer. */
+/* As kumquatsieve_load_by and kumquatsieve_add_user_by, with the image whose bytes a buffer has. The bytes are taken over and not copied, and the
+   buffer is empty after each answer. */
 uint32_t kumquatsieve_load_buffer(kumquatsieve_cutter *cutter, kumquatsieve_buffer *buffer, bool skip_digest, uint64_t *number);
 uint32_t kumquatsieve_add_user_buffer(kumquatsieve_cutter *cutter, kumquatsieve_buffer *buffer, bool skip_digest, uint64_t *number);
 
-/* Gives back the bytes of a buffer, which is empty then. Of an empty one nothing. */
+/* Gives back the bytes of a buffer, which is empty then. For an empty one nothing is done. */
 void kumquatsieve_buffer_free(kumquatsieve_buffer *buffer);
 
-/* Fills an empty cutter with the dictionaries, the format and the grouping of another one. No dictionary is copied; while two share
-   theirs, no user dictionary can be added. Each thread wants a cutter of its own. */
+/* Fills an empty cutter with the dictionaries, the format and the grouping of another one. No dictionary is copied. While two cutters share their
+   dictionaries, no user dictionary can be added. Each thread needs a cutter of its own. */
 uint32_t kumquatsieve_share(kumquatsieve_cutter *cutter, kumquatsieve_cutter *other);
 
 /* Makes a dictionary of the image of a system dictionary, the first one, and of those of user dictionaries, which are laid over it in their order.
-   All are copied. `how` is 0, or KUMQUATSIEVE_SKIP_DIGEST. *dictionary is set where all are accepted. Otherwise *image is the number of the one at fault,
-   from 0, and *number is set as by kumquatsieve_load. Without an image the answer is K5, and no output is set. This call and the four after it are
-   written in C over the proved ones. */
+   All are copied. `how` is 0, or KUMQUATSIEVE_SKIP_DIGEST. *dictionary is set where all are accepted. Otherwise *image is the number of the image at
+   fault, from 0, and *number is set as by kumquatsieve_load. Without an image the answer is K5, and no output is set. This call and the four after it
+   are written in C over the proved ones. */
 uint32_t kumquatsieve_dictionary_make(
     kumquatsieve_dictionary **dictionary, const kumquatsieve_image *images, size_t count, unsigned how, size_t *image, uint64_t *number
 );
@@ -173,28 +173,28 @@ uint32_t kumquatsieve_dictionary_make(
 /* The digests are not tested, as by kumquatsieve_load_by. */
 #define KUMQUATSIEVE_SKIP_DIGEST 1u
 
-/* Makes a dictionary of those of a cutter, as of one that kumquatsieve_load_buffer filled, which is empty then. After another answer the cutter is as it
-   was, and *dictionary too: K5 of an empty one. */
+/* Makes a dictionary of those of a cutter, as of one that kumquatsieve_load_buffer filled. The cutter is empty then. After another answer than 0 the
+   cutter and *dictionary are as they were. The answer for an empty cutter is K5. */
 uint32_t kumquatsieve_dictionary_of(kumquatsieve_dictionary **dictionary, kumquatsieve_cutter *cutter);
 
 /* Fills an empty cutter with these dictionaries, the default format, and a grouping of 24 characters. No dictionary is copied, and any number of
    threads may make cutters over one at a time. */
 uint32_t kumquatsieve_cutter_over(kumquatsieve_cutter *cutter, const kumquatsieve_dictionary *dictionary);
 
-/* Another holder of a dictionary, which is the answer; and a holder less. A dictionary is given back with the last holder and the last cutter that has
-   it. Both may be called by any number of threads, and in a forked child. */
+/* Adds a holder of a dictionary, and answers that dictionary; and takes a holder away. A dictionary is given back with the last holder and the last
+   cutter that has it. Both may be called by any number of threads, and in a forked child. */
 const kumquatsieve_dictionary *kumquatsieve_dictionary_hold(const kumquatsieve_dictionary *dictionary);
 void kumquatsieve_dictionary_release(const kumquatsieve_dictionary *dictionary);
 
 /* The version of the library that runs, as KUMQUATSIEVE_VERSION_NUMBER counts that of this header. */
 uint32_t kumquatsieve_version(void);
 
-/* Gives back all that a cutter holds, which is empty then. Of an empty cutter nothing. */
+/* Gives back all that a cutter holds, which is empty then. For an empty cutter nothing is done. */
 void kumquatsieve_free(kumquatsieve_cutter *cutter);
 
-/* Sets the texts for a known word, an unknown one, the beginning and the end of a line, in MeCab's items and escapes. *part, 0 to 3, and
-   *at, a byte of that text, are set by P1 to P3 and G3 alone: where a text does not read on, or the first byte that is not UTF-8. The default
-   is "%m\t%H\n" for words and "EOS\n" at the end. */
+/* Sets the texts for a known word, an unknown one, the beginning and the end of a line, in MeCab's items and escapes. *part, 0 to 3, and *at, a byte
+   of that text, are set by P1 to P3 and G3 alone: where a text can't be read on, or the first byte that is not UTF-8. The default is "%m\t%H\n" for
+   words and "EOS\n" at the end. */
 uint32_t kumquatsieve_set_format(
     kumquatsieve_cutter *cutter, const uint8_t *node, size_t node_length, const uint8_t *unk, size_t unk_length,
     const uint8_t *bos, size_t bos_length, const uint8_t *eos, size_t eos_length, uint32_t *part, size_t *at
@@ -209,13 +209,13 @@ uint32_t kumquatsieve_cut(
     kumquatsieve_cutter *cutter, const uint8_t *line, size_t length, size_t *count, int64_t *total, size_t *at
 );
 
-/* The same of a text of several lines, in which a line feed is a character as others are: what MeCab's library does of a sentence. */
+/* The same for a text of several lines, in which a line feed is a character as others are. MeCab's library cuts a sentence so. */
 uint32_t kumquatsieve_cut_text(
     kumquatsieve_cutter *cutter, const uint8_t *text, size_t length, size_t *count, int64_t *total, size_t *at
 );
 
-/* Writes the words of the line that was cut last from number `first` on, as far as there is room. *count is the number of all words
-   of the line. The time is that of all words up to the last one that is written, since their costs are summed. */
+/* Writes the words of the line that was cut last from number `first` on, as far as there is room. *count is the number of all words of the line. The
+   call takes the time of all words up to the last one that is written, since their costs are summed. */
 uint32_t kumquatsieve_words(
     kumquatsieve_cutter *cutter, size_t first, kumquatsieve_word *words, size_t room, size_t *count
 );
@@ -224,8 +224,8 @@ uint32_t kumquatsieve_words(
    the next call with this cutter. */
 uint32_t kumquatsieve_feature(kumquatsieve_cutter *cutter, size_t number, const uint8_t **feature, size_t *length);
 
-/* The features of all words of the line that was cut last, one behind another with nothing between, in the cutter's own buffer: *features is
-   valid until the next call with this cutter. The feature_length of each word says where its feature ends. */
+/* The features of all words of the line that was cut last, one after another with nothing between, in the cutter's own buffer: *features is valid
+   until the next call with this cutter. The feature_length of each word says where its feature ends. */
 uint32_t kumquatsieve_features(kumquatsieve_cutter *cutter, const uint8_t **features, size_t *length);
 
 /* The feature of a word into a buffer of the caller. *needed is its length, set by 0 and by K7: where there is less room, nothing is written. */
@@ -234,16 +234,16 @@ uint32_t kumquatsieve_copy_feature(
 );
 
 /* Writes the nodes of the lattice of the line that was cut last from number `first` on, as far as there is room: by place, and those of a place in
-   the order of its words, by which ties are decided. *count is the number of all nodes. The lattice is made for the call and not kept: the time is
-   linear in its nodes and in the connections between them, and the memory in its nodes, whatever room there is. Who doesn't know the count guesses
-   the room, and calls again where *count is more. */
+   the order of its words, by which ties are decided. *count is the number of all nodes. The lattice is made for the call and not kept. The time is
+   linear in its nodes and in the connections between them, and the memory in its nodes, whatever room there is. Whoever doesn't know the count
+   guesses the room, and calls again where *count is more. */
 uint32_t kumquatsieve_nodes(
     kumquatsieve_cutter *cutter, size_t first, kumquatsieve_node *nodes, size_t room, size_t *count
 );
 
 /* The feature of an entry of the cutter's dictionaries, by what a word or a node has as known, dictionary and token, in the cutter's own buffer:
-   *feature is valid until the next call with this cutter. Where no entry has these numbers it is empty. Of an unknown word the dictionary is not
-   looked at. No line need have been cut. */
+   *feature is valid until the next call with this cutter. Where no entry has these numbers the feature is empty. For an unknown word the dictionary
+   is not looked at. No line need have been cut. */
 uint32_t kumquatsieve_entry_feature(
     kumquatsieve_cutter *cutter, bool known, size_t dictionary, uint32_t token, const uint8_t **feature, size_t *length
 );
@@ -254,19 +254,19 @@ uint32_t kumquatsieve_print(kumquatsieve_cutter *cutter, const uint8_t **text, s
 /* The same into a buffer of the caller. *needed is its length, set by 0 and by K7: where there is less room, nothing is written. */
 uint32_t kumquatsieve_copy_print(kumquatsieve_cutter *cutter, uint8_t *out, size_t room, size_t *needed);
 
-/* Cuts a text line by line: a line ends at a line feed, and the last one may lack it. *out is what the lines print, in the format, in the
-   cutter's own buffer, and valid until the next call with this cutter; *lines is how many they are. At a fault of a line *lines is the number
-   of that line, counted from 1, and *out is what the lines before it print, also where the call was out of memory: each answer but K5 sets all
-   three. What was cut last is forgotten. */
+/* Cuts a text line by line. A line ends at a line feed, and the last one may lack it. *out is what the lines print, in the format, in the cutter's
+   own buffer, and valid until the next call with this cutter. *lines is how many lines there are. At a fault of a line *lines is the number of that
+   line, counted from 1, and *out is what the lines before it print. The same holds where the call was out of memory at a line. Each answer but K5
+   sets all three. What was cut last is forgotten. */
 uint32_t kumquatsieve_cut_lines(
     kumquatsieve_cutter *cutter, const uint8_t *text, size_t length, const uint8_t **out, size_t *out_length, uint64_t *lines
 );
 
-/* Writes what a code means, as "G3 NotUtf8". *needed is its length, which each answer sets, 0 where no fault has this code; where there is less
+/* Writes what a code means, as "G3 NotUtf8". *needed is its length, which each answer sets. It is 0 where no fault has this code. Where there is less
    room, nothing is written. */
 uint32_t kumquatsieve_fault(uint32_t code, uint8_t *out, size_t room, size_t *needed);
 
-/* What stands for NULL, where it may be given. The calls above are made by these; (kumquatsieve_cut)(..) is the call itself. */
+/* What stands for NULL, where it may be given. The calls above are made by these. (kumquatsieve_cut)(..) is the call itself. */
 static inline const uint8_t *kumquatsieve_guarded_bytes(const uint8_t *at, size_t length) {
     static const uint8_t none = 0;
     return at || length > 0 ? at : &none;
