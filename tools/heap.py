@@ -1,4 +1,4 @@
-"""A heap that counts, preloaded into a test program: it can refuse one growth."""
+"""A heap that counts, preloaded into a test program: it can refuse one growth, which is a request for memory."""
 import os
 import subprocess
 import sys

@@ -1,9 +1,9 @@
 // A heap that counts, to be preloaded (LD_PRELOAD) by `tools/refuse`.
 //
-//     REFUSE=n          the n-th growth of the run is refused, and no other; without it growths are counted alone
+//     REFUSE=n          the n-th growth of the run is refused, and no other; without it growths are only counted
 //     REFUSE_REPORT=f   the file that gets the counts at the end; without it standard error does
 //
-// A growth is a call that asks for memory: a new block, or another size for an old one. The counts are told as one line,
+// A growth is a call that asks for memory: a new block, or another size for an old one. The counts are written as one line,
 // `growths 7 refused 1 given 5 back 5`: given are the blocks that were handed out, back those that came back.
 // It stands on glibc's own names of its heap, so that nothing is looked up while a program starts.
 #define _GNU_SOURCE
