@@ -142,7 +142,7 @@ uint32_t kumquatsieve_add_user(kumquatsieve_cutter *cutter, const uint8_t *image
 
 /* The two calls before, except that the digest of the image is not tested where skip_digest is true, as MeCab tests nothing. The digest takes most of
    the time of a load. All other tests are made, and what is proved of a cutter is proved of what the image says, so no damage to it does harm. But
-   nothing tests then that it says what was compiled: who skips the test answers for that. */
+   nothing tests then that it says what was compiled: the caller that skips the test answers for that. */
 uint32_t kumquatsieve_load_by(kumquatsieve_cutter *cutter, const uint8_t *image, size_t length, bool skip_digest, uint64_t *number);
 uint32_t kumquatsieve_add_user_by(kumquatsieve_cutter *cutter, const uint8_t *image, size_t length, bool skip_digest, uint64_t *number);
 
