@@ -35,7 +35,7 @@ def buffer_of(size: int, count: int) -> Buffer:
 
 
 class Buffers:
-    """A text, the words of a line, and the numbers that tell how many of each there are; what a call is given for each is made once."""
+    """A text, the words of a line, and the numbers that say how many of each there are; what a call is given for each is made once."""
 
     def __init__(self) -> None:
         self.total, self.place, self.lines = c_int64(), c_size_t(), c_uint64()

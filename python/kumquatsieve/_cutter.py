@@ -111,7 +111,7 @@ class Cutter:
         return words_of(text, self._handles.call(TOLD, text, WORDS), self._names)
 
     def lattice(self, line: str) -> Lattice:
-        """The lattice of a line, for who asks why it was cut so. It is made for this call alone, so no other call takes longer for it."""
+        """The lattice of a line, for a caller that asks why it was cut so. It is made for this call alone, so no other call takes longer for it."""
         text = line_of(line)
         return lattice_of(text, self._handles.call(LATTICED, text, None), self._names)
 
@@ -142,7 +142,7 @@ class Cutter:
         return Lines(errors, many_at_once(checked(source), self._joined))
 
     def parse_lines(self, source: Source, errors: str = "strict") -> Lines[str]:
-        """The text of each line in the cutter's format, as `wakati_lines` has it. Joined it is what `jseg` prints for the source, but for
+        """The text of each line in the cutter's format, as `wakati_lines` has it. Joined it is what `jseg` prints for the source, except for
         carriage returns at line ends, which `jseg` takes for characters."""
         return Lines(errors, many_at_once(checked(source), self._printed_lines))
 

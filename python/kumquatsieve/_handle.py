@@ -139,7 +139,7 @@ class Handle:
         self.grouping = grouping
 
     def told(self, line: bytes, texts: Texts) -> Told:
-        """What is told of the words of a line, in the texts `WORDS`."""
+        """What the library says of the words of a line, in the texts `WORDS`."""
         if texts is not self._texts:
             self.set_format(texts)
         self._cut(line)
@@ -159,7 +159,7 @@ class Handle:
             yield self._buffers.text_of(partial(feature, ready_size(number)), self._at)
 
     def latticed(self, line: bytes, _: object) -> Told:
-        """What is told of the nodes of a line's lattice."""
+        """What the library says of the nodes of a line's lattice."""
         self._cut(line)
         total = self._buffers.total.value
         records = self._buffers.nodes_of(self._at, NODES * len(line) + 1)
@@ -206,7 +206,7 @@ class Handle:
         return line
 
     def _refuse(self, line: bytes, code: int) -> None:
-        """Raises why a line was refused. The call that cuts it alone tells the place in it."""
+        """Raises why a line was refused. The call that cuts it alone reports the place in it."""
         self._cut(line)
         raise_fault(code)
 
@@ -237,7 +237,7 @@ class Handle:
         return answers[1:], fault
 
     def _cut_lines(self, text: bytes, texts: Texts) -> Tuple[str, int, Optional[Exception]]:
-        """What the lines of a text print in a format, one behind another, up to the first that is refused; how many they are; and why that
+        """What the lines of a text print in a format, one after another, up to the first that is refused; how many they are; and why that
         one is refused. The library cuts all of them in one call."""
         self.set_format(texts)
         buffers = self._buffers

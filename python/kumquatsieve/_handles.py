@@ -23,7 +23,7 @@ class Handles:
 
     A handler of signals may raise an exception between any two steps of a thread, also before the first one of a `finally`. So no step here is owed
     for another one. There is no lock to let go, and no count to put right. A handle that a call has stands in no list. Where an exception keeps it
-    from being given back, it ends as any object to which nothing refers. Whether a call has a handle is told by a context. `Context.run` enters it,
+    from being given back, it ends as any object to which nothing refers. Whether a call has a handle is known by a context. `Context.run` enters it,
     calls, and leaves it whatever the call raises. That is one call of C, and no handler comes between its parts and the call.
 
     The first one never cuts: the others are shared from it. So it is at rest whenever a process forks, whatever the threads do.

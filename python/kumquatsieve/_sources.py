@@ -71,7 +71,7 @@ def reads(file: Any) -> Iterator[Any]:
 
 
 def whole_lines(parts: Iterator[Any], encoder: Encoder) -> Iterator[bytes]:
-    """The text of the parts, cut behind line feeds. A line that is too long goes on as it is so far: the library refuses it."""
+    """The text of the parts, cut after line feeds. A line that is too long goes on as it is so far: the library refuses it."""
     rest = b""
     for part in parts:
         text = rest + (encoder.of_text(part) if isinstance(part, str) else bytes(part))
