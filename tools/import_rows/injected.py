@@ -1,5 +1,5 @@
-"""Faults that come from outside while an import runs: signals, full devices and refused memory. The old image and its settings stand as
-they were, or the new ones do, all of them, and no other file is left.
+"""Faults that come from outside while an import runs, of a folder or of a user's lexicons: signals, full devices and refused memory. The old image
+and its settings stand as they were, or the new ones do, all of them, and no other file is left.
 
 strace makes them: at each call that makes, moves, writes or removes a file or starts a process, each signal, and where the call can fail a full
 device. Where strace may not be used the table is left out; signals while dictc writes are tried without it.
@@ -15,7 +15,7 @@ import time
 from concurrent.futures import ThreadPoolExecutor
 from typing import NamedTuple, Optional
 
-from .running import in_code, lay
+from .running import FILES, compiled, in_code, lay
 
 SIGNALS = (signal.SIGHUP, signal.SIGINT, signal.SIGQUIT, signal.SIGTERM)
 MAKING = ("mkdir", "mkdirat", "symlink", "symlinkat", "link", "linkat", "rename", "renameat", "renameat2", "chmod", "fchmodat", "write", "fsync")
@@ -23,8 +23,8 @@ OTHERS = ("unlink", "unlinkat", "rmdir", "pipe2", "vfork", "clone", "clone3", "c
 DICRC = b"; f[0]: pos\n; f[1]: reading\n"
 SOURCES = in_code("euc_jp", a_csv="ん,1,1,5,X,ん\n".encode("euc_jp") * 2 + b"\xa4,1,1,5,X,X\n", dicrc=DICRC)
 SOURCES["pos-id.def"] = "名詞 1\n".encode("euc_jp")
-OLD = {"old.img": b"old", "old.dicrc": b"old", "old.fields": b"old"}
-NEW = {"old.dicrc": DICRC, "old.pos-id.def": "名詞 1\n".encode(), "old.fields": b"pos\nreading\n"}
+# One is made UTF-8, and one is read where it stands.
+LEXICONS = {"a.csv": "ん,1,1,5,X,ん\n".encode("euc_jp") * 2, "b.csv": b"A,1,1,5,X,A\n"}
 # What an import may take, from less than Python needs to begin to more than all of it.
 MEGABYTES = (12, 24, 32, 40, 48, 64, 96, 160)
 # A dictc that is slow between what it writes and its end.
@@ -34,6 +34,25 @@ echo new > "$2.$$.0.new"
 echo > "$BEGUN"
 exec sleep 20
 """
+
+
+class Kind(NamedTuple):
+    """A kind of import: the words after the program, what is read in the folder dic, and what stands beside the image, before it and after it."""
+
+    name: str
+    words: tuple
+    sources: dict
+    old: dict
+    new: dict
+
+
+def kinds(programs, folder):
+    """Imports of a folder, and of lexicons for the sample's dictionary."""
+    settings = {"old.dicrc": DICRC, "old.pos-id.def": "名詞 1\n".encode(), "old.fields": b"pos\nreading\n"}
+    of_folder = Kind("folder", ("dic", "old.img"), SOURCES, {"old.dicrc": b"old", "old.fields": b"old"}, settings)
+    system = compiled(programs, folder / "system", FILES, ["lexicon.csv"])
+    words = ("--user", "dic/sys.img", "--out", "old.img", *(f"dic/{name}" for name in LEXICONS))
+    return of_folder, Kind("user", words, {**LEXICONS, "sys.img": system}, {}, {})
 
 
 class Injection(NamedTuple):
@@ -47,45 +66,45 @@ class Injection(NamedTuple):
         return f"{self.call}:{f'signal={self.signal.name}' if self.signal else 'error=ENOSPC'}:when={self.when}"
 
 
-def prepare(work):
-    lay(work / "dic", SOURCES)
+def prepare(kind, work):
+    lay(work / "dic", kind.sources)
     (work / "tmp").mkdir()
-    for name, data in OLD.items():
+    for name, data in {**kind.old, "old.img": b"old"}.items():
         (work / name).write_bytes(data)
 
 
-def command(programs):
-    return [sys.executable, programs / "kumquatsieve-import", "dic", "old.img"]
+def command(kind, programs):
+    return [sys.executable, programs / "kumquatsieve-import", *kind.words]
 
 
 def environment(work, **others):
     return {**os.environ, "TMPDIR": str(work / "tmp"), **others}
 
 
-def stands(work):
+def stands(kind, work):
     """What stands where the import wrote: a name, or what is wrong."""
     found = {path.name: path.read_bytes() if path.is_file() else None for path in [*work.iterdir(), *(work / "tmp").iterdir()]}
     rest = {name: data for name, data in found.items() if name not in ("dic", "tmp")}
-    if rest == OLD:
-        return "old"
     image = rest.pop("old.img", None)
-    return "new" if rest == NEW and image not in (None, b"old") else f"{sorted(found)}, {rest}"
+    if rest == kind.old and image == b"old":
+        return "old"
+    return "new" if rest == kind.new and image not in (None, b"old") else f"{sorted(found)}, {rest}"
 
 
-def wrong_after(status, work):
+def wrong_after(kind, status, work):
     """What a run with this status should not leave."""
-    state = stands(work)
-    if {path.name: path.read_bytes() for path in (work / "dic").iterdir()} != SOURCES:
+    state = stands(kind, work)
+    if {path.name: path.read_bytes() for path in (work / "dic").iterdir()} != kind.sources:
         yield "the sources are changed"
     if state not in ("old", "new") or (status == 0 and state == "old"):
         yield f"status {status} leaves {state}"
 
 
-def calls(programs, work):
+def calls(kind, programs, work):
     """How often each call comes in a process of a run without faults, as strace sees it; None where it can't."""
-    prepare(work)
+    prepare(kind, work)
     names = ",".join(f"?{name}" for name in MAKING + OTHERS)
-    words = ["strace", "-f", "-qq", "-o", work.parent / "trace", "-e", f"trace={names}", *command(programs)]
+    words = ["strace", "-f", "-qq", "-o", work.parent / "trace", "-e", f"trace={names}", *command(kind, programs)]
     try:
         ran = subprocess.run(words, cwd=work, env=environment(work), capture_output=True)
     except FileNotFoundError:
@@ -111,72 +130,73 @@ def injections(found):
                 yield Injection(name, when, None)
 
 
-def injected(injection, programs, folder):
+def injected(injection, kind, programs, folder):
     """What is wrong after an injection."""
     work = folder / injection.word().replace(":", "-")
-    prepare(work)
-    words = ["strace", "-f", "-qq", "-o", "/dev/null", "-e", f"trace={injection.call}", "-e", f"inject={injection.word()}", *command(programs)]
+    prepare(kind, work)
+    tracing = ["-e", f"trace={injection.call}", "-e", f"inject={injection.word()}"]
+    words = ["strace", "-f", "-qq", "-o", "/dev/null", *tracing, *command(kind, programs)]
     ran = subprocess.run(words, cwd=work, env=environment(work), capture_output=True)
-    faults = [f"{injection.word()}: {fault}" for fault in wrong_after(ran.returncode, work)]
+    faults = [f"{injection.word()}: {fault}" for fault in wrong_after(kind, ran.returncode, work)]
     if b"Traceback" in ran.stderr:
         faults.append(f"{injection.word()}: tells {ran.stderr.decode(errors='replace')}")
     shutil.rmtree(work)
     return faults
 
 
-def wrong_by_table(programs, folder):
+def wrong_by_table(kind, programs, folder):
     """How many faults were injected, and what was wrong; None where strace is not there or may not be used."""
     (folder / "first").mkdir()
-    found = calls(programs, folder / "first" / "work")
+    found = calls(kind, programs, folder / "first" / "work")
     if found is None:
         return None, []
     table = list(injections(found))
     with ThreadPoolExecutor(min(4, os.cpu_count() or 1)) as pool:
-        faults = [fault for one in pool.map(lambda one: injected(one, programs, folder), table) for fault in one]
+        faults = [fault for one in pool.map(lambda one: injected(one, kind, programs, folder), table) for fault in one]
     return len(table), faults
 
 
-def wrong_by_signal(number, programs, folder):
+def wrong_by_signal(number, kind, programs, folder):
     """A signal while dictc writes, without strace: the process ends by it."""
-    work = folder / number.name
-    prepare(work)
-    shutil.copytree(programs.parent, work.parent / f"{number.name}.slow")
-    slow = work.parent / f"{number.name}.slow" / "bin"
+    work, slow = folder / number.name, folder / f"{number.name}.slow" / "bin"
+    prepare(kind, work)
+    for name in ("bin", "lib"):
+        shutil.copytree(programs.parent / name, slow.parent / name)
     (slow / "dictc").write_text(SLOW)
     begun = folder / f"{number.name}.begun"
     # A caller in the background ignores some signals, and so would the import.
     heard = lambda: signal.signal(number, signal.SIG_DFL)  # noqa: E731
-    ran = subprocess.Popen(command(slow), cwd=work, env=environment(work, BEGUN=str(begun)), stdout=subprocess.DEVNULL, preexec_fn=heard)
+    ran = subprocess.Popen(command(kind, slow), cwd=work, env=environment(work, BEGUN=str(begun)), stdout=subprocess.DEVNULL, preexec_fn=heard)
     while not begun.exists() and ran.poll() is None:
         time.sleep(0.01)
     ran.send_signal(number)
     if ran.wait() != -number:
         yield f"has the status {ran.returncode}"
-    if stands(work) != "old":
-        yield f"leaves {stands(work)}"
+    if stands(kind, work) != "old":
+        yield f"leaves {stands(kind, work)}"
 
 
-def wrong_by_output(name, target, programs, folder):
+def wrong_by_output(name, target, kind, programs, folder):
     """Standard output is full, is read by nobody, or is closed."""
     work = folder / name
-    prepare(work)
+    prepare(kind, work)
     closing = (lambda: os.close(1)) if target is None else None
-    ran = subprocess.run(command(programs), cwd=work, env=environment(work), stdout=target, stderr=subprocess.PIPE, preexec_fn=closing)
+    ran = subprocess.run(command(kind, programs), cwd=work, env=environment(work), stdout=target, stderr=subprocess.PIPE, preexec_fn=closing)
     if ran.returncode != 3 or not ran.stderr.startswith(b"kumquatsieve-import: standard output: "):
         yield f"tells {ran.stderr!r} with status {ran.returncode}"
-    if stands(work) != "old":
-        yield f"leaves {stands(work)}"
+    if stands(kind, work) != "old":
+        yield f"leaves {stands(kind, work)}"
 
 
-def wrong_by_memory(megabytes, programs, folder):
+def wrong_by_memory(megabytes, kind, programs, folder):
     """No more memory than this: Python, the import or dictc is refused it, or the image is made."""
     work = folder / f"memory-{megabytes}"
-    prepare(work)
-    (work / "dic" / "z.csv").write_bytes("ん,1,1,5,名詞,ん\n".encode("euc_jp") * 400_000)
+    prepare(kind, work)
+    (work / "dic" / "a.csv").write_bytes("ん,1,1,5,名詞,ん\n".encode("euc_jp") * 400_000)
     limit = megabytes << 20
     bound = lambda: resource.setrlimit(resource.RLIMIT_AS, (limit, limit))  # noqa: E731
-    ran = subprocess.run(command(programs), cwd=work, env=environment(work), capture_output=True, preexec_fn=bound)
-    if stands(work) not in (("new",) if ran.returncode == 0 else ("old",)):
-        yield f"status {ran.returncode} leaves {stands(work)}"
+    ran = subprocess.run(command(kind, programs), cwd=work, env=environment(work), capture_output=True, preexec_fn=bound)
+    if stands(kind, work) != ("new" if ran.returncode == 0 else "old"):
+        yield f"status {ran.returncode} leaves {stands(kind, work)}"
     if ran.stderr.startswith(b"kumquatsieve-import: ") and ran.returncode not in (0, 4):
         yield f"tells {ran.stderr!r} with status {ran.returncode}"
