@@ -77,7 +77,7 @@ static uint32_t print_line(kumquatsieve_cutter *cutter, const uint8_t *line, siz
     return KUMQUATSIEVE_OK;
 }
 
-/* Prints the lines that were read. What is behind the last line feed stays for the next piece, and is a line where none comes. */
+/* Prints the lines that were read. What is after the last line feed stays for the next piece, and is a line where none comes. */
 static uint32_t print_lines(kumquatsieve_cutter *cutter, struct bytes *in, bool at_end, struct bytes *out) {
     const uint8_t *line = in->at, *end = in->at + in->length, *feed = NULL;
     uint32_t code = KUMQUATSIEVE_OK;

@@ -15,7 +15,7 @@ from distributed import Client, Future
 from kumquatsieve import Cutter, Fault
 
 
-# Some lines of a file: its path, their first byte and the one behind their last.
+# Some lines of a file: its path, their first byte and the one after their last.
 Part = Tuple[str, int, int]
 
 

@@ -47,7 +47,7 @@ static unsigned long sum_of(const mecab_node_t *node) {
     return sum;
 }
 
-/* All of standard input, with a zero behind it. */
+/* All of standard input, with a zero after it. */
 static char *read_all(size_t *length) {
     size_t room = 1 << 20, got = 1;
     char *text = NULL;

@@ -92,7 +92,7 @@ TEXT = made_up(4_000_000)
 
 
 def with_line(line, at):
-    """The text with a further line behind the first line's end from a byte on."""
+    """The text with a further line after the first line's end from a byte on."""
     end = TEXT.index(b"\n", at) + 1
     return TEXT[:end] + line + b"\n" + TEXT[end:]
 

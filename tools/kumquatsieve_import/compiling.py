@@ -10,7 +10,7 @@ from .telling import SECONDS
 # A line of `dictc -v` that says how far it is.
 STEP = re.compile(r"dictc: \d+\.\d+ s: (.*)")
 SAID = re.compile(r"dictc: (.*)")
-# What dictc says behind a fault to whoever asked for steps.
+# What dictc says after a fault to a caller that asked for steps.
 EXPLAINED = re.compile(r"dictc: 'dictc --explain .*")
 # Where dictc writes the image, beside the place that it takes at the end.
 NEW = b"image"

@@ -110,7 +110,7 @@ static void text_lines(kumquatsieve_cutter *cutter) {
     }
 }
 
-/* A line of one byte more than a line may have, behind one that is printed. */
+/* A line of one byte more than a line may have, after one that is printed. */
 static void too_long_line(kumquatsieve_cutter *cutter) {
     static uint8_t text[2 + 1048577 + 1];
     memset(text, ' ', sizeof text);

@@ -1,4 +1,4 @@
-/* Rows of lines that are cut, of their words, and of what is told of them: lines SYSTEM.img, of the sample's sources. */
+/* Rows of lines that are cut, of their words, and of what is reported of them: lines SYSTEM.img, of the sample's sources. */
 #include "check.h"
 
 #define LONGEST 1048576
@@ -80,7 +80,7 @@ static void refused_texts(kumquatsieve_cutter *cutter) {
     CHECK(kumquatsieve_cut(cutter, letters, LONGEST, NULL, NULL, NULL) == KUMQUATSIEVE_OK);
 }
 
-/* What stands in a buffer before a call; the words of ` すもも z`: that of the lexicon's first line, and that of ALPHA's entry: behind the
+/* What stands in a buffer before a call; the words of ` すもも z`: that of the lexicon's first line, and that of ALPHA's entry: after the
    lexicon's three come those of DEFAULT and SPACE. BOS before the first costs 10, and its connection with the second 7. */
 static const kumquatsieve_word BLANK = {
     .place = 9, .start = 9, .end = 9, .dictionary = 9, .token = 9, .left = 9, .right = 9, .cost = 9, .known = 9, .category = 9, .total = 9, .feature_length = 9,

@@ -100,7 +100,7 @@ static void lattices(kumquatsieve_cutter *cutter) {
     }
 }
 
-/* The nodes from a number on, as far as there is room; what lies behind them in the buffer is as before. */
+/* The nodes from a number on, as far as there is room; what lies after them in the buffer is as before. */
 static const struct {
     const char *what;
     size_t first, room, written;

@@ -67,7 +67,7 @@ static void ask_lent(kumquatsieve_cutter *cutter) {
     CHECK(is_text(kept, length, "すもももも \n"));
 }
 
-/* すもも and すもももも at the beginning, and the three nodes behind them. */
+/* すもも and すもももも at the beginning, and the three nodes after them. */
 static void ask_nodes(kumquatsieve_cutter *cutter) {
     kumquatsieve_node nodes[5];
     size_t count = UNSET, length = UNSET;

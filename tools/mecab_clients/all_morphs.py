@@ -5,7 +5,7 @@ from mecab_clients.dictionaries import compared, compile_for_both
 
 ITEMS = "%pb%m %pi %h %phl %phr %t %s %c %pw %pc %pC %pn %ps %pe %H\\n"
 OPTIONS = [[], ["-Owakati"], ["-Onone"], ["-Ochasen"], ["-N1"], ["-x", "x,y"], ["-F", ITEMS, "-E", "%pi\\n"]]
-# What IPADIC's char.def has as blanks, and can end a line. Where only blanks are left MeCab prints a node of a blank behind the sentence.
+# What IPADIC's char.def has as blanks, and can end a line. Where only blanks are left MeCab prints a node of a blank after the sentence.
 BLANKS = " \t\v\f\r\u00d0"
 
 

@@ -1,7 +1,7 @@
 /* Prints the whole lattice of each line: lattices DICTIONARY LINES [USERS]. Each node by the place where it begins, in the order of its list; which
    end at each place; and then all of them in the order in which they are linked where all morphs are asked for.
 
-   Where only blanks are left MeCab has a node of unknown blanks that ends behind the sentence. Such a one is passed over, and the id of the end is
+   Where only blanks are left MeCab has a node of unknown blanks that ends after the sentence. Such a one is passed over, and the id of the end is
    what it would be without it. */
 #include <mecab.h>
 #include <stdio.h>

@@ -1,4 +1,4 @@
-"""Formats of a dicrc that no dictionary of Debian's has, over both libraries: of the beginning, of the end, and of what stands behind the paths."""
+"""Formats of a dicrc that no dictionary of Debian's has, over both libraries: of the beginning, of the end, and of what stands after the paths."""
 import shutil
 
 from mecab_clients.common import CLIENTS, COMPILED, compiled, first_lines, run

@@ -2,7 +2,7 @@
 from mecab_clients.common import CLIENTS, compiled, first_lines, run
 from mecab_clients.dictionaries import compile_for_both
 
-# The settings say what UniDic's own say, and the columns behind the costs have UniDic's order. Words and costs are made up.
+# The settings say what UniDic's own say, and the columns after the costs have UniDic's order. Words and costs are made up.
 FIELDS = (
     "pos1 pos2 pos3 pos4 cType cForm lForm lemma orth pron orthBase pronBase goshu iType iForm fType fForm iConType fConType lType kana kanaBase"
     " form formBase aType aConType aModType lid lemma_id"

@@ -87,7 +87,7 @@ WHY = [
     ("jseg -v -d memory", "memory", Path("/proc/self/mem"), "a read of it failed"),
 ]
 
-# What is told on a terminal, and nowhere else: a byte order mark, and a file that takes longer than two seconds, whose line is erased behind it.
+# What is printed on a terminal, and nowhere else: a byte order mark, and a file that takes longer than two seconds, whose line is erased after it.
 # (what, words, what is there, what is left, where standard error goes, what is told, under what)
 ERASED = "\x1b[K"
 NOTE = "dictc: mark.csv begins with a byte order mark, which counts as text\n"

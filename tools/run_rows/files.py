@@ -49,7 +49,7 @@ REFUSED = [
     ("jseg --sources a", "a", NO_LISTING),
 ]
 
-# The image takes a place. (what, words, what stands there before, behind)
+# The image takes a place. (what, words, what stands there before, after)
 LINKED = {"link": Path("folder/new.img"), "folder": {}, "folder/new.img": b"old"}
 WRITTEN = [
     ("a new file", ALL, {}, MADE),

@@ -39,7 +39,7 @@ class Exactly(Has):
 class Under(NamedTuple):
     """What a run meets beside its arguments, its files and its text."""
 
-    stdin: str = "text"  # directory, closed, failing behind the text, slow: its second half comes after two seconds, or entries: a lexicon of one more than a dictionary may have
+    stdin: str = "text"  # directory, closed, failing after the text, slow: its second half comes after two seconds, or entries: a lexicon of one more than a dictionary may have
     stdout: str = "kept"  # full, closed, or unread: a pipe without a reader
     stderr: str = "kept"  # full, or terminal: what is written there is kept too
     most: int = 0  # how many bytes a file may have: a longer one fails. 0: any number
@@ -64,10 +64,10 @@ class Run(NamedTuple):
     words: str  # the program and its arguments, as a shell takes them apart
     text: str = ""  # on standard input
     out: str = ""  # on standard output
-    err: str = ""  # on standard error: one line, behind the program's name and `: `
+    err: str = ""  # on standard error: one line, after the program's name and `: `
     status: int = 0
     files: dict = {}  # what else is there: bytes, or the number of bytes of 0, None for what isn't, a Path for a link, {} for a folder
     left: dict = {}  # what is changed: bytes, the name of a file that it is equal to, ANY, or None
-    modes: dict = {}  # who may read and write a file, before the run and behind it
+    modes: dict = {}  # who may read and write a file, before the run and after it
     then: str = ""  # a second command: it gets the text, and its output follows
     under: Under = Under()

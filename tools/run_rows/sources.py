@@ -56,7 +56,7 @@ def of_lexicon(data, line, fault):
 
 ROWS = [run for row in DEFINITIONS for run in of_definition(*row)] + [run for row in LEXICONS for run in of_lexicon(*row)]
 
-# All faults of lexicons, each with its line: those of each file, its ids behind its lines; nothing is written.
+# All faults of lexicons, each with its line: those of each file, its ids after its lines; nothing is written.
 FAULTY = "も,1,1,20,助詞\na,1,1\r\n\nb,1,1,x,X\n\tc,2,1,5,\x01\n".encode() + b"\xff,1,1,1,X"
 FAULTS = [
     # (line, code and name, the line as it is told)
