@@ -4,6 +4,7 @@ and its settings stand as they were, or the new ones do, all of them, and no oth
 strace makes them: at each call that makes, moves, writes or removes a file or starts a process, each signal, and where the call can fail a full
 device. Where strace may not be used the table is left out; signals while dictc writes are tried without it.
 """
+import hashlib
 import os
 import re
 import resource
@@ -81,6 +82,11 @@ def environment(work, **others):
     return {**os.environ, "TMPDIR": str(work / "tmp"), **others}
 
 
+def is_image(data):
+    """Whether these are all bytes of an image: it ends with the digest of those before it."""
+    return data is not None and hashlib.sha256(data[:-32]).digest() == data[-32:]
+
+
 def stands(kind, work):
     """What stands where the import wrote: a name, or what is wrong."""
     found = {path.name: path.read_bytes() if path.is_file() else None for path in [*work.iterdir(), *(work / "tmp").iterdir()]}
@@ -88,7 +94,7 @@ def stands(kind, work):
     image = rest.pop("old.img", None)
     if rest == kind.old and image == b"old":
         return "old"
-    return "new" if rest == kind.new and image not in (None, b"old") else f"{sorted(found)}, {rest}"
+    return "new" if rest == kind.new and is_image(image) else f"{sorted(found)}, {rest}, an image of {len(image or b'')} bytes"
 
 
 def wrong_after(kind, status, work):
