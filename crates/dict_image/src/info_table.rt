@@ -70,9 +70,9 @@ fn end_in_plane(ranges: &[u8], i: usize) -> usize
     }
 }
 
-/// The categories of a code point: by its entry in the basic plane, and beyond it by a binary search.
+/// The categories of a code point: by its entry in the basic plane, and beyond it by the range that has it, of which `near` is a guess.
 #[inline(always)]
-pub(crate) fn plane_info(entries: &[u32], ranges: &[u8], code: u32) -> CharInfo
+pub(crate) fn plane_info(entries: &[u32], ranges: &[u8], code: u32, near: &mut usize) -> CharInfo
     requires order { AreInOrder ranges.now }
     requires entries { AreOfPlane ranges.now entries.now }
     ensures { result ≡ stored_info ranges.now code }
@@ -81,6 +81,6 @@ pub(crate) fn plane_info(entries: &[u32], ranges: &[u8], code: u32) -> CharInfo
     if at < BASIC_PLANE {
         info_of(entries[at])
     } else {
-        info_at(ranges, code)
+        info_at(ranges, code, near)
     }
 }

@@ -39,9 +39,22 @@ impl Dict {
         ensures info { result ≡ (image_tables self.now).info c }
         ensures first { result.head < length (image_tables self.now).categories }
     {
+        let mut near = 0;
+        self.info_near(c, &mut near)
+    }
+
+    /// The same, for characters in turn. `near` is the number of the range of code points that was found last: it is asked first, and only
+    /// where it doesn't have the character another one is searched. It may be any number; in the basic plane it is not looked at.
+    #[inline(always)]
+    pub fn info_near(&self, c: char, near: &mut usize) -> CharInfo
+        requires { (image_tables self.now).kind ≡ System }
+        ensures info { result ≡ (image_tables self.now).info c }
+        ensures first { result.head < length (image_tables self.now).categories }
+    {
+        let code = c as u32;
         match self.info_table() {
-            InfoTable::InSection => listed_at(self.section(Infos), c as u32),
-            InfoTable::OfPlane(entries) => plane_info(entries, self.section(Infos), c as u32),
+            InfoTable::InSection => listed_at(self.section(Infos), code),
+            InfoTable::OfPlane(entries) => plane_info(entries, self.section(Infos), code, near),
         }
     }
 

@@ -7,6 +7,7 @@ use Rattle.paths.specs.Blanks.{skip}
 use Rattle.paths.specs.Words.{is_place, words}
 use Rattle.path_search.specs.SearchedText.{SearchedText}
 use Rattle.word_lookup.specs.BlankRuns.{IsBlankRun, IsKept}
+use Rattle.word_lookup.specs.CharacterRuns.{IsCharacterRun}
 use Rattle.word_lookup.specs.Surfaces.{surface_words}
 use Rattle.lattice_nodes.specs.declared.lattice_node.LatticeNode.{LatticeNode}
 use Rattle.lattice_nodes.specs.LatticeNodes.{AreWordsOfLattice, HasLeastThrough, HasLeastTotal}
@@ -23,7 +24,8 @@ text_over o text = record {
   is_place = λ p. IsTrue (is_place text p);
   is_pair = λ right left. IsTrue (is_pair o.system.sizes right left);
   is_blank_run = IsBlankRun o text;
-  is_kept = λ p last. IsKept p (skip o text p) last;
+  is_character_run = IsCharacterRun o.system.info text;
+  is_kept = λ p last. IsKept p (skip o text p) last.blanks;
 }
 
 -- the nodes of the lattice of a text: the words that some chain reaches, with the least cost of the chains up to and with each, and of the paths

@@ -11,7 +11,7 @@ use crate::lattice::Lattice;
 use lattice_nodes::{LatticeNode, lattice_nodes};
 use mj_model::Word;
 use path_search::WordSource;
-use paths::{BlankRun, Path, Surface};
+use paths::{LastRuns, Path, Surface};
 use std::alloc::{AllocError, Global};
 use word_lookup::{Dictionaries, SurfaceWords};
 
@@ -37,7 +37,7 @@ impl<'a> WordSource for DictionaryText<'a> {
     fn surfaces_at(
         &self,
         place: usize,
-        last: &mut Option<BlankRun>,
+        last: &mut LastRuns,
         out: &mut Vec<Surface>,
     ) -> Result<(), AllocError> {
         self.dictionaries

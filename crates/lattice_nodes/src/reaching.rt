@@ -1,13 +1,13 @@
 //! The words of a text that some chain reaches.
 
-ghost use Rattle.std.specs.Prelude.{◌≡◌, ◌+◌, ◌++◌, ◌<◌, length, IfOk, IfSome, OnOk};
+ghost use Rattle.std.specs.Prelude.{◌≡◌, ◌+◌, ◌++◌, ◌<◌, length, IfOk, OnOk};
 ghost use Rattle.paths.specs.Surfaces.{IsWhole};
-ghost use Rattle.path_search.specs.SearchedText.{AreSurfacesAt, CanBeSearched};
+ghost use Rattle.path_search.specs.SearchedText.{AreRunsOf, AreSurfacesAt, CanBeSearched};
 ghost use Rattle.lattice_nodes.specs.Reaching.{AreIndexed, AreMarked, AreReachedIn, IsFirstFrom, IsReachedTo};
 
 use mj_model::Word;
 use path_search::WordSource;
-use paths::{BlankRun, Surface};
+use paths::{LastRuns, Surface};
 use std::alloc::{AllocError, Global};
 
 /// The words of a text that some chain reaches, in the order of places and of the words of each.
@@ -35,16 +35,16 @@ impl Reached {
         &mut self,
         source: &S,
         place: usize,
-        last: &mut Option<BlankRun>,
+        last: &mut LastRuns,
         surfaces: &mut Vec<Surface>,
         marks: &mut [bool],
     ) -> Result<(), AllocError>
         requires source { CanBeSearched (S.says source.now) }
         requires place { place < (S.says source.now).text_length }
-        requires last { IfSome last.old (S.says source.now).is_blank_run }
+        requires last { AreRunsOf (S.says source.now) last.old }
         requires reached { IsReachedTo (S.says source.now) place
             self.old.words.items self.old.firsts.items marks.old }
-        ensures last { IfSome last.new (S.says source.now).is_blank_run }
+        ensures last { AreRunsOf (S.says source.now) last.new }
         ensures reached { OnOk result (IsReachedTo (S.says source.now) (place + 1)
             self.new.words.items self.new.firsts.items marks.new) }
     {
@@ -75,7 +75,7 @@ pub fn reached_words<S: WordSource>(alloc: Global, source: &S) -> Result<Reached
     let marks = leads.as_mut_slice();
     marks[0] = true;
     let mut surfaces = Vec::new(alloc);
-    let mut last = None;
+    let mut last = LastRuns::none();
     for place in 0..length {
         reached.add_place(source, place, &mut last, &mut surfaces, marks)?;
     }

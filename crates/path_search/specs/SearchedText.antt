@@ -1,11 +1,14 @@
 -- What the search is told of a text, as one record.
-use Rattle.std.specs.Prelude.{◌≡◌, ℕ, ℤ, ◌+◌, ◌++◌, List, Option, length, take, reverse, flat_map, slice_get, Some}
+use Rattle.std.specs.Prelude.{◌≡◌, ℕ, ℤ, ◌+◌, ◌++◌, List, length, take, reverse, flat_map, slice_get, Some}
 use Rattle.std.specs.Option.{option_map_or}
 use Rattle.mj_model.specs.declared.word.Word.{Word}
 use Rattle.paths.specs.Best.{IsBestPath}
 use Rattle.paths.specs.Cost.{path_cost}
 use Rattle.paths.specs.Searchable.{IsSearchable}
+use Rattle.paths.specs.LastRuns.{AreLastRuns}
 use Rattle.paths.specs.declared.blank_run.BlankRun.{BlankRun}
+use Rattle.paths.specs.declared.character_run.CharacterRun.{CharacterRun}
+use Rattle.paths.specs.declared.last_runs.LastRuns.{LastRuns}
 use Rattle.paths.specs.declared.surface.Surface.{Surface}
 use Rattle.paths.specs.Surfaces.{AreSurfacesOf}
 use Rattle.path_search.specs.declared.nodes.Nodes.{Nodes}
@@ -16,7 +19,7 @@ use Rattle.path_search.specs.Lattice.{IsLattice}
 
 -- a text's length in bytes, the words of each place in their order, the words of a surface, the connection cost of a right id and the
 -- next word's left id, where a character begins or the text ends, which ids lie within the connection table's sizes, what is a run of its
--- blanks, and whether of the blanks of a place that was looked at enough is kept for the places behind it
+-- blanks and one of its characters, and whether of a place that was looked at enough is kept for the places behind it
 pub record SearchedText : Type 1 where
   pub text_length : ℕ
   pub words : ℕ → List Word
@@ -25,7 +28,12 @@ pub record SearchedText : Type 1 where
   pub is_place : ℕ → Type 0
   pub is_pair : ℕ → ℕ → Type 0
   pub is_blank_run : BlankRun → Type 0
-  pub is_kept : ℕ → Option BlankRun → Type 0
+  pub is_character_run : CharacterRun → Type 0
+  pub is_kept : ℕ → LastRuns → Type 0
+
+-- the runs that are kept are runs of it
+abbrev pub AreRunsOf : SearchedText → LastRuns → Type 0
+AreRunsOf t last = AreLastRuns t.is_blank_run t.is_character_run last
 
 -- it has what the search asks of a text
 abbrev pub CanBeSearched : SearchedText → Type 0

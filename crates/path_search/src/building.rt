@@ -1,8 +1,8 @@
 //! The nodes of a text, place by place.
 
-ghost use Rattle.std.specs.Prelude.{◌≡◌, ◌+◌, ◌<◌, true, slice_index_or, IfSome, OnOk};
+ghost use Rattle.std.specs.Prelude.{◌≡◌, ◌+◌, ◌<◌, true, slice_index_or, OnOk};
 ghost use Rattle.path_search.specs.Nodes.{reached};
-ghost use Rattle.path_search.specs.SearchedText.{AreKeptIn, CanBeSearched, IsLatticeTo, kept_nodes};
+ghost use Rattle.path_search.specs.SearchedText.{AreKeptIn, AreRunsOf, CanBeSearched, IsLatticeTo, kept_nodes};
 
 use crate::ends::gather;
 use crate::joins::Joins;
@@ -11,7 +11,7 @@ use crate::nodes::Nodes;
 use crate::place::Place;
 use crate::source::WordSource;
 use crate::thinning::Thinning;
-use paths::{BlankRun, Surface};
+use paths::{LastRuns, Surface};
 use std::alloc::{AllocError, Global};
 
 /// What is kept from place to place and from text to text: room for the surfaces of a place and its ends, what thins them, and what was
@@ -54,31 +54,31 @@ pub fn build<S: WordSource>(
     nodes.backs.clear();
     nodes.heads.clear();
     nodes.heads.resize(length + 1, 0)?;
-    let mut last = None;
+    let mut last = LastRuns::none();
     for place in 0..length {
         add_place(source, nodes, room, place, &mut last)?;
     }
     Ok(())
 }
 
-/// Adds the words of a place, if some chain leads there. `last` is the run of blanks that was looked at last.
+/// Adds the words of a place, if some chain leads there. `last` are the runs that were looked at last.
 fn add_place<S: WordSource>(
     source: &S,
     nodes: &mut Nodes,
     room: &mut Room,
     place: usize,
-    last: &mut Option<BlankRun>,
+    last: &mut LastRuns,
 ) -> Result<(), AllocError>
     requires source { CanBeSearched (S.says source.now) }
     requires place { place < (S.says source.now).text_length }
-    requires last { IfSome last.old (S.says source.now).is_blank_run }
+    requires last { AreRunsOf (S.says source.now) last.old }
     requires kept { AreKeptIn (S.says source.now) nodes.old }
     requires lattice { IsLatticeTo (S.says source.now)
         (kept_nodes (S.says source.now) nodes.old) place }
     ensures kept { OnOk result (AreKeptIn (S.says source.now) nodes.new) }
     ensures lattice { OnOk result (IsLatticeTo (S.says source.now)
         (kept_nodes (S.says source.now) nodes.new) (place + 1)) }
-    ensures last { IfSome last.new (S.says source.now).is_blank_run }
+    ensures last { AreRunsOf (S.says source.now) last.new }
     ensures looked_at { reached place (slice_index_or nodes.old.heads.items place 0) ≡ true
         → (S.says source.now).is_kept place last.new }
 {

@@ -1,13 +1,13 @@
 //! Where the search takes words and connection costs from.
 
-ghost use Rattle.std.specs.Prelude.{◌≡◌, ◌<◌, List, length, slice_get, IfSome, OnOk, OnErr, Some};
+ghost use Rattle.std.specs.Prelude.{◌≡◌, ◌<◌, List, length, slice_get, OnOk, OnErr, Some};
 ghost use Rattle.mj_model.specs.declared.word.Word.{Word};
 ghost use Rattle.mj_model.specs.Lists.{GrowsBy};
 ghost use Rattle.paths.specs.Surfaces.{IsWhole};
-ghost use Rattle.path_search.specs.SearchedText.{AreSurfacesAt, SearchedText};
+ghost use Rattle.path_search.specs.SearchedText.{AreRunsOf, AreSurfacesAt, SearchedText};
 
 use mj_model::Word;
-use paths::{BlankRun, Surface};
+use paths::{LastRuns, Surface};
 use std::alloc::AllocError;
 
 /// A text over dictionaries: the words of each place as surfaces, and the cost of each connection.
@@ -18,28 +18,28 @@ pub trait WordSource {
     /// All of them, in their order.
     ghost words_in: { Self.Words → List Word };
 
-    /// The text's length, its words, those of its surfaces, its connections, its places, its pairs of ids, its runs of blanks and what is
-    /// kept of them.
+    /// The text's length, its words, those of its surfaces, its connections, its places, its pairs of ids, its runs of blanks and of
+    /// characters, and what is kept of them.
     ghost says: { Self → SearchedText };
 
     /// In bytes.
     fn length(&self) -> usize
         ensures { result ≡ (says self.now).text_length };
 
-    /// Appends the words of a place to `out` as surfaces. `last` is the run of blanks that was looked at last, and none before the
-    /// first place.
+    /// Appends the words of a place to `out` as surfaces. `last` are the runs that were looked at last, and none before the first
+    /// place.
     fn surfaces_at(
         &self,
         place: usize,
-        last: &mut Option<BlankRun>,
+        last: &mut LastRuns,
         out: &mut Vec<Surface>,
     ) -> Result<(), AllocError>
         requires place { (says self.now).is_place place }
-        requires last { IfSome last.old (says self.now).is_blank_run }
+        requires last { AreRunsOf (says self.now) last.old }
         ensures appended { OnOk result
             (GrowsBy (AreSurfacesAt (says self.now) place) out.old.items out.new.items) }
         ensures kept { OnErr result (out.new.items ≡ out.old.items) }
-        ensures last { IfSome last.new (says self.now).is_blank_run }
+        ensures last { AreRunsOf (says self.now) last.new }
         ensures looked_at { (says self.now).is_kept place last.new };
 
     /// The words of a surface: what is the same for all of them is looked up once.

@@ -6,7 +6,7 @@ use Rattle.std.specs.List.{prefix_len}
 use Rattle.std.proofs.Math.Utf8.{scalar, scalars, scalar_cases}
 use Rattle.std.proofs.lemmas.Bool.{and_parts, cases_order}
 use Rattle.std.proofs.lemmas.List.{drop_at, drop-drop, length-append, length-take, take-append-drop}
-use Rattle.std.proofs.lemmas.Str.{length-encode, len_utf8_bounds, encodes-append, encodes-chars, scalars-chars}
+use Rattle.std.proofs.lemmas.Str.{length-encode, len_utf8_bounds, encodes-append, encodes-chars, chars-encodes, scalars-chars}
 use Rattle.mj_model.specs.declared.category.CharInfo.{CharInfo}
 use Rattle.mj_model.specs.Categories.{shares}
 use Rattle.mj_model.specs.CharDef.{code_point_max}
@@ -69,6 +69,11 @@ text_behind text n u = (
     sym (behind n (chars text)) ∙ ap (drop (bytes_of n (chars text))) (encodes-chars text u),
   ),
 )
+
+pub chars_behind : (text : List ℕ) (n : ℕ) → IsUtf8 text → chars (drop (bytes_of n (chars text)) text) ≡ drop n (chars text)
+chars_behind text n u =
+    ap (λ (bytes : List ℕ). chars (drop (bytes_of n (chars text)) bytes)) (sym (encodes-chars text u)) ∙ ap chars (behind n (chars text))
+    ∙ chars-encodes (drop n (chars text)) (scalars_drop n (chars text) (scalars-chars text u))
 
 -- they end in the text
 pub chars_within : (text : List ℕ) (n : ℕ) → IsUtf8 text → bytes_of n (chars text) ≤ length text

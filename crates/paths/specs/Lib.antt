@@ -13,3 +13,4 @@ pub mod ChainsBack
 pub mod Searchable
 pub mod Laws
 pub mod PathLaws
+pub mod LastRuns

@@ -2,12 +2,16 @@
 #![tactic(auto)]
 
 mod blank_run;
+mod character_run;
 mod entry_list;
+mod last_runs;
 pub mod laws;
 mod path;
 mod surface;
 
 pub use blank_run::BlankRun;
+pub use character_run::CharacterRun;
 pub use entry_list::EntryList;
+pub use last_runs::LastRuns;
 pub use path::Path;
 pub use surface::Surface;

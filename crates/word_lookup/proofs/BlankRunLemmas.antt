@@ -1,80 +1,17 @@
 -- Within a run of blanks each character goes on from the one before. So behind a place in it that has blanks they end where the run ends.
-use Rattle.std.proofs.Common.{◌≡◌, ℕ, suc, ◌+◌, ◌-◌, ◌<◌, ◌≤◌, Bool, true, false, cond, List, [], ◌∷◌, ◌++◌, length, take, drop, inl, inr, refl, sym, ap, ◌∙◌, subst, arith}
-use Rattle.std.specs.Prelude.{IsTrue, IsUtf8, chars, encode_utf8_all, nat_lt}
-use Rattle.std.proofs.Math.Seq.{take-append-add}
+use Rattle.std.proofs.Common.{◌≡◌, ℕ, suc, ◌+◌, ◌<◌, ◌≤◌, Bool, true, false, cond, List, [], ◌∷◌, ◌++◌, length, drop, inl, inr, refl, sym, ap, ◌∙◌, arith}
+use Rattle.std.specs.Prelude.{IsTrue, chars, nat_lt}
 use Rattle.std.proofs.lemmas.Bool.{cases_lt, lt-ltb, ltb-false, ltb-true}
-use Rattle.std.proofs.lemmas.List.{drop-drop, length-append, length-drop, length-take, take-append-drop, take-append-le}
-use Rattle.std.proofs.lemmas.Str.{IsCharBoundary-from_drop, IsUtf8-take, chars-append, encodes-append, encodes-chars}
 use Rattle.mj_model.specs.declared.category.CharInfo.{CharInfo}
 use Rattle.mj_model.specs.Categories.{shares}
 use Rattle.mj_model.specs.Tables.{Overlay}
 use Rattle.paths.specs.Blanks.{chars_from, skip, space}
 use Rattle.paths.specs.Run.{bytes_of, run}
 use Rattle.paths.specs.Words.{is_place}
-use Rattle.paths.proofs.CharBytes.{bytes_within}
 use Rattle.paths.specs.declared.blank_run.BlankRun.{BlankRun}
 use Rattle.word_lookup.specs.BlankRuns.{IsBlankRun, begins_with_blank}
-use Rattle.word_lookup.proofs.PlaceLemmas.{place_within, text_there}
-
--- ---- a run that goes past a character goes on from it
-
-first_by : (n : ℕ) (b : Bool) → 0 < cond b (suc n) 0 → cond b (suc n) 0 ≡ suc n
-first_by n true h = refl
-first_by n false h = absurd (omega (arith, h))
-
-more_by : (k n m : ℕ) (b : Bool) → suc k < cond b (suc n) 0 → (k < n → n ≡ k + m) → cond b (suc n) 0 ≡ suc k + m
-more_by k n m true h on = let e = on (omega (arith, h)) in omega (arith, e)
-more_by k n m false h on = absurd (omega (arith, h))
-
-module _ (info : ℕ → CharInfo) where
-  goes_on : (entry : CharInfo) (c : ℕ) (cs : List ℕ) → 0 < run info entry (c ∷ cs) → run info entry (c ∷ cs) ≡ suc (run info (info c) cs)
-  goes_on entry c cs some = first_by (run info (info c) cs) (shares entry (info c)) some
-
-  run_through : (entry : CharInfo) (xs : List ℕ) (c : ℕ) (cs : List ℕ) → length xs < run info entry (xs ++ c ∷ cs)
-      → run info entry (xs ++ c ∷ cs) ≡ length xs + suc (run info (info c) cs)
-  run_through entry [] c cs less = let e = goes_on entry c cs less in omega (arith, e)
-  run_through entry (x ∷ xs) c cs less =
-      more_by (length xs) (run info (info x) (xs ++ c ∷ cs)) (suc (run info (info c) cs)) (shares entry (info x)) less (λ h. run_through (info x) xs c cs h)
-
--- ---- bytes
-
-bytes_through : (xs ys : List ℕ) (n : ℕ) → bytes_of (length xs + n) (xs ++ ys) ≡ length (encode_utf8_all xs) + bytes_of n ys
-bytes_through xs ys n =
-    ap (λ (zs : List ℕ). length (encode_utf8_all zs)) (take-append-add xs ys n) ∙ ap length (encodes-append xs (take n ys))
-    ∙ length-append (encode_utf8_all xs) (encode_utf8_all (take n ys))
-
-bytes_before : (n : ℕ) (xs ys : List ℕ) → n ≤ length xs → bytes_of n (xs ++ ys) ≤ length (encode_utf8_all xs)
-bytes_before n xs ys low =
-    let same = ap (λ (zs : List ℕ). length (encode_utf8_all zs)) (take-append-le n xs ys low) in
-    let all = bytes_within n xs in
-    omega (arith, same, all)
-
--- ---- the characters around a place
-
--- a text from one place on is the characters up to another place, which take the bytes between, and those from there on
-record IsParted (text : List ℕ) (from place : ℕ) : Type 0 where
-  before : List ℕ
-  chars_are : chars (drop from text) ≡ before ++ chars (drop place text)
-  bytes : length (encode_utf8_all before) ≡ place - from
-
-parted : (text : List ℕ) (from place : ℕ) → IsTrue (is_place text from) → IsTrue (is_place text place) → from ≤ place → IsParted text from place
-parted text from place first second low =
-    let rest = drop from text in
-    let n = place - from in
-    let utf8 = text_there text from first in
-    let within = place_within text place second in
-    let long = length-drop from text in
-    let at : from + n ≡ place = omega (arith, low) in
-    let behind : drop n rest ≡ drop place text = drop-drop n from text ∙ ap (λ (k : ℕ). drop k text) at in
-    let boundary = IsCharBoundary-from_drop rest n (omega (arith, within, long)) (subst IsUtf8 (sym behind) (text_there text place second)) in
-    let front = IsUtf8-take rest n utf8 boundary in
-    let count = length-take n rest in
-    let spelled = ap length (encodes-chars (take n rest) front) in
-    record {
-      before = chars (take n rest);
-      chars_are = ap chars (sym (take-append-drop n rest)) ∙ chars-append (take n rest) (drop n rest) front ∙ ap (λ (bytes : List ℕ). chars (take n rest) ++ chars bytes) behind;
-      bytes = omega (arith, spelled, count, within, long, low);
-    }
+use Rattle.word_lookup.proofs.PlaceLemmas.{IsParted, parted}
+use Rattle.word_lookup.proofs.RunLemmas.{bytes_before, bytes_through, goes_on, run_through}
 
 -- ---- blanks in a run
 

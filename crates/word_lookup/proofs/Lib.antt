@@ -6,6 +6,7 @@ pub mod UnknownWords
 pub mod KnownFound
 pub mod PlaceLemmas
 pub mod BlankRunLemmas
+pub mod CharacterRunLemmas
 pub mod OverlayLaws
 pub mod DictionaryLaws
 pub mod FeatureLemmas

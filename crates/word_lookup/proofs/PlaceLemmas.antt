@@ -1,11 +1,11 @@
 -- Places of a text, and the blanks there.
-use Rattle.std.proofs.Common.{◌≡◌, ℕ, ◌+◌, ◌<◌, ◌≤◌, Bool, true, cond, ◌&&◌, List, [], ◌∷◌, ◌++◌, length, drop, get_or, sym, ap, ◌∙◌, refl, arith, subst}
-use Rattle.std.specs.Prelude.{IsTrue, IsUtf8, chars, encode_utf8, min, nat_le, nat_lt}
+use Rattle.std.proofs.Common.{◌≡◌, ℕ, ◌+◌, ◌-◌, ◌<◌, ◌≤◌, Bool, true, cond, ◌&&◌, List, [], ◌∷◌, ◌++◌, length, take, drop, get_or, sym, ap, ◌∙◌, refl, arith, subst}
+use Rattle.std.specs.Prelude.{IsTrue, IsUtf8, chars, encode_utf8, encode_utf8_all, min, nat_le, nat_lt}
 use Rattle.std.specs.Char.{len_utf8}
 use Rattle.std.specs.Str.{IsCharBoundary, is_utf8}
 use Rattle.std.proofs.lemmas.Bool.{and_parts, and_from, and_right, leb-true, lt-ltb, le-ltb}
-use Rattle.std.proofs.lemmas.List.{nil_from_length, get_or-drop, length-drop, length-append, drop_at}
-use Rattle.std.proofs.lemmas.Str.{IsCharBoundary-start, IsUtf8-from_is_utf8, length-le-encodes, length-encode, encodes-chars, chars_past_char}
+use Rattle.std.proofs.lemmas.List.{nil_from_length, get_or-drop, length-drop, length-append, length-take, drop-drop, drop_at, take-append-drop}
+use Rattle.std.proofs.lemmas.Str.{IsCharBoundary-start, IsCharBoundary-from_drop, IsUtf8-take, chars-append, IsUtf8-from_is_utf8, length-le-encodes, length-encode, encodes-chars, chars_past_char}
 use Rattle.mj_model.specs.declared.category.CharInfo.{CharInfo}
 use Rattle.paths.specs.Blanks.{skip, space, chars_from}
 use Rattle.paths.specs.KnownWords.{known_words}
@@ -15,6 +15,7 @@ use Rattle.paths.specs.UnknownSpans.{spans}
 use Rattle.paths.specs.Words.{is_place, is_empty, unknown, words}
 use Rattle.paths.proofs.CharBytes.{run_within, chars_within, text_behind, text_behind_blanks}
 use Rattle.paths.proofs.PlaceWords.{place_there}
+use Rattle.word_lookup.specs.CharacterRuns.{IsFirst}
 use Rattle.word_lookup.specs.UnknownEntries.{words_of_spans}
 
 pub place_within : (text : List ℕ) (p : ℕ) → IsTrue (is_place text p) → p ≤ length text
@@ -32,6 +33,35 @@ boundary text p h =
     let here : get_or (drop p text) 0 0 ≡ get_or text p 0 = at ∙ ap (λ (k : ℕ). get_or text k 0) same in
     let long = length-drop p text in
     (low, λ less above. let r = start.1 (omega (arith, long, less)) (omega (arith, here, above)) in omega (arith, r, here))
+
+-- ---- the characters around a place
+
+-- a text from one place on is the characters up to another place, which take the bytes between, and those from there on
+pub record IsParted (text : List ℕ) (from place : ℕ) : Type 0 where
+  pub before : List ℕ
+  pub are : before ≡ chars (take (place - from) (drop from text))
+  pub chars_are : chars (drop from text) ≡ before ++ chars (drop place text)
+  pub bytes : length (encode_utf8_all before) ≡ place - from
+
+pub parted : (text : List ℕ) (from place : ℕ) → IsTrue (is_place text from) → IsTrue (is_place text place) → from ≤ place → IsParted text from place
+parted text from place first second low =
+    let rest = drop from text in
+    let n = place - from in
+    let utf8 = text_there text from first in
+    let within = place_within text place second in
+    let long = length-drop from text in
+    let at : from + n ≡ place = omega (arith, low) in
+    let behind : drop n rest ≡ drop place text = drop-drop n from text ∙ ap (λ (k : ℕ). drop k text) at in
+    let boundary = IsCharBoundary-from_drop rest n (omega (arith, within, long)) (subst IsUtf8 (sym behind) (text_there text place second)) in
+    let front = IsUtf8-take rest n utf8 boundary in
+    let count = length-take n rest in
+    let spelled = ap length (encodes-chars (take n rest) front) in
+    record {
+      before = chars (take n rest);
+      are = refl;
+      chars_are = ap chars (sym (take-append-drop n rest)) ∙ chars-append (take n rest) (drop n rest) front ∙ ap (λ (bytes : List ℕ). chars (take n rest) ++ chars bytes) behind;
+      bytes = omega (arith, spelled, count, within, long, low);
+    }
 
 -- ---- blanks
 
@@ -83,11 +113,6 @@ skip_within o text p h = blanks_fit text (drop p text) p (run o.system.info (o.s
 
 -- ---- the first character
 
-pub record IsFirst (text : List ℕ) (c n : ℕ) : Type 0 where
-  pub place : IsTrue (is_place text n)
-  pub split : chars text ≡ c ∷ chars (drop n text)
-  pub long : n + length (drop n text) ≡ length text
-
 pub first_taken : (text bytes rest : List ℕ) (c n : ℕ) → IsUtf8 text → bytes ≡ text → bytes ≡ encode_utf8 c ++ rest → n ≡ len_utf8 c → IsFirst text c n
 first_taken text bytes rest c n u e h is =
     let spelled : text ≡ encode_utf8 c ++ rest = sym e ∙ h in
@@ -103,6 +128,7 @@ first_taken text bytes rest c n u e h is =
       place = place_there text n low (subst (λ (k : ℕ). IsUtf8 (drop k text)) bytes_are (text_behind text 1 u));
       split = split ∙ ap (λ (xs : List ℕ). c ∷ chars xs) (sym behind);
       long = (let d = length-drop n text in omega (arith, d, low));
+      bytes = is;
     }
 
 pub unknown_are : (o : Overlay) (none_known : Bool) (place start c i : ℕ) (all following : List ℕ) (ts : List Token) (ns : List ℕ) → all ≡ c ∷ following

@@ -128,12 +128,12 @@ grouped_found_by : (b : Bool) (n bytes : ℕ) → grouped_spans (cond b (Some (r
 grouped_found_by true n bytes = refl
 grouped_found_by false n bytes = refl
 
-has_bytes_by : (b : Bool) (first : ℕ) (cs : List ℕ) (n bytes : ℕ) → bytes ≡ bytes_of n cs → IfSome (cond b (Some (record { characters = 1 + n; bytes = len_utf8 first + bytes })) None) (HasBytes (first ∷ cs))
-has_bytes_by true first cs n bytes h = let e = bytes_behind n first cs in omega (arith, e, h)
+has_bytes_by : (b : Bool) (first : ℕ) (cs : List ℕ) (n bytes : ℕ) → (b ≡ true → bytes ≡ bytes_of n cs) → IfSome (cond b (Some (record { characters = 1 + n; bytes = len_utf8 first + bytes })) None) (HasBytes (first ∷ cs))
+has_bytes_by true first cs n bytes h = let e = bytes_behind n first cs in let f = h refl in omega (arith, e, f)
 has_bytes_by false first cs n bytes h = tt
 
 pub has_bytes : (b : Bool) (first : ℕ) (cs : List ℕ) (n bytes : ℕ) (grouped found : Option Run) → found ≡ grouped → grouped ≡ cond b (Some (record { characters = 1 + n; bytes = len_utf8 first + bytes })) None
-    → bytes ≡ bytes_of n cs → IfSome found (HasBytes (first ∷ cs))
+    → (b ≡ true → bytes ≡ bytes_of n cs) → IfSome found (HasBytes (first ∷ cs))
 has_bytes b first cs n bytes grouped found e f h = subst (λ (o : Option Run). IfSome o (HasBytes (first ∷ cs))) (sym (e ∙ f)) (has_bytes_by b first cs n bytes h)
 
 alike_seen : (info : ℕ → CharInfo) (first limit : ℕ) (cs : List ℕ) (seen : ℕ) → seen ≡ length (take_while (λ c. shares (info first) (info c)) (take limit cs)) → min limit (1 + seen) ≡ min limit (alike info first cs)
@@ -168,6 +168,11 @@ ahead_of_grouping false grouping len is = absurd (cc)
 ahead_of_lengths : (group : Bool) (grouping len : ℕ) → group ≡ true → len ≤ cond group (max (grouping + 1) len) 0
 ahead_of_lengths true grouping len is = omega arith
 ahead_of_lengths false grouping len is = absurd (cc)
+
+-- a run that is grouped ends before as many characters as are looked at
+pub grouped_below : (group : Bool) (grouping len limit n : ℕ) → limit ≡ cond group (max (grouping + 1) len) 0 → (group && nat_le n grouping) ≡ true → n < limit
+grouped_below true grouping len limit n is grouped = let low : n ≤ grouping = grind (arith, nat_tests, grouped) in omega (arith, low, is)
+grouped_below false grouping len limit n is grouped = absurd (cc)
 
 -- the same, where the categories of the first character are known as an entry
 pub spans_found_from : (info : ℕ → CharInfo) (category wanted : Category) (none_known : Bool) (grouping limit first : ℕ) (entry : CharInfo) (cs : List ℕ) (seen_run seen n bytes : ℕ) (spans result : Spans)

@@ -7,4 +7,6 @@ pub mod UnknownEntries
 pub mod WordsHere
 pub mod Overlays
 pub mod BlankRuns
+pub mod CharacterRuns
+pub mod TextRuns
 pub mod Props

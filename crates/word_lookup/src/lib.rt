@@ -6,6 +6,7 @@ mod dictionaries;
 mod known;
 mod overlay;
 mod run;
+mod runs_in_turn;
 mod spans;
 mod surface_words;
 mod surfaces;
@@ -15,5 +16,5 @@ mod words;
 
 pub use dictionaries::Dictionaries;
 pub use mj_model::{Origin, Word};
-pub use paths::{BlankRun, EntryList, Surface};
+pub use paths::{EntryList, LastRuns, Surface};
 pub use surface_words::SurfaceWords;

@@ -1,6 +1,6 @@
 //! Runs of characters of one kind.
 
-ghost use Rattle.std.specs.Prelude.{◌≡◌, min, chars, take};
+ghost use Rattle.std.specs.Prelude.{◌≡◌, ◌+◌, min, chars, take, drop};
 ghost use Rattle.paths.specs.Run.{run, bytes_of, alike_with};
 ghost use Rattle.image_bytes.specs.ImageMeaning.{image_tables};
 ghost use Rattle.mj_model.specs.Tables.{System};
@@ -15,27 +15,53 @@ pub struct Run {
     pub bytes: usize,
 }
 
+/// What was looked at of a run at the beginning of a text: so many characters, the bytes that they take, and the categories with which it
+/// goes on behind them.
+#[derive(Clone, Copy, Debug, Drop)]
+pub struct SeenRun {
+    pub characters: usize,
+    pub bytes: usize,
+    pub last: CharInfo,
+}
+
 /// The run at the beginning of a text, from the categories `entry`; no more than `limit` characters
-/// are looked at.
-pub fn run_up_to(system: &Dict, entry: CharInfo, text: &str, limit: usize) -> Run
+/// are looked at. `range` is a guess at the range of their code points.
+pub fn run_up_to(
+    system: &Dict,
+    entry: CharInfo,
+    text: &str,
+    limit: usize,
+    range: &mut usize,
+) -> SeenRun
     requires { (image_tables system.now).kind ≡ System }
     ensures characters { result.characters
         ≡ min limit (run (image_tables system.now).info entry (chars text.now)) }
     ensures bytes { result.bytes ≡ bytes_of result.characters (chars text.now) }
+    ensures goes_on { run (image_tables system.now).info entry (chars text.now)
+        ≡ result.characters + run (image_tables system.now).info result.last
+        (drop result.characters (chars text.now)) }
 {
     let mut last = entry;
     let mut characters = 0;
     let mut bytes = 0;
     for c in text.chars().take(limit) {
-        let next = system.info(c);
+        let next = system.info_near(c, range);
         if !last.shares(next) {
-            return Run { characters, bytes };
+            return SeenRun {
+                characters,
+                bytes,
+                last,
+            };
         }
         characters += 1;
         bytes += c.len_utf8();
         last = next;
     }
-    Run { characters, bytes }
+    SeenRun {
+        characters,
+        bytes,
+        last,
+    }
 }
 
 /// How many characters at the beginning of a text share with the categories `first`; no more than

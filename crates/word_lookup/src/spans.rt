@@ -1,15 +1,19 @@
 //! How many characters the unknown words of a place have. (MeCab, unk)
 
-ghost use Rattle.std.specs.Prelude.{◌≡◌, ◌+◌, ◌<◌, ◌≤◌, ◌||◌, ◌^◌, ◌∷◌, length, chars, IfSome, max};
+ghost use Rattle.std.specs.Prelude.{◌≡◌, ◌+◌, ◌<◌, ◌≤◌, ◌||◌, ◌^◌, length, chars, drop, IfSome, max};
 ghost use Rattle.std.specs.Char.{len_utf8};
 ghost use Rattle.paths.specs.UnknownSpans.{spans_by, one_if_none};
 ghost use Rattle.image_bytes.specs.ImageMeaning.{image_tables};
 ghost use Rattle.mj_model.specs.Tables.{System};
+ghost use Rattle.word_lookup.specs.CharacterRuns.{AreCharacterRuns, IsFirst};
 ghost use Rattle.word_lookup.specs.Spans.{spans_in, grouped_with, longest_of, looked_ahead, HasBytes};
 
-use crate::run::{Run, alike_up_to, run_up_to};
+use crate::run::{Run, alike_up_to};
+use crate::runs_in_turn::run_behind;
+use crate::word_start::{WordStart, behind};
 use dict_image::Dict;
 use mj_model::{Category, CharInfo};
+use paths::LastRuns;
 
 /// The unknown spans of a place: that of the whole run, where it is grouped, and those of 1 to
 /// `longest` characters.
@@ -19,24 +23,29 @@ pub struct Spans {
     pub longest: usize,
 }
 
-/// The unknown spans of a text that begins with the character `first`, which has the categories `info`.
+/// The unknown spans of a place whose words begin with the character `first`, which has the categories `info`. `last` are the runs that
+/// were looked at last.
 #[inline(always)]
 pub fn spans_from(
     system: &Dict,
     grouping: u16,
     none_known: bool,
-    info: CharInfo,
+    at: WordStart<'_>,
     first: char,
-    following: &str,
+    info: CharInfo,
+    last: &mut LastRuns,
 ) -> Spans
-    requires fits { len_utf8 first + length following.now < 2 ^ 64 }
     requires system { (image_tables system.now).kind ≡ System }
+    requires first { IsFirst at.rest.now first (len_utf8 first) }
     requires info { info ≡ (image_tables system.now).info first }
     requires category { info.head < length (image_tables system.now).categories }
-    ensures spans { spans_in result
-        ≡ spans_by (image_tables system.now) grouping none_known first (chars following.now) }
-    ensures bytes { IfSome result.grouped (HasBytes (first ∷ chars following.now)) }
-    ensures within { result.longest ≤ length (first ∷ chars following.now) }
+    requires last { AreCharacterRuns (image_tables system.now).info at.text.now last.old }
+    ensures spans { spans_in result ≡ spans_by (image_tables system.now) grouping none_known
+        first (chars (drop (len_utf8 first) at.entry.rest.now)) }
+    ensures bytes { IfSome result.grouped (HasBytes (chars at.entry.rest.now)) }
+    ensures within { result.longest ≤ length (chars at.entry.rest.now) }
+    ensures last { AreCharacterRuns (image_tables system.now).info at.entry.text.now last.new }
+    ensures blanks { last.new.blanks ≡ last.old.blanks }
 {
     let category = system.category(usize::from(info.first()));
     if !makes_words(category, none_known) {
@@ -45,7 +54,9 @@ pub fn spans_from(
             longest: 0,
         };
     }
-    let run = run_up_to(system, info, following, look_ahead(category, grouping));
+    let ahead = look_ahead(category, grouping);
+    let run = run_behind(system, at, first, info, ahead, last);
+    let following = behind(at.rest, first.len_utf8());
     let alike = 1 + alike_up_to(system, info, following, usize::from(category.length));
     let spans = Spans {
         grouped: grouped_run(category, grouping, first, run),

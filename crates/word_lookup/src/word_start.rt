@@ -7,14 +7,17 @@ ghost use Rattle.paths.specs.Words.{is_place};
 use dict_image::TokenRow;
 use paths::{EntryList, Surface};
 
-/// Where the surfaces of a place's words begin, in bytes of the text, and the text from there on.
+/// Where the surfaces of a place's words begin, in bytes of a text, and the rest of the text from there on.
 #[derive(Clone, Copy)]
 pub struct WordStart<'a> {
     pub place: usize,
     /// Behind the blanks of the place.
     pub start: usize,
+    pub text: &'a str,
     pub rest: &'a str,
     ghost is_text: { IsUtf8 rest.now } by { Prim.hlevel props },
+    ghost there: { IsTrue (is_place text.now start) } by { Prim.hlevel props },
+    ghost rest_is: { rest.now ≡ drop start text.now } by { Prim.hlevel props },
     ghost fits: { start + length rest.now < 2 ^ 64 } by { Prim.hlevel props },
 }
 

@@ -14,7 +14,7 @@ use crate::dictionaries::Dictionaries;
 use crate::surface_words::SurfaceWords;
 use dict_image::Dict;
 use mj_model::Word;
-use paths::{EntryList, Surface};
+use paths::{EntryList, LastRuns, Surface};
 use std::alloc::{AllocError, Global};
 
 impl<'a> Dictionaries<'a> {
@@ -65,7 +65,8 @@ impl<'a> Dictionaries<'a> {
         ensures none { words (overlay_of self.now) text.now place ≡ [] → IsOk result }
     {
         let mut surfaces = Vec::new(alloc);
-        self.surfaces_in_turn(text, place, &mut None, &mut surfaces)?;
+        let mut last = LastRuns::none();
+        self.surfaces_in_turn(text, place, &mut last, &mut surfaces)?;
         let count = out.len();
         let appended = self.append_words(&surfaces, out);
         if appended.is_err() {

@@ -3,5 +3,5 @@ use Rattle.image_bytes.specs.ImageSections.{info_of_entry}
 use Rattle.dict_image.proofs.RangeLemmas.{info_of_last}
 use Rattle.dict_image.proofs.ranges.info_at.Goals as goal
 
-pub returns : goal.returns
-returns c = c.info_of.ensures ∙ ap info_of_entry c.u32_at.ensures ∙ sym (info_of_last c.args.ranges.now c.args.code c.last_up_to-i.result c.requires c.last_up_to-i.ensures)
+pub returns-clause-info : goal.returns-clause-info
+returns-clause-info c = c.info_of.ensures ∙ ap info_of_entry c.u32_at.ensures ∙ sym (info_of_last c.args.ranges.now c.args.code c.last_near-i.result c.requires c.last_near-i.ensures)

@@ -1,5 +1,6 @@
 use Rattle.std.proofs.Common.{◌≡◌, ◌+◌, ℕ, Bool, List, [], length, set, true, false, get_or, refl, sym, subst, arith}
 use Rattle.mj_model.specs.declared.word.Word.{Word}
+use Rattle.path_search.specs.SearchedText.{AreRunsOf}
 use Rattle.lattice_nodes.specs.LatticeNodes.{AreReachedBefore}
 use Rattle.lattice_nodes.specs.Reaching.{IsReachedTo}
 use Rattle.lattice_nodes.proofs.ReachLemmas.{collected_none}
@@ -18,7 +19,7 @@ loop-place-init g c =
     record {
       reached = subst (λ (ws : List Word). IsReachedTo t 0 ws c.new-2.result.items marks) (sym c.new.ensures.items)
           (subst (λ (firsts : List ℕ). IsReachedTo t 0 [] firsts marks) (sym c.new-2.ensures.items) none);
-      last = tt;
+      last = subst (AreRunsOf t) (sym c.none-last.ensures) (record { blanks = tt; here = tt; behind_blanks = tt });
     }
 
 pub returns : goal.returns

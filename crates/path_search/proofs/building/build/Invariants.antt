@@ -1,10 +1,9 @@
-use Rattle.std.specs.Prelude.{IfSome}
-use Rattle.path_search.specs.SearchedText.{AreKept, IsLatticeTo, nodes_in}
+use Rattle.path_search.specs.SearchedText.{AreKept, AreRunsOf, IsLatticeTo, nodes_in}
 use Rattle.path_search.proofs.building.build.Given as goal
 
 abbrev pub invariant-loop-place : goal.invariant-loop-place
 invariant-loop-place g l = record {
   kept : AreKept (g.S.WordSource.says l.source) l.nodes.bundles.items l.nodes.backs.items l.nodes.heads.items;
   lattice : IsLatticeTo (g.S.WordSource.says l.source) (nodes_in (g.S.WordSource.says l.source) l.nodes.bundles.items l.nodes.backs.items) l.place;
-  last : IfSome l.last (g.S.WordSource.says l.source).is_blank_run;
+  last : AreRunsOf (g.S.WordSource.says l.source) l.last;
 }

@@ -9,5 +9,6 @@ abbrev pub invariant-loop-c : goal.invariant-loop-c
 invariant-loop-c l = record {
   counted : l.characters ≡ length l.yielded;
   run_goes_on : l.characters + run (image_tables l.system).info l.last (drop (length l.yielded) (take l.limit (chars l.text))) ≡ run (image_tables l.system).info l.fn.entry (take l.limit (chars l.text));
+  goes_on : l.characters + run (image_tables l.system).info l.last (drop l.characters (chars l.text)) ≡ run (image_tables l.system).info l.fn.entry (chars l.text);
   bytes_counted : l.bytes ≡ bytes_of l.characters (take l.limit (chars l.text));
 }

@@ -32,3 +32,10 @@ pub returns-clause-kept : goal.returns-clause-kept
 unfolding overlay_of
 returns-clause-kept c =
     grown_kept (overlay_of c.args.self.now) _ _ _ _ _ _ c.in_ok-append_known.ensures.appended (search rules) c.append_unknown.ensures.kept
+
+pub invariant_of-at-clause-there : goal.invariant_of-at-clause-there
+unfolding overlay_of
+invariant_of-at-clause-there c =
+    let o = overlay_of c.args.self.now in
+    let w = skip_within o c.args.text.now c.args.place c.requires.there in
+    place_behind_blanks o c.args.text.now c.args.place c.args.start c.requires.there c.requires.behind_blanks (omega (arith, w, c.requires.behind_blanks))

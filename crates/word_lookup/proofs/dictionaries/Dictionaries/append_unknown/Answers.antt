@@ -1,42 +1,26 @@
-use Rattle.std.proofs.Common.{arith, rules, ◌≡◌, ◌∷◌, List, ℕ, length, sym, ap, ◌∙◌, refl, subst}
-use Rattle.std.specs.Prelude.{chars, OnOk, IfSome}
+use Rattle.std.proofs.Common.{arith, rules, ◌≡◌, List, drop, refl, subst}
+use Rattle.std.specs.Prelude.{chars, OnOk}
+use Rattle.std.specs.Char.{len_utf8}
 use Rattle.mj_model.specs.declared.word.Word.{Word}
 use Rattle.word_lookup.specs.Overlays.{overlay_of}
-use Rattle.word_lookup.specs.Spans.{HasBytes}
 use Rattle.word_lookup.specs.Surfaces.{GrowsByWords}
 use Rattle.word_lookup.proofs.DictionaryLaws.{is_system}
 use Rattle.word_lookup.proofs.PlaceLemmas.{first_taken, none_there, unknown_are}
 use Rattle.word_lookup.proofs.SurfaceLemmas.{none_grown}
 use Rattle.word_lookup.proofs.dictionaries.Dictionaries.append_unknown.Goals as goal
 
-pub behind-following-requires : goal.behind-following-requires
+pub spans_from-spans-requires-clause-first : goal.spans_from-spans-requires-clause-first
 unfolding overlay_of
-behind-following-requires c = (first_taken c.args.at.rest.now _ _ c.in-Some.first c.len_utf8.result c.args.at.is_text c.chars.ensures.rest c.in-Some.ensures.steps.0 c.len_utf8.ensures.value).place
-
-pub append_spans-requires-clause-bytes : goal.append_spans-requires-clause-bytes
-unfolding overlay_of
-append_spans-requires-clause-bytes c =
-    let f = first_taken c.args.at.rest.now _ _ c.in-Some.first c.len_utf8.result c.args.at.is_text c.chars.ensures.rest c.in-Some.ensures.steps.0 c.len_utf8.ensures.value in
-    let e = ap (λ (xs : List ℕ). c.in-Some.first ∷ chars xs) c.behind-following.ensures ∙ sym f.split in
-    subst (λ (cs : List ℕ). IfSome c.spans_from-spans.result.grouped (HasBytes cs)) e c.spans_from-spans.ensures.bytes
-
-pub append_spans-requires-clause-within : goal.append_spans-requires-clause-within
-unfolding overlay_of
-append_spans-requires-clause-within c =
-    let f = first_taken c.args.at.rest.now _ _ c.in-Some.first c.len_utf8.result c.args.at.is_text c.chars.ensures.rest c.in-Some.ensures.steps.0 c.len_utf8.ensures.value in
-    let e = ap (λ (xs : List ℕ). length (c.in-Some.first ∷ chars xs)) c.behind-following.ensures in
-    let g = ap length f.split in
-    omega (arith, e, g, c.spans_from-spans.ensures.within)
+spans_from-spans-requires-clause-first c = first_taken c.args.at.rest.now _ _ c.in-Some.first _ c.args.at.is_text c.chars.ensures.rest c.in-Some.ensures.steps.0 refl
 
 pub returns-clause-appended : goal.returns-clause-appended
 unfolding overlay_of
 returns-clause-appended c =
     let o = overlay_of c.args.self.now in
-    let f = first_taken c.args.at.rest.now _ _ c.in-Some.first c.len_utf8.result c.args.at.is_text c.chars.ensures.rest c.in-Some.ensures.steps.0 c.len_utf8.ensures.value in
-    let e : chars c.args.at.rest.now ≡ c.in-Some.first ∷ chars c.behind-following.result.now = f.split ∙ ap (λ (xs : List ℕ). c.in-Some.first ∷ chars xs) (sym c.behind-following.ensures) in
+    let f = first_taken c.args.at.rest.now _ _ c.in-Some.first _ c.args.at.is_text c.chars.ensures.rest c.in-Some.ensures.steps.0 refl in
     let head : c.from.result ≡ (o.system.info c.in-Some.first).head = search rules in
     let P : List Word → Type 0 = λ ws. OnOk c.append_spans.result (GrowsByWords o ws c.args.out.now.items c.append_spans.new.out.items) in
-    let are = unknown_are o c.args.none_known c.args.at.place c.args.at.start c.in-Some.first c.from.result (chars c.args.at.rest.now) (chars c.behind-following.result.now) _ _ e head refl c.spans_from-spans.ensures.spans in
+    let are = unknown_are o c.args.none_known c.args.at.place c.args.at.start c.in-Some.first c.from.result (chars c.args.at.rest.now) (chars (drop (len_utf8 c.in-Some.first) c.args.at.rest.now)) _ _ f.split head refl c.spans_from-spans.ensures.spans in
     subst P are c.append_spans.ensures.appended
 
 pub spans_from-spans-requires-clause-system : goal.spans_from-spans-requires-clause-system
@@ -50,13 +34,21 @@ returns-in_default-clause-appended c =
     (none_there (overlay_of c.args.self.now) c.args.none_known c.args.at.place c.args.at.start c.args.at.rest.now _ c.args.at.is_text c.chars.ensures.rest c.in_default.ensures.steps.0.0)
     (none_grown (overlay_of c.args.self.now) c.args.out.now.items)
 
-pub info-info-requires : goal.info-info-requires
+pub info_near-info-requires : goal.info_near-info-requires
 unfolding overlay_of
-info-info-requires c = is_system c.args.self.now
+info_near-info-requires c = is_system c.args.self.now
 
 pub append_spans-requires-clause-there : goal.append_spans-requires-clause-there
 unfolding overlay_of
 append_spans-requires-clause-there c =
-    let first = c.info-info.ensures.first in
-    let head : c.from.result ≡ c.info-info.result.head = search rules in
+    let first = c.info_near-info.ensures.first in
+    let head : c.from.result ≡ c.info_near-info.result.head = search rules in
     omega (arith, first, head)
+
+pub spans_from-spans-requires-clause-last : goal.spans_from-spans-requires-clause-last
+unfolding overlay_of
+spans_from-spans-requires-clause-last c = record { here = c.requires.last.here; behind_blanks = c.requires.last.behind_blanks }
+
+pub returns-clause-last : goal.returns-clause-last
+unfolding overlay_of
+returns-clause-last c = c.spans_from-spans.ensures.last

@@ -11,7 +11,7 @@ use Rattle.dict_image.specs.Infos.{AreReadable}
 use Rattle.dict_image.proofs.CategoryLemmas.{count_of_image}
 use Rattle.dict_image.proofs.FittingLemmas.{first_of_image}
 use Rattle.dict_image.proofs.InfoLemmas.{readable_infos}
-use Rattle.dict_image.proofs.dict.Dict.info.Goals as goal
+use Rattle.dict_image.proofs.dict.Dict.info_near.Goals as goal
 
 pub listed_at-requires : goal.listed_at-requires
 listed_at-requires c =

@@ -3,7 +3,7 @@ use Rattle.word_lookup.specs.Overlays.{overlay_of}
 use Rattle.word_lookup.proofs.BlankRunLemmas.{no_blanks}
 use Rattle.word_lookup.proofs.DictionaryLaws.{is_system, space_of}
 use Rattle.word_lookup.proofs.PlaceLemmas.{blanks_fit, blanks_are}
-use Rattle.word_lookup.proofs.dictionaries.Dictionaries.blanks.Goals as goal
+use Rattle.word_lookup.proofs.dictionaries.Dictionaries.blanks_near.Goals as goal
 
 pub returns-then-not-begins_with_blank : goal.returns-then-not-begins_with_blank
 returns-then-not-begins_with_blank c =

@@ -1,0 +1,196 @@
+//! Runs of characters, for places of a text in turn.
+
+ghost use Rattle.std.specs.Prelude.{◌≡◌, ◌+◌, ◌<◌, ◌≤◌, ◌^◌, Some, min, length, chars, drop, IfSome, IsTrue};
+ghost use Rattle.std.proofs.Props.{props};
+ghost use Rattle.std.specs.Char.{len_utf8};
+ghost use Rattle.image_bytes.specs.ImageMeaning.{image_tables};
+ghost use Rattle.mj_model.specs.Tables.{System};
+ghost use Rattle.paths.specs.Run.{bytes_of, run};
+ghost use Rattle.paths.specs.Words.{is_place};
+ghost use Rattle.word_lookup.specs.CharacterRuns.{AreCharacterRuns, IsFirst, TellsUpTo, count_between as characters_between};
+
+use crate::run::{Run, run_up_to};
+use crate::word_start::{WordStart, behind};
+use dict_image::Dict;
+use mj_model::CharInfo;
+use paths::{CharacterRun, LastRuns};
+
+/// The run behind the first character of a place's unknown words: no more than `limit` characters are counted, and the bytes are those of
+/// fewer. `last` are the runs that were looked at last. Where places rise, each character is looked at once.
+#[inline(always)]
+pub fn run_behind(
+    system: &Dict,
+    at: WordStart<'_>,
+    first: char,
+    info: CharInfo,
+    limit: usize,
+    last: &mut LastRuns,
+) -> Run
+    requires system { (image_tables system.now).kind ≡ System }
+    requires first { IsFirst at.rest.now first (len_utf8 first) }
+    requires info { info ≡ (image_tables system.now).info first }
+    requires last { AreCharacterRuns (image_tables system.now).info at.text.now last.old }
+    ensures characters { result.characters ≡ min limit (run (image_tables system.now).info info
+        (chars (drop (len_utf8 first) at.entry.rest.now))) }
+    ensures bytes { result.characters < limit → result.bytes
+        ≡ bytes_of result.characters (chars (drop (len_utf8 first) at.entry.rest.now)) }
+    ensures within { len_utf8 first + result.bytes ≤ length at.entry.rest.now }
+    ensures last { AreCharacterRuns (image_tables system.now).info at.entry.text.now last.new }
+    ensures blanks { last.new.blanks ≡ last.old.blanks }
+{
+    if limit == 0 {
+        return Run {
+            characters: 0,
+            bytes: 0,
+        };
+    }
+    let begun = CharacterRun {
+        from: at.start,
+        to: at.start + first.len_utf8(),
+        following: 0,
+        last: info,
+        is_whole: false,
+    };
+    let text = CategorizedText {
+        system,
+        text: at.text,
+    };
+    let run = text.run_of_place(begun, at.start == at.place, limit, last);
+    Run {
+        characters: run.following.min(limit),
+        bytes: run.to - begun.to,
+    }
+}
+
+/// A text, and the system dictionary that gives its characters their categories.
+#[derive(Clone, Copy)]
+pub struct CategorizedText<'a> {
+    pub system: &'a Dict,
+    pub text: &'a str,
+    ghost fits: { length text.now < 2 ^ 64 } by { Prim.hlevel props },
+}
+
+impl CategorizedText<'_> {
+    ghost use Rattle.word_lookup.specs.TextRuns.{AreRunsOf, IsRunOf};
+
+    /// The run of a place, from its first character on, looked at so far that it tells whether `limit` characters follow. `is_here` says
+    /// that its words begin at the place itself.
+    fn run_of_place(
+        self,
+        begun: CharacterRun,
+        is_here: bool,
+        limit: usize,
+        last: &mut LastRuns,
+    ) -> CharacterRun
+        requires system { (image_tables self.system.now).kind ≡ System }
+        requires begun { IsRunOf self begun }
+        requires last { AreRunsOf self last.old }
+        ensures run { IsRunOf self.entry result }
+        ensures from { result.from ≡ begun.from }
+        ensures tells { TellsUpTo limit result }
+        ensures last { AreRunsOf self.entry last.new }
+        ensures blanks { last.new.blanks ≡ last.old.blanks }
+    {
+        if is_here {
+            self.run_in_turn(begun, limit, &mut last.here, &mut last.range)
+        } else {
+            self.run_in_turn(begun, limit, &mut last.behind_blanks, &mut last.range)
+        }
+    }
+
+    /// The same, where `last` is the run that was looked at last for such places, if one was. `range` is a guess at the range of the code
+    /// points there.
+    fn run_in_turn(
+        self,
+        begun: CharacterRun,
+        limit: usize,
+        last: &mut Option<CharacterRun>,
+        range: &mut usize,
+    ) -> CharacterRun
+        requires system { (image_tables self.system.now).kind ≡ System }
+        requires begun { IsRunOf self begun }
+        requires last { IfSome last.old (IsRunOf self) }
+        ensures run { IsRunOf self.entry result }
+        ensures from { result.from ≡ begun.from }
+        ensures tells { TellsUpTo limit result }
+        // So what was looked at is not looked at again for the places behind.
+        ensures kept { last.new ≡ Some result }
+    {
+        let seen = self.seen(begun, *last);
+        let run = self.look_up_to(limit, seen, range);
+        *last = Some(run);
+        run
+    }
+
+    /// What is known of the run of a place: where the place lies in the run that was looked at last, the rest of that one.
+    fn seen(self, begun: CharacterRun, last: Option<CharacterRun>) -> CharacterRun
+        requires begun { IsRunOf self begun }
+        requires last { IfSome last (IsRunOf self) }
+        ensures run { IsRunOf self.entry result }
+        ensures from { result.from ≡ begun.from }
+    {
+        match last {
+            Some(run) if run.contains(begun.from) => self.run_from(run, begun.from),
+            _ => begun,
+        }
+    }
+
+    /// The rest of a run from a place on.
+    fn run_from(self, run: CharacterRun, place: usize) -> CharacterRun
+        requires run { IsRunOf self run }
+        requires place { IsTrue (is_place self.text.now place) }
+        requires from { run.from ≤ place }
+        requires to { place < run.to }
+        ensures run { IsRunOf self.entry result }
+        ensures from { result.from ≡ place }
+    {
+        let stepped = count_between(self.text, run.from, place);
+        CharacterRun {
+            from: place,
+            to: run.to,
+            following: run.following - stepped,
+            last: run.last,
+            is_whole: run.is_whole,
+        }
+    }
+
+    /// A run, looked at so far that it tells whether `limit` characters follow its first one.
+    fn look_up_to(self, limit: usize, run: CharacterRun, range: &mut usize) -> CharacterRun
+        requires system { (image_tables self.system.now).kind ≡ System }
+        requires run { IsRunOf self run }
+        ensures run { IsRunOf self.entry result }
+        ensures from { result.from ≡ run.from }
+        ensures tells { TellsUpTo limit result }
+    {
+        if run.is_whole || limit <= run.following {
+            return run;
+        }
+        let left = limit - run.following;
+        let rest = behind(self.text, run.to);
+        let more = run_up_to(self.system, run.last, rest, left, range);
+        CharacterRun {
+            from: run.from,
+            to: run.to + more.bytes,
+            following: run.following + more.characters,
+            last: more.last,
+            is_whole: more.characters < left,
+        }
+    }
+}
+
+/// How many characters stand from one place to another.
+fn count_between(text: &str, from: usize, to: usize) -> usize
+    requires from { IsTrue (is_place text.now from) }
+    requires to { IsTrue (is_place text.now to) }
+    requires order { from ≤ to }
+    ensures { result ≡ characters_between text.now from to }
+{
+    count(&text[from..to])
+}
+
+/// How many characters a text has.
+fn count(text: &str) -> usize
+    ensures { result ≡ length (chars text.now) }
+{
+    text.chars().count()
+}
