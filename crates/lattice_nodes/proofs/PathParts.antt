@@ -76,7 +76,7 @@ module _ (words : ℕ → List Word) (conn : ℕ → ℕ → ℤ) (len : ℕ) (a
         cost_is = let e = r.cost_is in omega (arith, ints, e);
       }
 
-  path_through : (w : Word) (a b : ℤ) → CostsUpTo words conn w a → CostsOn words conn w b → CostsThrough words conn w (a +ℤ b)
+  pub path_through : (w : Word) (a b : ℤ) → CostsUpTo words conn w a → CostsOn words conn w b → CostsThrough words conn w (a +ℤ b)
   path_through w a b p q = (
     reverse_aux (w ∷ p.0) q.0,
     q.1,
@@ -85,7 +85,7 @@ module _ (words : ℕ → List Word) (conn : ℕ → ℕ → ℤ) (len : ℕ) (a
     (let e = cost_joined (w ∷ p.0) q.0 in let f = p.2 in let g = q.4 in omega (arith, ints, e, f, g)),
   )
 
-  parts_through : (w : Word) (c : ℤ) → CostsThrough words conn w c → (a : ℤ) × (b : ℤ) × CostsUpTo words conn w a × CostsOn words conn w b × (c ≡ a +ℤ b)
+  pub parts_through : (w : Word) (c : ℤ) → CostsThrough words conn w c → (a : ℤ) × (b : ℤ) × CostsUpTo words conn w a × CostsOn words conn w b × (c ≡ a +ℤ b)
   parts_through w c r =
       let s = parts_of r.0 r.1 w r.2.chain r.3 in
       (cost_to conn (w ∷ s.before), cost_after conn w.right s.after, (s.before, s.leads, refl), (s.after, r.1, s.goes_on, r.2.longest, refl), r.4 ∙ s.cost_is)

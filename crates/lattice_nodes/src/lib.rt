@@ -11,4 +11,4 @@ mod totals;
 
 pub use lattice_node::LatticeNode;
 pub use nodes::lattice_nodes;
-pub use on_path::nodes_on_path;
+pub use on_path::{first_at, nodes_on_path};

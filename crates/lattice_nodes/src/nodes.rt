@@ -16,7 +16,7 @@ use std::alloc::{AllocError, Global};
 
 /// The nodes of a text's lattice, by place, and those of a place in the order of its words.
 ///
-/// The time is linear in the nodes and the connections between them.
+/// The time is linear in the text's bytes, the nodes, and the connections between them; the memory in the bytes and the nodes.
 pub fn lattice_nodes<S: WordSource>(
     alloc: Global,
     source: &S,

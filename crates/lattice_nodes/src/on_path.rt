@@ -29,7 +29,7 @@ pub fn nodes_on_path(
 }
 
 /// The number of the first word, from a number on, whose place is not before this one.
-fn first_at(path: &[Word], from: usize, place: usize) -> usize
+pub fn first_at(path: &[Word], from: usize, place: usize) -> usize
     requires { from ≤ length path.now }
     ensures { IsFirstAt path.now from place result }
 {

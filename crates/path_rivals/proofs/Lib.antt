@@ -1,2 +1,15 @@
 pub mod RivalLemmas
 pub mod BoundaryLemmas
+pub mod JoinedLemmas
+pub mod BestPathLemmas
+pub mod LinkedLemmas
+pub mod BackLemmas
+pub mod OnLemmas
+pub mod ThroughLemmas
+pub mod PlaceLemmas
+pub mod HandLemmas
+pub mod FollowLemmas
+pub mod AllRivalsLemmas
+pub mod BestStepLemmas
+pub mod KeptLemmas
+pub mod TotalsLemmas

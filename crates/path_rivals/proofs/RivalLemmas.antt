@@ -1,4 +1,5 @@
--- The best rival is that of all paths: a path that cuts otherwise has a word that is a node, so the least cost through that node is no more than its own.
+-- The best rival is that of all paths: a path that cuts otherwise has a word that is a node, so the least cost through that node is no more than its
+-- own.
 use Rattle.std.proofs.Common.{◌≡◌, ℕ, zero, suc, ◌+◌, ◌<◌, List, [], ◌∷◌, Contains, length, get_or, map, Option, Some, None, inl, inr, refl, sym, ap, ◌∙◌, subst, arith, slice_get}
 use Rattle.std.specs.Prelude.{ℤ, pos, ◌≤ℤ◌}
 use Rattle.std.specs.Option.{option_map}
@@ -26,17 +27,27 @@ abbrev pub IsThere : List LatticeNode → Word → Option Rival → Type 0
 IsThere nodes w None = Unit {0}
 IsThere nodes w (Some r) = (n : LatticeNode) × (slice_get nodes r.number ≡ Some n) × TakesPlaceOf n.word w × (n.through ≡ Some r.cost)
 
+-- no node before it takes the word's place with paths of the same cost
+abbrev pub IsFirst : List LatticeNode → Word → Option Rival → Type 0
+IsFirst nodes w None = Unit {0}
+IsFirst nodes w (Some r) = (k : ℕ) (n : LatticeNode) → k < r.number → slice_get nodes k ≡ Some n → TakesPlaceOf n.word w → n.through ≡ Some r.cost → ⊥
+
 -- the best rival among the nodes before a number
 pub record SoFar (nodes : List LatticeNode) (w : Word) (i : ℕ) (best : Option Rival) : Type 0 where
   pub there : IsThere nodes w best
+  pub first : IsFirst nodes w best
   pub no_less : (k : ℕ) (n : LatticeNode) (c : ℤ) → k < i → slice_get nodes k ≡ Some n → n.through ≡ Some c → TakesPlaceOf n.word w → IsNotBelow c best
 
 pub none_yet : (nodes : List LatticeNode) (w : Word) → SoFar nodes w 0 None
-none_yet nodes w = record { there = tt; no_less = λ k n c less at through takes. absurd (omega (arith, less)) }
+none_yet nodes w = record { there = tt; first = tt; no_less = λ k n c less at through takes. absurd (omega (arith, less)) }
 
 no_more : (best : Option Rival) (cost c : ℤ) → IsBelow cost best → IsNotBelow c best → cost ≤ℤ c
 no_more None cost c below other = absurd other
 no_more (Some r) cost c below other = omega (arith, ints, below, other)
+
+not_both : (best : Option Rival) (c : ℤ) → IsBelow c best → IsNotBelow c best → ⊥
+not_both None c below other = other
+not_both (Some r) c below other = omega (arith, ints, below, other)
 
 same_cost : (n m : LatticeNode) (cost c : ℤ) → n ≡ m → n.through ≡ Some cost → m.through ≡ Some c → cost ≤ℤ c
 same_cost n m cost c same a b = let e = same_Some cost c (sym a ∙ ap (λ (x : LatticeNode). x.through) same ∙ b) in omega (arith, ints, e)
@@ -44,6 +55,7 @@ same_cost n m cost c same a b = let e = same_Some cost c (sym a ∙ ap (λ (x : 
 pub one_further : (nodes : List LatticeNode) (w : Word) (i : ℕ) (n : LatticeNode) (best after : Option Rival) → slice_get nodes i ≡ Some n → IsBetter best i n w after → SoFar nodes w i best → SoFar nodes w (i + 1) after
 one_further nodes w i n best after at (inr passed) so_far = subst (SoFar nodes w (i + 1)) (sym passed.is) (record {
   there = so_far.there;
+  first = so_far.first;
   no_less = λ k m c less at_m through takes. elim (cases_lt k i) [
     | inl low ↦ so_far.no_less k m c low at_m through takes
     | inr high ↦
@@ -53,6 +65,7 @@ one_further nodes w i n best after at (inr passed) so_far = subst (SoFar nodes w
 })
 one_further nodes w i n best after at (inl taken) so_far = subst (SoFar nodes w (i + 1)) (sym taken.is) (record {
   there = (n, at, taken.takes_place, taken.through);
+  first = λ k m less at_m takes through. not_both best taken.cost taken.below (so_far.no_less k m taken.cost less at_m through takes);
   no_less = λ k m c less at_m through takes. elim (cases_lt k i) [
     | inl low ↦ no_more best taken.cost c taken.below (so_far.no_less k m c low at_m through takes)
     | inr high ↦ same_cost n m taken.cost c (same_Some n m (sym at ∙ ap (slice_get nodes) (omega (arith, less, high)) ∙ at_m)) taken.through through
@@ -146,4 +159,5 @@ module _ (words : ℕ → List Word) (conn : ℕ → ℕ → ℤ) (len : ℕ) (n
               let b = m.no_more in
               omega (arith, ints, a, b),
         );
+        first = so_far.first;
       }

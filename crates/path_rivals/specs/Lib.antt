@@ -2,3 +2,14 @@ pub mod Crossing
 pub mod Boundaries
 pub mod Rivals
 pub mod Steps
+pub mod AllRivals
+pub mod PathSteps
+pub mod RivalPaths
+pub mod Links
+pub mod Linking
+pub mod Following
+pub mod Places
+pub mod Totals
+pub mod Held
+pub mod Kept
+pub mod Walked

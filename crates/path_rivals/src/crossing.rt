@@ -12,7 +12,7 @@ fn covers(word: &Word, place: usize) -> bool
     word.place <= place && place < word.end
 }
 
-/// Whether a word begins and ends where another one does.
+/// Whether a word, with the blanks before it, begins and ends where another one does.
 fn has_boundaries_of(word: &Word, other: &Word) -> bool
     ensures { (result ≡ true) ↔ HasBoundariesOf word.now other.now }
 {

@@ -32,7 +32,12 @@ pub fn best_rival(nodes: &[LatticeNode], word: &Word) -> Option<Rival>
 }
 
 /// The best rival so far, or a node that is better.
-fn better(best: Option<Rival>, number: usize, node: &LatticeNode, word: &Word) -> Option<Rival>
+pub(crate) fn better(
+    best: Option<Rival>,
+    number: usize,
+    node: &LatticeNode,
+    word: &Word,
+) -> Option<Rival>
     ensures { IsBetter best number node.now word.now result }
 {
     let Some(cost) = node.through else {

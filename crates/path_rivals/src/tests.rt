@@ -59,5 +59,18 @@ fn rivals_of_words(rt: HostRuntime) -> Result<(), Fail> {
         "words with its boundaries alone"
     );
     assert!(rt; best_rival(&[], &word(0, 3)) == None, "no node");
+    let equal = [
+        node(0, 6, Some(200)),
+        node(0, 9, Some(152)),
+        node(0, 12, Some(152)),
+    ];
+    assert!(rt;
+        best_rival(&equal, &word(0, 3))
+            == Some(Rival {
+                number: 1,
+                cost: 152
+            }),
+        "the first of two of one cost"
+    );
     Ok(())
 }

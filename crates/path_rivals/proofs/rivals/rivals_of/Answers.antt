@@ -1,0 +1,108 @@
+use Rattle.std.proofs.Common.{◌∙◌, List, sym, subst}
+use Rattle.lattice_nodes.specs.OnPath.{AreByPlace, AreOnPath}
+use Rattle.lattice_nodes.specs.Reaching.{AreIndexed}
+use Rattle.lattice_nodes.specs.declared.lattice_node.LatticeNode.{LatticeNode}
+use Rattle.lattice_nodes.proofs.OnPathLemmas.{path_rises}
+use Rattle.path_rivals.specs.AllRivals.{AreBestRivals}
+use Rattle.path_rivals.specs.Links.{AreAfter, AreBefore}
+use Rattle.path_rivals.specs.Places.{AreLow, AreNodesOf, words_in}
+use Rattle.path_rivals.specs.Rivals.{AreOfLattice}
+use Rattle.path_rivals.specs.declared.linked_nodes.LinkedNodes.{LinkedNodes}
+use Rattle.path_rivals.proofs.KeptLemmas.{kept, kept_rivals, of_lattice}
+use Rattle.path_rivals.proofs.PlaceLemmas.{are_low, by_place}
+use Rattle.path_rivals.proofs.rivals.rivals_of.Goals as goal
+
+pub nodes_on_path-requires : goal.nodes_on_path-requires
+nodes_on_path-requires g c =
+    let t = g.S.WordSource.says c.args.source.now in
+    let source = c.requires.source in
+    let best = c.requires.best in
+    let nodes = c.in_ok-nodes.nodes.items in
+    let are : AreNodesOf t nodes = record { words = c.in_ok-nodes.ensures.words; totals = c.in_ok-nodes.ensures.totals; through = c.in_ok-nodes.ensures.through } in
+    record {
+      nodes = subst AreByPlace (sym c.deref.ensures.value) (by_place t source nodes are);
+      path = path_rises t.words t.text_length source.source.are c.args.path.now 0 best.to best.path.chain;
+    }
+
+pub best_rivals-requires : goal.best_rivals-requires
+best_rivals-requires g c =
+    let t = g.S.WordSource.says c.args.source.now in
+    let source = c.requires.source in
+    let best = c.requires.best in
+    let nodes = c.in_ok-nodes.nodes.items in
+    let are : AreNodesOf t nodes = record { words = c.in_ok-nodes.ensures.words; totals = c.in_ok-nodes.ensures.totals; through = c.in_ok-nodes.ensures.through } in
+    record {
+      nodes = subst AreByPlace (sym c.deref-2.ensures.value) (by_place t source nodes are);
+      path = path_rises t.words t.text_length source.source.are c.args.path.now 0 best.to best.path.chain;
+    }
+
+pub firsts_of-requires : goal.firsts_of-requires
+firsts_of-requires g c =
+    let t = g.S.WordSource.says c.args.source.now in
+    let source = c.requires.source in
+    let nodes = c.in_ok-nodes.nodes.items in
+    let are : AreNodesOf t nodes = record { words = c.in_ok-nodes.ensures.words; totals = c.in_ok-nodes.ensures.totals; through = c.in_ok-nodes.ensures.through } in
+    record {
+      nodes = subst AreByPlace (sym c.deref-3.ensures.value) (by_place t source nodes are);
+      low = subst AreLow (sym c.deref-3.ensures.value) (are_low t source nodes are);
+    }
+
+pub links_before-requires-clause-nodes : goal.links_before-requires-clause-nodes
+links_before-requires-clause-nodes g c =
+    let t = g.S.WordSource.says c.args.source.now in
+    let nodes = c.in_ok-nodes.nodes.items in
+    let are : AreNodesOf t nodes = record { words = c.in_ok-nodes.ensures.words; totals = c.in_ok-nodes.ensures.totals; through = c.in_ok-nodes.ensures.through } in
+    subst (AreNodesOf t) (sym c.deref-4.ensures.value) are
+
+pub links_before-requires-clause-firsts : goal.links_before-requires-clause-firsts
+links_before-requires-clause-firsts g c =
+    let same = c.deref-3.ensures.value ∙ sym c.deref-4.ensures.value in
+    subst (AreIndexed (words_in c.deref-4.result.now)) (sym c.deref-5.ensures.value)
+    (subst (λ (ns : List LatticeNode). AreIndexed (words_in ns) c.in_ok-firsts.firsts.items) same c.in_ok-firsts.ensures)
+
+pub links_after-requires-clause-nodes : goal.links_after-requires-clause-nodes
+links_after-requires-clause-nodes g c =
+    let t = g.S.WordSource.says c.args.source.now in
+    let nodes = c.in_ok-nodes.nodes.items in
+    let are : AreNodesOf t nodes = record { words = c.in_ok-nodes.ensures.words; totals = c.in_ok-nodes.ensures.totals; through = c.in_ok-nodes.ensures.through } in
+    subst (AreNodesOf t) (sym c.deref-6.ensures.value) are
+
+pub links_after-requires-clause-firsts : goal.links_after-requires-clause-firsts
+links_after-requires-clause-firsts g c =
+    let same = c.deref-3.ensures.value ∙ sym c.deref-6.ensures.value in
+    subst (AreIndexed (words_in c.deref-6.result.now)) (sym c.deref-7.ensures.value)
+    (subst (λ (ns : List LatticeNode). AreIndexed (words_in ns) c.in_ok-firsts.firsts.items) same c.in_ok-firsts.ensures)
+
+pub invariant_of-result : goal.invariant_of-result
+invariant_of-result g c =
+    let t = g.S.WordSource.says c.args.source.now in
+    let source = c.requires.source in
+    let path = c.args.path.now in
+    let nodes = c.in_ok-nodes.nodes.items in
+    let are : AreNodesOf t nodes = record { words = c.in_ok-nodes.ensures.words; totals = c.in_ok-nodes.ensures.totals; through = c.in_ok-nodes.ensures.through } in
+    let l : LinkedNodes = record { nodes = c.in_ok-nodes.nodes; on_best = c.in_ok-on_best.on_best; before = c.in_ok-before.before; after = c.in_ok-after.after } in
+    let on = subst (λ (ns : List LatticeNode). AreOnPath ns path l.on_best.items) c.deref.ensures.value c.in_ok-on_best.ensures in
+    let before = subst (λ (ns : List LatticeNode). AreBefore t.connection ns l.before.items) c.deref-4.ensures.value c.in_ok-before.ensures in
+    let after = subst (λ (ns : List LatticeNode). AreAfter t.words t.connection ns l.after.items) c.deref-6.ensures.value c.in_ok-after.ensures in
+    let bests = c.in_ok-bests.bests.items in
+    let same = c.deref-2.ensures.value in
+    let rivals = subst (λ (ns : List LatticeNode). AreBestRivals t.words t.connection ns path bests) same
+    (c.in_ok-bests.ensures t.words t.connection t.text_length (subst (AreOfLattice t.words t.connection t.text_length) (sym same) (of_lattice t nodes source are))) in
+    kept t source path c.requires.best l are on before after bests rivals
+
+pub returns : goal.returns
+returns g c =
+    let t = g.S.WordSource.says c.args.source.now in
+    let source = c.requires.source in
+    let path = c.args.path.now in
+    let nodes = c.in_ok-nodes.nodes.items in
+    let are : AreNodesOf t nodes = record { words = c.in_ok-nodes.ensures.words; totals = c.in_ok-nodes.ensures.totals; through = c.in_ok-nodes.ensures.through } in
+    let l : LinkedNodes = record { nodes = c.in_ok-nodes.nodes; on_best = c.in_ok-on_best.on_best; before = c.in_ok-before.before; after = c.in_ok-after.after } in
+    let on = subst (λ (ns : List LatticeNode). AreOnPath ns path l.on_best.items) c.deref.ensures.value c.in_ok-on_best.ensures in
+    let before = subst (λ (ns : List LatticeNode). AreBefore t.connection ns l.before.items) c.deref-4.ensures.value c.in_ok-before.ensures in
+    let after = subst (λ (ns : List LatticeNode). AreAfter t.words t.connection ns l.after.items) c.deref-6.ensures.value c.in_ok-after.ensures in
+    let bests = c.in_ok-bests.bests.items in
+    let same = c.deref-2.ensures.value in
+    let rivals = subst (λ (ns : List LatticeNode). AreBestRivals t.words t.connection ns path bests) same
+    (c.in_ok-bests.ensures t.words t.connection t.text_length (subst (AreOfLattice t.words t.connection t.text_length) (sym same) (of_lattice t nodes source are))) in
+    kept_rivals t source path c.requires.best l are on before after bests rivals c.in_ok-steps.steps.items c.in_ok-steps.ensures
