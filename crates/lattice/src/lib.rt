@@ -1,9 +1,10 @@
-//! The best path of a text over dictionaries, and its lattice.
+//! The best path of a text over dictionaries, its lattice, and the rivals of its words.
 #![tactic(auto)]
 
 mod dictionary_text;
 mod lattice;
 mod marking;
+mod rivals;
 
 pub use dictionary_text::{best_path, lattice_of};
 pub use lattice::Lattice;
@@ -11,3 +12,4 @@ pub use lattice_nodes::{LatticeNode, nodes_on_path};
 pub use marking::{MarkedLattice, marked_lattice};
 pub use path_search::WordSource;
 pub use paths::Path;
+pub use rivals::rivals_over;

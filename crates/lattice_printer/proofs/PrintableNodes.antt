@@ -56,7 +56,7 @@ module _ (ws_at : ℕ → List Word) (conn : ℕ → ℕ → ℤ) (len : ℕ) (s
   ends_within [] to h = omega (arith, h)
   ends_within (w ∷ ws) to h = let in' = source.are.within w.place w h.1 in let e = h.0 in omega (arith, in', e)
 
-  low_path : (ws : List Word) (to : ℕ) → len ≤ 2 ^ 20 → IsChain ws_at 0 ws to → IsLow (path_cost conn ws)
+  pub low_path : (ws : List Word) (to : ℕ) → len ≤ 2 ^ 20 → IsChain ws_at 0 ws to → IsLow (path_cost conn ws)
   low_path ws to short h =
       let back = chain_reversed ws_at conn len source.are ws to h in
       let s = small_joined ws_at conn len source (reverse ws) to 0 back in
@@ -68,7 +68,7 @@ module _ (ws_at : ℕ → List Word) (conn : ℕ → ℕ → ℤ) (len : ℕ) (s
   low_through w None short h = tt
   low_through w (Some c) short h = subst IsLow (sym h.0.4) (low_path h.0.0 h.0.1 short h.0.2.chain)
 
-best_is_low : (d : Dictionaries) (text : List ℕ) (best : List Word) (total : ℤ) → IsUtf8 text → length text ≤ SENTENCE_MAX → IsBestOver (overlay_of d) text best → total ≡ cost_over (overlay_of d) best → IsLow total
+pub best_is_low : (d : Dictionaries) (text : List ℕ) (best : List Word) (total : ℤ) → IsUtf8 text → length text ≤ SENTENCE_MAX → IsBestOver (overlay_of d) text best → total ≡ cost_over (overlay_of d) best → IsLow total
 best_is_low d text best total utf8 short is e =
     let s = searchable d text utf8 short in
     subst IsLow (sym e) (low_path (words (overlay_of d) text) (overlay_of d).system.connection (length text) s.source best is.to s.short is.path.chain)

@@ -17,7 +17,7 @@ use Rattle.lattice_printer.specs.declared.format.LatticeFormat.{LatticeFormat}
 use Rattle.lattice_printer.specs.declared.marked_node.MarkedNode.{MarkedNode}
 use Rattle.lattice_printer.specs.declared.sheet.LineLattice.{LineLattice}
 
-three : (old first second new a b c : List ℕ) → first ≡ old ++ a → second ≡ first ++ b → new ≡ second ++ c → new ≡ old ++ (a ++ (b ++ c))
+pub three : (old first second new a b c : List ℕ) → first ≡ old ++ a → second ≡ first ++ b → new ≡ second ++ c → new ≡ old ++ (a ++ (b ++ c))
 three old first second new a b c one two more =
     more ∙ ap (λ (text : List ℕ). text ++ c) (two ∙ ap (λ (text : List ℕ). text ++ b) one ∙ append_assoc old a b) ∙ append_assoc old (a ++ b) c ∙ ap (λ (text : List ℕ). old ++ text) (append_assoc a b c)
 

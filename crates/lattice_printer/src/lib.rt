@@ -11,6 +11,9 @@ mod run;
 mod sheet;
 mod tsv;
 
+pub use escapes::Escape;
 pub use format::{LatticeForm, LatticeFormat};
+pub use piece::{Piece, append_pieces};
 pub use printer::{LatticeMemory, LatticePrinter};
 pub use run::print_lattices;
+pub use tsv::{TAB, cost_or_none};

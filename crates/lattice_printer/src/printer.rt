@@ -39,7 +39,8 @@ impl LatticeMemory {
     }
 }
 
-/// Dictionaries that lines are cut by, and how their lattices are printed. Each lattice takes memory of its own, linear in its words.
+/// Dictionaries that lines are cut by, and how their lattices are printed. Each lattice takes memory of its own, linear in
+/// its words and the line's bytes.
 #[derive(Drop)]
 pub struct LatticePrinter<'d> {
     pub alloc: Global,

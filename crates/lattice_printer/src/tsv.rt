@@ -11,8 +11,8 @@ use crate::piece::{Piece, append_pieces};
 use mj_model::Origin;
 use std::alloc::AllocError;
 
-/// What stands between two cells.
-const TAB: Piece<'static> = Piece::Bytes(b"\t");
+/// What stands between two cells of a table.
+pub const TAB: Piece<'static> = Piece::Bytes(b"\t");
 
 /// The line above the rows.
 pub fn tsv_heading() -> &'static [u8]

@@ -1,0 +1,4 @@
+pub mod LineWords
+pub mod EosLemmas
+pub mod ShownSteps
+pub mod ShownRows

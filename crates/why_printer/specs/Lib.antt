@@ -1,0 +1,4 @@
+pub mod Rows
+pub mod CutLines
+pub mod Sheets
+pub mod PrintedWhy

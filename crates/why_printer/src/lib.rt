@@ -1,0 +1,12 @@
+//! Lines printed with why they were cut so: each word of the best path with what it costs there, and its best rival.
+#![tactic(auto)]
+
+mod cut_line;
+mod printer;
+mod rivals;
+mod rows;
+mod run;
+mod sheet;
+
+pub use printer::WhyPrinter;
+pub use run::print_why;

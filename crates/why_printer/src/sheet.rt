@@ -1,0 +1,94 @@
+//! Why a line was cut so, as it is printed.
+
+ghost use Rattle.std.specs.Prelude.{◌≡◌, ◌++◌, Some, slice_get, take, vec_len, OnOk};
+ghost use Rattle.mj_model.specs.Lists.{GrowsBy};
+ghost use Rattle.path_rivals.specs.Kept.{AreRivalsIn};
+ghost use Rattle.why_printer.specs.CutLines.{IsCut, best_of_line, overlay_of_line, steps_of_line, text_of_line};
+ghost use Rattle.why_printer.specs.Rows.{why_heading};
+ghost use Rattle.why_printer.specs.Sheets.{IsSheet, ShowsStep, ShowsSteps, end_of};
+
+use crate::cut_line::CutLine;
+use crate::rivals::append_if_some;
+use crate::rows::{append_eos, append_step, why_heading};
+use lattice_printer::{Piece, append_pieces};
+use path_rivals::{Rivals, Step};
+use std::alloc::{AllocError, Global};
+
+/// Appends why a line was cut so, by the rivals of its words. On an error a part of it may stand in `out`.
+pub fn append_sheet(
+    alloc: Global,
+    line: &CutLine<'_>,
+    rivals: &Rivals,
+    out: &mut Vec<u8>,
+) -> Result<(), AllocError>
+    requires line { IsCut line.now }
+    requires rivals { AreRivalsIn (text_of_line line.now) (best_of_line line.now) rivals.now }
+    ensures appended { OnOk result (GrowsBy (IsSheet (overlay_of_line line.now) line.now.text.now
+        (best_of_line line.now)) out.old.items out.new.items) }
+    ensures kept { take (vec_len out.old) out.new.items ≡ out.old.items }
+{
+    append_heading(out)?;
+    append_words(alloc, line, rivals, out)?;
+    append_end(line, out)
+}
+
+/// Appends the line above the rows. On an error a part of it may stand in `out`.
+fn append_heading(out: &mut Vec<u8>) -> Result<(), AllocError>
+    ensures appended { OnOk result (out.new.items ≡ out.old.items ++ why_heading) }
+    ensures kept { take (vec_len out.old) out.new.items ≡ out.old.items }
+{
+    out.extend_from_slice(why_heading())
+}
+
+/// Appends the words of the best path, each with its rival. On an error a part of them may stand in `out`.
+fn append_words(
+    alloc: Global,
+    line: &CutLine<'_>,
+    rivals: &Rivals,
+    out: &mut Vec<u8>,
+) -> Result<(), AllocError>
+    requires line { IsCut line.now }
+    requires rivals { AreRivalsIn (text_of_line line.now) (best_of_line line.now) rivals.now }
+    ensures appended { OnOk result (GrowsBy (ShowsSteps (ShowsStep (overlay_of_line line.now)
+        line.now.text.now (best_of_line line.now)) (steps_of_line line.now))
+        out.old.items out.new.items) }
+    ensures kept { take (vec_len out.old) out.new.items ≡ out.old.items }
+{
+    let steps = rivals.steps();
+    for number in 0..steps.len() {
+        append_word(alloc, line, rivals, number, &steps[number], out)?;
+    }
+    Ok(())
+}
+
+/// Appends the word of the best path with this number, and its rival. On an error a part of them may stand in `out`.
+fn append_word(
+    alloc: Global,
+    line: &CutLine<'_>,
+    rivals: &Rivals,
+    number: usize,
+    step: &Step,
+    out: &mut Vec<u8>,
+) -> Result<(), AllocError>
+    requires line { IsCut line.now }
+    requires rivals { AreRivalsIn (text_of_line line.now) (best_of_line line.now) rivals.now }
+    requires step { slice_get (steps_of_line line.now) number ≡ Some step.now }
+    ensures appended { OnOk result (GrowsBy (ShowsStep (overlay_of_line line.now)
+        line.now.text.now (best_of_line line.now) step.now) out.old.items out.new.items) }
+    ensures kept { take (vec_len out.old) out.new.items ≡ out.old.items }
+{
+    append_step(line, None, step, out)?;
+    let rival = rivals.rival(alloc, number)?;
+    append_if_some(line, &rival, out)
+}
+
+/// Appends the row of EOS and an empty line. On an error a part of them may stand in `out`.
+fn append_end(line: &CutLine<'_>, out: &mut Vec<u8>) -> Result<(), AllocError>
+    requires { IsCut line.now }
+    ensures appended { OnOk result (out.new.items ≡ out.old.items
+        ++ end_of (overlay_of_line line.now) line.now.text.now (best_of_line line.now)) }
+    ensures kept { take (vec_len out.old) out.new.items ≡ out.old.items }
+{
+    append_eos(line, out)?;
+    append_pieces(&[Piece::Bytes(b"\n")], out)
+}
