@@ -47,8 +47,8 @@ typedef struct kumquatsieve_image {
 } kumquatsieve_image;
 
 /* The bytes of an image that come in pieces, as from a file that is read, so that the image stands in memory once. Begin with
-   KUMQUATSIEVE_NO_BYTES, or what kumquatsieve_no_bytes answers. The fields are the library's. A buffer is used by one call at a time, and one that has
-   bytes is not copied. */
+   KUMQUATSIEVE_NO_BYTES, or what kumquatsieve_no_bytes answers. The fields are the library's. A buffer is used by one call at a time, and one to which
+   something was appended is not copied. */
 typedef struct kumquatsieve_buffer {
     bool held;
     void *at;
@@ -146,8 +146,8 @@ uint32_t kumquatsieve_add_user(kumquatsieve_cutter *cutter, const uint8_t *image
 uint32_t kumquatsieve_load_by(kumquatsieve_cutter *cutter, const uint8_t *image, size_t length, bool skip_digest, uint64_t *number);
 uint32_t kumquatsieve_add_user_by(kumquatsieve_cutter *cutter, const uint8_t *image, size_t length, bool skip_digest, uint64_t *number);
 
-/* Appends a piece to the bytes of a buffer. Where it has none yet, room for so many bytes is taken first: the length of the file, so that no byte is
-   moved. It answers 0, or 1 for out of memory; then the buffer is as it was. */
+/* Appends a piece to the bytes of a buffer. The first piece takes room for so many bytes, as for the length of the file, so that no byte is moved; later
+   ones don't look at room. A piece for which there is room is not refused. It answers 0, or 1 for out of memory; then the buffer is as it was. */
 uint32_t kumquatsieve_buffer_append(kumquatsieve_buffer *buffer, size_t room, const uint8_t *piece, size_t length);
 
 /* As kumquatsieve_load_by and kumquatsieve_add_user_by, with the image whose bytes a buffer has. They are taken and not copied, and the buffer is
@@ -155,7 +155,7 @@ uint32_t kumquatsieve_buffer_append(kumquatsieve_buffer *buffer, size_t room, co
 uint32_t kumquatsieve_load_buffer(kumquatsieve_cutter *cutter, kumquatsieve_buffer *buffer, bool skip_digest, uint64_t *number);
 uint32_t kumquatsieve_add_user_buffer(kumquatsieve_cutter *cutter, kumquatsieve_buffer *buffer, bool skip_digest, uint64_t *number);
 
-/* Gives back the bytes of a buffer, which is empty then. Of an empty one nothing. */
+/* Gives back what a buffer holds, which is empty then. Of an empty one nothing. */
 void kumquatsieve_buffer_free(kumquatsieve_buffer *buffer);
 
 /* Fills an empty cutter with the dictionaries, the format and the grouping of another one. No dictionary is copied. While two cutters share their
@@ -235,8 +235,8 @@ uint32_t kumquatsieve_copy_feature(
 
 /* Writes the nodes of the lattice of the line that was cut last from number `first` on, as far as there is room: by place, and those of a place in
    the order of its words, by which ties are decided. *count is the number of all nodes. The lattice is made for the call and not kept: the time is
-   linear in its nodes and in the connections between them, and the memory in its nodes, whatever room there is. Who doesn't know the count guesses
-   the room, and calls again where *count is more. */
+   linear in its nodes, in the connections between them and in the line's bytes, and the memory in its nodes and these bytes, whatever room there is.
+   Who doesn't know the count guesses the room, and calls again where *count is more. */
 uint32_t kumquatsieve_nodes(
     kumquatsieve_cutter *cutter, size_t first, kumquatsieve_node *nodes, size_t room, size_t *count
 );

@@ -117,13 +117,13 @@ static void run_over_a_buffer(file system, file user) {
     kumquatsieve_cutter cutter = KUMQUATSIEVE_EMPTY;
     kumquatsieve_buffer buffer = KUMQUATSIEVE_NO_BYTES;
     size_t half = system.length / 2;
-    while (again(kumquatsieve_buffer_append(&buffer, half, system.bytes, half))) continue;
+    while (again(kumquatsieve_buffer_append(&buffer, half, system.bytes, half))) CHECK(!buffer.held);
     while (again(kumquatsieve_buffer_append(&buffer, half, system.bytes + half, system.length - half))) CHECK(buffer.held);
     while (again(kumquatsieve_load_buffer(&cutter, &buffer, false, NULL))) {
         CHECK(!cutter.held && !buffer.held);
         CHECK(kumquatsieve_buffer_append(&buffer, system.length, system.bytes, system.length) == KUMQUATSIEVE_OK);
     }
-    while (again(kumquatsieve_buffer_append(&buffer, 0, user.bytes, user.length))) continue;
+    while (again(kumquatsieve_buffer_append(&buffer, 0, user.bytes, user.length))) CHECK(!buffer.held);
     while (again(kumquatsieve_add_user_buffer(&cutter, &buffer, false, NULL))) {
         CHECK(cutter.held && !buffer.held);
         CHECK(kumquatsieve_buffer_append(&buffer, user.length, user.bytes, user.length) == KUMQUATSIEVE_OK);

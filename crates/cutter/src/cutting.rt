@@ -1,6 +1,6 @@
 //! Lines and texts cut into words, and what is told of them.
 
-ghost use Rattle.std.specs.Prelude.{◌≡◌, ◌≤◌, ◌++◌, Some, IfOk, IfErr, OnOk, OnErr};
+ghost use Rattle.std.specs.Prelude.{◌≡◌, ◌+◌, ◌<◌, ◌≤◌, ◌++◌, length, vec_capacity, vec_len, Some, IfOk, IfErr, OnOk, OnErr};
 ghost use Rattle.cutter.specs.Cutters.{GrowsByFeature, HasCategory, IsCutOver, IsLatticeOfCut, OfCut, ShowsCut, overlay_held};
 ghost use Rattle.cutter.specs.Faults.{IsFeatureRefusal, IsLineRefusal, IsNothingCut, IsOneLine, IsPrintRefusal, IsTextRefusal, IsWordRefusal};
 ghost use Rattle.cutter.specs.Kept.{cut_lent};
@@ -132,11 +132,14 @@ impl Cutter {
         Ok(())
     }
 
-    /// Appends the feature of an entry of its dictionaries, which is empty where none has this number.
+    /// Appends the feature of an entry of its dictionaries, which is empty where none has this number. Memory is refused only where
+    /// `out` has no room for it.
     pub fn append_entry_feature(&self, origin: Origin, out: &mut Vec<u8>) -> Result<(), CutFault>
         ensures appended { OnOk result
             (out.new.items ≡ out.old.items ++ feature_of (overlay_held self.now) origin) }
         ensures refused { IfErr result (λ fault. fault ≡ Memory) }
+        ensures full { OnErr result (vec_capacity out.old
+            < vec_len out.old + length (feature_of (overlay_held self.now) origin)) }
         ensures kept { OnErr result (out.new.items ≡ out.old.items) }
     {
         let dictionaries = self.dictionaries.with_grouping(self.grouping);

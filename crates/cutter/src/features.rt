@@ -1,6 +1,6 @@
 //! Features of all words of a path.
 
-ghost use Rattle.std.specs.Prelude.{◌≡◌, ◌++◌, take, vec_len, OnOk, OnErr};
+ghost use Rattle.std.specs.Prelude.{◌≡◌, ◌+◌, ◌<◌, ◌++◌, length, take, vec_capacity, vec_len, OnOk, OnErr};
 ghost use Rattle.cutter.specs.Reaching.{features_of};
 ghost use Rattle.mj_model.specs.Printed.{feature_of};
 ghost use Rattle.word_lookup.specs.Overlays.{overlay_of};
@@ -43,7 +43,7 @@ fn append_each(
     Ok(())
 }
 
-/// Appends the feature of an entry. On an error `out` is as before.
+/// Appends the feature of an entry. On an error `out` is as before, and has no room for it.
 pub fn append_feature_of(
     dictionaries: &Dictionaries<'_>,
     origin: Origin,
@@ -52,6 +52,8 @@ pub fn append_feature_of(
     ensures appended { OnOk result
         (out.new.items ≡ out.old.items ++ feature_of (overlay_of dictionaries.now) origin) }
     ensures kept { OnErr result (out.new.items ≡ out.old.items) }
+    ensures full { OnErr result (vec_capacity out.old
+        < vec_len out.old + length (feature_of (overlay_of dictionaries.now) origin)) }
 {
     let word = word_of(origin);
     out.extend_from_slice(dictionaries.feature(&word).as_bytes())

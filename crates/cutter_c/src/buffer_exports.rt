@@ -1,8 +1,8 @@
 //! What C calls to load an image that comes in pieces, so that it stands in memory once.
 
-ghost use Rattle.std.specs.Prelude.{◌≡◌, ◌≢◌, ◌++◌, []};
+ghost use Rattle.std.specs.Prelude.{◌≡◌, ◌≢◌, ◌+◌, ◌<◌, ◌≤◌, ◌++◌, length, IsSome};
 ghost use Rattle.cutter.specs.Faults.{IsLoadRefusal};
-ghost use Rattle.cutter_c.specs.Buffers.{gathered};
+ghost use Rattle.cutter_c.specs.Buffers.{IsVacant, gathered, room_in};
 ghost use Rattle.cutter_c.specs.Calls.{IsExtended, IsLoadedFrom, IsUserFault};
 ghost use Rattle.cutter_c.specs.Codes.{memory};
 ghost use Rattle.cutter_c.specs.Handles.{Fills, IsFillRefusal, IsRefusal, Moves, TellsNumbered, cutter_in};
@@ -16,8 +16,8 @@ use crate::loading;
 use cutter::DigestTest;
 use std::alloc::Global;
 
-/// Appends a piece to the bytes of a buffer. Where it has none yet, room for so many is taken first, so that no byte is moved until
-/// there are more.
+/// Appends a piece to the bytes of a buffer. Into one with nothing in it room for so many is taken first, so that no byte is moved
+/// until there are more.
 #[unsafe(no_mangle)]
 pub extern "C" fn kumquatsieve_buffer_append(
     alloc: Global,
@@ -26,8 +26,15 @@ pub extern "C" fn kumquatsieve_buffer_append(
     piece: &[u8],
 ) -> u32
     ensures appended { (result ≡ 0) → gathered buffer.new ≡ gathered buffer.old ++ piece.now }
+    // The room is there from the first piece on.
+    ensures room { (result ≡ 0) → IsVacant buffer.old → room ≤ room_in buffer.new }
+    ensures lasting { room_in buffer.old ≤ room_in buffer.new }
+    // A piece for which a buffer has room is not refused.
     ensures refused { (result ≢ 0) → result ≡ memory }
+    ensures full { (result ≢ 0) → IsSome buffer.old.slot.value
+        → room_in buffer.old < length (gathered buffer.old) + length piece.now }
     ensures kept { (result ≢ 0) → gathered buffer.new ≡ gathered buffer.old }
+    ensures vacant { (result ≢ 0) → IsVacant buffer.old → IsVacant buffer.new }
 {
     match buffer.append(alloc, room, piece) {
         Ok(()) => OK,
@@ -53,7 +60,7 @@ pub extern "C" fn kumquatsieve_load_buffer(
         number.old number.new result }
     ensures kept { (result ≢ 0) → cutter_in cutter.new ≡ cutter_in cutter.old }
     ensures unset { OnlyFaultsSet result number.old number.new }
-    ensures spent { gathered buffer.new ≡ [] }
+    ensures spent { IsVacant buffer.new }
 {
     let image = buffer.take_bytes(alloc);
     let digest = DigestTest::skipped_if(skip_digest);
@@ -77,7 +84,7 @@ pub extern "C" fn kumquatsieve_add_user_buffer(
         number.old number.new result }
     ensures kept { (result ≢ 0) → cutter_in cutter.new ≡ cutter_in cutter.old }
     ensures unset { OnlyFaultsSet result number.old number.new }
-    ensures spent { gathered buffer.new ≡ [] }
+    ensures spent { IsVacant buffer.new }
 {
     let image = buffer.take_bytes(alloc);
     let digest = DigestTest::skipped_if(skip_digest);
@@ -88,7 +95,7 @@ pub extern "C" fn kumquatsieve_add_user_buffer(
 /// Gives back the bytes of a buffer, which is empty then.
 #[unsafe(no_mangle)]
 pub extern "C" fn kumquatsieve_buffer_free(alloc: Global, buffer: &mut BufferHandle)
-    ensures { gathered buffer.new ≡ [] }
+    ensures { IsVacant buffer.new }
 {
     buffer.take(alloc);
 }
