@@ -1,7 +1,8 @@
 // One call of the C library that fails, to be preloaded (LD_PRELOAD) by `tools/runs` and `tools/cut-lines`.
 //
 //     FAIL=rename       the call that fails: rename, fsync, fchmod, write to a file, as on a full device, read of standard input, or pthread_create;
-//                       or `interrupted write`: the first write to a file, as a signal interrupts it
+//                       or `interrupted write`: the first write to a file, as a signal interrupts it; or `slow read`, which fails in nothing: the
+//                       second read of files takes longer than two seconds
 //     FAIL_AFTER=N      how many calls of read or pthread_create don't fail before; none where it isn't given
 #define _GNU_SOURCE
 #include <dlfcn.h>
@@ -13,6 +14,7 @@
 #include <string.h>
 #include <sys/stat.h>
 #include <sys/syscall.h>
+#include <time.h>
 #include <unistd.h>
 
 // Whether the call of this name fails, and with which error.
@@ -57,7 +59,15 @@ static int fails_now(const char *name, int error) {
     return fails(name, error) && atomic_fetch_add(&called, 1) >= (after ? atol(after) : 0);
 }
 
+// Waits before the second read of files, where that is asked for.
+static void may_wait(int file) {
+    static atomic_int reads;
+    static const struct timespec pause = {.tv_sec = 2, .tv_nsec = 200000000};
+    if (fails("slow read", 0) && is_file(file) && atomic_fetch_add(&reads, 1) == 1) nanosleep(&pause, NULL);
+}
+
 ssize_t read(int file, void *bytes, size_t count) {
+    may_wait(file);
     return file == STDIN_FILENO && fails_now("read", EIO) ? -1 : syscall(SYS_read, file, bytes, count);
 }
 

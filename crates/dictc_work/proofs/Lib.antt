@@ -1,5 +1,5 @@
 pub mod FileLineLemmas
-pub mod FirstBytes
 pub mod ListingLemmas
 pub mod PairLemmas
+pub mod SurfaceLemmas
 pub mod TemplateLemmas

@@ -2,8 +2,8 @@
 
 use crate::beside::Beside;
 use crate::file_line::FileLine;
-use mj_model::{FIRST_LEXICON_FILE, NO_FILE, SourceFault, SourceKind};
-use programs::{Beginning, EarlyEnd, Fault, WholeFile, lexicon_path, texts, write_whole};
+use mj_model::{FIRST_LEXICON_FILE, NO_FILE, NamedFault, SourceFault, SourceKind};
+use programs::{Beginning, EarlyEnd, Fault, Narrator, WholeFile, lexicon_path, texts, write_whole};
 use std::alloc::{AllocError, Global};
 use std::string::String;
 
@@ -21,29 +21,57 @@ pub(crate) fn is_of_a_line(fault: SourceFault) -> bool {
 }
 
 /// Tells faults from the first one on, up to 20: each further one is the first fault where the lines of those before it are empty. One that
-/// is of no line is the last.
+/// is of no line is the last. Then it is said, once of each code, what is said of such a fault alone.
 pub(crate) fn tell_faults(
+    rt: &HostRuntime,
+    narrator: &Narrator<'_>,
+    beside: Beside<'_>,
+    lexicons: &mut [WholeFile],
+    first: SourceFault,
+) {
+    let mut told = Vec::new(rt.alloc());
+    let program = narrator.program();
+    tell_each(rt, program, beside, lexicons, first, &mut told);
+    for fault in &told {
+        narrator.say_why(fault);
+    }
+    for fault in &told {
+        narrator.say_explanation(fault);
+    }
+}
+
+/// Tells the faults, and keeps the first one of each code.
+fn tell_each(
     rt: &HostRuntime,
     program: &str,
     beside: Beside<'_>,
     lexicons: &mut [WholeFile],
     first: SourceFault,
+    told: &mut Vec<Fault>,
 ) {
     let mut fault = first;
     for _told in 1..FAULTS_MAX {
-        tell(rt, program, lexicons, fault);
+        keep_code(told, tell(rt, program, lexicons, fault));
         match fault_without(rt.alloc(), beside, lexicons, fault) {
             Ok(Some(next)) => fault = next,
             Ok(None) => return,
             Err(AllocError) => {
                 Fault::Memory.tell(rt, program);
+                keep_code(told, Fault::Memory);
                 return;
             }
         }
     }
-    tell(rt, program, lexicons, fault);
+    keep_code(told, tell(rt, program, lexicons, fault));
     if is_of_a_line(fault) {
         tell_more(rt, program);
+    }
+}
+
+/// Adds a fault to those of other codes. One for which memory is refused is left out: it was told.
+fn keep_code(told: &mut Vec<Fault>, fault: Fault) {
+    if told.iter().all(|kept| kept.code() != fault.code()) {
+        let _ = told.push(fault);
     }
 }
 
@@ -59,14 +87,16 @@ fn tell_more(rt: &HostRuntime, program: &str) {
 }
 
 /// Tells a fault, and what its line says.
-fn tell(rt: &HostRuntime, program: &str, lexicons: &[WholeFile], fault: SourceFault) {
+fn tell(rt: &HostRuntime, program: &str, lexicons: &[WholeFile], fault: SourceFault) -> Fault {
     let path = lexicon_path(lexicons, fault.file);
-    Fault::of_source(rt.alloc(), path, fault).tell(rt, program);
+    let told = Fault::of_source(rt.alloc(), path, fault);
+    told.tell(rt, program);
     if let Some(cut) = line_of(lexicons, fault) {
         if let Ok(line) = told_line(rt.alloc(), cut.line) {
             let _ = write_whole(&mut rt.stderr(), line.as_bytes());
         }
     }
+    told
 }
 
 /// The line of a fault among those of the lexicons; None where it is of no line.

@@ -7,6 +7,7 @@ use crate::no_image::NoImage;
 use crate::reporting::tell_counts;
 use crate::shares::say_shares;
 use crate::step_teller::StepTeller;
+use crate::surfaces::say_longest;
 use command_lines::dictc::{Base, Options};
 use dict_compile::{
     CompileUserFault, Compiled, OtherSources, compile_others_watched, compile_user_watched,
@@ -125,7 +126,7 @@ fn compile_sources(
         chars: &files.chars.bytes,
         unk: &files.unk.bytes,
     };
-    tell_faults(rt, PROGRAM, beside, &mut files.lexicons, fault);
+    tell_faults(rt, narrator, beside, &mut files.lexicons, fault);
     Err(NoImage::Told)
 }
 
@@ -143,7 +144,9 @@ fn compile_others(
         lexicons: &lexicons,
     };
     let mut teller = StepTeller::new(narrator, &files.lexicons);
-    compile_others_watched(rt.alloc(), matrix, &others, &mut teller)
+    let compiled = compile_others_watched(rt.alloc(), matrix, &others, &mut teller)?;
+    say_longest(rt.alloc(), narrator, &files.lexicons, &lexicons);
+    Ok(compiled)
 }
 
 /// Compiles a user dictionary for the system dictionary that was loaded from a path.
@@ -169,7 +172,7 @@ fn compile_user_files(
         let path = lexicon_path(&files, fault.file);
         return Err(NoImage::Fault(Fault::of_source(rt.alloc(), path, fault)));
     }
-    tell_faults(rt, PROGRAM, Beside::System(system), &mut files, fault);
+    tell_faults(rt, narrator, Beside::System(system), &mut files, fault);
     Err(NoImage::Told)
 }
 
@@ -182,5 +185,7 @@ fn compile_lexicons(
 ) -> Result<Compiled, CompileUserFault> {
     let texts = texts(rt.alloc(), files).map_err(SourceFault::from)?;
     let mut teller = StepTeller::new(narrator, files);
-    compile_user_watched(rt.alloc(), system, &texts, &mut teller)
+    let compiled = compile_user_watched(rt.alloc(), system, &texts, &mut teller)?;
+    say_longest(rt.alloc(), narrator, files, &texts);
+    Ok(compiled)
 }

@@ -14,12 +14,14 @@ mod no_image;
 mod reporting;
 mod shares;
 mod step_teller;
+mod surfaces;
 
 pub use asked::do_asked;
 pub use compiling::{compile_image, compile_told};
 pub use ids::{PairRow, Template, rows_of_pairs, text_of};
 pub use inputs::options_given;
-pub use matrix_file::{MatrixFile, ReadProgress};
+pub use matrix_file::MatrixFile;
 pub use missing_image::say_more;
 pub use no_image::NoImage;
 pub use reporting::tell_counts;
+pub use surfaces::{Surface, longest_surface};

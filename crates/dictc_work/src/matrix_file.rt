@@ -11,7 +11,7 @@ ghost use Rattle.mj_model.specs.FirstFault.{IsRefusal};
 
 use matrix_def::{Matrix, MatrixReader};
 use mj_model::{READS_MAX, SourceFault};
-use programs::{Doing, Fault, Pieces, Progress, read_into};
+use programs::{Fault, Pieces, Progress, ReadProgress, read_into};
 use std::alloc::{AllocError, Global};
 use std::fs;
 use std::io::Read;
@@ -47,14 +47,6 @@ impl Pieces for MatrixFile {
     }
 }
 
-/// Who is told how much of a file was read: the path of the file, and its length, or 0 where that is not known.
-#[derive(Clone, Copy)]
-pub struct ReadProgress<'a> {
-    pub progress: &'a Progress<'a>,
-    pub path: &'a str,
-    pub all: u64,
-}
-
 /// A file that is read while it is told how far that is.
 #[derive(Drop)]
 struct ToldFile<'a> {
@@ -68,11 +60,7 @@ impl<'a> Pieces for ToldFile<'a> {
     fn with(self, piece: &[u8]) -> Result<ToldFile<'a>, AllocError> {
         let ToldFile { file, reading } = self;
         let file = file.with(piece)?;
-        reading.progress.tell(Doing::Reading {
-            path: reading.path,
-            bytes: file.bytes as u64,
-            all: reading.all,
-        });
+        reading.tell(file.bytes as u64);
         Ok(ToldFile { file, reading })
     }
 }

@@ -6,12 +6,12 @@ ghost use Rattle.image_bytes.specs.ImageFaults.{IsImageFault, IsWellFormed};
 ghost use Rattle.image_bytes.specs.declared.digest_test.DigestTest.TheVariants.{Skipped};
 ghost use Rattle.mj_model.specs.declared.image_fault.ImageFault.TheVariants.{Memory};
 
-use dict_image::load_without_digest;
+use dict_image::{DigestTest, load_without_digest};
 use image_bytes::{HEADER_LENGTH, read_header};
 use mj_model::{ImageFault, NamedFault};
 use programs::{
-    Fault, Narrator, OneLine, Stage, Surroundings, WholeFile, image_at, image_in, image_names,
-    image_row, write_whole,
+    Fault, ImageFile, Narrator, OneLine, Progress, Stage, Surroundings, image_at, image_in,
+    image_names, image_row, write_whole,
 };
 use std::alloc::{AllocError, Global};
 use std::fs;
@@ -74,8 +74,11 @@ fn entries_told(
 
 /// How many entries the image at a path has, without its unknown words.
 fn entries_at(rt: &HostRuntime, path: &str) -> Result<u32, Fault> {
-    let WholeFile { path, bytes } = image_at(rt, path)?;
-    entries_of(rt.alloc(), bytes).map_err(|fault| Fault::Image(path, fault))
+    let progress = Progress::new(rt);
+    let read = image_at(rt, path, DigestTest::Skipped, &progress);
+    progress.erase();
+    let ImageFile { path, image } = read?;
+    entries_of(rt.alloc(), image.bytes).map_err(|fault| Fault::Image(path, fault))
 }
 
 /// The same of an image's bytes, where they are well formed.

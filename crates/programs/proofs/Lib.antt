@@ -1,4 +1,6 @@
+pub mod FirstBytes
 pub mod HomeLemmas
+mod HashLemmas
 mod ImageHeadLemmas
 mod ReadOn
 mod Results

@@ -1,5 +1,5 @@
 -- What a reader gave in two steps, and in all.
-use Rattle.std.proofs.Common.{◌≡◌, ℕ, ◌+◌, ◌≤◌, List, [], ◌++◌, length, subst, sym, ap, ◌∙◌, append_assoc, arith, Vec, Global}
+use Rattle.std.proofs.Common.{◌≡◌, ℕ, ◌+◌, ◌≤◌, ◌<◌, List, [], ◌++◌, length, subst, sym, ap, ◌∙◌, append_assoc, arith, Vec, Global}
 use Rattle.std.specs.Prelude.{Option, IfSome}
 use Rattle.std.proofs.lemmas.List.{length-append}
 use Rattle.std.specs.Io.KnownBytes.{Consumes, IsAtEnd}
@@ -30,10 +30,12 @@ pub consumed : (a b : Option (List ℕ)) (now : List ℕ) → IsReadOn [] a b no
 consumed a b now read = subst (Consumes a b) (sym read.2) read.1
 
 -- what was read behind nothing, where there is more
-pub begun : (most reads left : ℕ) (earlier : List ℕ) (a b : Option (List ℕ)) (front : Front) (bytes : Vec ℕ Global) → earlier ≡ [] → front ≡ More bytes left
-    → IsFront most reads earlier a b front → IsReadOn [] a b bytes.items × (reads ≤ length bytes.items + left)
-begun most reads left earlier a b front bytes none is read =
-    let more = subst (IsFront most reads earlier a b) is read in
-    let few = more.2 in
-    let nothing = ap length none in
-    (subst (λ (e : List ℕ). IsReadOn e a b bytes.items) none more.0, omega (arith, few, nothing))
+pub begun : (most reads left : ℕ) (a b : Option (List ℕ)) (front : Front (Vec ℕ Global)) (bytes : Vec ℕ Global) → front ≡ More bytes left
+    → IsFront (λ (v : Vec ℕ Global) (now : List ℕ). v.items ≡ now) most reads [] a b front
+    → IsReadOn [] a b bytes.items × (most < length bytes.items) × (reads ≤ length bytes.items + left)
+begun most reads left a b front bytes is read =
+    let more = subst (IsFront (λ (v : Vec ℕ Global) (now : List ℕ). v.items ≡ now) most reads [] a b) is read in
+    let long = ap length more.1 in
+    let much = more.3 in
+    let few = more.4 in
+    (subst (λ (now : List ℕ). IsReadOn [] a b now) (sym more.1) more.2, omega (arith, long, much), omega (arith, long, few))

@@ -1,5 +1,9 @@
 -- What is known of an answer, whichever it is.
-use Rattle.std.specs.Prelude.{IfErr, IfOk, Result, Ok, Err}
+use Rattle.std.proofs.Common.{◌≡◌, ap}
+use Rattle.std.specs.Prelude.{IfErr, IfOk, OnOk, Result, Ok, Err}
+use Rattle.programs.specs.declared.image_reading.ImageReadFault.{ImageReadFault}
+use Rattle.programs.specs.declared.image_reading.ImageReadFault.TheVariants.{Read, Image}
+use Rattle.programs.specs.declared.reading.ReadFault.{ReadFault}
 
 pub if_ok_both : {X E : Type 0} (P Q R : X → Type 0) (answer : Result X E) → ((x : X) → P x → Q x → R x) → IfOk answer P → IfOk answer Q → IfOk answer R
 if_ok_both P Q R (Ok x) both p q = both x p q
@@ -8,3 +12,19 @@ if_ok_both P Q R (Err e) both p q = tt
 pub if_err_so : {X E : Type 0} (P Q : E → Type 0) (answer : Result X E) → ((e : E) → P e → Q e) → IfErr answer P → IfErr answer Q
 if_err_so P Q (Ok x) so p = tt
 if_err_so P Q (Err e) so p = so e p
+
+pub on_ok_so : {X E : Type 0} (P Q : Type 0) (answer : Result X E) → (P → Q) → OnOk answer P → OnOk answer Q
+on_ok_so P Q (Ok x) so p = so p
+on_ok_so P Q (Err e) so p = tt
+
+abbrev told : (X : Type 0) → ReadFault → Result X ImageReadFault
+told X fault = Err (Read fault)
+
+abbrev read_told : {X : Type 0} → ReadFault → Result X ImageReadFault → ReadFault
+read_told otherwise (Ok x) = otherwise
+read_told otherwise (Err (Read fault)) = fault
+read_told otherwise (Err (Image fault)) = otherwise
+
+-- answers that tell faults of a read are the same only where these are
+pub same_read : (X : Type 0) (f g : ReadFault) → told X f ≡ told X g → f ≡ g
+same_read X f g same = ap (read_told g) same

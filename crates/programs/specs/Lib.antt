@@ -1,4 +1,5 @@
 pub mod Faults
+pub mod HashedImages
 pub mod Homes
 pub mod ImageHeads
 pub mod ImageRows

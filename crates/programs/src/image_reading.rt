@@ -1,7 +1,11 @@
 //! The bytes of an image, whose first ones are judged before the others are read.
 
-ghost use Rattle.std.specs.Prelude.{◌≡◌, ◌<◌, Err, IfErr, IfOk, IfSome, length};
+ghost use Rattle.std.specs.Prelude.{◌≡◌, ◌<◌, ◌⊎◌, Err, IfErr, IfOk, IfSome, OnOk, length};
 ghost use Rattle.std.specs.Io.KnownBytes.{IsAtEnd};
+ghost use Rattle.image_bytes.specs.ImageFaults.{IsAccepted, IsImageFault};
+ghost use Rattle.image_bytes.specs.declared.digest_test.DigestTest.{DigestTest as DigestTestOf};
+ghost use Rattle.mj_model.specs.declared.image_fault.ImageFault.TheVariants.{Memory as NoMemory};
+ghost use Rattle.programs.specs.HashedImages.{DecideAlike};
 ghost use Rattle.programs.specs.ImageHeads.{IsHead, IsRefusalAt, IsRestRefusal};
 ghost use Rattle.programs.specs.Reading.{GivesAtLeast, IsReadOn};
 ghost use Rattle.programs.specs.declared.image_reading.ImageReadFault.TheVariants.{Read};
@@ -9,11 +13,42 @@ ghost use Rattle.programs.specs.declared.reading.ReadFault.TheVariants.{Endless,
 
 use crate::front::{Front, read_past};
 use crate::image_head::judge_head;
+use crate::image_pieces::ImagePieces;
+use crate::progress::ReadProgress;
 use crate::reading::{ReadFault, new_buffer};
-use image_bytes::HEADER_LENGTH;
+use dict_image::{Dict, load_by};
+use image_bytes::{DigestTest, HEADER_LENGTH};
 use mj_model::ImageFault;
 use std::alloc::{AllocError, Global};
 use std::io;
+
+/// How an image is read: whether its digest is to be tested, and who is told how far the reading is, if anybody is.
+#[derive(Clone, Copy)]
+pub struct ImageReading<'a> {
+    pub digest: DigestTest,
+    pub told: Option<ReadProgress<'a>>,
+}
+
+/// The bytes of an image, and the test of its digest that is left to make: none where the digest was found right while they were read.
+#[derive(Debug, Drop)]
+pub struct ReadImage {
+    pub bytes: Vec<u8>,
+    pub digest: DigestTest,
+}
+
+impl ReadImage {
+    /// Its dictionary, or the first fault of its bytes: what `load_by` answers for the test of the digest that the image was read for.
+    pub fn load(self, alloc: Global) -> Result<Dict, ImageFault>
+        ensures dict { IfOk result (λ dict. dict ≡ self.bytes.items) }
+        ensures accepted { (asked : DigestTestOf) → DecideAlike asked self.digest self.bytes.items
+            → OnOk result (IsAccepted asked self.bytes.items) }
+        ensures refused { (asked : DigestTestOf) → DecideAlike asked self.digest self.bytes.items
+            → IfErr result (λ fault.
+            (fault ≡ NoMemory) ⊎ IsImageFault asked self.bytes.items fault) }
+    {
+        load_by(alloc, self.bytes, self.digest)
+    }
+}
 
 /// Why the bytes of an image can't be had.
 #[derive(Debug, Drop)]
@@ -36,16 +71,20 @@ impl From<AllocError> for ImageReadFault {
 ///
 /// `known` is how many bytes there are in all, where that is known. What the header says is judged
 /// before memory for the other bytes is taken. Of a reader that has more bytes than the header
-/// tells no more than one read behind these is made.
+/// tells no more than one read behind these is made. Each byte is hashed once, as it comes.
 pub fn read_image<R: io::Read>(
     alloc: Global,
     reader: &mut R,
     known: Option<u64>,
     reads: u64,
-) -> Result<Vec<u8>, ImageReadFault>
-    ensures whole { IfOk result (λ bytes.
-        IfSome (R.remaining reader.old) (λ known. bytes.items ≡ known)) }
+    reading: ImageReading<'_>,
+) -> Result<ReadImage, ImageReadFault>
+    ensures whole { IfOk result (λ image.
+        IfSome (R.remaining reader.old) (λ known. image.bytes.items ≡ known)) }
     ensures end { IfOk result (λ _. IsAtEnd (R.remaining reader.new)) }
+    // The test that is left says what the one that was asked for says.
+    ensures digest { IfOk result (λ image.
+        DecideAlike reading.entry.digest image.digest image.bytes.items) }
     // It is called endless only where each of the reads gave a byte at least.
     ensures endless { result ≡ Err (Read Endless)
         → GivesAtLeast reads (R.remaining reader.old) (R.remaining reader.new) }
@@ -55,11 +94,19 @@ pub fn read_image<R: io::Read>(
     let mut buffer = new_buffer(alloc)?;
     let head = HEADER_LENGTH as u64 - 1;
     match read_past(reader, &mut buffer, reads, Vec::new(alloc), head) {
-        Ok(Front::Whole(bytes)) => Ok(bytes),
-        Ok(Front::More { bytes, reads: left }) => match judge_head(&bytes, known) {
+        Ok(Front::Whole(bytes)) => Ok(ReadImage {
+            bytes,
+            digest: reading.digest,
+        }),
+        Ok(
+            Front::More {
+                taken: bytes,
+                reads: left,
+            },
+        ) => match judge_head(&bytes, known) {
             Ok(told) => {
                 let first = with_room(bytes, told, known)?;
-                read_rest(reader, &mut buffer, first, told, left)
+                read_rest(reader, &mut buffer, first, told, left, reading)
             }
             Err(fault) => Err(ImageReadFault::Image(fault)),
         },
@@ -74,18 +121,23 @@ fn read_rest<R: io::Read>(
     first: Vec<u8>,
     told: u64,
     reads: u64,
-) -> Result<Vec<u8>, ImageReadFault>
+    reading: ImageReading<'_>,
+) -> Result<ReadImage, ImageReadFault>
     requires buffer { 0 < length buffer.old }
     requires head { IsHead first.items told }
-    ensures whole { IfOk result (λ bytes. IsReadOn first.items (R.remaining reader.old)
-        (R.remaining reader.new) bytes.items) }
+    ensures whole { IfOk result (λ image. IsReadOn first.items (R.remaining reader.old)
+        (R.remaining reader.new) image.bytes.items) }
     ensures end { IfOk result (λ _. IsAtEnd (R.remaining reader.new)) }
+    ensures digest { IfOk result (λ image.
+        DecideAlike reading.entry.digest image.digest image.bytes.items) }
     ensures endless { result ≡ Err (Read Endless)
         → GivesAtLeast reads (R.remaining reader.old) (R.remaining reader.new) }
     ensures refused { IfErr result (IsRestRefusal first.items (R.remaining reader.old)) }
 {
-    match read_past(reader, buffer, reads, first, told) {
-        Ok(Front::Whole(bytes)) => Ok(bytes),
+    let more = told.saturating_sub(first.len() as u64);
+    let begun = ImagePieces::begun(first, reading);
+    match read_past(reader, buffer, reads, begun, more) {
+        Ok(Front::Whole(pieces)) => Ok(pieces.whole(reading.digest)),
         Ok(Front::More { .. }) => Err(ImageReadFault::Image(ImageFault::BadSection(9))),
         Err(fault) => Err(ImageReadFault::Read(fault)),
     }

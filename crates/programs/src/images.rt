@@ -1,34 +1,50 @@
 //! Dictionaries of images.
 
 ghost use Rattle.std.specs.Prelude.{◌≡◌, IfErr, IfOk, string_bytes};
+ghost use Rattle.image_bytes.specs.ImageFaults.{IsAccepted};
 ghost use Rattle.programs.specs.Faults.{NamesFileOrImage};
+ghost use Rattle.programs.specs.HashedImages.{DecideAlike};
 ghost use Rattle.programs.specs.Reading.{AreOfAFile};
 
 use crate::fault::Fault;
-use crate::image_reading::{ImageReadFault, read_image};
-use crate::progress::Progress;
-use crate::whole_file::WholeFile;
-use dict_image::{Dict, DigestTest, load_by};
+use crate::image_reading::{ImageReadFault, ImageReading, ReadImage, read_image};
+use crate::progress::{Progress, ReadProgress};
+use dict_image::{Dict, DigestTest};
 use mj_model::READS_MAX;
 use std::fs::{self, OpenFile};
 use std::rt::Files;
 use std::string::String;
 
-/// The dictionary of the image at a path.
+/// The dictionary of the image at a path, while a terminal is told how much of it was read.
 ///
 /// A file whose header is at fault, or whose length is not the one that it tells, is refused as
 /// `load_by` refuses its bytes, before memory for them is taken.
-pub fn dictionary_at(rt: &HostRuntime, path: &str, digest: DigestTest) -> Result<Dict, Fault> {
-    let progress = Progress::of_load(rt, path);
-    let loaded = load_at(rt, path, digest);
+pub fn dictionary_at(rt: &HostRuntime, path: &str, digest: DigestTest) -> Result<Dict, Fault>
+    ensures accepted { IfOk result (λ dict. IsAccepted digest dict) }
+    ensures fault { IfErr result (NamesFileOrImage path.now) }
+{
+    let progress = Progress::new(rt);
+    let loaded = load_at(rt, path, digest, &progress);
     progress.erase();
     loaded
 }
 
-/// The same, while a terminal is told.
-fn load_at(rt: &HostRuntime, path: &str, digest: DigestTest) -> Result<Dict, Fault> {
-    let WholeFile { path, bytes } = image_at(rt, path)?;
-    load_by(rt.alloc(), bytes, digest).map_err(|fault| Fault::Image(path, fault))
+/// The same of some system's files, whose bytes are known.
+fn load_at<R: Files + AllocGlobal>(
+    rt: &R,
+    path: &str,
+    digest: DigestTest,
+    progress: &Progress<'_>,
+) -> Result<Dict, Fault>
+    ensures bytes { IfOk result (λ dict. AreOfAFile R.File.remaining dict) }
+    ensures accepted { IfOk result (λ dict. IsAccepted digest dict) }
+    ensures fault { IfErr result (NamesFileOrImage path.now) }
+{
+    let ImageFile { path, image } = image_at(rt, path, digest, progress)?;
+    match image.load(rt.alloc()) {
+        Ok(dict) => Ok(dict),
+        Err(fault) => Err(Fault::Image(path, fault)),
+    }
 }
 
 /// The dictionaries of the images at paths, read one after the other.
@@ -43,10 +59,25 @@ pub fn dictionaries_at(
         .try_collect(rt.alloc())
 }
 
+/// A file of an image that was read whole.
+#[derive(Drop)]
+pub struct ImageFile {
+    pub path: String,
+    pub image: ReadImage,
+}
+
 /// The bytes of the image at a path, within `READS_MAX` reads. One whose header or length is at fault is not read further.
-pub fn image_at<R: Files + AllocGlobal>(rt: &R, path: &str) -> Result<WholeFile, Fault>
-    ensures path { IfOk result (λ whole. string_bytes whole.path ≡ path.now) }
-    ensures bytes { IfOk result (λ whole. AreOfAFile R.File.remaining whole.bytes.items) }
+pub fn image_at<R: Files + AllocGlobal>(
+    rt: &R,
+    path: &str,
+    digest: DigestTest,
+    progress: &Progress<'_>,
+) -> Result<ImageFile, Fault>
+    ensures path { IfOk result (λ file. string_bytes file.path ≡ path.now) }
+    ensures bytes { IfOk result (λ file. AreOfAFile R.File.remaining file.image.bytes.items) }
+    // The test of the digest that is left says what the one that was asked for says.
+    ensures digest { IfOk result (λ file.
+        DecideAlike digest file.image.digest file.image.bytes.items) }
     ensures fault { IfErr result (NamesFileOrImage path.now) }
 {
     let mut file = match fs::open(rt, path) {
@@ -54,10 +85,18 @@ pub fn image_at<R: Files + AllocGlobal>(rt: &R, path: &str) -> Result<WholeFile,
         Err(error) => return Err(Fault::of_file(rt.alloc(), path, &error)),
     };
     let known = length_of(&file);
-    match read_image(rt.alloc(), &mut file, known, READS_MAX) {
-        Ok(bytes) => Ok(WholeFile {
+    let reading = ImageReading {
+        digest,
+        told: Some(ReadProgress {
+            progress,
+            path,
+            all: known.unwrap_or(0),
+        }),
+    };
+    match read_image(rt.alloc(), &mut file, known, READS_MAX, reading) {
+        Ok(image) => Ok(ImageFile {
             path: String::from_str(rt.alloc(), path)?,
-            bytes,
+            image,
         }),
         Err(ImageReadFault::Read(fault)) => Err(Fault::of_reading(rt.alloc(), path, fault)),
         Err(ImageReadFault::Image(fault)) => Err(Fault::of_image(rt.alloc(), path, fault)),

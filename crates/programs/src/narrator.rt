@@ -43,9 +43,19 @@ impl<'a> Narrator<'a> {
         Narrator { rt, program, began }
     }
 
+    /// The name of the program.
+    pub fn program(&self) -> &str {
+        self.program
+    }
+
+    /// Whether steps are asked for.
+    pub fn is_asked(&self) -> bool {
+        self.began.is_some()
+    }
+
     /// Whether a person is told more of a fault than its line: where steps are asked for, and on a terminal.
     pub(crate) fn is_heard(&self) -> bool {
-        self.began.is_some() || self.rt.stderr().is_terminal()
+        self.is_asked() || self.rt.stderr().is_terminal()
     }
 
     /// Says a step of the work, with the seconds since it began.

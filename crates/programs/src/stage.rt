@@ -43,6 +43,12 @@ pub enum Stage<'a> {
     Sorted {
         entries: u64,
     },
+    /// No surface of the lexicons has more bytes than the one in this line.
+    LongestSurface {
+        bytes: usize,
+        path: &'a str,
+        line: u64,
+    },
     /// It ended, with so many entries and an image of so many bytes.
     Compiled {
         entries: u64,
@@ -94,6 +100,13 @@ impl Display for Stage<'_> {
                 write!(f, "{entries} entries up to {}", OneLine(path))
             }
             Stage::Sorted { entries } => write!(f, "sorted {entries} entries"),
+            Stage::LongestSurface { bytes, path, line } => {
+                write!(
+                    f,
+                    "longest surface: {bytes} bytes, in line {line} of {}",
+                    OneLine(path)
+                )
+            }
             Stage::Compiled { entries, bytes } => {
                 write!(f, "compiled {entries} entries to {bytes} bytes")
             }

@@ -5,9 +5,10 @@ ghost use Rattle.image_bytes.specs.ImageBytes.{header_length, header_of};
 ghost use Rattle.dict_image.specs.Seen.{token_seen};
 ghost use Rattle.dictc_work.specs.Listings.{listed_tokens};
 
-use dict_image::{Dict, DigestTest, EntryRef, load_by};
+use dict_image::{Dict, EntryRef};
 use image_bytes::{HEADER_LENGTH, read_header};
 use mj_model::ImageFault;
+use programs::ReadImage;
 use std::alloc::{AllocError, Global};
 
 /// A dictionary, and how many entries its lexicon has.
@@ -19,16 +20,12 @@ pub(crate) struct CountedDict {
 }
 
 impl CountedDict {
-    /// The dictionary of an image's bytes.
-    pub(crate) fn load(
-        alloc: Global,
-        bytes: Vec<u8>,
-        digest: DigestTest,
-    ) -> Result<CountedDict, ImageFault>
-        ensures { IfOk result (λ counted. counted.dict ≡ bytes.items) }
+    /// The dictionary of an image that was read.
+    pub(crate) fn load(alloc: Global, image: ReadImage) -> Result<CountedDict, ImageFault>
+        ensures { IfOk result (λ counted. counted.dict ≡ image.bytes.items) }
     {
-        let entries = entries_of(&bytes);
-        let dict = load_by(alloc, bytes, digest)?;
+        let entries = entries_of(&image.bytes);
+        let dict = image.load(alloc)?;
         Ok(CountedDict { dict, entries })
     }
 

@@ -7,7 +7,7 @@ use super::template::Template;
 use command_lines::dictc::IdsOptions;
 use dict_image::{Dict, DigestTest};
 use mj_model::OverlayFault;
-use programs::{Fault, Narrator, Progress, Stage, WholeFile, image_at, write_whole};
+use programs::{Fault, ImageFile, Narrator, Progress, Stage, image_at, write_whole};
 use std::alloc::{AllocError, Global};
 use std::io::{self, Write};
 use std::slice;
@@ -66,18 +66,23 @@ fn dictionary_at(
     digest: DigestTest,
     narrator: &Narrator<'_>,
 ) -> Result<CountedDict, Fault> {
-    let progress = Progress::of_load(rt, path);
-    let loaded = load_at(rt, path, digest);
+    let progress = Progress::new(rt);
+    let loaded = load_at(rt, path, digest, &progress);
     progress.erase();
     let dict = loaded?;
     narrator.say(Stage::Loaded { path });
     Ok(dict)
 }
 
-/// The same, while a terminal is told.
-fn load_at(rt: &HostRuntime, path: &str, digest: DigestTest) -> Result<CountedDict, Fault> {
-    let WholeFile { path, bytes } = image_at(rt, path)?;
-    CountedDict::load(rt.alloc(), bytes, digest).map_err(|fault| Fault::Image(path, fault))
+/// The same, while it is told how much of the file was read.
+fn load_at(
+    rt: &HostRuntime,
+    path: &str,
+    digest: DigestTest,
+    progress: &Progress<'_>,
+) -> Result<CountedDict, Fault> {
+    let ImageFile { path, image } = image_at(rt, path, digest, progress)?;
+    CountedDict::load(rt.alloc(), image).map_err(|fault| Fault::Image(path, fault))
 }
 
 /// Whether a dictionary is a system's.

@@ -24,10 +24,10 @@ returns-in-Ok-clause-whole g c =
     let b = g.R.Read.remaining c.read_past.new.reader in
     let e = g.R.Read.remaining c.read_rest.new.reader in
     let first = c.in_ok-first-in-Ok.first.items in
-    let start = begun _ c.args.reads c.in-Ok-More.left c.new.result.items a b c.in-Ok-More.field-0 c.in-Ok-More.bytes c.new.ensures.items c.in-Ok-More.field-0-is c.in-Ok-More.ensures.front in
+    let start = begun 103 c.args.reads c.in-Ok-More.left a b c.in-Ok-More.field-0 c.in-Ok-More.bytes c.in-Ok-More.field-0-is (c.in-Ok-More.ensures.front [] c.new.ensures.items) in
     let read = subst (IsReadOn [] a b) (sym c.in_ok-first-in-Ok.ensures) start.0 in
-    if_ok_both (λ bytes. IsReadOn first b e bytes.items) (λ bytes. IsAtEnd e) (λ bytes. IfSome a (λ known. bytes.items ≡ known)) c.read_rest.result
-    (λ bytes more at_end. read_is_all a e bytes.items (read_further a b e [] first bytes.items read more) at_end)
+    if_ok_both (λ image. IsReadOn first b e image.bytes.items) (λ image. IsAtEnd e) (λ image. IfSome a (λ known. image.bytes.items ≡ known)) c.read_rest.result
+    (λ image more at_end. read_is_all a e image.bytes.items (read_further a b e [] first image.bytes.items read more) at_end)
     c.read_rest.ensures.whole c.read_rest.ensures.end
 
 pub returns-in-Ok-clause-endless : goal.returns-in-Ok-clause-endless
@@ -35,15 +35,15 @@ returns-in-Ok-clause-endless g c =
     let a = g.R.Read.remaining c.args.reader.now in
     let b = g.R.Read.remaining c.read_past.new.reader in
     let e = g.R.Read.remaining c.read_rest.new.reader in
-    let start = begun _ c.args.reads c.in-Ok-More.left c.new.result.items a b c.in-Ok-More.field-0 c.in-Ok-More.bytes c.new.ensures.items c.in-Ok-More.field-0-is c.in-Ok-More.ensures.front in
-    λ endless. gives_further c.args.reads c.in-Ok-More.left a b e c.in-Ok-More.bytes.items start.0 start.1 (c.read_rest.ensures.endless endless)
+    let start = begun 103 c.args.reads c.in-Ok-More.left a b c.in-Ok-More.field-0 c.in-Ok-More.bytes c.in-Ok-More.field-0-is (c.in-Ok-More.ensures.front [] c.new.ensures.items) in
+    λ endless. gives_further c.args.reads c.in-Ok-More.left a b e c.in-Ok-More.bytes.items start.0 start.2 (c.read_rest.ensures.endless endless)
 
 pub returns-in-Ok-clause-refused : goal.returns-in-Ok-clause-refused
 returns-in-Ok-clause-refused g c =
     let a = g.R.Read.remaining c.args.reader.now in
     let b = g.R.Read.remaining c.read_past.new.reader in
     let first = c.in_ok-first-in-Ok.first.items in
-    let start = begun _ c.args.reads c.in-Ok-More.left c.new.result.items a b c.in-Ok-More.field-0 c.in-Ok-More.bytes c.new.ensures.items c.in-Ok-More.field-0-is c.in-Ok-More.ensures.front in
+    let start = begun 103 c.args.reads c.in-Ok-More.left a b c.in-Ok-More.field-0 c.in-Ok-More.bytes c.in-Ok-More.field-0-is (c.in-Ok-More.ensures.front [] c.new.ensures.items) in
     let read = subst (IsReadOn [] a b) (sym c.in_ok-first-in-Ok.ensures) start.0 in
     if_err_so (IsRestRefusal first b) (IsRefusalAt c.args.known a) c.read_rest.result
     (λ fault rest. refused_behind c.args.known a b first fault (consumed a b first read) rest)
@@ -54,6 +54,6 @@ returns-in-Ok-More-clause-refused g c =
     let a = g.R.Read.remaining c.args.reader.now in
     let b = g.R.Read.remaining c.read_past.new.reader in
     let fault = c.in-Err-judge_head.fault in
-    let start = begun _ c.args.reads c.in-Ok-More.left c.new.result.items a b c.in-Ok-More.field-0 c.in-Ok-More.bytes c.new.ensures.items c.in-Ok-More.field-0-is c.in-Ok-More.ensures.front in
+    let start = begun 103 c.args.reads c.in-Ok-More.left a b c.in-Ok-More.field-0 c.in-Ok-More.bytes c.in-Ok-More.field-0-is (c.in-Ok-More.ensures.front [] c.new.ensures.items) in
     refused_at c.args.known a b c.in-Ok-More.bytes.items fault (consumed a b c.in-Ok-More.bytes.items start.0)
     (subst (λ (first : List ℕ). IsFaultOfEach c.args.known first fault) c.deref.ensures.value c.in-Err-judge_head.ensures.refused)

@@ -1,7 +1,7 @@
 use Rattle.std.proofs.Common.{rules, ◌≡◌, ℕ, ◌+◌, ◌-◌, ◌^◌, List, ◌++◌, length, arith, ap, ◌∙◌}
 use Rattle.std.proofs.lemmas.List.{length-append}
 use Rattle.std.specs.Prelude.{min, take}
-use Rattle.dictc_work.proofs.FirstBytes.{first_of_both}
+use Rattle.programs.proofs.FirstBytes.{first_of_both}
 use Rattle.dictc_work.proofs.matrix_file.MatrixFilePieces.with.Goals as goal
 
 pub returns : goal.returns

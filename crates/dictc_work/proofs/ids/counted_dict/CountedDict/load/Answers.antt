@@ -5,7 +5,7 @@ use Rattle.dictc_work.proofs.ids.counted_dict.CountedDict.load.Goals as goal
 pub invariant_of-result : goal.invariant_of-result
 invariant_of-result c =
     let long : header_length ≤ length c.deref.result.now =
-    subst (λ (xs : List ℕ). header_length ≤ length xs) (sym c.deref.ensures.value) c.in_ok-dict.ensures.accepted.0 in
+    subst (λ (xs : List ℕ). header_length ≤ length xs) (sym c.deref.ensures.value) (c.in_ok-dict.ensures.accepted c.args.image.digest ((λ passes. passes), (λ passes. passes))).0 in
     record {
       counted =
           c.entries_of-entries.ensures long

@@ -1,0 +1,85 @@
+-- The longest of two lists of surfaces, and the surfaces of one more lexicon.
+use Rattle.std.proofs.Common.{◌≡◌, ℕ, suc, ◌+◌, ◌<◌, ◌≤◌, All, List, [], ◌∷◌, ◌++◌, length, take, get_or, Bor, None, Some, Ok, refl, sym, ap, ◌∙◌, inl, inr, subst, append_assoc, arith, length-take}
+use Rattle.std.specs.Prelude.{Option}
+use Rattle.std.proofs.lemmas.List.{append-nil, length-map, map-append, take_more}
+use Rattle.std.proofs.lemmas.List.Elements.{All-append, All-cons, All-nil, All-weaker, Contains-append_left, Contains-append_right}
+use Rattle.mj_model.specs.declared.entry.Record.{Record}
+use Rattle.mj_model.specs.Lexicon.{IsLexicon, Row, row_of, rows_of}
+use Rattle.dict_compile.proofs.SkipLemmas.{before_more, bytes_before}
+use Rattle.dictc_work.specs.declared.surfaces.Surface.{Surface}
+use Rattle.dictc_work.specs.Surfaces.{HasSurfaces, HaveSurfaces, IsLongerOf, IsLongestIn, IsLongestOf, surface_of, surfaces_of}
+
+abbrev HaveAtMost : ℕ → List Surface → Type 0
+HaveAtMost n surfaces = All (λ surface. surface.bytes ≤ n) surfaces
+
+with_more : (surfaces : List Surface) (m n : ℕ) → m ≤ n → HaveAtMost m surfaces → HaveAtMost n surfaces
+with_more surfaces m n low all = All-weaker (λ surface. surface.bytes ≤ m) (λ surface. surface.bytes ≤ n) (λ surface below. omega (arith, below, low)) surfaces all
+
+-- the longer one of the longest of two lists is the longest of both
+pub longest_of_both : (xs ys : List Surface) (first second longer : Option Surface) → IsLongestIn xs first → IsLongestIn ys second → IsLongerOf first second longer
+    → IsLongestIn (xs ++ ys) longer
+longest_of_both xs ys None second longer none its is =
+    subst (λ (found : Option Surface). IsLongestIn (xs ++ ys) found) (sym is) (subst (λ (front : List Surface). IsLongestIn (front ++ ys) second) (sym none) its)
+longest_of_both xs ys (Some one) None longer its none is =
+    subst (λ (found : Option Surface). IsLongestIn (xs ++ ys) found) (sym is)
+    (subst (λ (all : List Surface). IsLongestIn all (Some one)) (sym (ap (λ (behind : List Surface). xs ++ behind) none ∙ append-nil xs)) its)
+longest_of_both xs ys (Some one) (Some two) longer first second (inl is) =
+    let all = All-append (λ surface. surface.bytes ≤ one.bytes) xs ys first.1 (with_more ys two.bytes one.bytes is.1 second.1) in
+    subst (λ (found : Option Surface). IsLongestIn (xs ++ ys) found) (sym is.0) (Contains-append_left xs ys one first.0, all)
+longest_of_both xs ys (Some one) (Some two) longer first second (inr is) =
+    let all = All-append (λ surface. surface.bytes ≤ two.bytes) xs ys (with_more xs one.bytes two.bytes is.1 first.1) second.1 in
+    subst (λ (found : Option Surface). IsLongestIn (xs ++ ys) found) (sym is.0) (Contains-append_right xs ys two second.0, all)
+
+-- lexicons, and one more behind them
+pub more_surfaces : (number : ℕ) (lexicons : List (List ℕ)) (lexicon : List ℕ) (surfaces its : List Surface) → HaveSurfaces number lexicons surfaces
+    → HasSurfaces (number + length lexicons) lexicon its → HaveSurfaces number (lexicons ++ lexicon ∷ []) (surfaces ++ its)
+more_surfaces number [] lexicon surfaces its none has =
+    let here : number + 0 ≡ number = omega arith in
+    (its, [], subst (λ (n : ℕ). HasSurfaces n lexicon its) here has, refl, ap (λ (front : List Surface). front ++ its) none ∙ sym (append-nil its))
+more_surfaces number (first ∷ lexicons) lexicon surfaces its have has =
+    let there : number + suc (length lexicons) ≡ number + 1 + length lexicons = omega arith in (
+      have.0,
+      have.1 ++ its,
+      have.2,
+      more_surfaces (number + 1) lexicons lexicon have.1 its have.3 (subst (λ (n : ℕ). HasSurfaces n lexicon its) there has),
+      ap (λ (front : List Surface). front ++ its) have.4 ∙ append_assoc have.0 have.1 its,
+    )
+
+-- one surface is its own longest
+pub longest_of_one : (one : Surface) → IsLongestIn (one ∷ []) (Some one)
+longest_of_one one =
+    let AtMost : Surface → Type 0 = λ surface. surface.bytes ≤ one.bytes in
+    ((0, omega arith, refl), All-cons AtMost one [] (omega arith) (All-nil AtMost))
+
+-- the surfaces of records, and of one more
+pub surfaces_with : (number : ℕ) (records : List Record) (i : ℕ) (next : Record) → i < length records → next ≡ get_or records i next
+    → surfaces_of number (rows_of (take (i + 1) records)) ≡ surfaces_of number (rows_of (take i records)) ++ surface_of number (row_of next) ∷ []
+surfaces_with number records i next low is =
+    ap (λ (some : List Record). surfaces_of number (rows_of some)) (take_more records i next low ∙ ap (λ (one : Record). take i records ++ one ∷ []) (sym is))
+    ∙ ap (surfaces_of number) (map-append row_of (take i records) (next ∷ []))
+    ∙ map-append (surface_of number) (rows_of (take i records)) (row_of next ∷ [])
+
+-- the longest surface of a lexicon is that of its records
+pub longest_read : (number file skipped : ℕ) (lexicon : List ℕ) (old new : List Record) (rows : List Row) (longest : Option Surface) → old ≡ []
+    → IsLexicon file (length old) lexicon (Ok (record { rows = rows; skipped = skipped })) → rows_of new ≡ rows_of old ++ rows
+    → IsLongestIn (surfaces_of number (rows_of new)) longest → (surfaces : List Surface) × HasSurfaces number lexicon surfaces × IsLongestIn surfaces longest
+longest_read number file skipped lexicon old new rows longest none reads are is =
+    let held : length old ≡ 0 = ap length none in
+    let lines = subst (λ (n : ℕ). IsLexicon file n lexicon (Ok (record { rows = rows; skipped = skipped }))) held reads in
+    let same = are ∙ ap (λ (front : List Record). rows_of front ++ rows) none in
+    (surfaces_of number rows, (file, skipped, rows, lines, refl), subst (λ (all : List Row). IsLongestIn (surfaces_of number all) longest) same is)
+
+-- the longest surface of lexicons, and of one more
+pub longest_with : (lexicons : List (Bor (List ℕ))) (i : ℕ) (d : Bor (List ℕ)) (first second longer : Option Surface) → i < length lexicons
+    → IsLongestOf (bytes_before lexicons i) first → (its : List Surface) × HasSurfaces i (get_or lexicons i d).now its × IsLongestIn its second
+    → IsLongerOf first second longer → IsLongestOf (bytes_before lexicons (i + 1)) longer
+longest_with lexicons i d first second longer low was found is =
+    let front = length-map (take i lexicons) (λ (lexicon : Bor (List ℕ)). lexicon.now) in
+    let some = length-take i lexicons in
+    let there : i ≡ 0 + length (bytes_before lexicons i) = omega (arith, front, some, low) in
+    let has = subst (λ (n : ℕ). HasSurfaces n (get_or lexicons i d).now found.0) there found.1 in
+    subst (λ (all : List (List ℕ)). IsLongestOf all longer) (sym (before_more lexicons i d low)) (
+      was.0 ++ found.0,
+      more_surfaces 0 (bytes_before lexicons i) (get_or lexicons i d).now was.0 found.0 was.1 has,
+      longest_of_both was.0 found.0 first second longer was.2 found.2 is,
+    )
