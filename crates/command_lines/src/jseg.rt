@@ -5,5 +5,5 @@ mod command;
 mod mecab_habits;
 mod rows;
 
-pub use choices::{Form, Input, LatticeChoice, Options, Task};
+pub use choices::{Form, Input, LatticeChoice, Options, Task, ViewChoice};
 pub use command::task;

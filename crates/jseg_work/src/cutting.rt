@@ -3,7 +3,7 @@
 use crate::formatting::{Printed, printed_for, text_given};
 use crate::images::cut_by_images;
 use crate::source_directory::{Directory, read_directory};
-use crate::source_lattices::print_source_lattices;
+use crate::views::print_source_views;
 use command_lines::jseg::{Input, Options};
 use dict_image::DigestTest;
 use mj_model::{Counted, FormatFault, GROUPING_MAX, NO_FILE, RunFault, Sources};
@@ -102,11 +102,11 @@ fn cut_by(rt: &HostRuntime, sources: &Sources<'_>, manner: &Manner<'_>) -> Resul
             &mut reader,
             &mut writer,
         ),
-        Printed::Lattices(format) => print_source_lattices(
+        Printed::View(view) => print_source_views(
             rt.alloc(),
             sources,
             grouping,
-            *format,
+            *view,
             &mut reader,
             &mut writer,
         ),

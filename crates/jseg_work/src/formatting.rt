@@ -1,6 +1,7 @@
 //! What the command line asks to print.
 
-use command_lines::jseg::{Form, Options};
+use crate::views::View;
+use command_lines::jseg::{Form, LatticeChoice, Options, ViewChoice};
 use lattice_printer::{LatticeForm, LatticeFormat};
 use mj_model::{FormatFault, FormatPart};
 use out_format::Format;
@@ -12,23 +13,36 @@ use std::string::String;
 pub enum Printed {
     /// The words of its best path
     Words(Format),
-    /// Its lattice
-    Lattices(LatticeFormat),
+    /// Something in place of them
+    View(View),
 }
 
-/// What is printed: lattices, where they are asked for.
+/// What is printed: the words of best paths, where nothing else is asked for.
 pub fn printed_for(alloc: Global, options: &Options) -> Result<Printed, FormatFault> {
-    let Some(choice) = options.lattice else {
-        return Ok(Printed::Words(format_of(alloc, options)?));
-    };
+    match options.view {
+        Some(choice) => Ok(Printed::View(view_of(choice))),
+        None => Ok(Printed::Words(format_of(alloc, options)?)),
+    }
+}
+
+/// What is printed in place of the words.
+fn view_of(choice: ViewChoice) -> View {
+    match choice {
+        ViewChoice::Lattice(choice) => View::Lattice(lattice_format(choice)),
+        ViewChoice::Why => View::Why,
+    }
+}
+
+/// How lattices are printed.
+fn lattice_format(choice: LatticeChoice) -> LatticeFormat {
     let form = match choice.form {
         Form::Tsv => LatticeForm::Tsv,
         Form::Dot => LatticeForm::Dot,
     };
-    Ok(Printed::Lattices(LatticeFormat {
+    LatticeFormat {
         form,
         within: choice.within,
-    }))
+    }
 }
 
 /// The format by name, or that of the four texts; those that weren't given are MeCab's.

@@ -2,8 +2,8 @@
 
 use crate::cutting::Manner;
 use crate::formatting::Printed;
+use crate::views::print_views;
 use dict_image::DigestTest;
-use lattice_printer::print_lattices;
 use mj_model::{Counted, GROUPING_MAX, OverlayFault};
 use programs::{Fault, Stage, dictionaries_at, dictionary_at};
 use segmenter::segment;
@@ -32,13 +32,9 @@ pub fn cut_by_images(
         Printed::Words(format) => {
             segment(rt.alloc(), &dictionaries, format, &mut reader, &mut writer)
         }
-        Printed::Lattices(format) => print_lattices(
-            rt.alloc(),
-            &dictionaries,
-            *format,
-            &mut reader,
-            &mut writer,
-        ),
+        Printed::View(view) => {
+            print_views(rt.alloc(), &dictionaries, *view, &mut reader, &mut writer)
+        }
     };
     if cut.is_err() {
         let _ = writer.flush();

@@ -7,7 +7,7 @@ mod images;
 mod inputs;
 mod listing;
 mod source_directory;
-mod source_lattices;
+mod views;
 mod work;
 
 pub use images::overlay_fault;

@@ -41,6 +41,15 @@ pub struct LatticeChoice {
     pub within: Option<i64>,
 }
 
+/// What is printed of each line in place of the words of its best path.
+#[derive(Clone, Copy, Debug, PartialEq, Eq, Drop)]
+pub enum ViewChoice {
+    /// Its lattice
+    Lattice(LatticeChoice),
+    /// Each word of its best path with what it costs, and its best rival
+    Why,
+}
+
 /// The choices of a command line by which a text is cut, as given.
 #[derive(PartialEq, Drop)]
 pub struct Options {
@@ -57,8 +66,8 @@ pub struct Options {
     pub bos: Option<String>,
     /// What is printed behind the last word of a line.
     pub eos: Option<String>,
-    /// How lattices are printed in place of best paths, where they are.
-    pub lattice: Option<LatticeChoice>,
+    /// What is printed in place of the words of best paths, where something is.
+    pub view: Option<ViewChoice>,
     /// Whether the program says on standard error what it does.
     pub verbose: bool,
 }

@@ -1,6 +1,6 @@
 //! What is asked for by a command line of `jseg`.
 
-use super::choices::{Form, Input, LatticeChoice, Options, Task};
+use super::choices::{Form, Input, LatticeChoice, Options, Task, ViewChoice};
 use super::mecab_habits::{HABITS, habit_in};
 use super::rows::{INPUTS, ROWS};
 use crate::about::{VERSION, answer_explain};
@@ -83,7 +83,7 @@ fn choices(alloc: Global, matches: &ArgMatches<'_>) -> Result<Options, OptionsFa
         unk: text_of(alloc, matches, "unk")?,
         bos: text_of(alloc, matches, "bos")?,
         eos: text_of(alloc, matches, "eos")?,
-        lattice: lattice(alloc, matches)?,
+        view: view(alloc, matches)?,
         verbose: matches.get_flag("verbose"),
     })
 }
@@ -103,7 +103,15 @@ fn input(alloc: Global, matches: &ArgMatches<'_>) -> Result<Option<Input>, Alloc
     Ok(matches.get_flag("sample").then_some(Input::Sample))
 }
 
-/// How lattices are printed; None where best paths are.
+/// What is printed of each line; None where the words of its best path are.
+fn view(alloc: Global, matches: &ArgMatches<'_>) -> Result<Option<ViewChoice>, OptionsFault> {
+    match lattice(alloc, matches)? {
+        Some(choice) => Ok(Some(ViewChoice::Lattice(choice))),
+        None => Ok(matches.get_flag("why").then_some(ViewChoice::Why)),
+    }
+}
+
+/// How lattices are printed; None where they are not.
 fn lattice(alloc: Global, matches: &ArgMatches<'_>) -> Result<Option<LatticeChoice>, OptionsFault> {
     let within = matches.get_one("within");
     let Some(name) = matches.get_str("lattice") else {

@@ -21,10 +21,16 @@ const OF_TEXTS: &[&str] = &[
     "eos",
     "lattice",
     "within",
+    "why",
 ];
 
 /// The ids of the options that say how the words of the best path are printed.
 const OF_WORDS: &[&str] = &["output", "node", "unk", "bos", "eos"];
+
+/// The same, and the ids of the options of lattices.
+const OF_WORDS_AND_LATTICES: &[&str] = &[
+    "output", "node", "unk", "bos", "eos", "lattice", "within",
+];
 
 /// The forms of a printed lattice.
 pub(super) const FORMS: [&str; 2] = ["tsv", "dot"];
@@ -49,7 +55,7 @@ const GROUPING: Taken = Taken {
 
 /// The options, in the order of help.
 #[rattlefmt::skip]
-pub(super) static ROWS: [Row; 16] = [
+pub(super) static ROWS: [Row; 17] = [
     Row { id: "dic", name: Letter('d'), taken: VALUE, values: &["IMG"], excluded: &[],
         help: "Cut the text with the system dictionary of an image" },
     Row { id: "users", name: Letter('u'), taken: VALUES, values: &["IMG"], excluded: &["sources", "sample"],
@@ -75,6 +81,8 @@ pub(super) static ROWS: [Row; 16] = [
         help: "Print the lattice of each line: tsv, a table of its words, or dot, a graph for Graphviz" },
     Row { id: "within", name: Long("within"), taken: COST, values: &["N"], excluded: &[],
         help: "With --lattice, leave out the words that lost by more than N and those without a path" },
+    Row { id: "why", name: Long("why"), taken: FLAG, values: &[], excluded: OF_WORDS_AND_LATTICES,
+        help: "Print why each line is cut so: a table of its words and their costs, each with its best rival" },
     Row { id: "dictionaries", name: Long("dictionaries"), taken: FLAG, values: &[], excluded: OF_TEXTS,
         help: "List the images that a bare name may find, and cut nothing: name, bytes, entries, path" },
     VERBOSE,

@@ -1,0 +1,46 @@
+use Rattle.std.proofs.Common.{[], ◌∙◌, refl, inl, inr}
+use Rattle.image_bytes.specs.ImageMeaning.{image_tables}
+use Rattle.line_stream.proofs.RunEnds.{ran_tells_no_source, ran_tells_no_user}
+use Rattle.mj_model.specs.Overlays.{overlay_fault}
+use Rattle.segmenter.proofs.EarlyEnds.{not_early, source_is_early, source_of_no_user, source_told}
+use Rattle.segmenter.proofs.OverlayLemmas.{have_overlay, no_overlay_fault, none_and_some, with_grouping}
+use Rattle.word_lookup.specs.Overlays.{overlay_of}
+use Rattle.jseg_work.proofs.views.print_source_views.Goals as goal
+
+pub returns-in-Err-clause-source : goal.returns-in-Err-clause-source
+returns-in-Err-clause-source g c = λ told e. source_told c.args.sources.now c.in-Err.fault told c.early_end.result c.early_end.ensures c.in-Err.ensures.refused e
+
+pub returns-in-Err-clause-no_user : goal.returns-in-Err-clause-no_user
+returns-in-Err-clause-no_user g c = λ i told e. source_of_no_user c.in-Err.fault told i c.early_end.result c.early_end.ensures e
+
+pub returns-in-Err-clause-early : goal.returns-in-Err-clause-early
+returns-in-Err-clause-early g c = λ early. (refl, refl)
+
+pub returns-in-Err-clause-run : goal.returns-in-Err-clause-run
+returns-in-Err-clause-run g c = inl (source_is_early c.in-Err.fault c.early_end.result c.early_end.ensures)
+
+pub unreachable-requires : goal.unreachable-requires
+unreachable-requires g c =
+    let system = image_tables c.in-Ok.system in
+    none_and_some (overlay_fault system []) c.in_default.field-0 (no_overlay_fault system [] [] c.in-Ok.ensures.dict.2.have.tables.kind tt) c.in_default.ensures.refused
+
+pub returns-clause-source : goal.returns-clause-source
+returns-clause-source g c = λ told e. absurd (ran_tells_no_source _ _ _ _ _ _ c.print_views.result told c.print_views.ensures.run e)
+
+pub returns-clause-no_user : goal.returns-clause-no_user
+returns-clause-no_user g c = λ i told e. ran_tells_no_user _ _ _ _ _ _ c.print_views.result i told c.print_views.ensures.run e
+
+pub returns-clause-early : goal.returns-clause-early
+returns-clause-early g c = λ early. absurd (not_early _ _ _ _ _ _ c.print_views.result c.print_views.ensures.run early)
+
+pub returns-clause-run : goal.returns-clause-run
+returns-clause-run g c =
+    let o = overlay_of c.with_grouping-dictionaries.result in
+    inr (record {
+      overlay = o;
+      have = have_overlay c.args.sources.now [] c.args.grouping c.in-Ok.system [] o c.in-Ok.ensures.dict tt
+          (c.with_grouping-dictionaries.ensures
+          ∙ with_grouping c.args.grouping (overlay_of c.in-Ok-new.dictionaries) (image_tables c.in-Ok.system) [] [] c.in-Ok-new.ensures.overlay refl);
+      covered = c.print_views.ensures.covered;
+      ran = c.print_views.ensures.run;
+    })
