@@ -6,7 +6,7 @@ use segmenter::run_sources;
 use std::alloc::Global;
 
 /// What a run answers, what it wrote, and how many reads it made.
-#[derive(Debug, Drop)]
+#[derive(Drop)]
 pub struct Outcome {
     pub answer: Result<u64, RunFault>,
     pub written: Vec<u8>,

@@ -4,11 +4,12 @@ mod compilations;
 mod directories;
 mod ids;
 mod inputs;
+mod surfaces;
 mod told;
 
-use crate::tests::words;
 use std::io;
 use std::string::String;
+use test_words::words;
 
 /// The words of a text. Those with a dot are names in a directory.
 pub(crate) fn words_in(rt: &HostRuntime, dir: &str, text: &str) -> io::Result<Vec<String>> {

@@ -1,5 +1,6 @@
 //! Files, and what is told of faults.
 
+mod digests;
 mod failing_files;
 mod files;
 mod homes;

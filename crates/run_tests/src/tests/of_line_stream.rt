@@ -56,17 +56,18 @@ fn expect_bounded(
     Ok(())
 }
 
+#[rattlefmt::skip]
+static BOUND_ON_READS: [(&str, &str, Result<u64, RunFault>); 2] = [
+    // (what, text, answer)
+    ("no end in 4 reads",  "ab\ncd\n", Err(RunFault::InputTooLong(2))),
+    ("the end at the 4th", "ab\n",     Ok(1)),
+];
+
 #[test]
 fn bound_on_reads(rt: HostRuntime) -> Result<(), Fail> {
     let format = Format::default_of(rt.alloc())?;
-    #[rattlefmt::skip]
-    let rows = [
-        // (what, text, answer)
-        ("no end in 4 reads",  "ab\ncd\n", Err(RunFault::InputTooLong(2))),
-        ("the end at the 4th", "ab\n",     Ok(1)),
-    ];
-    for (what, text, answer) in rows {
-        expect_bounded(&rt, &format, what, text, answer)?;
+    for (what, text, answer) in &BOUND_ON_READS {
+        expect_bounded(&rt, &format, what, text, *answer)?;
     }
     Ok(())
 }

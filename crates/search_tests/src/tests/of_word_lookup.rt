@@ -2,6 +2,7 @@
 
 mod characters;
 mod expected_words;
+mod in_turn;
 mod layouts;
 mod overlays;
 mod starved;

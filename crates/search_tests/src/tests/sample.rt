@@ -6,10 +6,10 @@ ghost use Rattle.search_tests.specs.Sample.{lies_at, numbered, sample_connection
 use lattice::WordSource;
 use mj_model::{Origin, Word};
 use std::alloc::{AllocError, Global};
-use word_lookup::{BlankRun, EntryList, Surface};
+use word_lookup::{EntryList, LastRuns, Surface};
 
 /// A text by its length and its words, which are numbered by their order.
-#[derive(Debug, Drop)]
+#[derive(Drop)]
 pub struct Sample {
     pub length: usize,
     pub words: Vec<Word>,
@@ -29,6 +29,7 @@ impl WordSource for Sample {
       is_place = λ p. Unit {0};
       is_pair = λ r l. Unit {0};
       is_blank_run = λ run. Unit {0};
+      is_character_run = λ run. Unit {0};
       is_kept = λ p last. Unit {0};
     } };
 
@@ -39,7 +40,7 @@ impl WordSource for Sample {
     fn surfaces_at(
         &self,
         place: usize,
-        _last: &mut Option<BlankRun>,
+        _last: &mut LastRuns,
         out: &mut Vec<Surface>,
     ) -> Result<(), AllocError> {
         let before = out.len();

@@ -6,8 +6,8 @@ mod relocated;
 
 use self::access::{Counting, expect_hits, insert, value};
 use double_array::{CellRead, DaFault, DoubleArray, Inserted};
-use mj_model::NamedFault;
 use std::test::Fail;
+use test_words::{FaultRow, first_untold};
 
 /// Keys that are inserted one after another.
 #[rattlefmt::skip]
@@ -95,7 +95,7 @@ fn ends_of_the_numbers(rt: HostRuntime) -> Result<(), Fail> {
 
 /// Faults of insertions.
 #[rattlefmt::skip]
-static FAULTS: [(DaFault, &str, &str, &str); 2] = [
+static FAULTS: [FaultRow<DaFault>; 2] = [
     // (fault, code, name, text)
     (DaFault::Full,   "X1",     "Full",   "X1 Full"),
     (DaFault::Memory, "Memory", "Memory", "Memory"),
@@ -103,12 +103,7 @@ static FAULTS: [(DaFault, &str, &str, &str); 2] = [
 
 #[test]
 fn words_of_faults(rt: HostRuntime) -> Result<(), Fail> {
-    for (fault, code, name, text) in &FAULTS {
-        assert_eq!(rt; fault.code(), *code);
-        assert_eq!(rt; fault.name(), *name);
-        let printed = format!(in rt.alloc(); "{fault}")?;
-        assert_eq!(rt; printed.as_str(), *text);
-    }
+    assert_eq!(rt; first_untold(rt.alloc(), &FAULTS)?, None);
     Ok(())
 }
 

@@ -6,9 +6,10 @@ use dict_image::{Dict, load};
 use mj_model::SourceKind::{
     self, ArrayFull, BadNumber, FeaturesTooLarge, IdOutside, Memory, NotUtf8, TooFewFields,
 };
-use mj_model::{MatrixSizes, NO_FILE, NamedFault, SourceFault, Sources, sample};
+use mj_model::{MatrixSizes, NO_FILE, SourceFault, Sources, sample};
 use std::alloc::Global;
 use std::test::Fail;
+use test_words::{FaultRow, first_untold};
 
 const LINE: &str = "もも,1,1,1,名詞,ユーザ\n";
 
@@ -104,7 +105,7 @@ fn for_a_user_dictionary(rt: HostRuntime) -> Result<(), Fail> {
 
 /// Faults with their codes, names and texts.
 #[rattlefmt::skip]
-static FAULTS: [(CompileUserFault, &str, &str, &str); 6] = [
+static FAULTS: [FaultRow<CompileUserFault>; 6] = [
     // (fault, code, name, text)
     (NotSystem, "O1", "NotSystem", "O1 NotSystem"),
     (Source(SourceFault { file: 3, line: 1, kind: NotUtf8 }), "S1", "NotUtf8", "file 3, line 1: S1 NotUtf8"),
@@ -128,10 +129,6 @@ const OF_FEATURES: SourceFault = SourceFault {
 
 #[test]
 fn codes_names_and_texts(rt: HostRuntime) -> Result<(), Fail> {
-    for (fault, code, name, text) in &FAULTS {
-        assert_eq!(rt; (fault.code(), fault.name()), (*code, *name), "{text}");
-        let printed = format!(in rt.alloc(); "{fault}")?;
-        assert_eq!(rt; printed.as_str(), *text);
-    }
+    assert_eq!(rt; first_untold(rt.alloc(), &FAULTS)?, None);
     Ok(())
 }

@@ -70,7 +70,24 @@ pub(crate) fn info_of(dict: &Dict, c: char) -> Option<CharInfo> {
     Some(dict.info(c))
 }
 
-/// Whether a character has this set of categories, and this first one.
+/// The same, where this range is asked first.
+fn info_near(dict: &Dict, c: char, range: usize) -> Option<CharInfo> {
+    if dict.is_user() {
+        return None;
+    }
+    let mut near = range;
+    Some(dict.info_near(c, &mut near))
+}
+
+/// More ranges than the images here have.
+const RANGES: usize = 12;
+
+/// Whether a character has this set of categories, and this first one, whichever range is asked first.
 pub(crate) fn has_info(dict: &Dict, c: char, (bits, head): (u32, u8)) -> bool {
-    info_of(dict, c) == Some(CharInfo { bits, head })
+    let expected = Some(CharInfo { bits, head });
+    let mut all = info_of(dict, c) == expected;
+    for range in 0..RANGES {
+        all = all && info_near(dict, c, range) == expected;
+    }
+    all
 }

@@ -89,22 +89,24 @@ fn formats(rt: HostRuntime) -> Result<(), Fail> {
     expect_outputs(&rt, &FORMATS)
 }
 
+#[rattlefmt::skip]
+static FIELDS_OF_FEATURES: [(&str, &str, &str); 5] = [
+    // (what, node, output)
+    ("quotes",                "%f[0]", "a,\"b\""),
+    ("a star",                "%f[1]", ""),
+    ("a star between quotes", "%f[2]", ""),
+    ("blanks before a field", "%f[3]", "d"),
+    ("a missing field",       "%f[4]", ""),
+];
+
 #[test]
 fn fields_of_features(rt: HostRuntime) -> Result<(), Fail> {
     let lexicon = "も,1,1,20,\"a,\"\"b\"\"\",*,\"*c\", d\n";
-    let rows = [
-        // (what, node, output)
-        ("quotes", "%f[0]", "a,\"b\""),
-        ("a star", "%f[1]", ""),
-        ("a star between quotes", "%f[2]", ""),
-        ("blanks before a field", "%f[3]", "d"),
-        ("a missing field", "%f[4]", ""),
-    ];
     let sources = Sources {
         lexicons: &[lexicon.as_bytes()],
         ..sample()
     };
-    for (what, node, output) in rows {
+    for (what, node, output) in &FIELDS_OF_FEATURES {
         let format = Format::parse(rt.alloc(), node, None, "", "")?;
         let outcome = run_in(rt.alloc(), &format, &sources, &[], "も".as_bytes());
         assert!(rt; outcome.written.as_slice() == output.as_bytes(), "{what}");
@@ -125,33 +127,35 @@ fn negative_costs(rt: HostRuntime) -> Result<(), Fail> {
     Ok(())
 }
 
+static WAKATI: [(&str, &str, &str); 3] = [
+    // (what, text, output)
+    ("sumomo", "すもももも\n", "すもも もも \n"),
+    ("blanks_in_wakati", " すもも  もも \n", "すもも もも \n"),
+    ("only_blanks", "   ", "\n"),
+];
+
 #[test]
 fn wakati(rt: HostRuntime) -> Result<(), Fail> {
     let format = Format::wakati(rt.alloc())?;
-    let rows = [
-        // (what, text, output)
-        ("sumomo", "すもももも\n", "すもも もも \n"),
-        ("blanks_in_wakati", " すもも  もも \n", "すもも もも \n"),
-        ("only_blanks", "   ", "\n"),
-    ];
-    for (what, text, output) in rows {
+    for (what, text, output) in &WAKATI {
         let outcome = printed(rt.alloc(), &format, text);
         assert!(rt; outcome.written.as_slice() == output.as_bytes(), "{what}");
     }
     Ok(())
 }
 
+static COSTS_OF_LONG_LINES: [(usize, &str); 3] = [
+    // (letters, output)
+    (65_535, "65969585\n"),
+    (65_536, "65970592\n"),
+    (SENTENCE_MAX, "1055891872\n"),
+];
+
 #[test]
 fn costs_of_long_lines(rt: HostRuntime) -> Result<(), Fail> {
-    let rows = [
-        // (letters, output)
-        (65_535, "65969585\n"),
-        (65_536, "65970592\n"),
-        (SENTENCE_MAX, "1055891872\n"),
-    ];
     let format = Format::parse(rt.alloc(), "", None, "", "%pc\\n")?;
-    for (count, output) in rows {
-        let text = letters(rt.alloc(), count)?;
+    for (count, output) in &COSTS_OF_LONG_LINES {
+        let text = letters(rt.alloc(), *count)?;
         let outcome = printed(rt.alloc(), &format, text.as_str());
         assert!(rt; outcome.written.as_slice() == output.as_bytes(), "{count}");
     }

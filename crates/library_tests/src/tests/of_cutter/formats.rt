@@ -3,20 +3,30 @@
 use super::samples::{prints, sample_cutter};
 use std::test::Fail;
 
+/// Node, unk, bos and eos.
+type Texts = (
+    &'static str,
+    Option<&'static str>,
+    &'static str,
+    &'static str,
+);
+
+const COSTS: &str = "すもも/名詞/100/110/110 もも/名詞/30/37/147 152\n";
+
+#[rattlefmt::skip]
+static FORMATS: [(&str, Texts, &str, &str); 4] = [
+    // (what, (node, unk, bos, eos), line, output)
+    ("cost_format", ("%m/%f[0]/%c/%pn/%pc\\s", None, "", "%pc\\n"), "すもももも", COSTS),
+    ("before and behind", ("%m/", None, "[%S]", "%L|%pc\\n"), "すもも", "[すもも]すもも/9|115\n"),
+    ("a part for unknown words", ("%m,", Some("<%m>%H"), "", ""), "もz", "も,<z>未知"),
+    ("nothing", ("", None, "", ""), "も", ""),
+];
+
 #[test]
 fn formats(rt: HostRuntime) -> Result<(), Fail> {
-    let costs = "すもも/名詞/100/110/110 もも/名詞/30/37/147 152\n";
-    #[rattlefmt::skip]
-    let rows = [
-        // (what, node, unk, bos, eos, line, output)
-        ("cost_format", "%m/%f[0]/%c/%pn/%pc\\s", None, "", "%pc\\n", "すもももも", costs),
-        ("before and behind", "%m/", None, "[%S]", "%L|%pc\\n", "すもも", "[すもも]すもも/9|115\n"),
-        ("a part for unknown words", "%m,", Some("<%m>%H"), "", "", "もz", "も,<z>未知"),
-        ("nothing", "", None, "", "", "も", ""),
-    ];
     let mut cutter = sample_cutter(rt.alloc())?;
-    for (what, node, unk, bos, eos, line, output) in rows {
-        cutter.set_format(node, unk, bos, eos)?;
+    for (what, (node, unk, bos, eos), line, output) in &FORMATS {
+        cutter.set_format(node, *unk, bos, eos)?;
         cutter.cut(line.as_bytes())?;
         assert!(rt; prints(rt.alloc(), &cutter, output)?, "{what}");
     }

@@ -8,12 +8,13 @@ use dict_image::load;
 use dictc_work::{NoImage, compile_image, tell_counts};
 use mj_model::{OverlayFault, SourceFault, SourceKind, sample};
 use programs::{Fault, Narrator};
-use std::fs;
+use std::alloc::Global;
 use std::string::String;
 use std::test::Fail;
+use std::{fs, io};
 
 /// Lexicons of users, by their names.
-const LEXICONS: [(&str, &str); 3] = [
+static LEXICONS: [(&str, &str); 3] = [
     ("user.csv", "もも,1,1,1,名詞,ユーザ\n"),
     ("skipped.csv", ",1,1,5,X\nもも,1,1,1,名詞,ユーザ\n"),
     ("bad.csv", "もも,1,1,1,名詞\nも,1,1,x,助詞\n"),
@@ -39,26 +40,23 @@ const BAD_USER: &str = "user --dic sys.img --out user.img bad.csv";
 /// What compiles that lexicon for a user dictionary.
 const FOR_USER: &str = "user --dic user.img --out sys.img bad.csv";
 
+/// Writes a file of a directory.
+fn write_in(rt: &HostRuntime, dir: &str, name: &str, bytes: &[u8]) -> io::Result<()> {
+    fs::write(rt, in_directory(rt, dir, name)?, bytes)
+}
+
 /// A new directory with the sample's sources and the users' lexicons.
 fn directory_of_files(rt: &HostRuntime, test: &str) -> Result<String, Fail> {
     let dir = new_directory(rt, test)?;
     let sample = sample();
-    let definitions = [
-        ("matrix.def", sample.matrix),
-        ("char.def", sample.chars),
-        ("unk.def", sample.unk),
-    ];
-    for (name, bytes) in definitions {
-        let path = in_directory(rt, dir.as_str(), name)?;
-        fs::write(rt, path.as_str(), bytes)?;
-    }
+    write_in(rt, dir.as_str(), "matrix.def", sample.matrix)?;
+    write_in(rt, dir.as_str(), "char.def", sample.chars)?;
+    write_in(rt, dir.as_str(), "unk.def", sample.unk)?;
     for lexicon in sample.lexicons {
-        let path = in_directory(rt, dir.as_str(), "lexicon.csv")?;
-        fs::write(rt, path.as_str(), *lexicon)?;
+        write_in(rt, dir.as_str(), "lexicon.csv", *lexicon)?;
     }
-    for (name, text) in LEXICONS {
-        let path = in_directory(rt, dir.as_str(), name)?;
-        fs::write(rt, path.as_str(), text)?;
+    for (name, text) in &LEXICONS {
+        write_in(rt, dir.as_str(), name, text.as_bytes())?;
     }
     Ok(dir)
 }
@@ -79,69 +77,128 @@ fn bytes_in(rt: &HostRuntime, dir: &str, name: &str) -> Result<Vec<u8>, Fail> {
     Ok(fs::read(rt, path.as_str())?)
 }
 
+/// A name, words, the image that they compile, whether it is a user's, and the line that is told.
+type CompiledRow = (&'static str, &'static str, &'static str, bool, &'static str);
+
+/// Whether this line is told of what was compiled.
+fn is_told(alloc: Global, compiled: &Compiled, line: &str) -> bool {
+    let mut told = Vec::new(alloc);
+    tell_counts(compiled, &mut told).is_ok() && told.as_slice() == line.as_bytes()
+}
+
+/// Whether an image loads, and is a user's or not.
+fn is_of_kind(alloc: Global, image: Vec<u8>, user: bool) -> bool {
+    match load(alloc, image) {
+        Ok(dictionary) => dictionary.is_user() == user,
+        Err(_) => false,
+    }
+}
+
+/// Whether a command line compiles an image of this name and kind, of which this line is told.
+fn is_compiled(
+    rt: &HostRuntime,
+    dir: &str,
+    (_what, given, name, user, line): &CompiledRow,
+) -> Result<bool, Fail> {
+    let Ok(compiled) = compile_in(rt, dir, given)? else {
+        return Ok(false);
+    };
+    let is_told = is_told(rt.alloc(), &compiled, line);
+    let is_same = bytes_in(rt, dir, name)? == compiled.image;
+    Ok(is_told && is_same && is_of_kind(rt.alloc(), compiled.image, *user))
+}
+
+#[rattlefmt::skip]
+static COMPILED: [CompiledRow; 3] = [
+    // (what, words, image, whether it is a user's, line)
+    ("the sample",       SYSTEM,  "sys.img",     false, "3 entries, 0 skipped\n"),
+    ("a user's",         USER,    "user.img",    true,  "1 entries, 0 skipped\n"),
+    ("an empty surface", SKIPPED, "skipped.img", true,  "1 entries, 1 skipped\n"),
+];
+
+/// The first row whose image is another one.
+fn first_not_compiled(rt: &HostRuntime, dir: &str) -> Result<Option<&'static str>, Fail> {
+    for row in &COMPILED {
+        if !is_compiled(rt, dir, row)? {
+            return Ok(Some(row.0));
+        }
+    }
+    Ok(None)
+}
+
 #[test]
 fn compiled_dictionaries(rt: HostRuntime) -> Result<(), Fail> {
     let dir = directory_of_files(&rt, "compiled")?;
-    #[rattlefmt::skip]
-    let rows = [
-        // (what, words, image, whether it is a user's, line)
-        ("the sample",       SYSTEM,  "sys.img",     false, "3 entries, 0 skipped\n"),
-        ("a user's",         USER,    "user.img",    true,  "1 entries, 0 skipped\n"),
-        ("an empty surface", SKIPPED, "skipped.img", true,  "1 entries, 1 skipped\n"),
-    ];
-    for (what, given, name, user, line) in rows {
-        let Ok(compiled) = compile_in(&rt, dir.as_str(), given)? else {
-            assert!(rt; false, "{what}");
-            return Ok(());
-        };
-        let mut told = Vec::new(rt.alloc());
-        assert!(rt; tell_counts(&compiled, &mut told).is_ok(), "{what}");
-        assert!(rt; told.as_slice() == line.as_bytes(), "{what}");
-        let image = bytes_in(&rt, dir.as_str(), name)?;
-        assert!(rt; image == compiled.image, "{what}");
-        let dictionary = load(rt.alloc(), image)?;
-        assert!(rt; dictionary.is_user() == user, "{what}");
-    }
+    let wrong = first_not_compiled(&rt, dir.as_str())?;
     fs::remove_dir_all(&rt, dir.as_str())?;
+    assert_eq!(rt; wrong, None);
     Ok(())
+}
+
+/// Whether the file of this path is told, with this number where it is a source.
+fn is_fault_of(compiled: &Result<Compiled, NoImage>, path: &str, number: Option<u32>) -> bool {
+    match compiled {
+        Err(NoImage::Fault(Fault::Source(told, fault))) => {
+            let SourceFault { file, line, kind } = fault;
+            let is_line = *line == 2 && *kind == SourceKind::BadNumber;
+            told.as_str() == path && number == Some(*file) && is_line
+        }
+        Err(NoImage::Fault(Fault::Overlay(told, OverlayFault::NotSystem))) => {
+            told.as_str() == path && number == None
+        }
+        _ => false,
+    }
+}
+
+/// Whether a command line compiles nothing, and this file is told, with this number where it is a source.
+fn is_refused(
+    rt: &HostRuntime,
+    dir: &str,
+    given: &str,
+    wanted: &str,
+    number: Option<u32>,
+) -> Result<bool, Fail> {
+    let compiled = compile_in(rt, dir, given)?;
+    let path = in_directory(rt, dir, wanted)?;
+    Ok(is_fault_of(&compiled, path.as_str(), number))
+}
+
+/// Whether a directory's file has these bytes.
+fn has_bytes(rt: &HostRuntime, dir: &str, name: &str, bytes: &[u8]) -> Result<bool, Fail> {
+    Ok(bytes_in(rt, dir, name)?.as_slice() == bytes)
+}
+
+#[rattlefmt::skip]
+static REFUSED: [(&str, &str, &str, Option<u32>); 3] = [
+    // (what, words, the file that is told, its number where it is a source)
+    ("a bad second lexicon",              BAD_SECOND, "bad.csv",  Some(4)),
+    ("a bad lexicon of a user",           BAD_USER,   "bad.csv",  Some(3)),
+    ("for a user's, which is told first", FOR_USER,   "user.img", None),
+];
+
+/// The first row that is told otherwise, or that changes an image.
+fn first_not_refused(rt: &HostRuntime, dir: &str) -> Result<Option<&'static str>, Fail> {
+    let system_image = bytes_in(rt, dir, "sys.img")?;
+    let user_image = bytes_in(rt, dir, "user.img")?;
+    for (what, given, wanted, number) in &REFUSED {
+        let is_kept = is_refused(rt, dir, given, wanted, *number)?
+            && has_bytes(rt, dir, "sys.img", &system_image)?
+            && has_bytes(rt, dir, "user.img", &user_image)?;
+        if !is_kept {
+            return Ok(Some(*what));
+        }
+    }
+    Ok(None)
 }
 
 #[test]
 fn refused_dictionaries(rt: HostRuntime) -> Result<(), Fail> {
     let dir = directory_of_files(&rt, "refused")?;
-    assert!(rt; compile_in(&rt, dir.as_str(), &SYSTEM)?.is_ok());
-    assert!(rt; compile_in(&rt, dir.as_str(), &USER)?.is_ok());
-    let system_image = bytes_in(&rt, dir.as_str(), "sys.img")?;
-    let user_image = bytes_in(&rt, dir.as_str(), "user.img")?;
-    #[rattlefmt::skip]
-    let rows = [
-        // (what, words, the file that is told, its number where it is a source)
-        ("a bad second lexicon",              BAD_SECOND, "bad.csv",  Some(4)),
-        ("a bad lexicon of a user",           BAD_USER,   "bad.csv",  Some(3)),
-        ("for a user's, which is told first", FOR_USER,   "user.img", None),
-    ];
-    for (what, given, wanted, number) in rows {
-        let path = in_directory(&rt, dir.as_str(), wanted)?;
-        match &compile_in(&rt, dir.as_str(), given)? {
-            Err(NoImage::Fault(Fault::Source(told, fault))) => {
-                let SourceFault { file, line, kind } = fault;
-                assert!(rt; *told == path && number == Some(*file), "{what}");
-                assert!(rt; *line == 2 && *kind == SourceKind::BadNumber, "{what}");
-            }
-            Err(NoImage::Fault(Fault::Overlay(told, OverlayFault::NotSystem))) => {
-                assert!(rt; *told == path && number == None, "{what}");
-            }
-            _ => assert!(rt; false, "{what}"),
-        }
-        assert!(rt;
-            bytes_in(&rt, dir.as_str(), "sys.img")? == system_image,
-            "{what}"
-        );
-        assert!(rt;
-            bytes_in(&rt, dir.as_str(), "user.img")? == user_image,
-            "{what}"
-        );
-    }
+    let is_made = compile_in(&rt, dir.as_str(), SYSTEM)?.is_ok()
+        && compile_in(&rt, dir.as_str(), USER)?.is_ok();
+    assert!(rt; is_made);
+    let wrong = first_not_refused(&rt, dir.as_str())?;
     fs::remove_dir_all(&rt, dir.as_str())?;
+    assert_eq!(rt; wrong, None);
     Ok(())
 }

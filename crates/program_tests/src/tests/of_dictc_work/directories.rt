@@ -34,51 +34,67 @@ fn options_in(rt: &HostRuntime, dir: &str, user: bool) -> io::Result<Options> {
     })
 }
 
+/// Whether this is the file that can't be read, and no image was written.
+fn is_unreadable(rt: &HostRuntime, dir: &str, user: bool, wanted: &str) -> Result<bool, Fail> {
+    let path = in_directory(rt, dir, wanted)?;
+    let quiet = Narrator::new(rt, "dictc", false);
+    let is_told = match &compile_image(rt, &options_in(rt, dir, user)?, &quiet) {
+        Err(NoImage::Fault(Fault::File(told))) => *told == path,
+        _ => false,
+    };
+    Ok(is_told && !fs::exists(rt, in_directory(rt, dir, "img")?)?)
+}
+
+#[rattlefmt::skip]
+static FILES_THAT_CANNOT_BE_READ: [(bool, &str, &str); 5] = [
+    // (whether for a user, the file that is made before, the one that is told)
+    (true,  "",           "sys.img"),
+    (false, "",           "matrix.def"),
+    (false, "matrix.def", "char.def"),
+    (false, "char.def",   "unk.def"),
+    (false, "unk.def",    "lexicon.csv"),
+];
+
+/// The file of the first row whose file can be read.
+fn first_readable(rt: &HostRuntime, dir: &str) -> Result<Option<&'static str>, Fail> {
+    for (user, name, wanted) in &FILES_THAT_CANNOT_BE_READ {
+        if !name.is_empty() {
+            fs::write(rt, in_directory(rt, dir, name)?, "x")?;
+        }
+        if !is_unreadable(rt, dir, *user, wanted)? {
+            return Ok(Some(*wanted));
+        }
+    }
+    Ok(None)
+}
+
 #[test]
 fn files_that_cannot_be_read(rt: HostRuntime) -> Result<(), Fail> {
     let dir = new_directory(&rt, "unreadable_files")?;
-    let quiet = Narrator::new(&rt, "dictc", false);
-    let rows = [
-        // (whether for a user, the file that is made before, the one that is told)
-        (true, "", "sys.img"),
-        (false, "", "matrix.def"),
-        (false, "matrix.def", "char.def"),
-        (false, "char.def", "unk.def"),
-        (false, "unk.def", "lexicon.csv"),
-    ];
-    for (user, name, wanted) in rows {
-        if !name.is_empty() {
-            let path = in_directory(&rt, dir.as_str(), name)?;
-            fs::write(&rt, path.as_str(), "x")?;
-        }
-        let path = in_directory(&rt, dir.as_str(), wanted)?;
-        match &compile_image(&rt, &options_in(&rt, dir.as_str(), user)?, &quiet) {
-            Err(NoImage::Fault(Fault::File(told))) => assert!(rt; *told == path, "{wanted}"),
-            _ => assert!(rt; false, "{wanted}"),
-        }
-        assert!(rt;
-            !fs::exists(&rt, in_directory(&rt, dir.as_str(), "img")?)?,
-            "{wanted}"
-        );
-    }
+    let wrong = first_readable(&rt, dir.as_str())?;
     fs::remove_dir_all(&rt, dir.as_str())?;
+    assert_eq!(rt; wrong, None);
     Ok(())
+}
+
+/// Whether a system image is told that is none. It is loaded before the lexicon is read, which isn't there.
+fn is_no_image(rt: &HostRuntime, dir: &str) -> Result<bool, Fail> {
+    let path = in_directory(rt, dir, "sys.img")?;
+    fs::write(rt, path.as_str(), "no image")?;
+    let quiet = Narrator::new(rt, "dictc", false);
+    Ok(
+        match &compile_image(rt, &options_in(rt, dir, true)?, &quiet) {
+            Err(NoImage::Fault(Fault::Image(told, ImageFault::Truncated))) => *told == path,
+            _ => false,
+        },
+    )
 }
 
 #[test]
 fn images_that_are_none(rt: HostRuntime) -> Result<(), Fail> {
     let dir = new_directory(&rt, "no_images")?;
-    let quiet = Narrator::new(&rt, "dictc", false);
-    let path = in_directory(&rt, dir.as_str(), "sys.img")?;
-    fs::write(&rt, path.as_str(), "no image")?;
-    let compiled = compile_image(&rt, &options_in(&rt, dir.as_str(), true)?, &quiet);
+    let is_told = is_no_image(&rt, dir.as_str())?;
     fs::remove_dir_all(&rt, dir.as_str())?;
-    // The image is loaded before the lexicon is read, which isn't there.
-    match &compiled {
-        Err(NoImage::Fault(Fault::Image(told, ImageFault::Truncated))) => assert!(rt;
-            *told == path
-        ),
-        _ => assert!(rt; false),
-    }
+    assert!(rt; is_told);
     Ok(())
 }

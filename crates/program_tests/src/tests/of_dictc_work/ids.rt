@@ -2,6 +2,7 @@
 
 use dict_image::EntryRef;
 use dictc_work::{Template, rows_of_pairs, text_of};
+use std::alloc::{AllocError, Global};
 use std::test::Fail;
 
 /// The names of the columns.
@@ -23,47 +24,46 @@ static ENTRIES: [(u16, u16, i16, &str); 10] = [
     (1, 1, 0, "*,一般"),
 ];
 
+/// How many of the entries fit a template.
+fn count_of_fitting(alloc: Global, text: &str) -> Result<usize, Fail> {
+    let template = Template::of(alloc, text)?;
+    let mut room = Vec::new(alloc);
+    let mut count = 0_usize;
+    for (_left, _right, _cost, feature) in &ENTRIES {
+        if template.fits(feature, &mut room)? {
+            count = count.saturating_add(1);
+        }
+    }
+    Ok(count)
+}
+
+#[rattlefmt::skip]
+static ENTRIES_THAT_FIT: [(&str, usize); 11] = [
+    // (a template, how many entries fit)
+    ("名詞",          8),
+    ("名詞,一般",     5),
+    ("名詞,一般,a",   1),
+    ("\"名詞\",一般", 5),
+    ("*,一般",        6),
+    (",一般",         6),
+    ("",              10),
+    ("*",             10),
+    ("名詞,*,*,*",    8),
+    ("名詞,一般,*,b", 0),
+    ("名",            0),
+];
+
 #[test]
 fn entries_that_fit(rt: HostRuntime) -> Result<(), Fail> {
-    #[rattlefmt::skip]
-    let rows = [
-        // (a template, how many entries fit)
-        ("名詞",          8),
-        ("名詞,一般",     5),
-        ("名詞,一般,a",   1),
-        ("\"名詞\",一般", 5),
-        ("*,一般",        6),
-        (",一般",         6),
-        ("",              10),
-        ("*",             10),
-        ("名詞,*,*,*",    8),
-        ("名詞,一般,*,b", 0),
-        ("名",            0),
-    ];
-    let mut room = Vec::new(rt.alloc());
-    for (text, wanted) in rows {
-        let template = Template::of(rt.alloc(), text)?;
-        let mut fitting = Vec::new(rt.alloc());
-        for (_left, _right, _cost, feature) in &ENTRIES {
-            if template.fits(feature, &mut room)? {
-                fitting.push(*feature)?;
-            }
-        }
-        assert!(rt; fitting.len() == wanted, "{text}");
+    for (text, wanted) in &ENTRIES_THAT_FIT {
+        assert!(rt; count_of_fitting(rt.alloc(), text)? == *wanted, "{text}");
     }
     Ok(())
 }
 
-#[test]
-fn lines_of_pairs(rt: HostRuntime) -> Result<(), Fail> {
-    #[rattlefmt::skip]
-    let rows = [
-        // (a template, lines)
-        ("名詞", "5\t6\t5\t-10\t20\t30\t40\t50\n2\t9\t1\t9\t9\t9\t9\t9\n3\t8\t1\t7\t7\t7\t7\t7\n3\t9\t1\t7\t7\t7\t7\t7\n"),
-        ("*,一般", "5\t6\t5\t-10\t20\t30\t40\t50\n1\t1\t1\t0\t0\t0\t0\t0\n"),
-        ("助詞", ""),
-    ];
-    let mut entries = Vec::new(rt.alloc());
+/// The entries, numbered by their order.
+fn entries(alloc: Global) -> Result<Vec<EntryRef<'static>>, AllocError> {
+    let mut entries = Vec::new(alloc);
     for (token, (left, right, cost, feature)) in ENTRIES.iter().enumerate() {
         let (left, right, cost, token) = (*left, *right, *cost, token as u32);
         let feature = *feature;
@@ -75,7 +75,21 @@ fn lines_of_pairs(rt: HostRuntime) -> Result<(), Fail> {
             token,
         })?;
     }
-    for (text, lines) in rows {
+    Ok(entries)
+}
+
+#[rattlefmt::skip]
+static LINES_OF_PAIRS: [(&str, &str); 3] = [
+    // (a template, lines)
+    ("名詞", "5\t6\t5\t-10\t20\t30\t40\t50\n2\t9\t1\t9\t9\t9\t9\t9\n3\t8\t1\t7\t7\t7\t7\t7\n3\t9\t1\t7\t7\t7\t7\t7\n"),
+    ("*,一般", "5\t6\t5\t-10\t20\t30\t40\t50\n1\t1\t1\t0\t0\t0\t0\t0\n"),
+    ("助詞", ""),
+];
+
+#[test]
+fn lines_of_pairs(rt: HostRuntime) -> Result<(), Fail> {
+    let entries = entries(rt.alloc())?;
+    for (text, lines) in &LINES_OF_PAIRS {
         let template = Template::of(rt.alloc(), text)?;
         let found = text_of(rt.alloc(), &rows_of_pairs(rt.alloc(), &template, &entries)?)?;
         let wanted = format!(in rt.alloc(); "{HEADING}{lines}")?;

@@ -2,11 +2,12 @@
 
 use dict_compile::{CompileUserFault, Compiled};
 use dictc_work::tell_counts;
-use mj_model::{NamedFault, SourceKind};
+use mj_model::{SourceFault, SourceKind};
 use programs::Fault;
 use std::alloc::Global;
 use std::io::{self, ErrorKind, Write};
 use std::test::Fail;
+use test_words::{FaultRow, first_untold};
 
 /// A writer that takes so many bytes in all, and whose flush may fail.
 #[derive(Drop)]
@@ -42,57 +43,63 @@ fn compiled(alloc: Global, entries: u64, skipped: u128) -> Compiled {
     }
 }
 
+#[rattlefmt::skip]
+static TOLD_COMPILATIONS: [(u64, u128, &str); 3] = [
+    // (entries, skipped, line)
+    (0,       0,         "0 entries, 0 skipped\n"),
+    (3,       1,         "3 entries, 1 skipped\n"),
+    (392_127, u128::MAX, "392127 entries, 340282366920938463463374607431768211455 skipped\n"),
+];
+
 #[test]
 fn told_compilations(rt: HostRuntime) -> Result<(), Fail> {
-    #[rattlefmt::skip]
-    let rows = [
-        // (entries, skipped, line)
-        (0,       0,         "0 entries, 0 skipped\n"),
-        (3,       1,         "3 entries, 1 skipped\n"),
-        (392_127, u128::MAX, "392127 entries, 340282366920938463463374607431768211455 skipped\n"),
-    ];
-    for (entries, skipped, line) in rows {
+    for (entries, skipped, line) in &TOLD_COMPILATIONS {
         let mut told = Vec::new(rt.alloc());
-        let counts = compiled(rt.alloc(), entries, skipped);
+        let counts = compiled(rt.alloc(), *entries, *skipped);
         assert!(rt; tell_counts(&counts, &mut told).is_ok(), "{line}");
         assert!(rt; told.as_slice() == line.as_bytes(), "{line}");
     }
     Ok(())
 }
 
+#[rattlefmt::skip]
+static COMPILATIONS_THAT_CANNOT_BE_TOLD: [(&str, usize, bool, bool); 4] = [
+    // (what, room for bytes, whether it can be flushed, whether it is told)
+    ("room for all",  21, true,  true),
+    ("no room",       0,  true,  false),
+    ("room for some", 5,  true,  false),
+    ("not flushed",   21, false, false),
+];
+
 #[test]
 fn compilations_that_cannot_be_told(rt: HostRuntime) -> Result<(), Fail> {
-    let rows = [
-        // (what, room for bytes, whether it can be flushed, whether it is told)
-        ("room for all", 21, true, true),
-        ("no room", 0, true, false),
-        ("room for some", 5, true, false),
-        ("not flushed", 21, false, false),
-    ];
-    for (what, room, flushes, is_told) in rows {
-        let mut writer = Full { room, flushes };
+    for (what, room, flushes, is_told) in &COMPILATIONS_THAT_CANNOT_BE_TOLD {
+        let mut writer = Full {
+            room: *room,
+            flushes: *flushes,
+        };
         let told = tell_counts(&compiled(rt.alloc(), 3, 1), &mut writer);
-        let fault = if is_told { None } else { Some(Fault::Output) };
+        let fault = if *is_told { None } else { Some(Fault::Output) };
         assert!(rt; told.err() == fault, "{what}");
     }
     Ok(())
 }
 
+const BAD_NUMBER: SourceFault = SourceFault {
+    file: 3,
+    line: 7,
+    kind: SourceKind::BadNumber,
+};
+
+#[rattlefmt::skip]
+static TOLD_FAULTS_OF_USERS: [FaultRow<CompileUserFault>; 2] = [
+    // (fault, code, name, text)
+    (CompileUserFault::NotSystem,          "O1", "NotSystem", "O1 NotSystem"),
+    (CompileUserFault::Source(BAD_NUMBER), "S3", "BadNumber", "file 3, line 7: S3 BadNumber"),
+];
+
 #[test]
 fn told_faults_of_users(rt: HostRuntime) -> Result<(), Fail> {
-    let source = CompileUserFault::Source(SourceKind::BadNumber.at(3, 7));
-    #[rattlefmt::skip]
-    let rows = [
-        // (fault, code, name, text)
-        (CompileUserFault::NotSystem, "O1", "NotSystem", "O1 NotSystem"),
-        (source,                      "S3", "BadNumber", "file 3, line 7: S3 BadNumber"),
-    ];
-    for (fault, code, name, text) in rows {
-        assert!(rt; fault.code() == code && fault.name() == name, "{text}");
-        assert!(rt;
-            format!(in rt.alloc(); "{fault}")?.as_str() == text,
-            "{text}"
-        );
-    }
+    assert_eq!(rt; first_untold(rt.alloc(), &TOLD_FAULTS_OF_USERS)?, None);
     Ok(())
 }

@@ -3,6 +3,7 @@
 use crate::tests::new_directory;
 use jseg_work::{Directory, read_directory};
 use programs::Fault;
+use std::alloc::{AllocError, Global};
 use std::test::Fail;
 use std::{fs, io};
 
@@ -11,78 +12,120 @@ fn write_file(rt: &HostRuntime, dir: &str, name: &str, text: &str) -> io::Result
     fs::write(rt, path.as_str(), text)
 }
 
-#[test]
-fn source_directories(rt: HostRuntime) -> Result<(), Fail> {
-    let dir = new_directory(&rt, "sources")?;
-    let rows = [
-        // (name, text, number where it is a source)
-        ("unk.def", "unknown", Some(2)),
-        ("b.csv", "second", Some(5)),
-        ("matrix.def", "1 1", Some(0)),
-        ("char.def", "categories", Some(1)),
-        ("dicrc", "not read", None),
-        ("a.csv", "first", Some(4)),
-        ("a.csv.bak", "not read", None),
-        (".csv", "before", Some(3)),
-    ];
-    for (name, text, _) in rows {
-        write_file(&rt, dir.as_str(), name, text)?;
-    }
-    let read = read_directory(&rt, dir.as_str());
-    fs::remove_dir_all(&rt, dir.as_str())?;
-    let Ok(Directory { matrix, files }) = read else {
-        assert!(rt; false, "the directory is read");
-        return Ok(());
+/// The files of a directory: (name, text, number where it is a source).
+#[rattlefmt::skip]
+static SOURCE_DIRECTORY: [(&str, &str, Option<u32>); 8] = [
+    ("unk.def",    "unknown",    Some(2)),
+    ("b.csv",      "second",     Some(5)),
+    ("matrix.def", "1 1",        Some(0)),
+    ("char.def",   "categories", Some(1)),
+    ("dicrc",      "not read",   None),
+    ("a.csv",      "first",      Some(4)),
+    ("a.csv.bak",  "not read",   None),
+    (".csv",       "before",     Some(3)),
+];
+
+/// Whether the source of a number has this path and these bytes.
+fn is_source(directory: &Directory, number: u32, path: &str, text: &str) -> bool {
+    let Directory { matrix, files } = directory;
+    let bytes = match number {
+        0 => matrix.as_slice(),
+        1 => files.chars.bytes.as_slice(),
+        2 => files.unk.bytes.as_slice(),
+        _ => match files.lexicons.get(number as usize - 3) {
+            Some(lexicon) => lexicon.bytes.as_slice(),
+            None => return false,
+        },
     };
-    assert!(rt; files.lexicons.len() == 3);
-    let bytes = [
-        &matrix,
-        &files.chars.bytes,
-        &files.unk.bytes,
-        &files.lexicons[0].bytes,
-        &files.lexicons[1].bytes,
-        &files.lexicons[2].bytes,
-    ];
-    for (name, text, number) in rows {
-        if let Some(number) = number {
-            let path = format!(in rt.alloc(); "{dir}/{name}")?;
-            assert!(rt; files.path(number) == Some(path.as_str()), "{name}");
-            assert!(rt;
-                bytes[number as usize].as_slice() == text.as_bytes(),
-                "{name}"
-            );
+    files.path(number) == Some(path) && bytes == text.as_bytes()
+}
+
+/// The name of the first row that is another source.
+fn first_wrong(
+    alloc: Global,
+    dir: &str,
+    directory: &Directory,
+) -> Result<Option<&'static str>, AllocError> {
+    for (name, text, number) in &SOURCE_DIRECTORY {
+        if let Some(number) = *number {
+            let path = format!(in alloc; "{dir}/{name}")?;
+            if !is_source(directory, number, path.as_str(), text) {
+                return Ok(Some(*name));
+            }
         }
+    }
+    Ok(None)
+}
+
+/// Makes the files of a directory.
+fn make_sources(rt: &HostRuntime, dir: &str) -> io::Result<()> {
+    for (name, text, _) in &SOURCE_DIRECTORY {
+        write_file(rt, dir, name, text)?;
     }
     Ok(())
 }
 
 #[test]
-fn unreadable_directories(rt: HostRuntime) -> Result<(), Fail> {
-    let dir = new_directory(&rt, "unreadable")?;
-    let rows = [
-        // (what is made before, the name that is told)
-        ("", "matrix.def"),
-        ("matrix.def", "char.def"),
-        ("char.def", "unk.def"),
-    ];
-    for (name, wanted) in rows {
-        if !name.is_empty() {
-            write_file(&rt, dir.as_str(), name, "x")?;
-        }
-        let path = format!(in rt.alloc(); "{dir}/{wanted}")?;
-        match &read_directory(&rt, dir.as_str()) {
-            Err(Fault::File(told)) => assert!(rt; told.as_str() == path.as_str(), "{wanted}"),
-            _ => assert!(rt; false, "{wanted}"),
-        }
-    }
-    write_file(&rt, dir.as_str(), "unk.def", "x")?;
-    let folder = format!(in rt.alloc(); "{dir}/a.csv")?;
-    fs::create_dir(&rt, folder.as_str())?;
+fn source_directories(rt: HostRuntime) -> Result<(), Fail> {
+    let dir = new_directory(&rt, "sources")?;
+    make_sources(&rt, dir.as_str())?;
     let read = read_directory(&rt, dir.as_str());
     fs::remove_dir_all(&rt, dir.as_str())?;
-    match &read {
-        Err(Fault::File(told)) => assert!(rt; told.as_str() == folder.as_str(), "a folder"),
-        _ => assert!(rt; false, "a folder"),
+    let Ok(directory) = &read else {
+        assert!(rt; false, "the directory is read");
+        return Ok(());
+    };
+    assert!(rt; directory.files.lexicons.len() == 3);
+    let wrong = first_wrong(rt.alloc(), dir.as_str(), directory)?;
+    assert_eq!(rt; wrong, None);
+    Ok(())
+}
+
+/// Whether a directory can't be read for this path.
+fn is_unreadable(rt: &HostRuntime, dir: &str, path: &str) -> bool {
+    match &read_directory(rt, dir) {
+        Err(Fault::File(told)) => told.as_str() == path,
+        _ => false,
     }
+}
+
+#[rattlefmt::skip]
+static UNREADABLE_DIRECTORIES: [(&str, &str); 3] = [
+    // (what is made before, the name that is told)
+    ("",           "matrix.def"),
+    ("matrix.def", "char.def"),
+    ("char.def",   "unk.def"),
+];
+
+/// The file of the first row that is not the one which can't be read.
+fn first_readable(rt: &HostRuntime, dir: &str) -> io::Result<Option<&'static str>> {
+    for (name, wanted) in &UNREADABLE_DIRECTORIES {
+        if !name.is_empty() {
+            write_file(rt, dir, name, "x")?;
+        }
+        let path = format!(in rt.alloc(); "{dir}/{wanted}")?;
+        if !is_unreadable(rt, dir, path.as_str()) {
+            return Ok(Some(*wanted));
+        }
+    }
+    Ok(None)
+}
+
+/// Whether a directory can't be read for a folder that has the name of a lexicon.
+fn is_folder_told(rt: &HostRuntime, dir: &str) -> io::Result<bool> {
+    write_file(rt, dir, "unk.def", "x")?;
+    let folder = format!(in rt.alloc(); "{dir}/a.csv")?;
+    fs::create_dir(rt, folder.as_str())?;
+    Ok(is_unreadable(rt, dir, folder.as_str()))
+}
+
+#[test]
+fn unreadable_directories(rt: HostRuntime) -> Result<(), Fail> {
+    let dir = new_directory(&rt, "unreadable")?;
+    let wrong = first_readable(&rt, dir.as_str())?;
+    let is_folder_told = is_folder_told(&rt, dir.as_str())?;
+    fs::remove_dir_all(&rt, dir.as_str())?;
+    assert_eq!(rt; wrong, None);
+    assert!(rt; is_folder_told, "a folder");
     Ok(())
 }

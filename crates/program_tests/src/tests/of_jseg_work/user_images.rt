@@ -1,6 +1,6 @@
 //! Images of no use where they were given.
 
-use crate::tests::{new_directory, words};
+use crate::tests::new_directory;
 use dict_compile::{compile, compile_user};
 use dict_image::DigestTest;
 use jseg_work::overlay_fault;
@@ -9,6 +9,7 @@ use programs::{dictionary_at, report};
 use segmenter::sample;
 use std::fs;
 use std::test::Fail;
+use test_words::words;
 use word_lookup::Dictionaries;
 
 #[test]
@@ -27,25 +28,24 @@ fn user_image_as_the_system(rt: HostRuntime) -> Result<(), Fail> {
     Ok(())
 }
 
+#[rattlefmt::skip]
+static IMAGES_AT_FAULT: [(OverlayFault, &str); 5] = [
+    // (fault, line)
+    (OverlayFault::NotSystem,     "jseg: s.img: O1 NotSystem\n"),
+    (OverlayFault::NotUser(0),    "jseg: a.img: O2 NotUser 0\n"),
+    (OverlayFault::NotUser(1),    "jseg: b.img: O2 NotUser 1\n"),
+    (OverlayFault::OtherSizes(0), "jseg: a.img: O3 OtherSizes 0\n"),
+    (OverlayFault::OtherSizes(1), "jseg: b.img: O3 OtherSizes 1\n"),
+];
+
 #[test]
 fn images_at_fault(rt: HostRuntime) -> Result<(), Fail> {
-    #[rattlefmt::skip]
-    let rows = [
-        // (fault, line)
-        (OverlayFault::NotSystem,     "jseg: s.img: O1 NotSystem\n"),
-        (OverlayFault::NotUser(0),    "jseg: a.img: O2 NotUser 0\n"),
-        (OverlayFault::NotUser(1),    "jseg: b.img: O2 NotUser 1\n"),
-        (OverlayFault::OtherSizes(0), "jseg: a.img: O3 OtherSizes 0\n"),
-        (OverlayFault::OtherSizes(1), "jseg: b.img: O3 OtherSizes 1\n"),
-    ];
     let users = words(rt.alloc(), "a.img b.img")?;
-    for (fault, line) in rows {
+    for (fault, line) in &IMAGES_AT_FAULT {
         let mut told = Vec::new(rt.alloc());
-        let fault = overlay_fault(rt.alloc(), "s.img", &users, fault);
-        assert!(rt;
-            report(rt.alloc(), "jseg", &fault, &mut told) == 1,
-            "{line}"
-        );
+        let fault = overlay_fault(rt.alloc(), "s.img", &users, *fault);
+        let status = report(rt.alloc(), "jseg", &fault, &mut told);
+        assert!(rt; status == 1, "{line}");
         assert!(rt; told.as_slice() == line.as_bytes(), "{line}");
     }
     Ok(())

@@ -1,11 +1,12 @@
 //! Where images live, and which of them stand there.
 
-use crate::tests::{new_directory, words};
+use crate::tests::new_directory;
 use programs::{Surroundings, image_in, image_names, in_byte_order, prefix_of, told_names};
 use std::alloc::{AllocError, Global};
-use std::fs;
 use std::string::String;
 use std::test::Fail;
+use std::{fs, io};
+use test_words::words;
 
 /// A text of its own, where there is one.
 fn own(alloc: Global, text: Option<&str>) -> Result<Option<String>, AllocError> {
@@ -15,113 +16,159 @@ fn own(alloc: Global, text: Option<&str>) -> Result<Option<String>, AllocError> 
     }
 }
 
+/// Where images live for these values of `PREFIX`, `XDG_DATA_HOME` and `HOME`.
+fn homes(
+    alloc: Global,
+    prefix: Option<&str>,
+    data_home: Option<&str>,
+    home: Option<&str>,
+) -> Result<Vec<String>, AllocError> {
+    let surroundings = Surroundings {
+        prefix: own(alloc, prefix)?,
+        data_home: own(alloc, data_home)?,
+        home: own(alloc, home)?,
+    };
+    surroundings.homes(alloc)
+}
+
+/// A name, `PREFIX`, `XDG_DATA_HOME` and `HOME`, and the folders.
+type FolderRow = (
+    &'static str,
+    Option<&'static str>,
+    Option<&'static str>,
+    Option<&'static str>,
+    &'static str,
+);
+
+#[rattlefmt::skip]
+static FOLDERS: [FolderRow; 14] = [
+    // (what, PREFIX, XDG_DATA_HOME, HOME, the folders)
+    ("a home",              Some("/opt/k"), None,         Some("/home/a"),
+        "/home/a/.local/share/kumquatsieve /opt/k/var/lib/kumquatsieve /opt/k/share/kumquatsieve"),
+    ("data of its own",     Some("/opt/k"), Some("/d"),   Some("/home/a"),
+        "/d/kumquatsieve /opt/k/var/lib/kumquatsieve /opt/k/share/kumquatsieve"),
+    ("data without a home", Some("/opt/k"), Some("/d"),   None,
+        "/d/kumquatsieve /opt/k/var/lib/kumquatsieve /opt/k/share/kumquatsieve"),
+    ("relative data",       Some("/opt/k"), Some("d"),    Some("/home/a"),
+        "/home/a/.local/share/kumquatsieve /opt/k/var/lib/kumquatsieve /opt/k/share/kumquatsieve"),
+    ("empty data",          Some("/opt/k"), Some(""),     Some("/home/a"),
+        "/home/a/.local/share/kumquatsieve /opt/k/var/lib/kumquatsieve /opt/k/share/kumquatsieve"),
+    ("a relative home",     Some("/opt/k"), None,         Some("a"),
+        "/opt/k/var/lib/kumquatsieve /opt/k/share/kumquatsieve"),
+    ("no variable",         Some("/opt/k"), None,         None,
+        "/opt/k/var/lib/kumquatsieve /opt/k/share/kumquatsieve"),
+    ("a package",           Some("/usr"),   None,         Some("/root"),
+        "/root/.local/share/kumquatsieve /var/lib/kumquatsieve /usr/share/kumquatsieve"),
+    ("/usr/local",          Some("/usr/local"), None,     None,
+        "/usr/local/var/lib/kumquatsieve /usr/local/share/kumquatsieve"),
+    ("the root",            Some(""),       None,         None,
+        "/var/lib/kumquatsieve /share/kumquatsieve"),
+    ("no prefix",           None,           None,         Some("/home/a"),
+        "/home/a/.local/share/kumquatsieve"),
+    ("nothing",             None,           None,         None, ""),
+    ("the user's prefix",   Some("/home/a/.local"), None, Some("/home/a"),
+        "/home/a/.local/share/kumquatsieve /home/a/.local/var/lib/kumquatsieve"),
+    ("data of the system",  Some("/usr"), Some("/var/lib"), None,
+        "/var/lib/kumquatsieve /usr/share/kumquatsieve"),
+];
+
 #[test]
 fn folders(rt: HostRuntime) -> Result<(), Fail> {
-    #[rattlefmt::skip]
-    let rows = [
-        // (what, PREFIX, XDG_DATA_HOME, HOME, the folders)
-        ("a home",              Some("/opt/k"), None,         Some("/home/a"),
-            "/home/a/.local/share/kumquatsieve /opt/k/var/lib/kumquatsieve /opt/k/share/kumquatsieve"),
-        ("data of its own",     Some("/opt/k"), Some("/d"),   Some("/home/a"),
-            "/d/kumquatsieve /opt/k/var/lib/kumquatsieve /opt/k/share/kumquatsieve"),
-        ("data without a home", Some("/opt/k"), Some("/d"),   None,
-            "/d/kumquatsieve /opt/k/var/lib/kumquatsieve /opt/k/share/kumquatsieve"),
-        ("relative data",       Some("/opt/k"), Some("d"),    Some("/home/a"),
-            "/home/a/.local/share/kumquatsieve /opt/k/var/lib/kumquatsieve /opt/k/share/kumquatsieve"),
-        ("empty data",          Some("/opt/k"), Some(""),     Some("/home/a"),
-            "/home/a/.local/share/kumquatsieve /opt/k/var/lib/kumquatsieve /opt/k/share/kumquatsieve"),
-        ("a relative home",     Some("/opt/k"), None,         Some("a"),
-            "/opt/k/var/lib/kumquatsieve /opt/k/share/kumquatsieve"),
-        ("no variable",         Some("/opt/k"), None,         None,
-            "/opt/k/var/lib/kumquatsieve /opt/k/share/kumquatsieve"),
-        ("a package",           Some("/usr"),   None,         Some("/root"),
-            "/root/.local/share/kumquatsieve /var/lib/kumquatsieve /usr/share/kumquatsieve"),
-        ("/usr/local",          Some("/usr/local"), None,     None,
-            "/usr/local/var/lib/kumquatsieve /usr/local/share/kumquatsieve"),
-        ("the root",            Some(""),       None,         None,
-            "/var/lib/kumquatsieve /share/kumquatsieve"),
-        ("no prefix",           None,           None,         Some("/home/a"),
-            "/home/a/.local/share/kumquatsieve"),
-        ("nothing",             None,           None,         None, ""),
-        ("the user's prefix",   Some("/home/a/.local"), None, Some("/home/a"),
-            "/home/a/.local/share/kumquatsieve /home/a/.local/var/lib/kumquatsieve"),
-        ("data of the system",  Some("/usr"), Some("/var/lib"), None,
-            "/var/lib/kumquatsieve /usr/share/kumquatsieve"),
-    ];
-    for (what, prefix, data_home, home, wanted) in rows {
-        let alloc = rt.alloc();
-        let surroundings = Surroundings {
-            prefix: own(alloc, prefix)?,
-            data_home: own(alloc, data_home)?,
-            home: own(alloc, home)?,
-        };
-        let homes = surroundings.homes(alloc)?;
-        assert!(rt; homes == words(alloc, wanted)?, "{what}");
+    for (what, prefix, data_home, home, wanted) in &FOLDERS {
+        let homes = homes(rt.alloc(), *prefix, *data_home, *home)?;
+        assert!(rt; homes == words(rt.alloc(), wanted)?, "{what}");
     }
     Ok(())
 }
 
+#[rattlefmt::skip]
+static PREFIXES: [(&str, Option<&str>); 6] = [
+    // (the program, its prefix)
+    ("/usr/bin/jseg", Some("/usr")),
+    ("/bin/jseg", Some("")),
+    ("/jseg", None),
+    ("jseg", None),
+    ("/opt/k/bin/dictc", Some("/opt/k")),
+    ("/work/crates/jseg/out/jseg", Some("/work/crates/jseg")),
+];
+
 #[test]
 fn prefixes(rt: HostRuntime) -> Result<(), Fail> {
-    let rows = [
-        // (the program, its prefix)
-        ("/usr/bin/jseg", Some("/usr")),
-        ("/bin/jseg", Some("")),
-        ("/jseg", None),
-        ("jseg", None),
-        ("/opt/k/bin/dictc", Some("/opt/k")),
-        ("/work/crates/jseg/out/jseg", Some("/work/crates/jseg")),
-    ];
-    for (program, prefix) in rows {
-        assert!(rt; prefix_of(program) == prefix, "{program}");
+    for (program, prefix) in &PREFIXES {
+        assert!(rt; prefix_of(program) == *prefix, "{program}");
     }
     let path = image_in(rt.alloc(), "/usr/share/kumquatsieve", "ipadic")?;
     assert!(rt; path.as_str() == "/usr/share/kumquatsieve/ipadic.img");
     Ok(())
 }
 
+static NAMES: [&str; 9] = [
+    "b.img", "B.img", "a.img", "é.img", "a.b.img", "a", "a.dicrc", "img", ".img",
+];
+
+/// Makes files of these names in a folder.
+fn make_images(rt: &HostRuntime, dir: &str) -> io::Result<()> {
+    for name in &NAMES {
+        let path = format!(in rt.alloc(); "{dir}/{name}")?;
+        fs::write(rt, path.as_str(), "x")?;
+    }
+    Ok(())
+}
+
+/// Whether these are the names of the images in a folder.
+fn has_images(rt: &HostRuntime, folder: &str, names: &str) -> Result<bool, AllocError> {
+    Ok(image_names(rt, folder)? == words(rt.alloc(), names)?)
+}
+
+/// Whether the names are those of the images, and not of a folder in which there are none.
+fn are_listed(rt: &HostRuntime, dir: &str) -> io::Result<bool> {
+    let folder = image_in(rt.alloc(), dir, "folder")?;
+    fs::create_dir(rt, folder.as_str())?;
+    Ok(has_images(rt, dir, "B a a.b b é")? && has_images(rt, folder.as_str(), "")?)
+}
+
+/// Whether names are put in this order.
+fn is_order(alloc: Global, names: &str, ordered: &str) -> Result<bool, AllocError> {
+    Ok(in_byte_order(words(alloc, names)?)? == words(alloc, ordered)?)
+}
+
 #[test]
 fn names_in_a_folder(rt: HostRuntime) -> Result<(), Fail> {
     let dir = new_directory(&rt, "homes")?;
-    for name in [
-        "b.img", "B.img", "a.img", "é.img", "a.b.img", "a", "a.dicrc", "img", ".img",
-    ] {
-        let path = format!(in rt.alloc(); "{dir}/{name}")?;
-        fs::write(&rt, path.as_str(), "x")?;
-    }
-    let folder = image_in(rt.alloc(), dir.as_str(), "folder")?;
-    fs::create_dir(&rt, folder.as_str())?;
-    let names = image_names(&rt, dir.as_str())?;
-    let none = image_names(&rt, folder.as_str())?;
+    make_images(&rt, dir.as_str())?;
+    let are_listed = are_listed(&rt, dir.as_str())?;
     fs::remove_dir_all(&rt, dir.as_str())?;
-    let gone = image_names(&rt, dir.as_str())?;
-    assert!(rt; names == words(rt.alloc(), "B a a.b b é")?);
-    assert!(rt; none.is_empty());
-    assert!(rt; gone.is_empty());
-    let ordered = in_byte_order(words(rt.alloc(), "é b a B a")?)?;
-    assert!(rt; ordered == words(rt.alloc(), "B a a b é")?);
+    assert!(rt; are_listed);
+    assert!(rt; has_images(&rt, dir.as_str(), "")?, "gone");
+    assert!(rt; is_order(rt.alloc(), "é b a B a", "B a a b é")?);
     Ok(())
+}
+
+const TWENTY: &str = "a, b, c, d, e, f, g, h, i, j, k, l, m, n, o, p, q, r, s, t";
+
+#[rattlefmt::skip]
+static NAMES_THAT_ARE_TOLD: [(&str, &str); 5] = [
+    // (names, the line)
+    ("", "none; kumquatsieve-import makes one"),
+    ("ipadic", "ipadic"),
+    ("ipadic unidic", "ipadic, unidic"),
+    ("a\tb \u{1b}", "a\\tb, \\u{1b}"),
+    ("a b c d e f g h i j k l m n o p q r s t", TWENTY),
+];
+
+/// Whether this is told of names.
+fn is_told(alloc: Global, names: &str, line: &str) -> Result<bool, AllocError> {
+    let told = told_names(alloc, &words(alloc, names)?)?;
+    Ok(told == format!(in alloc; "images there: {line}")?)
 }
 
 #[test]
 fn names_that_are_told(rt: HostRuntime) -> Result<(), Fail> {
-    let twenty = "a, b, c, d, e, f, g, h, i, j, k, l, m, n, o, p, q, r, s, t";
-    let rows = [
-        // (names, the line)
-        ("", "none; kumquatsieve-import makes one"),
-        ("ipadic", "ipadic"),
-        ("ipadic unidic", "ipadic, unidic"),
-        ("a\tb \u{1b}", "a\\tb, \\u{1b}"),
-        ("a b c d e f g h i j k l m n o p q r s t", twenty),
-    ];
-    for (names, line) in rows {
-        let told = told_names(rt.alloc(), &words(rt.alloc(), names)?)?;
-        let wanted = format!(in rt.alloc(); "images there: {line}")?;
-        assert!(rt; told == wanted, "{names}");
+    for (names, line) in &NAMES_THAT_ARE_TOLD {
+        assert!(rt; is_told(rt.alloc(), names, line)?, "{names}");
     }
-    let names = words(rt.alloc(), "a b c d e f g h i j k l m n o p q r s t u v w")?;
-    let told = told_names(rt.alloc(), &names)?;
-    let wanted = format!(in rt.alloc(); "images there: {twenty} and 3 more")?;
-    assert!(rt; told == wanted);
+    let further = "a b c d e f g h i j k l m n o p q r s t u v w";
+    let line = format!(in rt.alloc(); "{TWENTY} and 3 more")?;
+    assert!(rt; is_told(rt.alloc(), further, line.as_str())?);
     Ok(())
 }

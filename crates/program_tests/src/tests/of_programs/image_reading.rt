@@ -1,9 +1,13 @@
 //! Images whose first bytes are judged before the others are read.
 
+use Answer::{Endless, Refused, Whole};
+use First::{Image, Other};
+use dict_image::DigestTest;
 use mj_model::ImageFault::{self, BadLayout, BadMagic, BadSection, Truncated};
-use programs::{ImageReadFault, ReadFault, read_image};
+use programs::{ImageReadFault, ImageReading, ReadFault, ReadImage, read_image};
 use std::alloc::{AllocError, Global};
 use std::io::{self, Read};
+use std::process::Abort;
 use std::test::Fail;
 
 /// The bytes of the magic and the numbers of a header, and those of its lengths.
@@ -46,93 +50,130 @@ fn image(alloc: Global, layout: u8, section: u64, behind: usize) -> Result<Vec<u
 }
 
 /// What is answered of an image.
-#[derive(Clone, Copy, Debug, PartialEq, Eq)]
+#[derive(Clone, Copy, PartialEq)]
 enum Answer {
     Whole,
     Refused(ImageFault),
     Endless,
 }
 
-fn answered(read: Result<Vec<u8>, ImageReadFault>, bytes: &[u8]) -> Option<Answer> {
+/// Where the digest is tested, and nobody is told how far the reading is.
+fn tested() -> ImageReading<'static> {
+    ImageReading {
+        digest: DigestTest::Made,
+        told: None,
+    }
+}
+
+fn answered(read: Result<ReadImage, ImageReadFault>, bytes: &[u8]) -> Option<Answer> {
     match read {
-        Ok(whole) => (whole.as_slice() == bytes).then_some(Answer::Whole),
+        Ok(image) => (image.bytes.as_slice() == bytes).then_some(Answer::Whole),
         Err(ImageReadFault::Image(fault)) => Some(Answer::Refused(fault)),
         Err(ImageReadFault::Read(ReadFault::Endless)) => Some(Answer::Endless),
         Err(ImageReadFault::Read(_)) => None,
     }
 }
 
+/// A name, the layout, the bytes of section 1 and those behind the header, the known length, reads, and the answer.
+type HeadRow = (&'static str, u8, u64, usize, Option<u64>, u64, Answer);
+
+fn expect_judged(
+    rt: &(impl Abort + Alloc<A = Global>),
+    (what, layout, section, behind, known, reads, wanted): &HeadRow,
+) -> Result<(), AllocError> {
+    let bytes = image(rt.alloc(), *layout, *section, *behind)?;
+    let mut reader = bytes.as_slice();
+    let read = read_image(rt.alloc(), &mut reader, *known, *reads, tested());
+    assert!(rt; answered(read, &bytes) == Some(*wanted), "{what}");
+    Ok(())
+}
+
+const MUCH: u64 = 1 << 40;
+
+#[rattlefmt::skip]
+static JUDGED_HEADS: [HeadRow; 18] = [
+    // (what, layout, bytes of section 1, bytes behind the header, known length, reads, answer)
+    ("as many as told",          1, 10, 10, Some(114), 3, Whole),
+    ("the same of a pipe",       1, 10, 10, None,      3, Whole),
+    ("with a digest",            3, 10, 42, Some(146), 3, Whole),
+    ("a header alone",           2,  0,  0, Some(104), 3, Whole),
+    ("fewer",                    1, 10,  9, Some(113), 3, Refused(Truncated)),
+    ("fewer, of a pipe",         1, 10,  9, None,      3, Whole),
+    ("no digest",                3, 10, 10, Some(114), 3, Refused(Truncated)),
+    ("more",                     1, 10, 11, Some(115), 3, Refused(BadSection(9))),
+    ("more, of a pipe",          1, 10, 11, None,      3, Refused(BadSection(9))),
+    ("many more, of a pipe",     1, 10, 99, None,      3, Refused(BadSection(9))),
+    ("much is told",             1, MUCH, 0, Some(104), 3, Refused(Truncated)),
+    ("much is told, of a pipe",  1, MUCH, 0, None,     3, Whole),
+    ("more is told than counts", 3, u64::MAX, 0, None, 3, Refused(Truncated)),
+    ("the file tells nothing",   1, 10, 10, Some(0),   3, Whole),
+    ("layout 0",                 0, 10, 10, Some(114), 3, Refused(BadLayout(0))),
+    ("layout 4 before lengths",  4, 10,  9, Some(113), 3, Refused(BadLayout(4))),
+    ("too few reads for it",     1, 10, 10, Some(114), 1, Endless),
+    ("none",                     1, 10, 10, Some(114), 0, Endless),
+];
+
 #[test]
 fn judged_heads(rt: HostRuntime) -> Result<(), Fail> {
-    use Answer::{Endless, Refused, Whole};
-    const MUCH: u64 = 1 << 40;
-    #[rattlefmt::skip]
-    let rows = [
-        // (what, layout, bytes of section 1, bytes behind the header, known length, reads, answer)
-        ("as many as told",          1, 10, 10, Some(114), 3, Whole),
-        ("the same of a pipe",       1, 10, 10, None,      3, Whole),
-        ("with a digest",            3, 10, 42, Some(146), 3, Whole),
-        ("a header alone",           2,  0,  0, Some(104), 3, Whole),
-        ("fewer",                    1, 10,  9, Some(113), 3, Refused(Truncated)),
-        ("fewer, of a pipe",         1, 10,  9, None,      3, Whole),
-        ("no digest",                3, 10, 10, Some(114), 3, Refused(Truncated)),
-        ("more",                     1, 10, 11, Some(115), 3, Refused(BadSection(9))),
-        ("more, of a pipe",          1, 10, 11, None,      3, Refused(BadSection(9))),
-        ("many more, of a pipe",     1, 10, 99, None,      3, Refused(BadSection(9))),
-        ("much is told",             1, MUCH, 0, Some(104), 3, Refused(Truncated)),
-        ("much is told, of a pipe",  1, MUCH, 0, None,     3, Whole),
-        ("more is told than counts", 3, u64::MAX, 0, None, 3, Refused(Truncated)),
-        ("the file tells nothing",   1, 10, 10, Some(0),   3, Whole),
-        ("layout 0",                 0, 10, 10, Some(114), 3, Refused(BadLayout(0))),
-        ("layout 4 before lengths",  4, 10,  9, Some(113), 3, Refused(BadLayout(4))),
-        ("too few reads for it",     1, 10, 10, Some(114), 1, Endless),
-        ("none",                     1, 10, 10, Some(114), 0, Endless),
-    ];
-    for (what, layout, section, behind, known, reads, wanted) in rows {
-        let bytes = image(rt.alloc(), layout, section, behind)?;
-        let mut reader = bytes.as_slice();
-        let read = read_image(rt.alloc(), &mut reader, known, reads);
-        assert!(rt; answered(read, &bytes) == Some(wanted), "{what}");
+    for row in &JUDGED_HEADS {
+        expect_judged(&rt, row)?;
     }
     Ok(())
 }
 
-/// Bytes come as they like, and what they are is told where a header of them is there.
-/// The first bytes of some, or all of them where they are fewer.
-fn front(bytes: &[u8], count: usize) -> &[u8] {
-    &bytes[..count.min(bytes.len())]
+/// The first bytes of an image or of another file, so many, or all where they are fewer.
+enum First {
+    Image(usize),
+    Other(usize),
 }
+
+/// A name, the bytes, how many come at once, whether they end, the answer, and the most reads.
+type DrippingRow = (&'static str, First, usize, bool, Answer, usize);
+
+/// Bytes come as they like, and what they are is told where a header of them is there.
+fn expect_dripping(
+    rt: &(impl Abort + Alloc<A = Global>),
+    files: (&[u8], &[u8]),
+    (what, first, at_once, ends, wanted, most): &DrippingRow,
+) {
+    let (bytes, count) = match first {
+        Image(count) => (files.0, *count),
+        Other(count) => (files.1, *count),
+    };
+    let bytes = &bytes[..count.min(bytes.len())];
+    let mut reader = Dripping {
+        text: bytes,
+        at_once: *at_once,
+        ends: *ends,
+        reads: 0,
+    };
+    let read = read_image(rt.alloc(), &mut reader, None, 1 << 40, tested());
+    assert!(rt; answered(read, bytes) == Some(*wanted), "{what}");
+    assert!(rt; reader.reads <= *most, "{what}: {} reads", reader.reads);
+}
+
+#[rattlefmt::skip]
+static DRIPPING_HEADS: [DrippingRow; 11] = [
+    // (what, bytes, bytes at once, whether they end, answer, most reads)
+    ("single bytes",         Image(usize::MAX), 1,      true,  Whole,                  70_105),
+    ("a header at once",     Image(usize::MAX), 104,    true,  Whole,                  676),
+    ("all at once",          Image(usize::MAX), 99_999, true,  Whole,                  3),
+    ("zeros behind it",      Image(usize::MAX), 99_999, false, Refused(BadSection(9)), 3),
+    ("zeros behind, singly", Image(usize::MAX), 1,      false, Refused(BadSection(9)), 70_105),
+    ("zeros behind a part",  Image(200),        99_999, false, Refused(BadSection(9)), 4),
+    ("another file",         Other(usize::MAX), 99_999, true,  Refused(BadMagic),      1),
+    ("another one, singly",  Other(usize::MAX), 1,      true,  Refused(BadMagic),      104),
+    ("fewer than a header",  Other(103),        99_999, true,  Whole,                  2),
+    ("nothing",              Other(0),          99_999, true,  Whole,                  1),
+    ("zeros for ever",       Other(0),          99_999, false, Refused(BadMagic),      1),
+];
 
 #[test]
 fn dripping_heads(rt: HostRuntime) -> Result<(), Fail> {
-    use Answer::{Refused, Whole};
     let of_image = image(rt.alloc(), 1, 70_000, 70_000)?;
     let other = vec![in rt.alloc(); 7_u8; 300]?;
-    #[rattlefmt::skip]
-    let rows = [
-        // (what, bytes, bytes at once, whether they end, answer, most reads)
-        ("single bytes",           of_image.as_slice(), 1,      true,  Whole,                  70_105),
-        ("a header at once",       of_image.as_slice(), 104,    true,  Whole,                  676),
-        ("all at once",            of_image.as_slice(), 99_999, true,  Whole,                  3),
-        ("zeros behind it",        of_image.as_slice(), 99_999, false, Refused(BadSection(9)), 3),
-        ("zeros behind, singly",   of_image.as_slice(), 1,      false, Refused(BadSection(9)), 70_105),
-        ("zeros behind a part",    front(&of_image, 200), 99_999, false, Refused(BadSection(9)), 4),
-        ("another file",           other.as_slice(),    99_999, true,  Refused(BadMagic),      1),
-        ("another one, singly",    other.as_slice(),    1,      true,  Refused(BadMagic),      104),
-        ("fewer than a header",    front(&other, 103),    99_999, true,  Whole,                  2),
-        ("nothing",                front(&other, 0),      99_999, true,  Whole,                  1),
-        ("zeros for ever",         front(&other, 0),      99_999, false, Refused(BadMagic),      1),
-    ];
-    for (what, bytes, at_once, ends, wanted, most) in rows {
-        let mut reader = Dripping {
-            text: bytes,
-            at_once,
-            ends,
-            reads: 0,
-        };
-        let read = read_image(rt.alloc(), &mut reader, None, 1 << 40);
-        assert!(rt; answered(read, bytes) == Some(wanted), "{what}");
-        assert!(rt; reader.reads <= most, "{what}: {} reads", reader.reads);
+    for row in &DRIPPING_HEADS {
+        expect_dripping(&rt, (&of_image, &other), row);
     }
     Ok(())
 }

@@ -1,7 +1,9 @@
 //! Readers that are read to their end, and those that fail.
 
 use programs::{ReadFault, read_whole};
+use std::alloc::{AllocError, Global};
 use std::io::{self, ErrorKind, Read};
+use std::process::Abort;
 use std::test::Fail;
 
 /// A reader that fails behind so many reads of one byte.
@@ -20,29 +22,42 @@ impl Read for Failing {
     }
 }
 
+/// Reads so many bytes, which end within so many reads or don't.
+fn expect_read(
+    rt: &(impl Abort + Alloc<A = Global>),
+    length: usize,
+    reads: u64,
+    ends: bool,
+) -> Result<(), AllocError> {
+    let text = vec![in rt.alloc(); 7_u8; length]?;
+    let mut reader = text.as_slice();
+    match read_whole(rt.alloc(), &mut reader, reads) {
+        Ok(bytes) => assert!(rt; ends && bytes == text, "{length} in {reads}"),
+        Err(ReadFault::Endless) => assert!(rt; !ends, "{length} in {reads}"),
+        Err(_) => assert!(rt; false, "{length} in {reads}"),
+    }
+    Ok(())
+}
+
+#[rattlefmt::skip]
+static READERS_OF_SOME_LENGTH: [(usize, u64, bool); 10] = [
+    // (bytes, reads, whether it ends within them)
+    (0,       1, true),
+    (0,       0, false),
+    (1,       2, true),
+    (1,       1, false),
+    (65_536,  2, true),
+    (65_537,  3, true),
+    (65_537,  2, false),
+    (200_000, 5, true),
+    (300_000, 6, true),
+    (300_000, 5, false),
+];
+
 #[test]
 fn readers_of_some_length(rt: HostRuntime) -> Result<(), Fail> {
-    let rows = [
-        // (bytes, reads, whether it ends within them)
-        (0, 1, true),
-        (0, 0, false),
-        (1, 2, true),
-        (1, 1, false),
-        (65_536, 2, true),
-        (65_537, 3, true),
-        (65_537, 2, false),
-        (200_000, 5, true),
-        (300_000, 6, true),
-        (300_000, 5, false),
-    ];
-    for (length, reads, ends) in rows {
-        let text = vec![in rt.alloc(); 7_u8; length]?;
-        let mut reader = text.as_slice();
-        match read_whole(rt.alloc(), &mut reader, reads) {
-            Ok(bytes) => assert!(rt; ends && bytes == text, "{length} in {reads}"),
-            Err(ReadFault::Endless) => assert!(rt; !ends, "{length} in {reads}"),
-            Err(_) => assert!(rt; false, "{length} in {reads}"),
-        }
+    for (length, reads, ends) in &READERS_OF_SOME_LENGTH {
+        expect_read(&rt, *length, *reads, *ends)?;
     }
     Ok(())
 }

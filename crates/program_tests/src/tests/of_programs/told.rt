@@ -8,6 +8,7 @@ use mj_model::{
 };
 use programs::{Fault, report};
 use std::alloc::{AllocError, Global};
+use std::fmt::Display;
 use std::string::String;
 use std::test::Fail;
 
@@ -35,7 +36,6 @@ fn is_told(alloc: Global, fault: &Fault, line: &str, status: u8) -> Result<bool,
 }
 
 /// A fault, with the paths of the rows.
-#[derive(Clone, Copy)]
 enum Told {
     /// Of line 7 of a lexicon.
     Source(SourceKind),
@@ -53,21 +53,21 @@ enum Told {
 }
 
 impl Told {
-    fn fault(self, alloc: Global) -> Result<Fault, AllocError> {
+    fn fault(&self, alloc: Global) -> Result<Fault, AllocError> {
         Ok(match self {
             Told::Source(kind) => Fault::of_source(alloc, Some("a/b.csv"), kind.at(3, 7)),
             Told::Sources(kind) => Fault::of_source(alloc, None, kind.at(NO_FILE, 0)),
             Told::Misplaced(kind) => {
                 Fault::Source(String::from_str(alloc, "a/b.csv")?, kind.at(NO_FILE, 0))
             }
-            Told::Image(fault) => Fault::Image(String::from_str(alloc, "s.img")?, fault),
-            Told::Overlay(fault) => Fault::of_overlay(alloc, "u.img", fault),
+            Told::Image(fault) => Fault::Image(String::from_str(alloc, "s.img")?, *fault),
+            Told::Overlay(fault) => Fault::of_overlay(alloc, "u.img", *fault),
             Told::Format(at, kind) => {
-                let part = FormatPart::Node;
+                let (part, at, kind) = (FormatPart::Node, *at, *kind);
                 Fault::Format(FormatFault::Bad { part, at, kind })
             }
             Told::FormatMemory => Fault::Format(FormatFault::Memory),
-            Told::Run(fault) => Fault::Run(fault),
+            Told::Run(fault) => Fault::Run(*fault),
             Told::File => Fault::File(String::from_str(alloc, "a/x.csv")?),
             Told::Output => Fault::Output,
             Told::Memory => Fault::Memory,
@@ -134,11 +134,10 @@ static TOLD_FAULTS: [(Told, &str, u8); 51] = [
 
 #[test]
 fn told_faults(rt: HostRuntime) -> Result<(), Fail> {
-    let alloc = rt.alloc();
     for (told, line, status) in &TOLD_FAULTS {
-        let fault = told.fault(alloc)?;
-        assert!(rt; is_told(alloc, &fault, line, *status)?, "{line}");
-        assert!(rt; has_words(alloc, line, &fault)?, "{line}");
+        let fault = told.fault(rt.alloc())?;
+        assert!(rt; is_told(rt.alloc(), &fault, line, *status)?, "{line}");
+        assert!(rt; has_words(rt.alloc(), line, &fault)?, "{line}");
         assert!(rt; is_explained(&fault), "{line}");
     }
     Ok(())
@@ -150,54 +149,71 @@ fn is_explained(fault: &Fault) -> bool {
         && found.name == fault.name())
 }
 
+/// Whether a fault is printed in this text, which has its words.
+fn is_printed<F: NamedFault + Display + Copy + Drop>(
+    alloc: Global,
+    text: &str,
+    fault: F,
+) -> Result<bool, Fail> {
+    let printed = format!(in alloc; "{fault}")?;
+    Ok(has_words(alloc, text, fault)? && printed.as_str() == text)
+}
+
 /// Faults of sources without a path, and the ones that carry them.
+#[rattlefmt::skip]
+static CARRIED_SOURCES: [(SourceKind, &str); 2] = [
+    // (fault, text)
+    (SourceKind::TooManyEntries,     "file 4, line 12: S5 TooMany"),
+    (SourceKind::MissingCategory(4), "file 4, line 12: U2 MissingCategory 4"),
+];
+
 #[test]
 fn carried_sources(rt: HostRuntime) -> Result<(), Fail> {
-    let alloc = rt.alloc();
-    let rows = [
-        // (fault, text)
-        (SourceKind::TooManyEntries, "file 4, line 12: S5 TooMany"),
-        (
-            SourceKind::MissingCategory(4),
-            "file 4, line 12: U2 MissingCategory 4",
-        ),
-    ];
-    for (kind, text) in &rows {
+    for (kind, text) in &CARRIED_SOURCES {
         let fault = kind.at(4, 12);
-        assert!(rt; has_words(alloc, text, *kind)?, "{text}");
-        assert!(rt; has_words(alloc, text, fault)?, "{text}");
-        assert!(rt; format!(in alloc; "{fault}")?.as_str() == *text, "{text}");
-        for run in [RunFault::Source(fault), RunFault::UserSource(1, fault)] {
-            assert!(rt; has_words(alloc, text, run)?, "{text}");
-            assert!(rt; format!(in alloc; "{run}")?.as_str() == *text, "{text}");
-        }
+        assert!(rt; has_words(rt.alloc(), text, *kind)?, "{text}");
+        assert!(rt; is_printed(rt.alloc(), text, fault)?, "{text}");
+        assert!(rt;
+            is_printed(rt.alloc(), text, RunFault::Source(fault))?,
+            "{text}"
+        );
+        assert!(rt;
+            is_printed(rt.alloc(), text, RunFault::UserSource(1, fault))?,
+            "{text}"
+        );
     }
     Ok(())
 }
 
+/// Whether a path is told so in each fault that has one.
+fn is_path_told(alloc: Global, path: &str, told: &str) -> Result<bool, Fail> {
+    let bad = SourceKind::BadNumber.at(3, 7);
+    let source = Fault::of_source(alloc, Some(path), bad);
+    let overlay = Fault::of_overlay(alloc, path, NotSystem);
+    let image = Fault::Image(String::from_str(alloc, path)?, ImageFault::Truncated);
+    let file = Fault::File(String::from_str(alloc, path)?);
+    let text = format!(in alloc; "{source}; {overlay}; {image}; {file}")?;
+    let wanted = format!(in alloc;
+        "{told}:7: S3 BadNumber; {told}: O1 NotSystem; {told}: L1 Truncated; {told}: F1 File"
+    )?;
+    Ok(text == wanted)
+}
+
 /// A path is told in one line.
+#[rattlefmt::skip]
+static ESCAPED_PATHS: [(&str, &str); 5] = [
+    // (path, as it is told)
+    ("もも é", "もも é"),
+    ("a\\n", "a\\n"),
+    ("a\nb\r\t", "a\\nb\\r\\t"),
+    ("\u{1b}[1m\u{7f}", "\\u{1b}[1m\\u{7f}"),
+    ("\u{85}\0", "\\u{85}\\u{0}"),
+];
+
 #[test]
 fn escaped_paths(rt: HostRuntime) -> Result<(), Fail> {
-    let alloc = rt.alloc();
-    let rows = [
-        // (path, as it is told)
-        ("もも é", "もも é"),
-        ("a\\n", "a\\n"),
-        ("a\nb\r\t", "a\\nb\\r\\t"),
-        ("\u{1b}[1m\u{7f}", "\\u{1b}[1m\\u{7f}"),
-        ("\u{85}\0", "\\u{85}\\u{0}"),
-    ];
-    for (path, told) in &rows {
-        let bad = SourceKind::BadNumber.at(3, 7);
-        let source = Fault::of_source(alloc, Some(path), bad);
-        let overlay = Fault::of_overlay(alloc, path, NotSystem);
-        let image = Fault::Image(String::from_str(alloc, path)?, ImageFault::Truncated);
-        let file = Fault::File(String::from_str(alloc, path)?);
-        let text = format!(in alloc; "{source}; {overlay}; {image}; {file}")?;
-        let wanted = format!(in alloc;
-            "{told}:7: S3 BadNumber; {told}: O1 NotSystem; {told}: L1 Truncated; {told}: F1 File"
-        )?;
-        assert!(rt; text == wanted, "{told}");
+    for (path, told) in &ESCAPED_PATHS {
+        assert!(rt; is_path_told(rt.alloc(), path, told)?, "{told}");
     }
     Ok(())
 }

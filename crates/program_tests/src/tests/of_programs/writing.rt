@@ -4,6 +4,7 @@ use super::failing_files::FailingFiles;
 use super::names_in;
 use crate::tests::new_directory;
 use programs::{Fault, write_as, write_file};
+use std::alloc::{AllocError, Global};
 use std::fs::{self, Permissions};
 use std::io;
 use std::os::unix::fs::{PermissionsExt, symlink};
@@ -22,129 +23,200 @@ fn has_bytes(rt: &HostRuntime, path: &str, bytes: &[u8]) -> io::Result<bool> {
     Ok(fs::read(rt, path)?.as_slice() == bytes)
 }
 
+/// Writes a file of a directory. Whether it then has these bytes, and no other name is there.
+fn is_written(rt: &HostRuntime, dir: &str, path: &str, bytes: &[u8]) -> io::Result<bool> {
+    let written = write_file(rt, path, bytes).is_ok();
+    Ok(written && has_bytes(rt, path, bytes)? && names_in(rt, dir)? == 1)
+}
+
+/// More bytes than are written at once.
+fn many_bytes(alloc: Global) -> Result<Vec<u8>, AllocError> {
+    (0..300_000_u32)
+        .map(|number| (number % 251) as u8)
+        .collect(alloc)
+}
+
+static WRITTEN_BYTES: [(&str, &[u8]); 5] = [
+    ("first", b"first"),
+    ("in its place", b"in its place"),
+    ("one byte", b"\xff"),
+    ("another", b"\0"),
+    ("none", b""),
+];
+
 #[test]
 fn written_bytes(rt: HostRuntime) -> Result<(), Fail> {
     let (dir, path) = new_place(&rt, "written")?;
-    let large: Vec<u8> = (0..300_000_u32)
-        .map(|number| (number % 251) as u8)
-        .collect(rt.alloc())?;
-    let rows = [
-        ("first", b"first".as_slice()),
-        ("in its place", b"in its place"),
-        ("one byte", b"\xff"),
-        ("another", b"\0"),
-        ("none", b""),
-        ("above 256 KiB", &large),
-    ];
-    for (what, bytes) in rows {
-        assert!(rt; write_file(&rt, path.as_str(), bytes).is_ok(), "{what}");
-        assert!(rt; has_bytes(&rt, path.as_str(), bytes)?, "{what}");
-        assert!(rt; names_in(&rt, dir.as_str())? == 1, "{what}");
+    for (what, bytes) in &WRITTEN_BYTES {
+        assert!(rt;
+            is_written(&rt, dir.as_str(), path.as_str(), bytes)?,
+            "{what}"
+        );
+    }
+    let large = many_bytes(rt.alloc())?;
+    assert!(rt;
+        is_written(&rt, dir.as_str(), path.as_str(), &large)?,
+        "above 256 KiB"
+    );
+    fs::remove_dir_all(&rt, dir.as_str())?;
+    Ok(())
+}
+
+/// A name, the room of a file, the bytes that it takes at once, whether it is interrupted, synced and renamed, and so written.
+type WriteRow = (&'static str, usize, usize, bool, bool, bool, bool);
+
+/// Writes a file that stands there already, where calls fail so. Whether it then has all of the new bytes, or else the old ones.
+fn is_whole_or_old(
+    rt: &HostRuntime,
+    dir: &str,
+    path: &str,
+    (_what, room, at_once, interrupts, syncs, renames, is_written): &WriteRow,
+) -> io::Result<bool> {
+    fs::write(rt, path, "old")?;
+    let files = FailingFiles {
+        room: *room,
+        at_once: *at_once,
+        interrupts: *interrupts,
+        syncs: *syncs,
+        renames: *renames,
+        ..FailingFiles::none(rt)
+    };
+    let written = write_as(&files, 7, path, b"new bytes").is_ok();
+    let wanted = if *is_written { "new bytes" } else { "old" };
+    let has_wanted = has_bytes(rt, path, wanted.as_bytes())?;
+    Ok(written == *is_written && has_wanted && names_in(rt, dir)? == 1)
+}
+
+#[rattlefmt::skip]
+static WHOLE_OR_NOT_AT_ALL: [WriteRow; 9] = [
+    // (what, room, bytes at once, whether it is interrupted, synced, renamed, and so written)
+    ("all at once",    9, 9, false, true,  true,  true),
+    ("short writes",   9, 2, false, true,  true,  true),
+    ("single bytes",   9, 1, false, true,  true,  true),
+    ("no room",        0, 9, false, true,  true,  false),
+    ("room for some",  8, 9, false, true,  true,  false),
+    ("for some bytes", 5, 1, false, true,  true,  false),
+    ("interrupted",    9, 9, true,  true,  true,  false),
+    ("not synced",     9, 9, false, false, true,  false),
+    ("not renamed",    9, 9, false, true,  false, false),
+];
+
+#[test]
+fn whole_or_not_at_all(rt: HostRuntime) -> Result<(), Fail> {
+    let (dir, path) = new_place(&rt, "whole")?;
+    for row in &WHOLE_OR_NOT_AT_ALL {
+        let what = row.0;
+        assert!(rt;
+            is_whole_or_old(&rt, dir.as_str(), path.as_str(), row)?,
+            "{what}"
+        );
     }
     fs::remove_dir_all(&rt, dir.as_str())?;
     Ok(())
 }
 
-#[test]
-fn whole_or_not_at_all(rt: HostRuntime) -> Result<(), Fail> {
-    let (dir, path) = new_place(&rt, "whole")?;
-    #[rattlefmt::skip]
-    let rows = [
-        // (what, room, bytes at once, whether it is interrupted, synced, renamed, and so written)
-        ("all at once",    9, 9, false, true,  true,  true),
-        ("short writes",   9, 2, false, true,  true,  true),
-        ("single bytes",   9, 1, false, true,  true,  true),
-        ("no room",        0, 9, false, true,  true,  false),
-        ("room for some",  8, 9, false, true,  true,  false),
-        ("for some bytes", 5, 1, false, true,  true,  false),
-        ("interrupted",    9, 9, true,  true,  true,  false),
-        ("not synced",     9, 9, false, false, true,  false),
-        ("not renamed",    9, 9, false, true,  false, false),
-    ];
-    for (what, room, at_once, interrupts, syncs, renames, is_written) in rows {
-        fs::write(&rt, path.as_str(), "old")?;
-        let files = FailingFiles {
-            room,
-            at_once,
-            interrupts,
-            syncs,
-            renames,
-            ..FailingFiles::none(&rt)
-        };
-        let written = write_as(&files, 7, path.as_str(), b"new bytes");
-        let wanted = if is_written { "new bytes" } else { "old" };
-        assert!(rt; written.is_ok() == is_written, "{what}");
-        assert!(rt; has_bytes(&rt, path.as_str(), wanted.as_bytes())?, "{what}");
-        assert!(rt; names_in(&rt, dir.as_str())? == 1, "{what}");
-    }
-    fs::remove_dir_all(&rt, dir.as_str())?;
-    Ok(())
+/// The path of a new file, by its number, which process 7 would write.
+fn new_path(rt: &HostRuntime, dir: &str, number: u32) -> io::Result<String> {
+    Ok(format!(in rt.alloc(); "{dir}/.kumquatsieve.7.{number}.new")?)
+}
+
+/// Makes a file and a directory of the first two names.
+fn take_names(rt: &HostRuntime, dir: &str) -> io::Result<()> {
+    fs::write(rt, new_path(rt, dir, 0)?, "of another run")?;
+    fs::create_dir(rt, new_path(rt, dir, 1)?)
+}
+
+/// Whether a file is written beside these, which stay.
+fn is_written_beside(rt: &HostRuntime, dir: &str, path: &str) -> io::Result<bool> {
+    let written = write_as(rt, 7, path, b"new").is_ok();
+    let first = new_path(rt, dir, 0)?;
+    Ok(
+        written
+            && has_bytes(rt, path, b"new")?
+            && has_bytes(rt, first.as_str(), b"of another run")?
+            && names_in(rt, dir)? == 3,
+    )
 }
 
 #[test]
 fn names_that_are_taken(rt: HostRuntime) -> Result<(), Fail> {
     let (dir, path) = new_place(&rt, "taken")?;
-    let first = format!(in rt.alloc(); "{dir}/.kumquatsieve.7.0.new")?;
-    let second = format!(in rt.alloc(); "{dir}/.kumquatsieve.7.1.new")?;
-    fs::write(&rt, first.as_str(), "of another run")?;
-    fs::create_dir(&rt, second.as_str())?;
-    assert!(rt; write_as(&rt, 7, path.as_str(), b"new").is_ok());
-    assert!(rt; has_bytes(&rt, path.as_str(), b"new")?);
-    assert!(rt; has_bytes(&rt, first.as_str(), b"of another run")?);
-    assert!(rt; names_in(&rt, dir.as_str())? == 3);
+    take_names(&rt, dir.as_str())?;
+    let is_written = is_written_beside(&rt, dir.as_str(), path.as_str())?;
     fs::remove_dir_all(&rt, dir.as_str())?;
+    assert!(rt; is_written);
     Ok(())
 }
+
+/// Whether files of a name of so many bytes are written, one in the place of the other.
+fn are_written(rt: &HostRuntime, dir: &str, length: usize) -> io::Result<bool> {
+    let mut path = format!(in rt.alloc(); "{dir}/")?;
+    for _ in 0..length {
+        path.push('n')?;
+    }
+    Ok(is_kept(rt, path.as_str(), b"first")? && is_kept(rt, path.as_str(), b"other")?)
+}
+
+/// Whether a file is written, and then has these bytes.
+fn is_kept(rt: &HostRuntime, path: &str, bytes: &[u8]) -> io::Result<bool> {
+    Ok(write_file(rt, path, bytes).is_ok() && has_bytes(rt, path, bytes)?)
+}
+
+static LENGTHS: [usize; 4] = [240, 241, 254, 255];
 
 /// A name has up to 255 bytes: that of the new file is a short one.
 #[test]
 fn long_names(rt: HostRuntime) -> Result<(), Fail> {
     let dir = new_directory(&rt, "long")?;
-    for length in [240, 241, 254, 255] {
-        let mut path = format!(in rt.alloc(); "{dir}/")?;
-        for _ in 0..length {
-            path.push('n')?;
-        }
-        for bytes in [b"first", b"other"] {
-            assert!(rt; write_file(&rt, path.as_str(), bytes).is_ok(), "{length}");
-            assert!(rt; has_bytes(&rt, path.as_str(), bytes)?, "{length}");
-        }
+    for length in &LENGTHS {
+        assert!(rt; are_written(&rt, dir.as_str(), *length)?, "{length}");
     }
     assert!(rt; names_in(&rt, dir.as_str())? == 4);
     fs::remove_dir_all(&rt, dir.as_str())?;
     Ok(())
 }
 
+/// Whether a file of a mode is written, and keeps it.
+fn keeps_mode(rt: &HostRuntime, path: &str, mode: u32) -> io::Result<bool> {
+    fs::set_permissions(rt, path, Permissions::from_mode(mode))?;
+    let files = FailingFiles::none(rt);
+    let is_written = write_as(&files, 7, path, b"new").is_ok();
+    let kept = fs::metadata(rt, path)?.permissions().mode();
+    Ok(is_written && kept & 0o777 == mode)
+}
+
+static MODES: [u32; 3] = [0o600, 0o444, 0o664];
+
 #[test]
 fn modes_are_kept(rt: HostRuntime) -> Result<(), Fail> {
     let (dir, path) = new_place(&rt, "modes")?;
     fs::write(&rt, path.as_str(), "old")?;
-    for mode in [0o600, 0o444, 0o664] {
-        fs::set_permissions(&rt, path.as_str(), Permissions::from_mode(mode))?;
-        let files = FailingFiles::none(&rt);
-        assert!(rt;
-            write_as(&files, 7, path.as_str(), b"new").is_ok(),
-            "{mode:o}"
-        );
-        let kept = fs::metadata(&rt, path.as_str())?.permissions().mode();
-        assert!(rt; kept & 0o777 == mode, "{mode:o}");
+    for mode in &MODES {
+        assert!(rt; keeps_mode(&rt, path.as_str(), *mode)?, "{mode:o}");
     }
     fs::remove_dir_all(&rt, dir.as_str())?;
     Ok(())
+}
+
+/// Whether what is written to a link is in the file that it leads to, and it stays a link.
+fn is_link_kept(rt: &HostRuntime, link: &str, file: &str) -> io::Result<bool> {
+    fs::write(rt, file, "old")?;
+    symlink(rt, "file", link)?;
+    let written = write_file(rt, link, b"new").is_ok();
+    Ok(written && has_bytes(rt, file, b"new")? && fs::symlink_metadata(rt, link)?.is_symlink())
 }
 
 #[test]
 fn links_are_kept(rt: HostRuntime) -> Result<(), Fail> {
     let (dir, file) = new_place(&rt, "links")?;
     let link = format!(in rt.alloc(); "{dir}/link")?;
-    fs::write(&rt, file.as_str(), "old")?;
-    symlink(&rt, "file", link.as_str())?;
-    assert!(rt; write_file(&rt, link.as_str(), b"new").is_ok());
-    assert!(rt; has_bytes(&rt, file.as_str(), b"new")?);
-    assert!(rt; fs::symlink_metadata(&rt, link.as_str())?.is_symlink());
-    assert!(rt; write_file(&rt, "/dev/null", b"new").is_ok());
-    assert!(rt; names_in(&rt, dir.as_str())? == 2);
+    let is_kept = is_link_kept(&rt, link.as_str(), file.as_str())?;
+    let is_device_written = write_file(&rt, "/dev/null", b"new").is_ok();
+    let names = names_in(&rt, dir.as_str())?;
     fs::remove_dir_all(&rt, dir.as_str())?;
+    assert!(rt; is_kept);
+    assert!(rt; is_device_written);
+    assert_eq!(rt; names, 2);
     Ok(())
 }
 

@@ -5,7 +5,7 @@ use std::io;
 use std::io::{ErrorKind, Read, Write};
 
 /// Gives at most `step` bytes a read, and fails in this way at the read of this number, counted from 1.
-#[derive(Debug, Drop)]
+#[derive(Drop)]
 pub struct StepReader<'a> {
     pub bytes: &'a [u8],
     pub step: usize,
@@ -29,7 +29,7 @@ impl Read for StepReader<'_> {
 }
 
 /// Takes at most `step` bytes a write and `room` in all, and then fails in this way, or takes nothing where it is `silent`.
-#[derive(Debug, Drop)]
+#[derive(Drop)]
 pub struct StepWriter {
     pub taken: Vec<u8>,
     pub step: usize,

@@ -16,7 +16,7 @@ const SUMOMO_OUTPUT: &str = "すもも\t名詞,すもも\nもも\t名詞,もも\
 const MO_OUTPUT: &str = "も\t助詞,も\nEOS\n";
 
 /// How a run ended, and what was counted of its calls.
-#[derive(Debug, PartialEq, Eq, Drop)]
+#[derive(Drop)]
 struct Ended {
     answer: Result<u64, RunFault>,
     reads: u64,

@@ -39,15 +39,9 @@ fn expect_same_user(
 
 #[test]
 fn users_for_older_systems(rt: HostRuntime) -> Result<(), Fail> {
-    let rows = [
-        // (matrix, layout of the system)
-        (sample().matrix, 1),
-        (sample().matrix, 2),
-        (b"2 3\n".as_slice(), 1),
-        (b"2 3\n".as_slice(), 2),
-    ];
-    for (matrix, layout) in rows {
-        expect_same_user(&rt, matrix, layout)?;
+    for layout in [1, 2] {
+        expect_same_user(&rt, sample().matrix, layout)?;
+        expect_same_user(&rt, b"2 3\n", layout)?;
     }
     Ok(())
 }

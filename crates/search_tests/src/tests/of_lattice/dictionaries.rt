@@ -1,33 +1,76 @@
 //! Best paths over sources, with their totals.
 
 use dict_image::Dict;
-use lattice::{Lattice, best_path};
-use mj_model::{SENTENCE_MAX, Sources, sample};
+use lattice::{Lattice, Path, best_path};
+use mj_model::{SENTENCE_MAX, Sources, Word, sample};
 use std::alloc::{AllocError, Global};
 use std::process::Abort;
 use std::test::Fail;
 use test_samples::{letters, system, system_dict};
 use word_lookup::Dictionaries;
 
+/// The best path of a text, where the text is not too long.
+fn path_over(
+    alloc: Global,
+    dictionaries: &Dictionaries<'_>,
+    text: &str,
+) -> Result<Option<Path>, AllocError> {
+    if text.len() > SENTENCE_MAX {
+        return Ok(None);
+    }
+    let path = best_path(alloc, dictionaries, text)?;
+    Ok(Some(path))
+}
+
+/// The best path of a text with a grouping, where these are not too large.
+fn path_of(alloc: Global, dict: &Dict, grouping: u16, text: &str) -> Result<Option<Path>, Fail> {
+    if grouping > 1000 {
+        return Ok(None);
+    }
+    let dictionaries = Dictionaries::new(dict, &[])?.with_grouping(grouping);
+    Ok(path_over(alloc, &dictionaries, text)?)
+}
+
+/// Whether these are the surfaces of words.
+fn are_surfaces(words: &[Word], text: &str, surfaces: &[&str]) -> bool {
+    let mut all = words.len() == surfaces.len();
+    for (word, surface) in words.iter().zip(surfaces.iter()) {
+        all = all && text.get(word.start..word.end) == Some(*surface);
+    }
+    all
+}
+
 /// Asks for the best path of a text: these words at this total.
 fn expect_path(
     rt: &(impl Abort + Alloc<A = Global>),
     what: &str,
-    dict: &Dict,
-    grouping: u16,
-    text: &str,
+    (dict, grouping, text): (&Dict, u16, &str),
     total: i64,
     surfaces: &[&str],
 ) -> Result<(), Fail> {
-    assert!(rt; grouping <= 1000);
-    assert!(rt; text.len() <= SENTENCE_MAX);
-    let dictionaries = Dictionaries::new(dict, &[])?.with_grouping(grouping);
-    let path = best_path(rt.alloc(), &dictionaries, text)?;
+    let Some(path) = path_of(rt.alloc(), dict, grouping, text)? else {
+        assert!(rt; false, "{what}");
+        return Ok(());
+    };
     assert_eq!(rt; path.total, total, "{what}");
-    assert_eq!(rt; path.words.len(), surfaces.len(), "{what}");
-    for (word, surface) in path.words.iter().zip(surfaces.iter()) {
-        assert!(rt; text.get(word.start..word.end) == Some(*surface), "{what}");
-    }
+    assert!(rt; are_surfaces(&path.words, text, surfaces), "{what}");
+    Ok(())
+}
+
+/// Asks for how many words the best path of a text has, and for its total.
+fn expect_count(
+    rt: &(impl Abort + Alloc<A = Global>),
+    dictionaries: &Dictionaries<'_>,
+    text: &str,
+    total: i64,
+    words: usize,
+) -> Result<(), Fail> {
+    let Some(path) = path_over(rt.alloc(), dictionaries, text)? else {
+        assert!(rt; false, "{words}");
+        return Ok(());
+    };
+    assert_eq!(rt; path.total, total, "{words}");
+    assert_eq!(rt; path.words.len(), words, "{words}");
     Ok(())
 }
 
@@ -64,7 +107,7 @@ static BEST_PATHS: [(&str, &str, Option<&str>, &str, i64, &[&str]); 12] = [
 fn best_paths(rt: HostRuntime) -> Result<(), Fail> {
     for (what, line, lexicon, text, total, surfaces) in &BEST_PATHS {
         let dict = dict_with(rt.alloc(), line, *lexicon)?;
-        expect_path(&rt, what, &dict, 24, text, *total, surfaces)?;
+        expect_path(&rt, what, (&dict, 24, text), *total, surfaces)?;
     }
     Ok(())
 }
@@ -74,18 +117,6 @@ const LETTERS_25: &str = "zzzzzzzzzzzzzzzzzzzzzzzzz";
 const LETTERS_26: &str = "zzzzzzzzzzzzzzzzzzzzzzzzzz";
 
 const LETTERS_27: &str = "zzzzzzzzzzzzzzzzzzzzzzzzzzz";
-
-/// Asks for the best path of 1,001 letters, which the greatest grouping makes one word.
-fn expect_one_word(rt: &(impl Abort + Alloc<A = Global>), dict: &Dict) -> Result<(), Fail> {
-    let letters = letters(rt.alloc(), 1001)?;
-    let long = letters.as_str();
-    assert!(rt; long.len() <= SENTENCE_MAX);
-    let dictionaries = Dictionaries::new(dict, &[])?.with_grouping(1000);
-    let path = best_path(rt.alloc(), &dictionaries, long)?;
-    assert_eq!(rt; path.total, 1015);
-    assert_eq!(rt; path.words.len(), 1);
-    Ok(())
-}
 
 #[rattlefmt::skip]
 static GROUPING_LIMIT: [(u16, &str, i64, &[&str]); 8] = [
@@ -104,9 +135,12 @@ static GROUPING_LIMIT: [(u16, &str, i64, &[&str]); 8] = [
 fn grouping_limit(rt: HostRuntime) -> Result<(), Fail> {
     let dict = system_dict(rt.alloc(), &sample())?;
     for (grouping, text, total, surfaces) in &GROUPING_LIMIT {
-        expect_path(&rt, text, &dict, *grouping, text, *total, surfaces)?;
+        expect_path(&rt, text, (&dict, *grouping, text), *total, surfaces)?;
     }
-    expect_one_word(&rt, &dict)
+    // The greatest grouping makes 1,001 letters one word.
+    let long = letters(rt.alloc(), 1001)?;
+    let greatest = Dictionaries::new(&dict, &[])?.with_grouping(1000);
+    expect_count(&rt, &greatest, long.as_str(), 1015, 1)
 }
 
 #[test]
@@ -117,37 +151,23 @@ fn asymmetric_matrix(rt: HostRuntime) -> Result<(), Fail> {
         ..sample()
     };
     let dict = system_dict(rt.alloc(), &sources)?;
-    expect_path(&rt, "も", &dict, 24, "も", 129, &["も"])
+    expect_path(&rt, "も", (&dict, 24, "も"), 129, &["も"])
 }
 
-/// Asks for the best path of so many letters.
-fn expect_letters(
-    rt: &(impl Abort + Alloc<A = Global>),
-    dictionaries: &Dictionaries<'_>,
-    bytes: usize,
-    total: i64,
-    words: usize,
-) -> Result<(), Fail> {
-    let text = letters(rt.alloc(), bytes)?;
-    assert!(rt; text.len() <= SENTENCE_MAX);
-    let path = best_path(rt.alloc(), dictionaries, text.as_str())?;
-    assert_eq!(rt; path.total, total, "{bytes}");
-    assert_eq!(rt; path.words.len(), words, "{bytes}");
-    Ok(())
-}
+static LONGEST_LINE: [(usize, i64, usize); 3] = [
+    // (bytes, total, words)
+    (65_535, 65_969_585, 65_511),
+    (65_536, 65_970_592, 65_512),
+    (SENTENCE_MAX, 1_055_891_872, 1_048_552),
+];
 
 #[test]
 fn longest_line(rt: HostRuntime) -> Result<(), Fail> {
-    let rows = [
-        // (bytes, total, words)
-        (65_535, 65_969_585, 65_511),
-        (65_536, 65_970_592, 65_512),
-        (SENTENCE_MAX, 1_055_891_872, 1_048_552),
-    ];
     let dict = system_dict(rt.alloc(), &sample())?;
     let dictionaries = Dictionaries::new(&dict, &[])?;
-    for (bytes, total, words) in rows {
-        expect_letters(&rt, &dictionaries, bytes, total, words)?;
+    for (bytes, total, words) in &LONGEST_LINE {
+        let text = letters(rt.alloc(), *bytes)?;
+        expect_count(&rt, &dictionaries, text.as_str(), *total, *words)?;
     }
     Ok(())
 }
@@ -168,20 +188,22 @@ fn expect_best(
     Ok(())
 }
 
+static SHORTER_LINES: [(&str, i64, usize); 2] = [
+    // (text, total, words)
+    ("すもももも", 152, 2),
+    ("", 0, 0),
+];
+
 #[test]
 fn one_lattice(rt: HostRuntime) -> Result<(), Fail> {
     let long = letters(rt.alloc(), 65_535)?;
-    let rows = [
-        // (text, total, words)
-        (long.as_str(), 65_969_585, 65_511),
-        ("すもももも", 152, 2),
-        ("", 0, 0),
-    ];
     let dict = system_dict(rt.alloc(), &sample())?;
     let dictionaries = Dictionaries::new(&dict, &[])?;
     let mut lattice = Lattice::new(rt.alloc());
-    for (text, total, words) in rows {
-        expect_best(&rt, &mut lattice, &dictionaries, text, total, words)?;
+    let text = long.as_str();
+    expect_best(&rt, &mut lattice, &dictionaries, text, 65_969_585, 65_511)?;
+    for (text, total, words) in &SHORTER_LINES {
+        expect_best(&rt, &mut lattice, &dictionaries, text, *total, *words)?;
     }
     Ok(())
 }

@@ -6,7 +6,7 @@ use std::io;
 use std::io::{ErrorKind, Read, Write};
 
 /// Gives or takes so many bytes, or fails in this way. It tells how often it was called, and how many bytes were asked for at last.
-#[derive(Debug, Drop)]
+#[derive(Drop)]
 pub struct Device {
     pub answer: Result<usize, ErrorKind>,
     pub calls: u64,

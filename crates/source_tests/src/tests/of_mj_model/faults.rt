@@ -1,27 +1,14 @@
 //! Codes, names and texts of faults.
 use mj_model::{
-    FormatFault, FormatKind, FormatPart, ImageFault, NO_FILE, NamedFault, OverlayFault, RunFault,
-    SourceFault, SourceKind,
+    FormatFault, FormatKind, FormatPart, ImageFault, NO_FILE, OverlayFault, RunFault, SourceFault,
+    SourceKind,
 };
-use std::alloc::Global;
-use std::fmt::Display;
 use std::test::Fail;
-
-/// Whether a fault has this code and this name, and this text is printed of it.
-fn is_told<F: NamedFault + Display + Drop>(
-    alloc: Global,
-    fault: F,
-    code: &str,
-    name: &str,
-    text: &str,
-) -> Result<bool, Fail> {
-    let printed = format!(in alloc; "{fault}")?;
-    Ok(fault.code() == code && fault.name() == name && printed.as_str() == text)
-}
+use test_words::{FaultRow, first_untold, is_told};
 
 /// Faults of a line of a source, and of the sources together.
 #[rattlefmt::skip]
-static KINDS: [(SourceKind, &str, &str, &str); 22] = [
+static KINDS: [FaultRow<SourceKind>; 22] = [
     // (kind, code, name, text)
     (SourceKind::NotUtf8,            "S1",     "NotUtf8",          "S1 NotUtf8"),
     (SourceKind::TooFewFields,       "S2",     "TooFewFields",     "S2 TooFewFields"),
@@ -49,9 +36,7 @@ static KINDS: [(SourceKind, &str, &str, &str); 22] = [
 
 #[test]
 fn kinds_of_sources(rt: HostRuntime) -> Result<(), Fail> {
-    for (kind, code, name, text) in &KINDS {
-        assert!(rt; is_told(rt.alloc(), *kind, code, name, text)?, "{text}");
-    }
+    assert_eq!(rt; first_untold(rt.alloc(), &KINDS)?, None);
     Ok(())
 }
 
@@ -79,7 +64,7 @@ fn places_of_sources(rt: HostRuntime) -> Result<(), Fail> {
 
 /// Faults of the bytes of an image.
 #[rattlefmt::skip]
-static IMAGES: [(ImageFault, &str, &str, &str); 9] = [
+static IMAGES: [FaultRow<ImageFault>; 9] = [
     // (fault, code, name, text)
     (ImageFault::Truncated,         "L1",     "Truncated",  "L1 Truncated"),
     (ImageFault::BadMagic,          "L2",     "BadMagic",   "L2 BadMagic"),
@@ -94,15 +79,13 @@ static IMAGES: [(ImageFault, &str, &str, &str); 9] = [
 
 #[test]
 fn images(rt: HostRuntime) -> Result<(), Fail> {
-    for (fault, code, name, text) in &IMAGES {
-        assert!(rt; is_told(rt.alloc(), *fault, code, name, text)?, "{text}");
-    }
+    assert_eq!(rt; first_untold(rt.alloc(), &IMAGES)?, None);
     Ok(())
 }
 
 /// Faults of dictionaries that are laid over one another.
 #[rattlefmt::skip]
-static OVERLAYS: [(OverlayFault, &str, &str, &str); 3] = [
+static OVERLAYS: [FaultRow<OverlayFault>; 3] = [
     // (fault, code, name, text)
     (OverlayFault::NotSystem,      "O1", "NotSystem",  "O1 NotSystem"),
     (OverlayFault::NotUser(0),     "O2", "NotUser",    "O2 NotUser 0"),
@@ -111,9 +94,7 @@ static OVERLAYS: [(OverlayFault, &str, &str, &str); 3] = [
 
 #[test]
 fn overlays(rt: HostRuntime) -> Result<(), Fail> {
-    for (fault, code, name, text) in &OVERLAYS {
-        assert!(rt; is_told(rt.alloc(), *fault, code, name, text)?, "{text}");
-    }
+    assert_eq!(rt; first_untold(rt.alloc(), &OVERLAYS)?, None);
     Ok(())
 }
 
@@ -158,7 +139,7 @@ const OPEN_QUOTE: SourceFault = SourceFault {
 
 /// Faults of a run over a text.
 #[rattlefmt::skip]
-static RUNS: [(RunFault, &str, &str, &str); 8] = [
+static RUNS: [FaultRow<RunFault>; 8] = [
     // (fault, code, name, text)
     (RunFault::Source(OPEN_QUOTE),        "S2",     "TooFewFields", "file 3, line 1: S2 TooFewFields"),
     (RunFault::UserSource(1, OPEN_QUOTE), "S2",     "TooFewFields", "file 3, line 1: S2 TooFewFields"),
@@ -172,8 +153,6 @@ static RUNS: [(RunFault, &str, &str, &str); 8] = [
 
 #[test]
 fn runs(rt: HostRuntime) -> Result<(), Fail> {
-    for (fault, code, name, text) in &RUNS {
-        assert!(rt; is_told(rt.alloc(), *fault, code, name, text)?, "{text}");
-    }
+    assert_eq!(rt; first_untold(rt.alloc(), &RUNS)?, None);
     Ok(())
 }

@@ -1,0 +1,3 @@
+//! What the public calls of each crate answer.
+
+mod of_command_lines;

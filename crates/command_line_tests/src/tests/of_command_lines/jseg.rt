@@ -1,0 +1,238 @@
+//! Command lines of `jseg`.
+
+mod refusals;
+
+use super::is_text;
+use Asked::{Directory, Images, Sample, Trusted};
+use command_lines::OptionsFault;
+use command_lines::jseg::{Form, Input, LatticeChoice, Options, Task, ViewChoice, task};
+use std::alloc::{AllocError, Global};
+use std::process::Abort;
+use std::string::String;
+use std::test::Fail;
+use test_words::words;
+
+/// What a command line asks for: images, a directory or the sample. Users' images stand in one
+/// text, with a blank between.
+enum Asked {
+    Images(&'static str, &'static str),
+    /// The same, without the tests of their digests.
+    Trusted(&'static str, &'static str),
+    Directory(&'static str),
+    Sample,
+}
+
+impl Asked {
+    fn input(&self, alloc: Global) -> Result<Input, AllocError> {
+        Ok(match self {
+            Asked::Images(dic, users) | Asked::Trusted(dic, users) => Input::Images {
+                dic: String::from_str(alloc, dic)?,
+                users: words(alloc, users)?,
+                skip_digest: matches!(self, Asked::Trusted(_, _)),
+            },
+            Asked::Directory(dir) => Input::Sources(String::from_str(alloc, dir)?),
+            Asked::Sample => Input::Sample,
+        })
+    }
+}
+
+/// The choices of a command line that has a text cut.
+fn options(alloc: Global, words: Vec<String>) -> Result<Option<Options>, OptionsFault> {
+    Ok(match task(alloc, words)? {
+        Task::Cut(options) => Some(options),
+        Task::ListImages { .. } => None,
+    })
+}
+
+/// Asks for the choices of a command line.
+fn expect_options(
+    rt: &(impl Abort + Alloc<A = Global>),
+    what: &str,
+    given: &str,
+    input: &Input,
+    grouping: u16,
+) -> Result<(), Fail> {
+    let Ok(Some(options)) = options(rt.alloc(), words(rt.alloc(), given)?) else {
+        assert!(rt; false, "{what}");
+        return Ok(());
+    };
+    assert!(rt; options.input == *input, "{what}");
+    assert!(rt; options.grouping == grouping, "{what}");
+    Ok(())
+}
+
+#[rattlefmt::skip]
+static COMMAND_LINES: [(&str, &str, Asked, u16); 13] = [
+    // (what, words, what is asked for, grouping)
+    ("the sample",                "--sample",            Sample,                     24),
+    ("a directory",               "--sources a/b",       Directory("a/b"),           24),
+    ("with =",                    "--sources=a",         Directory("a"),             24),
+    ("no grouping",               "--sample -M 0",       Sample,                     0),
+    ("grouping first",            "-M 25 --sample",      Sample,                     25),
+    ("grouping joined",           "--sample -M1000",     Sample,                     1000),
+    ("both",                      "--sources a -M 7",    Directory("a"),             7),
+    ("a system",                  "-d sys.img",          Images("sys.img", ""),      24),
+    ("a system joined",           "-dsys.img",           Images("sys.img", ""),      24),
+    ("with a user",               "-d sys.img -u u.img", Images("sys.img", "u.img"), 24),
+    ("with users in their order", "-u b -d s -u a -u b", Images("s", "b a b"),       24),
+    ("without the digests",       "-d s --skip-digest -u a", Trusted("s", "a"),         24),
+    ("a format and a grouping",   "-d s -O wakati -M 3", Images("s", ""),            3),
+];
+
+#[test]
+fn command_lines(rt: HostRuntime) -> Result<(), Fail> {
+    for (what, given, asked, grouping) in &COMMAND_LINES {
+        let input = asked.input(rt.alloc())?;
+        expect_options(&rt, what, given, &input, *grouping)?;
+    }
+    Ok(())
+}
+
+/// The name of a form, and the formats of known and of unknown words, of the beginning and of the end.
+type Chosen = (
+    Option<&'static str>,
+    Option<&'static str>,
+    Option<&'static str>,
+    Option<&'static str>,
+    Option<&'static str>,
+);
+
+/// Whether these formats were chosen.
+fn are_chosen(options: &Options, chosen: &Chosen) -> bool {
+    let (output, node, unk, bos, eos) = chosen;
+    is_text(&options.output, *output)
+        && is_text(&options.node, *node)
+        && is_text(&options.unk, *unk)
+        && is_text(&options.bos, *bos)
+        && is_text(&options.eos, *eos)
+}
+
+/// The words of a text, and these behind them.
+fn words_and(alloc: Global, text: &str, further: &[&str]) -> Result<Vec<String>, AllocError> {
+    let mut words = words(alloc, text)?;
+    for word in further {
+        words.push(String::from_str(alloc, word)?)?;
+    }
+    Ok(words)
+}
+
+fn expect_formats(
+    rt: &(impl Abort + Alloc<A = Global>),
+    what: &str,
+    given: &[&str],
+    chosen: &Chosen,
+) -> Result<(), Fail> {
+    let words = words_and(rt.alloc(), "--sample", given)?;
+    let Ok(Some(options)) = options(rt.alloc(), words) else {
+        assert!(rt; false, "{what}");
+        return Ok(());
+    };
+    assert!(rt; are_chosen(&options, chosen), "{what}");
+    Ok(())
+}
+
+#[rattlefmt::skip]
+static FORMAT_OPTIONS: [(&str, &[&str], Chosen); 5] = [
+    // (what, words behind --sample, the name and the four formats)
+    ("none", &[], (None, None, None, None, None)),
+    ("all", &["-F", "a", "-U", "b", "-B", "c", "-E", "d"],
+        (None, Some("a"), Some("b"), Some("c"), Some("d"))),
+    ("empty, and with a hyphen", &["-F", "", "-E", "-%pc"],
+        (None, Some(""), None, None, Some("-%pc"))),
+    ("joined", &["-F%m\\n"], (None, Some("%m\\n"), None, None, None)),
+    ("a name", &["-O", "wakati", "-F", "%q"], (Some("wakati"), Some("%q"), None, None, None)),
+];
+
+#[test]
+fn format_options(rt: HostRuntime) -> Result<(), Fail> {
+    for (what, given, chosen) in &FORMAT_OPTIONS {
+        expect_formats(&rt, what, given, chosen)?;
+    }
+    Ok(())
+}
+
+/// What a command line has printed of each line.
+enum Printed {
+    Words,
+    /// Its lattice in a form, with what that leaves out.
+    Lattice(Form, Option<i64>),
+    Why,
+}
+
+impl Printed {
+    fn view(&self) -> Option<ViewChoice> {
+        match self {
+            Printed::Words => None,
+            Printed::Lattice(form, within) => Some(ViewChoice::Lattice(LatticeChoice {
+                form: *form,
+                within: *within,
+            })),
+            Printed::Why => Some(ViewChoice::Why),
+        }
+    }
+}
+
+/// Asks for what a command line has printed of each line.
+fn expect_view(
+    rt: &(impl Abort + Alloc<A = Global>),
+    given: &str,
+    wanted: Option<ViewChoice>,
+) -> Result<(), Fail> {
+    let Ok(Some(options)) = options(rt.alloc(), words(rt.alloc(), given)?) else {
+        assert!(rt; false, "{given}");
+        return Ok(());
+    };
+    assert!(rt; options.view == wanted, "{given}");
+    Ok(())
+}
+
+#[rattlefmt::skip]
+static VIEWS: [(&str, Printed); 8] = [
+    // (words, what is printed of each line)
+    ("--sample",                                  Printed::Words),
+    ("--sample --lattice tsv",                    Printed::Lattice(Form::Tsv, None)),
+    ("--lattice=dot -d s",                        Printed::Lattice(Form::Dot, None)),
+    ("--sources a --lattice dot --within 0",      Printed::Lattice(Form::Dot, Some(0))),
+    ("--within 300000 --lattice tsv --sample -v", Printed::Lattice(Form::Tsv, Some(300_000))),
+    ("--sample --why",                            Printed::Why),
+    ("--why -d s -u a -M 3 -v",                   Printed::Why),
+    ("--sources a --why",                         Printed::Why),
+];
+
+#[test]
+fn views(rt: HostRuntime) -> Result<(), Fail> {
+    for (given, wanted) in &VIEWS {
+        expect_view(&rt, given, wanted.view())?;
+    }
+    Ok(())
+}
+
+#[rattlefmt::skip]
+static LISTS: [(&str, bool); 3] = [
+    // (words, whether they ask for what is done)
+    ("--dictionaries", false),
+    ("--dictionaries -v", true),
+    ("-v --dictionaries", true),
+];
+
+/// The list of images is asked for alone, or with what says what is done.
+#[test]
+fn lists(rt: HostRuntime) -> Result<(), Fail> {
+    for (given, verbose) in &LISTS {
+        let wanted = Task::ListImages { verbose: *verbose };
+        let task = task(rt.alloc(), words(rt.alloc(), given)?).ok();
+        assert!(rt; task == Some(wanted), "{given}");
+    }
+    Ok(())
+}
+
+#[test]
+fn help(rt: HostRuntime) -> Result<(), Fail> {
+    let Err(fault) = task(rt.alloc(), words(rt.alloc(), "--help")?) else {
+        assert!(rt; false, "it is no choice");
+        return Ok(());
+    };
+    assert!(rt; fault.status() == 0);
+    assert!(rt; fault.text().contains("--sources"));
+    Ok(())
+}

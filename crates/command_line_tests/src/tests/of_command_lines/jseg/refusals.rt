@@ -1,0 +1,175 @@
+//! What `jseg` is asked of itself and its faults, and what it refuses.
+
+use command_lines::jseg::task;
+use std::alloc::Global;
+use std::process::Abort;
+use std::test::Fail;
+use test_words::words;
+
+/// Asks what a command line is answered, and with which status.
+fn expect_answer(
+    rt: &(impl Abort + Alloc<A = Global>),
+    given: &str,
+    status: u8,
+    text: &str,
+) -> Result<(), Fail> {
+    let Err(fault) = task(rt.alloc(), words(rt.alloc(), given)?) else {
+        assert!(rt; false, "{given}");
+        return Ok(());
+    };
+    assert!(rt; fault.status() == status, "{given}");
+    assert!(rt; fault.text().contains(text), "{given}");
+    Ok(())
+}
+
+#[rattlefmt::skip]
+static ANSWERS: [(&str, u8, &str); 18] = [
+    // (words, status, what is in the text)
+    ("--version",        0, "layouts read: 1, 2, 3; written: 3"),
+    ("--explain L4",     0, "L4 BadSection\nMeaning: "),
+    ("--explain=Memory", 0, "Memory\nMeaning: "),
+    ("--explain l4",     0, "L4 BadSection\nMeaning: "),
+    ("--explain k7",     0, "K7 ShortBuffer\nMeaning: "),
+    ("--explain notutf8", 0, "S1 NotUtf8\nMeaning: "),
+    ("--explain NotUtf8", 0, "\n\nG3 NotUtf8\nMeaning: "),
+    ("--explain",        0, "\nG3 NotUtf8\nG4 TooLong\n"),
+    ("--explain X9",     2, "jseg: no fault has the code or name 'X9'\n"),
+    ("--simple",         2, "'--sample'"),
+    ("--soures a",       2, "'--sources'"),
+    ("--x\u{1b}[2J",      2, "jseg: unexpected argument '--x\\u{1b}[2J' found\n"),
+    ("--a\nb",           2, "jseg: unexpected argument '--a\\nb' found\n"),
+    ("--sample -M 7\n",  2, "jseg: invalid value '7\\n' for '-M <N>': "),
+    ("--explain L4\t",   2, "jseg: no fault has the code or name 'L4\\t'\n"),
+    ("-d -x.img",        2, "\n\n  tip: for the file '-x.img' write './-x.img'\n\n"),
+    ("--smple -d s.img", 2, "'--sample'"),
+    ("-q",               2, "jseg: unexpected argument '-q' found\n\nUsage: jseg "),
+];
+
+/// What is answered about the program and its faults.
+#[test]
+fn answers(rt: HostRuntime) -> Result<(), Fail> {
+    for (given, status, text) in &ANSWERS {
+        expect_answer(&rt, given, *status, text)?;
+    }
+    Ok(())
+}
+
+/// Whether a command line ends with status 2 and with this in its text.
+fn is_refused(rt: &HostRuntime, given: &str, text: &str) -> Result<bool, Fail> {
+    let fault = task(rt.alloc(), words(rt.alloc(), given)?).err();
+    Ok(fault.is_some_and(|fault| fault.status() == 2
+        && fault.text().starts_with("jseg: ")
+        && fault.text().contains(text)))
+}
+
+#[rattlefmt::skip]
+static MECAB_HABITS: [(&str, &str); 36] = [
+    // (words, what is in the text)
+    ("sys.img text",              "jseg -d IMG < FILE"),
+    ("-d sys.img text",           "jseg -d IMG < FILE"),
+    ("-Ochasen",                  "for IPADIC write -F"),
+    ("-d sys.img -Ochasen",       "for IPADIC write -F"),
+    ("-d sys.img -O yomi",        "-F '%pS%f[7]' -U '%M' -E '\\n'"),
+    ("-d sys.img -Osimple",       "for IPADIC write -F"),
+    ("-d sys.img -O dump",        "-O takes wakati alone"),
+    ("-N2",                       "leave it out"),
+    ("-d sys.img -N 2 -b 100000", "leave it out"),
+    ("-d sys.img -b 100000",      "1,048,576"),
+    ("-d sys.img -o out.txt",     "> FILE"),
+    ("-r /dev/null -d sys.img",   "dicrc"),
+    ("-d sys.img -a",             "-a is not known: jseg writes the one best path"),
+    ("-d sys.img --all-morphs",   "-a is not known: jseg writes the one best path"),
+    ("-d sys.img -l 2",           "-l is not known"),
+    ("-m -d sys.img",             "-m is not known: jseg computes no probabilities"),
+    ("-t 0.75 -d sys.img",        "-t is not known"),
+    ("-c 700 -d sys.img",         "-c is not known"),
+    ("-p -d sys.img",             "-p is not known"),
+    ("-d sys.img -S x",           "-S is not known"),
+    ("-d sys.img -x unknown",     "-x is not known: give -U a format"),
+    ("-D -d sys.img",             "-D is not known: -v tells what is loaded"),
+    ("-P",                        "-P is not known: --help lists"),
+    ("-C -d sys.img",             "-C is not needed"),
+    ("--nbest=2 -d sys.img",      "-N is not known"),
+    ("--output=o -d sys.img",     "> FILE"),
+    ("--rcfile=r -d sys.img",     "dicrc"),
+    ("--input-buffer-size=9",     "1,048,576"),
+    ("--dicdir=/d",               "--dicdir is not known: write -d IMG"),
+    ("--userdic u.dic",           "--userdic is not known: write -u IMG"),
+    ("--output-format-type=w",    "write -O wakati"),
+    ("--max-grouping-size=9",     "write -M N"),
+    ("--node-format=%m",          "write -F FORMAT"),
+    ("--unk-format=%m",           "write -U FORMAT"),
+    ("--bos-format=%m",           "write -B FORMAT"),
+    ("--eos-format=%m",           "write -E FORMAT"),
+];
+
+/// What MeCab's users type first, and what they are told to do instead.
+#[test]
+fn mecab_habits(rt: HostRuntime) -> Result<(), Fail> {
+    for (given, text) in &MECAB_HABITS {
+        assert!(rt; is_refused(&rt, given, text)?, "{given}");
+    }
+    Ok(())
+}
+
+#[rattlefmt::skip]
+static WRONG_COMMAND_LINES: [(&str, &str); 49] = [
+    // (what, words)
+    ("an image without a name", "-d"),
+    ("two system images", "-d a -d b"),
+    ("image and sample", "-d a --sample"),
+    ("image and directory", "-d a --sources b"),
+    ("a user alone", "-u a"),
+    ("a user of the sample", "--sample -u a"),
+    ("a user of a directory", "--sources a -u b"),
+    ("the digest of a directory", "--sources a --skip-digest"),
+    ("the digest of the sample", "--skip-digest --sample"),
+    ("a user without a name", "-d a -u"),
+    ("nothing asked for", ""),
+    ("twice", "--sample --sample"),
+    ("two directories", "--sources a --sources b"),
+    ("directory and sample", "--sources a --sample"),
+    ("no directory", "--sources"),
+    ("unknown option", "--simple"),
+    ("a word", "--sample text"),
+    ("another name", "--sample -O yomi"),
+    ("a format twice", "--sample -F a -F b"),
+    ("grouping alone", "-M 3"),
+    ("grouping too large", "--sample -M 1001"),
+    ("grouping below 0", "--sample -M -1"),
+    ("grouping no number", "--sample -M x"),
+    ("grouping without a value", "--sample -M"),
+    ("grouping twice", "--sample -M 1 -M 2"),
+    ("a lattice and a format", "--sample --lattice tsv -F a"),
+    ("a bound without a lattice", "--sample --within 5"),
+    ("why twice", "--sample --why --why"),
+    ("why and a lattice", "--sample --why --lattice tsv"),
+    ("why within a bound", "--sample --within 5 --why"),
+    ("why and an output", "--sample --why -O wakati"),
+    ("why and a format", "-F a --why --sample"),
+    ("why and a format of unknown words", "--sample --why -U a"),
+    ("why and a beginning", "--sample --why -B a"),
+    ("why and an end", "--sample -E a --why"),
+    ("why of nothing", "--why"),
+    ("a list and an image", "--dictionaries -d a"),
+    ("a list and a directory", "--sources a --dictionaries"),
+    ("a list and the sample", "--dictionaries --sample"),
+    ("a list and a user", "--dictionaries -u a"),
+    ("a list without digests", "--skip-digest --dictionaries"),
+    ("a list and a grouping", "--dictionaries -M 3"),
+    ("a list and an output", "--dictionaries -O wakati"),
+    ("a list and a format", "--dictionaries -F a"),
+    ("a list and an end", "-E a --dictionaries"),
+    ("a list and a lattice", "--dictionaries --lattice tsv"),
+    ("a list and why", "--dictionaries --why"),
+    ("two lists", "--dictionaries --dictionaries"),
+    ("a list of a name", "--dictionaries ipadic"),
+];
+
+#[test]
+fn wrong_command_lines(rt: HostRuntime) -> Result<(), Fail> {
+    for (what, given) in &WRONG_COMMAND_LINES {
+        assert!(rt; is_refused(&rt, given, "jseg: ")?, "{what}");
+    }
+    Ok(())
+}

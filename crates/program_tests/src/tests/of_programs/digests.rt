@@ -1,0 +1,95 @@
+//! Images whose digest is taken while they are read.
+
+use dict_compile::compile;
+use dict_image::DigestTest::{self, Made, Skipped};
+use mj_model::ImageFault;
+use programs::{ImageReading, read_image};
+use segmenter::sample;
+use std::alloc::{AllocError, Global};
+use std::io::{self, Read};
+use std::test::Fail;
+
+/// A reader that gives bytes, at most so many at once.
+#[derive(Drop)]
+struct AtOnce<'a> {
+    bytes: &'a [u8],
+    most: usize,
+}
+
+impl Read for AtOnce<'_> {
+    fn read(&mut self, buf: &mut [u8]) -> io::Result<usize> {
+        let count = buf.len().min(self.most).min(self.bytes.len());
+        let (now, later) = self.bytes.split_at(count);
+        buf[..count].copy_from_slice(now);
+        self.bytes = later;
+        Ok(count)
+    }
+}
+
+/// An image in which a byte is another one, counted from 1 at the end; 0 for none.
+fn changed(alloc: Global, image: &[u8], from_end: usize) -> Result<Vec<u8>, AllocError> {
+    let mut bytes = Vec::new(alloc);
+    bytes.extend_from_slice(image)?;
+    if let Some(at) = image.len().checked_sub(from_end) {
+        if let Some(byte) = bytes.get_mut(at) {
+            *byte ^= 1;
+        }
+    }
+    Ok(bytes)
+}
+
+/// A name, the byte that is another one, how many come at once, the test that is asked for, the one that is left, and the fault.
+type DigestRow = (
+    &'static str,
+    usize,
+    usize,
+    DigestTest,
+    DigestTest,
+    Option<ImageFault>,
+);
+
+/// The last byte is one of the digest, and the 33rd from the end one of a feature.
+#[rattlefmt::skip]
+static READ_DIGESTS: [DigestRow; 10] = [
+    // (what, another byte, bytes at once, asked for, left, fault)
+    ("a right digest",                    0,  99_999, Made,    Skipped, None),
+    ("a right digest, singly",            0,  1,      Made,    Skipped, None),
+    ("behind the header",                 0,  104,    Made,    Skipped, None),
+    ("a right digest, not asked for",     0,  99_999, Skipped, Skipped, None),
+    ("another digest",                    1,  99_999, Made,    Made,    Some(ImageFault::Digest)),
+    ("another digest, singly",            1,  1,      Made,    Made,    Some(ImageFault::Digest)),
+    ("another digest, not asked for",     1,  99_999, Skipped, Skipped, None),
+    ("another feature",                   33, 99_999, Made,    Made,    Some(ImageFault::Digest)),
+    ("another feature, singly",           33, 1,      Made,    Made,    Some(ImageFault::Digest)),
+    ("another feature, not asked for",    33, 99_999, Skipped, Skipped, None),
+];
+
+fn is_as_wanted(
+    alloc: Global,
+    image: &[u8],
+    (_what, from_end, most, asked, left, fault): &DigestRow,
+) -> Result<bool, AllocError> {
+    let bytes = changed(alloc, image, *from_end)?;
+    let mut reader = AtOnce {
+        bytes: &bytes,
+        most: *most,
+    };
+    let reading = ImageReading {
+        digest: *asked,
+        told: None,
+    };
+    let Ok(read) = read_image(alloc, &mut reader, None, 1 << 20, reading) else {
+        return Ok(false);
+    };
+    let is_read = read.bytes == bytes && read.digest == *left;
+    Ok(is_read && read.load(alloc).err() == *fault)
+}
+
+#[test]
+fn digests_taken_meanwhile(rt: HostRuntime) -> Result<(), Fail> {
+    let image = compile(rt.alloc(), &sample())?.image;
+    for row in &READ_DIGESTS {
+        assert!(rt; is_as_wanted(rt.alloc(), &image, row)?, "{}", row.0);
+    }
+    Ok(())
+}
