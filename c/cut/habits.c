@@ -35,6 +35,7 @@ static const struct {
     {0, "dictionaries", "--dictionaries is not known: jseg --dictionaries lists the images that a bare name may find"},
     {0, "lattice", "--lattice is not known: jseg --lattice prints the lattice of each line"},
     {0, "within", "--within is not known: it is for jseg --lattice"},
+    {0, "why", "--why is not known: jseg --why prints why each line is cut so"},
     {'N', "nbest", "-N is not known: " PROGRAM " writes the one best path, so leave it out"},
     {'a', "all-morphs", "-a is not known: " PROGRAM " writes the one best path, so leave it out"},
     {'l', "lattice-level", "-l is not known: " PROGRAM " writes the one best path, so leave it out"},

@@ -99,7 +99,7 @@ _kumquatsieve_jseg() {
     --lattice) _kumquatsieve_of "tsv dot" ;;
     --explain) _kumquatsieve_of "$_kumquatsieve_codes" ;;
     -M | -F | -U | -B | -E | --within) ;;
-    *) _kumquatsieve_of "-d -u --sources --sample --dictionaries --skip-digest -M -O -F -U -B -E --lattice --within -v --explain -h --help -V --version" ;;
+    *) _kumquatsieve_of "-d -u --sources --sample --dictionaries --skip-digest -M -O -F -U -B -E --lattice --within --why -v --explain -h --help -V --version" ;;
     esac
 }
 

@@ -37,6 +37,7 @@ WRONG = [
     ("--dictionaries", "--dictionaries is not known"),
     ("--lattice tsv", "--lattice is not known: jseg --lattice prints the lattice of each line"),
     ("--within 5", "--within is not known: it is for jseg --lattice"),
+    ("--why", "--why is not known: jseg --why prints why each line is cut so"),
     ("'--x\x1b[2J\ny'", r"unexpected argument '--x\u{1b}[2J\ny' found"),
     ("-\x7f", r"unexpected argument '-\u{7f}' found"),
     ("-j '2\r'", r"invalid value '2\r' for '-j <N>': it is no number"),

@@ -36,12 +36,21 @@ class Run(NamedTuple):
 
 
 class Shape(NamedTuple):
-    """A hostile input beside an honest one. `size` says how large both are, and which part that is of what was asked for."""
+    """A hostile input beside an honest one. `size` says how large both are, and which part that is of what was asked for. Where `seconds` is given,
+    it bounds the processor time of the hostile one, in place of the honest one's."""
 
     name: str
     size: str
     honest: Run
     hostile: Run
+    seconds: Optional[float] = None
+
+    def bound(self, honest):
+        """The processor time that the hostile one may take, by that of the honest one."""
+        return MOST * honest if self.seconds is None else self.seconds
+
+    def bound_told(self):
+        return f"{MOST} times" if self.seconds is None else f"{self.seconds} s"
 
 
 def seconds_of(what, run):
@@ -77,7 +86,7 @@ def times_of(shape, rounds):
     for number in range(rounds):
         for part, run in zip(times, (shape.honest, shape.hostile)):
             part.append(seconds_of(f"{shape.name}, {'hostile' if part is times[1] else 'honest'}", run))
-        if number == 0 and times[1][0] > max(CLEAR, 4 * MOST * times[0][0]):
+        if number == 0 and times[1][0] > max(CLEAR, 4 * shape.bound(times[0][0])):
             break
     return min(times[0]), min(times[1])
 
@@ -85,12 +94,13 @@ def times_of(shape, rounds):
 def judged(shapes, known, options):
     """Prints a row for each shape, and answers the faults: a bound that is missed, or one that is met and is known not to be. Of small inputs the
     latter is only reported, since what costs much there may not show."""
-    print(f"{'shape':28} {'honest':>9} {'hostile':>9} {'ratio':>8}  {'bound of ' + str(MOST):11} size")
+    print(f"{'shape':28} {'honest':>9} {'hostile':>9} {'ratio':>8}  {'bound':16} size")
     faults = [f"KNOWN names no shape: {name}" for name in known if name not in {shape.name for shape in shapes}]
     for shape in shapes:
         honest, hostile = times_of(shape, options.rounds)
-        is_met = hostile <= MOST * honest
-        print(f"{shape.name:28} {honest:7.3f} s {hostile:7.3f} s {hostile / honest:8.2f}  {'met' if is_met else 'not met':11} {shape.size}", flush=True)
+        is_met = hostile <= shape.bound(honest)
+        told = f"{shape.bound_told()}, {'met' if is_met else 'not met'}"
+        print(f"{shape.name:28} {honest:7.3f} s {hostile:7.3f} s {hostile / honest:8.2f}  {told:16} {shape.size}", flush=True)
         if is_met and shape.name in known and options.quick:
             print("    known, and met at this size")
         elif is_met and shape.name in known:
@@ -98,7 +108,7 @@ def judged(shapes, known, options):
         elif not is_met and shape.name in known:
             print(f"    known: {known[shape.name]}")
         elif not is_met:
-            faults.append(f"{shape.name}: takes more than {MOST} times the honest one's time")
+            faults.append(f"{shape.name}: takes more than {shape.bound_told()}{'' if shape.seconds else ' as long as the honest one'}")
     return faults
 
 

@@ -5,6 +5,8 @@ from .dictionaries import CATEGORIES, MAPPINGS, NAMES, Sources
 from .measuring import MARKS, Run, Shape
 
 LONGEST_UNKNOWN = 15
+# Seconds of the processor that a text of many unknown words may take, start and load with it.
+SECONDS_OF_ENTRIES = 0.3
 COMMAS = 65_540
 SHOWN = 65_535
 
@@ -15,7 +17,7 @@ class Sizes(NamedTuple):
     line_bytes: int = 2**20
     blank_words: int = 4096
     entries: int = 4_000
-    unknown_entries: int = 1_000
+    unknown_entries: int = 4_000
     quotes: int = 100_000
     words: int = 10_000
     ranges: int = 20_000
@@ -66,7 +68,8 @@ def left_ids(cutting):
 
 
 def unknown_entries(cutting):
-    """Each unknown word of 1 to 15 characters has many entries. In the honest input they are those of a category that the text has not."""
+    """Each unknown word of 1 to 15 characters has many entries, and each of them is a node. In the honest input they are those of a category that
+    the text has not. The bound is in seconds: as many words as are there must be made, and a short text must not take long for them."""
     count = cutting.sizes.unknown_entries
 
     def image(many):
@@ -75,7 +78,7 @@ def unknown_entries(cutting):
         return cutting.image(Sources("z,1,1,1,x\n", f"2 {count + 1}\n", unk=unk))
 
     runs = [cutting.run(image(many), MARKS, "あ" * 30, "u" * (30 // LONGEST_UNKNOWN)) for many in ("KATAKANA", "HIRAGANA")]
-    return Shape("unknown entries", f"{count} entries of 4,000, of LENGTH {LONGEST_UNKNOWN}; 90 bytes of text", *runs)
+    return Shape("unknown entries", f"{count} entries, of LENGTH {LONGEST_UNKNOWN}; 90 bytes of text", *runs, seconds=SECONDS_OF_ENTRIES)
 
 
 def with_features(cutting, name, size, feature, shown, printed):
@@ -103,12 +106,13 @@ def commas(cutting):
     return with_features(cutting, "commas in a feature", f"{COMMAS} commas", feature, SHOWN, "late")
 
 
-def grouping(cutting, name, size, mappings, text):
-    """A run of one kind, at each of whose places as many characters are looked at as may be grouped, beside the usual 24. Each character is a
-    word, but those that are few enough at the end: they are one."""
-    image = cutting.image(Sources("z,1,1,1,x\n", char=CATEGORIES + MAPPINGS + mappings))
-    runs = [cutting.run(image, [*MARKS, "-M", str(most)], text, "u" * (len(text) - most)) for most in (24, 1000)]
-    return Shape(name, size, *runs)
+def grouping(cutting, name, size, mappings, text, lexicon="z,1,1,1,x\n", before=""):
+    """A run of one kind, which may be grouped up to 1,000 characters, beside the usual 24. Each character of the text is a word, but those that are
+    few enough at the end: they are one. What stands before the text is one known word."""
+    image = cutting.image(Sources(lexicon, char=CATEGORIES + MAPPINGS + mappings))
+    first = "w" if before else ""
+    runs = [cutting.run(image, [*MARKS, "-M", str(most)], before + text, first + "u" * (len(text) - most)) for most in (24, 1000)]
+    return Shape(name, f"{size}; -M 1000 beside -M 24", *runs)
 
 
 def ranges(cutting):
@@ -117,13 +121,20 @@ def ranges(cutting):
     count, length = cutting.sizes.ranges, cutting.sizes.above
     mappings = "".join(f"0x{low:X}..0x{low + 1:X} {kinds[i % 2]}\n" for i, low in enumerate(range(0x20000, 0x20000 + 2 * count, 2)))
     text = "".join(chr(0x20000 + i % (2 * count)) for i in range(length))
-    size = f"{length} characters above U+FFFF in {count} ranges; -M 1000 beside -M 24"
-    return grouping(cutting, "grouping over ranges", size, mappings, text)
+    return grouping(cutting, "grouping over ranges", f"{length} characters above U+FFFF in {count} ranges", mappings, text)
 
 
 def katakana(cutting):
     length = cutting.sizes.line_bytes
-    return grouping(cutting, "grouping of katakana", f"{length // 1024} KiB of ア; -M 1000 beside -M 24", "", "ア" * (length // 3))
+    return grouping(cutting, "grouping of katakana", f"{length // 1024} KiB of ア", "", "ア" * (length // 3))
+
+
+def behind_blanks(cutting):
+    """Blanks go on to a run of kanji at each second place, and the places between begin with none of them: so two runs are asked for in turn."""
+    count = cutting.sizes.line_bytes // 6
+    size = f"{count} blanks that are katakana, with ア between, and 1,026 kanji"
+    lexicon = "ア,1,1,1000,x\nア\u3000,1,1,1000,x\n"
+    return grouping(cutting, "grouping behind blanks", size, "0x3000 SPACE KATAKANA\n", "亜" * 1026, lexicon, "ア\u3000" * count)
 
 
 def stem(cutting):
@@ -135,4 +146,4 @@ def stem(cutting):
 
 
 def shapes(cutting):
-    return [make(cutting) for make in (blanks, left_ids, unknown_entries, quotes, commas, ranges, katakana, stem)]
+    return [make(cutting) for make in (blanks, left_ids, unknown_entries, quotes, commas, ranges, katakana, behind_blanks, stem)]

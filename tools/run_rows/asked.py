@@ -1,7 +1,10 @@
 """What the programs say of themselves and of their work: versions, explanations, `-v`, and what to do in place of MeCab's options."""
+import struct
+
 from .codes import CODES_OF_CALLS, codes_of_programs
-from .images import LAYOUT_1
+from .images import LAYOUT_2, LAYOUT_3, UNTESTED, changed, with_digest
 from .run import ANY, LEXICON, MATRIX, SYSTEM, USER, Exactly, Has, Path, Run, Under
+from .sources import FAULTS, TWO, told_faults
 from .texts import MO
 
 VERSION = "0.1.0\nimage layouts read: 1, 2, 3; written: 3\n"
@@ -102,13 +105,27 @@ TOLD = [
     ("a slow matrix.def", FROM_INPUT, {}, MADE, "read by a program", "", Under(stdin="slow")),
 ]
 
-# The load of an image that is large, and none.
-LOAD_LARGE = "dictc user --dic large.img --out new.img user.csv"
-LARGE = [
-    # (where standard error goes, what is told)
-    ("terminal", Exactly(f"\rloading large.img{ERASED}\r{ERASED}dictc: large.img: L2 BadMagic\n{explained_by('dictc', 'L2')}")),
-    ("kept", "large.img: L2 BadMagic"),
+# Images that come slowly, and what the run ends with: none, or a fault whose code is explained on a terminal. The digest is taken meanwhile.
+# (what, words, how it is slow, the image on standard input, what else is there, the output, how the reading is told, the fault)
+LONG = with_digest(changed(LAYOUT_2, (96, struct.pack("<Q", 70_000))) + b"X" * 69_999)
+FROM_PIPE = f"\rreading /dev/stdin: {len(LAYOUT_3)} bytes{ERASED}\r{ERASED}"
+FROM_FILE = f"\rreading long.img: {len(LONG)} of {len(LONG)} bytes{ERASED}\r{ERASED}"
+BY_PIPE, BY_FILE = {"stdin": "slow"}, {"fails": "slow read"}
+SLOW_LOADS = [
+    ("an image", "jseg -d sys.img -u /dev/stdin", BY_PIPE, LAYOUT_3, {}, "", FROM_PIPE, ""),
+    ("an image with another digest", "jseg -d sys.img -u /dev/stdin", BY_PIPE, UNTESTED["digest.img"], {}, "", FROM_PIPE, "/dev/stdin: L8 Digest"),
+    ("an image that is not tested", "jseg -d sys.img --skip-digest -u /dev/stdin", BY_PIPE, UNTESTED["digest.img"], {}, "", FROM_PIPE, ""),
+    ("an image of a lexicon's", USER.replace("sys.img", "/dev/stdin") + " user.csv", BY_PIPE, LAYOUT_3, {}, "", FROM_PIPE, "/dev/stdin: O1 NotSystem"),
+    ("an image whose ids are asked for", "dictc ids --dic /dev/stdin X", BY_PIPE, LAYOUT_3, {}, "", FROM_PIPE, "/dev/stdin: O1 NotSystem"),
+    ("a long image", USER.replace("sys.img", "long.img") + " user.csv", BY_FILE, "", {"long.img": LONG}, "", FROM_FILE, "long.img: O1 NotSystem"),
 ]
+
+
+def slow_load(what, words, how, text, files, out, read, fault):
+    """A slow load on a terminal, and read by a program."""
+    end = f"{words.split()[0]}: {fault}\n{explained_by(words.split()[0], fault.split()[1])}" if fault else ""
+    for where, err, stderr in (("on a terminal", Exactly(read + end), "terminal"), ("read by a program", fault, "kept")):
+        yield Run(f"{what} that comes slowly, {where}", words, text, out, err, 1 if fault else 0, files, under=Under(stderr=stderr, **how))
 
 # What is said beside a fault, on a terminal and with `-v` alone. (words, the lines before the fault's, that one, its code, the status)
 NOT_THERE = "{program}: none.img: it is not there\n"
@@ -124,6 +141,36 @@ BESIDE = [
     ("jseg --sample -U 'すa\t%q'", "{program}: the fault is in the text of -U\n{program}: すa\\t%q\n{program}:      ^\n", "P2 BadItem 5", "P2", 2),
     ("jseg --sample -E '\\x'", "{program}: the fault is in the text of -E\n{program}: \\x\n{program}: ^\n", "P1 BadEscape 0", "P1", 2),
 ]
+
+# The longest surface, with `-v` alone. (words, what is there, the line; none where there is no entry)
+LONGEST = [
+    (f"{SYSTEM} a/lexicon.csv", {}, "9 bytes, in line 1 of a/lexicon.csv"),
+    (f"{USER} user.csv", {}, "6 bytes, in line 1 of user.csv"),
+    (f"{USER} user.csv a/lexicon.csv", {}, "9 bytes, in line 1 of a/lexicon.csv"),
+    (f"{USER} user.csv equal.csv", {"equal.csv": b"\nab,1,1,1,\nabcdef,1,1,1,\n"}, "6 bytes, in line 1 of user.csv"),
+    (f"{USER} equal.csv user.csv", {"equal.csv": b"\nab,1,1,1,\nabcdef,1,1,1,\n"}, "6 bytes, in line 3 of equal.csv"),
+    (f"{USER} quoted.csv", {"quoted.csv": b'"a"",""b",1,1,1,X\na,1,1,1,\n'}, "5 bytes, in line 1 of quoted.csv"),
+    (f"{USER} skipped.csv", {"skipped.csv": b",1,1,1,X\n\n"}, ""),
+]
+
+
+def longest(words, files, line):
+    """What is said of the longest surface, with `-v` and without it on a terminal."""
+    said = Has("dictc: ", (f" s: longest surface: {line}\n",)) if line else Has("dictc: ", ("compiled ",), ("longest",))
+    out = Has("", (" entries, ", " skipped\n"))
+    yield Run(f"longest surface: {words}", f"{words} -v", out=out, err=said, files=files, left=ANY_IMAGE)
+    yield Run(f"longest surface, not asked for: {words}", words, out=out, files=files, left=ANY_IMAGE, under=Under(stderr="terminal"))
+
+
+def all_hints(words):
+    """What follows all faults on a terminal and with `-v`, once for each code."""
+    codes = [fault.split()[0] for _, fault, _ in FAULTS]
+    hints = CONVERTER.format(program="dictc") + "".join(explained_by("dictc", code) for code in codes)
+    words, files = f"{words} --all-faults bad.csv other.csv", TWO
+    told = told_faults("bad.csv", FAULTS) + told_faults("other.csv", [(1, "S2 TooFewFields", "c,1,1")])
+    yield Run(f"hints after all faults: {words}", words, err=Exactly(told + hints), status=1, files=files, under=Under(stderr="terminal"))
+    yield Run(f"hints after all faults, with -v: {words}", f"{words} -v", err=Has("dictc: ", (told + hints,)), status=1, files=files)
+
 
 STEPS = ["connection costs of 2 right ids and 2 left ids", "6 categories", "unknown words", "3 entries up to a/lexicon.csv"]
 SHARES = ["connection costs: 8 bytes", "categories of code points: ", "keys: ", "group index: ", "tokens: ", "features: "]
@@ -146,9 +193,11 @@ ROWS = [
     Run("a mark before matrix.def", "jseg --sources a -v", err=Has("", ("a/matrix.def begins with a byte order mark", "a/matrix.def:1: M1 BadHeader")), status=1, files={"a/matrix.def": MARK + MATRIX}),
     Run("a mark before a lexicon", f"{SYSTEM} -v mark.csv", out=LINE, err=Has("", ("mark.csv begins with a byte order mark",)), files={"mark.csv": MARK + LEXICON}, left={"new.img": ANY}),
     *(Run(f"{what} {where}", words, MATRIX, out=LINE, err=Exactly(told), files=files, left=left, under=under) for what, words, files, left, where, told, under in TOLD),
-    *(Run(f"a large image, {where}", LOAD_LARGE, err=err, status=1, files={"large.img": 1 << 28}, under=Under(stderr=where)) for where, err in LARGE),
+    *(run for row in SLOW_LOADS for run in slow_load(*row)),
     Run("nothing to know, on a terminal", f"{SYSTEM} a/lexicon.csv", out=LINE, left=MADE, under=Under(stderr="terminal")),
     Run("what dictc does", f"{SYSTEM} -v a/lexicon.csv", out=LINE, err=Has("dictc: ", ("read a/matrix.def: ", "compiling 1 lexicons", *STEPS, "sorted 3 entries", "compiled 3 entries", "wrote new.img: ", *SHARES)), left=MADE),
     Run("what dictc does for a user", f"{USER} -v user.csv", out="1 entries, 0 skipped\n", err=Has("dictc: ", ("loaded sys.img", "read user.csv: ", "1 entries up to user.csv", "sorted 1 entries", "wrote new.img: ")), left={"new.img": "user.img"}),
+    *(run for row in LONGEST for run in longest(*row)),
+    *(run for words in (SYSTEM, USER) for run in all_hints(words)),
     Run("what jseg does", "jseg -d sys.img -v", "も\n", MO, err=Has("jseg: ", ("loaded sys.img", "cut 1 lines"))),
 ]

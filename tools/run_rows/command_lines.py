@@ -8,7 +8,7 @@ HELP = [
     ("dictc system --help", ("--matrix <FILE>", "--char <FILE>", "--unk <FILE>", "--out <IMG>", "<LEX>...")),
     ("dictc user --help", ("--dic <IMG>", "--out <IMG>", "<LEX>...")),
     ("dictc ids --help", ("--dic <IMG>", "-u <IMG>", "<FEATURE>")),
-    ("jseg --help", ("-d <IMG>", "-u <IMG>", "--sources <DIR>", "--sample", "-M <N>", "-O <NAME>", "-F <", "-U <", "-B <", "-E <", "--lattice <FORM>", "--within <N>")),
+    ("jseg --help", ("-d <IMG>", "-u <IMG>", "--sources <DIR>", "--sample", "-M <N>", "-O <NAME>", "-F <", "-U <", "-B <", "-E <", "--lattice <FORM>", "--within <N>", "--why")),
     ("jseg -d none.img --help", ("--sources <DIR>",)),
 ]
 

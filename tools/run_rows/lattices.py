@@ -17,6 +17,8 @@ MO = "0\t0\t3\tも\t1\t1\t20\tknown\t0\t1\t30\t35\t0\t*\t助詞,も"
 TWICE = {LEXICON: "も,1,1,20,一\nも,1,1,20,二\nもも,1,1,47,三\n".encode()}
 FIELDS = {LEXICON: 'も,1,1,20,"名詞 ""も""",も\\\n'.encode()}
 USER = "もも\t1\t1\t1\tknown\t1\t0"
+# With no grouping two words, 10 + 1000 and 1010 + 7 + 1000; 2017 + 5.
+LETTERS = [f"{place}\t{place}\t{place + 1}\tz\t1\t1\t1000\tunknown\t\t5\t{total}\t2022\t0\t*\t未知" for place, total in ((0, 1010), (1, 2017))]
 TABLES = [
     # (what, words, line, rows, what else is there)
     ("all nodes", "--sample", "すもももも", SUMOMO, {}),
@@ -54,6 +56,7 @@ TABLES = [
         TWICE,
     ),
     ("an unknown word", "--sample", "もz", [MO.replace("\t35\t", "\t1042\t"), "3\t3\t4\tz\t1\t1\t1000\tunknown\t\t5\t1037\t1042\t0\t*\t未知"], {}),
+    *(("words without grouping", f"{words} -M 0", "zz", LETTERS, {}) for words in ("--sample", "-d sys.img", "--sources a")),
     ("a tab and a backslash", "--sample", "\t\\", ["0\t0\t2\t\\t\\\\\t1\t1\t1000\tunknown\t\t3\t1010\t1015\t0\t*\t未知"], {}),
     ("a carriage return", "--sample", "\r", ["0\t0\t1\t\\r\t1\t1\t1000\tunknown\t\t3\t1010\t1015\t0\t*\t未知"], {}),
     ("a backslash in a feature", "--sources a", "も", ['0\t0\t3\tも\t1\t1\t20\tknown\t0\t0\t30\t35\t0\t*\t"名詞 ""も""",も\\\\'], FIELDS),

@@ -45,7 +45,7 @@ class Under(NamedTuple):
     most: int = 0  # how many bytes a file may have: a longer one fails. 0: any number
     killed: bool = False  # a longer one kills the run
     memory: int = 0  # how many bytes of memory it may take. 0: any number
-    fails: str = ""  # the call of the C library that fails: rename, fsync, write, interrupted write (the first one alone), or fchmod
+    fails: str = ""  # the call of the C library that fails: rename, fsync, write, interrupted write (the first one alone), or fchmod; or slow read: the second read of files takes longer than two seconds
     repeats: bool = False  # its large blocks of memory repeat, so that they take few bytes
     seconds: int = 60  # how long it may take
     taken: str = ""  # a file that is there; {pid} in its name is the number of the process
