@@ -12,8 +12,9 @@ use Rattle.mj_model.specs.Lexicon.{Row, Parts, Outcome, Refused, Accepted, IsOut
 use Rattle.mj_model.specs.Lines.{is_blank_line}
 use Rattle.lex_source.specs.declared.outcome.LineOutcome.{LineOutcome}
 use Rattle.lex_source.specs.declared.parts.LineParts.{LineParts}
+use Rattle.lex_source.specs.declared.raw_field.RawField.{RawField}
 use Rattle.lex_source.specs.Cuts.{IsCut}
-use Rattle.lex_source.specs.Spelled.{HasEntry}
+use Rattle.lex_source.specs.Spelled.{HasEntry, IsFieldAt}
 use Rattle.lex_source.specs.Steps.{IsTaken, IsRefusedLine, outcome_of, record_outcome, row_outcome}
 
 -- what stands before the first of a byte, and what stands behind it, if it is there
@@ -31,6 +32,10 @@ IsField text n found = (fields : List (List ℕ)) × AreFields text fields × (f
 abbrev pub GrowsByField : List ℕ → ℕ → Bool → List ℕ → List ℕ → Type 0
 GrowsByField text n found old new =
     (fields : List (List ℕ)) × AreFields text fields × (found ≡ is_some (slice_get fields n)) × (new ≡ old ++ unwrap_or (slice_get fields n) [])
+
+-- an output grows by the field that was found, whichever field of whichever text that is
+abbrev pub GrowsByFound : Option RawField → Bool → List ℕ → List ℕ → Type 0
+GrowsByFound found there old new = (text : List ℕ) (n : ℕ) → IsFieldAt text n found → GrowsByField text n there old new
 
 -- ---- lines
 

@@ -1,6 +1,6 @@
 //! A field by its number.
 ghost use Rattle.std.specs.Prelude.{◌≡◌, ℕ, List, IfOk, option_map, string_bytes, take, vec_len};
-ghost use Rattle.lex_source.specs.Answers.{GrowsByField, IsField};
+ghost use Rattle.lex_source.specs.Answers.{GrowsByField, GrowsByFound, IsField};
 ghost use Rattle.lex_source.specs.Spelled.{IsFieldAt};
 
 use crate::raw_field::RawField;
@@ -34,8 +34,8 @@ pub(crate) fn append_found(
     found: Option<RawField<'_>>,
 ) -> Result<bool, AllocError>
     requires { (text : List ℕ) × (n : ℕ) × IsFieldAt text n found }
-    ensures appended { (text : List ℕ) (n : ℕ) → IsFieldAt text n found.entry → IfOk result (λ there.
-        GrowsByField text n there out.old.items out.new.items) }
+    ensures appended { IfOk result (λ there. GrowsByFound found.entry there
+        out.old.items out.new.items) }
     ensures kept { take (vec_len out.old) out.new.items ≡ out.old.items }
 {
     match found {

@@ -2,7 +2,7 @@
 ghost use Rattle.std.specs.Prelude.{◌≡◌, ℕ, List};
 ghost use Rattle.std.specs.Iterator.{YieldsFirstBy, item_count};
 ghost use Rattle.mj_model.specs.Lines.{numbered_lines};
-ghost use Rattle.lex_source.specs.Filled.{nonblank_lines};
+ghost use Rattle.lex_source.specs.Filled.{line_seen, nonblank_lines};
 
 use crate::bytes::is_blank_line;
 use crate::numbered::Lines;
@@ -34,7 +34,7 @@ impl<'a> FilledLines<'a> {
 impl<'a> Iterator for FilledLines<'a> {
     type Item = (u64, &'a [u8]);
 
-    ghost next_gives = { YieldsFirstBy (λ line. (line.0, line.1.now)) (λ rest. rest) };
+    ghost next_gives = { YieldsFirstBy line_seen (λ rest. rest) };
 
     ghost remaining = { item_count (λ rest. rest) };
 
@@ -45,7 +45,7 @@ impl<'a> Iterator for FilledLines<'a> {
 
 /// The next line that is not blank.
 fn next_filled<'a>(lines: &mut Lines<'a>) -> Option<(u64, &'a [u8])>
-    ensures { YieldsFirstBy (λ line. (line.0, line.1.now)) nonblank_lines lines.old result lines.new }
+    ensures { YieldsFirstBy line_seen nonblank_lines lines.old result lines.new }
 {
     while let Some((number, line)) = lines.next() {
         if !is_blank_line(line) {

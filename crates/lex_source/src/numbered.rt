@@ -3,6 +3,7 @@ ghost use Rattle.std.specs.Prelude.{◌≡◌, ℕ, ◌+◌, ◌<◌, ◌^◌, L
 ghost use Rattle.std.specs.List.{enumerate_from};
 ghost use Rattle.std.specs.Iterator.{YieldsFirstBy, item_count};
 ghost use Rattle.mj_model.specs.Lines.{numbered_lines, source_lines, without_return as line_without_return};
+ghost use Rattle.lex_source.specs.Filled.{line_seen};
 
 use crate::bytes::split_first;
 use std::marker::Model;
@@ -37,7 +38,7 @@ impl<'a> Lines<'a> {
 impl<'a> Iterator for Lines<'a> {
     type Item = (u64, &'a [u8]);
 
-    ghost next_gives = { YieldsFirstBy (λ line. (line.0, line.1.now)) (λ rest. rest) };
+    ghost next_gives = { YieldsFirstBy line_seen (λ rest. rest) };
 
     ghost remaining = { item_count (λ rest. rest) };
 
