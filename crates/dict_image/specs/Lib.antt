@@ -14,3 +14,4 @@ pub mod KeyHits
 pub mod Prefixes
 pub mod Numbered
 pub mod Fitting
+pub mod Loading

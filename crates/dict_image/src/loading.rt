@@ -1,10 +1,10 @@
 //! From the bytes of an image to its dictionary.
-ghost use Rattle.std.specs.Prelude.{◌≡◌, ◌⊎◌, IfErr, IfOk, OnOk};
+ghost use Rattle.std.specs.Prelude.{◌≡◌, IfErr, IfOk, OnOk};
 ghost use Rattle.image_bytes.specs.ImageBytes.{header_of};
-ghost use Rattle.image_bytes.specs.ImageFaults.{IsAccepted, IsImageFault, IsIntact, IsWellFormed};
+ghost use Rattle.image_bytes.specs.ImageFaults.{IsAccepted, IsIntact, IsWellFormed};
 ghost use Rattle.image_bytes.specs.declared.digest_test.DigestTest.TheVariants.{Made, Skipped};
 ghost use Rattle.image_bytes.specs.declared.layout.TheConstants.{LAYOUT as Layout};
-ghost use Rattle.mj_model.specs.declared.image_fault.ImageFault.TheVariants.{Memory};
+ghost use Rattle.dict_image.specs.Loading.{IsLoadFault};
 
 use crate::dict::Dict;
 use image_bytes::DigestTest;
@@ -16,8 +16,7 @@ use std::alloc::{AllocError, Global};
 pub fn load(alloc: Global, bytes: Vec<u8>) -> Result<Dict, ImageFault>
     ensures dict { IfOk result (λ dict. dict ≡ bytes.items) }
     ensures accepted { OnOk result (IsIntact bytes.items) }
-    ensures refused { IfErr result
-        (λ fault. (fault ≡ Memory) ⊎ IsImageFault Made bytes.items fault) }
+    ensures refused { IfErr result (IsLoadFault Made bytes.items) }
 {
     load_by(alloc, bytes, DigestTest::Made)
 }
@@ -27,8 +26,7 @@ pub fn load(alloc: Global, bytes: Vec<u8>) -> Result<Dict, ImageFault>
 pub fn load_without_digest(alloc: Global, bytes: Vec<u8>) -> Result<Dict, ImageFault>
     ensures dict { IfOk result (λ dict. dict ≡ bytes.items) }
     ensures accepted { OnOk result (IsWellFormed bytes.items) }
-    ensures refused { IfErr result
-        (λ fault. (fault ≡ Memory) ⊎ IsImageFault Skipped bytes.items fault) }
+    ensures refused { IfErr result (IsLoadFault Skipped bytes.items) }
 {
     load_by(alloc, bytes, DigestTest::Skipped)
 }
@@ -37,8 +35,7 @@ pub fn load_without_digest(alloc: Global, bytes: Vec<u8>) -> Result<Dict, ImageF
 pub fn load_by(alloc: Global, bytes: Vec<u8>, digest: DigestTest) -> Result<Dict, ImageFault>
     ensures dict { IfOk result (λ dict. dict ≡ bytes.items) }
     ensures accepted { OnOk result (IsAccepted digest bytes.items) }
-    ensures refused { IfErr result
-        (λ fault. (fault ≡ Memory) ⊎ IsImageFault digest bytes.items fault) }
+    ensures refused { IfErr result (IsLoadFault digest bytes.items) }
 {
     let outline = check_image(alloc, &bytes, digest)?;
     Ok(Dict::over(alloc, bytes, outline)?)
