@@ -3,6 +3,7 @@ pub mod SourceOverlays
 pub mod CoveredTexts
 pub mod Faults
 pub mod Answers
+pub mod Outcomes
 pub mod Images
 pub mod UserImages
 pub mod EveryKey

@@ -1,10 +1,12 @@
 -- What the sources of a system dictionary say, file by file.
 use Rattle.std.specs.Prelude.{◌≡◌, [], length, Ok}
+use Rattle.mj_model.specs.declared.source_fault.SourceFault.{SourceFault}
 use Rattle.mj_model.specs.declared.sources.Sources.{Sources}
 use Rattle.mj_model.specs.CharDef.{CharSource}
+use Rattle.mj_model.specs.FirstFault.{IsRefusal}
 use Rattle.mj_model.specs.Lexicon.{SkipLines}
 use Rattle.mj_model.specs.Connection.{Connection}
-use Rattle.mj_model.specs.SourceTables.{AreChars, AreRows, AreUnknown, IsConnection, lexicon_bytes}
+use Rattle.mj_model.specs.SourceTables.{AreChars, AreRows, AreUnknown, IsConnection, IsSourcesFault, lexicon_bytes}
 use Rattle.matrix_def.specs.Costs.{IsTableOf as IsCostTableOf}
 use Rattle.char_def.specs.Categories.{IsTableOf}
 use Rattle.char_def.specs.Outside.{all_lines_outside}
@@ -27,3 +29,7 @@ pub record FitTogether (parts : SourceParts) : Type 0 where
   pub sizes : parts.lexicon.sizes ≡ parts.matrix.sizes
   pub categories : length parts.unknown ≡ length parts.chars.categories
   pub ids : all_lines_outside parts.matrix.sizes parts.unknown ≡ []
+
+-- the reading of the sources is refused so: for their first fault, or want of memory
+abbrev pub IsReadingRefusal : Sources → SourceFault → Type 0
+IsReadingRefusal s fault = IsRefusal fault (IsSourcesFault s fault)

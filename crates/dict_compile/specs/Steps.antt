@@ -1,5 +1,5 @@
 -- The steps of a compilation, as whoever watches it is told them.
-use Rattle.std.specs.Prelude.{◌≡◌, ℕ, ◌+◌, List, [], ◌∷◌, ◌++◌, length, take, slice_get, Some, Ok}
+use Rattle.std.specs.Prelude.{◌≡◌, ℕ, ◌+◌, List, [], ◌∷◌, ◌++◌, length, take, slice_get, Some, Result, Ok, IfOk}
 use Rattle.mj_model.specs.declared.matrix_sizes.MatrixSizes.{MatrixSizes}
 use Rattle.mj_model.specs.declared.source_fault.TheConstants.{FIRST_LEXICON_FILE}
 use Rattle.mj_model.specs.declared.sources.Sources.{Sources}
@@ -54,3 +54,10 @@ pub record AreReadingSteps (lexicons : List (List ℕ)) (parts : SourceParts) (s
   pub reading : List Step
   pub are_reading : AreLexiconSteps parts.matrix.sizes lexicons reading
   pub all : steps ≡ steps_before parts.matrix.sizes (length parts.chars.categories) ++ reading
+
+-- ---- whoever watches
+
+-- if something is made, whoever was told the steps before is told such steps behind them, and what such steps are may go by what is made
+abbrev pub TellsSteps : {T E : Type 0} → (List Step → Type 0) → (List Step → Type 0) → (T → List Step → Type 0) → Result T E → Type 0
+TellsSteps Old New AreFor result =
+    (before : List Step) → Old before → IfOk result (λ made. (steps : List Step) × AreFor made steps × New (before ++ steps))

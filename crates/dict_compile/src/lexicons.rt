@@ -1,13 +1,12 @@
 //! The lexicons of a source directory.
 
-ghost use Rattle.std.specs.Prelude.{◌≡◌, ◌+◌, ◌≤◌, ◌^◌, ◌++◌, List, [], Ok, Err, IfOk, IfErr};
+ghost use Rattle.std.specs.Prelude.{◌≡◌, ◌+◌, ◌≤◌, ◌^◌, [], Ok, Err, IfOk, IfErr};
 ghost use Rattle.mj_model.specs.Dictionary.{AreLexicons, next_file};
 ghost use Rattle.mj_model.specs.FirstFault.{IsRefusal};
 ghost use Rattle.mj_model.specs.Lexicon.{SkipLines};
 ghost use Rattle.mj_model.specs.declared.source_fault.TheConstants.{FIRST_LEXICON_FILE as FirstFile};
 ghost use Rattle.dict_compile.specs.Answers.{lexicons_of};
-ghost use Rattle.dict_compile.specs.Steps.{AreLexiconSteps};
-ghost use Rattle.dict_compile.specs.declared.watch.Step.{Step as StepOf};
+ghost use Rattle.dict_compile.specs.Steps.{AreLexiconSteps, TellsSteps};
 
 use crate::watch::{Step, Watch};
 use lex_source::SourceLexicon;
@@ -52,9 +51,8 @@ pub(crate) fn read_lexicons<'a, W: Watch>(
     ensures skipped { IfOk result (λ read. SkipLines (lexicons_of lexicons.now) read.skipped) }
     ensures refused { IfErr result (λ fault. IsRefusal fault
         (AreLexicons sizes FirstFile [] (lexicons_of lexicons.now) (Err fault))) }
-    ensures steps { (before : List StepOf) → W.told watch.old before → IfOk result (λ _.
-        (steps : List StepOf) × AreLexiconSteps sizes (lexicons_of lexicons.now) steps
-        × W.told watch.new (before ++ steps)) }
+    ensures steps { TellsSteps (W.told watch.old) (W.told watch.new)
+        (λ _. AreLexiconSteps sizes (lexicons_of lexicons.now)) result }
 {
     let mut lexicon = SourceLexicon::new(alloc, sizes);
     let mut skipped = 0;

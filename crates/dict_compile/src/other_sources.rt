@@ -1,17 +1,11 @@
 //! The compilation of a system dictionary whose connection costs were read before.
 
-ghost use Rattle.std.specs.Prelude.{ℕ, ◌++◌, List, IfOk, IfErr};
+ghost use Rattle.std.specs.Prelude.{ℕ, List, IfOk, IfErr};
 ghost use Rattle.std.specs.Borrow.{Bor};
-ghost use Rattle.image_bytes.specs.ImageMeaning.{image_tables};
 ghost use Rattle.matrix_def.specs.Costs.{IsTableIn};
-ghost use Rattle.mj_model.specs.FirstFault.{IsRefusal};
-ghost use Rattle.mj_model.specs.declared.source_fault.SourceFault.{SourceFault as FaultOf};
-ghost use Rattle.dict_compile.specs.Answers.{IsRefusedFor};
-ghost use Rattle.dict_compile.specs.Compilation.{IsCompilation, IsCompilationCause, IsCompilationFault};
-ghost use Rattle.dict_compile.specs.EveryKey.{AnswersKeysOfSources};
+ghost use Rattle.dict_compile.specs.Outcomes.{AnswersKeysFrom, IsCompilationRefusal, IsCompiledFrom, IsRefusedAtFault};
 ghost use Rattle.dict_compile.specs.OtherSources.{sources_with};
-ghost use Rattle.dict_compile.specs.Steps.{AreSteps};
-ghost use Rattle.dict_compile.specs.declared.watch.Step.{Step as StepOf};
+ghost use Rattle.dict_compile.specs.Steps.{AreSteps, TellsSteps};
 
 use crate::compiled::Compiled;
 use crate::parts::read_others;
@@ -37,22 +31,18 @@ pub fn compile_others_watched<W: Watch>(
     watch: &mut W,
 ) -> Result<Compiled, SourceFault>
     ensures compiled { (costs : Bor (List ℕ)) → IsTableIn costs.now matrix
-        → IfOk result (λ compiled. IsCompilation (sources_with costs others.now)
-        compiled.image.items compiled.entries compiled.skipped) }
+        → IfOk result (IsCompiledFrom (sources_with costs others.now)) }
     ensures every_key { (costs : Bor (List ℕ)) → IsTableIn costs.now matrix
-        → IfOk result (λ compiled. AnswersKeysOfSources (sources_with costs others.now)
-        (image_tables compiled.image.items)) }
+        → IfOk result (AnswersKeysFrom (sources_with costs others.now)) }
     ensures refused { (costs : Bor (List ℕ)) → IsTableIn costs.now matrix
-        → IfErr result (λ fault. IsRefusal fault
-        (IsCompilationCause (sources_with costs others.now) fault)) }
+        → IfErr result (IsCompilationRefusal (sources_with costs others.now)) }
     // Sources at fault are refused with their first fault, want of memory and of cells aside.
-    ensures first { (costs : Bor (List ℕ)) → IsTableIn costs.now matrix → (fault : FaultOf)
-        → IsCompilationFault (sources_with costs others.now) fault → IsRefusedFor fault result }
+    ensures first { (costs : Bor (List ℕ)) → IsTableIn costs.now matrix
+        → IsRefusedAtFault (sources_with costs others.now) result }
     // Whoever watches is told all steps, each of them once and in their order.
     ensures steps { (costs : Bor (List ℕ)) → IsTableIn costs.now matrix
-        → (before : List StepOf) → W.told watch.old before → IfOk result (λ _.
-        (steps : List StepOf) × AreSteps (sources_with costs others.now) steps
-        × W.told watch.new (before ++ steps)) }
+        → TellsSteps (W.told watch.old) (W.told watch.new)
+        (λ _. AreSteps (sources_with costs others.now)) result }
 {
     let parts = read_others(alloc, matrix, others, watch)?;
     system_image(alloc, parts, watch)

@@ -1,15 +1,12 @@
 //! All sources together.
 
-ghost use Rattle.std.specs.Prelude.{ℕ, ◌++◌, List, IfOk, IfErr};
+ghost use Rattle.std.specs.Prelude.{ℕ, List, IfOk, IfErr};
 ghost use Rattle.std.specs.Borrow.{Bor};
-ghost use Rattle.mj_model.specs.FirstFault.{IsRefusal};
-ghost use Rattle.mj_model.specs.SourceTables.{IsSourcesFault};
 ghost use Rattle.matrix_def.specs.Costs.{IsTableIn};
 ghost use Rattle.dict_compile.specs.OtherSources.{sources_with};
 ghost use Rattle.dict_compile.specs.Answers.{lexicons_of};
-ghost use Rattle.dict_compile.specs.Parts.{AreParts, FitTogether};
-ghost use Rattle.dict_compile.specs.Steps.{AreReadingSteps};
-ghost use Rattle.dict_compile.specs.declared.watch.Step.{Step as StepOf};
+ghost use Rattle.dict_compile.specs.Parts.{AreParts, FitTogether, IsReadingRefusal};
+ghost use Rattle.dict_compile.specs.Steps.{AreReadingSteps, TellsSteps};
 
 use crate::lexicons::read_lexicons;
 use crate::other_sources::OtherSources;
@@ -40,10 +37,9 @@ pub(crate) fn read_sources<'a, W: Watch>(
 ) -> Result<SourceParts<'a>, SourceFault>
     ensures accepted { IfOk result (AreParts sources.now) }
     ensures fitting { IfOk result FitTogether }
-    ensures refused { IfErr result (λ fault. IsRefusal fault (IsSourcesFault sources.now fault)) }
-    ensures steps { (before : List StepOf) → W.told watch.old before → IfOk result (λ parts.
-        (steps : List StepOf) × AreReadingSteps (lexicons_of sources.now.lexicons.now) parts steps
-        × W.told watch.new (before ++ steps)) }
+    ensures refused { IfErr result (IsReadingRefusal sources.now) }
+    ensures steps { TellsSteps (W.told watch.old) (W.told watch.new)
+        (AreReadingSteps (lexicons_of sources.now.lexicons.now)) result }
 {
     let matrix = read_matrix(alloc, sources.matrix)?;
     let others = OtherSources {
@@ -65,11 +61,9 @@ pub(crate) fn read_others<'a, W: Watch>(
         → IfOk result (AreParts (sources_with costs others.now)) }
     ensures fitting { IfOk result FitTogether }
     ensures refused { (costs : Bor (List ℕ)) → IsTableIn costs.now matrix
-        → IfErr result (λ fault. IsRefusal fault
-        (IsSourcesFault (sources_with costs others.now) fault)) }
-    ensures steps { (before : List StepOf) → W.told watch.old before → IfOk result (λ parts.
-        (steps : List StepOf) × AreReadingSteps (lexicons_of others.now.lexicons.now) parts steps
-        × W.told watch.new (before ++ steps)) }
+        → IfErr result (IsReadingRefusal (sources_with costs others.now)) }
+    ensures steps { TellsSteps (W.told watch.old) (W.told watch.new)
+        (AreReadingSteps (lexicons_of others.now.lexicons.now)) result }
 {
     let sizes = matrix.sizes();
     watch.done(Step::MatrixRead(sizes));

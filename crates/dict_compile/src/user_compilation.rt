@@ -1,6 +1,6 @@
 //! The compilation of a user dictionary.
 
-ghost use Rattle.std.specs.Prelude.{◌≡◌, ◌↔◌, ◌++◌, List, Err, IfOk, IfErr};
+ghost use Rattle.std.specs.Prelude.{◌≡◌, ◌↔◌, Err, IfOk, IfErr};
 ghost use Rattle.mj_model.specs.declared.source_fault.SourceFault.{SourceFault as FaultOf};
 ghost use Rattle.dict_compile.specs.Compilation.{IsUserCompilation, IsUserCause, IsUserFault};
 ghost use Rattle.mj_model.specs.FirstFault.{IsRefusal};
@@ -9,10 +9,9 @@ ghost use Rattle.mj_model.specs.Tables.{Tables as TablesOf, User};
 ghost use Rattle.mj_model.specs.Connection.{AreMatrixSizes};
 ghost use Rattle.dict_compile.specs.Answers.{IsRefusedFor, IsUserRefusedFor, lexicons_of};
 ghost use Rattle.dict_compile.specs.EveryKey.{AnswersKeysOf};
-ghost use Rattle.dict_compile.specs.Steps.{AreEntrySteps};
+ghost use Rattle.dict_compile.specs.Steps.{AreEntrySteps, TellsSteps};
 ghost use Rattle.dict_compile.specs.UserImages.{IsSystemOf};
 ghost use Rattle.dict_compile.specs.declared.fault.CompileUserFault.TheVariants.{NotSystem, Source};
-ghost use Rattle.dict_compile.specs.declared.watch.Step.{Step as StepOf};
 
 use crate::compiled::Compiled;
 use crate::fault::CompileUserFault;
@@ -65,10 +64,8 @@ pub fn compile_user_watched<W: Watch>(
         → IsUserFault (image_tables system.now) (lexicons_of lexicons.now) fault
         → IsUserRefusedFor fault result }
     // Whoever watches is told all steps, each of them once and in their order.
-    ensures steps { (before : List StepOf) → W.told watch.old before → IfOk result (λ _.
-        (steps : List StepOf)
-        × AreEntrySteps (image_tables system.now).sizes (lexicons_of lexicons.now) steps
-        × W.told watch.new (before ++ steps)) }
+    ensures steps { TellsSteps (W.told watch.old) (W.told watch.new)
+        (λ _. AreEntrySteps (image_tables system.now).sizes (lexicons_of lexicons.now)) result }
 {
     if system.is_user() {
         return Err(CompileUserFault::NotSystem);
@@ -92,9 +89,8 @@ fn compile_lexicons<W: Watch>(
         (λ fault. IsRefusal fault (IsUserCause system (lexicons_of lexicons.now) fault)) }
     ensures first { (system : TablesOf) → IsSystemOf sizes system → (fault : FaultOf)
         → IsUserFault system (lexicons_of lexicons.now) fault → IsRefusedFor fault result }
-    ensures steps { (before : List StepOf) → W.told watch.old before → IfOk result (λ _.
-        (steps : List StepOf) × AreEntrySteps sizes (lexicons_of lexicons.now) steps
-        × W.told watch.new (before ++ steps)) }
+    ensures steps { TellsSteps (W.told watch.old) (W.told watch.new)
+        (λ _. AreEntrySteps sizes (lexicons_of lexicons.now)) result }
 {
     let read = read_lexicons(alloc, lexicons, sizes, watch)?;
     user_image(alloc, read, watch)
