@@ -1,7 +1,7 @@
 -- The words that some chain reaches, as they are collected place by place.
 use Rattle.std.specs.Prelude.{◌≡◌, ℕ, ◌+◌, ◌<◌, ◌≤◌, ◌⊎◌, List, Bool, true, length, slice_get, Some}
 use Rattle.mj_model.specs.declared.word.Word.{Word}
-use Rattle.path_search.specs.SearchedText.{SearchedText}
+use Rattle.path_search.specs.SearchedText.{CanBeSearched, SearchedText}
 use Rattle.lattice_nodes.specs.declared.reaching.Reached.{Reached}
 use Rattle.lattice_nodes.specs.LatticeNodes.{AreReachedBefore}
 
@@ -34,3 +34,8 @@ pub record IsReachedTo (t : SearchedText) (p : ℕ) (ws : List Word) (firsts : L
 pub record AreReachedIn (t : SearchedText) (r : Reached) : Type 0 where
   pub are : AreReachedBefore t.words t.text_length r.words.items
   pub indexed : AreIndexed r.words.items r.firsts.items
+
+-- a text that can be searched, with the words of it that some chain reaches
+pub record IsReachedText (t : SearchedText) (r : Reached) : Type 0 where
+  pub source : CanBeSearched t
+  pub reached : AreReachedIn t r

@@ -5,6 +5,7 @@ mod cost;
 mod lattice_node;
 mod nodes;
 mod on_path;
+mod reached_text;
 mod reaching;
 mod rests;
 mod totals;

@@ -7,9 +7,8 @@ ghost use Rattle.lattice_nodes.specs.LatticeNodes.{AreWordsOfLattice, HasLeastTh
 
 use crate::cost::ChainCost;
 use crate::lattice_node::LatticeNode;
+use crate::reached_text::ReachedText;
 use crate::reaching::reached_words;
-use crate::rests::rest_costs;
-use crate::totals::total_costs;
 use mj_model::Word;
 use path_search::WordSource;
 use std::alloc::{AllocError, Global};
@@ -31,8 +30,12 @@ pub fn lattice_nodes<S: WordSource>(
         (λ nodes. All (HasLeastThrough (S.says source.now)) nodes.items) }
 {
     let reached = reached_words(alloc, source)?;
-    let totals = total_costs(alloc, source, &reached)?;
-    let rests = rest_costs(alloc, source, &reached)?;
+    let text = ReachedText {
+        source,
+        reached: &reached,
+    };
+    let totals = text.total_costs(alloc)?;
+    let rests = text.rest_costs(alloc)?;
     nodes_of(alloc, &reached.words, &totals, &rests)
 }
 

@@ -7,12 +7,12 @@ use Rattle.lattice_nodes.specs.Least.{IsLeastOf, number_of}
 use Rattle.lattice_nodes.specs.Rests.{CostsOnBelow, IsLastEnd}
 use Rattle.lattice_nodes.proofs.SourceLemmas.{eos_follows}
 use Rattle.lattice_nodes.proofs.StepLemmas.{ended, ended_all, holds_pushed}
-use Rattle.lattice_nodes.proofs.rests.last_rests.Goals as goal
+use Rattle.lattice_nodes.proofs.reached_text.ReachedText.last_rests.Goals as goal
 
 pub eos_cost-requires : goal.eos_cost-requires
 eos_cost-requires g c =
-    let t = g.S.WordSource.says c.args.source.now in
-    let r = c.args.reached.now in
+    let t = g.S.WordSource.says c.args.self.now.source.now in
+    let r = c.args.self.now.reached.now in
     let i = c.loop-i.i in
     let ok = r.words.ok in
     let less : i < length r.words.items = omega (arith, c.loop-i-test.true, c.len-i-end.ensures, ok.0) in
@@ -20,8 +20,8 @@ eos_cost-requires g c =
 
 pub loop-i-preserved : goal.loop-i-preserved
 loop-i-preserved g c =
-    let t = g.S.WordSource.says c.args.source.now in
-    let r = c.args.reached.now in
+    let t = g.S.WordSource.says c.args.self.now.source.now in
+    let r = c.args.self.now.reached.now in
     let i = c.loop-i.i in
     let ok = r.words.ok in
     let less : i < length r.words.items = omega (arith, c.loop-i-test.true, c.len-i-end.ensures, ok.0) in
@@ -36,8 +36,8 @@ loop-i-preserved g c =
 
 pub returns : goal.returns
 returns g c =
-    let t = g.S.WordSource.says c.args.source.now in
-    let r = c.args.reached.now in
+    let t = g.S.WordSource.says c.args.self.now.source.now in
+    let r = c.args.self.now.reached.now in
     let ok = r.words.ok in
     let long = c.loop-i.invariant.long in
     let all : length c.loop-i.rests.items ≡ length r.words.items = omega (arith, long, c.loop-i.auto.i-end, c.loop-i-test.false, c.len-i-end.ensures, ok.0) in

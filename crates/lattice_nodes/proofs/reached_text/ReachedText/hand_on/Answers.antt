@@ -6,50 +6,50 @@ use Rattle.lattice_nodes.specs.Totals.{ArePassedOnIn}
 use Rattle.lattice_nodes.proofs.ReachLemmas.{firsts_rise}
 use Rattle.lattice_nodes.proofs.SourceLemmas.{ends_low, follows_word}
 use Rattle.lattice_nodes.proofs.StepLemmas.{handed_all, handed_from, handed_next, own_is, own_small, own_there}
-use Rattle.lattice_nodes.proofs.totals.hand_on.Goals as goal
+use Rattle.lattice_nodes.proofs.reached_text.ReachedText.hand_on.Goals as goal
 
 pub unwrap-total-requires : goal.unwrap-total-requires
 unwrap-total-requires g c =
-    let t = g.S.WordSource.says c.args.source.now in
-    let r = c.args.reached.now in
+    let t = g.S.WordSource.says c.args.self.now.source.now in
+    let r = c.args.self.now.reached.now in
     let i = c.args.i in
     let w = c.index-word.result.now in
     let at = slice_get_read r.words.items (length r.words.items) i w refl c.requires.word c.index-word.ensures in
-    let there = own_there t r c.requires.source c.requires.reached i w at c.args.totals.now c.requires.before in
+    let there = own_there t r c.requires.text.source c.requires.text.reached i w at c.args.totals.now c.requires.before in
     subst IsSome (sym there.1) refl
 
 pub overflow_add-word : goal.overflow_add-word
 overflow_add-word g c =
-    let t = g.S.WordSource.says c.args.source.now in
-    let r = c.args.reached.now in
+    let t = g.S.WordSource.says c.args.self.now.source.now in
+    let r = c.args.self.now.reached.now in
     let i = c.args.i in
     let w = c.index-word.result.now in
     let at = slice_get_read r.words.items (length r.words.items) i w refl c.requires.word c.index-word.ensures in
-    let low = ends_low t r c.requires.source c.requires.reached i w at in
+    let low = ends_low t r c.requires.text.source c.requires.text.reached i w at in
     omega (arith, low)
 
 pub loop-next-init : goal.loop-next-init
 loop-next-init g c =
-    let t = g.S.WordSource.says c.args.source.now in
-    let r = c.args.reached.now in
+    let t = g.S.WordSource.says c.args.self.now.source.now in
+    let r = c.args.self.now.reached.now in
     let i = c.args.i in
     let w = c.index-word.result.now in
     let at = slice_get_read r.words.items (length r.words.items) i w refl c.requires.word c.index-word.ensures in
-    handed_from t r c.requires.source c.requires.reached i w at c.args.totals.now c.first-from.result c.first-from.ensures c.requires.before
+    handed_from t r c.requires.text.source c.requires.text.reached i w at c.args.totals.now c.first-from.result c.first-from.ensures c.requires.before
 
 pub with_word-found-requires-clause-small : goal.with_word-found-requires-clause-small
 with_word-found-requires-clause-small g c =
-    let t = g.S.WordSource.says c.args.source.now in
-    let r = c.args.reached.now in
+    let t = g.S.WordSource.says c.args.self.now.source.now in
+    let r = c.args.self.now.reached.now in
     let i = c.args.i in
     let w = c.index-word.result.now in
     let at = slice_get_read r.words.items (length r.words.items) i w refl c.requires.word c.index-word.ensures in
-    own_small t r c.requires.source c.requires.reached i w at c.args.totals.now c.requires.before c.unwrap-total.result c.unwrap-total.ensures
+    own_small t r c.requires.text.source c.requires.text.reached i w at c.args.totals.now c.requires.before c.unwrap-total.result c.unwrap-total.ensures
 
 pub with_word-found-requires-clause-pair : goal.with_word-found-requires-clause-pair
 with_word-found-requires-clause-pair g c =
-    let t = g.S.WordSource.says c.args.source.now in
-    let r = c.args.reached.now in
+    let t = g.S.WordSource.says c.args.self.now.source.now in
+    let r = c.args.self.now.reached.now in
     let i = c.args.i in
     let k = c.loop-next.next in
     let high = c.loop-next-test.true in
@@ -58,12 +58,12 @@ with_word-found-requires-clause-pair g c =
     let at = slice_get_read r.words.items (length r.words.items) i w refl c.requires.word c.index-word.ensures in
     let v = c.index.result.now in
     let at_k = slice_get_read r.words.items (length r.words.items) k v refl (omega (arith, high, within)) c.index.ensures in
-    follows_word t r c.requires.source c.requires.reached i k w v at at_k
+    follows_word t r c.requires.text.source c.requires.text.reached i k w v at at_k
 
 pub loop-next-preserved : goal.loop-next-preserved
 loop-next-preserved g c =
-    let t = g.S.WordSource.says c.args.source.now in
-    let r = c.args.reached.now in
+    let t = g.S.WordSource.says c.args.self.now.source.now in
+    let r = c.args.self.now.reached.now in
     let i = c.args.i in
     let k = c.loop-next.next in
     let high = c.loop-next-test.true in
@@ -72,18 +72,18 @@ loop-next-preserved g c =
     let at = slice_get_read r.words.items (length r.words.items) i w refl c.requires.word c.index-word.ensures in
     let v = c.index.result.now in
     let at_k = slice_get_read r.words.items (length r.words.items) k v refl (omega (arith, high, within)) c.index.ensures in
-    let known = own_is t r c.requires.source c.requires.reached i w at c.args.totals.now c.requires.before c.unwrap-total.result c.unwrap-total.ensures in
-    handed_next t r c.requires.source c.requires.reached i w at c.first-from.result c.first-to.result k v at_k c.first-from.ensures c.first-to.ensures c.loop-next.auto.next high
+    let known = own_is t r c.requires.text.source c.requires.text.reached i w at c.args.totals.now c.requires.before c.unwrap-total.result c.unwrap-total.ensures in
+    handed_next t r c.requires.text.source c.requires.text.reached i w at c.first-from.result c.first-to.result k v at_k c.first-from.ensures c.first-to.ensures c.loop-next.auto.next high
     c.loop-next.totals c.unwrap-total.result c.with_word-found.result c.lesser.result known (ap (λ (x : ChainCost). x.cost) c.with_word-found.ensures) c.lesser.ensures c.loop-next.invariant
 
 pub returns : goal.returns
 returns g c =
-    let t = g.S.WordSource.says c.args.source.now in
-    let r = c.args.reached.now in
+    let t = g.S.WordSource.says c.args.self.now.source.now in
+    let r = c.args.self.now.reached.now in
     let i = c.args.i in
     let w = c.index-word.result.now in
     let at = slice_get_read r.words.items (length r.words.items) i w refl c.requires.word c.index-word.ensures in
     let rise = firsts_rise r.words.items w.end (w.end + 1) c.first-from.result c.first-to.result (omega arith) c.first-from.ensures c.first-to.ensures in
     let last : c.loop-next.next ≡ c.first-to.result = omega (arith, c.loop-next.auto.next-end rise, c.loop-next-test.false) in
-    handed_all t r c.requires.source c.requires.reached i w at c.loop-next.totals c.first-to.result c.first-to.ensures
+    handed_all t r c.requires.text.source c.requires.text.reached i w at c.loop-next.totals c.first-to.result c.first-to.ensures
     (subst (λ (n : ℕ). ArePassedOnIn t r i n c.loop-next.totals) last c.loop-next.invariant)
