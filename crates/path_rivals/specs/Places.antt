@@ -2,8 +2,9 @@
 use Rattle.std.specs.Prelude.{◌≡◌, ℕ, ℤ, ◌<◌, ◌≤◌, ◌^◌, List, All, Option, map, slice_get, Some, None}
 use Rattle.mj_model.specs.Bounds.{IsWithin}
 use Rattle.mj_model.specs.declared.word.Word.{Word}
-use Rattle.path_search.specs.SearchedText.{SearchedText}
+use Rattle.path_search.specs.SearchedText.{CanBeSearched, SearchedText}
 use Rattle.lattice_nodes.specs.LatticeNodes.{AreWordsOfLattice, HasLeastThrough, HasLeastTotal}
+use Rattle.lattice_nodes.specs.Reaching.{AreIndexed}
 use Rattle.lattice_nodes.specs.declared.lattice_node.LatticeNode.{LatticeNode}
 
 -- the words of nodes
@@ -15,6 +16,12 @@ pub record AreNodesOf (t : SearchedText) (nodes : List LatticeNode) : Type 0 whe
   pub words : AreWordsOfLattice t nodes
   pub totals : All (HasLeastTotal t) nodes
   pub through : All (HasLeastThrough t) nodes
+
+-- the nodes are those of the lattice of a text that can be searched, and for each place it is known which one is the first
+pub record ArePlaced (t : SearchedText) (nodes : List LatticeNode) (firsts : List ℕ) : Type 0 where
+  pub source : CanBeSearched t
+  pub nodes_are : AreNodesOf t nodes
+  pub indexed : AreIndexed (words_in nodes) firsts
 
 -- the words of nodes lie within a mebibyte
 abbrev pub AreLow : List LatticeNode → Type 0

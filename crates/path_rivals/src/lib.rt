@@ -10,6 +10,7 @@ mod link;
 mod linked_nodes;
 mod links_after;
 mod links_before;
+mod placed_nodes;
 mod places;
 mod rival;
 mod rival_path;

@@ -1,60 +1,17 @@
-//! What stands before the word of each node on a chain of least cost up to it.
+//! Whether a node stands before another one on a chain of least cost.
 
-ghost use Rattle.std.specs.Prelude.{◌≡◌, ◌+◌, ◌<◌, IfOk, length};
-ghost use Rattle.lattice_nodes.specs.Reaching.{AreIndexed};
-ghost use Rattle.path_search.specs.SearchedText.{CanBeSearched};
-ghost use Rattle.path_rivals.specs.Linking.{AreHandedOn, IsLinkedFrom};
-ghost use Rattle.path_rivals.specs.Links.{AreBefore};
-ghost use Rattle.path_rivals.specs.Places.{AreNodesOf, IsSmallNode, words_in};
+ghost use Rattle.std.specs.Prelude.{◌≡◌};
+ghost use Rattle.path_rivals.specs.Linking.{IsLinkedFrom};
+ghost use Rattle.path_rivals.specs.Places.{IsSmallNode};
 ghost use Rattle.path_rivals.specs.Totals.{IsLeading};
 
 use crate::link::{BOUNDARY_ID, Link, link_between};
-use crate::places::first_of;
 use crate::total::{is_same, next_step, total_at, total_of};
 use lattice_nodes::LatticeNode;
 use path_search::WordSource;
-use std::alloc::{AllocError, Global};
-
-/// For each node what stands before its word on a chain of least cost up to it: it is handed on from node to node.
-pub fn links_before<S: WordSource>(
-    alloc: Global,
-    source: &S,
-    nodes: &[LatticeNode],
-    firsts: &[usize],
-) -> Result<Vec<Link>, AllocError>
-    requires source { CanBeSearched (S.says source.now) }
-    requires nodes { AreNodesOf (S.says source.now) nodes.now }
-    requires firsts { AreIndexed (words_in nodes.now) firsts.now }
-    ensures { IfOk result (λ links. AreBefore (S.says source.now).connection nodes.now
-        links.items) }
-{
-    let mut links = links_to_bos(alloc, source, nodes)?;
-    for number in 0..nodes.len() {
-        hand_on(source, nodes, firsts, number, &mut links);
-    }
-    Ok(links)
-}
-
-/// For each node a link to BOS.
-fn links_to_bos<S: WordSource>(
-    alloc: Global,
-    source: &S,
-    nodes: &[LatticeNode],
-) -> Result<Vec<Link>, AllocError>
-    requires source { CanBeSearched (S.says source.now) }
-    requires nodes { AreNodesOf (S.says source.now) nodes.now }
-    ensures { IfOk result (λ links. AreHandedOn (S.says source.now).connection nodes.now 0 0
-        links.items) }
-{
-    let mut links = Vec::new(alloc);
-    for number in 0..nodes.len() {
-        links.push(link_to_bos(source, &nodes[number]))?;
-    }
-    Ok(links)
-}
 
 /// The link of a node to BOS.
-fn link_to_bos<S: WordSource>(source: &S, node: &LatticeNode) -> Link
+pub fn link_to_bos<S: WordSource>(source: &S, node: &LatticeNode) -> Link
     requires { (S.says source.now).is_pair 0 node.now.word.left }
     ensures node { result.node ≡ None }
     ensures connection { result.connection
@@ -66,31 +23,8 @@ fn link_to_bos<S: WordSource>(source: &S, node: &LatticeNode) -> Link
     }
 }
 
-/// Hands a node on to those whose words may follow its word. Those before it were handed on.
-fn hand_on<S: WordSource>(
-    source: &S,
-    nodes: &[LatticeNode],
-    firsts: &[usize],
-    number: usize,
-    links: &mut [Link],
-)
-    requires source { CanBeSearched (S.says source.now) }
-    requires nodes { AreNodesOf (S.says source.now) nodes.now }
-    requires firsts { AreIndexed (words_in nodes.now) firsts.now }
-    requires number { number < length nodes.now }
-    requires before { AreHandedOn (S.says source.now).connection nodes.now number 0 links.old }
-    ensures { AreHandedOn (S.says source.now).connection nodes.now (number + 1) 0 links.new }
-{
-    let node = nodes[number];
-    let from = first_of(nodes, firsts, node.word.end);
-    let to = first_of(nodes, firsts, node.word.end + 1);
-    for next in from..to {
-        links[next] = link_from(source, number, &node, &nodes[next], links[next]);
-    }
-}
-
 /// The link to a node, if its word stands before another one's on a chain of least cost up to that: else the link that was found so far.
-fn link_from<S: WordSource>(
+pub fn link_from<S: WordSource>(
     source: &S,
     number: usize,
     node: &LatticeNode,

@@ -10,8 +10,7 @@ ghost use Rattle.path_rivals.specs.RivalPaths.{IsRivalOrNone};
 use crate::all_rivals::{best_rivals, rival_at};
 use crate::best_steps::best_steps;
 use crate::linked_nodes::LinkedNodes;
-use crate::links_after::links_after;
-use crate::links_before::links_before;
+use crate::placed_nodes::PlacedNodes;
 use crate::places::firsts_of;
 use crate::rival::Rival;
 use crate::rival_path::RivalPath;
@@ -64,8 +63,13 @@ pub fn rivals_of<S: WordSource>(
     let bests = best_rivals(alloc, &nodes, path)?;
     let steps = best_steps(alloc, source, path)?;
     let firsts = firsts_of(alloc, &nodes)?;
-    let before = links_before(alloc, source, &nodes, &firsts)?;
-    let after = links_after(alloc, source, &nodes, &firsts)?;
+    let placed = PlacedNodes {
+        source,
+        nodes: &nodes,
+        firsts: &firsts,
+    };
+    let before = placed.links_before(alloc)?;
+    let after = placed.links_after(alloc)?;
     let linked = LinkedNodes {
         nodes,
         on_best,

@@ -47,31 +47,31 @@ firsts_of-requires g c =
       low = subst AreLow (sym c.deref-3.ensures.value) (are_low t source nodes are);
     }
 
-pub links_before-requires-clause-nodes : goal.links_before-requires-clause-nodes
-links_before-requires-clause-nodes g c =
+pub links_before-requires : goal.links_before-requires
+links_before-requires g c =
     let t = g.S.WordSource.says c.args.source.now in
     let nodes = c.in_ok-nodes.nodes.items in
     let are : AreNodesOf t nodes = record { words = c.in_ok-nodes.ensures.words; totals = c.in_ok-nodes.ensures.totals; through = c.in_ok-nodes.ensures.through } in
-    subst (AreNodesOf t) (sym c.deref-4.ensures.value) are
-
-pub links_before-requires-clause-firsts : goal.links_before-requires-clause-firsts
-links_before-requires-clause-firsts g c =
     let same = c.deref-3.ensures.value ∙ sym c.deref-4.ensures.value in
-    subst (AreIndexed (words_in c.deref-4.result.now)) (sym c.deref-5.ensures.value)
-    (subst (λ (ns : List LatticeNode). AreIndexed (words_in ns) c.in_ok-firsts.firsts.items) same c.in_ok-firsts.ensures)
+    record {
+      source = c.requires.source;
+      nodes_are = subst (AreNodesOf t) (sym c.deref-4.ensures.value) are;
+      indexed = subst (AreIndexed (words_in c.deref-4.result.now)) (sym c.deref-5.ensures.value)
+          (subst (λ (ns : List LatticeNode). AreIndexed (words_in ns) c.in_ok-firsts.firsts.items) same c.in_ok-firsts.ensures);
+    }
 
-pub links_after-requires-clause-nodes : goal.links_after-requires-clause-nodes
-links_after-requires-clause-nodes g c =
+pub links_after-requires : goal.links_after-requires
+links_after-requires g c =
     let t = g.S.WordSource.says c.args.source.now in
     let nodes = c.in_ok-nodes.nodes.items in
     let are : AreNodesOf t nodes = record { words = c.in_ok-nodes.ensures.words; totals = c.in_ok-nodes.ensures.totals; through = c.in_ok-nodes.ensures.through } in
-    subst (AreNodesOf t) (sym c.deref-6.ensures.value) are
-
-pub links_after-requires-clause-firsts : goal.links_after-requires-clause-firsts
-links_after-requires-clause-firsts g c =
-    let same = c.deref-3.ensures.value ∙ sym c.deref-6.ensures.value in
-    subst (AreIndexed (words_in c.deref-6.result.now)) (sym c.deref-7.ensures.value)
-    (subst (λ (ns : List LatticeNode). AreIndexed (words_in ns) c.in_ok-firsts.firsts.items) same c.in_ok-firsts.ensures)
+    let same = c.deref-3.ensures.value ∙ sym c.deref-4.ensures.value in
+    record {
+      source = c.requires.source;
+      nodes_are = subst (AreNodesOf t) (sym c.deref-4.ensures.value) are;
+      indexed = subst (AreIndexed (words_in c.deref-4.result.now)) (sym c.deref-5.ensures.value)
+          (subst (λ (ns : List LatticeNode). AreIndexed (words_in ns) c.in_ok-firsts.firsts.items) same c.in_ok-firsts.ensures);
+    }
 
 pub invariant_of-result : goal.invariant_of-result
 invariant_of-result g c =
@@ -83,7 +83,7 @@ invariant_of-result g c =
     let l : LinkedNodes = record { nodes = c.in_ok-nodes.nodes; on_best = c.in_ok-on_best.on_best; before = c.in_ok-before.before; after = c.in_ok-after.after } in
     let on = subst (λ (ns : List LatticeNode). AreOnPath ns path l.on_best.items) c.deref.ensures.value c.in_ok-on_best.ensures in
     let before = subst (λ (ns : List LatticeNode). AreBefore t.connection ns l.before.items) c.deref-4.ensures.value c.in_ok-before.ensures in
-    let after = subst (λ (ns : List LatticeNode). AreAfter t.words t.connection ns l.after.items) c.deref-6.ensures.value c.in_ok-after.ensures in
+    let after = subst (λ (ns : List LatticeNode). AreAfter t.words t.connection ns l.after.items) c.deref-4.ensures.value c.in_ok-after.ensures in
     let bests = c.in_ok-bests.bests.items in
     let same = c.deref-2.ensures.value in
     let rivals = subst (λ (ns : List LatticeNode). AreBestRivals t.words t.connection ns path bests) same
@@ -100,7 +100,7 @@ returns g c =
     let l : LinkedNodes = record { nodes = c.in_ok-nodes.nodes; on_best = c.in_ok-on_best.on_best; before = c.in_ok-before.before; after = c.in_ok-after.after } in
     let on = subst (λ (ns : List LatticeNode). AreOnPath ns path l.on_best.items) c.deref.ensures.value c.in_ok-on_best.ensures in
     let before = subst (λ (ns : List LatticeNode). AreBefore t.connection ns l.before.items) c.deref-4.ensures.value c.in_ok-before.ensures in
-    let after = subst (λ (ns : List LatticeNode). AreAfter t.words t.connection ns l.after.items) c.deref-6.ensures.value c.in_ok-after.ensures in
+    let after = subst (λ (ns : List LatticeNode). AreAfter t.words t.connection ns l.after.items) c.deref-4.ensures.value c.in_ok-after.ensures in
     let bests = c.in_ok-bests.bests.items in
     let same = c.deref-2.ensures.value in
     let rivals = subst (λ (ns : List LatticeNode). AreBestRivals t.words t.connection ns path bests) same

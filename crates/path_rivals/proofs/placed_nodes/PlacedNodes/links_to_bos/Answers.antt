@@ -3,29 +3,29 @@ use Rattle.std.proofs.lemmas.Option.{slice_get-get_or}
 use Rattle.path_rivals.proofs.HandLemmas.{AreToBos, to_bos_all, to_bos_more, to_bos_none}
 use Rattle.path_rivals.proofs.KeptLemmas.{no_node}
 use Rattle.path_rivals.proofs.PlaceLemmas.{may_begin}
-use Rattle.path_rivals.proofs.links_before.links_to_bos.Goals as goal
+use Rattle.path_rivals.proofs.placed_nodes.PlacedNodes.links_to_bos.Goals as goal
 
 pub link_to_bos-requires : goal.link_to_bos-requires
 link_to_bos-requires g c =
-    let t = g.S.WordSource.says c.args.source.now in
-    let nodes = c.args.nodes.now in
+    let t = g.S.WordSource.says c.args.self.now.source.now in
+    let nodes = c.args.self.now.nodes.now in
     let i = c.loop-number.number in
-    may_begin t c.requires.source nodes c.requires.nodes i (get_or nodes i no_node) (slice_get-get_or nodes i no_node c.loop-number-test.true)
+    may_begin t c.requires.source nodes c.requires.nodes_are i (get_or nodes i no_node) (slice_get-get_or nodes i no_node c.loop-number-test.true)
 
 pub loop-number-init : goal.loop-number-init
-loop-number-init g c = to_bos_none (g.S.WordSource.says c.args.source.now).connection c.args.nodes.now c.new-links.result.items c.new-links.ensures.items
+loop-number-init g c = to_bos_none (g.S.WordSource.says c.args.self.now.source.now).connection c.args.self.now.nodes.now c.new-links.result.items c.new-links.ensures.items
 
 pub loop-number-preserved : goal.loop-number-preserved
 loop-number-preserved g c =
-    let t = g.S.WordSource.says c.args.source.now in
-    let nodes = c.args.nodes.now in
+    let t = g.S.WordSource.says c.args.self.now.source.now in
+    let nodes = c.args.self.now.nodes.now in
     let i = c.loop-number.number in
     to_bos_more t.connection nodes i (get_or nodes i no_node) c.link_to_bos.result c.loop-number.links.items c.push.new.self.items (slice_get-get_or nodes i no_node c.loop-number-test.true)
     c.link_to_bos.ensures.node c.link_to_bos.ensures.connection c.in_ok-push.ensures.items c.loop-number.invariant
 
 pub returns : goal.returns
 returns g c =
-    let t = g.S.WordSource.says c.args.source.now in
-    let nodes = c.args.nodes.now in
+    let t = g.S.WordSource.says c.args.self.now.source.now in
+    let nodes = c.args.self.now.nodes.now in
     let all : c.loop-number.number ≡ length nodes = omega (arith, c.loop-number.auto.number-end, c.loop-number-test.false) in
     to_bos_all t.connection nodes c.loop-number.links.items (subst (λ (n : ℕ). AreToBos t.connection nodes n c.loop-number.links.items) all c.loop-number.invariant)

@@ -6,27 +6,27 @@ use Rattle.path_rivals.specs.Places.{words_in}
 use Rattle.path_rivals.proofs.HandLemmas.{handed_all, handed_from, handed_to}
 use Rattle.path_rivals.proofs.KeptLemmas.{no_link, no_node}
 use Rattle.path_rivals.proofs.PlaceLemmas.{are_low, may_follow, meets_at, small_of}
-use Rattle.path_rivals.proofs.links_before.hand_on.Goals as goal
+use Rattle.path_rivals.proofs.placed_nodes.PlacedNodes.hand_on.Goals as goal
 
 pub overflow_add-node : goal.overflow_add-node
 overflow_add-node g c =
-    let t = g.S.WordSource.says c.args.source.now in
-    let nodes = c.args.nodes.now in
+    let t = g.S.WordSource.says c.args.self.now.source.now in
+    let nodes = c.args.self.now.nodes.now in
     let i = c.args.number in
-    let low = (are_low t c.requires.source nodes c.requires.nodes i (get_or nodes i no_node) (slice_get-get_or nodes i no_node c.requires.number)).1 in
+    let low = (are_low t c.requires.placed.source nodes c.requires.placed.nodes_are i (get_or nodes i no_node) (slice_get-get_or nodes i no_node c.requires.number)).1 in
     omega (arith, low)
 
 pub loop-next-init : goal.loop-next-init
 loop-next-init g c =
-    let t = g.S.WordSource.says c.args.source.now in
-    let nodes = c.args.nodes.now in
+    let t = g.S.WordSource.says c.args.self.now.source.now in
+    let nodes = c.args.self.now.nodes.now in
     let i = c.args.number in
     handed_from t.connection nodes i (get_or nodes i no_node) (slice_get-get_or nodes i no_node c.requires.number) c.first_of-from.result c.args.links.now c.first_of-from.ensures.first c.requires.before
 
 pub link_from-requires : goal.link_from-requires
 link_from-requires g c =
-    let t = g.S.WordSource.says c.args.source.now in
-    let nodes = c.args.nodes.now in
+    let t = g.S.WordSource.says c.args.self.now.source.now in
+    let nodes = c.args.self.now.nodes.now in
     let i = c.args.number in
     let here = slice_get-get_or nodes i no_node c.requires.number in
     let k = c.loop-next.next in
@@ -34,14 +34,14 @@ link_from-requires g c =
     let within = c.first_of-to.ensures.within in
     let there = slice_get-get_or nodes k no_node (omega (arith, high, within)) in
     record {
-      pair = may_follow t c.requires.source nodes c.requires.nodes i k (get_or nodes i no_node) (get_or nodes k no_node) here there;
-      small = small_of t c.requires.source nodes c.requires.nodes i (get_or nodes i no_node) here;
+      pair = may_follow t c.requires.placed.source nodes c.requires.placed.nodes_are i k (get_or nodes i no_node) (get_or nodes k no_node) here there;
+      small = small_of t c.requires.placed.source nodes c.requires.placed.nodes_are i (get_or nodes i no_node) here;
     }
 
 pub loop-next-preserved : goal.loop-next-preserved
 loop-next-preserved g c =
-    let t = g.S.WordSource.says c.args.source.now in
-    let nodes = c.args.nodes.now in
+    let t = g.S.WordSource.says c.args.self.now.source.now in
+    let nodes = c.args.self.now.nodes.now in
     let i = c.args.number in
     let m = get_or nodes i no_node in
     let here = slice_get-get_or nodes i no_node c.requires.number in
@@ -58,8 +58,8 @@ loop-next-preserved g c =
 
 pub returns : goal.returns
 returns g c =
-    let t = g.S.WordSource.says c.args.source.now in
-    let nodes = c.args.nodes.now in
+    let t = g.S.WordSource.says c.args.self.now.source.now in
+    let nodes = c.args.self.now.nodes.now in
     let i = c.args.number in
     let m = get_or nodes i no_node in
     let here = slice_get-get_or nodes i no_node c.requires.number in
