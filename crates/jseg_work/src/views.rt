@@ -1,27 +1,26 @@
 //! What is printed of lines in place of the words of their best paths, by dictionaries and by that of sources.
 
-ghost use Rattle.std.specs.Prelude.{◌≡◌, ℕ, ◌≤◌, ◌⊎◌, Err, IfErr, IfOk};
+ghost use Rattle.std.specs.Prelude.{◌≡◌, ℕ, ◌≤◌, ◌⊎◌, Err};
 ghost use Rattle.dict_compile.specs.Compilation.{IsCompilationCause};
+ghost use Rattle.line_stream.specs.GoodRuns.{IsOkOrMemory, NothingFails};
 ghost use Rattle.line_stream.specs.Runs.{Ran};
 ghost use Rattle.mj_model.specs.Counts.{MayBeRead, MayBeWritten};
-ghost use Rattle.mj_model.specs.FirstFault.{IsRefusal};
-ghost use Rattle.mj_model.specs.declared.limits.TheConstants.{GROUPING_MAX, READS_MAX};
+ghost use Rattle.mj_model.specs.declared.limits.TheConstants.{GROUPING_MAX, READS_MAX as ReadsMax};
 ghost use Rattle.mj_model.specs.declared.run_fault.RunFault.TheVariants.{Source, UserSource};
 ghost use Rattle.mj_model.specs.declared.source_fault.SourceFault.{SourceFault as FaultOf};
 ghost use Rattle.paths.specs.PathLaws.{CoversTexts};
-ghost use Rattle.segmenter.specs.EarlyFaults.{EndsEarly};
-ghost use Rattle.segmenter.specs.SourceDicts.{IsDictOf};
 ghost use Rattle.segmenter.specs.SourceRuns.{IsEarly};
 ghost use Rattle.word_lookup.specs.Overlays.{overlay_of};
 ghost use Rattle.jseg_work.specs.Views.{PrintedOver, TellsView};
 
-use dict_compile::compile;
-use dict_image::{Dict, load_written};
-use lattice_printer::{LatticeFormat, print_lattices};
-use mj_model::{RunFault, SourceFault, SourceKind, Sources, TextIn, TextOut};
+use lattice_printer::{LatticeFormat, LatticeMemory, LatticePrinter};
+use line_stream::run_over;
+use mj_model::{READS_MAX, RunFault, Sources, TextIn, TextOut};
+use segmenter::{early_end, system_dict};
 use std::alloc::Global;
-use why_printer::print_why;
+use why_printer::WhyPrinter;
 use word_lookup::Dictionaries;
+use words_printer::LineMemory;
 
 /// What is printed of each line.
 #[derive(Clone, Copy, Drop)]
@@ -32,7 +31,7 @@ pub enum View {
     Why,
 }
 
-/// Writes what is printed of the lines of a reader, as `segment` writes their words.
+/// Writes what is printed of the lines of a reader, as `segment` writes their words; answers the number of lines.
 pub fn print_views<R: TextIn, W: TextOut>(
     alloc: Global,
     dictionaries: &Dictionaries<'_>,
@@ -45,12 +44,31 @@ pub fn print_views<R: TextIn, W: TextOut>(
     // The dictionaries cover every text: each has a best path.
     ensures covered { CoversTexts (overlay_of dictionaries.now) }
     // What was read, what was written, how the run ended, and where the reader is.
-    ensures run { Ran (TellsView view (overlay_of dictionaries.now)) READS_MAX
+    ensures run { Ran (TellsView view (overlay_of dictionaries.now)) ReadsMax
         (R.told reader.old) (R.told reader.new) (W.told writer.old) (W.told writer.new) result }
+    // Where no line is bad, no call fails and the end comes within the bound, it is Ok or Memory.
+    ensures succeeds { NothingFails ReadsMax (R.told reader.old) (R.told reader.new)
+        (W.told writer.old) (W.told writer.new) → IsOkOrMemory result }
 {
+    let dictionaries = *dictionaries;
     match view {
-        View::Lattice(format) => print_lattices(alloc, dictionaries, format, reader, writer),
-        View::Why => print_why(alloc, dictionaries, reader, writer),
+        View::Lattice(format) => {
+            let printer = LatticePrinter {
+                alloc,
+                dictionaries,
+                format,
+            };
+            let mut kept = LatticeMemory::new(alloc);
+            run_over(alloc, &printer, &mut kept, reader, writer, READS_MAX)
+        }
+        View::Why => {
+            let printer = WhyPrinter {
+                alloc,
+                dictionaries,
+            };
+            let mut kept = LineMemory::new(alloc);
+            run_over(alloc, &printer, &mut kept, reader, writer, READS_MAX)
+        }
     }
 }
 
@@ -75,33 +93,13 @@ pub fn print_source_views<R: TextIn, W: TextOut>(
     ensures run { IsEarly result ⊎ PrintedOver sources.now grouping view
         (R.told reader.old) (R.told reader.new) (W.told writer.old) (W.told writer.new) result }
 {
-    let system = match dict_of(alloc, sources) {
+    let system = match system_dict(alloc, sources) {
         Ok(system) => system,
-        Err(fault) => return Err(early_end(fault)),
+        Err(fault) => return Err(early_end(fault, RunFault::Source(fault))),
     };
     let Ok(dictionaries) = Dictionaries::new(&system, &[]) else {
         unreachable!()
     };
     let dictionaries = dictionaries.with_grouping(grouping);
     print_views(alloc, &dictionaries, view, reader, writer)
-}
-
-/// The dictionary of sources.
-fn dict_of(alloc: Global, sources: &Sources<'_>) -> Result<Dict, SourceFault>
-    ensures dict { IfOk result (λ dict. IsDictOf sources.now dict) }
-    ensures refused { IfErr result (λ fault.
-        IsRefusal fault (IsCompilationCause sources.now fault)) }
-{
-    let compiled = compile(alloc, sources)?;
-    Ok(load_written(alloc, compiled.image)?)
-}
-
-/// The end of a run by a fault of its sources: want of memory belongs to no line.
-fn early_end(fault: SourceFault) -> RunFault
-    ensures { EndsEarly Source fault result }
-{
-    match fault.kind {
-        SourceKind::Memory => RunFault::Memory(0),
-        _ => RunFault::Source(fault),
-    }
 }

@@ -1,4 +1,3 @@
 pub mod ShownWords
 pub mod ShownNodes
 pub mod PrintableNodes
-pub mod BadLines

@@ -57,7 +57,7 @@ fn append_front(marked: &MarkedNode<'_>, out: &mut Vec<u8>) -> Result<(), AllocE
             Piece::Bytes(b"  w"),
             Piece::Count(marked.number),
             Piece::Bytes(b" [shape=box"),
-            Piece::Bytes(box_style(marked.is_best)),
+            Piece::Bytes(style_of(marked.is_best).in_box),
             Piece::Bytes(b", label=\""),
             Piece::Escaped(Escape::Label, marked.surface()),
             Piece::Bytes(b"\\n"),
@@ -91,30 +91,34 @@ fn append_costs(marked: &MarkedNode<'_>, out: &mut Vec<u8>) -> Result<(), AllocE
             Piece::Count(marked.number),
             Piece::Bytes(b" -> "),
             Piece::Count(word.end),
-            Piece::Bytes(edge_style(marked.is_best)),
+            Piece::Bytes(style_of(marked.is_best).of_edges),
             Piece::Bytes(b";\n"),
         ],
         out,
     )
 }
 
-fn box_style(is_best: bool) -> &'static [u8]
-    ensures { result.now ≡ box_style is_best }
-{
-    if is_best {
-        b", color=red, penwidth=2"
-    } else {
-        b""
-    }
+/// What marks a word on the best path: in its box, and at its edges.
+#[derive(Clone, Copy)]
+struct Style {
+    in_box: &'static [u8],
+    of_edges: &'static [u8],
 }
 
-fn edge_style(is_best: bool) -> &'static [u8]
-    ensures { result.now ≡ edge_style is_best }
+fn style_of(is_best: bool) -> Style
+    ensures in_box { result.in_box.now ≡ box_style is_best }
+    ensures of_edges { result.of_edges.now ≡ edge_style is_best }
 {
     if is_best {
-        b" [color=red, penwidth=2]"
+        Style {
+            in_box: b", color=red, penwidth=2",
+            of_edges: b" [color=red, penwidth=2]",
+        }
     } else {
-        b""
+        Style {
+            in_box: b"",
+            of_edges: b"",
+        }
     }
 }
 

@@ -1,7 +1,7 @@
 //! Bytes of surfaces and features as they stand in cells and labels.
 
 ghost use Rattle.std.specs.Prelude.{◌≡◌, ◌++◌, flat_map, take, vec_len, OnOk};
-ghost use Rattle.lattice_printer.specs.Escapes.{escaped, in_cell, in_label};
+ghost use Rattle.lattice_printer.specs.Escapes.{escaped};
 
 use std::alloc::AllocError;
 
@@ -26,42 +26,27 @@ pub fn append_escaped(escape: Escape, bytes: &[u8], out: &mut Vec<u8>) -> Result
     Ok(())
 }
 
-/// Appends a byte as it stands there.
+/// Appends a byte as it stands there. Those that would end a cell are escaped by a backslash. Of a label Graphviz reads each as itself, and
+/// control characters as their pictures, U+2400 to U+2421.
 fn append_byte(escape: Escape, byte: u8, out: &mut Vec<u8>) -> Result<(), AllocError>
     ensures appended { OnOk result (out.new.items ≡ out.old.items ++ escaped escape byte) }
     ensures kept { take (vec_len out.old) out.new.items ≡ out.old.items }
 {
     match escape {
-        Escape::Cell => append_in_cell(byte, out),
-        Escape::Label => append_in_label(byte, out),
-    }
-}
-
-/// Appends a byte of a cell: those that would end it are escaped by a backslash.
-fn append_in_cell(byte: u8, out: &mut Vec<u8>) -> Result<(), AllocError>
-    ensures appended { OnOk result (out.new.items ≡ out.old.items ++ in_cell byte) }
-    ensures kept { take (vec_len out.old) out.new.items ≡ out.old.items }
-{
-    match byte {
-        b'\t' => out.extend_from_slice(b"\\t"),
-        b'\n' => out.extend_from_slice(b"\\n"),
-        b'\r' => out.extend_from_slice(b"\\r"),
-        b'\\' => out.extend_from_slice(b"\\\\"),
-        _ => out.extend_from_slice(&[byte]),
-    }
-}
-
-/// Appends a byte of a label: Graphviz reads it as itself, and control characters as their pictures, U+2400 to U+2421.
-fn append_in_label(byte: u8, out: &mut Vec<u8>) -> Result<(), AllocError>
-    ensures appended { OnOk result (out.new.items ≡ out.old.items ++ in_label byte) }
-    ensures kept { take (vec_len out.old) out.new.items ≡ out.old.items }
-{
-    match byte {
-        b'"' => out.extend_from_slice(b"\\\""),
-        b'\\' => out.extend_from_slice(b"\\\\"),
-        b'&' => out.extend_from_slice(b"&amp;"),
-        0x00..=0x1f => out.extend_from_slice(&[0xe2, 0x90, 0x80 + byte]),
-        0x7f => out.extend_from_slice(&[0xe2, 0x90, 0xa1]),
-        _ => out.extend_from_slice(&[byte]),
+        Escape::Cell => match byte {
+            b'\t' => out.extend_from_slice(b"\\t"),
+            b'\n' => out.extend_from_slice(b"\\n"),
+            b'\r' => out.extend_from_slice(b"\\r"),
+            b'\\' => out.extend_from_slice(b"\\\\"),
+            _ => out.extend_from_slice(&[byte]),
+        },
+        Escape::Label => match byte {
+            b'"' => out.extend_from_slice(b"\\\""),
+            b'\\' => out.extend_from_slice(b"\\\\"),
+            b'&' => out.extend_from_slice(b"&amp;"),
+            0x00..=0x1f => out.extend_from_slice(&[0xe2, 0x90, 0x80 + byte]),
+            0x7f => out.extend_from_slice(&[0xe2, 0x90, 0xa1]),
+            _ => out.extend_from_slice(&[byte]),
+        },
     }
 }

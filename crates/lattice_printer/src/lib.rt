@@ -7,7 +7,6 @@ mod format;
 mod marked_node;
 mod piece;
 mod printer;
-mod run;
 mod sheet;
 mod tsv;
 
@@ -15,5 +14,4 @@ pub use escapes::Escape;
 pub use format::{LatticeForm, LatticeFormat};
 pub use piece::{Piece, append_pieces};
 pub use printer::{LatticeMemory, LatticePrinter};
-pub use run::print_lattices;
 pub use tsv::{TAB, cost_or_none};

@@ -3,7 +3,7 @@
 ghost use Rattle.std.specs.Prelude.{◌≡◌, ◌++◌, ◌<◌, length, take, vec_len, OnOk};
 ghost use Rattle.mj_model.specs.Lists.{GrowsBy};
 ghost use Rattle.lattice_printer.specs.NodesInLine.{IsPrintable, marked_of, overlay_in};
-ghost use Rattle.lattice_printer.specs.Sheets.{IsSheet, ShowsIn, ShowsNear, ShowsNodes, head, tail};
+ghost use Rattle.lattice_printer.specs.Sheets.{IsSheet, ShowsNear, ShowsNodes, head, tail};
 ghost use Rattle.lattice_printer.specs.LatticesOfLines.{ArePrintable, IsMarkedAt, overlay_of_lattice};
 
 use crate::dot::{append_dot_head, append_word};
@@ -42,22 +42,42 @@ impl<'a> LineLattice<'a> {
     }
 }
 
-/// Appends a lattice in a format; `field` is memory for a field. On an error a part of it may stand in `out`.
-pub fn append_sheet(
-    format: LatticeFormat,
-    lattice: &LineLattice<'_>,
-    field: &mut Vec<u8>,
-    out: &mut Vec<u8>,
-) -> Result<(), AllocError>
-    requires { ArePrintable lattice.now }
-    ensures appended { OnOk result (GrowsBy (IsSheet format (overlay_of_lattice lattice.now)
-        lattice.now.text.now lattice.now.best lattice.now.nodes.now lattice.now.on_best.now)
-        out.old.items out.new.items) }
-    ensures kept { take (vec_len out.old) out.new.items ≡ out.old.items }
-{
-    append_head(format.form, lattice.text, out)?;
-    append_nodes(format, lattice, field, out)?;
-    append_tail(format.form, out)
+/// A lattice in a format.
+#[derive(Drop)]
+pub struct Sheet<'a> {
+    pub format: LatticeFormat,
+    pub lattice: &'a LineLattice<'a>,
+}
+
+impl<'a> Sheet<'a> {
+    /// Appends it; `field` is memory for a field. On an error a part of it may stand in `out`.
+    pub fn append(&self, field: &mut Vec<u8>, out: &mut Vec<u8>) -> Result<(), AllocError>
+        requires { ArePrintable self.now.lattice.now }
+        ensures appended { OnOk result (GrowsBy (IsSheet self.now.format
+            (overlay_of_lattice self.now.lattice.now) self.now.lattice.now.text.now
+            self.now.lattice.now.best self.now.lattice.now.nodes.now
+            self.now.lattice.now.on_best.now) out.old.items out.new.items) }
+        ensures kept { take (vec_len out.old) out.new.items ≡ out.old.items }
+    {
+        append_head(self.format.form, self.lattice.text, out)?;
+        self.append_nodes(field, out)?;
+        append_tail(self.format.form, out)
+    }
+
+    /// Appends the nodes that are not left out. On an error a part of them may stand in `out`.
+    fn append_nodes(&self, field: &mut Vec<u8>, out: &mut Vec<u8>) -> Result<(), AllocError>
+        requires { ArePrintable self.now.lattice.now }
+        ensures appended { OnOk result (GrowsBy (ShowsNodes (ShowsNear self.now.format
+            (overlay_of_lattice self.now.lattice.now) self.now.lattice.now.text.now
+            self.now.lattice.now.best) 0 self.now.lattice.now.nodes.now
+            self.now.lattice.now.on_best.now) out.old.items out.new.items) }
+        ensures kept { take (vec_len out.old) out.new.items ≡ out.old.items }
+    {
+        for number in 0..self.lattice.nodes.len() {
+            append_near(self.format, &self.lattice.node(number), field, out)?;
+        }
+        Ok(())
+    }
 }
 
 /// Appends what stands before the words of a line. On an error a part of it may stand in `out`.
@@ -69,25 +89,6 @@ fn append_head(form: LatticeForm, text: &str, out: &mut Vec<u8>) -> Result<(), A
         LatticeForm::Tsv => out.extend_from_slice(tsv_heading()),
         LatticeForm::Dot => append_dot_head(text, out),
     }
-}
-
-/// Appends the nodes that are not left out. On an error a part of them may stand in `out`.
-fn append_nodes(
-    format: LatticeFormat,
-    lattice: &LineLattice<'_>,
-    field: &mut Vec<u8>,
-    out: &mut Vec<u8>,
-) -> Result<(), AllocError>
-    requires { ArePrintable lattice.now }
-    ensures appended { OnOk result (GrowsBy (ShowsNodes (ShowsNear format
-        (overlay_of_lattice lattice.now) lattice.now.text.now lattice.now.best) 0
-        lattice.now.nodes.now lattice.now.on_best.now) out.old.items out.new.items) }
-    ensures kept { take (vec_len out.old) out.new.items ≡ out.old.items }
-{
-    for number in 0..lattice.nodes.len() {
-        append_near(format, &lattice.node(number), field, out)?;
-    }
-    Ok(())
 }
 
 /// Appends a node, if it is not left out. On an error a part of it may stand in `out`.
@@ -105,22 +106,7 @@ fn append_near(
     if !marked.is_near(format.within) {
         return Ok(());
     }
-    append_node(format.form, marked, field, out)
-}
-
-/// Appends a node in a form. On an error a part of it may stand in `out`.
-fn append_node(
-    form: LatticeForm,
-    marked: &MarkedNode<'_>,
-    field: &mut Vec<u8>,
-    out: &mut Vec<u8>,
-) -> Result<(), AllocError>
-    requires { IsPrintable marked.now }
-    ensures appended { OnOk result (GrowsBy (ShowsIn form (overlay_in marked.now)
-        marked.now.text.now marked.now.best (marked_of marked.now)) out.old.items out.new.items) }
-    ensures kept { take (vec_len out.old) out.new.items ≡ out.old.items }
-{
-    match form {
+    match format.form {
         LatticeForm::Tsv => append_row(marked, out),
         LatticeForm::Dot => append_word(marked, field, out),
     }

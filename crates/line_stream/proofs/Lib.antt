@@ -2,6 +2,7 @@ pub mod PieceLemmas
 pub mod PrintedBehind
 pub mod PieceWork
 pub mod ResultLemmas
+pub mod BadLines
 pub mod WritingLemmas
 pub mod StepLemmas
 pub mod RunWork

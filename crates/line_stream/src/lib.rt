@@ -15,5 +15,6 @@ mod writing;
 pub use line_fault::{LineError, LineFault};
 pub use line_printer::LinePrinter;
 pub use lines_in_memory::{StoppedLine, print_lines};
+pub use progress::print_line;
 pub use reading::{BUFFER, run_over};
 pub use text::text_of;

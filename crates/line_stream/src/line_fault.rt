@@ -43,14 +43,3 @@ impl From<AllocError> for LineError {
         LineError::Memory
     }
 }
-
-impl From<LineFault> for LineError {
-    ghost use Rattle.std.specs.Prelude.{◌≡◌};
-    ghost use Rattle.line_stream.specs.declared.line_fault.LineError.TheVariants.{Bad};
-
-    ghost from_gives = { λ fault error. error ≡ Bad fault };
-
-    fn from(fault: LineFault) -> LineError {
-        LineError::Bad(fault)
-    }
-}

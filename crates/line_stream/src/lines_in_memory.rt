@@ -9,7 +9,7 @@ ghost use Rattle.line_stream.specs.Progress.{IsPrinted};
 use crate::line_fault::LineError;
 use crate::line_printer::LinePrinter;
 use crate::piece::cut;
-use crate::progress::print_any;
+use crate::progress::print_line;
 use memchr::memchr;
 
 /// The line of a text at which its lines stopped, counted from 1, and why.
@@ -37,7 +37,7 @@ fn print_next<P: LinePrinter>(
     ensures kept { OnErr result (out.new.items ≡ out.old.items) }
 {
     *lines += 1;
-    match print_any(printer, kept, line, out) {
+    match print_line(printer, kept, line, out) {
         Ok(()) => Ok(()),
         Err(error) => Err(StoppedLine {
             line: *lines,

@@ -9,7 +9,9 @@ ghost use Rattle.line_stream.specs.Steps.{last_line, IsLastCause};
 
 use crate::line_fault::{LineError, LineFault};
 use crate::line_printer::LinePrinter;
+use crate::text::text_of;
 use mj_model::SENTENCE_MAX;
+use std::alloc::AllocError;
 
 /// What is kept from one read of a text to the next.
 #[derive(Debug, Drop)]
@@ -22,8 +24,28 @@ pub struct Progress {
     pub lines: u64,
 }
 
-/// Prints a line of any length.
-pub fn print_any<P: LinePrinter>(
+/// Prints a text; on an error `out` is as before.
+fn print_text<P: LinePrinter>(
+    printer: &P,
+    kept: &mut P::Kept,
+    text: &str,
+    out: &mut Vec<u8>,
+) -> Result<(), AllocError>
+    requires { length text.now ≤ SENTENCE_MAX }
+    ensures printed { OnOk result (IsPrinted (P.tells printer.now) text.now
+        out.old.items out.new.items) }
+    ensures kept { OnErr result (out.new.items ≡ out.old.items) }
+{
+    let count = out.len();
+    let shown = printer.show(kept, text, out);
+    if shown.is_err() {
+        out.truncate(count);
+    }
+    shown
+}
+
+/// Appends what a line prints, whatever its bytes are; on an error `out` is as before.
+pub fn print_line<P: LinePrinter>(
     printer: &P,
     kept: &mut P::Kept,
     line: &[u8],
@@ -34,10 +56,10 @@ pub fn print_any<P: LinePrinter>(
     ensures bad { IfErr result (TellsFault (λ fault. P.tells printer.now line.now (Err fault))) }
     ensures kept { OnErr result (out.new.items ≡ out.old.items) }
 {
-    if line.len() > SENTENCE_MAX {
-        return Err(LineError::Bad(LineFault::TooLong));
+    match text_of(line) {
+        Ok(text) => Ok(print_text(printer, kept, text, out)?),
+        Err(fault) => Err(LineError::Bad(fault)),
     }
-    printer.print_line(kept, line, out)
 }
 
 /// Adds to the bytes of a line that goes on.
@@ -74,10 +96,10 @@ impl Progress {
             ((self.new.out.items ≡ self.old.out.items) × (self.new.lines ≡ self.old.lines)) }
     {
         if self.pending.is_empty() {
-            print_any(printer, kept, part, &mut self.out)?;
+            print_line(printer, kept, part, &mut self.out)?;
         } else {
             hold(&mut self.pending, part)?;
-            print_any(printer, kept, &self.pending, &mut self.out)?;
+            print_line(printer, kept, &self.pending, &mut self.out)?;
             self.pending.clear();
         }
         self.lines += 1;

@@ -1,4 +1,3 @@
-pub mod GoodLines
 pub mod UserDicts
 pub mod OverlayLemmas
 pub mod EarlyEnds

@@ -20,7 +20,7 @@ use mj_model::{RunFault, SourceFault, Sources};
 use std::alloc::{AllocError, Global};
 
 /// The dictionary of sources.
-pub(crate) fn system_dict(alloc: Global, sources: &Sources<'_>) -> Result<Dict, SourceFault>
+pub fn system_dict(alloc: Global, sources: &Sources<'_>) -> Result<Dict, SourceFault>
     ensures dict { IfOk result (λ dict. IsDictOf sources.now dict) }
     ensures refused { IfErr result (λ fault.
         IsRefusal fault (IsCompilationCause sources.now fault)) }

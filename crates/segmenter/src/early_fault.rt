@@ -8,7 +8,7 @@ ghost use Rattle.segmenter.specs.EarlyFaults.{EndsEarly};
 use mj_model::{RunFault, SourceFault, SourceKind};
 
 /// How a run ends for a fault of sources: want of memory belongs to no line, any other fault is told so.
-pub(crate) fn early_end(fault: SourceFault, told: RunFault) -> RunFault
+pub fn early_end(fault: SourceFault, told: RunFault) -> RunFault
     ensures { (end : FaultOf → FaultOfRun) → told ≡ end fault → EndsEarly end fault result }
 {
     match fault.kind {

@@ -7,6 +7,8 @@ pub mod laws;
 mod running;
 mod segmentation;
 
+pub use dicts::system_dict;
+pub use early_fault::early_end;
 pub use mj_model::sample;
 pub use running::run_sources;
 pub use segmentation::segment;

@@ -5,8 +5,6 @@ mod cut_line;
 mod printer;
 mod rivals;
 mod rows;
-mod run;
 mod sheet;
 
 pub use printer::WhyPrinter;
-pub use run::print_why;

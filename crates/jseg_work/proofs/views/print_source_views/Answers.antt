@@ -2,22 +2,23 @@ use Rattle.std.proofs.Common.{[], ◌∙◌, refl, inl, inr}
 use Rattle.image_bytes.specs.ImageMeaning.{image_tables}
 use Rattle.line_stream.proofs.RunEnds.{ran_tells_no_source, ran_tells_no_user}
 use Rattle.mj_model.specs.Overlays.{overlay_fault}
+use Rattle.mj_model.specs.declared.run_fault.RunFault.TheVariants.{Source}
 use Rattle.segmenter.proofs.EarlyEnds.{not_early, source_is_early, source_of_no_user, source_told}
 use Rattle.segmenter.proofs.OverlayLemmas.{have_overlay, no_overlay_fault, none_and_some, with_grouping}
 use Rattle.word_lookup.specs.Overlays.{overlay_of}
 use Rattle.jseg_work.proofs.views.print_source_views.Goals as goal
 
 pub returns-in-Err-clause-source : goal.returns-in-Err-clause-source
-returns-in-Err-clause-source g c = λ told e. source_told c.args.sources.now c.in-Err.fault told c.early_end.result c.early_end.ensures c.in-Err.ensures.refused e
+returns-in-Err-clause-source g c = λ told e. source_told c.args.sources.now c.in-Err.fault told c.early_end.result (c.early_end.ensures Source refl) c.in-Err.ensures.refused e
 
 pub returns-in-Err-clause-no_user : goal.returns-in-Err-clause-no_user
-returns-in-Err-clause-no_user g c = λ i told e. source_of_no_user c.in-Err.fault told i c.early_end.result c.early_end.ensures e
+returns-in-Err-clause-no_user g c = λ i told e. source_of_no_user c.in-Err.fault told i c.early_end.result (c.early_end.ensures Source refl) e
 
 pub returns-in-Err-clause-early : goal.returns-in-Err-clause-early
 returns-in-Err-clause-early g c = λ early. (refl, refl)
 
 pub returns-in-Err-clause-run : goal.returns-in-Err-clause-run
-returns-in-Err-clause-run g c = inl (source_is_early c.in-Err.fault c.early_end.result c.early_end.ensures)
+returns-in-Err-clause-run g c = inl (source_is_early c.in-Err.fault c.early_end.result (c.early_end.ensures Source refl))
 
 pub unreachable-requires : goal.unreachable-requires
 unreachable-requires g c =

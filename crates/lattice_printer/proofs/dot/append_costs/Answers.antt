@@ -14,5 +14,5 @@ returns-clause-appended c =
     let total_fits : SFits w64 n.total = search rules in
     let cost_is : to_z w64 (of_z w64 c.from.result) ≡ n.word.cost = to_z-of_z w64 c.from.result cost_fits ∙ c.from.ensures ∙ to_z-of_z w16 n.word.cost word_fits in
     let total_is : to_z w64 (of_z w64 n.total) ≡ n.total = to_z-of_z w64 n.total total_fits in
-    rw (sym cost_is, sym total_is, sym (c.lost_word.ensures ∙ ap lost_word c.lost-lost.ensures), sym (c.cost_or_none.ensures ∙ ap cost_cell c.lost-lost.ensures), sym c.edge_style.ensures)
+    rw (sym cost_is, sym total_is, sym (c.lost_word.ensures ∙ ap lost_word c.lost-lost.ensures), sym (c.cost_or_none.ensures ∙ ap cost_cell c.lost-lost.ensures), sym c.style_of.ensures.of_edges)
     c.append_pieces.ensures.appended
