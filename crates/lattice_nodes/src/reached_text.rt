@@ -102,16 +102,16 @@ impl<'a, S: WordSource> ReachedText<'a, S> {
             rests.now }
         ensures { IsRestAt (S.says self.now.source.now) self.now.reached.now i result }
     {
-        let word = self.reached.words[i];
+        let before = self.reached.words[i];
         let mut least = rests[i];
-        let from = self.reached.first(word.end);
-        let to = self.reached.first(word.end + 1);
+        let from = self.reached.first(before.end);
+        let to = self.reached.first(before.end + 1);
         for next in from..to {
             least = least_with(
                 self.source,
                 least,
                 &rests[next],
-                word.right,
+                before.right,
                 &self.reached.words[next],
             );
         }

@@ -7,13 +7,13 @@ use Rattle.lattice_nodes.proofs.SourceLemmas.{ends_low, follows_word}
 use Rattle.lattice_nodes.proofs.StepLemmas.{next_small, rest_first, rest_last, rest_next}
 use Rattle.lattice_nodes.proofs.reached_text.ReachedText.rest_cost.Goals as goal
 
-pub overflow_add-word : goal.overflow_add-word
-overflow_add-word g c =
+pub overflow_add-before : goal.overflow_add-before
+overflow_add-before g c =
     let t = g.S.WordSource.says c.args.self.now.source.now in
     let r = c.args.self.now.reached.now in
     let i = c.args.i in
-    let w = c.index-word.result.now in
-    let at = slice_get_read r.words.items (length r.words.items) i w refl c.requires.word c.index-word.ensures in
+    let w = c.index-before.result.now in
+    let at = slice_get_read r.words.items (length r.words.items) i w refl c.requires.word c.index-before.ensures in
     let low = ends_low t r c.requires.text.source c.requires.text.reached i w at in
     omega (arith, low)
 
@@ -22,8 +22,8 @@ loop-next-init g c =
     let t = g.S.WordSource.says c.args.self.now.source.now in
     let r = c.args.self.now.reached.now in
     let i = c.args.i in
-    let w = c.index-word.result.now in
-    let at = slice_get_read r.words.items (length r.words.items) i w refl c.requires.word c.index-word.ensures in
+    let w = c.index-before.result.now in
+    let at = slice_get_read r.words.items (length r.words.items) i w refl c.requires.word c.index-before.ensures in
     rest_first t r c.requires.text.source c.requires.text.reached i w at c.args.rests.now c.first-from.result c.requires.later c.first-from.ensures
 
 pub least_with-least-requires-clause-small : goal.least_with-least-requires-clause-small
@@ -34,8 +34,8 @@ least_with-least-requires-clause-small g c =
     let k = c.loop-next.next in
     let high = c.loop-next-test.true in
     let within = c.first-to.ensures.within in
-    let w = c.index-word.result.now in
-    let at = slice_get_read r.words.items (length r.words.items) i w refl c.requires.word c.index-word.ensures in
+    let w = c.index-before.result.now in
+    let at = slice_get_read r.words.items (length r.words.items) i w refl c.requires.word c.index-before.ensures in
     let v = c.index.result.now in
     let at_k = slice_get_read r.words.items (length r.words.items) k v refl (omega (arith, high, within)) c.index.ensures in
     next_small t r c.requires.text.source c.requires.text.reached i w at c.first-from.result c.first-to.result k v at_k c.first-from.ensures c.first-to.ensures c.loop-next.auto.next high
@@ -49,8 +49,8 @@ least_with-least-requires-clause-pair g c =
     let k = c.loop-next.next in
     let high = c.loop-next-test.true in
     let within = c.first-to.ensures.within in
-    let w = c.index-word.result.now in
-    let at = slice_get_read r.words.items (length r.words.items) i w refl c.requires.word c.index-word.ensures in
+    let w = c.index-before.result.now in
+    let at = slice_get_read r.words.items (length r.words.items) i w refl c.requires.word c.index-before.ensures in
     let v = c.index.result.now in
     let at_k = slice_get_read r.words.items (length r.words.items) k v refl (omega (arith, high, within)) c.index.ensures in
     follows_word t r c.requires.text.source c.requires.text.reached i k w v at at_k
@@ -63,8 +63,8 @@ loop-next-preserved g c =
     let k = c.loop-next.next in
     let high = c.loop-next-test.true in
     let within = c.first-to.ensures.within in
-    let w = c.index-word.result.now in
-    let at = slice_get_read r.words.items (length r.words.items) i w refl c.requires.word c.index-word.ensures in
+    let w = c.index-before.result.now in
+    let at = slice_get_read r.words.items (length r.words.items) i w refl c.requires.word c.index-before.ensures in
     let v = c.index.result.now in
     let at_k = slice_get_read r.words.items (length r.words.items) k v refl (omega (arith, high, within)) c.index.ensures in
     rest_next t r c.requires.text.source c.requires.text.reached i w at c.first-from.result c.first-to.result k v at_k c.first-from.ensures c.first-to.ensures c.loop-next.auto.next high
@@ -75,8 +75,8 @@ returns g c =
     let t = g.S.WordSource.says c.args.self.now.source.now in
     let r = c.args.self.now.reached.now in
     let i = c.args.i in
-    let w = c.index-word.result.now in
-    let at = slice_get_read r.words.items (length r.words.items) i w refl c.requires.word c.index-word.ensures in
+    let w = c.index-before.result.now in
+    let at = slice_get_read r.words.items (length r.words.items) i w refl c.requires.word c.index-before.ensures in
     let rise = firsts_rise r.words.items w.end (w.end + 1) c.first-from.result c.first-to.result (omega arith) c.first-from.ensures c.first-to.ensures in
     let last : c.loop-next.next ≡ c.first-to.result = omega (arith, c.loop-next.auto.next-end rise, c.loop-next-test.false) in
     rest_last t r c.requires.text.source c.requires.text.reached i w at c.first-to.result c.loop-next.least c.first-to.ensures
