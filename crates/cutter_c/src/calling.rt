@@ -23,6 +23,6 @@ impl Handle {
         let mut session = self.take(alloc).ok_or(CallFault::EmptyCutter)?;
         let answer = call(&mut session);
         self.put(session);
-        Ok(answer?)
+        answer.map_err(CallFault::Cut)
     }
 }

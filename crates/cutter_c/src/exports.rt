@@ -1,65 +1,18 @@
-//! What C calls. Each export tells the answer of a call as a code.
+//! What C calls to share, set up, cut and free a cutter. Each export tells the answer of a call as a code.
 
 ghost use Rattle.std.specs.Prelude.{◌≡◌, ◌≢◌, None};
-ghost use Rattle.cutter.specs.Faults.{IsGroupingRefusal, IsLineRefusal, IsLoadRefusal, IsTextRefusal};
-ghost use Rattle.cutter_c.specs.Calls.{IsExtended, IsGoodLine, IsGoodText, IsLoadedFrom, IsShared, IsUserFault, TellsCut, size_told};
-ghost use Rattle.cutter_c.specs.Handles.{Fills, FillsFrom, IsFillRefusal, IsRefusal, IsShareRefusal, Moves, TellsCall, TellsChange, TellsNumbered, cutter_in};
+ghost use Rattle.cutter.specs.Faults.{IsGroupingRefusal, IsLineRefusal, IsTextRefusal};
+ghost use Rattle.cutter_c.specs.Calls.{IsGoodLine, IsGoodText, IsShared, TellsCut, size_told};
+ghost use Rattle.cutter_c.specs.Handles.{FillsFrom, IsRefusal, IsShareRefusal, Moves, TellsCall, TellsChange, cutter_in};
 ghost use Rattle.cutter_c.specs.Outputs.{OnlyFaultsSet, TellsPlaced};
-ghost use Rattle.image_bytes.specs.declared.digest_test.DigestTest.TheVariants.{Made};
 ghost use Rattle.cutter_c.specs.Settings.{AreUtf8, IsPlaceInTexts, IsRegrouped, IsSettingRefusal, SetsFormat, four, place_at, texts_in};
 
-use crate::codes::{code_told, told};
+use crate::codes::code_told;
 use crate::cutting::told_cut;
 use crate::handle::Handle;
 use crate::settings::Texts;
 use crate::{loading, settings};
-use cutter::DigestTest;
 use std::alloc::Global;
-
-/// Fills an empty handle with the cutter of a system's image. `number` is set where a fault has one.
-#[unsafe(no_mangle)]
-pub extern "C" fn kumquatsieve_load(
-    alloc: Global,
-    cutter: &mut Handle,
-    image: &[u8],
-    number: &mut u64,
-) -> u32
-    ensures loaded { (result ≡ 0)
-        → Fills (cutter_in cutter.old) (cutter_in cutter.new) (IsLoadedFrom Made image.now) }
-    ensures refused { (result ≢ 0) → TellsNumbered
-        (IsFillRefusal (cutter_in cutter.old) (IsLoadRefusal Made image.now))
-        number.old number.new result }
-    ensures kept { (result ≢ 0) → cutter_in cutter.new ≡ cutter_in cutter.old }
-    ensures unset { OnlyFaultsSet result number.old number.new }
-{
-    told(
-        loading::load(alloc, cutter, image, DigestTest::Made),
-        number,
-    )
-}
-
-/// Lays a user's image over the dictionaries of a handle's cutter. `number` is set where a fault has one.
-#[unsafe(no_mangle)]
-pub extern "C" fn kumquatsieve_add_user(
-    alloc: Global,
-    cutter: &mut Handle,
-    image: &[u8],
-    number: &mut u64,
-) -> u32
-    ensures added { (result ≡ 0)
-        → Moves (cutter_in cutter.old) (cutter_in cutter.new) (IsExtended Made image.now) }
-    ensures refused { (result ≢ 0) → TellsNumbered
-        (IsRefusal (cutter_in cutter.old) (IsUserFault Made image.now))
-        number.old number.new result }
-    ensures kept { (result ≢ 0) → cutter_in cutter.new ≡ cutter_in cutter.old }
-    ensures unset { OnlyFaultsSet result number.old number.new }
-{
-    let answer = cutter.call(
-        alloc,
-        |session| session.add_user(alloc, image, DigestTest::Made),
-    );
-    told(answer, number)
-}
 
 /// Fills an empty handle with a cutter over the dictionaries of another one's.
 #[unsafe(no_mangle)]

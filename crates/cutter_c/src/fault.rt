@@ -30,14 +30,3 @@ impl NamedFault for CallFault {
         }
     }
 }
-
-impl From<CutFault> for CallFault {
-    ghost use Rattle.std.specs.Prelude.{◌≡◌};
-    ghost use Rattle.cutter_c.specs.declared.fault.CallFault.TheVariants.{Cut};
-
-    ghost from_gives = { λ fault told. told ≡ Cut fault };
-
-    fn from(fault: CutFault) -> CallFault {
-        CallFault::Cut(fault)
-    }
-}

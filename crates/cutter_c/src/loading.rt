@@ -8,10 +8,10 @@ ghost use Rattle.cutter_c.specs.Handles.{Fills, FillsFrom, IsFillRefusal, IsShar
 use crate::fault::CallFault;
 use crate::handle::Handle;
 use crate::session::Session;
-use cutter::DigestTest;
+use cutter::{CutFault, DigestTest};
 use std::alloc::Global;
 
-/// Fills an empty handle with the cutter of a system's image.
+/// Fills an empty handle with the cutter of a system's image, which is copied.
 pub fn load(
     alloc: Global,
     cutter: &mut Handle,
@@ -27,8 +27,8 @@ pub fn load(
     if cutter.is_full() {
         return Err(CallFault::FullCutter);
     }
-    cutter.put(Session::load(alloc, image, digest)?);
-    Ok(())
+    let image = Vec::from_slice(alloc, image).map_err(|_| CallFault::Cut(CutFault::Memory))?;
+    load_owned(alloc, cutter, image, digest)
 }
 
 /// The same, of an image whose bytes are taken and not copied.
@@ -47,7 +47,7 @@ pub fn load_owned(
     if cutter.is_full() {
         return Err(CallFault::FullCutter);
     }
-    cutter.put(Session::over(alloc, image, digest)?);
+    cutter.put(Session::over(alloc, image, digest).map_err(CallFault::Cut)?);
     Ok(())
 }
 

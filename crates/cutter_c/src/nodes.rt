@@ -1,15 +1,16 @@
 //! The nodes of the lattice of what was cut last, as C sees them.
 
-ghost use Rattle.std.specs.Prelude.{◌≡◌, ◌≤◌, length, drop, All, IsTrue, OnOk, OnErr, IfErr};
+ghost use Rattle.std.specs.Prelude.{◌≡◌, ◌≢◌, ◌≤◌, length, drop, All, IsTrue, OnOk, OnErr, IfErr};
 ghost use Rattle.std.specs.Option.{IsSomeAnd};
 ghost use Rattle.cutter.specs.Cutters.{OfCut};
 ghost use Rattle.cutter.specs.Faults.{IsPrintRefusal};
-ghost use Rattle.cutter_c.specs.Handles.{IsRefusal, cutter_in};
+ghost use Rattle.cutter_c.specs.Handles.{IsRefusal, TellsCall, cutter_in};
 ghost use Rattle.cutter_c.specs.Nodes.{AreNodesTold, BeginsIn, c_node, c_nodes};
-ghost use Rattle.cutter_c.specs.Outputs.{with_front};
+ghost use Rattle.cutter_c.specs.Outputs.{OnlyOkSets, with_front};
 ghost use Rattle.paths.specs.Words.{is_place};
 ghost use Rattle.word_lookup.specs.Overlays.{overlay_of};
 
+use crate::codes::code_told;
 use crate::fault::CallFault;
 use crate::handle::Handle;
 use crate::words::{CWord, word_for_c};
@@ -88,7 +89,7 @@ fn tell_nodes(
 }
 
 /// The same of a handle's cutter.
-pub fn nodes(
+fn nodes(
     alloc: Global,
     cutter: &mut Handle,
     first: usize,
@@ -105,5 +106,25 @@ pub fn nodes(
     let session = cutter.take(alloc).ok_or(CallFault::EmptyCutter)?;
     let answer = tell_nodes(&session.cutter, first, out, count);
     cutter.put(session);
-    Ok(answer?)
+    answer.map_err(CallFault::Cut)
+}
+
+/// Writes nodes of the lattice of what was cut last from number `first` on, as far as there is room. `count` is the number of all.
+#[unsafe(no_mangle)]
+pub extern "C" fn kumquatsieve_nodes(
+    alloc: Global,
+    cutter: &mut Handle,
+    first: usize,
+    out: &mut [CNode],
+    count: &mut usize,
+) -> u32
+    ensures told { (result ≡ 0) → IsSomeAnd (cutter_in cutter.old)
+        (λ h. OfCut h (AreNodesTold h first count.new out.old out.new)) }
+    ensures cutter { cutter_in cutter.new ≡ cutter_in cutter.old }
+    ensures refused { (result ≢ 0)
+        → TellsCall (IsRefusal (cutter_in cutter.old) IsPrintRefusal) result }
+    ensures kept { (result ≢ 0) → out.new ≡ out.old }
+    ensures unset { OnlyOkSets result count.old count.new }
+{
+    code_told(nodes(alloc, cutter, first, out, count))
 }

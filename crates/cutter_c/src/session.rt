@@ -16,15 +16,6 @@ pub struct Session {
 }
 
 impl Session {
-    /// The session of a system's image, which is copied.
-    pub fn load(alloc: Global, image: &[u8], digest: DigestTest) -> Result<Box<Session>, CutFault>
-        ensures loaded { IfOk result
-            (λ session. IsLoadedFrom digest image.now session.value.cutter) }
-        ensures refused { IfErr result (IsLoadRefusal digest image.now) }
-    {
-        Session::over(alloc, Vec::from_slice(alloc, image)?, digest)
-    }
-
     /// The session of a system's image.
     pub fn over(alloc: Global, image: Vec<u8>, digest: DigestTest) -> Result<Box<Session>, CutFault>
         ensures loaded { IfOk result

@@ -117,7 +117,7 @@ pub fn set_format(
     let mut session = cutter.take(alloc).ok_or(CallFault::EmptyCutter)?;
     let answer = set_texts(&mut session.cutter, texts, part, at);
     cutter.put(session);
-    Ok(answer?)
+    answer.map_err(CallFault::Cut)
 }
 
 impl Session {

@@ -1,23 +1,17 @@
-//! What C calls to be told of the path that was cut last, of the lines of a text, and of faults.
+//! What C calls to be told of the path that was cut last, of entries, of the lines of a text, and of faults.
 
 ghost use Rattle.std.specs.Prelude.{◌≡◌, ◌≢◌, length};
-ghost use Rattle.std.specs.Option.{IsSomeAnd};
-ghost use Rattle.cutter.specs.Cutters.{OfCut};
-ghost use Rattle.cutter.specs.Faults.{IsNothingCut};
-ghost use Rattle.cutter_c.specs.Asked.{IsAskedRefusal, IsCopied, IsTold, NeedsMore, TellsCopied};
-ghost use Rattle.cutter_c.specs.declared.telling.Asked.TheVariants.{Feature as FeatureOf, Features as AllFeatures, Path as PathText};
-ghost use Rattle.cutter_c.specs.Handles.{IsRefusal, TellsCall, TellsLent, cutter_in, lent_at};
-ghost use Rattle.cutter_c.specs.Outputs.{OnlyOkSets};
+ghost use Rattle.cutter_c.specs.Asked.{IsAskedRefusal, IsCopied, IsTold, NeedsMore, TellsCopied, entry_by};
+ghost use Rattle.cutter_c.specs.declared.telling.Asked.TheVariants.{EntryFeature as FeatureBy, Feature as FeatureOf, Features as AllFeatures, Path as PathText};
+ghost use Rattle.cutter_c.specs.Handles.{TellsCall, TellsLent, cutter_in, lent_at};
 ghost use Rattle.cutter_c.specs.TextLines.{TellsLines, lines_told};
 ghost use Rattle.cutter_c.specs.Texts.{text_at};
-ghost use Rattle.cutter_c.specs.Words.{AreTold};
 
 use crate::codes::code_told;
 use crate::handle::Handle;
-use crate::telling::{Asked, copy, copy_to, told_lent};
-use crate::text_lines::cut_lines;
+use crate::telling::{Asked, copy_to, told_lent};
 use crate::texts::text_of_code;
-use crate::words::{CWord, words};
+use mj_model::Origin;
 use std::alloc::Global;
 
 /// The text of the path that was cut last, in the format. It stays until the next call with this handle.
@@ -51,7 +45,7 @@ pub extern "C" fn kumquatsieve_cut_lines(
     ensures { TellsLines cutter.old.slot.value cutter.new.slot.value text.now
         (lines_told out.old count.old lines.old) (lines_told out.new count.new lines.new) result }
 {
-    code_told(cut_lines(alloc, cutter, text, out, count, lines))
+    code_told(cutter.cut_lines(alloc, text, out, count, lines))
 }
 
 /// The feature of a word that was cut last, by the word's number from 0. It stays until the next call with this handle.
@@ -98,7 +92,7 @@ pub extern "C" fn kumquatsieve_copy_print(
     ensures { TellsCopied (cutter_in cutter.old) (cutter_in cutter.new)
         PathText needed.old needed.new out.old out.new result }
 {
-    code_told(copy(alloc, cutter, Asked::Path, out, needed))
+    code_told(cutter.copy(alloc, Asked::Path, out, needed))
 }
 
 /// The feature of a word in a buffer of C's. `needed` is its length, also where the buffer is too short.
@@ -113,27 +107,42 @@ pub extern "C" fn kumquatsieve_copy_feature(
     ensures { TellsCopied (cutter_in cutter.old) (cutter_in cutter.new)
         (FeatureOf number) needed.old needed.new out.old out.new result }
 {
-    code_told(copy(alloc, cutter, Asked::Feature(number), out, needed))
+    code_told(cutter.copy(alloc, Asked::Feature(number), out, needed))
 }
 
-/// Writes words that were cut last from number `first` on, as far as there is room. `count` is the number of all.
+/// The feature of an entry, by what a word has as its numbers. It stays until the next call with this handle.
 #[unsafe(no_mangle)]
-pub extern "C" fn kumquatsieve_words(
+pub extern "C" fn kumquatsieve_entry_feature(
     alloc: Global,
     cutter: &mut Handle,
-    first: usize,
-    out: &mut [CWord],
+    known: bool,
+    dictionary: usize,
+    token: u32,
+    feature: &mut *const u8,
     count: &mut usize,
 ) -> u32
-    ensures told { (result ≡ 0) → IsSomeAnd (cutter_in cutter.old)
-        (λ h. OfCut h (AreTold h first count.new out.old out.new)) }
-    ensures cutter { cutter_in cutter.new ≡ cutter_in cutter.old }
-    ensures refused { (result ≢ 0)
-        → TellsCall (IsRefusal (cutter_in cutter.old) IsNothingCut) result }
-    ensures kept { (result ≢ 0) → out.new ≡ out.old }
-    ensures unset { OnlyOkSets result count.old count.new }
+    ensures { TellsLent cutter.old.slot.value cutter.new.slot.value
+        (IsTold (FeatureBy (entry_by known dictionary token)))
+        (IsAskedRefusal (FeatureBy (entry_by known dictionary token)))
+        (lent_at feature.old count.old) (lent_at feature.new count.new) result }
 {
-    code_told(words(alloc, cutter, first, out, count))
+    let origin = numbered_entry(known, dictionary, token);
+    let answer = cutter.call(alloc, |session| session.lend(Asked::EntryFeature(origin)));
+    told_lent(answer, feature, count)
+}
+
+/// An entry by its numbers.
+fn numbered_entry(known: bool, dictionary: usize, token: u32) -> Origin
+    ensures { result ≡ entry_by known dictionary token }
+{
+    if known {
+        Origin::Known {
+            dict: dictionary,
+            token,
+        }
+    } else {
+        Origin::Unknown { token }
+    }
 }
 
 /// The text of a code in a buffer of C's. `needed` is its length, also where the buffer is too short, and 0 where no fault has the

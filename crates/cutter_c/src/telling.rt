@@ -77,7 +77,7 @@ impl Session {
         ensures cutter { self.new.cutter ≡ self.old.cutter }
         ensures kept { OnErr result (out.new ≡ out.old) }
     {
-        self.tell(asked)?;
+        self.tell(asked).map_err(CallFault::Cut)?;
         copy_to(&self.output, out, needed)
     }
 
@@ -123,23 +123,25 @@ pub fn told_lent(answer: Result<Lent, CallFault>, at: &mut *const u8, count: &mu
     }
 }
 
-/// Puts into a buffer of C's what is asked, and tells how long it is.
-pub fn copy(
-    alloc: Global,
-    cutter: &mut Handle,
-    asked: Asked,
-    out: &mut [u8],
-    needed: &mut usize,
-) -> Result<(), CallFault>
-    ensures written { OnOk result (IsSomeAnd (cutter_in cutter.old)
-        (λ h. IsWritten (IsTold asked h) needed.new out.old out.new)) }
-    ensures cutter { cutter_in cutter.new ≡ cutter_in cutter.old }
-    ensures refused { IfErr result
-        (IsCopyFault (cutter_in cutter.old) asked needed.old needed.new (length out.old)) }
-    ensures kept { OnErr result (out.new ≡ out.old) }
-{
-    let mut session = cutter.take(alloc).ok_or(CallFault::EmptyCutter)?;
-    let answer = session.copy(asked, out, needed);
-    cutter.put(session);
-    answer
+impl Handle {
+    /// Puts into a buffer of C's what is asked, and tells how long it is.
+    pub fn copy(
+        &mut self,
+        alloc: Global,
+        asked: Asked,
+        out: &mut [u8],
+        needed: &mut usize,
+    ) -> Result<(), CallFault>
+        ensures written { OnOk result (IsSomeAnd (cutter_in self.old)
+            (λ h. IsWritten (IsTold asked h) needed.new out.old out.new)) }
+        ensures cutter { cutter_in self.new ≡ cutter_in self.old }
+        ensures refused { IfErr result
+            (IsCopyFault (cutter_in self.old) asked needed.old needed.new (length out.old)) }
+        ensures kept { OnErr result (out.new ≡ out.old) }
+    {
+        let mut session = self.take(alloc).ok_or(CallFault::EmptyCutter)?;
+        let answer = session.copy(asked, out, needed);
+        self.put(session);
+        answer
+    }
 }

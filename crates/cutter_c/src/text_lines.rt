@@ -36,28 +36,30 @@ impl Session {
     }
 }
 
-/// Cuts the lines of a text by a handle's cutter, and lends what they print, also where they stopped.
-pub fn cut_lines(
-    alloc: Global,
-    cutter: &mut Handle,
-    text: &[u8],
-    out: &mut *const u8,
-    count: &mut usize,
-    lines: &mut u64,
-) -> Result<(), CallFault>
-    ensures printed { OnOk result
-        (LendsLines (cutter_in cutter.old) cutter.new.slot.value text.now
-        (lines_told out.new count.new lines.new)) }
-    ensures stopped { IfErr result
-        (IsLinesRefusal (cutter_in cutter.old) cutter.new.slot.value text.now
-        (lines_told out.old count.old lines.old) (lines_told out.new count.new lines.new)) }
-    ensures cutter { cutter_in cutter.new ≡ forgets (cutter_in cutter.old) }
-{
-    let mut session = cutter.take(alloc).ok_or(CallFault::EmptyCutter)?;
-    let answer = session.print_lines(text, lines);
-    let Lent { at, count: length } = session.lent();
-    *out = at;
-    *count = length;
-    cutter.put(session);
-    Ok(answer?)
+impl Handle {
+    /// Cuts the lines of a text by its cutter, and lends what they print, also where they stopped.
+    pub fn cut_lines(
+        &mut self,
+        alloc: Global,
+        text: &[u8],
+        out: &mut *const u8,
+        count: &mut usize,
+        lines: &mut u64,
+    ) -> Result<(), CallFault>
+        ensures printed { OnOk result
+            (LendsLines (cutter_in self.old) self.new.slot.value text.now
+            (lines_told out.new count.new lines.new)) }
+        ensures stopped { IfErr result
+            (IsLinesRefusal (cutter_in self.old) self.new.slot.value text.now
+            (lines_told out.old count.old lines.old) (lines_told out.new count.new lines.new)) }
+        ensures cutter { cutter_in self.new ≡ forgets (cutter_in self.old) }
+    {
+        let mut session = self.take(alloc).ok_or(CallFault::EmptyCutter)?;
+        let answer = session.print_lines(text, lines);
+        let Lent { at, count: length } = session.lent();
+        *out = at;
+        *count = length;
+        self.put(session);
+        answer.map_err(CallFault::Cut)
+    }
 }

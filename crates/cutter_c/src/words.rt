@@ -1,15 +1,16 @@
 //! The words of the path that was cut last, as C sees them.
 
-ghost use Rattle.std.specs.Prelude.{◌≡◌, ◌≤◌, length, drop, OnOk, OnErr, IfErr};
+ghost use Rattle.std.specs.Prelude.{◌≡◌, ◌≢◌, ◌≤◌, length, drop, OnOk, OnErr, IfErr};
 ghost use Rattle.std.specs.Option.{IsSomeAnd};
 ghost use Rattle.cutter.specs.Cutters.{OfCut};
 ghost use Rattle.cutter.specs.Faults.{IsNothingCut};
 ghost use Rattle.cutter.specs.Reaching.{MayFollow, at_bos};
-ghost use Rattle.cutter_c.specs.Handles.{IsRefusal, cutter_in};
-ghost use Rattle.cutter_c.specs.Outputs.{with_front};
+ghost use Rattle.cutter_c.specs.Handles.{IsRefusal, TellsCall, cutter_in};
+ghost use Rattle.cutter_c.specs.Outputs.{OnlyOkSets, with_front};
 ghost use Rattle.cutter_c.specs.Words.{AreTold, c_word, c_words};
 ghost use Rattle.word_lookup.specs.Overlays.{overlay_of};
 
+use crate::codes::code_told;
 use crate::fault::CallFault;
 use crate::handle::Handle;
 use cutter::{CutFault, Cutter, LastWords, Reached};
@@ -118,7 +119,7 @@ fn tell_words(
 }
 
 /// The same of a handle's cutter.
-pub fn words(
+fn words(
     alloc: Global,
     cutter: &mut Handle,
     first: usize,
@@ -135,5 +136,25 @@ pub fn words(
     let session = cutter.take(alloc).ok_or(CallFault::EmptyCutter)?;
     let answer = tell_words(&session.cutter, first, out, count);
     cutter.put(session);
-    Ok(answer?)
+    answer.map_err(CallFault::Cut)
+}
+
+/// Writes words that were cut last from number `first` on, as far as there is room. `count` is the number of all.
+#[unsafe(no_mangle)]
+pub extern "C" fn kumquatsieve_words(
+    alloc: Global,
+    cutter: &mut Handle,
+    first: usize,
+    out: &mut [CWord],
+    count: &mut usize,
+) -> u32
+    ensures told { (result ≡ 0) → IsSomeAnd (cutter_in cutter.old)
+        (λ h. OfCut h (AreTold h first count.new out.old out.new)) }
+    ensures cutter { cutter_in cutter.new ≡ cutter_in cutter.old }
+    ensures refused { (result ≢ 0)
+        → TellsCall (IsRefusal (cutter_in cutter.old) IsNothingCut) result }
+    ensures kept { (result ≢ 0) → out.new ≡ out.old }
+    ensures unset { OnlyOkSets result count.old count.new }
+{
+    code_told(words(alloc, cutter, first, out, count))
 }

@@ -3,10 +3,6 @@ use Rattle.std.specs.Fn.{FnOnceReturnsAtMut}
 use Rattle.cutter_c.proofs.CalledLemmas.{called}
 use Rattle.cutter_c.proofs.handle.Handle.call.Goals as goal
 
-pub returns-in_err-answer : goal.returns-in_err-answer
-returns-in_err-answer g c = called (FnOnceReturnsAtMut g.F.FnOnce c.args.call) _ _ c.in_ok-session.session.value _ c.call-answer.result _ (search rules) (search rules)
-    (record { shown = _; shows = search rules; left = _; met = c.call-answer.ensures; leaves = refl }) (search rules)
-
 pub returns : goal.returns
 returns g c = called (FnOnceReturnsAtMut g.F.FnOnce c.args.call) _ _ c.in_ok-session.session.value _ c.call-answer.result _ (search rules) (search rules)
     (record { shown = _; shows = search rules; left = _; met = c.call-answer.ensures; leaves = refl }) (search rules)

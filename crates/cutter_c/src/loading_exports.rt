@@ -1,4 +1,4 @@
-//! What C calls to load an image that comes in pieces, so that it stands in memory once.
+//! What C calls to load images: whole, with or without the test of their digest, and in pieces, so that one stands in memory once.
 
 ghost use Rattle.std.specs.Prelude.{◌≡◌, ◌≢◌, ◌+◌, ◌<◌, ◌≤◌, ◌++◌, length, IsSome};
 ghost use Rattle.cutter.specs.Faults.{IsLoadRefusal};
@@ -8,6 +8,7 @@ ghost use Rattle.cutter_c.specs.Codes.{memory};
 ghost use Rattle.cutter_c.specs.Handles.{Fills, IsFillRefusal, IsRefusal, Moves, TellsNumbered, cutter_in};
 ghost use Rattle.cutter_c.specs.Outputs.{OnlyFaultsSet};
 ghost use Rattle.image_bytes.specs.DigestTests.{test_by};
+ghost use Rattle.image_bytes.specs.declared.digest_test.DigestTest.TheVariants.{Made};
 
 use crate::buffer_handle::BufferHandle;
 use crate::codes::{MEMORY, OK, told};
@@ -15,6 +16,88 @@ use crate::handle::Handle;
 use crate::loading;
 use cutter::DigestTest;
 use std::alloc::Global;
+
+/// Fills an empty handle with the cutter of a system's image. `number` is set where a fault has one.
+#[unsafe(no_mangle)]
+pub extern "C" fn kumquatsieve_load(
+    alloc: Global,
+    cutter: &mut Handle,
+    image: &[u8],
+    number: &mut u64,
+) -> u32
+    ensures loaded { (result ≡ 0)
+        → Fills (cutter_in cutter.old) (cutter_in cutter.new) (IsLoadedFrom Made image.now) }
+    ensures refused { (result ≢ 0) → TellsNumbered
+        (IsFillRefusal (cutter_in cutter.old) (IsLoadRefusal Made image.now))
+        number.old number.new result }
+    ensures kept { (result ≢ 0) → cutter_in cutter.new ≡ cutter_in cutter.old }
+    ensures unset { OnlyFaultsSet result number.old number.new }
+{
+    kumquatsieve_load_by(alloc, cutter, image, false, number)
+}
+
+/// Lays a user's image over the dictionaries of a handle's cutter. `number` is set where a fault has one.
+#[unsafe(no_mangle)]
+pub extern "C" fn kumquatsieve_add_user(
+    alloc: Global,
+    cutter: &mut Handle,
+    image: &[u8],
+    number: &mut u64,
+) -> u32
+    ensures added { (result ≡ 0)
+        → Moves (cutter_in cutter.old) (cutter_in cutter.new) (IsExtended Made image.now) }
+    ensures refused { (result ≢ 0) → TellsNumbered
+        (IsRefusal (cutter_in cutter.old) (IsUserFault Made image.now))
+        number.old number.new result }
+    ensures kept { (result ≢ 0) → cutter_in cutter.new ≡ cutter_in cutter.old }
+    ensures unset { OnlyFaultsSet result number.old number.new }
+{
+    kumquatsieve_add_user_by(alloc, cutter, image, false, number)
+}
+
+/// Fills an empty handle with the cutter of a system's image, whose digest is not tested where `skip_digest` says so. `number` is set
+/// where a fault has one.
+#[unsafe(no_mangle)]
+pub extern "C" fn kumquatsieve_load_by(
+    alloc: Global,
+    cutter: &mut Handle,
+    image: &[u8],
+    skip_digest: bool,
+    number: &mut u64,
+) -> u32
+    ensures loaded { (result ≡ 0) → Fills (cutter_in cutter.old) (cutter_in cutter.new)
+        (IsLoadedFrom (test_by skip_digest) image.now) }
+    ensures refused { (result ≢ 0) → TellsNumbered
+        (IsFillRefusal (cutter_in cutter.old) (IsLoadRefusal (test_by skip_digest) image.now))
+        number.old number.new result }
+    ensures kept { (result ≢ 0) → cutter_in cutter.new ≡ cutter_in cutter.old }
+    ensures unset { OnlyFaultsSet result number.old number.new }
+{
+    let digest = DigestTest::skipped_if(skip_digest);
+    told(loading::load(alloc, cutter, image, digest), number)
+}
+
+/// Lays a user's image over the dictionaries of a handle's cutter, in the same way.
+#[unsafe(no_mangle)]
+pub extern "C" fn kumquatsieve_add_user_by(
+    alloc: Global,
+    cutter: &mut Handle,
+    image: &[u8],
+    skip_digest: bool,
+    number: &mut u64,
+) -> u32
+    ensures added { (result ≡ 0) → Moves (cutter_in cutter.old) (cutter_in cutter.new)
+        (IsExtended (test_by skip_digest) image.now) }
+    ensures refused { (result ≢ 0) → TellsNumbered
+        (IsRefusal (cutter_in cutter.old) (IsUserFault (test_by skip_digest) image.now))
+        number.old number.new result }
+    ensures kept { (result ≢ 0) → cutter_in cutter.new ≡ cutter_in cutter.old }
+    ensures unset { OnlyFaultsSet result number.old number.new }
+{
+    let digest = DigestTest::skipped_if(skip_digest);
+    let answer = cutter.call(alloc, |session| session.add_user(alloc, image, digest));
+    told(answer, number)
+}
 
 /// Appends a piece to the bytes of a buffer. Into one with nothing in it room for so many is taken first, so that no byte is moved
 /// until there are more.
