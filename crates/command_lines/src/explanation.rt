@@ -1,7 +1,6 @@
 //! What the code of a fault means, for whoever meets it.
 
-ghost use Rattle.std.specs.Prelude.{◌≡◌, ◌↔◌, ◌⊎◌, IfSome, IsTrue};
-ghost use Rattle.command_lines.specs.Asked.{IsSameWord};
+ghost use Rattle.std.specs.Prelude.{◌≡◌, ◌↔◌, IfSome, IsTrue};
 
 mod calls;
 mod images;
@@ -87,9 +86,11 @@ fn list(alloc: Global, subject: &[Explanation], text: &mut String) -> Result<(),
 }
 
 impl Explanation {
+    ghost use Rattle.command_lines.specs.Explanations.{IsCalled};
+
     /// Whether this is its code or its name, in any letters.
     fn is_called(&self, asked: &str) -> bool
-        ensures { IsTrue result ↔ (IsSameWord self.now.code.now asked.now ⊎ IsSameWord self.now.name.now asked.now) }
+        ensures { IsTrue result ↔ IsCalled self.now asked.now }
     {
         self.code.eq_ignore_ascii_case(asked) || self.name.eq_ignore_ascii_case(asked)
     }
