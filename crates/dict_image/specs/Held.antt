@@ -3,16 +3,26 @@ use Rattle.std.specs.Prelude.{◌≡◌, ℕ, ◌*◌, ◌<◌, ◌≤◌, List,
 use Rattle.image_bytes.specs.ImageBytes.{header_of, kind_of, section}
 use Rattle.image_bytes.specs.Layouts.{info_form}
 use Rattle.dict_image.specs.Categories.{listed_categories}
+use Rattle.dict_image.specs.declared.cost_table.CostTable.{CostTable}
+use Rattle.dict_image.specs.declared.info_table.InfoTable.{InfoTable}
 use Rattle.dict_image.specs.declared.lookup_tables.LookupTables.{LookupTables}
 use Rattle.dict_image.specs.CostTables.{IsCostTable}
 use Rattle.dict_image.specs.InfoTables.{IsInfoTable}
 use Rattle.image_bytes.specs.ImageSections.{HasFeature, stored_token}
 
+-- connection costs are looked up there
+abbrev pub IsCostTableIn : List ℕ → CostTable → Type 0
+IsCostTableIn bytes table = IsCostTable (header_of bytes).sizes (section bytes 1) table
+
+-- so are the categories of code points
+abbrev pub IsInfoTableIn : List ℕ → InfoTable → Type 0
+IsInfoTableIn bytes table = IsInfoTable (kind_of (header_of bytes)) (info_form (header_of bytes).layout) (section bytes 3) table
+
 -- the tables that are made of an image: where connection costs and the categories of code points are looked up, and what the categories
 -- say
 pub record AreLookupTables (bytes : List ℕ) (tables : LookupTables) : Type 0 where
-  pub costs_are : IsCostTable (header_of bytes).sizes (section bytes 1) tables.costs
-  pub infos_are : IsInfoTable (kind_of (header_of bytes)) (info_form (header_of bytes).layout) (section bytes 3) tables.infos
+  pub costs_are : IsCostTableIn bytes tables.costs
+  pub infos_are : IsInfoTableIn bytes tables.infos
   pub categories_are : tables.categories.items ≡ listed_categories (header_of bytes).categories (section bytes 2)
 
 -- so many tokens stand in one section, and their features in another

@@ -15,3 +15,4 @@ pub mod Prefixes
 pub mod Numbered
 pub mod Fitting
 pub mod Loading
+pub mod ImageKeys

@@ -1,20 +1,17 @@
 //! A dictionary: the bytes of a well-formed image.
 ghost use Rattle.std.specs.Prelude.{◌≡◌, ℕ, ◌<◌, List, IfOk};
-ghost use Rattle.image_bytes.specs.ImageBytes.{all_tokens, header_of, kind_of, section as section_of};
-ghost use Rattle.image_bytes.specs.ImageFaults.{IsWellFormed};
-ghost use Rattle.image_bytes.specs.ImageMeaning.{group_in, image_tables, image_token, tokens_in};
-ghost use Rattle.image_bytes.specs.ImageSections.{stored_cells};
-ghost use Rattle.mj_model.specs.Overlays.{is_user};
-ghost use Rattle.image_bytes.specs.Sections.{number_of};
 ghost use Rattle.dict_image.specs.Fitting.{AreFitting};
-ghost use Rattle.image_bytes.specs.Layouts.{info_form, key_form};
-ghost use Rattle.dict_image.specs.Groups.{hits_in};
-ghost use Rattle.image_check.specs.Outlines.{IsImage, IsOutline};
-ghost use Rattle.dict_image.specs.CostTables.{IsCostTable};
-ghost use Rattle.dict_image.specs.InfoTables.{IsInfoTable};
-ghost use Rattle.dict_image.specs.KeyHits.{hits_seen, key_cells};
-ghost use Rattle.dict_image.specs.KeyTables.{IsTableOf};
+ghost use Rattle.dict_image.specs.Held.{IsCostTableIn, IsInfoTableIn};
+ghost use Rattle.dict_image.specs.ImageKeys.{IsKeyTableIn, cells_of_keys, group_under, hits_under};
+ghost use Rattle.dict_image.specs.KeyHits.{hits_seen};
 ghost use Rattle.dict_image.specs.Seen.{token_seen};
+ghost use Rattle.image_bytes.specs.ImageBytes.{all_tokens, header_of, section as section_of};
+ghost use Rattle.image_bytes.specs.ImageFaults.{IsWellFormed};
+ghost use Rattle.image_bytes.specs.ImageMeaning.{image_tables, image_token, tokens_in};
+ghost use Rattle.image_bytes.specs.ImageSections.{stored_cells};
+ghost use Rattle.image_bytes.specs.Sections.{number_of};
+ghost use Rattle.image_check.specs.Outlines.{IsImage, IsOutline};
+ghost use Rattle.mj_model.specs.Overlays.{is_user};
 
 use crate::cost_table::CostTable;
 use crate::entries::Entries;
@@ -117,7 +114,7 @@ impl Dict {
     /// Where connection costs are looked up.
     #[inline(always)]
     pub(crate) fn cost_table(&self) -> &CostTable
-        ensures table { IsCostTable (header_of self.now).sizes (section_of self.now 1) result.now }
+        ensures table { IsCostTableIn self.now result.now }
         ensures formed { IsImage self.now }
     {
         &self.tables.costs
@@ -126,8 +123,7 @@ impl Dict {
     /// Where the categories of code points are looked up.
     #[inline(always)]
     pub(crate) fn info_table(&self) -> &InfoTable
-        ensures table { IsInfoTable (kind_of (header_of self.now))
-            (info_form (header_of self.now).layout) (section_of self.now 3) result.now }
+        ensures table { IsInfoTableIn self.now result.now }
         ensures formed { IsImage self.now }
     {
         &self.tables.infos
@@ -145,8 +141,7 @@ impl Dict {
     /// The keys, to look one up.
     #[inline(always)]
     fn key_table(&self) -> KeyTable<'_>
-        ensures table { IsTableOf (key_form (header_of self.now).layout) (header_of self.now).groups
-            (section_of self.now 5) result }
+        ensures table { IsKeyTableIn self.now result }
         ensures formed { IsImage self.now }
     {
         match &self.outline.keys {
@@ -159,8 +154,7 @@ impl Dict {
 
     /// The group of a key.
     pub(crate) fn group_of(&self, key: &[u8]) -> Option<u32>
-        ensures group { result ≡ group_in (key_form (header_of self.now).layout)
-            (header_of self.now).groups (section_of self.now 5) key.now }
+        ensures group { result ≡ group_under self.now key.now }
         ensures formed { IsImage self.now }
     {
         match self.key_table() {
@@ -172,10 +166,8 @@ impl Dict {
     /// The keys that begin a text, with their groups.
     #[inline(always)]
     pub(crate) fn hits<'a>(&'a self, text: &'a [u8]) -> KeyHits<'a>
-        ensures hits { (hits_seen result).hits ≡ hits_in (key_form (header_of self.now).layout)
-            (header_of self.now).groups (section_of self.now 5) text.now }
-        ensures cells { (hits_seen result).cells
-            ≡ key_cells (key_form (header_of self.now).layout) (section_of self.now 5) }
+        ensures hits { (hits_seen result).hits ≡ hits_under self.now text.now }
+        ensures cells { (hits_seen result).cells ≡ cells_of_keys self.now }
         ensures text { (hits_seen result).text ≡ text.now }
         ensures walked { (hits_seen result).walked ≡ 0 }
         ensures formed { IsImage self.now }

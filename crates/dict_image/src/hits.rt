@@ -6,8 +6,8 @@ ghost use Rattle.cell_walk.specs.Reads.{walk_reads};
 ghost use Rattle.cell_walk.specs.Walking.{walked_to};
 ghost use Rattle.image_bytes.specs.ImageBytes.{header_of, section as section_of};
 ghost use Rattle.image_bytes.specs.ImageMeaning.{image_tables, lexicon_sections};
-ghost use Rattle.image_bytes.specs.Layouts.{key_form};
-ghost use Rattle.dict_image.specs.KeyHits.{hits_seen, key_cells};
+ghost use Rattle.dict_image.specs.KeyHits.{hits_seen};
+ghost use Rattle.dict_image.specs.ImageKeys.{cells_of_keys};
 ghost use Rattle.dict_image.specs.Prefixes.{prefix_in, prefixes_in};
 
 use crate::dict::Dict;
@@ -49,8 +49,7 @@ impl<'a> Prefixes<'a> {
     #[inline(always)]
     pub(crate) fn new(dict: &'a Dict, text: &'a [u8]) -> Prefixes<'a>
         ensures prefixes { result.prefixes ≡ prefixes_in text.now (image_tables dict.now).lexicon }
-        ensures cells { result.cells
-            ≡ key_cells (key_form (header_of dict.now).layout) (section_of dict.now 5) }
+        ensures cells { result.cells ≡ cells_of_keys dict.now }
         ensures text { result.text ≡ text.now }
         ensures walked { result.walked ≡ 0 }
     {

@@ -1,9 +1,7 @@
 //! Lookup in the lexicon.
 ghost use Rattle.std.specs.Prelude.{◌≡◌};
-ghost use Rattle.image_bytes.specs.ImageBytes.{header_of, section as section_of};
 ghost use Rattle.image_bytes.specs.ImageMeaning.{entries_under, image_tables};
-ghost use Rattle.image_bytes.specs.Layouts.{key_form};
-ghost use Rattle.dict_image.specs.KeyHits.{key_cells};
+ghost use Rattle.dict_image.specs.ImageKeys.{cells_of_keys};
 ghost use Rattle.dict_image.specs.Prefixes.{prefixes_in};
 
 use crate::dict::Dict;
@@ -25,8 +23,7 @@ impl Dict {
     #[inline(always)]
     pub fn prefixes<'a>(&'a self, text: &'a str) -> Prefixes<'a>
         ensures prefixes { result.prefixes ≡ prefixes_in text.now (image_tables self.now).lexicon }
-        ensures cells { result.cells
-            ≡ key_cells (key_form (header_of self.now).layout) (section_of self.now 5) }
+        ensures cells { result.cells ≡ cells_of_keys self.now }
         ensures text { result.text ≡ text.now }
         ensures walked { result.walked ≡ 0 }
     {
