@@ -1,19 +1,29 @@
 -- The longest of two lists of surfaces, and the surfaces of one more lexicon.
-use Rattle.std.proofs.Common.{◌≡◌, ℕ, suc, ◌+◌, ◌<◌, ◌≤◌, All, List, [], ◌∷◌, ◌++◌, length, take, get_or, Bor, None, Some, Ok, refl, sym, ap, ◌∙◌, inl, inr, subst, append_assoc, arith, length-take}
-use Rattle.std.specs.Prelude.{Option}
-use Rattle.std.proofs.lemmas.List.{append-nil, length-map, map-append, take_more}
-use Rattle.std.proofs.lemmas.List.Elements.{All-append, All-cons, All-nil, All-weaker, Contains-append_left, Contains-append_right}
+use Rattle.std.proofs.Common.{◌≡◌, ℕ, suc, ◌+◌, ◌<◌, ◌≤◌, All, List, [], ◌∷◌, ◌++◌, length, take, get_or, Bor, None, Some, Ok, Err, refl, sym, ap, ◌∙◌, inl, inr, subst, append_assoc, arith, length-take}
+use Rattle.std.specs.Prelude.{Contains, Option}
+use Rattle.std.proofs.lemmas.List.{append-nil, get_or-map, length-map, map-append, take_more}
+use Rattle.std.proofs.lemmas.List.Elements.{All-append, All-cons, All-nil, All-weaker, Contains-get_or}
+use Rattle.mj_model.specs.FirstFault.{IsRefusal}
 use Rattle.mj_model.specs.declared.entry.Record.{Record}
+use Rattle.mj_model.specs.declared.source_fault.SourceFault.{SourceFault}
 use Rattle.mj_model.specs.Lexicon.{IsLexicon, Row, row_of, rows_of}
+use Rattle.dict_compile.specs.Answers.{lexicons_of}
 use Rattle.dict_compile.proofs.SkipLemmas.{before_more, bytes_before}
 use Rattle.dictc_work.specs.declared.surfaces.Surface.{Surface}
-use Rattle.dictc_work.specs.Surfaces.{HasSurfaces, HaveSurfaces, IsLongerOf, IsLongestIn, IsLongestOf, surface_of, surfaces_of}
+use Rattle.dictc_work.specs.Surfaces.{HasSurfaces, HaveFault, HaveSurfaces, IsLongerOf, IsLongestIn, IsLongestOf, surface_of, surfaces_of}
 
 abbrev HaveAtMost : ℕ → List Surface → Type 0
 HaveAtMost n surfaces = All (λ surface. surface.bytes ≤ n) surfaces
 
 with_more : (surfaces : List Surface) (m n : ℕ) → m ≤ n → HaveAtMost m surfaces → HaveAtMost n surfaces
 with_more surfaces m n low all = All-weaker (λ surface. surface.bytes ≤ m) (λ surface. surface.bytes ≤ n) (λ surface below. omega (arith, below, low)) surfaces all
+
+-- no surface has more bytes than the longest
+at_most : (surfaces : List Surface) (longest : Surface) → IsLongestIn surfaces (Some longest) → HaveAtMost longest.bytes surfaces
+at_most surfaces longest (before, after, are, shorter, others) =
+    let AtMost : Surface → Type 0 = λ surface. surface.bytes ≤ longest.bytes in
+    let front = All-weaker (λ surface. surface.bytes < longest.bytes) AtMost (λ surface below. omega (arith, below)) before shorter in
+    subst (HaveAtMost longest.bytes) (sym are) (All-append AtMost before (longest ∷ after) front (All-cons AtMost longest after (omega arith) others))
 
 -- the longer one of the longest of two lists is the longest of both
 pub longest_of_both : (xs ys : List Surface) (first second longer : Option Surface) → IsLongestIn xs first → IsLongestIn ys second → IsLongerOf first second longer
@@ -23,12 +33,16 @@ longest_of_both xs ys None second longer none its is =
 longest_of_both xs ys (Some one) None longer its none is =
     subst (λ (found : Option Surface). IsLongestIn (xs ++ ys) found) (sym is)
     (subst (λ (all : List Surface). IsLongestIn all (Some one)) (sym (ap (λ (behind : List Surface). xs ++ behind) none ∙ append-nil xs)) its)
-longest_of_both xs ys (Some one) (Some two) longer first second (inl is) =
-    let all = All-append (λ surface. surface.bytes ≤ one.bytes) xs ys first.1 (with_more ys two.bytes one.bytes is.1 second.1) in
-    subst (λ (found : Option Surface). IsLongestIn (xs ++ ys) found) (sym is.0) (Contains-append_left xs ys one first.0, all)
-longest_of_both xs ys (Some one) (Some two) longer first second (inr is) =
-    let all = All-append (λ surface. surface.bytes ≤ two.bytes) xs ys (with_more xs one.bytes two.bytes is.1 first.1) second.1 in
-    subst (λ (found : Option Surface). IsLongestIn (xs ++ ys) found) (sym is.0) (Contains-append_right xs ys two second.0, all)
+longest_of_both xs ys (Some one) (Some two) longer (before, after, are, shorter, others) second (inl is) =
+    let AtMost : Surface → Type 0 = λ surface. surface.bytes ≤ one.bytes in
+    let behind = All-append AtMost after ys others (with_more ys two.bytes one.bytes is.1 (at_most ys two second)) in
+    let all = ap (λ (front : List Surface). front ++ ys) are ∙ append_assoc before (one ∷ after) ys in
+    subst (λ (found : Option Surface). IsLongestIn (xs ++ ys) found) (sym is.0) (before, after ++ ys, all, shorter, behind)
+longest_of_both xs ys (Some one) (Some two) longer first (before, after, are, shorter, others) (inr is) =
+    let Below : Surface → Type 0 = λ surface. surface.bytes < two.bytes in
+    let front = All-weaker (λ surface. surface.bytes ≤ one.bytes) Below (λ surface low. omega (arith, low, is.1)) xs (at_most xs one first) in
+    let all = ap (λ (behind : List Surface). xs ++ behind) are ∙ sym (append_assoc xs before (two ∷ after)) in
+    subst (λ (found : Option Surface). IsLongestIn (xs ++ ys) found) (sym is.0) (xs ++ before, after, all, All-append Below xs before front shorter, others)
 
 -- lexicons, and one more behind them
 pub more_surfaces : (number : ℕ) (lexicons : List (List ℕ)) (lexicon : List ℕ) (surfaces its : List Surface) → HaveSurfaces number lexicons surfaces
@@ -47,9 +61,7 @@ more_surfaces number (first ∷ lexicons) lexicon surfaces its have has =
 
 -- one surface is its own longest
 pub longest_of_one : (one : Surface) → IsLongestIn (one ∷ []) (Some one)
-longest_of_one one =
-    let AtMost : Surface → Type 0 = λ surface. surface.bytes ≤ one.bytes in
-    ((0, omega arith, refl), All-cons AtMost one [] (omega arith) (All-nil AtMost))
+longest_of_one one = ([], [], refl, All-nil (λ surface. surface.bytes < one.bytes), All-nil (λ surface. surface.bytes ≤ one.bytes))
 
 -- the surfaces of records, and of one more
 pub surfaces_with : (number : ℕ) (records : List Record) (i : ℕ) (next : Record) → i < length records → next ≡ get_or records i next
@@ -83,3 +95,14 @@ longest_with lexicons i d first second longer low was found is =
       more_surfaces 0 (bytes_before lexicons i) (get_or lexicons i d).now was.0 found.0 was.1 has,
       longest_of_both was.0 found.0 first second longer was.2 found.2 is,
     )
+
+-- what a lexicon is refused for is a fault of one of the lexicons
+pub fault_of_one : (lexicons : List (Bor (List ℕ))) (i file : ℕ) (d : Bor (List ℕ)) (fault : SourceFault) → i < length lexicons
+    → IsRefusal fault (IsLexicon file 0 (get_or lexicons i d).now (Err fault)) → IsRefusal fault (HaveFault (lexicons_of lexicons) fault)
+fault_of_one lexicons i file d fault low (inl memory) = inl memory
+fault_of_one lexicons i file d fault low (inr is) =
+    let bytes : Bor (List ℕ) → List ℕ = λ lexicon. lexicon.now in
+    let same = length-map lexicons bytes in
+    let within : i < length (lexicons_of lexicons) = omega (arith, low, same) in
+    let there = subst (Contains (lexicons_of lexicons)) (get_or-map bytes lexicons i d [] low) (Contains-get_or (lexicons_of lexicons) i [] within) in
+    inr (file, (get_or lexicons i d).now, there, is)

@@ -1,9 +1,10 @@
 //! The longest surface of lexicons.
 
-ghost use Rattle.std.specs.Prelude.{List, IfOk};
+ghost use Rattle.std.specs.Prelude.{List, Err, IfErr, IfOk};
 ghost use Rattle.dict_compile.specs.Answers.{lexicons_of};
-ghost use Rattle.mj_model.specs.Lexicon.{rows_of};
-ghost use Rattle.dictc_work.specs.Surfaces.{HasSurfaces, IsLongerOf, IsLongestIn, IsLongestOf, surfaces_of};
+ghost use Rattle.mj_model.specs.FirstFault.{IsRefusal};
+ghost use Rattle.mj_model.specs.Lexicon.{IsLexicon, rows_of};
+ghost use Rattle.dictc_work.specs.Surfaces.{HasSurfaces, HaveFault, IsLongerOf, IsLongestIn, IsLongestOf, surfaces_of};
 ghost use Rattle.dictc_work.specs.declared.surfaces.Surface.{Surface as SurfaceOf};
 
 use lex_source::read_lexicon;
@@ -23,7 +24,9 @@ pub struct Surface {
 
 /// The longest surface of lexicons, the first one where several are as long; None where no line is accepted.
 pub fn longest_surface(alloc: Global, lexicons: &[&[u8]]) -> Result<Option<Surface>, SourceFault>
-    ensures { IfOk result (IsLongestOf (lexicons_of lexicons.now)) }
+    ensures longest { IfOk result (IsLongestOf (lexicons_of lexicons.now)) }
+    ensures refused { IfErr result (λ fault.
+        IsRefusal fault (HaveFault (lexicons_of lexicons.now) fault)) }
 {
     let mut longest = None;
     let mut file = FIRST_LEXICON_FILE;
@@ -42,8 +45,10 @@ fn longest_in(
     file: u32,
     number: usize,
 ) -> Result<Option<Surface>, SourceFault>
-    ensures { IfOk result (λ longest. (surfaces : List SurfaceOf)
+    ensures longest { IfOk result (λ longest. (surfaces : List SurfaceOf)
         × HasSurfaces number lexicon.now surfaces × IsLongestIn surfaces longest) }
+    ensures refused { IfErr result (λ fault.
+        IsRefusal fault (IsLexicon file 0 lexicon.now (Err fault))) }
 {
     let mut records = Vec::new(alloc);
     let _skipped = read_lexicon(alloc, lexicon, file, &mut records)?;

@@ -1,8 +1,12 @@
 //! A dictionary whose entries are gone over by their numbers.
 
-ghost use Rattle.std.specs.Prelude.{◌≡◌, ◌≤◌, ◌++◌, length, map, IfOk};
+ghost use Rattle.std.specs.Prelude.{◌≡◌, ◌≤◌, ◌++◌, ◌⊎◌, length, map, IfErr, IfOk};
 ghost use Rattle.image_bytes.specs.ImageBytes.{header_length, header_of};
+ghost use Rattle.image_bytes.specs.ImageFaults.{IsImageFault};
+ghost use Rattle.image_bytes.specs.declared.digest_test.DigestTest.{DigestTest as DigestTestOf};
 ghost use Rattle.dict_image.specs.Seen.{token_seen};
+ghost use Rattle.mj_model.specs.declared.image_fault.ImageFault.TheVariants.{Memory as NoMemory};
+ghost use Rattle.programs.specs.HashedImages.{DecideAlike};
 ghost use Rattle.dictc_work.specs.Listings.{listed_tokens};
 
 use dict_image::{Dict, EntryRef};
@@ -22,7 +26,10 @@ pub(crate) struct CountedDict {
 impl CountedDict {
     /// The dictionary of an image that was read.
     pub(crate) fn load(alloc: Global, image: ReadImage) -> Result<CountedDict, ImageFault>
-        ensures { IfOk result (λ counted. counted.dict ≡ image.bytes.items) }
+        ensures dict { IfOk result (λ counted. counted.dict ≡ image.bytes.items) }
+        ensures refused { (asked : DigestTestOf)
+            → DecideAlike asked image.digest image.bytes.items → IfErr result (λ fault.
+            (fault ≡ NoMemory) ⊎ IsImageFault asked image.bytes.items fault) }
     {
         let entries = entries_of(&image.bytes);
         let dict = image.load(alloc)?;

@@ -5,8 +5,8 @@ use Rattle.dictc_work.specs.Surfaces.{IsLongestIn, surfaces_of}
 use Rattle.dictc_work.proofs.SurfaceLemmas.{longest_read}
 use Rattle.dictc_work.proofs.surfaces.longest_in.Goals as goal
 
-pub returns : goal.returns
-returns c =
+pub returns-clause-longest : goal.returns-clause-longest
+returns-clause-longest c =
     let number = c.args.number in
     let old = c.new-records.result.items in
     let new = c.read_lexicon.new.out.items in
