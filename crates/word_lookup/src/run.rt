@@ -66,6 +66,7 @@ pub fn run_up_to(
 
 /// How many characters at the beginning of a text share with the categories `first`; no more than
 /// `limit` characters are looked at.
+#[inline(always)]
 pub fn alike_up_to(system: &Dict, first: CharInfo, text: &str, limit: usize) -> usize
     requires { (image_tables system.now).kind ≡ System }
     ensures { result ≡ alike_with first (image_tables system.now).info

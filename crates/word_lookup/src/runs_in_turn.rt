@@ -75,6 +75,7 @@ impl CategorizedText<'_> {
 
     /// The run of a place, from its first character on, looked at so far that it tells whether `limit` characters follow. `is_here` says
     /// that its words begin at the place itself.
+    #[inline(always)]
     fn run_of_place(
         self,
         begun: CharacterRun,
@@ -100,6 +101,7 @@ impl CategorizedText<'_> {
 
     /// The same, where `last` is the run that was looked at last for such places, if one was. `range` is a guess at the range of the code
     /// points there.
+    #[inline(always)]
     fn run_in_turn(
         self,
         begun: CharacterRun,
@@ -123,6 +125,7 @@ impl CategorizedText<'_> {
     }
 
     /// What is known of the run of a place: where the place lies in the run that was looked at last, the rest of that one.
+    #[inline(always)]
     fn seen(self, begun: CharacterRun, last: Option<CharacterRun>) -> CharacterRun
         requires begun { IsRunOf self begun }
         requires last { IfSome last (IsRunOf self) }
@@ -136,6 +139,7 @@ impl CategorizedText<'_> {
     }
 
     /// The rest of a run from a place on.
+    #[inline(always)]
     fn run_from(self, run: CharacterRun, place: usize) -> CharacterRun
         requires run { IsRunOf self run }
         requires place { IsTrue (is_place self.text.now place) }
@@ -155,6 +159,7 @@ impl CategorizedText<'_> {
     }
 
     /// A run, looked at so far that it tells whether `limit` characters follow its first one.
+    #[inline(always)]
     fn look_up_to(self, limit: usize, run: CharacterRun, range: &mut usize) -> CharacterRun
         requires system { (image_tables self.system.now).kind ≡ System }
         requires run { IsRunOf self run }
@@ -179,6 +184,7 @@ impl CategorizedText<'_> {
 }
 
 /// How many characters stand from one place to another.
+#[inline(always)]
 fn count_between(text: &str, from: usize, to: usize) -> usize
     requires from { IsTrue (is_place text.now from) }
     requires to { IsTrue (is_place text.now to) }
@@ -189,6 +195,7 @@ fn count_between(text: &str, from: usize, to: usize) -> usize
 }
 
 /// How many characters a text has.
+#[inline(always)]
 fn count(text: &str) -> usize
     ensures { result ≡ length (chars text.now) }
 {
