@@ -14,3 +14,4 @@ pub mod RowLemmas
 pub mod TableLemmas
 pub mod WordLemmas
 pub mod SurfaceLemmas
+pub mod SameEntriesLaws

@@ -10,3 +10,4 @@ pub mod BlankRuns
 pub mod CharacterRuns
 pub mod TextRuns
 pub mod Props
+pub mod SameEntries
