@@ -13,7 +13,7 @@ use mj_model::Word;
 use path_search::WordSource;
 use paths::{LastRuns, Path, Surface};
 use std::alloc::{AllocError, Global};
-use word_lookup::{Dictionaries, SurfaceWords};
+use word_lookup::{Dictionaries, SurfaceWords, have_same_entries};
 
 /// A text over dictionaries.
 #[derive(Drop)]
@@ -50,6 +50,10 @@ impl<'a> WordSource for DictionaryText<'a> {
 
     fn word(&self, words: &SurfaceWords<'a>, i: u32) -> Word {
         words.word(i)
+    }
+
+    fn are_alike(&self, one: &Surface, other: &Surface) -> bool {
+        have_same_entries(one, other)
     }
 
     fn connection_cost(&self, right: u16, left: u16) -> i16 {

@@ -10,4 +10,5 @@ pub mod Least
 pub mod Links
 pub mod Choice
 pub mod Growth
+pub mod AlikeLemmas
 pub mod Finish

@@ -6,3 +6,4 @@ pub mod Thinned
 pub mod Lattice
 pub mod SearchedText
 pub mod Places
+pub mod Alike

@@ -1,6 +1,7 @@
 //! The search for the best path through the words of a text, over any source of words.
 #![tactic(auto)]
 
+mod alike;
 mod building;
 mod ends;
 mod joining;

@@ -1,6 +1,7 @@
 //! The words of a place, as they are added to the nodes.
 
 ghost use Rattle.std.specs.Prelude.{◌≡◌, ◌+◌, ◌<◌, ◌++◌, ◌∷◌, [], slice_set, slice_get, length, OnOk, Some};
+ghost use Rattle.path_search.specs.Alike.{EndsWith, EndsWithAny, FollowsNext};
 ghost use Rattle.path_search.specs.Ends.{AreLeast};
 ghost use Rattle.path_search.specs.Nodes.{node_words};
 ghost use Rattle.path_search.specs.Places.{IsLatticeFromSurface, IsPlaceOf};
@@ -62,6 +63,8 @@ impl Place<'_> {
     ) -> Result<(), AllocError>
         requires place { IsPlaceOf (S.says source.now) self.now }
         requires number { number < length self.now.surfaces.now }
+        requires behind { EndsWithAny (S.says source.now) self.now.surfaces.now (number + 1)
+            nodes.old.bundles.items }
         requires kept { AreKeptIn (S.says source.now) nodes.old }
         requires lattice { IsLatticeFromSurface (S.says source.now)
             (kept_nodes (S.says source.now) nodes.old) self.now (number + 1) }
@@ -72,6 +75,8 @@ impl Place<'_> {
         ensures kept { OnOk result (AreKeptIn (S.says source.now) nodes.new) }
         ensures lattice { OnOk result (IsLatticeFromSurface (S.says source.now)
             (kept_nodes (S.says source.now) nodes.new) self.now number) }
+        ensures behind { OnOk result (EndsWith (S.says source.now) self.now.surfaces.now number
+            nodes.new.bundles.items) }
         ensures ends { OnOk result (AreBestEnds (kept_nodes (S.says source.now) nodes.new)
             self.now.start self.now.ends.now) }
         ensures joins { OnOk result (AreLeast (S.says source.now).connection
@@ -88,9 +93,50 @@ impl Place<'_> {
         Ok(())
     }
 
+    /// Adds the nodes of the last bundle, whose surface has this number: those of its words, the last one first. Where they are like those
+    /// of the next surface, what is kept of those is kept of them too.
+    fn add_words<S: WordSource>(
+        &self,
+        source: &S,
+        bundles: &[Bundle],
+        backs: &mut Vec<Backpointer>,
+        number: usize,
+        joins: &mut Joins,
+    ) -> Result<(), AllocError>
+        requires place { IsPlaceOf (S.says source.now) self.now }
+        requires number { number < length self.now.surfaces.now }
+        requires next { NextAt (S.says source.now) self.now.surfaces.now number
+            bundles.now backs.old.items }
+        requires follows { FollowsNext (S.says source.now) self.now.surfaces.now number
+            bundles.now }
+        requires rights { AreRightsKept (S.says source.now) bundles.now backs.old.items }
+        requires lattice { IsLatticeFromSurface (S.says source.now)
+            (nodes_in (S.says source.now) bundles.now backs.old.items) self.now (number + 1) }
+        requires ends { AreBestEnds (nodes_in (S.says source.now) bundles.now backs.old.items)
+            self.now.start self.now.ends.now }
+        requires joins { AreLeast (S.says source.now).connection
+            self.now.ends.now joins.old }
+        ensures all { OnOk result (AreAllKept (S.says source.now) bundles.now backs.new.items) }
+        ensures rights { OnOk result
+            (AreRightsKept (S.says source.now) bundles.now backs.new.items) }
+        ensures lattice { OnOk result (IsLatticeFromSurface (S.says source.now)
+            (nodes_in (S.says source.now) bundles.now backs.new.items) self.now number) }
+        ensures ends { OnOk result (AreBestEnds
+            (nodes_in (S.says source.now) bundles.now backs.new.items)
+            self.now.start self.now.ends.now) }
+        ensures joins { OnOk result (AreLeast (S.says source.now).connection
+            self.now.ends.now joins.new) }
+    {
+        if self.is_alike_to_next(source, number) {
+            self.add_alike_words(source, bundles, backs, number)
+        } else {
+            self.add_new_words(source, bundles, backs, number, joins)
+        }
+    }
+
     /// Adds the nodes of the last bundle, whose surface has this number: those of its words, the last one first, each after the best chain
     /// to it.
-    fn add_words<S: WordSource>(
+    fn add_new_words<S: WordSource>(
         &self,
         source: &S,
         bundles: &[Bundle],

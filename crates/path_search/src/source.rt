@@ -1,9 +1,10 @@
 //! Where the search takes words and connection costs from.
 
-ghost use Rattle.std.specs.Prelude.{◌≡◌, ◌<◌, List, length, slice_get, OnOk, OnErr, Some};
+ghost use Rattle.std.specs.Prelude.{◌≡◌, ◌<◌, List, length, slice_get, IsTrue, OnOk, OnErr, Some};
 ghost use Rattle.mj_model.specs.declared.word.Word.{Word};
 ghost use Rattle.mj_model.specs.Lists.{GrowsBy};
 ghost use Rattle.paths.specs.Surfaces.{IsWhole};
+ghost use Rattle.path_search.specs.Alike.{AreAlike};
 ghost use Rattle.path_search.specs.SearchedText.{AreRunsOf, AreSurfacesAt, SearchedText};
 
 use mj_model::Word;
@@ -51,6 +52,15 @@ pub trait WordSource {
     fn word(&self, words: &Self::Words, i: u32) -> Word
         requires { i < length (words_in words.now) }
         ensures { slice_get (words_in words.now) i ≡ Some result };
+
+    /// Whether the words of two surfaces are known to be alike: word by word they have the same ids and the same cost. What was searched
+    /// for those of one is then not searched again for those of the other.
+    fn are_alike(&self, one: &Surface, other: &Surface) -> bool
+        ensures { IsTrue result → AreAlike ((says self.now).surface_words one.now)
+            ((says self.now).surface_words other.now) }
+    {
+        false
+    }
 
     fn connection_cost(&self, right: u16, left: u16) -> i16
         requires { (says self.now).is_pair right left }

@@ -1,9 +1,11 @@
-use Rattle.std.proofs.Common.{arith, ◌≡◌, ℕ, suc, ◌+◌, ◌<◌, ◌++◌, List, [], ◌∷◌, Some, length, get_or, set, take, drop, refl, sym, subst, ap, ◌∙◌, slice_get}
+use Rattle.std.proofs.Common.{arith, ◌≡◌, ℕ, suc, ◌+◌, ◌<◌, ◌++◌, List, [], ◌∷◌, Some, length, get_or, reverse, set, take, drop, refl, sym, subst, ap, ◌∙◌, slice_get}
 use Rattle.std.proofs.lemmas.List.{length-set, length_push, take_at}
-use Rattle.std.proofs.lemmas.Option.{slice_get-get_or, slice_get_read}
+use Rattle.std.proofs.lemmas.Option.{same_Some, slice_get-get_or, slice_get_read, slice_get_within}
 use Rattle.path_search.specs.declared.node.Bundle.{Bundle}
 use Rattle.path_search.specs.Thinned.{AreBestEnds}
-use Rattle.path_search.specs.Nodes.{AreLinked, AreBundles, HaveRights, Node, node_words}
+use Rattle.mj_model.specs.declared.word.Word.{Word}
+use Rattle.paths.specs.declared.surface.Surface.{Surface}
+use Rattle.path_search.specs.Nodes.{AreLinked, AreBundles, HaveRights, Node, bundle_words, node_words}
 use Rattle.path_search.specs.SearchedText.{IsLatticeOf, nodes_in, words_before}
 use Rattle.path_search.proofs.Links.{links_on}
 use Rattle.path_search.proofs.BundleNodes.{nodes_stay, rights_stay, bundles_push, words_push}
@@ -50,6 +52,25 @@ add_words-requires-clause-next g c =
       words = ap (node_words t.surface_words) bundles_now ∙ words_push t.surface_words nodes.bundles.items bundle;
       none_yet = kept.all;
     }
+
+pub add_words-requires-clause-follows : goal.add_words-requires-clause-follows
+add_words-requires-clause-follows g c =
+    let t = g.S.WordSource.says c.args.source.now in
+    let nodes = c.args.nodes.now in
+    let surfaces = c.args.self.now.surfaces.now in
+    let s = get_or surfaces c.args.number no_surface in
+    let bundle : Bundle = record { surface = s; from = c.len.result; next = c.index.result.now } in
+    let bundles_now : c.deref.result.now ≡ nodes.bundles.items ++ bundle ∷ [] = c.deref.ensures.value ∙ c.in_ok-add_bundle.ensures.bundles in
+    λ next surface at_next at_surface.
+    let behind = c.requires.behind (slice_get_within surfaces (c.args.number + 1) next at_next) in
+    let its : behind.surface ≡ next = same_Some behind.surface next (sym behind.here ∙ at_next) in
+    let mine : s ≡ surface = same_Some s surface (sym (slice_get-get_or surfaces c.args.number no_surface c.requires.number) ∙ at_surface) in (
+      behind.before,
+      ap (node_words t.surface_words) bundles_now ∙ words_push t.surface_words nodes.bundles.items bundle
+          ∙ ap (λ (ws : List Word). ws ++ bundle_words t.surface_words bundle) behind.words
+          ∙ ap (λ (x : Surface). (behind.before ++ reverse (t.surface_words x)) ++ reverse (t.surface_words s)) its
+          ∙ ap (λ (x : Surface). (behind.before ++ reverse (t.surface_words next)) ++ reverse (t.surface_words x)) mine,
+    )
 
 pub add_words-requires-clause-rights : goal.add_words-requires-clause-rights
 add_words-requires-clause-rights g c =
@@ -116,4 +137,18 @@ returns-clause-kept g c =
       rights = subst (λ (rs : List Bundle). HaveRights (node_words t.surface_words rs) c.add_words.new.backs.items) c.deref.ensures.value c.in_ok-add_words.ensures.rights;
       linked = subst (λ (rs : List Bundle). AreLinked rs (take nodes.heads.len (c.add_bundle.new.heads ++ drop (length c.add_bundle.new.heads) heads))) (sym c.in_ok-add_bundle.ensures.bundles) (subst (λ (hs : List ℕ). AreLinked (nodes.bundles.items ++ bundle ∷ []) hs) (sym heads_now) linked);
       places = places;
+    }
+
+pub returns-clause-behind : goal.returns-clause-behind
+returns-clause-behind g c =
+    let t = g.S.WordSource.says c.args.source.now in
+    let nodes = c.args.nodes.now in
+    let surfaces = c.args.self.now.surfaces.now in
+    let s = get_or surfaces c.args.number no_surface in
+    let bundle : Bundle = record { surface = s; from = c.len.result; next = c.index.result.now } in
+    record {
+      surface = s;
+      here = slice_get-get_or surfaces c.args.number no_surface c.requires.number;
+      before = node_words t.surface_words nodes.bundles.items;
+      words = ap (node_words t.surface_words) c.in_ok-add_bundle.ensures.bundles ∙ words_push t.surface_words nodes.bundles.items bundle;
     }

@@ -7,7 +7,7 @@ use Rattle.path_search.specs.Nodes.{node_words}
 use Rattle.path_search.specs.SearchedText.{IsLatticeOf, nodes_in, words_before}
 use Rattle.path_search.proofs.BundleNodes.{next_word}
 use Rattle.path_search.proofs.WordNumbers.{count_at, next_surface, no_surface, whole_at, word_at}
-use Rattle.path_search.proofs.place.Place.add_words.Goals as goal
+use Rattle.path_search.proofs.place.Place.add_new_words.Goals as goal
 
 pub loop-i-init : goal.loop-i-init
 loop-i-init g c =

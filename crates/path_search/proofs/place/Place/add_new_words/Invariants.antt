@@ -3,7 +3,7 @@ use Rattle.path_search.specs.Ends.{AreLeast}
 use Rattle.path_search.specs.Nodes.{HaveRights, node_words}
 use Rattle.path_search.specs.SearchedText.{IsLatticeOf, nodes_in, word_count, words_before}
 use Rattle.path_search.specs.Thinned.{AreBestEnds}
-use Rattle.path_search.proofs.place.Place.add_words.Given as goal
+use Rattle.path_search.proofs.place.Place.add_new_words.Given as goal
 
 -- the nodes of the words from the i-th on were added
 abbrev pub invariant-loop-i : goal.invariant-loop-i
