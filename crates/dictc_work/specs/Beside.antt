@@ -19,3 +19,7 @@ abbrev pub IsFaultBeside : Beside → Bor (List (Bor (List ℕ))) → SourceFaul
 IsFaultBeside (Definitions matrix chars unk) lexicons fault =
     IsCompilationFault (record { matrix = matrix; chars = chars; unk = unk; lexicons = lexicons }) fault
 IsFaultBeside (System dict) lexicons fault = IsUserFault (image_tables dict.now) (lexicons_of lexicons.now) fault
+
+-- no fault is such
+abbrev pub NoFaultIs : (SourceFault → Type 0) → Type 0
+NoFaultIs IsOne = (fault : SourceFault) → IsOne fault → ⊥

@@ -4,8 +4,9 @@ use Rattle.std.specs.List.Sorted.{IsPermutation, IsSortedBy}
 use Rattle.std.specs.Ordering.{int_cmp, is_lt, nat_cmp, ordering_then}
 use Rattle.dict_image.specs.declared.entry_ref.EntryRef.{EntryRef}
 use Rattle.dict_image.specs.declared.ids_and_cost.IdsAndCost.{IdsAndCost}
-use Rattle.dictc_work.specs.Templates.{Fits}
+use Rattle.dictc_work.specs.Templates.{Fits, fields_of}
 use Rattle.dictc_work.specs.declared.ids.pair_row.PairRow.{PairRow}
+use Rattle.dictc_work.specs.declared.ids.template.Template.{Template}
 
 -- ---- entries that fit
 
@@ -18,6 +19,10 @@ AreFitting template [] fitting = fitting ≡ []
 AreFitting template (entry ∷ entries) fitting =
     (Fits template entry.feature.now × (rest : List IdsAndCost) × (fitting ≡ ids_of entry ∷ rest) × AreFitting template entries rest)
     ⊎ ((Fits template entry.feature.now → ⊥) × AreFitting template entries fitting)
+
+-- of these entries a template finds those, in their order
+abbrev pub AreFoundBy : Template → List EntryRef → List IdsAndCost → Type 0
+AreFoundBy template entries found = AreFitting (fields_of template) entries found
 
 -- one more entry joins those that fit, if it does
 abbrev pub AddsFitting : List (List ℕ) → EntryRef → List IdsAndCost → List IdsAndCost → Type 0

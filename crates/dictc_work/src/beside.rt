@@ -3,10 +3,9 @@
 ghost use Rattle.std.specs.Prelude.{◌≡◌, None, IfSome};
 ghost use Rattle.image_bytes.specs.ImageMeaning.{image_tables};
 ghost use Rattle.mj_model.specs.FirstFault.{IsRefusal};
-ghost use Rattle.mj_model.specs.declared.source_fault.SourceFault.{SourceFault as FaultOf};
 ghost use Rattle.dict_compile.specs.Answers.{lexicons_of};
 ghost use Rattle.dict_compile.specs.Compilation.{IsCompilationCause, IsCompilationFault, IsUserCause, IsUserFault};
-ghost use Rattle.dictc_work.specs.Beside.{IsCauseBeside, IsFaultBeside};
+ghost use Rattle.dictc_work.specs.Beside.{IsCauseBeside, IsFaultBeside, NoFaultIs};
 
 use dict_compile::{CompileUserFault, compile, compile_user};
 use dict_image::Dict;
@@ -31,7 +30,7 @@ impl Beside<'_> {
     pub(crate) fn first_fault(self, alloc: Global, lexicons: &[&[u8]]) -> Option<SourceFault>
         ensures cause { IfSome result
             (λ fault. IsRefusal fault (IsCauseBeside self.entry lexicons.entry fault)) }
-        ensures none { result ≡ None → (fault : FaultOf) → IsFaultBeside self.entry lexicons.entry fault → ⊥ }
+        ensures none { result ≡ None → NoFaultIs (IsFaultBeside self.entry lexicons.entry) }
     {
         match self {
             Beside::Definitions { matrix, chars, unk } => {
@@ -52,7 +51,7 @@ impl Beside<'_> {
 fn fault_of_sources(alloc: Global, sources: &Sources<'_>) -> Option<SourceFault>
     ensures cause { IfSome result
         (λ fault. IsRefusal fault (IsCompilationCause sources.now fault)) }
-    ensures none { result ≡ None → (fault : FaultOf) → IsCompilationFault sources.now fault → ⊥ }
+    ensures none { result ≡ None → NoFaultIs (IsCompilationFault sources.now) }
 {
     match compile(alloc, sources) {
         Ok(_compiled) => None,
@@ -64,8 +63,8 @@ fn fault_of_sources(alloc: Global, sources: &Sources<'_>) -> Option<SourceFault>
 fn fault_for_system(alloc: Global, system: &Dict, lexicons: &[&[u8]]) -> Option<SourceFault>
     ensures cause { IfSome result (λ fault. IsRefusal fault
         (IsUserCause (image_tables system.now) (lexicons_of lexicons.now) fault)) }
-    ensures none { result ≡ None → (fault : FaultOf)
-        → IsUserFault (image_tables system.now) (lexicons_of lexicons.now) fault → ⊥ }
+    ensures none { result ≡ None
+        → NoFaultIs (IsUserFault (image_tables system.now) (lexicons_of lexicons.now)) }
 {
     let fault = match compile_user(alloc, system, lexicons) {
         Ok(_compiled) => return None,

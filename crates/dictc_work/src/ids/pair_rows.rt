@@ -1,7 +1,7 @@
 //! The rows of the entries that fit a part of speech.
 
 ghost use Rattle.std.specs.Prelude.{◌<◌, ◌≤◌, length, IfOk, take, drop};
-ghost use Rattle.dictc_work.specs.PairRows.{AddsFitting, AreFitting, AreOfPair, AreRows, AreRowsOf, BeginsOtherPair, IsFirstRow};
+ghost use Rattle.dictc_work.specs.PairRows.{AddsFitting, AreFoundBy, AreOfPair, AreRows, AreRowsOf, BeginsOtherPair, IsFirstRow};
 ghost use Rattle.dictc_work.specs.Templates.{fields_of};
 
 use super::pair_row::PairRow;
@@ -31,7 +31,7 @@ fn fitting_entries(
     template: &Template,
     entries: &[EntryRef<'_>],
 ) -> Result<Vec<IdsAndCost>, AllocError>
-    ensures { IfOk result (λ fitting. AreFitting (fields_of template.now) entries.now fitting.items) }
+    ensures { IfOk result (λ fitting. AreFoundBy template.now entries.now fitting.items) }
 {
     let mut room = Vec::new(alloc);
     let mut fitting = Vec::new(alloc);
