@@ -7,3 +7,4 @@ pub mod Dot
 pub mod LatticesOfLines
 pub mod Sheets
 pub mod PrintedLattices
+pub mod OneLattice

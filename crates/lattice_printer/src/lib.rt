@@ -4,6 +4,7 @@
 mod dot;
 mod escapes;
 mod format;
+pub mod laws;
 mod marked_node;
 mod piece;
 mod printer;
