@@ -2,6 +2,7 @@
 #![tactic(auto)]
 
 mod cut_line;
+pub mod laws;
 mod printer;
 mod rivals;
 mod rows;
