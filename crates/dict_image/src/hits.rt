@@ -4,7 +4,7 @@ ghost use Rattle.std.specs.List.{AllByRecursion};
 ghost use Rattle.std.specs.Iterator.{YieldsFirstBy, item_count};
 ghost use Rattle.cell_walk.specs.Reads.{walk_reads};
 ghost use Rattle.cell_walk.specs.Walking.{walked_to};
-ghost use Rattle.image_bytes.specs.ImageBytes.{header_of, section as section_of};
+ghost use Rattle.image_bytes.specs.ImageBytes.{header_of};
 ghost use Rattle.image_bytes.specs.ImageMeaning.{image_tables, lexicon_sections};
 ghost use Rattle.dict_image.specs.KeyHits.{hits_seen};
 ghost use Rattle.dict_image.specs.ImageKeys.{cells_of_keys};
