@@ -14,6 +14,10 @@ use Rattle.image_writer.specs.Sections.{IsTooLarge}
 abbrev pub IsWriterFault : SourceKind → Type 0
 IsWriterFault fault = (fault ≡ Memory) ⊎ (fault ≡ ArrayFull) ⊎ (fault ≡ FeaturesTooLarge)
 
+-- memory was refused, or the features have no room; no other fault is one of tokens and features
+abbrev pub IsTokenFault : SourceKind → Type 0
+IsTokenFault fault = (fault ≡ Memory) ⊎ (fault ≡ FeaturesTooLarge)
+
 -- a refused insertion, as a fault of sources
 abbrev pub kind_of : DaFault → SourceKind
 kind_of Full = ArrayFull

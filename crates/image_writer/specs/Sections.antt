@@ -94,6 +94,10 @@ pub record IsNextUse (texts : List (List ℕ)) (text : List ℕ) (first : ℕ) :
   pub there : first < length texts → slice_get texts first ≡ Some text
   pub new : length texts ≤ first → list_any (bytes_eq text) texts ≡ false
 
+-- a fact of whatever texts the store has, of which this is the next use
+abbrev pub OnNextUse : FeatureStore → List ℕ → ℕ → (List (List ℕ) → Type 0) → Type 0
+OnNextUse store text first IsFact = (texts : List (List ℕ)) → HoldsTexts texts store → IsNextUse texts text first → IsFact texts
+
 -- a store has the bytes of one more text, at this place, and keeps the bytes before
 pub record IsPlaced (texts : List (List ℕ)) (text : List ℕ) (old new : FeatureStore) (place : FeaturePlace) : Type 0 where
   pub bytes : features_in new ≡ concat (each_once (texts ++ text ∷ []))

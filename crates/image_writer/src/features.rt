@@ -1,8 +1,7 @@
 //! The features of a lexicon, each once.
-ghost use Rattle.std.specs.Prelude.{◌≡◌, ◌≢◌, ◌<◌, ℕ, ◌++◌, ◌∷◌, [], List, length, slice_get, IfOk, IfErr, OnOk};
+ghost use Rattle.std.specs.Prelude.{◌≡◌, ◌<◌, ◌++◌, ◌∷◌, [], length, slice_get, IfOk, IfErr, OnOk};
 ghost use Rattle.image_bytes.specs.ImageBounds.{feature_bytes_end};
 ghost use Rattle.image_writer.specs.Places.{joined_texts};
-ghost use Rattle.mj_model.specs.declared.source_fault.SourceKind.TheVariants.{ArrayFull, FeaturesTooLarge};
 
 use crate::feature_place::FeaturePlace;
 use image_bytes::FEATURE_BYTES_END;
@@ -22,8 +21,8 @@ pub(crate) struct FeatureStore<'a> {
 }
 
 impl<'a> FeatureStore<'a> {
-    ghost use Rattle.image_writer.specs.Refusals.{IsWriterFault, LargeOnlyOf, LargeOnlyWith};
-    ghost use Rattle.image_writer.specs.Sections.{HoldsTexts, HoldsOneMore, IsNextUse, IsPlaced, features_in, place_behind};
+    ghost use Rattle.image_writer.specs.Refusals.{IsTokenFault, LargeOnlyOf, LargeOnlyWith};
+    ghost use Rattle.image_writer.specs.Sections.{HoldsTexts, HoldsOneMore, IsPlaced, OnNextUse, features_in, place_behind};
 
     /// No features, and room for those of so many entries.
     pub(crate) fn new(alloc: Global, entries: usize) -> Result<FeatureStore<'a>, AllocError>
@@ -42,14 +41,11 @@ impl<'a> FeatureStore<'a> {
         feature: &'a str,
         first: usize,
     ) -> Result<FeaturePlace, SourceKind>
-        ensures place { (texts : List (List ℕ)) → HoldsTexts texts self.old
-            → IsNextUse texts feature.now first
-            → IfOk result (HoldsOneMore texts feature.now self.old self.new) }
-        ensures large { (texts : List (List ℕ)) → HoldsTexts texts self.old
-            → IsNextUse texts feature.now first
-            → IfErr result (LargeOnlyOf (texts ++ feature.now ∷ [])) }
-        ensures never_full { IfErr result (λ fault. fault ≢ ArrayFull) }
-        ensures kinds { IfErr result IsWriterFault }
+        ensures place { OnNextUse self.old feature.now first (λ texts.
+            IfOk result (HoldsOneMore texts feature.now self.old self.new)) }
+        ensures large { OnNextUse self.old feature.now first (λ texts.
+            IfErr result (LargeOnlyOf (texts ++ feature.now ∷ []))) }
+        ensures kinds { IfErr result IsTokenFault }
     {
         let place = self.found_or_added(feature, first)?;
         self.places.push(place)?;
@@ -58,14 +54,11 @@ impl<'a> FeatureStore<'a> {
 
     /// The same place, which is not noted yet. A feature that no entry before has is added at the end.
     fn found_or_added(&mut self, feature: &'a str, first: usize) -> Result<FeaturePlace, SourceKind>
-        ensures place { (texts : List (List ℕ)) → HoldsTexts texts self.old
-            → IsNextUse texts feature.now first
-            → IfOk result (IsPlaced texts feature.now self.old self.new) }
-        ensures large { (texts : List (List ℕ)) → HoldsTexts texts self.old
-            → IsNextUse texts feature.now first
-            → IfErr result (LargeOnlyOf (texts ++ feature.now ∷ [])) }
-        ensures never_full { IfErr result (λ fault. fault ≢ ArrayFull) }
-        ensures kinds { IfErr result IsWriterFault }
+        ensures place { OnNextUse self.old feature.now first (λ texts.
+            IfOk result (IsPlaced texts feature.now self.old self.new)) }
+        ensures large { OnNextUse self.old feature.now first (λ texts.
+            IfErr result (LargeOnlyOf (texts ++ feature.now ∷ []))) }
+        ensures kinds { IfErr result IsTokenFault }
     {
         match known_place(&self.places, first) {
             Some(place) => Ok(place),
@@ -80,8 +73,7 @@ impl<'a> FeatureStore<'a> {
             ≡ place_behind (features_in self.old) feature.now) }
         ensures kept { self.new.places.items ≡ self.old.places.items }
         ensures large { IfErr result (LargeOnlyWith (features_in self.old) feature.now) }
-        ensures never_full { IfErr result (λ fault. fault ≢ ArrayFull) }
-        ensures kinds { IfErr result IsWriterFault }
+        ensures kinds { IfErr result IsTokenFault }
     {
         if feature.len() >= FEATURE_BYTES_END - self.size {
             return Err(SourceKind::FeaturesTooLarge);

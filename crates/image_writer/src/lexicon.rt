@@ -1,11 +1,10 @@
 //! The sections of an image that hold a lexicon.
-ghost use Rattle.std.specs.Prelude.{◌≡◌, ◌≢◌, List, [], IfOk, IfErr, OnOk};
+ghost use Rattle.std.specs.Prelude.{◌≡◌, List, [], IfOk, IfErr, OnOk};
 ghost use Rattle.mj_model.specs.Lexicon.{Row};
 ghost use Rattle.image_writer.specs.Entries.{all_rows};
-ghost use Rattle.image_writer.specs.Refusals.{FullOnlyFor, IsWriterFault, LargeOnlyFor};
+ghost use Rattle.image_writer.specs.Refusals.{FullOnlyFor, IsTokenFault, IsWriterFault, LargeOnlyFor};
 ghost use Rattle.image_writer.specs.FirstUses.{AreNumbered, features_used};
 ghost use Rattle.image_writer.specs.Sections.{AreKeyBytes, AreSections, AreTokenBytes, AreWritten, features_of};
-ghost use Rattle.mj_model.specs.declared.source_fault.SourceKind.TheVariants.{ArrayFull};
 
 use crate::feature_use::FeatureUse;
 use crate::first_uses::{append_uses, first_uses};
@@ -108,8 +107,7 @@ fn add_unknown<'a>(writer: &mut TokenWriter<'a>, unknown: &UnkTable<'a>) -> Resu
         writer.new) }
     ensures large { (rows : List Row) → AreWritten (all_rows rows unknown.now) rows writer.old
         → IfErr result (LargeOnlyFor (all_rows rows unknown.now)) }
-    ensures never_full { IfErr result (λ fault. fault ≢ ArrayFull) }
-    ensures kinds { IfErr result IsWriterFault }
+    ensures kinds { IfErr result IsTokenFault }
 {
     for category in 0..unknown.count() {
         writer.add_all(unknown.lines(category))?;

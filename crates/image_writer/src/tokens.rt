@@ -1,11 +1,10 @@
 //! The tokens of entries, and their features.
-ghost use Rattle.std.specs.Prelude.{◌≡◌, ◌≢◌, ◌++◌, ◌∷◌, [], List, length, slice_index_or, IfOk, IfErr, OnOk};
+ghost use Rattle.std.specs.Prelude.{◌≡◌, ◌++◌, ◌∷◌, [], List, length, slice_index_or, IfOk, IfErr, OnOk};
 ghost use Rattle.mj_model.specs.Lexicon.{Row, row_of, rows_of};
 ghost use Rattle.image_writer.specs.FirstUses.{AreFirstUses};
 ghost use Rattle.image_writer.specs.Sections.{AreTokenBytes, AreWritten, features_of};
-ghost use Rattle.image_writer.specs.Refusals.{IsWriterFault, LargeOnlyFor};
+ghost use Rattle.image_writer.specs.Refusals.{IsTokenFault, LargeOnlyFor};
 ghost use Rattle.image_writer.specs.TokenBytes.{FitsBytes, stored_bytes, stored_with};
-ghost use Rattle.mj_model.specs.declared.source_fault.SourceKind.TheVariants.{ArrayFull};
 
 use crate::feature_place::FeaturePlace;
 use crate::features::FeatureStore;
@@ -44,8 +43,7 @@ impl<'a> TokenWriter<'a> {
             → OnOk result (AreWritten all (rows ++ rows_of records.now) self.new) }
         ensures large { (all rows rest : List Row) → all ≡ (rows ++ rows_of records.now) ++ rest
             → AreWritten all rows self.old → IfErr result (LargeOnlyFor all) }
-        ensures never_full { IfErr result (λ fault. fault ≢ ArrayFull) }
-        ensures kinds { IfErr result IsWriterFault }
+        ensures kinds { IfErr result IsTokenFault }
     {
         for record in records {
             self.add(record)?;
@@ -60,8 +58,7 @@ impl<'a> TokenWriter<'a> {
             → OnOk result (AreWritten all (rows ++ row_of row.now ∷ []) self.new) }
         ensures large { (all rows rest : List Row) → all ≡ (rows ++ row_of row.now ∷ []) ++ rest
             → AreWritten all rows self.old → IfErr result (LargeOnlyFor all) }
-        ensures never_full { IfErr result (λ fault. fault ≢ ArrayFull) }
-        ensures kinds { IfErr result IsWriterFault }
+        ensures kinds { IfErr result IsTokenFault }
     {
         let entry = &row.entry;
         let number = self.features.places.len();

@@ -4,6 +4,7 @@ use Rattle.mj_model.specs.Lexicon.{Row, rows_of}
 use Rattle.image_writer.specs.Entries.{all_rows}
 use Rattle.image_writer.specs.FirstUses.{AreFirstUses}
 use Rattle.image_writer.specs.Sections.{AreWritten}
+use Rattle.image_writer.proofs.RefusalLemmas.{is_not_full, is_writer_fault}
 use Rattle.image_writer.proofs.Results.{passed_on}
 use Rattle.image_writer.proofs.lexicon.write_lexicon.Goals as goal
 
@@ -38,3 +39,15 @@ returns-clause-sections c =
     let begun = c.in_ok-writer.ensures all (subst (λ (texts : List (List ℕ)). AreFirstUses texts c.in_ok-firsts.firsts.items) c.in_ok-uses.ensures.features c.in_ok-firsts.ensures) in
     let known = subst (λ (rs : List Row). AreWritten all rs c.add_all.new.self) c.records.ensures.rows (c.in_ok-add_all.ensures.written all [] rest parts begun) in
     c.sections.ensures rows unknown c.in_ok-keys.ensures.keys (c.into_bytes.ensures all (c.in_ok-add_unknown.ensures.written rows known))
+
+pub returns-in_err-add_all-clause-full : goal.returns-in_err-add_all-clause-full
+returns-in_err-add_all-clause-full c = passed_on c.from_residual-in_err-add_all.result _ c.from_residual-in_err-add_all.ensures.1 (is_not_full c.args.lexicon.rows _ c.in_err-add_all.ensures.kinds)
+
+pub returns-in_err-add_all-clause-kinds : goal.returns-in_err-add_all-clause-kinds
+returns-in_err-add_all-clause-kinds c = passed_on c.from_residual-in_err-add_all.result _ c.from_residual-in_err-add_all.ensures.1 (is_writer_fault _ c.in_err-add_all.ensures.kinds)
+
+pub returns-in_err-add_unknown-clause-full : goal.returns-in_err-add_unknown-clause-full
+returns-in_err-add_unknown-clause-full c = passed_on c.from_residual-in_err-add_unknown.result _ c.from_residual-in_err-add_unknown.ensures.1 (is_not_full c.args.lexicon.rows _ c.in_err-add_unknown.ensures.kinds)
+
+pub returns-in_err-add_unknown-clause-kinds : goal.returns-in_err-add_unknown-clause-kinds
+returns-in_err-add_unknown-clause-kinds c = passed_on c.from_residual-in_err-add_unknown.result _ c.from_residual-in_err-add_unknown.ensures.1 (is_writer_fault _ c.in_err-add_unknown.ensures.kinds)

@@ -3,6 +3,7 @@ use Rattle.mj_model.specs.Lexicon.{Row, rows_of}
 use Rattle.image_writer.specs.declared.feature_use.FeatureUse.{FeatureUse}
 use Rattle.image_writer.specs.FirstUses.{AreFirstUses, features_used}
 use Rattle.image_writer.specs.Sections.{AreTokenBytes, AreWritten, features_of}
+use Rattle.image_writer.proofs.RefusalLemmas.{is_not_full, is_writer_fault}
 use Rattle.image_writer.proofs.Results.{passed_on}
 use Rattle.image_writer.proofs.lexicon.write_user_lexicon.Goals as goal
 
@@ -25,3 +26,9 @@ returns-clause-sections c =
     let written = subst (λ (rs : List Row). AreWritten rows rs c.add_all.new.self) c.records-records.ensures.rows (c.in_ok-add_all.ensures.written rows [] [] parts begun) in
     c.sections.ensures rows [] c.in_ok-keys.ensures.keys
     (subst (λ (rs : List Row). AreTokenBytes rs c.into_bytes.result) (sym (append-nil rows)) (c.into_bytes.ensures rows written))
+
+pub returns-in_err-add_all-clause-full : goal.returns-in_err-add_all-clause-full
+returns-in_err-add_all-clause-full c = passed_on c.from_residual-in_err-add_all.result _ c.from_residual-in_err-add_all.ensures.1 (is_not_full c.args.lexicon.rows _ c.in_err-add_all.ensures.kinds)
+
+pub returns-in_err-add_all-clause-kinds : goal.returns-in_err-add_all-clause-kinds
+returns-in_err-add_all-clause-kinds c = passed_on c.from_residual-in_err-add_all.result _ c.from_residual-in_err-add_all.ensures.1 (is_writer_fault _ c.in_err-add_all.ensures.kinds)
