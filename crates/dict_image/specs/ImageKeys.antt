@@ -1,5 +1,6 @@
 -- The keys of an image, by its bytes.
-use Rattle.std.specs.Prelude.{ℕ, List, Option}
+use Rattle.std.specs.Prelude.{ℕ, ◌<◌, List, Option}
+use Rattle.std.specs.List.{AllByRecursion}
 use Rattle.cell_walk.specs.CellMap.{Cell}
 use Rattle.image_bytes.specs.ImageBytes.{header_of, section}
 use Rattle.image_bytes.specs.ImageMeaning.{group_in}
@@ -20,6 +21,10 @@ group_under bytes key = group_in (key_form (header_of bytes).layout) (header_of 
 -- the keys that begin a text, the shortest first: their lengths in bytes, and their groups
 abbrev pub hits_under : List ℕ → List ℕ → List (ℕ × ℕ)
 hits_under bytes text = hits_in (key_form (header_of bytes).layout) (header_of bytes).groups (section bytes 5) text
+
+-- keys are told with groups that the image has
+abbrev pub AreHitsIn : List ℕ → List (ℕ × ℕ) → Type 0
+AreHitsIn bytes hits = AllByRecursion (λ (hit : ℕ × ℕ). hit.1 < (header_of bytes).groups) hits
 
 -- the cells that are read to find keys
 abbrev pub cells_of_keys : List ℕ → List Cell

@@ -1,14 +1,12 @@
 //! The iterator over the surfaces that begin a text.
 ghost use Rattle.std.specs.Prelude.{◌≡◌, ◌+◌, ◌*◌, ◌<◌, ◌≤◌, [], length, map, option_map};
-ghost use Rattle.std.specs.List.{AllByRecursion};
-ghost use Rattle.std.specs.Iterator.{YieldsFirstBy, item_count};
 ghost use Rattle.cell_walk.specs.Reads.{walk_reads};
 ghost use Rattle.cell_walk.specs.Walking.{walked_to};
-ghost use Rattle.image_bytes.specs.ImageBytes.{header_of};
-ghost use Rattle.image_bytes.specs.ImageMeaning.{image_tables, lexicon_sections};
+ghost use Rattle.dict_image.specs.ImageKeys.{AreHitsIn, cells_of_keys};
 ghost use Rattle.dict_image.specs.KeyHits.{hits_seen};
-ghost use Rattle.dict_image.specs.ImageKeys.{cells_of_keys};
 ghost use Rattle.dict_image.specs.Prefixes.{prefix_in, prefixes_in};
+ghost use Rattle.image_bytes.specs.ImageMeaning.{image_tables, lexicon_sections};
+ghost use Rattle.std.specs.Iterator.{YieldsFirstBy, item_count};
 
 use crate::dict::Dict;
 use crate::entries::Entries;
@@ -25,9 +23,8 @@ pub struct Prefixes<'a> {
 }
 
 impl<'a> Model for Prefixes<'a> {
-    ghost use Rattle.std.specs.Prelude.{◌<◌, map};
-    ghost use Rattle.std.specs.List.{AllByRecursion};
-    ghost use Rattle.image_bytes.specs.ImageBytes.{header_of};
+    ghost use Rattle.std.specs.Prelude.{map};
+    ghost use Rattle.dict_image.specs.ImageKeys.{AreHitsIn};
     ghost use Rattle.dict_image.specs.KeyHits.{hits_seen};
     ghost use Rattle.dict_image.specs.Prefixes.{PrefixesSeen, prefix_in};
     ghost use Rattle.image_bytes.specs.ImageMeaning.{lexicon_sections};
@@ -41,8 +38,7 @@ impl<'a> Model for Prefixes<'a> {
       walked = (hits_seen it.hits).walked;
     } };
 
-    ghost invariant = { λ it. AllByRecursion
-        (λ hit. hit.1 < (header_of it.dict.now).groups) (hits_seen it.hits).hits };
+    ghost invariant = { λ it. AreHitsIn it.dict.now (hits_seen it.hits).hits };
 }
 
 impl<'a> Prefixes<'a> {
@@ -88,10 +84,8 @@ impl<'a> Iterator for Prefixes<'a> {
 /// The surface of the next hit.
 #[inline(always)]
 fn next_prefix<'a>(dict: &'a Dict, hits: &mut KeyHits<'a>) -> Option<(usize, Entries<'a>)>
-    requires groups { AllByRecursion (λ hit. hit.1 < (header_of dict.now).groups)
-        (hits_seen hits.old).hits }
-    ensures groups { AllByRecursion (λ hit. hit.1 < (header_of dict.now).groups)
-        (hits_seen hits.new).hits }
+    requires groups { AreHitsIn dict.now (hits_seen hits.old).hits }
+    ensures groups { AreHitsIn dict.now (hits_seen hits.new).hits }
     ensures prefixes { YieldsFirstBy (λ prefix. (prefix.0, prefix.1))
         (λ it. map (prefix_in (lexicon_sections dict.now)) (hits_seen it).hits)
         hits.old result hits.new }
