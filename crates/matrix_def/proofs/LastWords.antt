@@ -37,7 +37,7 @@ split_at_blank (c ∷ cs) more b blank =
           ∙ sym (ap (λ (parts : List (List ℕ)). parts ++ behind) (slice_split-cons_no is_blank c cs inside))
     ]
 
-words_at_blank : (front more : List ℕ) (b : ℕ) → is_blank b ≡ true → words_of (front ++ b ∷ more) ≡ words_of front ++ words_of more
+pub words_at_blank : (front more : List ℕ) (b : ℕ) → is_blank b ≡ true → words_of (front ++ b ∷ more) ≡ words_of front ++ words_of more
 words_at_blank front more b blank =
     ap (filter (λ word. nat_lt 0 (length word))) (split_at_blank front more b blank) ∙ filter-append (λ word. nat_lt 0 (length word)) (slice_split is_blank front) (slice_split is_blank more)
 
@@ -138,6 +138,12 @@ filled front more c cs plain =
 
 line_words : (front more : List ℕ) (c : ℕ) (cs : List ℕ) → IsClosed front → HasNoBlank (c ∷ cs) → words_of (front ++ ((c ∷ cs) ++ more)) ≡ words_of front ++ ((c ∷ cs) ++ in_word more) ∷ words_of (behind_word more)
 line_words front more c cs closed plain = words_behind front ((c ∷ cs) ++ more) closed ∙ ap (λ (ws : List (List ℕ)). words_of front ++ ws) (word_goes_on c cs more plain)
+
+-- a last word
+pub words_after : (front : List ℕ) (c : ℕ) (cs : List ℕ) → IsClosed front → HasNoBlank (c ∷ cs) → words_of (front ++ c ∷ cs) ≡ words_of front ++ (c ∷ cs) ∷ []
+unfolding in_word behind_word
+words_after front c cs closed plain =
+    ap (λ (bs : List ℕ). words_of (front ++ bs)) (sym (append-nil (c ∷ cs))) ∙ line_words front [] c cs closed plain ∙ ap (λ (word : List ℕ). words_of front ++ word ∷ []) (append-nil (c ∷ cs))
 
 behind_three : (front : List ℕ) (c byte : ℕ) (cs more : List ℕ) → IsClosed front → HasNoBlank (c ∷ cs) → HasThree (words_of front)
     → SaysTheSame (front ++ ((c ∷ cs) ++ byte ∷ more)) (front ++ ((c ∷ cs) ++ more))

@@ -4,3 +4,4 @@ pub mod NearNumbers
 pub mod NumberLemmas
 pub mod ReadingLemmas
 pub mod RowLemmas
+pub mod BriefLemmas

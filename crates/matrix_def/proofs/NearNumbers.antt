@@ -16,16 +16,16 @@ use Rattle.lex_source.proofs.CutLemmas.{blanks_behind}
 use Rattle.matrix_def.specs.Held.{HasNoBlank, IsAgain, IsSettled, IsTooFar, near_number}
 
 -- a number within a range
-abbrev is_within : ℤ → ℤ → ℤ → Bool
+abbrev pub is_within : ℤ → ℤ → ℤ → Bool
 is_within low high z = int_le low z && int_le z high
 
-abbrev within : ℤ → ℤ → ℤ → Option ℤ
+abbrev pub within : ℤ → ℤ → ℤ → Option ℤ
 within low high z = cond (is_within low high z) (Some z) None
 
-abbrev is_near : ℤ → Bool
+abbrev pub is_near : ℤ → Bool
 is_near z = is_within (neg_ℤ (pos 65535)) (pos 65535) z
 
-abbrev near : ℤ → Option ℤ
+abbrev pub near : ℤ → Option ℤ
 near z = within (neg_ℤ (pos 65535)) (pos 65535) z
 
 -- ---- a narrower range
@@ -89,7 +89,7 @@ plain_number word plain =
     let all : take (length word) word ≡ word = take_all (length word) word (omega arith) in
     ap signed_number (sym (blanks_behind word (length word) (omega arith) (λ k low high. absurd (omega arith)) (λ some. no_blank_at word (length word - 1) plain (omega arith))) ∙ all)
 
-plain_near : (word : List ℕ) → HasNoBlank word → near_number word ≡ option_and_then near (signed_number word)
+pub plain_near : (word : List ℕ) → HasNoBlank word → near_number word ≡ option_and_then near (signed_number word)
 plain_near word plain = ap (option_and_then near) (plain_number word plain)
 
 plain-append : (word more : List ℕ) → HasNoBlank word → HasNoBlank more → HasNoBlank (word ++ more)
@@ -98,7 +98,7 @@ plain-append word more before behind = list_any-append is_blank word more ∙ or
 -- ---- a zero and one more
 
 -- a value with one more digit
-abbrev step : ℕ → ℕ → ℕ
+abbrev pub step : ℕ → ℕ → ℕ
 step value c = 10 * value + (c - 0x30)
 
 zero_again : (more : List ℕ) → unsigned_number (0x30 ∷ 0x30 ∷ more) ≡ unsigned_number (0x30 ∷ more)
@@ -135,7 +135,7 @@ settled_far word byte other far = λ more none.
 
 -- ---- more digits
 
-value_grows : (value : ℕ) (more : List ℕ) → value ≤ fold step value more
+pub value_grows : (value : ℕ) (more : List ℕ) → value ≤ fold step value more
 value_grows value [] = omega arith
 value_grows value (c ∷ cs) = let grown = value_grows (10 * value + (c - 0x30)) cs in omega (arith, grown)
 
@@ -145,18 +145,18 @@ digits_before (c ∷ cs) more all =
     let p = and_parts (is_ascii_digit c) (all_ascii_digits (cs ++ more)) all in
     and_from (is_ascii_digit c) (all_ascii_digits cs) p.0 (digits_before cs more p.1)
 
-unsigned_is : (ds : List ℕ) → 0 < length ds → all_ascii_digits ds ≡ true → unsigned_number ds ≡ Some (digits_value ds)
+pub unsigned_is : (ds : List ℕ) → 0 < length ds → all_ascii_digits ds ≡ true → unsigned_number ds ≡ Some (digits_value ds)
 unsigned_is ds some all = cond-true (nat_lt 0 (length ds) && all_ascii_digits ds) (Some (digits_value ds)) None (and_from (nat_lt 0 (length ds)) (all_ascii_digits ds) (lt-ltb 0 (length ds) some) all)
 
-unsigned_none : (ds : List ℕ) → all_ascii_digits ds ≡ false → unsigned_number ds ≡ None
+pub unsigned_none : (ds : List ℕ) → all_ascii_digits ds ≡ false → unsigned_number ds ≡ None
 unsigned_none ds bad = cond-false (nat_lt 0 (length ds) && all_ascii_digits ds) (Some (digits_value ds)) None (and_right (nat_lt 0 (length ds)) (all_ascii_digits ds) bad)
 
 -- a sign, by what is near under it
-record IsSign (f : ℕ → ℤ) : Type 0 where
-  low : (v : ℕ) → v ≤ 65535 → is_near (f v) ≡ true
-  high : (v : ℕ) → 65535 < v → is_near (f v) ≡ false
+pub record IsSign (f : ℕ → ℤ) : Type 0 where
+  pub low : (v : ℕ) → v ≤ 65535 → is_near (f v) ≡ true
+  pub high : (v : ℕ) → 65535 < v → is_near (f v) ≡ false
 
-above : IsSign pos
+pub above : IsSign pos
 above = record {
   low = λ v few. le-leb v 65535 few;
   high = λ v many. lt-leb v 65535 many;
@@ -170,7 +170,7 @@ below_high : (v : ℕ) → 65535 < v → is_near (neg_ℤ (pos v)) ≡ false
 below_high zero many = absurd (omega (arith, many))
 below_high (suc n) many = ap (λ (b : Bool). b && true) (lt-leb n 65534 (omega (arith, many)))
 
-below : IsSign (λ n. neg_ℤ (pos n))
+pub below : IsSign (λ n. neg_ℤ (pos n))
 below = record { low = below_low; high = below_high }
 
 stays_far : (f : ℕ → ℤ) (ds more : List ℕ) → IsSign f → 0 < length ds → option_and_then near (option_map f (unsigned_number ds)) ≡ None
@@ -237,3 +237,17 @@ far_below word z found plain long is same low = far_counted word z plain long is
 
 pub far_above : (word : List ℕ) (z found : ℤ) → HasNoBlank word → 1 < length word → number_in (neg_ℤ (pos 2147483648)) (pos 2147483647) word ≡ Some z → found ≡ z → lt_z (pos 65535) found ≡ true → IsTooFar word
 far_above word z found plain long is same high = far_counted word z plain long is (high_is_far z (ap (λ (x : ℤ). lt_z (pos 65535) x) (sym same) ∙ high))
+
+not_less : (a b : ℕ) → nat_lt a b ≡ false → b ≤ a
+not_less a b less_not = elim (cases_lt a b) [ inl less ↦ absurd (both_ways (nat_lt a b) less_not (lt-ltb a b less)) | inr other ↦ omega (arith, other) ]
+
+near_is : (z : ℤ) → lt_z z (negsuc 65534) ≡ false → lt_z (pos 65535) z ≡ false → is_near z ≡ true
+near_is (pos n) low high = le-leb n 65535 (not_less 65535 n high)
+near_is (negsuc n) low high = and_from (int_le (neg_ℤ (pos 65535)) (negsuc n)) true (le-leb n 65534 (not_less 65534 n low)) refl
+
+-- a word that is a number, and neither too low nor too high
+pub near_counted : (word : List ℕ) (z found : ℤ) → number_in (neg_ℤ (pos 2147483648)) (pos 2147483647) word ≡ Some z → found ≡ z → lt_z found (negsuc 65534) ≡ false → lt_z (pos 65535) found ≡ false
+    → near_number word ≡ Some z
+near_counted word z found is same low high =
+    let near_z : is_near z ≡ true = near_is z (ap (λ (x : ℤ). lt_z x (negsuc 65534)) (sym same) ∙ low) (ap (λ (x : ℤ). lt_z (pos 65535) x) (sym same) ∙ high) in
+    counted word ∙ ap (option_and_then near) is ∙ cond-true (is_near z) (Some z) None near_z

@@ -1,7 +1,8 @@
 //! `matrix.def`, read piece by piece.
-ghost use Rattle.std.specs.Prelude.{◌≡◌, ℕ, List, [], ◌∷◌, ◌++◌, Err, IfOk, IfErr};
+ghost use Rattle.std.specs.Prelude.{◌≡◌, ◌≤◌, ℕ, length, List, [], ◌∷◌, ◌++◌, Err, IfOk, IfErr};
 ghost use Rattle.mj_model.specs.Bytes.{line_feed};
 ghost use Rattle.mj_model.specs.FirstFault.{IsRefusal};
+ghost use Rattle.matrix_def.specs.Brief.{held_most};
 ghost use Rattle.matrix_def.specs.Costs.{IsTableIn};
 ghost use Rattle.matrix_def.specs.Reading.{HasNoFeed, HasRead, told_connection};
 
@@ -16,7 +17,7 @@ use std::marker::Model;
 /// Reads a `matrix.def` whose bytes come in pieces, of any lengths and cut anywhere.
 ///
 /// It keeps the table of costs, and of the line that did not end yet as many bytes as say the same: no more than three words and
-/// the beginning of a fourth, without further blanks, leading zeros and digits.
+/// the beginning of a fourth, without further blanks, leading zeros and digits: 29 bytes at most.
 #[derive(Drop)]
 pub struct MatrixReader {
     alloc: Global,
@@ -28,13 +29,14 @@ pub struct MatrixReader {
 }
 
 impl Model for MatrixReader {
+    ghost use Rattle.matrix_def.specs.Brief.{IsHeldBriefly};
     ghost use Rattle.matrix_def.specs.Reading.{HasNoFeed, ReaderSeen};
 
     ghost Value = { ReaderSeen };
 
     ghost view = { λ r. record { ended = r.ended; begun = r.begun.items; standing = r.standing } };
 
-    ghost invariant = { λ r. HasNoFeed r.begun.items };
+    ghost invariant = { λ r. HasNoFeed r.begun.items × IsHeldBriefly r.begun.items };
 }
 
 impl MatrixReader {
@@ -52,8 +54,10 @@ impl MatrixReader {
 
     /// After a further piece.
     pub fn read(self, piece: &[u8]) -> Result<MatrixReader, AllocError>
-        ensures { (bytes : List ℕ) → HasRead bytes self
+        ensures read { (bytes : List ℕ) → HasRead bytes self
             → IfOk result (HasRead (bytes ++ piece.now)) }
+        // However long a line is, few bytes are held of it.
+        ensures brief { IfOk result (λ reader. length reader.begun ≤ held_most) }
     {
         let mut reader = self;
         let mut rest = piece;
@@ -91,8 +95,9 @@ impl MatrixReader {
     /// After bytes of a line that does not end with them.
     fn read_begun(self, part: &[u8]) -> Result<MatrixReader, AllocError>
         requires { HasNoFeed part.now }
-        ensures { (bytes : List ℕ) → HasRead bytes self
+        ensures read { (bytes : List ℕ) → HasRead bytes self
             → IfOk result (HasRead (bytes ++ part.now)) }
+        ensures brief { IfOk result (λ reader. length reader.begun ≤ held_most) }
     {
         let MatrixReader {
             alloc,

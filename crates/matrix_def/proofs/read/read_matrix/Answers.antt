@@ -7,11 +7,11 @@ use Rattle.matrix_def.proofs.NumberLemmas.{told_refusal}
 use Rattle.matrix_def.proofs.read.read_matrix.Goals as goal
 
 pub returns-clause-accepted : goal.returns-clause-accepted
-returns-clause-accepted c = c.finish.ensures.accepted c.args.bytes.now (c.in_ok-read.ensures [] c.new.ensures)
+returns-clause-accepted c = c.finish.ensures.accepted c.args.bytes.now (c.in_ok-read.ensures.read [] c.new.ensures)
 
 pub returns-clause-refused : goal.returns-clause-refused
 returns-clause-refused c =
     let bytes = c.args.bytes.now in
     let short : length bytes < 2 ^ 64 = search rules in
     IfErr-weaker c.finish.result (λ fault. IsRefusal fault (told_connection bytes ≡ Err fault)) (λ fault. IsRefusal fault (connection_of bytes ≡ Err fault))
-    (λ fault h. told_refusal bytes fault short h) (c.finish.ensures.refused bytes (c.in_ok-read.ensures [] c.new.ensures))
+    (λ fault h. told_refusal bytes fault short h) (c.finish.ensures.refused bytes (c.in_ok-read.ensures.read [] c.new.ensures))

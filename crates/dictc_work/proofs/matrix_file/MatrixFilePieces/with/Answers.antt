@@ -12,7 +12,7 @@ returns c = λ bytes taken.
     let missing : c.min-missing.result ≡ min (3 - length c.args.self.first.items) (length piece) = search rules in
     let items : c.extend_from_slice.new.self.items ≡ c.args.self.first.items ++ take c.min-missing.result piece = search rules in
     record {
-      read = c.in_ok-read.ensures bytes taken.read;
+      read = c.in_ok-read.ensures.read bytes taken.read;
       counted = omega (arith, bytes_now, counted, length-append {A = ℕ});
       first =
           items ∙ ap (λ (before : List ℕ). before ++ take c.min-missing.result piece) taken.first

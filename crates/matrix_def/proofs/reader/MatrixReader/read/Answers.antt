@@ -19,9 +19,9 @@ loop-part-preserved c =
       λ bytes h. subst (λ (bs : List ℕ). HasRead bs c.in_ok-reader.reader) (parts_joined bytes done part) (c.in_ok-reader.ensures (bytes ++ done) (c.loop-part.invariant.2 bytes h)),
     )
 
-pub returns : goal.returns
-returns c = λ bytes h.
+pub returns-clause-read : goal.returns-clause-read
+returns-clause-read c = λ bytes h.
     let done : List ℕ = c.loop-part.invariant.0 in
     subst (λ (bs : List ℕ). IfOk c.read_begun.result (HasRead bs))
     (append_assoc bytes done c.loop-part.rest.now ∙ ap (λ (bs : List ℕ). bytes ++ bs) (sym c.loop-part.invariant.1))
-    (c.read_begun.ensures (bytes ++ done) (c.loop-part.invariant.2 bytes h))
+    (c.read_begun.ensures.read (bytes ++ done) (c.loop-part.invariant.2 bytes h))
