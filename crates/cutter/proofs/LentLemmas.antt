@@ -1,8 +1,8 @@
 -- What was cut last, as it is lent, its lattice, and features that were appended.
-use Rattle.std.proofs.Common.{◌≡◌, ℕ, ◌+◌, ◌<◌, ◌≤◌, List, [], ◌∷◌, ◌++◌, length, take, get_or, Some, subst, sym, ap, ◌∙◌, append_assoc, append-nil}
-use Rattle.std.specs.Prelude.{IsUtf8, Option}
+use Rattle.std.proofs.Common.{◌≡◌, ℕ, ◌+◌, ◌<◌, ◌≤◌, List, [], ◌∷◌, ◌++◌, length, take, drop, get_or, Some, refl, subst, sym, ap, ◌∙◌, append_assoc, append-nil, arith}
+use Rattle.std.specs.Prelude.{IsUtf8, OnErr, Option, Result, Ok, Err}
 use Rattle.std.specs.Option.{IsSomeAnd}
-use Rattle.std.proofs.lemmas.List.{take_more}
+use Rattle.std.proofs.lemmas.List.{length-append, take-append-drop, take_more}
 use Rattle.std.proofs.lemmas.List.Concat.{flat_map-append}
 use Rattle.mj_model.specs.declared.limits.TheConstants.{SENTENCE_MAX}
 use Rattle.mj_model.specs.declared.word.Word.{Word}
@@ -52,3 +52,19 @@ feature_more o words i d old now next feature low before here more =
     ap (features_of o) (take_more words i d low) ∙ flat_map-append (λ (v : Word). feature_of o v.origin) (take i words) (w ∷ [])
     ∙ ap (λ (bs : List ℕ). features_of o (take i words) ++ bs) (append-nil own) in
     more ∙ ap (λ (bs : List ℕ). now ++ bs) here ∙ ap (λ (bs : List ℕ). bs ++ own) before ∙ append_assoc old (features_of o (take i words)) own ∙ ap (λ (bs : List ℕ). old ++ bs) (sym ends)
+
+-- an output that has no room for the feature of the next word had none for those of all
+pub no_room_for_all : (o : Overlay) (words : List Word) (i : ℕ) (d : Word) (old now feature : List ℕ) (room before : ℕ) → i < length words → now ≡ old ++ features_of o (take i words)
+    → feature ≡ feature_of o (get_or words i d).origin → before ≤ room → room < length now + length feature → before < length old + length (features_of o words)
+no_room_for_all o words i d old now feature room before low now_is here grown full =
+    let front = take (i + 1) words in
+    let rest = drop (i + 1) words in
+    let next = feature_more o words i d old now (now ++ feature) feature low now_is here refl in
+    let all : features_of o words ≡ features_of o front ++ features_of o rest =
+    ap (features_of o) (sym (take-append-drop (i + 1) words)) ∙ flat_map-append (λ (w : Word). feature_of o w.origin) front rest in
+    omega (arith, grown, full, ap length next, length-append now feature, length-append old (features_of o front), ap length all, length-append (features_of o front) (features_of o rest))
+
+-- what holds anyway holds on an error
+pub on_err : {E : Type 0} (r : Result (Unit {0}) E) (P : Type 0) → P → OnErr r P
+on_err (Ok x) P p = tt
+on_err (Err e) P p = p

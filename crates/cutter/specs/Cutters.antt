@@ -1,5 +1,5 @@
 -- What a cutter holds, and what its cuts mean.
-use Rattle.std.specs.Prelude.{◌≡◌, ℕ, ℤ, ◌≤◌, List, ◌∷◌, [], ◌++◌, length, map, Option, Some, None, slice_get, IsUtf8}
+use Rattle.std.specs.Prelude.{◌≡◌, ℕ, ℤ, ◌+◌, ◌<◌, ◌≤◌, List, ◌∷◌, [], ◌++◌, length, map, Option, Some, None, slice_get, IsUtf8}
 use Rattle.std.specs.Option.{IsSomeAnd}
 use Rattle.image_bytes.specs.ImageMeaning.{image_tables}
 use Rattle.lattice.specs.declared.marking.MarkedLattice.{MarkedLattice}
@@ -94,6 +94,14 @@ IsLatticeOfCut h lattice c = IsMarkedOver (overlay_held h) c.text c.words lattic
 -- an output grows by the feature of the word with a number
 abbrev pub GrowsByFeature : Held → ℕ → List ℕ → List ℕ → Cut → Type 0
 GrowsByFeature h i old new c = IsSomeAnd (slice_get c.words i) (λ (w : Word). new ≡ old ++ feature_of (overlay_held h) w.origin)
+
+-- bytes behind which so many stand have no room in an output, which holds so many before more memory is asked for
+abbrev pub HasNoRoom : ℕ → ℕ → List ℕ → Type 0
+HasNoRoom capacity count bytes = capacity < count + length bytes
+
+-- so has the feature of the word with a number
+abbrev pub HasNoRoomForFeature : Held → ℕ → ℕ → ℕ → Cut → Type 0
+HasNoRoomForFeature h i capacity count c = IsSomeAnd (slice_get c.words i) (λ (w : Word). HasNoRoom capacity count (feature_of (overlay_held h) w.origin))
 
 -- the word with a number has this category as the first one of its first character
 abbrev pub HasCategory : Held → ℕ → ℕ → Cut → Type 0

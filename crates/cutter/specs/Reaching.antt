@@ -6,7 +6,7 @@ use Rattle.mj_model.specs.Tables.{Overlay}
 use Rattle.out_format.specs.Followable.{AreFollowable}
 use Rattle.out_format.specs.PrintedPaths.{cost_with_word}
 use Rattle.word_lookup.specs.Overlays.{overlay_of}
-use Rattle.cutter.specs.Cutters.{Cut, Held, overlay_held}
+use Rattle.cutter.specs.Cutters.{Cut, HasNoRoom, Held, overlay_held}
 use Rattle.cutter.specs.declared.last_words.LastWords.{LastWords}
 use Rattle.cutter.specs.declared.last_words.Reached.{Reached}
 
@@ -36,3 +36,7 @@ features_of o words = flat_map (λ (w : Word). feature_of o w.origin) words
 -- an output grows by the features of all words
 abbrev pub GrowsByFeatures : Held → List ℕ → List ℕ → Cut → Type 0
 GrowsByFeatures h old new c = new ≡ old ++ features_of (overlay_held h) c.words
+
+-- the features of all words have no room in an output
+abbrev pub HasNoRoomForFeatures : Held → ℕ → ℕ → Cut → Type 0
+HasNoRoomForFeatures h capacity count c = HasNoRoom capacity count (features_of (overlay_held h) c.words)

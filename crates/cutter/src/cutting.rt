@@ -1,11 +1,11 @@
 //! Lines and texts cut into words, and what is told of them.
 
-ghost use Rattle.std.specs.Prelude.{◌≡◌, ◌+◌, ◌<◌, ◌≤◌, ◌++◌, length, vec_capacity, vec_len, Some, IfOk, IfErr, OnOk, OnErr};
-ghost use Rattle.cutter.specs.Cutters.{GrowsByFeature, HasCategory, IsCutOver, IsLatticeOfCut, OfCut, ShowsCut, overlay_held};
+ghost use Rattle.std.specs.Prelude.{◌≡◌, ◌+◌, ◌<◌, ◌≤◌, ◌++◌, length, vec_capacity, vec_len, Some, Err, IfOk, IfErr, OnOk, OnErr};
+ghost use Rattle.cutter.specs.Cutters.{GrowsByFeature, HasCategory, HasNoRoomForFeature, IsCutOver, IsLatticeOfCut, OfCut, ShowsCut, overlay_held};
 ghost use Rattle.cutter.specs.Faults.{IsFeatureRefusal, IsLineRefusal, IsNothingCut, IsOneLine, IsPrintRefusal, IsTextRefusal, IsWordRefusal};
 ghost use Rattle.cutter.specs.Kept.{cut_lent};
 ghost use Rattle.cutter.specs.declared.fault.CutFault.TheVariants.{Memory};
-ghost use Rattle.cutter.specs.Reaching.{AreLast, GrowsByFeatures};
+ghost use Rattle.cutter.specs.Reaching.{AreLast, GrowsByFeatures, HasNoRoomForFeatures};
 ghost use Rattle.line_stream.specs.GoodLines.{IsGood};
 ghost use Rattle.mj_model.specs.Lists.{GrowsBy};
 ghost use Rattle.mj_model.specs.Printed.{feature_of};
@@ -103,11 +103,13 @@ impl Cutter {
         Ok(self.last_cut()?.1.total)
     }
 
-    /// Appends the feature of one of its words, counted from 0.
+    /// Appends the feature of one of its words, counted from 0. Memory is refused only where `out` has no room for it.
     pub fn append_feature(&self, i: usize, out: &mut Vec<u8>) -> Result<(), CutFault>
         ensures appended { OnOk result
             (OfCut self.now (GrowsByFeature self.now i out.old.items out.new.items)) }
         ensures refused { IfErr result (IsFeatureRefusal self.now i) }
+        ensures full { result ≡ Err Memory → OfCut self.now
+            (HasNoRoomForFeature self.now i (vec_capacity out.old) (vec_len out.old)) }
         ensures kept { OnErr result (out.new.items ≡ out.old.items) }
     {
         let (_, path) = self.last_cut()?;
@@ -119,11 +121,13 @@ impl Cutter {
         Ok(())
     }
 
-    /// Appends the features of all its words, one behind another.
+    /// Appends the features of all its words, one behind another. Memory is refused only where `out` has no room for them.
     pub fn append_features(&self, out: &mut Vec<u8>) -> Result<(), CutFault>
         ensures appended { OnOk result
             (OfCut self.now (GrowsByFeatures self.now out.old.items out.new.items)) }
         ensures refused { IfErr result (IsPrintRefusal self.now) }
+        ensures full { result ≡ Err Memory → OfCut self.now
+            (HasNoRoomForFeatures self.now (vec_capacity out.old) (vec_len out.old)) }
         ensures kept { OnErr result (out.new.items ≡ out.old.items) }
     {
         let (_, path) = self.last_cut()?;

@@ -9,7 +9,7 @@ use mj_model::{Origin, Word};
 use std::alloc::AllocError;
 use word_lookup::Dictionaries;
 
-/// Appends the features of words, one behind another. On an error `out` is as before.
+/// Appends the features of words, one behind another. On an error `out` is as before, and has no room for them.
 pub fn append_features(
     dictionaries: &Dictionaries<'_>,
     words: &[Word],
@@ -18,6 +18,8 @@ pub fn append_features(
     ensures appended { OnOk result
         (out.new.items ≡ out.old.items ++ features_of (overlay_of dictionaries.now) words.now) }
     ensures kept { OnErr result (out.new.items ≡ out.old.items) }
+    ensures full { OnErr result (vec_capacity out.old
+        < vec_len out.old + length (features_of (overlay_of dictionaries.now) words.now)) }
 {
     let count = out.len();
     let appended = append_each(dictionaries, words, out);
@@ -36,6 +38,8 @@ fn append_each(
     ensures appended { OnOk result
         (out.new.items ≡ out.old.items ++ features_of (overlay_of dictionaries.now) words.now) }
     ensures front { take (vec_len out.old) out.new.items ≡ out.old.items }
+    ensures full { OnErr result (vec_capacity out.old
+        < vec_len out.old + length (features_of (overlay_of dictionaries.now) words.now)) }
 {
     for word in words {
         out.extend_from_slice(dictionaries.feature(word).as_bytes())?;
