@@ -29,6 +29,10 @@ NamesOneOf paths told = (told ≡ Memory) ⊎ ((path : String Global) × Contain
 abbrev pub NamesFileOrImage : List ℕ → Fault → Type 0
 NamesFileOrImage path told = Names File path told ⊎ ((fault : ImageFault) × Names (λ name. Image name fault) path told)
 
+-- so of one of the images at some paths
+abbrev pub NamesFileOrImageOf : List (String Global) → Fault → Type 0
+NamesFileOrImageOf paths told = (told ≡ Memory) ⊎ ((path : String Global) × Contains paths path × NamesFileOrImage (string_bytes path) told)
+
 -- want of memory is why a reader's bytes can't be had
 abbrev pub IsForMemory : ReadFault → Type 0
 IsForMemory (Device error) = error_kind error ≡ OutOfMemory

@@ -5,6 +5,8 @@ use Rattle.image_bytes.specs.declared.digest_test.DigestTest.{DigestTest}
 use Rattle.image_bytes.specs.ImageBytes.{header_of, header_length, image_magic, total_length}
 use Rattle.image_bytes.specs.ImageFaults.{IsImageFault}
 use Rattle.image_bytes.specs.Layouts.{IsReadLayout}
+use Rattle.programs.specs.declared.fault.Fault.{Fault}
+use Rattle.programs.specs.declared.fault.Fault.TheVariants as image
 use Rattle.programs.specs.declared.image_reading.ImageReadFault.{ImageReadFault}
 use Rattle.programs.specs.declared.image_reading.ImageReadFault.TheVariants.{Read, Image}
 
@@ -37,3 +39,9 @@ IsRefusalAt known remaining (Image fault) = IfSome remaining (λ bytes. HasLengt
 abbrev pub IsRestRefusal : List ℕ → Option (List ℕ) → ImageReadFault → Type 0
 IsRestRefusal first remaining (Read fault) = Unit {0}
 IsRestRefusal first remaining (Image fault) = IfSome remaining (λ rest. IsFaultOf (first ++ rest) fault)
+
+-- an image is refused with a fault only where the bytes of some file that was opened have it, if these are known and as many as was told of
+-- the file; other faults are not of the bytes
+abbrev pub IsRefusalOfAFile : {F : Type 0} → (F → Option (List ℕ)) → Fault → Type 0
+IsRefusalOfAFile {F = F} remaining (image.Image path fault) = (opened : F) × (known : Option ℕ) × IsRefusalAt known (remaining opened) (Image fault)
+IsRefusalOfAFile remaining told = Unit {0}

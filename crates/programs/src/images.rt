@@ -1,9 +1,10 @@
 //! Dictionaries of images.
 
-ghost use Rattle.std.specs.Prelude.{◌≡◌, IfErr, IfOk, string_bytes};
+ghost use Rattle.std.specs.Prelude.{◌≡◌, length, All, IfErr, IfOk, string_bytes};
 ghost use Rattle.image_bytes.specs.ImageFaults.{IsAccepted};
-ghost use Rattle.programs.specs.Faults.{NamesFileOrImage};
+ghost use Rattle.programs.specs.Faults.{NamesFileOrImage, NamesFileOrImageOf};
 ghost use Rattle.programs.specs.HashedImages.{DecideAlike};
+ghost use Rattle.programs.specs.ImageHeads.{IsRefusalOfAFile};
 ghost use Rattle.programs.specs.Reading.{AreOfAFile};
 
 use crate::fault::Fault;
@@ -11,6 +12,7 @@ use crate::image_reading::{ImageReadFault, ImageReading, ReadImage, read_image};
 use crate::progress::{Progress, ReadProgress};
 use dict_image::{Dict, DigestTest};
 use mj_model::READS_MAX;
+use std::alloc::AllocError;
 use std::fs::{self, OpenFile};
 use std::rt::Files;
 use std::string::String;
@@ -47,16 +49,22 @@ fn load_at<R: Files + AllocGlobal>(
     }
 }
 
-/// The dictionaries of the images at paths, read one after the other.
+/// The dictionaries of the images at paths, read one after the other, up to the first that can't be read or is refused.
 pub fn dictionaries_at(
     rt: &HostRuntime,
     paths: &[String],
     digest: DigestTest,
-) -> Result<Vec<Dict>, Fault> {
-    paths
-        .iter()
-        .map(|path| dictionary_at(rt, path.as_str(), digest))
-        .try_collect(rt.alloc())
+) -> Result<Vec<Dict>, Fault>
+    ensures count { IfOk result (λ dicts. length dicts.items ≡ length paths.now) }
+    ensures accepted { IfOk result (λ dicts. All (IsAccepted digest) dicts.items) }
+    ensures fault { IfErr result (NamesFileOrImageOf paths.now) }
+{
+    let mut dicts = Vec::new(rt.alloc());
+    for path in paths {
+        let dict = dictionary_at(rt, path.as_str(), digest)?;
+        dicts.push(dict).map_err(AllocError::from)?;
+    }
+    Ok(dicts)
 }
 
 /// A file of an image that was read whole.
@@ -79,6 +87,8 @@ pub fn image_at<R: Files + AllocGlobal>(
     ensures digest { IfOk result (λ file.
         DecideAlike digest file.image.digest file.image.bytes.items) }
     ensures fault { IfErr result (NamesFileOrImage path.now) }
+    // It is refused only with the fault that the bytes have.
+    ensures refused { IfErr result (IsRefusalOfAFile R.File.remaining) }
 {
     let mut file = match fs::open(rt, path) {
         Ok(file) => file,
