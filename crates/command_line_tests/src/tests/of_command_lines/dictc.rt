@@ -3,7 +3,6 @@
 use Asked::{AllFaults, System, Told, Trusting, User};
 use command_lines::dictc::{Asked as AskedFor, Base, IdsOptions, Options, options};
 use std::alloc::{AllocError, Global};
-use std::process::Abort;
 use std::string::String;
 use std::test::Fail;
 use test_words::words;
@@ -52,18 +51,12 @@ impl Asked {
     }
 }
 
-/// Asks what a command line asks for.
-fn expect_asked(
-    rt: &(impl Abort + Alloc<A = Global>),
-    what: &str,
-    given: &str,
-    wanted: &AskedFor,
-) -> Result<(), Fail> {
-    match options(rt.alloc(), words(rt.alloc(), given)?) {
-        Ok(found) => assert!(rt; found == *wanted, "{what}"),
-        Err(_) => assert!(rt; false, "{what}"),
-    }
-    Ok(())
+/// Whether this is what a command line asks for.
+fn is_asked(alloc: Global, given: &str, wanted: &AskedFor) -> Result<bool, AllocError> {
+    Ok(match options(alloc, words(alloc, given)?) {
+        Ok(found) => found == *wanted,
+        Err(_) => false,
+    })
 }
 
 #[rattlefmt::skip]
@@ -83,7 +76,7 @@ static COMMAND_LINES: [(&str, &str, Asked); 8] = [
 fn command_lines(rt: HostRuntime) -> Result<(), Fail> {
     for (what, given, asked) in &COMMAND_LINES {
         let wanted = AskedFor::Image(asked.options(rt.alloc())?);
-        expect_asked(&rt, what, given, &wanted)?;
+        assert!(rt; is_asked(rt.alloc(), given, &wanted)?, "{what}");
     }
     Ok(())
 }
@@ -106,17 +99,15 @@ fn command_lines_of_ids(rt: HostRuntime) -> Result<(), Fail> {
             feature: String::from_str(rt.alloc(), "名詞,*")?,
             verbose: *verbose,
         });
-        expect_asked(&rt, what, given, &wanted)?;
+        assert!(rt; is_asked(rt.alloc(), given, &wanted)?, "{what}");
     }
     Ok(())
 }
 
 const HELP: (u8, &str) = (0, "Usage: dictc");
 
-const BAD: (u8, &str) = (2, "dictc: ");
-
 #[rattlefmt::skip]
-static COMMAND_LINES_THAT_END_AT_ONCE: [(&str, &str, (u8, &str)); 32] = [
+static COMMAND_LINES_THAT_END_AT_ONCE: [(&str, &str, (u8, &str)); 16] = [
     // (what, words, status and what is in the text)
     ("help", "--help", HELP),
     ("help for a system", "system --help", HELP),
@@ -129,39 +120,54 @@ static COMMAND_LINES_THAT_END_AT_ONCE: [(&str, &str, (u8, &str)); 32] = [
     ("a code of none", "--explain X9", (2, "dictc: no fault has the code or name 'X9'\n")),
     ("a name that is near", "systen", (2, "'system'")),
     ("an option that is near", "system --matrx m", (2, "'--matrix'")),
-    ("nothing asked for", "", BAD),
-    ("another subcommand", "delete", BAD),
-    ("options alone", "--out o a", BAD),
-    ("a system without its options", "system a", BAD),
-    ("no matrix", "system --char c --unk u --out o a", BAD),
-    ("no lexicon", "system --matrix m --char c --unk u --out o", BAD),
-    ("a system's", "system --matrix m --char c --unk u --dic d --out o a", BAD),
-    ("a user for no system", "user --out o a", BAD),
-    ("a user without an image", "user --dic s a", BAD),
-    ("a user without a lexicon", "user --dic s --out o", BAD),
-    ("a user with a matrix", "user --dic s --matrix m --out o a", BAD),
     ("help for ids", "ids --help", HELP),
-    ("ids of no image", "ids 名詞", BAD),
-    ("ids of no part of speech", "ids --dic s", BAD),
-    ("ids of two", "ids --dic s 名詞 動詞", BAD),
     ("a file like an option", "user --dic s --out o -x.csv", (2, "write './-x.csv'\n\nUsage: ")),
     ("the same as a value", "user --dic s a --out -o", (2, "write './-o'\n\n")),
     ("controls", "user\u{1b} a\nb", (2, "dictc: unrecognized subcommand 'user\\u{1b}'")),
     ("a line feed", "user --a\nb", (2, "dictc: unexpected argument '--a\\nb' found\n")),
-    ("an option twice", "user --dic s --dic s --out o a", BAD),
-    ("no value", "user --dic s a --out", BAD),
 ];
+
+/// Whether a command line asks for nothing, and ends with this status and this in its text.
+fn is_ended(alloc: Global, given: &str, status: u8, text: &str) -> Result<bool, AllocError> {
+    Ok(match options(alloc, words(alloc, given)?) {
+        Ok(_options) => false,
+        Err(fault) => fault.status() == status && fault.text().contains(text),
+    })
+}
 
 #[test]
 fn command_lines_that_end_at_once(rt: HostRuntime) -> Result<(), Fail> {
     for (what, given, (status, text)) in &COMMAND_LINES_THAT_END_AT_ONCE {
-        match options(rt.alloc(), words(rt.alloc(), given)?) {
-            Ok(_options) => assert!(rt; false, "{what}"),
-            Err(fault) => {
-                assert!(rt; fault.status() == *status, "{what}");
-                assert!(rt; fault.text().contains(text), "{what}");
-            }
-        }
+        assert!(rt; is_ended(rt.alloc(), given, *status, text)?, "{what}");
+    }
+    Ok(())
+}
+
+#[rattlefmt::skip]
+static WRONG_COMMAND_LINES: [(&str, &str); 16] = [
+    // (what, words)
+    ("nothing asked for", ""),
+    ("another subcommand", "delete"),
+    ("options alone", "--out o a"),
+    ("a system without its options", "system a"),
+    ("no matrix", "system --char c --unk u --out o a"),
+    ("no lexicon", "system --matrix m --char c --unk u --out o"),
+    ("a system's", "system --matrix m --char c --unk u --dic d --out o a"),
+    ("a user for no system", "user --out o a"),
+    ("a user without an image", "user --dic s a"),
+    ("a user without a lexicon", "user --dic s --out o"),
+    ("a user with a matrix", "user --dic s --matrix m --out o a"),
+    ("ids of no image", "ids 名詞"),
+    ("ids of no part of speech", "ids --dic s"),
+    ("ids of two", "ids --dic s 名詞 動詞"),
+    ("an option twice", "user --dic s --dic s --out o a"),
+    ("no value", "user --dic s a --out"),
+];
+
+#[test]
+fn wrong_command_lines(rt: HostRuntime) -> Result<(), Fail> {
+    for (what, given) in &WRONG_COMMAND_LINES {
+        assert!(rt; is_ended(rt.alloc(), given, 2, "dictc: ")?, "{what}");
     }
     Ok(())
 }

@@ -7,7 +7,6 @@ use Asked::{Directory, Images, Sample, Trusted};
 use command_lines::OptionsFault;
 use command_lines::jseg::{Form, Input, LatticeChoice, Options, Task, ViewChoice, task};
 use std::alloc::{AllocError, Global};
-use std::process::Abort;
 use std::string::String;
 use std::test::Fail;
 use test_words::words;
@@ -44,21 +43,12 @@ fn options(alloc: Global, words: Vec<String>) -> Result<Option<Options>, Options
     })
 }
 
-/// Asks for the choices of a command line.
-fn expect_options(
-    rt: &(impl Abort + Alloc<A = Global>),
-    what: &str,
-    given: &str,
-    input: &Input,
-    grouping: u16,
-) -> Result<(), Fail> {
-    let Ok(Some(options)) = options(rt.alloc(), words(rt.alloc(), given)?) else {
-        assert!(rt; false, "{what}");
-        return Ok(());
-    };
-    assert!(rt; options.input == *input, "{what}");
-    assert!(rt; options.grouping == grouping, "{what}");
-    Ok(())
+/// Whether words choose this input and this grouping.
+fn are_input_and_grouping(alloc: Global, words: Vec<String>, input: &Input, grouping: u16) -> bool {
+    match options(alloc, words) {
+        Ok(Some(options)) => options.input == *input && options.grouping == grouping,
+        _ => false,
+    }
 }
 
 #[rattlefmt::skip]
@@ -83,7 +73,9 @@ static COMMAND_LINES: [(&str, &str, Asked, u16); 13] = [
 fn command_lines(rt: HostRuntime) -> Result<(), Fail> {
     for (what, given, asked, grouping) in &COMMAND_LINES {
         let input = asked.input(rt.alloc())?;
-        expect_options(&rt, what, given, &input, *grouping)?;
+        let words = words(rt.alloc(), given)?;
+        let are_chosen = are_input_and_grouping(rt.alloc(), words, &input, *grouping);
+        assert!(rt; are_chosen, "{what}");
     }
     Ok(())
 }
@@ -116,19 +108,12 @@ fn words_and(alloc: Global, text: &str, further: &[&str]) -> Result<Vec<String>,
     Ok(words)
 }
 
-fn expect_formats(
-    rt: &(impl Abort + Alloc<A = Global>),
-    what: &str,
-    given: &[&str],
-    chosen: &Chosen,
-) -> Result<(), Fail> {
-    let words = words_and(rt.alloc(), "--sample", given)?;
-    let Ok(Some(options)) = options(rt.alloc(), words) else {
-        assert!(rt; false, "{what}");
-        return Ok(());
-    };
-    assert!(rt; are_chosen(&options, chosen), "{what}");
-    Ok(())
+/// Whether words choose these formats.
+fn are_formats(alloc: Global, words: Vec<String>, chosen: &Chosen) -> bool {
+    match options(alloc, words) {
+        Ok(Some(options)) => are_chosen(&options, chosen),
+        _ => false,
+    }
 }
 
 #[rattlefmt::skip]
@@ -146,7 +131,8 @@ static FORMAT_OPTIONS: [(&str, &[&str], Chosen); 5] = [
 #[test]
 fn format_options(rt: HostRuntime) -> Result<(), Fail> {
     for (what, given, chosen) in &FORMAT_OPTIONS {
-        expect_formats(&rt, what, given, chosen)?;
+        let words = words_and(rt.alloc(), "--sample", given)?;
+        assert!(rt; are_formats(rt.alloc(), words, chosen), "{what}");
     }
     Ok(())
 }
@@ -172,18 +158,12 @@ impl Printed {
     }
 }
 
-/// Asks for what a command line has printed of each line.
-fn expect_view(
-    rt: &(impl Abort + Alloc<A = Global>),
-    given: &str,
-    wanted: Option<ViewChoice>,
-) -> Result<(), Fail> {
-    let Ok(Some(options)) = options(rt.alloc(), words(rt.alloc(), given)?) else {
-        assert!(rt; false, "{given}");
-        return Ok(());
-    };
-    assert!(rt; options.view == wanted, "{given}");
-    Ok(())
+/// Whether words have this printed of each line.
+fn is_view(alloc: Global, words: Vec<String>, wanted: Option<ViewChoice>) -> bool {
+    match options(alloc, words) {
+        Ok(Some(options)) => options.view == wanted,
+        _ => false,
+    }
 }
 
 #[rattlefmt::skip]
@@ -202,7 +182,8 @@ static VIEWS: [(&str, Printed); 8] = [
 #[test]
 fn views(rt: HostRuntime) -> Result<(), Fail> {
     for (given, wanted) in &VIEWS {
-        expect_view(&rt, given, wanted.view())?;
+        let is_view = is_view(rt.alloc(), words(rt.alloc(), given)?, wanted.view());
+        assert!(rt; is_view, "{given}");
     }
     Ok(())
 }
@@ -215,13 +196,17 @@ static LISTS: [(&str, bool); 3] = [
     ("-v --dictionaries", true),
 ];
 
+/// Whether words ask for the list of images, and for what is done or not.
+fn is_list(alloc: Global, words: Vec<String>, verbose: bool) -> bool {
+    task(alloc, words).ok() == Some(Task::ListImages { verbose })
+}
+
 /// The list of images is asked for alone, or with what says what is done.
 #[test]
 fn lists(rt: HostRuntime) -> Result<(), Fail> {
     for (given, verbose) in &LISTS {
-        let wanted = Task::ListImages { verbose: *verbose };
-        let task = task(rt.alloc(), words(rt.alloc(), given)?).ok();
-        assert!(rt; task == Some(wanted), "{given}");
+        let is_list = is_list(rt.alloc(), words(rt.alloc(), given)?, *verbose);
+        assert!(rt; is_list, "{given}");
     }
     Ok(())
 }

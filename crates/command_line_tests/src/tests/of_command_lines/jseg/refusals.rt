@@ -1,25 +1,16 @@
 //! What `jseg` is asked of itself and its faults, and what it refuses.
 
 use command_lines::jseg::task;
-use std::alloc::Global;
-use std::process::Abort;
+use std::alloc::{AllocError, Global};
 use std::test::Fail;
 use test_words::words;
 
-/// Asks what a command line is answered, and with which status.
-fn expect_answer(
-    rt: &(impl Abort + Alloc<A = Global>),
-    given: &str,
-    status: u8,
-    text: &str,
-) -> Result<(), Fail> {
-    let Err(fault) = task(rt.alloc(), words(rt.alloc(), given)?) else {
-        assert!(rt; false, "{given}");
-        return Ok(());
-    };
-    assert!(rt; fault.status() == status, "{given}");
-    assert!(rt; fault.text().contains(text), "{given}");
-    Ok(())
+/// Whether a command line is answered with this status and with this in the text.
+fn is_answered(alloc: Global, given: &str, status: u8, text: &str) -> Result<bool, AllocError> {
+    Ok(match task(alloc, words(alloc, given)?) {
+        Ok(_task) => false,
+        Err(fault) => fault.status() == status && fault.text().contains(text),
+    })
 }
 
 #[rattlefmt::skip]
@@ -49,17 +40,20 @@ static ANSWERS: [(&str, u8, &str); 18] = [
 #[test]
 fn answers(rt: HostRuntime) -> Result<(), Fail> {
     for (given, status, text) in &ANSWERS {
-        expect_answer(&rt, given, *status, text)?;
+        assert!(rt; is_answered(rt.alloc(), given, *status, text)?, "{given}");
     }
     Ok(())
 }
 
-/// Whether a command line ends with status 2 and with this in its text.
-fn is_refused(rt: &HostRuntime, given: &str, text: &str) -> Result<bool, Fail> {
-    let fault = task(rt.alloc(), words(rt.alloc(), given)?).err();
-    Ok(fault.is_some_and(|fault| fault.status() == 2
-        && fault.text().starts_with("jseg: ")
-        && fault.text().contains(text)))
+/// Whether a command line ends with status 2, and this is in its text.
+fn is_refused(alloc: Global, given: &str, text: &str) -> Result<bool, AllocError> {
+    Ok(match task(alloc, words(alloc, given)?) {
+        Ok(_task) => false,
+        Err(fault) => {
+            let told = fault.text();
+            fault.status() == 2 && told.starts_with("jseg: ") && told.contains(text)
+        }
+    })
 }
 
 #[rattlefmt::skip]
@@ -107,7 +101,7 @@ static MECAB_HABITS: [(&str, &str); 36] = [
 #[test]
 fn mecab_habits(rt: HostRuntime) -> Result<(), Fail> {
     for (given, text) in &MECAB_HABITS {
-        assert!(rt; is_refused(&rt, given, text)?, "{given}");
+        assert!(rt; is_refused(rt.alloc(), given, text)?, "{given}");
     }
     Ok(())
 }
@@ -169,7 +163,7 @@ static WRONG_COMMAND_LINES: [(&str, &str); 49] = [
 #[test]
 fn wrong_command_lines(rt: HostRuntime) -> Result<(), Fail> {
     for (what, given) in &WRONG_COMMAND_LINES {
-        assert!(rt; is_refused(&rt, given, "jseg: ")?, "{what}");
+        assert!(rt; is_refused(rt.alloc(), given, "jseg: ")?, "{what}");
     }
     Ok(())
 }
