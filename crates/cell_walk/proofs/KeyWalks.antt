@@ -54,8 +54,7 @@ unfolding value_of
 value_of_nothing cells = refl
 
 pub no_value_by_stop : (cells : List Cell) (key : List ℕ) (i s c : ℕ) → 0 < length key → i < length (codes_of key) → get_or (codes_of key) i 0 ≡ c → walk cells 0 (take i (codes_of key)) ≡ Some s → step cells s c ≡ None → value_of cells key ≡ None
-no_value_by_stop cells key i s c some less at led none =
-    value_of_walk cells key some ∙ ap (option_and_then (λ (t : ℕ). value_in (base cells t))) (walk_stops cells (codes_of key) i s c less at led none)
+no_value_by_stop cells key i s c some less at led none = value_of_walk cells key some ∙ ap (option_and_then (λ (t : ℕ). value_in (base cells t))) (walk_stops cells (codes_of key) i s c less at led none)
 
 last_step : (cells : List Cell) (s : ℕ) (o : Option ℕ) → option_and_then (λ (t : ℕ). walk cells t []) o ≡ o
 unfolding walk

@@ -24,8 +24,7 @@ undefined_by categories number (Bad kind) others = refl
 
 undefined_in : (categories : List NamedCategory) (lines : List (ℕ × List ℕ)) → first_undefined categories (numbered_mappings lines) ≡ first_fault 1 (λ line. mapping_fault categories (char_line line)) lines
 undefined_in categories [] = refl
-undefined_in categories (line ∷ lines) =
-    undefined_by categories line.0 (char_line line.1) (numbered_mappings lines) ∙ ap (fault_or 1 line.0 (mapping_fault categories (char_line line.1))) (undefined_in categories lines)
+undefined_in categories (line ∷ lines) = undefined_by categories line.0 (char_line line.1) (numbered_mappings lines) ∙ ap (fault_or 1 line.0 (mapping_fault categories (char_line line.1))) (undefined_in categories lines)
 
 undefined_before : (categories : List NamedCategory) (mappings : List (ℕ × Mapping)) (lines : List (ℕ × List ℕ)) → mappings ≡ numbered_mappings lines
     → first_fault 1 (λ line. mapping_fault categories (char_line line)) lines ≡ first_undefined categories mappings
@@ -40,8 +39,7 @@ said_by_line categories number (Bad kind) others = refl
 
 said_in : (categories : List NamedCategory) (lines : List (ℕ × List ℕ)) → all_said categories (numbered_mappings lines) ≡ map (said categories) (source_from lines).mappings
 said_in categories [] = refl
-said_in categories (line ∷ lines) =
-    said_by_line categories line.0 (char_line line.1) (numbered_mappings lines)
+said_in categories (line ∷ lines) = said_by_line categories line.0 (char_line line.1) (numbered_mappings lines)
     ∙ ap (λ (others : List Said). map (said categories) (mapped_by (char_line line.1)) ++ others) (said_in categories lines)
     ∙ sym (map-append (said categories) (mapped_by (char_line line.1)) (source_from lines).mappings)
 

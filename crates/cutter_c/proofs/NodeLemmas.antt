@@ -84,5 +84,4 @@ module _ (h : Held) (last : LastWords) (lattice : MarkedLattice) (lent : OfCut h
     -- the nodes that were written are those of the lattice of what was cut last
     pub nodes_told : from ≡ min first (length lattice.nodes.items) → new ≡ with_front (drop from lent_nodes) old → count ≡ length lattice.nodes.items
         → OfCut h (AreNodesTold h first count old new)
-    nodes_told least written counts =
-        so_of_both h.cut (IsCutOver (overlay_held h)) (AreLast h last) (IsLatticeOfCut h lattice) (AreNodesTold h first count old new) (told_of least written counts) lent made
+    nodes_told least written counts = so_of_both h.cut (IsCutOver (overlay_held h)) (AreLast h last) (IsLatticeOfCut h lattice) (AreNodesTold h first count old new) (told_of least written counts) lent made

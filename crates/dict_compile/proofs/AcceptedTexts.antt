@@ -44,8 +44,7 @@ unless_skipped true o h = tt
 unless_skipped false o h = h
 
 of_parts : (number : ℕ) (parts : Parts) → IsUtf8 parts.surface → OnAccepted IsTextRow (lexicon_outcome number parts)
-of_parts number parts u =
-    unless_skipped (length parts.surface == 0) (accept_short (row_from number parts))
+of_parts number parts u = unless_skipped (length parts.surface == 0) (accept_short (row_from number parts))
     (of_row (row_from number parts) (row_by number parts (context_id parts.left) (context_id parts.right) (cost parts.cost) u))
 
 -- ---- the rows of lines

@@ -57,8 +57,7 @@ large_within false line read h = tt
 
 under_within : (line : ℕ) (sizes : Option MatrixSizes) (rows : List (ℕ × List ℕ)) → GivesWithin (connection_under line sizes rows)
 under_within line None rows = tt
-under_within line (Some sizes) rows =
-    large_within (nat_le (sizes.right * sizes.left) MATRIX_CELLS_MAX) line (connection_unless (first_fault 0 (row_fault sizes) rows) sizes rows)
+under_within line (Some sizes) rows = large_within (nat_le (sizes.right * sizes.left) MATRIX_CELLS_MAX) line (connection_unless (first_fault 0 (row_fault sizes) rows) sizes rows)
     (unless_within (first_fault 0 (row_fault sizes) rows) sizes rows refl)
 
 from_within : (lines : List (ℕ × List ℕ)) → GivesWithin (connection_from lines)

@@ -118,8 +118,7 @@ module _ (system : Tables) (lexicons : List (List ℕ)) where
 pub user_refused_for : (sizes : MatrixSizes) (system : Tables) (is : IsSystemOf sizes system) (lexicons : List (List ℕ)) (read : LexiconsRead) (kept : read.lexicon.sizes ≡ sizes)
     → AreLexicons sizes 3 [] lexicons (Ok read.lexicon.rows) → SkipLines lexicons read.skipped → (fault : SourceFault) (r : Result Compiled SourceFault) → IsUserFault system lexicons fault
     → IfOk r (IsUserImageOf read) → IfErr r (IsUserImageRefusal read) → IsRefusedFor fault r
-user_refused_for sizes system is lexicons read kept h skips fault (Ok c) at image refused =
-    user_not_compiled system lexicons c.image.items c.entries c.skipped fault (user_compilation sizes system is lexicons read kept h c skips image) at
+user_refused_for sizes system is lexicons read kept h skips fault (Ok c) at image refused = user_not_compiled system lexicons c.image.items c.entries c.skipped fault (user_compilation sizes system is lexicons read kept h c skips image) at
 user_refused_for sizes system is lexicons read kept h skips fault (Err told) at image refused = user_told_for system lexicons fault told at (user_refusal sizes system is lexicons read kept h told refused)
 
 -- ---- the sizes of a system dictionary

@@ -42,8 +42,7 @@ key_value groups cells group are less =
 -- the key of the group that a key has as its value
 key_of_value : (groups : ℕ) (cells : List Cell) (key : List ℕ) (v : ℕ) → AreKeys groups cells → value_of cells key ≡ Some v → key_of cells v ≡ key
 key_of_value groups cells key v are h =
-    let less = value_below groups cells key v are.rules h in
-    one_key groups cells (key_of cells v) key v are.rules (are.once v less) (key_value groups cells v are less) h
+    let less = value_below groups cells key v are.rules h in one_key groups cells (key_of cells v) key v are.rules (are.once v less) (key_value groups cells v are less) h
 
 -- the groups of cells, with their keys
 pub groups_of_cells : (groups : ℕ) (cells : List Cell) → AreKeys groups cells → AreGroups groups (key_of cells) (value_of cells)

@@ -158,8 +158,7 @@ first_in info.Ranges categories infos code few are = first_below categories info
 
 -- the first category of a code point is one of the categories
 pub first_of_image : (bytes : List ℕ) (code : ℕ) → IsImage bytes → kind_of (header_of bytes) ≡ System → (image_info bytes code).head < (header_of bytes).categories
-first_of_image bytes code w system =
-    first_in (info_form (header_of bytes).layout) (header_of bytes).categories (section bytes 3) code (few_categories bytes w) (infos_are bytes system w)
+first_of_image bytes code w system = first_in (info_form (header_of bytes).layout) (header_of bytes).categories (section bytes 3) code (few_categories bytes w) (infos_are bytes system w)
 
 -- ---- categories
 

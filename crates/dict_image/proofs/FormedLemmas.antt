@@ -49,8 +49,7 @@ kind_by System categories unknown counts some = refl
 kind_by User categories unknown counts some = absurd (let none = counts.0 in omega (arith, none, some))
 
 pub system_of_categories : (bytes : List ℕ) (i : ℕ) → IsImage bytes → i < (header_of bytes).categories → kind_of (header_of bytes) ≡ System
-system_of_categories bytes i w less =
-    kind_by (kind_of (header_of bytes)) (header_of bytes).categories (header_of bytes).unknown (is_header bytes w).counts (omega (arith, less))
+system_of_categories bytes i w less = kind_by (kind_of (header_of bytes)) (header_of bytes).categories (header_of bytes).unknown (is_header bytes w).counts (omega (arith, less))
 
 few_by : (kind : Kind) (categories unknown : ℕ) → AreCounts kind categories unknown → categories ≤ 256
 few_by System categories unknown counts = let few = counts.1 in omega (arith, few)

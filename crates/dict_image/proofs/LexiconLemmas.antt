@@ -50,8 +50,7 @@ one_in : (s : LexiconSections) (key : List ℕ) (v a n : ℕ) → a ≤ v → v 
     → entries_under key (flat_map (entries_of_group s) (range_with_len a n)) ≡ tokens_of s v
 one_in s key v a zero low high here others = absurd (omega (arith, low, high))
 one_in s key v a (suc n) low high here others =
-    let rest = flat_map (entries_of_group s) (range_with_len (a + 1) n) in
-    under_append key (entries_of_group s a) rest ∙ elim (cases_eq a v) [
+    let rest = flat_map (entries_of_group s) (range_with_len (a + 1) n) in under_append key (entries_of_group s a) rest ∙ elim (cases_eq a v) [
       | inl same ↦
           let first = subst (λ (g : ℕ). has_key s key g ≡ true) (sym same) here in
           let none = none_in s key (a + 1) n (λ g above below. others g (omega (arith, below)) (λ e. omega (arith, e, same, above))) in

@@ -23,8 +23,7 @@ next_hits list text n less =
     ap (λ (k : ℕ). hits_over list text (range_with_len (n + 1) k)) e
 
 pub hit_here : (list : KeyList) (text : List ℕ) (n g : ℕ) → n < length text → number_in list (take (n + 1) text) ≡ Some g → listed_hits_behind list text n ≡ (n + 1, g) ∷ listed_hits_behind list text (n + 1)
-hit_here list text n g less is =
-    next_hits list text n less ∙ ap (λ (found : Option ℕ). cons_option (option_map (λ (g : ℕ). (n + 1, g)) found) (listed_hits_behind list text (n + 1))) is
+hit_here list text n g less is = next_hits list text n less ∙ ap (λ (found : Option ℕ). cons_option (option_map (λ (g : ℕ). (n + 1, g)) found) (listed_hits_behind list text (n + 1))) is
 
 pub no_hit_here : (list : KeyList) (text : List ℕ) (n : ℕ) → n < length text → number_in list (take (n + 1) text) ≡ None → listed_hits_behind list text n ≡ listed_hits_behind list text (n + 1)
 no_hit_here list text n less is =

@@ -53,8 +53,7 @@ all_lists : (tokens features : List ℕ) (lists low high : ℕ) (index : List �
     → flat_map (tokens_in tokens features index) (range_with_len 0 lists) ≡ map (token_from tokens features) (range_with_len low (high - low))
 all_lists tokens features lists low high index is =
     let e : 0 + lists ≡ lists = omega arith in
-    let last : index_at index (0 + lists) ≡ high = ap (index_at index) e ∙ is.last in
-    lists_joined tokens features lists low high index 0 lists is (omega arith)
+    let last : index_at index (0 + lists) ≡ high = ap (index_at index) e ∙ is.last in lists_joined tokens features lists low high index 0 lists is (omega arith)
     ∙ ap (λ (k : ℕ). map (token_from tokens features) (range_with_len (index_at index 0) (k - index_at index 0))) last
     ∙ ap (λ (k : ℕ). map (token_from tokens features) (range_with_len k (high - k))) is.first
 

@@ -33,8 +33,7 @@ has_child_there pool n from built at some =
     elim (built.rules.others (suc n) (omega arith) (based_within pool.cells (suc n) from at (omega (arith, some)))) [
       | inl free ↦ absurd (free_no_base pool.cells (suc n) from free at (omega (arith, some)))
       | inr u ↦
-          let k = built.on_keys (suc n) u.state u.named in
-          on_after pool.cells (suc n) k.front k.back k.key k.value from k.codes k.led k.there at
+          let k = built.on_keys (suc n) u.state u.named in on_after pool.cells (suc n) k.front k.back k.key k.value from k.codes k.led k.there at
     ]
 
 -- and so has the root where some cell is used

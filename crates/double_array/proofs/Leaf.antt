@@ -124,8 +124,7 @@ module _ (values : ℕ) (old : List Cell) (s c t from : ℕ) (z : ℤ) (rules : 
   -- a state without a value changes nothing in the map
   pub state_keeps_map : (b : ℕ) → z ≡ pos b → HasSameMap old new
   state_keeps_map b is key = same_value old new key (value_stays key) (λ v h.
-      let p = value_parts new key v h in
-      value_was key v p.0 p.1 (λ e. let k : pos b ≡ negsuc v = sym is ∙ sym (ap (λ (x : Cell). x.0) leaf_at) ∙ ap (base new) (sym e) ∙ p.1.holds in absurd (cc)))
+      let p = value_parts new key v h in value_was key v p.0 p.1 (λ e. let k : pos b ≡ negsuc v = sym is ∙ sym (ap (λ (x : Cell). x.0) leaf_at) ∙ ap (base new) (sym e) ∙ p.1.holds in absurd (cc)))
 
   -- the cell of a key's last code sets the key's value
   pub value_is_set : (key front : List ℕ) (v : ℕ) → z ≡ negsuc v → 0 < length key → codes_of key ≡ front ++ c ∷ [] → walk old 0 front ≡ Some s → IsMapWith old new key v

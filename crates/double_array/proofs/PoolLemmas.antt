@@ -363,8 +363,7 @@ positive_of (negsuc p) h = absurd (let f : true ≡ false = h in cc)
 
 pub read_free : (cells view : List Cell) (i : ℕ) (x : Cell) → cells_as_seen cells ≡ view → (i ≡ 0 → ⊥) → slice_get cells i ≡ Some x → lt_z (to_z w32 (of_z w32 x.1)) (pos 0) ≡ true → SFits w32 x.1 → slice_get view i ≡ Some free_cell
 read_free cells view i x e other at below fits =
-    let k : lt_z x.1 (pos 0) ≡ true = ap (λ (z : ℤ). lt_z z (pos 0)) (sym (to_z-of_z w32 x.1 fits)) ∙ below in
-    shown_free cells view i x.0 x.1 e other at (negative_of x.1 k)
+    let k : lt_z x.1 (pos 0) ≡ true = ap (λ (z : ℤ). lt_z z (pos 0)) (sym (to_z-of_z w32 x.1 fits)) ∙ below in shown_free cells view i x.0 x.1 e other at (negative_of x.1 k)
 
 pub read_used : (cells view : List Cell) (i : ℕ) (x : Cell) → cells_as_seen cells ≡ view → (i ≡ 0) ⊎ (lt_z (to_z w32 (of_z w32 x.1)) (pos 0) ≡ false) → slice_get cells i ≡ Some x → SFits w32 x.0 → SFits w32 x.1 → slice_get view i ≡ Some (to_z w32 (of_z w32 x.0), to_z w32 (of_z w32 x.1))
 read_used cells view i x e used at fits_b fits_k =

@@ -49,8 +49,7 @@ hidden_used b (negsuc p) s h = absurd (cc)
 -- a cell that is seen with a state as its check is seen as it is
 pub used_seen : (cells : List Cell) (i s : ℕ) → check (cells_as_seen cells) i ≡ pos s → 0 < i → cell_at cells i ≡ cell_at (cells_as_seen cells) i
 used_seen cells i s named above =
-    let e = seen_at cells i above in
-    hidden_used (base cells i) (check cells i) s (sym (ap (λ (x : Cell). x.1) e) ∙ named) ∙ sym e
+    let e = seen_at cells i above in hidden_used (base cells i) (check cells i) s (sym (ap (λ (x : Cell). x.1) e) ∙ named) ∙ sym e
 
 -- ---- what is seen after a change
 

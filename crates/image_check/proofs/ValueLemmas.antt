@@ -39,8 +39,7 @@ module _ (cells : List Cell) (root : IsRoot cells) where
   pub not_found : (groups group : ℕ) (places : List ℕ) → IsScanned groups cells (length cells) places → group < groups → slice_index places group ≡ 0 → HoldEach groups cells → ⊥
   not_found groups group places is below none each =
       let once = each.once group below in
-      let at = (is.placed group below).only once.place (value_within group once.place once.holds) once.holds in
-      no_value_at_root group (subst (λ (i : ℕ). base cells i ≡ negsuc group) (at ∙ none) once.holds)
+      let at = (is.placed group below).only once.place (value_within group once.place once.holds) once.holds in no_value_at_root group (subst (λ (i : ℕ). base cells i ≡ negsuc group) (at ∙ none) once.holds)
 
   held_of : (t group place : ℕ) → (place ≡ 0) ⊎ ((place < t) × (base cells place ≡ negsuc group)) → (place ≡ 0 → ⊥) → base cells place ≡ negsuc group
   held_of t group place (inl e) some = absurd (some e)

@@ -33,8 +33,7 @@ rest_back c rest =
 
 pub categories_back : (cs : List NamedCategory) → categories_in (length cs) (flat_map category_bytes cs) ≡ cs
 categories_back [] = refl
-categories_back (c ∷ cs) = λ i.
-    first_back c (flat_map category_bytes cs) i
+categories_back (c ∷ cs) = λ i. first_back c (flat_map category_bytes cs) i
     ∷ (ap (categories_in (length cs)) (rest_back c (flat_map category_bytes cs)) ∙ categories_back cs) i
 
 pub categories_are : (t : CharCategories) (bytes : List ℕ) → All IsStorable t.categories → bytes ≡ flat_map category_bytes t.categories → AreCategoriesOf t bytes

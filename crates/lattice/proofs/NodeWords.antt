@@ -62,5 +62,4 @@ path_stands d text path to i w utf8 short is at =
 pub node_stands : (d : Dictionaries) (text : List ℕ) (nodes : List LatticeNode) → IsUtf8 text → length text ≤ SENTENCE_MAX → AreWordsOfLattice (text_over (overlay_of d) text) nodes
     → (i : ℕ) (n : LatticeNode) → slice_get nodes i ≡ Some n → StandsIn text n.word
 node_stands d text nodes utf8 short are i n at =
-    let word = λ (m : LatticeNode). m.word in
-    reached_stands d text n.word utf8 short (are.each i n.word (slice_get-map word nodes i ∙ ap (option_map word) at))
+    let word = λ (m : LatticeNode). m.word in reached_stands d text n.word utf8 short (are.each i n.word (slice_get-map word nodes i ∙ ap (option_map word) at))

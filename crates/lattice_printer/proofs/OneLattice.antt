@@ -70,8 +70,7 @@ one_print f o line x y has h k =
     let marks : k.lattice.on_best.items ≡ h.lattice.on_best.items = one_marks h.lattice.nodes.items h.best k.lattice.on_best.items h.lattice.on_best.items on h.is_lattice.on_best in
     let over = subst (λ (ws : List Word). IsSheet f o line (cost_over o ws) k.lattice.nodes.items k.lattice.on_best.items y) best k.is_sheet in
     let of_nodes = subst (λ (ns : List LatticeNode). IsSheet f o line (cost_over o h.best) ns k.lattice.on_best.items y) nodes over in
-    let sheet = subst (λ (bs : List Bool). IsSheet f o line (cost_over o h.best) h.lattice.nodes.items bs y) marks of_nodes in
-    one_sheet f o line (cost_over o h.best) h.lattice.nodes.items h.lattice.on_best.items x y h.is_sheet sheet
+    let sheet = subst (λ (bs : List Bool). IsSheet f o line (cost_over o h.best) h.lattice.nodes.items bs y) marks of_nodes in one_sheet f o line (cost_over o h.best) h.lattice.nodes.items h.lattice.on_best.items x y h.is_sheet sheet
 
 pub one_lattice : HasOneLattice
 one_lattice f o line has (Ok x) (Ok y) h k = ap Ok (one_print f o line x y has h.1 k.1)

@@ -116,8 +116,7 @@ one_of n e = let p = eqb-false n 0 e in omega (arith, p)
 
 skipped_by : (line : ℕ) (parts : Parts) (b : Bool) → nat_eq (length parts.surface) 0 ≡ b → OnAccepted (FitsLine line) (cond b Skipped (accept_short (row_from line parts)))
 skipped_by line parts true e = tt
-skipped_by line parts false e =
-    short_fits line (row_from line parts) (both_of line (row_from line parts) (row_is line parts)
+skipped_by line parts false e = short_fits line (row_from line parts) (both_of line (row_from line parts) (row_is line parts)
     (some_by line parts (context_id parts.left) (context_id parts.right) (cost parts.cost) (one_of (length parts.surface) e)))
 
 judged_fits : (line : ℕ) (parts : Parts) → OnAccepted (FitsLine line) (lexicon_outcome line parts)

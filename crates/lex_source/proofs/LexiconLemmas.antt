@@ -40,8 +40,7 @@ an_outcome judge number line = elim (cases_Bool (is_blank_line line)) [
   | inr some ↦ elim (cases_Bool (is_utf8 line)) [
     | inl text ↦
         let f = a_field (without_blanks line) in
-        let more = fields_from line f.0 f.1 f.2 in
-        of_fields judge number line (f.0 ∷ more.0) some (IsUtf8-from_is_utf8 line text) more.1
+        let more = fields_from line f.0 f.1 f.2 in of_fields judge number line (f.0 ∷ more.0) some (IsUtf8-from_is_utf8 line text) more.1
     | inr no_text ↦ (Refused NotUtf8, not_text some (λ utf8. both_ways (is_utf8 line) no_text (is_utf8-from_IsUtf8 line utf8)))
   ]
 ]

@@ -81,8 +81,7 @@ front_short (c ∷ cs) rest none good =
 
 -- what is read of a good text has no line that is too long
 open_short : (bytes rest : List ℕ) → All IsGood (text_lines (bytes ++ rest)) → length (open_line bytes) ≤ SENTENCE_MAX
-open_short bytes rest good =
-    front_short (open_line bytes) rest (open_no_feed bytes)
+open_short bytes rest good = front_short (open_line bytes) rest (open_no_feed bytes)
     (back_all IsGood (whole_lines bytes) (text_lines (open_line bytes ++ rest)) (subst (λ ls. All IsGood ls) (text_lines-behind bytes rest) good))
 
 whole_good : (bytes rest : List ℕ) → All IsGood (text_lines (bytes ++ rest)) → All IsGood (whole_lines bytes)
@@ -189,6 +188,5 @@ module _ (T : List ℕ → Result (List ℕ) LineFault → Type 0)
       none_too_long 1 (text_lines ran.bytes) ran.written (record { number = line; fault = TooLong }) refl
       (read_short ran.bytes cut.rest good) ran.ends.0
   good_run bound from to before after (Err (run.InputTooLong line)) ran g =
-      let cut = cut_text from.left to.left g.text ran.bytes g.told ran.read in
-      too_many_reads bound from to before after g.text ran.bytes cut.rest cut.parts ran.ends.1 ran.ends.0.no_end g.ends
+      let cut = cut_text from.left to.left g.text ran.bytes g.told ran.read in too_many_reads bound from to before after g.text ran.bytes cut.rest cut.parts ran.ends.1 ran.ends.0.no_end g.ends
   good_run bound from to before after (Err (run.Memory line)) ran g = tt

@@ -238,8 +238,7 @@ module _ (Tells : List ℕ → Result (List ℕ) LineFault → Type 0) (bound : 
         unflushed no_flush,
       )
       work_error piece written done (Bad fault) line ends no_write no_flush print (inl c) e =
-          let tail = last_line (open_line (r.bytes ++ piece)) in
-          bad_ends (r.bytes ++ piece) (r.written ++ written) fault line
+          let tail = last_line (open_line (r.bytes ++ piece)) in bad_ends (r.bytes ++ piece) (r.written ++ written) fault line
           (bad_run (text_lines (r.bytes ++ piece)) written done (c.1 ++ tail) c.0 fault line (first_lines r.bytes piece pending done (c.0 ∷ c.1) r.open_is c.2) print c.3 e)
           (bad_run (lines_read (has_ended before after) (r.bytes ++ piece)) written done c.1 c.0 fault line (lines_of_work piece done (c.0 ∷ c.1) ends c.2) print c.3 e)
           no_write no_flush

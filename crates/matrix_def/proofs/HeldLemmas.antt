@@ -59,8 +59,7 @@ held_with came new is = λ more. subst (λ (bs : List ℕ). IsSameLine (came ++ 
 held_more : (came old new : List ℕ) (byte : ℕ) → IsHeldAs came old → IsHeldAs (old ++ byte ∷ []) new → IsHeldAs (came ++ byte ∷ []) new
 held_more came old new byte before step = λ more.
     let first : IsSameLine ((came ++ byte ∷ []) ++ more) ((old ++ byte ∷ []) ++ more) =
-    same_line _ _ (came ++ byte ∷ more) (old ++ byte ∷ more) (append_assoc came (byte ∷ []) more) (append_assoc old (byte ∷ []) more) (before (byte ∷ more)) in
-    says_then _ _ _ first (step more)
+    same_line _ _ (came ++ byte ∷ more) (old ++ byte ∷ more) (append_assoc came (byte ∷ []) more) (append_assoc old (byte ∷ []) more) (before (byte ∷ more)) in says_then _ _ _ first (step more)
 
 -- the next byte of a part
 pub held_next : (came part old new : List ℕ) (i : ℕ) → i < length part → IsHeldAs (came ++ take i part) old → IsHeldAs (old ++ get_or part i 0 ∷ []) new → IsHeldAs (came ++ take (i + 1) part) new

@@ -37,8 +37,7 @@ no_fault_by file n m (Some kind) told others h e = absurd (cc)
 
 no_fault : (sizes : MatrixSizes) (rows : List (ℕ × List ℕ)) → first_fault 0 (row_fault sizes) (map told_line rows) ≡ None → first_fault 0 (row_fault sizes) rows ≡ None
 no_fault sizes [] e = refl
-no_fault sizes (row ∷ rows) e =
-    no_fault_by 0 (told_number row.0) row.0 (row_fault sizes row.1) (first_fault 0 (row_fault sizes) (map told_line rows)) (first_fault 0 (row_fault sizes) rows) (no_fault sizes rows) e
+no_fault sizes (row ∷ rows) e = no_fault_by 0 (told_number row.0) row.0 (row_fault sizes row.1) (first_fault 0 (row_fault sizes) (map told_line rows)) (first_fault 0 (row_fault sizes) rows) (no_fault sizes rows) e
 
 told_cells : (rows : List (ℕ × List ℕ)) → cells_of (map told_line rows) ≡ cells_of rows
 told_cells [] = refl
@@ -66,8 +65,7 @@ accepted_from (header ∷ rows) c e = accepted_under header.0 (sizes_from (words
 
 pub told_accepted : (bytes : List ℕ) (c : Connection) → told_connection bytes ≡ Ok c → connection_of bytes ≡ Ok c
 told_accepted bytes c e =
-    let lines : List (ℕ × List ℕ) = enumerate_from 1 (source_lines bytes) in
-    accepted_from (nonblank_lines lines) c (ap connection_from (sym (told_filled lines)) ∙ e)
+    let lines : List (ℕ × List ℕ) = enumerate_from 1 (source_lines bytes) in accepted_from (nonblank_lines lines) c (ap connection_from (sym (told_filled lines)) ∙ e)
 
 -- ---- lines that 64 bits count
 

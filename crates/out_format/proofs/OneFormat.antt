@@ -72,8 +72,7 @@ unread part [] (q ∷ qs) done behind text is h (more, k, reads) some stuck =
     stuck q more (subst (λ (xs : List ℕ). Begins part q xs more) (is ∙ ap (λ (xs : List ℕ). xs ++ behind) h) k)
 unread part (p ∷ ps) [] done behind text is (rest, h, reads) k some stuck = nothing_begins part p text (rest ++ behind) k (longer part p text rest done behind h is)
 unread part (p ∷ ps) (q ∷ qs) done behind text is (rest, h, reads) (more, k, others) some stuck =
-    let one = one_piece part p q text (rest ++ behind) more (longer part p text rest done behind h is) k in
-    unread part ps qs rest behind more (sym one.1) reads others some stuck
+    let one = one_piece part p q text (rest ++ behind) more (longer part p text rest done behind h is) k in unread part ps qs rest behind more (sym one.1) reads others some stuck
 
 not_both : (part : FormatPart) (text : List ℕ) (qs : List Piece) (at : ℕ) (kind : FormatKind) → Reads part qs text → IsBadAt part text at kind → ⊥
 not_both part text qs at kind reads bad =

@@ -45,8 +45,7 @@ module _ (words : ℕ → List Word) (conn : ℕ → ℕ → ℤ) (nodes : List 
       let low = slice_get_within links i link at in
       let long = are.long in
       let here = slice_get-get_or nodes i no_node (omega (arith, low, long)) in
-      let n = get_or nodes i no_node in
-      after_leads n n.through link k (are.each i n link here at) some
+      let n = get_or nodes i no_node in after_leads n n.through link k (are.each i n link here at) some
 
   pub rivals_within : (path : List Word) (bests : List (Option Rival)) → AreBestRivals words conn nodes path bests → (i : ℕ) (r : Rival) → slice_get bests i ≡ Some (Some r) → r.number < length nodes
   rivals_within path bests are i r at =

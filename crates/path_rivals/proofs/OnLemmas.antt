@@ -160,8 +160,7 @@ module _ (words : ℕ → List Word) (conn : ℕ → ℕ → ℤ) (len : ℕ) (b
         let p = next_node k leads in
         let m = p.0 in
         let rest = (rest_least words conn len are.lattice.source m.word m.total (are.totals k m p.1) p.2.through (through_at words conn len best linked are k m (Some p.2.through) p.1 p.2.has_through)).0 in
-        let is = rest.4 in
-        stopped_before m k rest.0 rest.1 false p.1 p.2 rest.2 rest.3 (omega (arith, ints, is))
+        let is = rest.4 in stopped_before m k rest.0 rest.1 false p.1 p.2 rest.2 rest.3 (omega (arith, ints, is))
         (λ e. absurd (cc), λ q. absurd (off_best words conn len best linked are k m p.1 off (first_on best rest.0 m.word q)))
         (record { few = few; left_out = λ e. omega (arith, few, many) })
 

@@ -87,8 +87,7 @@ module _ (conn : ℕ → ℕ → ℤ) (ends : List End) (left : ℕ) where
 
   -- one more end
   pub least_more : (d : End) (count : ℕ) (best next result : Join) → count < length ends → next ≡ join_of conn left (get_or ends count d) → IsLesser best next result → IsLeastOf count best → IsLeastOf (count + 1) result
-  least_more d count best next result within is lesser h =
-      lesser_at count best result (get_or ends count d) (slice_get-get_or ends count d within) h (subst (λ (j : Join). IsLesser best j result) is lesser)
+  least_more d count best next result within is lesser h = lesser_at count best result (get_or ends count d) (slice_get-get_or ends count d within) h (subst (λ (j : Join). IsLesser best j result) is lesser)
 
   -- the best of all
   pub least_of_all : (best : Join) → IsLeastOf (length ends) best → IsLeast conn ends left best

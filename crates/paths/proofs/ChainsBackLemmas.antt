@@ -50,8 +50,7 @@ module _ (words : ℕ → List Word) (conn : ℕ → ℕ → ℤ) (len : ℕ) (a
       → (ws : List Word) → IsChainTo words ws to → NoWorse words (cost_with_next conn (v ∷ vs) left) (v ∷ vs) (cost_with_next conn ws left) ws
   best_among_at v vs to left above b others [] h = absurd (omega arith)
   best_among_at v vs to left above b others (w ∷ ds) h =
-      let o = others w ds h in
-      no_worse_along v w vs o.0 ds _ _ _
+      let o = others w ds h in no_worse_along v w vs o.0 ds _ _ _
       (λ same. best_with_same v w vs ds to left same b h)
       o.2
       (best_with w o.0 o.1 ds to left h)

@@ -126,8 +126,7 @@ apart_words_by o text p true has =
     (apart_unknown o (is_empty (known_words o text p)) p start cs has.unknown_apart)
     (λ z i j.
     let f = in_known_from p start (drop start text) 0 (lexicons o) z i in
-    let k = in_unknown o (is_empty (known_words o text p)) p start cs z j in
-    known_not_unknown f.dict f.is_known.of_length.entry.token.number k.entry.number
+    let k = in_unknown o (is_empty (known_words o text p)) p start cs z j in known_not_unknown f.dict f.is_known.of_length.entry.token.number k.entry.number
     (sym (known_origin p start (drop start text) f.dict f.lexicon z f.is_known) ∙ ap (λ (w : Word). w.origin) k.is))
 
 apart_words : (o : Overlay) (text : List ℕ) (p : ℕ) → HasWords o → AreApart (words o text p)

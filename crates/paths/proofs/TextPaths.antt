@@ -39,8 +39,7 @@ spans_there o c cs =
     let info = o.system.info in
     let category = category_at o (info c).head in
     let whole = 1 + run info (info c) cs in
-    let spans_made = grouped_span category o.grouping whole ++ length_spans category whole (alike info c cs) in
-    if_or_true category.invoke (one_if_none true spans_made) (one_or_more spans_made)
+    let spans_made = grouped_span category o.grouping whole ++ length_spans category whole (alike info c cs) in if_or_true category.invoke (one_if_none true spans_made) (one_or_more spans_made)
 
 unknown_for : (o : Overlay) (place start c : ℕ) (cs ns : List ℕ) → CoversAll o → c ≤ code_point_max → 0 < length ns
     → 0 < length (flat_map (λ n. map (unknown_word place start (bytes_of n (c ∷ cs))) (o.system.unknown (o.system.info c).head)) ns)
@@ -55,8 +54,7 @@ unknown_for o place start c cs (n ∷ ns) covers code there =
 
 unknown_there : (o : Overlay) (place start : ℕ) (cs : List ℕ) → CoversAll o → scalars cs ≡ true → 0 < length cs → 0 < length (unknown o true place start cs)
 unknown_there o place start [] covers all there = absurd (omega arith)
-unknown_there o place start (c ∷ cs) covers all there =
-    unknown_for o place start c cs (spans o true c cs) covers (is_code_point c (and_parts (scalar c) (scalars cs) all).0) (spans_there o c cs)
+unknown_there o place start (c ∷ cs) covers all there = unknown_for o place start c cs (spans o true c cs) covers (is_code_point c (and_parts (scalar c) (scalars cs) all).0) (spans_there o c cs)
 
 some_there : (o : Overlay) (ks : List Word) (place start : ℕ) (cs : List ℕ) → CoversAll o → scalars cs ≡ true → 0 < length cs → 0 < length (ks ++ unknown o (is_empty ks) place start cs)
 some_there o [] place start cs covers all there = unknown_there o place start cs covers all there

@@ -89,8 +89,7 @@ in_spans o none_known c cs n h =
 
 apart_spans : (o : Overlay) (none_known : Bool) (c : ℕ) (cs : List ℕ) → AreApart (spans o none_known c cs)
 apart_spans o none_known c cs =
-    let info = o.system.info in
-    apart_spans_of (category_at o (info c).head) none_known o.grouping (1 + run info (info c) cs) (alike info c cs)
+    let info = o.system.info in apart_spans_of (category_at o (info c).head) none_known o.grouping (1 + run info (info c) cs) (alike info c cs)
 
 -- ---- the words
 

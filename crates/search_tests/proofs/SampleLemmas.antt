@@ -54,8 +54,7 @@ once_case v w rest k len p (suc i) (suc j) true up more g h = ap suc (more i j g
 
 once : (ws : List Word) (k len p i j : ℕ) (w : Word) → slice_get (sample_words ws k len p) i ≡ Some w → slice_get (sample_words ws k len p) j ≡ Some w → i ≡ j
 once [] k len p i j w g h = absurd (cc)
-once (v ∷ vs) k len p i j w g h =
-    once_case v w (sample_words vs (k + 1) len p) k len p i j (lies_at len p v) (λ n. lies vs (k + 1) len p n w) (λ m n. once vs (k + 1) len p m n w) g h
+once (v ∷ vs) k len p i j w g h = once_case v w (sample_words vs (k + 1) len p) k len p i j (lies_at len p v) (λ n. lies vs (k + 1) len p n w) (λ m n. once vs (k + 1) len p m n w) g h
 
 record Fields (len p : ℕ) (w : Word) : Type 0 where
   place : w.place ≡ p

@@ -55,8 +55,7 @@ token_of e = e.token
 -- those of a surface
 pub known_stand : (t : Tables) (key : List ℕ) → AreFitting t → AllByRecursion (StandsAtNumber (numbered_tokens t)) (entries_under key t.lexicon)
 known_stand t key fits =
-    let has = λ (e : Lexeme). bytes_eq e.surface key in
-    stand_at_numbers (numbered_tokens t) (entries_under key t.lexicon) fits.numbered (λ e h.
+    let has = λ (e : Lexeme). bytes_eq e.surface key in stand_at_numbers (numbered_tokens t) (entries_under key t.lexicon) fits.numbered (λ e h.
     let l = in_map token_of (filter has t.lexicon) e h in
     let there : StandsIn (map token_of t.lexicon) e = subst (StandsIn (map token_of t.lexicon)) l.2 (map_in token_of t.lexicon l.0 (in_filter has t.lexicon l.0 l.1).0) in
     append_in (map token_of t.lexicon) (unknown_tokens t) e (inl there))

@@ -77,8 +77,7 @@ module _ (info : ℕ → CharInfo) where
   pub run_through : (entry : CharInfo) (xs : List ℕ) (c : ℕ) (cs : List ℕ) → length xs < run info entry (xs ++ c ∷ cs)
       → run info entry (xs ++ c ∷ cs) ≡ length xs + suc (run info (info c) cs)
   run_through entry [] c cs less = let e = goes_on entry c cs less in omega (arith, e)
-  run_through entry (x ∷ xs) c cs less =
-      more_by (length xs) (run info (info x) (xs ++ c ∷ cs)) (suc (run info (info c) cs)) (shares entry (info x)) less (λ h. run_through (info x) xs c cs h)
+  run_through entry (x ∷ xs) c cs less = more_by (length xs) (run info (info x) (xs ++ c ∷ cs)) (suc (run info (info c) cs)) (shares entry (info x)) less (λ h. run_through (info x) xs c cs h)
 
 -- ---- character by character
 
