@@ -101,10 +101,11 @@ def check_rewritten(folder, library):
 
 
 def check_threads(folder, library, lines, dictionary):
-    """One tagger in four threads, with no race that valgrind's helgrind finds, or gcc's ThreadSanitizer in the layer."""
+    """One tagger in four threads, with no race that valgrind's helgrind finds, or gcc's ThreadSanitizer in the layer. Helgrind takes an atomic read
+    for a plain one. So for it the entries of the lines are kept before the threads begin, and ThreadSanitizer has the threads keep them."""
     ours = dict(os.environ, LD_LIBRARY_PATH=str(library.parent))
     program = compiled(CLIENTS / "one_tagger.c", folder, library)
-    run(["valgrind", "-q", "--tool=helgrind", "--error-exitcode=9", program, dictionary, first_lines(lines, 20, folder)], ours)
+    run(["valgrind", "-q", "--tool=helgrind", "--error-exitcode=9", program, dictionary, first_lines(lines, 20, folder), "met"], ours)
     program = with_layer(folder, library, CLIENTS / "one_tagger.c", "-fsanitize=thread")
     run([program, dictionary, first_lines(lines, 1000, folder)], os.environ)
     print("mecab-clients: one tagger in four threads: no race", flush=True)
