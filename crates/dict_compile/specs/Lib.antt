@@ -4,6 +4,7 @@ pub mod CoveredTexts
 pub mod Faults
 pub mod Answers
 pub mod Outcomes
+pub mod UserOutcomes
 pub mod Images
 pub mod UserImages
 pub mod EveryKey

@@ -5,8 +5,8 @@ ghost use Rattle.dict_compile.specs.Outcomes.{AnswersKeysFrom, IsCompilationRefu
 ghost use Rattle.dict_compile.specs.Steps.{AreSteps, TellsSteps};
 
 use crate::compiled::Compiled;
+use crate::images::system_image;
 use crate::parts::read_sources;
-use crate::system_image::system_image;
 use crate::watch::{Unwatched, Watch};
 use mj_model::{SourceFault, Sources};
 use std::alloc::Global;

@@ -4,14 +4,13 @@
 mod compilation;
 mod compiled;
 mod fault;
+mod images;
 pub mod laws;
 mod lexicons;
 mod other_sources;
 mod parts;
-mod system_image;
 mod unknown;
 mod user_compilation;
-mod user_image;
 mod watch;
 
 pub use compilation::{compile, compile_watched};

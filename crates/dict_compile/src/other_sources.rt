@@ -8,8 +8,8 @@ ghost use Rattle.dict_compile.specs.OtherSources.{sources_with};
 ghost use Rattle.dict_compile.specs.Steps.{AreSteps, TellsSteps};
 
 use crate::compiled::Compiled;
+use crate::images::system_image;
 use crate::parts::read_others;
-use crate::system_image::system_image;
 use crate::watch::Watch;
 use matrix_def::Matrix;
 use mj_model::SourceFault;

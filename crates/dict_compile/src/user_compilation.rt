@@ -7,16 +7,16 @@ ghost use Rattle.mj_model.specs.FirstFault.{IsRefusal};
 ghost use Rattle.image_bytes.specs.ImageMeaning.{image_tables};
 ghost use Rattle.mj_model.specs.Tables.{Tables as TablesOf, User};
 ghost use Rattle.mj_model.specs.Connection.{AreMatrixSizes};
-ghost use Rattle.dict_compile.specs.Answers.{IsRefusedFor, IsUserRefusedFor, lexicons_of};
-ghost use Rattle.dict_compile.specs.EveryKey.{AnswersKeysOf};
+ghost use Rattle.dict_compile.specs.Answers.{IsRefusedFor, lexicons_of};
 ghost use Rattle.dict_compile.specs.Steps.{AreEntrySteps, TellsSteps};
 ghost use Rattle.dict_compile.specs.UserImages.{IsSystemOf};
-ghost use Rattle.dict_compile.specs.declared.fault.CompileUserFault.TheVariants.{NotSystem, Source};
+ghost use Rattle.dict_compile.specs.UserOutcomes.{AnswersUserKeysFrom, IsUserCompiledFrom, IsUserRefusal, IsUserRefusedAtFault};
+ghost use Rattle.dict_compile.specs.declared.fault.CompileUserFault.TheVariants.{NotSystem};
 
 use crate::compiled::Compiled;
 use crate::fault::CompileUserFault;
+use crate::images::user_image;
 use crate::lexicons::read_lexicons;
-use crate::user_image::user_image;
 use crate::watch::{Unwatched, Watch};
 use dict_image::Dict;
 use mj_model::{MatrixSizes, SourceFault};
@@ -30,17 +30,11 @@ pub fn compile_user(
     system: &Dict,
     lexicons: &[&[u8]],
 ) -> Result<Compiled, CompileUserFault>
-    ensures compiled { IfOk result (λ compiled. IsUserCompilation (image_tables system.now)
-        (lexicons_of lexicons.now) compiled.image.items compiled.entries compiled.skipped) }
-    ensures every_key { IfOk result (λ compiled. AnswersKeysOf (image_tables system.now).sizes
-        (lexicons_of lexicons.now) (image_tables compiled.image.items)) }
+    ensures compiled { IfOk result (IsUserCompiledFrom system.now (lexicons_of lexicons.now)) }
+    ensures every_key { IfOk result (AnswersUserKeysFrom system.now (lexicons_of lexicons.now)) }
     ensures not_system { (result ≡ Err NotSystem) ↔ ((image_tables system.now).kind ≡ User) }
-    ensures refused { (fault : FaultOf) → result ≡ Err (Source fault)
-        → IsRefusal fault (IsUserCause (image_tables system.now) (lexicons_of lexicons.now) fault) }
-    // Lexicons at fault are refused with their first fault, want of memory and of cells aside.
-    ensures first { (fault : FaultOf)
-        → IsUserFault (image_tables system.now) (lexicons_of lexicons.now) fault
-        → IsUserRefusedFor fault result }
+    ensures refused { IsUserRefusal system.now (lexicons_of lexicons.now) result }
+    ensures first { IsUserRefusedAtFault system.now (lexicons_of lexicons.now) result }
 {
     compile_user_watched(alloc, system, lexicons, &mut Unwatched {})
 }
@@ -52,17 +46,11 @@ pub fn compile_user_watched<W: Watch>(
     lexicons: &[&[u8]],
     watch: &mut W,
 ) -> Result<Compiled, CompileUserFault>
-    ensures compiled { IfOk result (λ compiled. IsUserCompilation (image_tables system.now)
-        (lexicons_of lexicons.now) compiled.image.items compiled.entries compiled.skipped) }
-    ensures every_key { IfOk result (λ compiled. AnswersKeysOf (image_tables system.now).sizes
-        (lexicons_of lexicons.now) (image_tables compiled.image.items)) }
+    ensures compiled { IfOk result (IsUserCompiledFrom system.now (lexicons_of lexicons.now)) }
+    ensures every_key { IfOk result (AnswersUserKeysFrom system.now (lexicons_of lexicons.now)) }
     ensures not_system { (result ≡ Err NotSystem) ↔ ((image_tables system.now).kind ≡ User) }
-    ensures refused { (fault : FaultOf) → result ≡ Err (Source fault)
-        → IsRefusal fault (IsUserCause (image_tables system.now) (lexicons_of lexicons.now) fault) }
-    // Lexicons at fault are refused with their first fault, want of memory and of cells aside.
-    ensures first { (fault : FaultOf)
-        → IsUserFault (image_tables system.now) (lexicons_of lexicons.now) fault
-        → IsUserRefusedFor fault result }
+    ensures refused { IsUserRefusal system.now (lexicons_of lexicons.now) result }
+    ensures first { IsUserRefusedAtFault system.now (lexicons_of lexicons.now) result }
     // Whoever watches is told all steps, each of them once and in their order.
     ensures steps { TellsSteps (W.told watch.old) (W.told watch.new)
         (λ _. AreEntrySteps (image_tables system.now).sizes (lexicons_of lexicons.now)) result }

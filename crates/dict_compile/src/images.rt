@@ -1,0 +1,81 @@
+//! The images of what sources say.
+
+ghost use Rattle.std.specs.Prelude.{◌++◌, List, [], ◌∷◌, length, OnOk, IfOk, IfErr};
+ghost use Rattle.mj_model.specs.Connection.{AreMatrixSizes};
+ghost use Rattle.lex_source.specs.Lexicons.{AreSortedOf};
+ghost use Rattle.dict_compile.specs.Images.{IsImageOf, IsImageRefusal};
+ghost use Rattle.dict_compile.specs.Parts.{FitTogether};
+ghost use Rattle.dict_compile.specs.UserImages.{IsUserImageOf, IsUserImageRefusal};
+ghost use Rattle.dict_compile.specs.declared.watch.Step.{Step as StepOf};
+ghost use Rattle.dict_compile.specs.declared.watch.Step.TheVariants.{Sorted};
+
+use crate::compiled::Compiled;
+use crate::fault::of_image;
+use crate::lexicons::LexiconsRead;
+use crate::parts::SourceParts;
+use crate::watch::{Step, Watch};
+use image_writer::{write_system, write_user};
+use lex_source::{SortedLexicon, SourceLexicon};
+use mj_model::SourceFault;
+use std::alloc::{AllocError, Global};
+
+/// The image of a system dictionary, whose entries are sorted once.
+pub(crate) fn system_image<W: Watch>(
+    alloc: Global,
+    parts: SourceParts<'_>,
+    watch: &mut W,
+) -> Result<Compiled, SourceFault>
+    requires { FitTogether parts }
+    ensures image { IfOk result (IsImageOf parts.entry) }
+    ensures refused { IfErr result (IsImageRefusal parts.entry) }
+    ensures steps { (before : List StepOf) → W.told watch.old before → OnOk result
+        (W.told watch.new (before ++ Sorted (length parts.entry.lexicon.rows) ∷ [])) }
+{
+    let entries = parts.lexicon.len() as u64;
+    let lexicon = sorted(parts.lexicon, watch)?;
+    let image = write_system(alloc, &parts.matrix, &parts.chars, &parts.unknown, lexicon).map_err(
+        of_image,
+    )?;
+    Ok(Compiled {
+        image,
+        entries,
+        skipped: parts.skipped,
+    })
+}
+
+/// The image of a user dictionary, whose entries are sorted once.
+pub(crate) fn user_image<W: Watch>(
+    alloc: Global,
+    read: LexiconsRead<'_>,
+    watch: &mut W,
+) -> Result<Compiled, SourceFault>
+    requires { AreMatrixSizes read.lexicon.sizes }
+    ensures image { IfOk result (IsUserImageOf read.entry) }
+    ensures refused { IfErr result (IsUserImageRefusal read.entry) }
+    ensures steps { (before : List StepOf) → W.told watch.old before → OnOk result
+        (W.told watch.new (before ++ Sorted (length read.entry.lexicon.rows) ∷ [])) }
+{
+    let entries = read.lexicon.len() as u64;
+    let lexicon = sorted(read.lexicon, watch)?;
+    let image = write_user(alloc, lexicon).map_err(of_image)?;
+    Ok(Compiled {
+        image,
+        entries,
+        skipped: read.skipped,
+    })
+}
+
+/// The entries in the order of an image, of which whoever watches is told.
+fn sorted<'a, W: Watch>(
+    lexicon: SourceLexicon<'a>,
+    watch: &mut W,
+) -> Result<SortedLexicon<'a>, AllocError>
+    ensures order { IfOk result (AreSortedOf lexicon.entry) }
+    ensures step { (before : List StepOf) → W.told watch.old before → OnOk result
+        (W.told watch.new (before ++ Sorted (length lexicon.entry.rows) ∷ [])) }
+{
+    let entries = lexicon.len() as u64;
+    let sorted = lexicon.sorted()?;
+    watch.done(Step::Sorted { entries });
+    Ok(sorted)
+}
