@@ -14,30 +14,25 @@ pub const VERSION: &str = "0.1.0\nimage layouts read: 1, 2, 3; written: 3";
 pub(crate) const EXPLAIN: Row = Row {
     id: "explain",
     name: Name::Long("explain"),
-    taken: MAY_HAVE_VALUE,
     values: &["CODE"],
-    excluded: &[],
     help: "Explain the fault with a code or name, as L4, and what to do; without one, list all",
+    ..MAY_HAVE_VALUE
 };
 
 /// `-v`.
 pub(crate) const VERBOSE: Row = Row {
     id: "verbose",
     name: Name::Letter('v'),
-    taken: FLAG,
-    values: &[],
-    excluded: &[],
     help: "Say on standard error what is done, and why a file can't be read",
+    ..FLAG
 };
 
 /// `--skip-digest`.
 pub(crate) const SKIP_DIGEST: Row = Row {
     id: "skip-digest",
     name: Name::Long("skip-digest"),
-    taken: FLAG,
-    values: &[],
-    excluded: &[],
     help: "Load images without the test of their digest, which takes most of the time, where their bytes are guarded otherwise",
+    ..FLAG
 };
 
 /// Answers `--explain`, where it was given: with what is explained, or, where nothing is named, with all codes.

@@ -24,10 +24,7 @@ impl OptionsFault {
         if error.kind() == ErrorKind::OutOfMemory {
             return OptionsFault::Memory;
         }
-        match format!(in alloc; "{program}: an argument is not UTF-8\n") {
-            Ok(text) => OptionsFault::Bad(text),
-            Err(_) => OptionsFault::Memory,
-        }
+        bad(format!(in alloc; "{program}: an argument is not UTF-8\n"))
     }
 
     /// The fault of a command line that the parser of words refuses, or help that it was asked for.
@@ -44,19 +41,13 @@ impl OptionsFault {
 
     /// The fault of a command line that is wrong in this way.
     pub fn wrong(alloc: Global, program: &str, message: &str) -> OptionsFault {
-        match format!(in alloc; "{program}: {message}\n\nFor more information, try '--help'.\n") {
-            Ok(text) => OptionsFault::Bad(text),
-            Err(_) => OptionsFault::Memory,
-        }
+        bad(format!(in alloc; "{program}: {message}\n\nFor more information, try '--help'.\n"))
     }
 
     /// The same without the parser's tip to give an option as a word, for a program that takes no words.
     pub(crate) fn without_tip(self, alloc: Global) -> OptionsFault {
         match self {
-            OptionsFault::Bad(text) => match without_tip(alloc, text.as_str()) {
-                Ok(text) => OptionsFault::Bad(text),
-                Err(_) => OptionsFault::Memory,
-            },
+            OptionsFault::Bad(text) => bad(without_tip(alloc, text.as_str())),
             other => other,
         }
     }
@@ -64,10 +55,7 @@ impl OptionsFault {
     /// The same with the control characters of words escaped. The lines of the text stay.
     pub(crate) fn in_lines(self, alloc: Global) -> OptionsFault {
         match self {
-            OptionsFault::Bad(text) => match format!(in alloc; "{}", ToldLines(text.as_str())) {
-                Ok(text) => OptionsFault::Bad(text),
-                Err(_) => OptionsFault::Memory,
-            },
+            OptionsFault::Bad(text) => bad(format!(in alloc; "{}", ToldLines(text.as_str()))),
             other => other,
         }
     }
@@ -75,12 +63,7 @@ impl OptionsFault {
     /// The same with what to write in place of a word that begins as an option and is meant as the name of a file.
     pub(crate) fn with_file_tip(self, alloc: Global, word: Option<&str>) -> OptionsFault {
         match (self, word) {
-            (OptionsFault::Bad(text), Some(word)) => {
-                match with_file_tip(alloc, text.as_str(), word) {
-                    Ok(text) => OptionsFault::Bad(text),
-                    Err(_) => OptionsFault::Memory,
-                }
-            }
+            (OptionsFault::Bad(text), Some(word)) => bad(with_file_tip(alloc, text.as_str(), word)),
             (other, _) => other,
         }
     }
@@ -88,10 +71,7 @@ impl OptionsFault {
     /// The fault that the parser tells with this text, which begins with the program's name in place of the parser's word.
     fn begun(alloc: Global, program: &str, text: &str) -> OptionsFault {
         let told = text.strip_prefix("error: ").unwrap_or(text);
-        match format!(in alloc; "{program}: {told}") {
-            Ok(text) => OptionsFault::Bad(text),
-            Err(_) => OptionsFault::Memory,
-        }
+        bad(format!(in alloc; "{program}: {told}"))
     }
 
     /// The text to print; empty where memory was refused.
@@ -109,6 +89,14 @@ impl OptionsFault {
             OptionsFault::Bad(_) => 2,
             OptionsFault::Memory => 4,
         }
+    }
+}
+
+/// A command line that is wrong, with the text to print where there is memory for it.
+fn bad(text: Result<String, AllocError>) -> OptionsFault {
+    match text {
+        Ok(text) => OptionsFault::Bad(text),
+        Err(AllocError) => OptionsFault::Memory,
     }
 }
 

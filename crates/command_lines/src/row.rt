@@ -9,11 +9,23 @@ use std::alloc::{AllocError, Global};
 pub(crate) struct Row {
     pub id: &'static str,
     pub name: Name,
-    pub taken: Taken,
+    /// Whether it is a flag, has the values of its one use, or of all its uses.
+    pub action: ArgAction,
+    /// How many values a use has at least.
+    pub least: usize,
+    /// How many values a use has at most.
+    pub most: usize,
+    pub parser: ValueParser<'static>,
     /// What help calls its value, if it has one.
     pub values: &'static [&'static str],
     /// The ids of the options that may not be given with it.
     pub excluded: &'static [&'static str],
+    /// Whether it has to be given.
+    pub is_needed: bool,
+    /// Whether a value may be empty or begin with `-`.
+    pub is_text: bool,
+    /// Whether help leaves it out.
+    pub is_hidden: bool,
     pub help: &'static str,
 }
 
@@ -27,37 +39,24 @@ pub(crate) enum Name {
     Words,
 }
 
-/// What is given with an option, and how often.
-#[derive(Clone, Copy)]
-pub(crate) struct Taken {
-    /// Whether it is a flag, has the values of its one use, or of all its uses.
-    pub action: ArgAction,
-    /// How many values a use has at least.
-    pub least: usize,
-    /// How many values a use has at most.
-    pub most: usize,
-    pub parser: ValueParser<'static>,
-    /// Whether it has to be given.
-    pub is_needed: bool,
-    /// Whether a value may be empty or begin with `-`.
-    pub is_text: bool,
-    /// Whether help leaves it out.
-    pub is_hidden: bool,
-}
-
-/// Nothing.
-pub(crate) const FLAG: Taken = Taken {
+/// An option without a value. A row names what it has beside this, or one of the next.
+pub(crate) const FLAG: Row = Row {
+    id: "",
+    name: Name::Words,
     action: ArgAction::SetTrue,
     least: 0,
     most: 0,
     parser: ValueParser::Bool,
+    values: &[],
+    excluded: &[],
     is_needed: false,
     is_text: false,
     is_hidden: false,
+    help: "",
 };
 
-/// One value.
-pub(crate) const VALUE: Taken = Taken {
+/// One that has one value.
+pub(crate) const VALUE: Row = Row {
     action: ArgAction::Set,
     least: 1,
     most: 1,
@@ -65,45 +64,39 @@ pub(crate) const VALUE: Taken = Taken {
     ..FLAG
 };
 
-/// One value or none.
-pub(crate) const MAY_HAVE_VALUE: Taken = Taken { least: 0, ..VALUE };
+/// One that has one value or none.
+pub(crate) const MAY_HAVE_VALUE: Row = Row { least: 0, ..VALUE };
 
-/// One value, and the option has to be given.
-pub(crate) const NEEDED: Taken = Taken {
+/// One that has one value, and has to be given.
+pub(crate) const NEEDED: Row = Row {
     is_needed: true,
     ..VALUE
 };
 
-/// One value as it stands.
-pub(crate) const TEXT: Taken = Taken {
+/// One that has one value as it stands.
+pub(crate) const TEXT: Row = Row {
     is_text: true,
     ..VALUE
 };
 
-/// One value at each use.
-pub(crate) const VALUES: Taken = Taken {
+/// One that has one value at each use.
+pub(crate) const VALUES: Row = Row {
     action: ArgAction::Append,
     ..VALUE
 };
 
-/// One word or more.
-pub(crate) const WORDS: Taken = Taken {
+/// Words that are no options, one or more.
+pub(crate) const WORDS: Row = Row {
     most: usize::MAX,
     is_needed: true,
     ..VALUES
 };
 
-/// Anything, since the program refuses it: help tells what to do instead, once it was given.
-pub(crate) const REFUSED: Taken = Taken {
+/// One with anything, since the program refuses it: help tells what to do instead, once it was given.
+pub(crate) const REFUSED: Row = Row {
     least: 0,
     is_hidden: true,
     ..VALUES
-};
-
-/// Any words, since the program refuses them.
-pub(crate) const REFUSED_WORDS: Taken = Taken {
-    most: usize::MAX,
-    ..REFUSED
 };
 
 /// A command that takes the rows of a table too, in their order.
@@ -123,12 +116,12 @@ impl Row {
         let arg = Arg::new(alloc, self.id)
             .help(self.help)
             .value_names(self.values)
-            .action(self.taken.action)
-            .num_args(self.taken.least..=self.taken.most)
-            .value_parser(self.taken.parser)
-            .required(self.taken.is_needed)
-            .allow_hyphen_values(self.taken.is_text)
-            .hide(self.taken.is_hidden);
+            .action(self.action)
+            .num_args(self.least..=self.most)
+            .value_parser(self.parser)
+            .required(self.is_needed)
+            .allow_hyphen_values(self.is_text)
+            .hide(self.is_hidden);
         self.name.of(arg).conflicts_with_all(self.excluded)
     }
 }

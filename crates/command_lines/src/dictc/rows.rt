@@ -5,16 +5,16 @@ use crate::row::Name::{Letter, Long, Words};
 use crate::row::{FLAG, NEEDED, Row, VALUES, WORDS};
 
 #[rattlefmt::skip]
-const OUT: Row = Row { id: "out", name: Long("out"), taken: NEEDED, values: &["IMG"], excluded: &[],
-    help: "The image to write" };
+const OUT: Row = Row { id: "out", name: Long("out"), values: &["IMG"],
+    help: "The image to write", ..NEEDED };
 
 #[rattlefmt::skip]
-const ALL_FAULTS: Row = Row { id: "all-faults", name: Long("all-faults"), taken: FLAG, values: &[], excluded: &[],
-    help: "Report each fault of the lexicons with its line, up to 20, as if the lines of those before it were empty" };
+const ALL_FAULTS: Row = Row { id: "all-faults", name: Long("all-faults"),
+    help: "Report each fault of the lexicons with its line, up to 20, as if the lines of those before it were empty", ..FLAG };
 
 #[rattlefmt::skip]
-const LEXICONS: Row = Row { id: "lexicons", name: Words, taken: WORDS, values: &["LEX"], excluded: &[],
-    help: "The lexicons, in their order" };
+const LEXICONS: Row = Row { id: "lexicons", name: Words, values: &["LEX"],
+    help: "The lexicons, in their order", ..WORDS };
 
 /// What the program takes without a subcommand.
 pub(super) static ROWS: [Row; 1] = [EXPLAIN];
@@ -22,12 +22,12 @@ pub(super) static ROWS: [Row; 1] = [EXPLAIN];
 /// What `dictc system` takes, in the order of help.
 #[rattlefmt::skip]
 pub(super) static SYSTEM_ROWS: [Row; 7] = [
-    Row { id: "matrix", name: Long("matrix"), taken: NEEDED, values: &["FILE"], excluded: &[],
-        help: "The connection costs: matrix.def" },
-    Row { id: "char", name: Long("char"), taken: NEEDED, values: &["FILE"], excluded: &[],
-        help: "The character categories: char.def" },
-    Row { id: "unk", name: Long("unk"), taken: NEEDED, values: &["FILE"], excluded: &[],
-        help: "The unknown words: unk.def" },
+    Row { id: "matrix", name: Long("matrix"), values: &["FILE"],
+        help: "The connection costs: matrix.def", ..NEEDED },
+    Row { id: "char", name: Long("char"), values: &["FILE"],
+        help: "The character categories: char.def", ..NEEDED },
+    Row { id: "unk", name: Long("unk"), values: &["FILE"],
+        help: "The unknown words: unk.def", ..NEEDED },
     OUT,
     ALL_FAULTS,
     VERBOSE,
@@ -37,8 +37,8 @@ pub(super) static SYSTEM_ROWS: [Row; 7] = [
 /// What `dictc user` takes, in the order of help.
 #[rattlefmt::skip]
 pub(super) static USER_ROWS: [Row; 6] = [
-    Row { id: "dic", name: Long("dic"), taken: NEEDED, values: &["IMG"], excluded: &[],
-        help: "The image of the system dictionary that it is made for" },
+    Row { id: "dic", name: Long("dic"), values: &["IMG"],
+        help: "The image of the system dictionary that it is made for", ..NEEDED },
     SKIP_DIGEST,
     OUT,
     ALL_FAULTS,
@@ -49,12 +49,12 @@ pub(super) static USER_ROWS: [Row; 6] = [
 /// What `dictc ids` takes, in the order of help.
 #[rattlefmt::skip]
 pub(super) static IDS_ROWS: [Row; 5] = [
-    Row { id: "dic", name: Long("dic"), taken: NEEDED, values: &["IMG"], excluded: &[],
-        help: "The image of a system dictionary" },
-    Row { id: "users", name: Letter('u'), taken: VALUES, values: &["IMG"], excluded: &[],
-        help: "The image of a user dictionary, whose entries are looked at too; may be given again" },
+    Row { id: "dic", name: Long("dic"), values: &["IMG"],
+        help: "The image of a system dictionary", ..NEEDED },
+    Row { id: "users", name: Letter('u'), values: &["IMG"],
+        help: "The image of a user dictionary, whose entries are looked at too; may be given again", ..VALUES },
     SKIP_DIGEST,
     VERBOSE,
-    Row { id: "feature", name: Words, taken: NEEDED, values: &["FEATURE"], excluded: &[],
-        help: "The first fields of a feature, with commas between; an empty one and * stand for any" },
+    Row { id: "feature", name: Words, values: &["FEATURE"],
+        help: "The first fields of a feature, with commas between; an empty one and * stand for any", ..NEEDED },
 ];

@@ -2,7 +2,7 @@
 
 use crate::about::{EXPLAIN, SKIP_DIGEST, VERBOSE};
 use crate::row::Name::{Letter, Long};
-use crate::row::{FLAG, Row, TEXT, Taken, VALUE, VALUES};
+use crate::row::{FLAG, Row, TEXT, VALUE, VALUES};
 use clap::builder::ValueParser;
 use mj_model::GROUPING_MAX;
 
@@ -35,56 +35,38 @@ const OF_WORDS_AND_LATTICES: &[&str] = &[
 /// The forms of a printed lattice.
 pub(super) const FORMS: [&str; 2] = ["tsv", "dot"];
 
-/// The name of a form.
-const FORM: Taken = Taken {
-    parser: ValueParser::Names(&FORMS),
-    ..VALUE
-};
-
-/// A cost from 0 on.
-const COST: Taken = Taken {
-    parser: ValueParser::Signed(0, i64::MAX),
-    ..VALUE
-};
-
-/// A number from 0 to `GROUPING_MAX`.
-const GROUPING: Taken = Taken {
-    parser: ValueParser::Signed(0, GROUPING_MAX as i64),
-    ..VALUE
-};
-
 /// The options, in the order of help.
 #[rattlefmt::skip]
 pub(super) static ROWS: [Row; 17] = [
-    Row { id: "dic", name: Letter('d'), taken: VALUE, values: &["IMG"], excluded: &[],
-        help: "Cut the text with the system dictionary of an image" },
-    Row { id: "users", name: Letter('u'), taken: VALUES, values: &["IMG"], excluded: &["sources", "sample"],
-        help: "Cut it with the user dictionary of an image too, with -d; may be given again" },
-    Row { id: "sources", name: Long("sources"), taken: VALUE, values: &["DIR"], excluded: &[],
-        help: "Cut the text with the sources of a directory: matrix.def, char.def, unk.def and every .csv" },
-    Row { id: "sample", name: Long("sample"), taken: FLAG, values: &[], excluded: &[],
-        help: "Cut the text with the sample's sources" },
+    Row { id: "dic", name: Letter('d'), values: &["IMG"],
+        help: "Cut the text with the system dictionary of an image", ..VALUE },
+    Row { id: "users", name: Letter('u'), values: &["IMG"], excluded: &["sources", "sample"],
+        help: "Cut it with the user dictionary of an image too, with -d; may be given again", ..VALUES },
+    Row { id: "sources", name: Long("sources"), values: &["DIR"],
+        help: "Cut the text with the sources of a directory: matrix.def, char.def, unk.def and every .csv", ..VALUE },
+    Row { id: "sample", name: Long("sample"),
+        help: "Cut the text with the sample's sources", ..FLAG },
     Row { excluded: &["sources", "sample"], ..SKIP_DIGEST },
-    Row { id: "grouping", name: Letter('M'), taken: GROUPING, values: &["N"], excluded: &[],
-        help: "How many characters may follow the first one of a grouped unknown word (24)" },
-    Row { id: "output", name: Letter('O'), taken: VALUE, values: &["NAME"], excluded: &[],
-        help: "An output format by its name: wakati, a line of surfaces with a blank after each" },
-    Row { id: "node", name: Letter('F'), taken: TEXT, values: &["FORMAT"], excluded: &[],
-        help: "The format of known words" },
-    Row { id: "unk", name: Letter('U'), taken: TEXT, values: &["FORMAT"], excluded: &[],
-        help: "The format of unknown words" },
-    Row { id: "bos", name: Letter('B'), taken: TEXT, values: &["FORMAT"], excluded: &[],
-        help: "What is printed before the first word of a line" },
-    Row { id: "eos", name: Letter('E'), taken: TEXT, values: &["FORMAT"], excluded: &[],
-        help: "What is printed after the last word of a line" },
-    Row { id: "lattice", name: Long("lattice"), taken: FORM, values: &["FORM"], excluded: OF_WORDS,
-        help: "Print the lattice of each line: tsv, a table of its words, or dot, a graph for Graphviz" },
-    Row { id: "within", name: Long("within"), taken: COST, values: &["N"], excluded: &[],
-        help: "With --lattice, leave out the words that lost by more than N and those without a path" },
-    Row { id: "why", name: Long("why"), taken: FLAG, values: &[], excluded: OF_WORDS_AND_LATTICES,
-        help: "Print why each line is cut so: a table of its words and their costs, each with its best rival" },
-    Row { id: "dictionaries", name: Long("dictionaries"), taken: FLAG, values: &[], excluded: OF_TEXTS,
-        help: "List the images that a bare name may find, and cut nothing: name, bytes, entries, path" },
+    Row { id: "grouping", name: Letter('M'), values: &["N"], parser: ValueParser::Signed(0, GROUPING_MAX as i64),
+        help: "How many characters may follow the first one of a grouped unknown word (24)", ..VALUE },
+    Row { id: "output", name: Letter('O'), values: &["NAME"],
+        help: "An output format by its name: wakati, a line of surfaces with a blank after each", ..VALUE },
+    Row { id: "node", name: Letter('F'), values: &["FORMAT"],
+        help: "The format of known words", ..TEXT },
+    Row { id: "unk", name: Letter('U'), values: &["FORMAT"],
+        help: "The format of unknown words", ..TEXT },
+    Row { id: "bos", name: Letter('B'), values: &["FORMAT"],
+        help: "What is printed before the first word of a line", ..TEXT },
+    Row { id: "eos", name: Letter('E'), values: &["FORMAT"],
+        help: "What is printed after the last word of a line", ..TEXT },
+    Row { id: "lattice", name: Long("lattice"), values: &["FORM"], parser: ValueParser::Names(&FORMS), excluded: OF_WORDS,
+        help: "Print the lattice of each line: tsv, a table of its words, or dot, a graph for Graphviz", ..VALUE },
+    Row { id: "within", name: Long("within"), values: &["N"], parser: ValueParser::Signed(0, i64::MAX),
+        help: "With --lattice, leave out the words that lost by more than N and those without a path", ..VALUE },
+    Row { id: "why", name: Long("why"), excluded: OF_WORDS_AND_LATTICES,
+        help: "Print why each line is cut so: a table of its words and their costs, each with its best rival", ..FLAG },
+    Row { id: "dictionaries", name: Long("dictionaries"), excluded: OF_TEXTS,
+        help: "List the images that a bare name may find, and cut nothing: name, bytes, entries, path", ..FLAG },
     VERBOSE,
     EXPLAIN,
 ];
