@@ -1,6 +1,6 @@
 -- What was cut last, as it is lent, its lattice, and features that were appended.
 use Rattle.std.proofs.Common.{◌≡◌, ℕ, ◌+◌, ◌<◌, ◌≤◌, List, [], ◌∷◌, ◌++◌, length, take, drop, get_or, Some, refl, subst, sym, ap, ◌∙◌, append_assoc, append-nil, arith}
-use Rattle.std.specs.Prelude.{IsUtf8, OnErr, Option, Result, Ok, Err}
+use Rattle.std.specs.Prelude.{IsUtf8, Option}
 use Rattle.std.specs.Option.{IsSomeAnd}
 use Rattle.std.proofs.lemmas.List.{length-append, take-append-drop, take_more}
 use Rattle.std.proofs.lemmas.List.Concat.{flat_map-append}
@@ -63,8 +63,3 @@ no_room_for_all o words i d old now feature room before low now_is here grown fu
     let all : features_of o words ≡ features_of o front ++ features_of o rest =
     ap (features_of o) (sym (take-append-drop (i + 1) words)) ∙ flat_map-append (λ (w : Word). feature_of o w.origin) front rest in
     omega (arith, grown, full, ap length next, length-append now feature, length-append old (features_of o front), ap length all, length-append (features_of o front) (features_of o rest))
-
--- what holds anyway holds on an error
-pub on_err : {E : Type 0} (r : Result (Unit {0}) E) (P : Type 0) → P → OnErr r P
-on_err (Ok x) P p = tt
-on_err (Err e) P p = p

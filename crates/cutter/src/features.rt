@@ -1,6 +1,6 @@
 //! Features of all words of a path.
 
-ghost use Rattle.std.specs.Prelude.{◌≡◌, ◌+◌, ◌<◌, ◌++◌, length, take, vec_capacity, vec_len, OnOk, OnErr};
+ghost use Rattle.std.specs.Prelude.{◌≡◌, ◌+◌, ◌<◌, ◌++◌, length, vec_capacity, vec_len, OnOk, OnErr};
 ghost use Rattle.cutter.specs.Reaching.{features_of};
 ghost use Rattle.mj_model.specs.Printed.{feature_of};
 ghost use Rattle.word_lookup.specs.Overlays.{overlay_of};
@@ -22,27 +22,11 @@ pub fn append_features(
         < vec_len out.old + length (features_of (overlay_of dictionaries.now) words.now)) }
 {
     let count = out.len();
-    let appended = append_each(dictionaries, words, out);
-    if appended.is_err() {
-        out.truncate(count);
-    }
-    appended
-}
-
-/// Appends the features of words, or of the first ones where memory is refused.
-fn append_each(
-    dictionaries: &Dictionaries<'_>,
-    words: &[Word],
-    out: &mut Vec<u8>,
-) -> Result<(), AllocError>
-    ensures appended { OnOk result
-        (out.new.items ≡ out.old.items ++ features_of (overlay_of dictionaries.now) words.now) }
-    ensures front { take (vec_len out.old) out.new.items ≡ out.old.items }
-    ensures full { OnErr result (vec_capacity out.old
-        < vec_len out.old + length (features_of (overlay_of dictionaries.now) words.now)) }
-{
     for word in words {
-        out.extend_from_slice(dictionaries.feature(word).as_bytes())?;
+        if let Err(refused) = out.extend_from_slice(dictionaries.feature(word).as_bytes()) {
+            out.truncate(count);
+            return Err(refused);
+        }
     }
     Ok(())
 }

@@ -2,7 +2,7 @@ use Rattle.std.proofs.Common.{◌≡◌, ◌≤◌, ◌++◌, take}
 use Rattle.std.specs.Prelude.{vec_capacity}
 use Rattle.cutter.specs.Reaching.{features_of}
 use Rattle.word_lookup.specs.Overlays.{overlay_of}
-use Rattle.cutter.proofs.features.append_each.Given as goal
+use Rattle.cutter.proofs.features.append_features.Given as goal
 
 abbrev pub invariant-loop-word : goal.invariant-loop-word
 invariant-loop-word l = record {
