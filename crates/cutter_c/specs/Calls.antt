@@ -2,9 +2,9 @@
 use Rattle.std.specs.Prelude.{◌≡◌, ◌≢◌, ℕ, ℤ, List, [], length, Option, None}
 use Rattle.cutter.specs.Cutters.{Cut, Held, IsLoaded, OfCut, with_user}
 use Rattle.cutter.specs.declared.fault.CutFault.{CutFault}
-use Rattle.cutter.specs.Faults.{IsImage, IsOneLine, IsUserRefusal}
+use Rattle.cutter.specs.Faults.{IsImage, IsLoadRefusal, IsOneLine, IsUserRefusal}
 use Rattle.cutter_c.specs.declared.cutting.PathSize.{PathSize}
-use Rattle.cutter_c.specs.Handles.{IsRefusal, Moves}
+use Rattle.cutter_c.specs.Handles.{Fills, IsFillRefusal, IsRefusal, Moves, TellsLoading}
 use Rattle.cutter_c.specs.Outputs.{IsPlaceIn, OnlyFaultsSet, OnlyOkSets, TellsPlaced}
 use Rattle.image_bytes.specs.declared.digest_test.DigestTest.{DigestTest}
 use Rattle.line_stream.specs.GoodLines.{IsGood}
@@ -29,6 +29,14 @@ IsShared old new = new ≡ record old { cut = None }
 -- why a user's image is not laid over a cutter's dictionaries
 abbrev pub IsUserFault : DigestTest → List ℕ → Held → CutFault → Type 0
 IsUserFault digest image h fault = IsUserRefusal digest h.images image fault
+
+-- C is told whether an empty handle was filled with the cutter of a system's image
+abbrev pub TellsLoad : DigestTest → List ℕ → Option Held → Option Held → ℕ → ℕ → ℕ → Type 0
+TellsLoad digest image old new = TellsLoading (Fills old new (IsLoadedFrom digest image)) (IsFillRefusal old (IsLoadRefusal digest image)) old new
+
+-- C is told whether a user's image was laid over the dictionaries of a handle's cutter
+abbrev pub TellsUser : DigestTest → List ℕ → Option Held → Option Held → ℕ → ℕ → ℕ → Type 0
+TellsUser digest image old new = TellsLoading (Moves old new (IsExtended digest image)) (IsRefusal old (IsUserFault digest image)) old new
 
 -- a path has this size
 abbrev pub HasSize : PathSize → Cut → Type 0

@@ -3,11 +3,11 @@ use Rattle.std.specs.Prelude.{◌≡◌, ◌≢◌, ℕ, List, length, Option, N
 use Rattle.std.specs.Option.{IsSomeAnd}
 use Rattle.std_alloc.specs.Vec.{vec_ptr}
 use denote.RawPtr.{Ptr}
-use Rattle.cutter.specs.Cutters.{Held}
+use Rattle.cutter.specs.Cutters.{Cut, Held, OfCut}
 use Rattle.cutter.specs.declared.fault.CutFault.{CutFault}
 use Rattle.cutter.specs.declared.fault.CutFault.TheVariants as cut
 use Rattle.cutter_c.specs.Codes.{call_code, call_number}
-use Rattle.cutter_c.specs.Outputs.{OnlyOkSets}
+use Rattle.cutter_c.specs.Outputs.{OnlyFaultsSet, OnlyOkSets}
 use Rattle.cutter_c.specs.declared.fault.CallFault.{CallFault}
 use Rattle.cutter_c.specs.declared.fault.CallFault.TheVariants as call
 use Rattle.cutter_c.specs.declared.handle.Handle.{Handle}
@@ -111,3 +111,19 @@ pub record TellsChange (old new : Option Held) (Is : Held → Held → Type 0) (
   pub done : code ≡ 0 → Moves old new Is
   pub refused : code ≢ 0 → TellsCall (IsRefusal old Refused) code
   pub kept : code ≢ 0 → new ≡ old
+
+-- C is told by 0 that a call did what it is for, or else why a handle's cutter is as it was, with the number of the fault, if it has one
+pub record TellsLoading (Done : Type 0) (Refused : CallFault → Type 0) (old new : Option Held) (before number code : ℕ) : Type 0 where
+  pub done : code ≡ 0 → Done
+  pub refused : code ≢ 0 → TellsNumbered Refused before number code
+  pub kept : code ≢ 0 → new ≡ old
+  pub unset : OnlyFaultsSet code before number
+
+-- C is told by 0 that items of what a handle's cutter cut last were written into a buffer from a number on, and how many there are in all,
+-- or else why none is; the cutter stays
+pub record TellsItems {Item : Type 0} (Told : Held → ℕ → ℕ → List Item → List Item → Cut → Type 0) (Refused : Held → CutFault → Type 0) (first : ℕ) (old new : Option Held) (out_before out : List Item) (before count code : ℕ) : Type 0 where
+  pub told : code ≡ 0 → IsSomeAnd old (λ h. OfCut h (Told h first count out_before out))
+  pub cutter : new ≡ old
+  pub refused : code ≢ 0 → TellsCall (IsRefusal old Refused) code
+  pub kept : code ≢ 0 → out ≡ out_before
+  pub unset : OnlyOkSets code before count

@@ -22,6 +22,7 @@ mod tellers;
 mod telling;
 mod text_lines;
 pub mod texts;
+mod told_items;
 mod version;
 mod words;
 

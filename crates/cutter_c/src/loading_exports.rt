@@ -1,12 +1,10 @@
 //! What C calls to load images: whole, with or without the test of their digest, and in pieces, so that one stands in memory once.
 
 ghost use Rattle.std.specs.Prelude.{◌≡◌, ◌≢◌, ◌+◌, ◌<◌, ◌≤◌, ◌++◌, length, IsSome};
-ghost use Rattle.cutter.specs.Faults.{IsLoadRefusal};
 ghost use Rattle.cutter_c.specs.Buffers.{IsVacant, gathered, room_in};
-ghost use Rattle.cutter_c.specs.Calls.{IsExtended, IsLoadedFrom, IsUserFault};
+ghost use Rattle.cutter_c.specs.Calls.{TellsLoad, TellsUser};
 ghost use Rattle.cutter_c.specs.Codes.{memory};
-ghost use Rattle.cutter_c.specs.Handles.{Fills, IsFillRefusal, IsRefusal, Moves, TellsNumbered, cutter_in};
-ghost use Rattle.cutter_c.specs.Outputs.{OnlyFaultsSet};
+ghost use Rattle.cutter_c.specs.Handles.{cutter_in};
 ghost use Rattle.image_bytes.specs.DigestTests.{test_by};
 ghost use Rattle.image_bytes.specs.declared.digest_test.DigestTest.TheVariants.{Made};
 
@@ -25,13 +23,8 @@ pub extern "C" fn kumquatsieve_load(
     image: &[u8],
     number: &mut u64,
 ) -> u32
-    ensures loaded { (result ≡ 0)
-        → Fills (cutter_in cutter.old) (cutter_in cutter.new) (IsLoadedFrom Made image.now) }
-    ensures refused { (result ≢ 0) → TellsNumbered
-        (IsFillRefusal (cutter_in cutter.old) (IsLoadRefusal Made image.now))
-        number.old number.new result }
-    ensures kept { (result ≢ 0) → cutter_in cutter.new ≡ cutter_in cutter.old }
-    ensures unset { OnlyFaultsSet result number.old number.new }
+    ensures { TellsLoad Made image.now
+        (cutter_in cutter.old) (cutter_in cutter.new) number.old number.new result }
 {
     kumquatsieve_load_by(alloc, cutter, image, false, number)
 }
@@ -44,13 +37,8 @@ pub extern "C" fn kumquatsieve_add_user(
     image: &[u8],
     number: &mut u64,
 ) -> u32
-    ensures added { (result ≡ 0)
-        → Moves (cutter_in cutter.old) (cutter_in cutter.new) (IsExtended Made image.now) }
-    ensures refused { (result ≢ 0) → TellsNumbered
-        (IsRefusal (cutter_in cutter.old) (IsUserFault Made image.now))
-        number.old number.new result }
-    ensures kept { (result ≢ 0) → cutter_in cutter.new ≡ cutter_in cutter.old }
-    ensures unset { OnlyFaultsSet result number.old number.new }
+    ensures { TellsUser Made image.now
+        (cutter_in cutter.old) (cutter_in cutter.new) number.old number.new result }
 {
     kumquatsieve_add_user_by(alloc, cutter, image, false, number)
 }
@@ -65,13 +53,8 @@ pub extern "C" fn kumquatsieve_load_by(
     skip_digest: bool,
     number: &mut u64,
 ) -> u32
-    ensures loaded { (result ≡ 0) → Fills (cutter_in cutter.old) (cutter_in cutter.new)
-        (IsLoadedFrom (test_by skip_digest) image.now) }
-    ensures refused { (result ≢ 0) → TellsNumbered
-        (IsFillRefusal (cutter_in cutter.old) (IsLoadRefusal (test_by skip_digest) image.now))
-        number.old number.new result }
-    ensures kept { (result ≢ 0) → cutter_in cutter.new ≡ cutter_in cutter.old }
-    ensures unset { OnlyFaultsSet result number.old number.new }
+    ensures { TellsLoad (test_by skip_digest) image.now
+        (cutter_in cutter.old) (cutter_in cutter.new) number.old number.new result }
 {
     let digest = DigestTest::skipped_if(skip_digest);
     told(loading::load(alloc, cutter, image, digest), number)
@@ -86,13 +69,8 @@ pub extern "C" fn kumquatsieve_add_user_by(
     skip_digest: bool,
     number: &mut u64,
 ) -> u32
-    ensures added { (result ≡ 0) → Moves (cutter_in cutter.old) (cutter_in cutter.new)
-        (IsExtended (test_by skip_digest) image.now) }
-    ensures refused { (result ≢ 0) → TellsNumbered
-        (IsRefusal (cutter_in cutter.old) (IsUserFault (test_by skip_digest) image.now))
-        number.old number.new result }
-    ensures kept { (result ≢ 0) → cutter_in cutter.new ≡ cutter_in cutter.old }
-    ensures unset { OnlyFaultsSet result number.old number.new }
+    ensures { TellsUser (test_by skip_digest) image.now
+        (cutter_in cutter.old) (cutter_in cutter.new) number.old number.new result }
 {
     let digest = DigestTest::skipped_if(skip_digest);
     let answer = cutter.call(alloc, |session| session.add_user(alloc, image, digest));
@@ -135,14 +113,8 @@ pub extern "C" fn kumquatsieve_load_buffer(
     skip_digest: bool,
     number: &mut u64,
 ) -> u32
-    ensures loaded { (result ≡ 0) → Fills (cutter_in cutter.old) (cutter_in cutter.new)
-        (IsLoadedFrom (test_by skip_digest) (gathered buffer.old)) }
-    ensures refused { (result ≢ 0) → TellsNumbered
-        (IsFillRefusal (cutter_in cutter.old)
-        (IsLoadRefusal (test_by skip_digest) (gathered buffer.old)))
-        number.old number.new result }
-    ensures kept { (result ≢ 0) → cutter_in cutter.new ≡ cutter_in cutter.old }
-    ensures unset { OnlyFaultsSet result number.old number.new }
+    ensures told { TellsLoad (test_by skip_digest) (gathered buffer.old)
+        (cutter_in cutter.old) (cutter_in cutter.new) number.old number.new result }
     ensures spent { IsVacant buffer.new }
 {
     let image = buffer.take_bytes(alloc);
@@ -159,14 +131,8 @@ pub extern "C" fn kumquatsieve_add_user_buffer(
     skip_digest: bool,
     number: &mut u64,
 ) -> u32
-    ensures added { (result ≡ 0) → Moves (cutter_in cutter.old) (cutter_in cutter.new)
-        (IsExtended (test_by skip_digest) (gathered buffer.old)) }
-    ensures refused { (result ≢ 0) → TellsNumbered
-        (IsRefusal (cutter_in cutter.old)
-        (IsUserFault (test_by skip_digest) (gathered buffer.old)))
-        number.old number.new result }
-    ensures kept { (result ≢ 0) → cutter_in cutter.new ≡ cutter_in cutter.old }
-    ensures unset { OnlyFaultsSet result number.old number.new }
+    ensures told { TellsUser (test_by skip_digest) (gathered buffer.old)
+        (cutter_in cutter.old) (cutter_in cutter.new) number.old number.new result }
     ensures spent { IsVacant buffer.new }
 {
     let image = buffer.take_bytes(alloc);

@@ -1,18 +1,15 @@
 //! The nodes of the lattice of what was cut last, as C sees them.
 
-ghost use Rattle.std.specs.Prelude.{◌≡◌, ◌≢◌, ◌≤◌, length, drop, All, IsTrue, OnOk, OnErr, IfErr};
-ghost use Rattle.std.specs.Option.{IsSomeAnd};
-ghost use Rattle.cutter.specs.Cutters.{OfCut};
+ghost use Rattle.std.specs.Prelude.{◌≡◌, ◌≤◌, length, drop, All, IsTrue};
 ghost use Rattle.cutter.specs.Faults.{IsPrintRefusal};
-ghost use Rattle.cutter_c.specs.Handles.{IsRefusal, TellsCall, cutter_in};
+ghost use Rattle.cutter_c.specs.Handles.{TellsItems, cutter_in};
 ghost use Rattle.cutter_c.specs.Nodes.{AreNodesTold, BeginsIn, c_node, c_nodes};
-ghost use Rattle.cutter_c.specs.Outputs.{OnlyOkSets, with_front};
+ghost use Rattle.cutter_c.specs.Outputs.{with_front};
 ghost use Rattle.paths.specs.Words.{is_place};
 ghost use Rattle.word_lookup.specs.Overlays.{overlay_of};
 
-use crate::codes::code_told;
-use crate::fault::CallFault;
 use crate::handle::Handle;
+use crate::told_items::ToldItem;
 use crate::words::{CWord, word_for_c};
 use cutter::{CutFault, Cutter, LastWords, LatticeNode};
 use std::alloc::Global;
@@ -67,46 +64,27 @@ fn fill_nodes(
     }
 }
 
-/// Writes the nodes from number `first` on, and tells how many there are in all.
-fn tell_nodes(
-    cutter: &Cutter,
-    first: usize,
-    out: &mut [CNode],
-    count: &mut usize,
-) -> Result<(), CutFault>
-    ensures told { OnOk result
-        (OfCut cutter.now (AreNodesTold cutter.now first count.new out.old out.new)) }
-    ensures refused { IfErr result (IsPrintRefusal cutter.now) }
-    ensures kept { OnErr result (out.new ≡ out.old) }
-    ensures unset { OnErr result (count.new ≡ count.old) }
-{
-    let last = cutter.last_words()?;
-    let lattice = cutter.lattice()?;
-    *count = lattice.nodes.len();
-    let from = first.min(lattice.nodes.len());
-    fill_nodes(&last, &lattice.nodes, &lattice.on_best, from, out);
-    Ok(())
-}
+impl ToldItem for CNode {
+    ghost use Rattle.cutter_c.specs.Nodes.{AreNodesTold};
+    ghost use Rattle.cutter.specs.Faults.{IsPrintRefusal};
 
-/// The same of a handle's cutter.
-fn nodes(
-    alloc: Global,
-    cutter: &mut Handle,
-    first: usize,
-    out: &mut [CNode],
-    count: &mut usize,
-) -> Result<(), CallFault>
-    ensures told { OnOk result (IsSomeAnd (cutter_in cutter.old)
-        (λ h. OfCut h (AreNodesTold h first count.new out.old out.new))) }
-    ensures cutter { cutter_in cutter.new ≡ cutter_in cutter.old }
-    ensures refused { IfErr result (IsRefusal (cutter_in cutter.old) IsPrintRefusal) }
-    ensures kept { OnErr result (out.new ≡ out.old) }
-    ensures unset { OnErr result (count.new ≡ count.old) }
-{
-    let session = cutter.take(alloc).ok_or(CallFault::EmptyCutter)?;
-    let answer = tell_nodes(&session.cutter, first, out, count);
-    cutter.put(session);
-    answer.map_err(CallFault::Cut)
+    ghost told = { AreNodesTold };
+
+    ghost refused = { IsPrintRefusal };
+
+    fn tell(
+        cutter: &Cutter,
+        first: usize,
+        out: &mut [CNode],
+        count: &mut usize,
+    ) -> Result<(), CutFault> {
+        let last = cutter.last_words()?;
+        let lattice = cutter.lattice()?;
+        *count = lattice.nodes.len();
+        let from = first.min(lattice.nodes.len());
+        fill_nodes(&last, &lattice.nodes, &lattice.on_best, from, out);
+        Ok(())
+    }
 }
 
 /// Writes nodes of the lattice of what was cut last from number `first` on, as far as there is room. `count` is the number of all.
@@ -118,13 +96,8 @@ pub extern "C" fn kumquatsieve_nodes(
     out: &mut [CNode],
     count: &mut usize,
 ) -> u32
-    ensures told { (result ≡ 0) → IsSomeAnd (cutter_in cutter.old)
-        (λ h. OfCut h (AreNodesTold h first count.new out.old out.new)) }
-    ensures cutter { cutter_in cutter.new ≡ cutter_in cutter.old }
-    ensures refused { (result ≢ 0)
-        → TellsCall (IsRefusal (cutter_in cutter.old) IsPrintRefusal) result }
-    ensures kept { (result ≢ 0) → out.new ≡ out.old }
-    ensures unset { OnlyOkSets result count.old count.new }
+    ensures { TellsItems AreNodesTold IsPrintRefusal first (cutter_in cutter.old) (cutter_in cutter.new)
+        out.old out.new count.old count.new result }
 {
-    code_told(nodes(alloc, cutter, first, out, count))
+    cutter.tell_items(alloc, first, out, count)
 }

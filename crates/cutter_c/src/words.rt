@@ -1,18 +1,15 @@
 //! The words of the path that was cut last, as C sees them.
 
-ghost use Rattle.std.specs.Prelude.{◌≡◌, ◌≢◌, ◌≤◌, length, drop, OnOk, OnErr, IfErr};
-ghost use Rattle.std.specs.Option.{IsSomeAnd};
-ghost use Rattle.cutter.specs.Cutters.{OfCut};
+ghost use Rattle.std.specs.Prelude.{◌≡◌, ◌≤◌, length, drop};
 ghost use Rattle.cutter.specs.Faults.{IsNothingCut};
 ghost use Rattle.cutter.specs.Reaching.{MayFollow, at_bos};
-ghost use Rattle.cutter_c.specs.Handles.{IsRefusal, TellsCall, cutter_in};
-ghost use Rattle.cutter_c.specs.Outputs.{OnlyOkSets, with_front};
+ghost use Rattle.cutter_c.specs.Handles.{TellsItems, cutter_in};
+ghost use Rattle.cutter_c.specs.Outputs.{with_front};
 ghost use Rattle.cutter_c.specs.Words.{AreTold, c_word, c_words};
 ghost use Rattle.word_lookup.specs.Overlays.{overlay_of};
 
-use crate::codes::code_told;
-use crate::fault::CallFault;
 use crate::handle::Handle;
+use crate::told_items::ToldItem;
 use cutter::{CutFault, Cutter, LastWords, Reached};
 use mj_model::{Origin, Word};
 use std::alloc::Global;
@@ -97,46 +94,27 @@ fn fill(last: &LastWords<'_>, words: &[Word], before: Reached, out: &mut [CWord]
     }
 }
 
-/// Writes the words from number `first` on, and tells how many there are in all.
-fn tell_words(
-    cutter: &Cutter,
-    first: usize,
-    out: &mut [CWord],
-    count: &mut usize,
-) -> Result<(), CutFault>
-    ensures told { OnOk result
-        (OfCut cutter.now (AreTold cutter.now first count.new out.old out.new)) }
-    ensures none { IfErr result (IsNothingCut cutter.now) }
-    ensures kept { OnErr result (out.new ≡ out.old) }
-    ensures unset { OnErr result (count.new ≡ count.old) }
-{
-    let last = cutter.last_words()?;
-    *count = last.words.len();
-    let from = first.min(last.words.len());
-    let before = reached_before(&last, from);
-    fill(&last, &last.words[from..], before, out);
-    Ok(())
-}
+impl ToldItem for CWord {
+    ghost use Rattle.cutter_c.specs.Words.{AreTold};
+    ghost use Rattle.cutter.specs.Faults.{IsNothingCut};
 
-/// The same of a handle's cutter.
-fn words(
-    alloc: Global,
-    cutter: &mut Handle,
-    first: usize,
-    out: &mut [CWord],
-    count: &mut usize,
-) -> Result<(), CallFault>
-    ensures told { OnOk result (IsSomeAnd (cutter_in cutter.old)
-        (λ h. OfCut h (AreTold h first count.new out.old out.new))) }
-    ensures cutter { cutter_in cutter.new ≡ cutter_in cutter.old }
-    ensures refused { IfErr result (IsRefusal (cutter_in cutter.old) IsNothingCut) }
-    ensures kept { OnErr result (out.new ≡ out.old) }
-    ensures unset { OnErr result (count.new ≡ count.old) }
-{
-    let session = cutter.take(alloc).ok_or(CallFault::EmptyCutter)?;
-    let answer = tell_words(&session.cutter, first, out, count);
-    cutter.put(session);
-    answer.map_err(CallFault::Cut)
+    ghost told = { AreTold };
+
+    ghost refused = { IsNothingCut };
+
+    fn tell(
+        cutter: &Cutter,
+        first: usize,
+        out: &mut [CWord],
+        count: &mut usize,
+    ) -> Result<(), CutFault> {
+        let last = cutter.last_words()?;
+        *count = last.words.len();
+        let from = first.min(last.words.len());
+        let before = reached_before(&last, from);
+        fill(&last, &last.words[from..], before, out);
+        Ok(())
+    }
 }
 
 /// Writes words that were cut last from number `first` on, as far as there is room. `count` is the number of all.
@@ -148,13 +126,8 @@ pub extern "C" fn kumquatsieve_words(
     out: &mut [CWord],
     count: &mut usize,
 ) -> u32
-    ensures told { (result ≡ 0) → IsSomeAnd (cutter_in cutter.old)
-        (λ h. OfCut h (AreTold h first count.new out.old out.new)) }
-    ensures cutter { cutter_in cutter.new ≡ cutter_in cutter.old }
-    ensures refused { (result ≢ 0)
-        → TellsCall (IsRefusal (cutter_in cutter.old) IsNothingCut) result }
-    ensures kept { (result ≢ 0) → out.new ≡ out.old }
-    ensures unset { OnlyOkSets result count.old count.new }
+    ensures { TellsItems AreTold IsNothingCut first (cutter_in cutter.old) (cutter_in cutter.new)
+        out.old out.new count.old count.new result }
 {
-    code_told(words(alloc, cutter, first, out, count))
+    cutter.tell_items(alloc, first, out, count)
 }

@@ -5,7 +5,7 @@ use Rattle.cutter_c.specs.Outputs.{with_front}
 use Rattle.cutter_c.proofs.NodeLemmas.{all_begin, marks_even, nodes_told}
 use Rattle.lattice_nodes.specs.declared.lattice_node.LatticeNode.{LatticeNode}
 use Rattle.word_lookup.specs.Overlays.{overlay_of}
-use Rattle.cutter_c.proofs.nodes.tell_nodes.Goals as goal
+use Rattle.cutter_c.proofs.nodes.CNodeToldItem.tell.Goals as goal
 
 pub fill_nodes-requires-clause-marks : goal.fill_nodes-requires-clause-marks
 fill_nodes-requires-clause-marks c =

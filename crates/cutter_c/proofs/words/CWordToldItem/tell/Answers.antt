@@ -7,7 +7,7 @@ use Rattle.cutter_c.specs.Words.{c_words}
 use Rattle.cutter_c.proofs.WalkLemmas.{are_told, follow_of}
 use Rattle.mj_model.specs.declared.word.Word.{Word}
 use Rattle.word_lookup.specs.Overlays.{overlay_of}
-use Rattle.cutter_c.proofs.words.tell_words.Goals as goal
+use Rattle.cutter_c.proofs.words.CWordToldItem.tell.Goals as goal
 
 pub reached_before-before-requires-clause-follow : goal.reached_before-before-requires-clause-follow
 reached_before-before-requires-clause-follow c = follow_of c.args.cutter.now c.in_ok-last.last c.in_ok-last.ensures.words
