@@ -10,7 +10,7 @@ use Rattle.paths.specs.declared.surface.Surface.{Surface}
 use Rattle.path_search.specs.declared.node.Backpointer.{Backpointer}
 use Rattle.path_search.specs.declared.node.Bundle.{Bundle}
 use Rattle.path_search.specs.declared.node.Join.{Join}
-use Rattle.path_search.specs.Alike.{FollowsNext, IsAlike, IsAlikeToNext, IsLikeNode}
+use Rattle.path_search.specs.Alike.{FollowsNext, IsAlike, IsAlikeToNext}
 use Rattle.path_search.specs.Lattice.{IsJoin, IsLattice, node_of}
 use Rattle.path_search.specs.Nodes.{Node, kept_node, link_of, node_words}
 use Rattle.path_search.specs.SearchedText.{AreSurfacesAt, SearchedText, words_before}
@@ -41,6 +41,14 @@ module _ (words : ℕ → List Word) (conn : ℕ → ℕ → ℤ) where
           cost_is = refl;
         };
       }
+
+-- the node with this number is that of a word of the place which is like a word
+pub record IsLikeNode (words : List Word) (backs : List Backpointer) (place : ℕ) (w : Word) (number : ℕ) : Type 0 where
+  pub word : Word
+  pub here : slice_get words number ≡ Some word
+  pub within : number < length backs
+  pub there : word.place ≡ place
+  pub alike : IsAlike word w
 
 -- the word of the next surface, as many nodes back as a surface has
 word_back : (ws before us fs : List Word) (n i : ℕ) (v : Word) → ws ≡ (before ++ reverse us) ++ reverse fs → slice_get us i ≡ Some v → n + i + 1 + length fs ≡ length ws → slice_get ws n ≡ Some v

@@ -11,4 +11,5 @@ pub mod Links
 pub mod Choice
 pub mod Growth
 pub mod AlikeLemmas
+pub mod AddedWords
 pub mod Finish

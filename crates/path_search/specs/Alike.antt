@@ -3,7 +3,6 @@ use Rattle.std.specs.Prelude.{◌≡◌, ℕ, ◌+◌, ◌++◌, ◌<◌, List, 
 use Rattle.mj_model.specs.declared.word.Word.{Word}
 use Rattle.paths.specs.declared.surface.Surface.{Surface}
 use Rattle.path_search.specs.declared.node.Bundle.{Bundle}
-use Rattle.path_search.specs.declared.node.Backpointer.{Backpointer}
 use Rattle.path_search.specs.Nodes.{node_words}
 use Rattle.path_search.specs.SearchedText.{SearchedText}
 
@@ -41,11 +40,3 @@ EndsWithAny t surfaces number bundles = number < length surfaces → EndsWith t 
 abbrev pub FollowsNext : SearchedText → List Surface → ℕ → List Bundle → Type 0
 FollowsNext t surfaces number bundles = (next surface : Surface) → slice_get surfaces (number + 1) ≡ Some next → slice_get surfaces number ≡ Some surface
     → (before : List Word) × (node_words t.surface_words bundles ≡ (before ++ reverse (t.surface_words next)) ++ reverse (t.surface_words surface))
-
--- the node with this number is that of a word of the place which is like a word
-pub record IsLikeNode (words : List Word) (backs : List Backpointer) (place : ℕ) (w : Word) (number : ℕ) : Type 0 where
-  pub word : Word
-  pub here : slice_get words number ≡ Some word
-  pub within : number < length backs
-  pub there : word.place ≡ place
-  pub alike : IsAlike word w

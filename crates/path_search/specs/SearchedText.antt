@@ -1,5 +1,5 @@
 -- What the search is told of a text, as one record.
-use Rattle.std.specs.Prelude.{◌≡◌, ℕ, ℤ, ◌+◌, ◌++◌, List, length, take, reverse, flat_map, slice_get, Some}
+use Rattle.std.specs.Prelude.{◌≡◌, ℕ, ℤ, ◌+◌, List, length, take, flat_map, slice_get}
 use Rattle.std.specs.Option.{option_map_or}
 use Rattle.mj_model.specs.declared.word.Word.{Word}
 use Rattle.paths.specs.Best.{IsBestPath}
@@ -59,14 +59,6 @@ IsLatticeOf t nodes p k = IsLattice t.words t.connection nodes p k
 abbrev pub IsLatticeTo : SearchedText → List Node → ℕ → Type 0
 IsLatticeTo t nodes p = IsLatticeOf t nodes p (length (t.words p))
 
--- the nodes are its words of the places before p, and those of place p from a word on, that some chain reaches
-abbrev pub IsLatticeFrom : SearchedText → List Node → ℕ → Word → Type 0
-IsLatticeFrom t nodes p w = (k : ℕ) × (slice_get (t.words p) k ≡ Some w) × IsLatticeOf t nodes p k
-
--- the nodes are its words of the places before p, and those of place p after a word, that some chain reaches
-abbrev pub IsLatticeAfter : SearchedText → List Node → ℕ → Word → Type 0
-IsLatticeAfter t nodes p w = (k : ℕ) × (slice_get (t.words p) k ≡ Some w) × IsLatticeOf t nodes p (k + 1)
-
 -- of each node of the bundles something is kept
 abbrev pub AreAllKept : SearchedText → List Bundle → List Backpointer → Type 0
 AreAllKept t bundles backs = length backs ≡ length (node_words t.surface_words bundles)
@@ -89,14 +81,6 @@ AreKeptIn t ns = AreKept t ns.bundles.items ns.backs.items ns.heads.items
 
 abbrev pub kept_nodes : SearchedText → Nodes → List Node
 kept_nodes t ns = nodes_in t ns.bundles.items ns.backs.items
-
--- the nodes of the surface with this number come next: its bundle is the last one, and nothing is kept of its nodes yet
-pub record NextAt (t : SearchedText) (surfaces : List Surface) (number : ℕ) (bundles : List Bundle) (backs : List Backpointer) : Type 0 where
-  pub surface : Surface
-  pub here : slice_get surfaces number ≡ Some surface
-  pub before : List Word
-  pub words : node_words t.surface_words bundles ≡ before ++ reverse (t.surface_words surface)
-  pub none_yet : length backs ≡ length before
 
 -- the surfaces are those of the words of a place
 abbrev pub AreSurfacesAt : SearchedText → ℕ → List Surface → Type 0

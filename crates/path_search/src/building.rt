@@ -6,7 +6,7 @@ ghost use Rattle.path_search.specs.SearchedText.{AreKeptIn, AreRunsOf, CanBeSear
 
 use crate::ends::gather;
 use crate::joins::Joins;
-use crate::node::{End, linked};
+use crate::node::End;
 use crate::nodes::Nodes;
 use crate::place::Place;
 use crate::source::WordSource;
@@ -82,20 +82,12 @@ fn add_place<S: WordSource>(
     ensures looked_at { reached place (slice_index_or nodes.old.heads.items place 0) ≡ true
         → (S.says source.now).is_kept place last.new }
 {
-    let head = nodes.heads[place];
-    if !is_reached(place, head) {
+    if !is_reached(place, nodes.heads[place]) {
         return Ok(());
     }
     room.surfaces.clear();
     source.surfaces_at(place, last, &mut room.surfaces)?;
-    gather(
-        source,
-        &nodes.bundles,
-        &nodes.backs,
-        linked(head),
-        place,
-        &mut room.ends,
-    )?;
+    gather(source, nodes, place, &mut room.ends)?;
     room.thinning.thin(&mut room.ends)?;
     room.joins.clear();
     let reached = Place {

@@ -1,11 +1,12 @@
 //! The ends of a place.
 
-ghost use Rattle.std.specs.Prelude.{◌≡◌, ◌+◌, ◌<◌, ◌^◌, [], length, Contains, OnOk};
+ghost use Rattle.std.specs.Prelude.{◌≡◌, ◌+◌, ◌<◌, ◌≤◌, ◌^◌, Contains, OnOk};
 ghost use Rattle.path_search.specs.Ends.{AreEnds, StandFor};
-ghost use Rattle.path_search.specs.Nodes.{AreBundles, IsLatest, LinksAreLatest};
-ghost use Rattle.path_search.specs.SearchedText.{AreAllKept, AreRightsKept, nodes_in};
+ghost use Rattle.path_search.specs.Nodes.{AreBundles};
+ghost use Rattle.path_search.specs.SearchedText.{AreAllKept, AreKeptIn, AreRightsKept, kept_nodes, nodes_in};
 
 use crate::node::{BOUNDARY_ID, Backpointer, Bundle, End, linked};
+use crate::nodes::Nodes;
 use crate::source::WordSource;
 use std::alloc::AllocError;
 
@@ -16,54 +17,28 @@ const BOS: End = End {
     right: BOUNDARY_ID,
 };
 
-/// Fills `ends` with the ends of a place, in the order in which they are preferred where costs are equal. `head` leads to the latest of
-/// the bundles that end there.
+/// Fills `ends` with the ends of a place, in the order in which they are preferred where costs are equal: the latest node first.
 pub fn gather<S: WordSource>(
     source: &S,
-    bundles: &[Bundle],
-    backs: &[Backpointer],
-    head: Option<usize>,
+    nodes: &Nodes,
     place: usize,
     ends: &mut Vec<End>,
 ) -> Result<(), AllocError>
-    requires bundles { AreBundles (S.says source.now).surface_words bundles.now }
-    requires all { AreAllKept (S.says source.now) bundles.now backs.now }
-    requires rights { AreRightsKept (S.says source.now) bundles.now backs.now }
-    requires links { LinksAreLatest bundles.now }
-    requires head { IsLatest bundles.now place (length bundles.now) head }
+    requires kept { AreKeptIn (S.says source.now) nodes.now }
+    requires place { place ≤ (S.says source.now).text_length }
     ensures { OnOk result
-        (AreEnds (nodes_in (S.says source.now) bundles.now backs.now) place ends.new.items) }
+        (AreEnds (kept_nodes (S.says source.now) nodes.now) place ends.new.items) }
 {
     ends.clear();
     if place == 0 {
         ends.push(BOS)?;
         return Ok(());
     }
-    add_ends(source, bundles, backs, head, place, ends)
-}
-
-/// Appends the nodes that end at a place, the latest first.
-fn add_ends<S: WordSource>(
-    source: &S,
-    bundles: &[Bundle],
-    backs: &[Backpointer],
-    head: Option<usize>,
-    place: usize,
-    ends: &mut Vec<End>,
-) -> Result<(), AllocError>
-    requires bundles { AreBundles (S.says source.now).surface_words bundles.now }
-    requires all { AreAllKept (S.says source.now) bundles.now backs.now }
-    requires rights { AreRightsKept (S.says source.now) bundles.now backs.now }
-    requires links { LinksAreLatest bundles.now }
-    requires head { IsLatest bundles.now place (length bundles.now) head }
-    requires none { ends.old.items ≡ [] }
-    ensures { OnOk result
-        (StandFor (nodes_in (S.says source.now) bundles.now backs.now) place 0 ends.new.items) }
-{
-    let mut link = head;
+    let mut link = linked(nodes.heads[place]);
     while let Some(i) = link {
-        add_bundle_ends(source, bundles, backs, &bundles[i], ends)?;
-        link = linked(bundles[i].next);
+        let bundle = &nodes.bundles[i];
+        add_bundle_ends(source, &nodes.bundles, &nodes.backs, bundle, ends)?;
+        link = linked(bundle.next);
     }
     Ok(())
 }

@@ -1,11 +1,10 @@
 //! The words of a place, as they are added to the nodes.
 
-ghost use Rattle.std.specs.Prelude.{◌≡◌, ◌+◌, ◌<◌, ◌++◌, ◌∷◌, [], slice_set, slice_get, length, OnOk, Some};
+ghost use Rattle.std.specs.Prelude.{◌≡◌, ◌+◌, ◌<◌, ◌++◌, ◌∷◌, [], slice_set, length, OnOk};
 ghost use Rattle.path_search.specs.Alike.{EndsWith, EndsWithAny, FollowsNext};
 ghost use Rattle.path_search.specs.Ends.{AreLeast};
-ghost use Rattle.path_search.specs.Nodes.{node_words};
-ghost use Rattle.path_search.specs.Places.{IsLatticeFromSurface, IsPlaceOf};
-ghost use Rattle.path_search.specs.SearchedText.{AreAllKept, AreKeptIn, AreRightsKept, IsLatticeAfter, IsLatticeFrom, IsLatticeTo, NextAt, kept_nodes, nodes_in};
+ghost use Rattle.path_search.specs.Places.{AreAddedFrom, AreAddedIn, IsPlaceOf};
+ghost use Rattle.path_search.specs.SearchedText.{AreKeptIn, IsLatticeTo, kept_nodes, word_count};
 ghost use Rattle.path_search.specs.Thinned.{AreBestEnds};
 
 use crate::joining::join;
@@ -13,7 +12,6 @@ use crate::joins::Joins;
 use crate::node::{Backpointer, Bundle, End};
 use crate::nodes::Nodes;
 use crate::source::WordSource;
-use mj_model::Word;
 use paths::Surface;
 use std::alloc::AllocError;
 
@@ -66,19 +64,13 @@ impl Place<'_> {
         requires behind { EndsWithAny (S.says source.now) self.now.surfaces.now (number + 1)
             nodes.old.bundles.items }
         requires kept { AreKeptIn (S.says source.now) nodes.old }
-        requires lattice { IsLatticeFromSurface (S.says source.now)
-            (kept_nodes (S.says source.now) nodes.old) self.now (number + 1) }
-        requires ends { AreBestEnds (kept_nodes (S.says source.now) nodes.old)
-            self.now.start self.now.ends.now }
+        requires added { AreAddedIn (S.says source.now) self.now (number + 1) nodes.old }
         requires joins { AreLeast (S.says source.now).connection
             self.now.ends.now joins.old }
-        ensures kept { OnOk result (AreKeptIn (S.says source.now) nodes.new) }
-        ensures lattice { OnOk result (IsLatticeFromSurface (S.says source.now)
-            (kept_nodes (S.says source.now) nodes.new) self.now number) }
         ensures behind { OnOk result (EndsWith (S.says source.now) self.now.surfaces.now number
             nodes.new.bundles.items) }
-        ensures ends { OnOk result (AreBestEnds (kept_nodes (S.says source.now) nodes.new)
-            self.now.start self.now.ends.now) }
+        ensures kept { OnOk result (AreKeptIn (S.says source.now) nodes.new) }
+        ensures added { OnOk result (AreAddedIn (S.says source.now) self.now number nodes.new) }
         ensures joins { OnOk result (AreLeast (S.says source.now).connection
             self.now.ends.now joins.new) }
     {
@@ -93,8 +85,8 @@ impl Place<'_> {
         Ok(())
     }
 
-    /// Adds the nodes of the last bundle, whose surface has this number: those of its words, the last one first. Where they are like those
-    /// of the next surface, what is kept of those is kept of them too.
+    /// Adds the nodes of the last bundle, whose surface has this number: those of its words, the last one first, each after the best chain
+    /// to it. Where the words are like those of the next surface, what is kept of those is kept of them too.
     fn add_words<S: WordSource>(
         &self,
         source: &S,
@@ -105,110 +97,32 @@ impl Place<'_> {
     ) -> Result<(), AllocError>
         requires place { IsPlaceOf (S.says source.now) self.now }
         requires number { number < length self.now.surfaces.now }
-        requires next { NextAt (S.says source.now) self.now.surfaces.now number
-            bundles.now backs.old.items }
+        requires last { EndsWith (S.says source.now) self.now.surfaces.now number bundles.now }
         requires follows { FollowsNext (S.says source.now) self.now.surfaces.now number
             bundles.now }
-        requires rights { AreRightsKept (S.says source.now) bundles.now backs.old.items }
-        requires lattice { IsLatticeFromSurface (S.says source.now)
-            (nodes_in (S.says source.now) bundles.now backs.old.items) self.now (number + 1) }
-        requires ends { AreBestEnds (nodes_in (S.says source.now) bundles.now backs.old.items)
-            self.now.start self.now.ends.now }
+        requires added { AreAddedFrom (S.says source.now) self.now number
+            (word_count self.now.surfaces.now number) bundles.now backs.old.items }
         requires joins { AreLeast (S.says source.now).connection
             self.now.ends.now joins.old }
-        ensures all { OnOk result (AreAllKept (S.says source.now) bundles.now backs.new.items) }
-        ensures rights { OnOk result
-            (AreRightsKept (S.says source.now) bundles.now backs.new.items) }
-        ensures lattice { OnOk result (IsLatticeFromSurface (S.says source.now)
-            (nodes_in (S.says source.now) bundles.now backs.new.items) self.now number) }
-        ensures ends { OnOk result (AreBestEnds
-            (nodes_in (S.says source.now) bundles.now backs.new.items)
-            self.now.start self.now.ends.now) }
-        ensures joins { OnOk result (AreLeast (S.says source.now).connection
-            self.now.ends.now joins.new) }
-    {
-        if self.is_alike_to_next(source, number) {
-            self.add_alike_words(source, bundles, backs, number)
-        } else {
-            self.add_new_words(source, bundles, backs, number, joins)
-        }
-    }
-
-    /// Adds the nodes of the last bundle, whose surface has this number: those of its words, the last one first, each after the best chain
-    /// to it.
-    fn add_new_words<S: WordSource>(
-        &self,
-        source: &S,
-        bundles: &[Bundle],
-        backs: &mut Vec<Backpointer>,
-        number: usize,
-        joins: &mut Joins,
-    ) -> Result<(), AllocError>
-        requires place { IsPlaceOf (S.says source.now) self.now }
-        requires number { number < length self.now.surfaces.now }
-        requires next { NextAt (S.says source.now) self.now.surfaces.now number
-            bundles.now backs.old.items }
-        requires rights { AreRightsKept (S.says source.now) bundles.now backs.old.items }
-        requires lattice { IsLatticeFromSurface (S.says source.now)
-            (nodes_in (S.says source.now) bundles.now backs.old.items) self.now (number + 1) }
-        requires ends { AreBestEnds (nodes_in (S.says source.now) bundles.now backs.old.items)
-            self.now.start self.now.ends.now }
-        requires joins { AreLeast (S.says source.now).connection
-            self.now.ends.now joins.old }
-        ensures all { OnOk result (AreAllKept (S.says source.now) bundles.now backs.new.items) }
-        ensures rights { OnOk result
-            (AreRightsKept (S.says source.now) bundles.now backs.new.items) }
-        ensures lattice { OnOk result (IsLatticeFromSurface (S.says source.now)
-            (nodes_in (S.says source.now) bundles.now backs.new.items) self.now number) }
-        ensures ends { OnOk result (AreBestEnds
-            (nodes_in (S.says source.now) bundles.now backs.new.items)
-            self.now.start self.now.ends.now) }
+        ensures added { OnOk result (AreAddedFrom (S.says source.now) self.now number
+            0 bundles.now backs.new.items) }
         ensures joins { OnOk result (AreLeast (S.says source.now).connection
             self.now.ends.now joins.new) }
     {
         let surface = &self.surfaces[number];
+        if self.is_alike_to_next(source, number) {
+            let from = backs.len() - surface.count as usize;
+            backs.extend_from_within(from..)?;
+            return Ok(());
+        }
         let words = source.words_of(surface);
         let mut i = surface.count;
         while 0 < i {
             i -= 1;
             let word = source.word(&words, i);
-            self.add_word(source, bundles, backs, &word, joins)?;
+            let found = join(source, self.ends, joins, word.left)?;
+            backs.push(Backpointer::after(&found, &word))?;
         }
-        Ok(())
-    }
-
-    /// Adds the node of a word, after the best chain to it.
-    fn add_word<S: WordSource>(
-        &self,
-        source: &S,
-        bundles: &[Bundle],
-        backs: &mut Vec<Backpointer>,
-        word: &Word,
-        joins: &mut Joins,
-    ) -> Result<(), AllocError>
-        requires place { IsPlaceOf (S.says source.now) self.now }
-        requires next { slice_get (node_words (S.says source.now).surface_words bundles.now)
-            (length backs.old.items) ≡ Some word.now }
-        requires rights { AreRightsKept (S.says source.now) bundles.now backs.old.items }
-        requires lattice { IsLatticeAfter (S.says source.now)
-            (nodes_in (S.says source.now) bundles.now backs.old.items) self.now.start word.now }
-        requires ends { AreBestEnds (nodes_in (S.says source.now) bundles.now backs.old.items)
-            self.now.start self.now.ends.now }
-        requires joins { AreLeast (S.says source.now).connection
-            self.now.ends.now joins.old }
-        ensures one { OnOk result (length backs.new.items ≡ length backs.old.items + 1) }
-        ensures rights { OnOk result
-            (AreRightsKept (S.says source.now) bundles.now backs.new.items) }
-        ensures lattice { OnOk result (IsLatticeFrom (S.says source.now)
-            (nodes_in (S.says source.now) bundles.now backs.new.items) self.now.start word.now) }
-        ensures ends { OnOk result (AreBestEnds
-            (nodes_in (S.says source.now) bundles.now backs.new.items)
-            self.now.start self.now.ends.now) }
-        ensures joins { OnOk result (AreLeast (S.says source.now).connection
-            self.now.ends.now joins.new) }
-    {
-        let found = join(source, self.ends, joins, word.left)?;
-        backs.push(Backpointer::after(&found, word))?;
         Ok(())
     }
 }

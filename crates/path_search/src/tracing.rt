@@ -28,14 +28,7 @@ pub fn trace_best<S: WordSource>(
     ensures total { IfOk result (λ total. total ≡ cost_of (S.says source.now) words.new.items) }
 {
     let last = last_end(&nodes.heads);
-    gather(
-        source,
-        &nodes.bundles,
-        &nodes.backs,
-        linked(nodes.heads[last]),
-        last,
-        ends,
-    )?;
+    gather(source, nodes, last, ends)?;
     let found = least(source, ends, BOUNDARY_ID);
     let from = linked(found.before);
     words_back(source, &nodes.bundles, &nodes.backs, from, words)?;

@@ -1,12 +1,8 @@
 use Rattle.std.proofs.Common.{arith, ◌<◌, ◌++◌, List, length, refl, sym, subst, ap, ◌∙◌}
 use Rattle.std.proofs.lemmas.Option.{slice_get_read}
-use Rattle.path_search.specs.declared.node.Backpointer.{Backpointer}
 use Rattle.path_search.specs.declared.node.End.{End}
-use Rattle.path_search.specs.declared.node.Bundle.{Bundle}
-use Rattle.path_search.specs.Ends.{AreEnds}
-use Rattle.path_search.specs.Nodes.{IsLatest, link_of}
 use Rattle.paths.specs.declared.surface.Surface.{Surface}
-use Rattle.path_search.specs.SearchedText.{AreSurfacesAt, nodes_in}
+use Rattle.path_search.specs.SearchedText.{AreSurfacesAt}
 use Rattle.path_search.specs.Thinned.{AreLeftOf}
 use Rattle.path_search.proofs.Choice.{some_reached}
 use Rattle.path_search.proofs.Growth.{not_reached, reached_place}
@@ -21,9 +17,9 @@ returns-then-not-is_reached-clause-lattice g c =
     let kept = c.requires.kept in
     let long = kept.places in
     let within : c.args.place < length heads = omega (arith, c.requires.place, long) in
-    let at = slice_get_read heads (length heads) c.args.place c.index-head.result.now refl within c.index-head.ensures in
+    let at = slice_get_read heads (length heads) c.args.place c.index.result.now refl within c.index.ensures in
     not_reached t.words t.connection t.text_length c.requires.source.source
-    t.surface_words nodes.bundles.items nodes.backs.items heads c.args.place c.index-head.result.now kept.bundles_are kept.all c.requires.lattice kept.linked at (sym c.is_reached.ensures ∙ c.if-not-is_reached.true)
+    t.surface_words nodes.bundles.items nodes.backs.items heads c.args.place c.index.result.now kept.bundles_are kept.all c.requires.lattice kept.linked at (sym c.is_reached.ensures ∙ c.if-not-is_reached.true)
 
 pub surfaces_at-requires-clause-place : goal.surfaces_at-requires-clause-place
 surfaces_at-requires-clause-place g c =
@@ -33,19 +29,9 @@ surfaces_at-requires-clause-place g c =
     let kept = c.requires.kept in
     let long = kept.places in
     let within : c.args.place < length heads = omega (arith, c.requires.place, long) in
-    let at = slice_get_read heads (length heads) c.args.place c.index-head.result.now refl within c.index-head.ensures in
+    let at = slice_get_read heads (length heads) c.args.place c.index.result.now refl within c.index.ensures in
     reached_place t.words t.connection t.text_length c.requires.source.source
-    t.is_place t.surface_words nodes.bundles.items nodes.backs.items heads c.args.place (length (t.words c.args.place)) c.args.place c.index-head.result.now c.requires.source.places kept.bundles_are kept.all c.requires.lattice kept.linked at (sym c.is_reached.ensures ∙ c.if-not-is_reached.false)
-
-pub gather-requires-clause-head : goal.gather-requires-clause-head
-gather-requires-clause-head g c =
-    let heads = c.args.nodes.now.heads.items in
-    let kept = c.requires.kept in
-    let long = kept.places in
-    let within : c.args.place < length heads = omega (arith, c.requires.place, long) in
-    let at = slice_get_read heads (length heads) c.args.place c.index-head.result.now refl within c.index-head.ensures in
-    subst (IsLatest c.deref.result.now c.args.place (length c.deref.result.now)) (sym c.linked.ensures)
-    (subst (λ (xs : List Bundle). IsLatest xs c.args.place (length xs) (link_of c.index-head.result.now)) (sym c.deref.ensures.value) (kept.linked.heads_latest c.args.place c.index-head.result.now at))
+    t.is_place t.surface_words nodes.bundles.items nodes.backs.items heads c.args.place (length (t.words c.args.place)) c.args.place c.index.result.now c.requires.source.places kept.bundles_are kept.all c.requires.lattice kept.linked at (sym c.is_reached.ensures ∙ c.if-not-is_reached.false)
 
 pub add_surfaces-requires-clause-place : goal.add_surfaces-requires-clause-place
 add_surfaces-requires-clause-place g c =
@@ -55,28 +41,20 @@ add_surfaces-requires-clause-place g c =
     let kept = c.requires.kept in
     let long = kept.places in
     let within : c.args.place < length heads = omega (arith, c.requires.place, long) in
-    let at = slice_get_read heads (length heads) c.args.place c.index-head.result.now refl within c.index-head.ensures in
+    let at = slice_get_read heads (length heads) c.args.place c.index.result.now refl within c.index.ensures in
     let ends = c.gather.new.ends.items in
-    let are : AreEnds (nodes_in t nodes.bundles.items nodes.backs.items) c.args.place ends =
-    subst (λ (bs : List Backpointer). AreEnds (nodes_in t nodes.bundles.items bs) c.args.place ends) c.deref-2.ensures.value
-    (subst (λ (rs : List Bundle). AreEnds (nodes_in t rs c.deref-2.result.now) c.args.place ends) c.deref.ensures.value c.in_ok-gather.ensures) in
     let grown = c.in_ok-surfaces_at.ensures.appended in
     record {
       source = c.requires.source;
       within = c.requires.place;
-      surfaces = subst (AreSurfacesAt t c.args.place) (sym (c.deref-3.ensures.value ∙ grown.2 ∙ ap (λ (xs : List Surface). xs ++ grown.0) c.clear.ensures.items)) grown.1;
-      some = subst (λ (xs : List End). 0 < length xs) (sym c.deref-4.ensures.value)
+      surfaces = subst (AreSurfacesAt t c.args.place) (sym (c.deref.ensures.value ∙ grown.2 ∙ ap (λ (xs : List Surface). xs ++ grown.0) c.clear.ensures.items)) grown.1;
+      some = subst (λ (xs : List End). 0 < length xs) (sym c.deref-2.ensures.value)
           (some_left ends c.thin.new.ends.items c.in_ok-thin.ensures.left
-          (some_reached t.surface_words nodes.bundles.items nodes.backs.items c.args.place (length nodes.bundles.items) c.index-head.result.now ends kept.bundles_are kept.all (sym c.is_reached.ensures ∙ c.if-not-is_reached.false)
-          (kept.linked.heads_latest c.args.place c.index-head.result.now at) are));
+          (some_reached t.surface_words nodes.bundles.items nodes.backs.items c.args.place (length nodes.bundles.items) c.index.result.now ends kept.bundles_are kept.all (sym c.is_reached.ensures ∙ c.if-not-is_reached.false)
+          (kept.linked.heads_latest c.args.place c.index.result.now at) c.in_ok-gather.ensures));
     }
 
 pub add_surfaces-requires-clause-ends : goal.add_surfaces-requires-clause-ends
 add_surfaces-requires-clause-ends g c =
-    let t = g.S.WordSource.says c.args.source.now in
-    let nodes = c.args.nodes.now in
     let ends = c.gather.new.ends.items in
-    let are : AreEnds (nodes_in t nodes.bundles.items nodes.backs.items) c.args.place ends =
-    subst (λ (bs : List Backpointer). AreEnds (nodes_in t nodes.bundles.items bs) c.args.place ends) c.deref-2.ensures.value
-    (subst (λ (rs : List Bundle). AreEnds (nodes_in t rs c.deref-2.result.now) c.args.place ends) c.deref.ensures.value c.in_ok-gather.ensures) in
-    record { all = ends; are = are; left = subst (AreLeftOf ends) (sym c.deref-4.ensures.value) c.in_ok-thin.ensures.left }
+    record { all = ends; are = c.in_ok-gather.ensures; left = subst (AreLeftOf ends) (sym c.deref-2.ensures.value) c.in_ok-thin.ensures.left }

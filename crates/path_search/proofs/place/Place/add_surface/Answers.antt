@@ -2,13 +2,14 @@ use Rattle.std.proofs.Common.{arith, ◌≡◌, ℕ, suc, ◌+◌, ◌<◌, ◌+
 use Rattle.std.proofs.lemmas.List.{length-set, length_push, take_at}
 use Rattle.std.proofs.lemmas.Option.{same_Some, slice_get-get_or, slice_get_read, slice_get_within}
 use Rattle.path_search.specs.declared.node.Bundle.{Bundle}
-use Rattle.path_search.specs.Thinned.{AreBestEnds}
+use Rattle.path_search.specs.Places.{AreAddedFrom}
 use Rattle.mj_model.specs.declared.word.Word.{Word}
 use Rattle.paths.specs.declared.surface.Surface.{Surface}
-use Rattle.path_search.specs.Nodes.{AreLinked, AreBundles, HaveRights, Node, bundle_words, node_words}
-use Rattle.path_search.specs.SearchedText.{IsLatticeOf, nodes_in, words_before}
+use Rattle.path_search.specs.Nodes.{AreLinked, AreBundles, bundle_words, node_words}
+use Rattle.path_search.specs.SearchedText.{word_count}
+use Rattle.path_search.proofs.AddedWords.{next_surface_added}
 use Rattle.path_search.proofs.Links.{links_on}
-use Rattle.path_search.proofs.BundleNodes.{nodes_stay, rights_stay, bundles_push, words_push}
+use Rattle.path_search.proofs.BundleNodes.{bundles_push, words_push}
 use Rattle.path_search.proofs.WordNumbers.{no_surface, surface_ends, whole_at}
 use Rattle.path_search.proofs.place.Place.add_surface.Goals as goal
 
@@ -36,21 +37,17 @@ add_bundle-requires g c =
     let whole = ap length c.deref_mut.ensures.value in
     record { end = omega (arith, end, long, whole) }
 
-pub add_words-requires-clause-next : goal.add_words-requires-clause-next
-add_words-requires-clause-next g c =
+pub add_words-requires-clause-last : goal.add_words-requires-clause-last
+add_words-requires-clause-last g c =
     let t = g.S.WordSource.says c.args.source.now in
     let nodes = c.args.nodes.now in
-    let surfaces = c.args.self.now.surfaces.now in
-    let s = get_or surfaces c.args.number no_surface in
-    let kept = c.requires.kept in
+    let s = get_or c.args.self.now.surfaces.now c.args.number no_surface in
     let bundle : Bundle = record { surface = s; from = c.len.result; next = c.index.result.now } in
-    let bundles_now : c.deref.result.now ≡ nodes.bundles.items ++ bundle ∷ [] = c.deref.ensures.value ∙ c.in_ok-add_bundle.ensures.bundles in
     record {
       surface = s;
-      here = slice_get-get_or surfaces c.args.number no_surface c.requires.number;
+      here = slice_get-get_or c.args.self.now.surfaces.now c.args.number no_surface c.requires.number;
       before = node_words t.surface_words nodes.bundles.items;
-      words = ap (node_words t.surface_words) bundles_now ∙ words_push t.surface_words nodes.bundles.items bundle;
-      none_yet = kept.all;
+      words = ap (node_words t.surface_words) (c.deref.ensures.value ∙ c.in_ok-add_bundle.ensures.bundles) ∙ words_push t.surface_words nodes.bundles.items bundle;
     }
 
 pub add_words-requires-clause-follows : goal.add_words-requires-clause-follows
@@ -72,39 +69,15 @@ add_words-requires-clause-follows g c =
           ∙ ap (λ (x : Surface). (behind.before ++ reverse (t.surface_words next)) ++ reverse (t.surface_words x)) mine,
     )
 
-pub add_words-requires-clause-rights : goal.add_words-requires-clause-rights
-add_words-requires-clause-rights g c =
+pub add_words-requires-clause-added : goal.add_words-requires-clause-added
+add_words-requires-clause-added g c =
     let t = g.S.WordSource.says c.args.source.now in
     let nodes = c.args.nodes.now in
     let s = get_or c.args.self.now.surfaces.now c.args.number no_surface in
-    let kept = c.requires.kept in
     let bundle : Bundle = record { surface = s; from = c.len.result; next = c.index.result.now } in
     let bundles_now : c.deref.result.now ≡ nodes.bundles.items ++ bundle ∷ [] = c.deref.ensures.value ∙ c.in_ok-add_bundle.ensures.bundles in
-    subst (λ (rs : List Bundle). HaveRights (node_words t.surface_words rs) nodes.backs.items) (sym bundles_now) (rights_stay t.surface_words nodes.bundles.items bundle nodes.backs.items kept.all kept.rights)
-
-pub add_words-requires-clause-lattice : goal.add_words-requires-clause-lattice
-add_words-requires-clause-lattice g c =
-    let t = g.S.WordSource.says c.args.source.now in
-    let nodes = c.args.nodes.now in
-    let surfaces = c.args.self.now.surfaces.now in
-    let s = get_or surfaces c.args.number no_surface in
-    let kept = c.requires.kept in
-    let bundle : Bundle = record { surface = s; from = c.len.result; next = c.index.result.now } in
-    let bundles_now : c.deref.result.now ≡ nodes.bundles.items ++ bundle ∷ [] = c.deref.ensures.value ∙ c.in_ok-add_bundle.ensures.bundles in
-    let same = ap (λ (rs : List Bundle). nodes_in t rs nodes.backs.items) bundles_now ∙ nodes_stay t.surface_words nodes.bundles.items bundle nodes.backs.items kept.all in
-    subst (λ (ns : List Node). IsLatticeOf t ns c.args.self.now.start (words_before t surfaces (c.args.number + 1) 0)) (sym same) c.requires.lattice
-
-pub add_words-requires-clause-ends : goal.add_words-requires-clause-ends
-add_words-requires-clause-ends g c =
-    let t = g.S.WordSource.says c.args.source.now in
-    let nodes = c.args.nodes.now in
-    let surfaces = c.args.self.now.surfaces.now in
-    let s = get_or surfaces c.args.number no_surface in
-    let kept = c.requires.kept in
-    let bundle : Bundle = record { surface = s; from = c.len.result; next = c.index.result.now } in
-    let bundles_now : c.deref.result.now ≡ nodes.bundles.items ++ bundle ∷ [] = c.deref.ensures.value ∙ c.in_ok-add_bundle.ensures.bundles in
-    let same = ap (λ (rs : List Bundle). nodes_in t rs nodes.backs.items) bundles_now ∙ nodes_stay t.surface_words nodes.bundles.items bundle nodes.backs.items kept.all in
-    subst (λ (ns : List Node). AreBestEnds ns c.args.self.now.start c.args.self.now.ends.now) (sym same) c.requires.ends
+    subst (λ (rs : List Bundle). AreAddedFrom t c.args.self.now c.args.number (word_count c.args.self.now.surfaces.now c.args.number) rs nodes.backs.items) (sym bundles_now)
+    (next_surface_added t c.args.self.now c.requires.place c.args.number c.requires.number nodes.bundles.items bundle refl nodes.backs.items c.requires.added)
 
 pub returns-clause-kept : goal.returns-clause-kept
 returns-clause-kept g c =
@@ -129,12 +102,13 @@ returns-clause-kept g c =
     let whole = whole_at t c.args.self.now.start surfaces c.requires.place.surfaces c.args.number no_surface c.requires.number in
     let bundles_are = subst (AreBundles t.surface_words) (sym c.in_ok-add_bundle.ensures.bundles) (bundles_push t.surface_words nodes.bundles.items bundle kept.bundles_are whole from) in
     let linked = links_on nodes.bundles.items heads bundle kept.linked at in
-    let all = c.in_ok-add_words.ensures.all ∙ ap (λ (rs : List Bundle). length (node_words t.surface_words rs)) c.deref.ensures.value in
+    let added = subst (λ (rs : List Bundle). AreAddedFrom t c.args.self.now c.args.number 0 rs c.add_words.new.backs.items) c.deref.ensures.value c.in_ok-add_words.ensures.added in
+    let none_left = added.left in
     let places = ap length heads_now ∙ length-set heads s.end (suc (length nodes.bundles.items)) ∙ kept.places in
     record {
       bundles_are = bundles_are;
-      all = all;
-      rights = subst (λ (rs : List Bundle). HaveRights (node_words t.surface_words rs) c.add_words.new.backs.items) c.deref.ensures.value c.in_ok-add_words.ensures.rights;
+      all = omega (arith, none_left);
+      rights = added.rights;
       linked = subst (λ (rs : List Bundle). AreLinked rs (take nodes.heads.len (c.add_bundle.new.heads ++ drop (length c.add_bundle.new.heads) heads))) (sym c.in_ok-add_bundle.ensures.bundles) (subst (λ (hs : List ℕ). AreLinked (nodes.bundles.items ++ bundle ∷ []) hs) (sym heads_now) linked);
       places = places;
     }
@@ -152,3 +126,6 @@ returns-clause-behind g c =
       before = node_words t.surface_words nodes.bundles.items;
       words = ap (node_words t.surface_words) c.in_ok-add_bundle.ensures.bundles ∙ words_push t.surface_words nodes.bundles.items bundle;
     }
+
+pub returns-clause-added : goal.returns-clause-added
+returns-clause-added g c = subst (λ (rs : List Bundle). AreAddedFrom (g.S.WordSource.says c.args.source.now) c.args.self.now c.args.number 0 rs c.add_words.new.backs.items) c.deref.ensures.value c.in_ok-add_words.ensures.added
