@@ -12,6 +12,7 @@ mod spans;
 mod surface_words;
 mod surfaces;
 mod unknown_entries;
+mod unknown_start;
 mod word_start;
 mod words;
 

@@ -7,58 +7,55 @@ ghost use Rattle.image_bytes.specs.ImageMeaning.{image_tables};
 ghost use Rattle.mj_model.specs.Tables.{System};
 ghost use Rattle.paths.specs.Run.{bytes_of, run};
 ghost use Rattle.paths.specs.Words.{is_place};
-ghost use Rattle.word_lookup.specs.CharacterRuns.{AreCharacterRuns, IsFirst, TellsUpTo, count_between as characters_between};
+ghost use Rattle.word_lookup.specs.CharacterRuns.{AreCharacterRuns, TellsUpTo, count_between as characters_between};
 
 use crate::run::{Run, run_up_to};
-use crate::word_start::{WordStart, behind};
+use crate::unknown_start::UnknownStart;
+use crate::word_start::behind;
 use dict_image::Dict;
-use mj_model::CharInfo;
 use paths::{CharacterRun, LastRuns};
 
-/// The run behind the first character of a place's unknown words: no more than `limit` characters are counted, and the bytes are those of
-/// fewer. `last` are the runs that were looked at last. Where places rise, each character is looked at once.
-#[inline(always)]
-pub fn run_behind(
-    system: &Dict,
-    at: WordStart<'_>,
-    first: char,
-    info: CharInfo,
-    limit: usize,
-    last: &mut LastRuns,
-) -> Run
-    requires system { (image_tables system.now).kind ≡ System }
-    requires first { IsFirst at.rest.now first (len_utf8 first) }
-    requires info { info ≡ (image_tables system.now).info first }
-    requires last { AreCharacterRuns (image_tables system.now).info at.text.now last.old }
-    ensures characters { result.characters ≡ min limit (run (image_tables system.now).info info
-        (chars (drop (len_utf8 first) at.entry.rest.now))) }
-    ensures bytes { result.characters < limit → result.bytes
-        ≡ bytes_of result.characters (chars (drop (len_utf8 first) at.entry.rest.now)) }
-    ensures within { len_utf8 first + result.bytes ≤ length at.entry.rest.now }
-    ensures last { AreCharacterRuns (image_tables system.now).info at.entry.text.now last.new }
-    ensures blanks { last.new.blanks ≡ last.old.blanks }
-{
-    if limit == 0 {
-        return Run {
-            characters: 0,
-            bytes: 0,
+impl UnknownStart<'_> {
+    /// The run behind the first character: no more than `limit` characters are counted, and the bytes are those of fewer. `last` are the
+    /// runs that were looked at last. Where places rise, each character is looked at once.
+    #[inline(always)]
+    pub fn run_behind(self, limit: usize, last: &mut LastRuns) -> Run
+        requires { AreCharacterRuns (image_tables self.system.now).info
+            self.at.text.now last.old }
+        ensures characters { result.characters
+            ≡ min limit (run (image_tables self.entry.system.now).info self.entry.info
+            (chars (drop (len_utf8 self.entry.first) self.entry.at.rest.now))) }
+        ensures bytes { result.characters < limit → result.bytes ≡ bytes_of result.characters
+            (chars (drop (len_utf8 self.entry.first) self.entry.at.rest.now)) }
+        ensures within { len_utf8 self.entry.first + result.bytes
+            ≤ length self.entry.at.rest.now }
+        ensures last { AreCharacterRuns (image_tables self.entry.system.now).info
+            self.entry.at.text.now last.new }
+        ensures blanks { last.new.blanks ≡ last.old.blanks }
+    {
+        if limit == 0 {
+            return Run {
+                characters: 0,
+                bytes: 0,
+            };
+        }
+        let at = self.at;
+        let begun = CharacterRun {
+            from: at.start,
+            to: at.start + self.first.len_utf8(),
+            following: 0,
+            last: self.info,
+            is_whole: false,
         };
-    }
-    let begun = CharacterRun {
-        from: at.start,
-        to: at.start + first.len_utf8(),
-        following: 0,
-        last: info,
-        is_whole: false,
-    };
-    let text = CategorizedText {
-        system,
-        text: at.text,
-    };
-    let run = text.run_of_place(begun, at.start == at.place, limit, last);
-    Run {
-        characters: run.following.min(limit),
-        bytes: run.to - begun.to,
+        let text = CategorizedText {
+            system: self.system,
+            text: at.text,
+        };
+        let run = text.run_of_place(begun, at.start == at.place, limit, last);
+        Run {
+            characters: run.following.min(limit),
+            bytes: run.to - begun.to,
+        }
     }
 }
 

@@ -4,15 +4,13 @@ ghost use Rattle.std.specs.Prelude.{◌≡◌, ◌+◌, ◌<◌, ◌≤◌, ◌|
 ghost use Rattle.std.specs.Char.{len_utf8};
 ghost use Rattle.paths.specs.UnknownSpans.{spans_by, one_if_none};
 ghost use Rattle.image_bytes.specs.ImageMeaning.{image_tables};
-ghost use Rattle.mj_model.specs.Tables.{System};
-ghost use Rattle.word_lookup.specs.CharacterRuns.{AreCharacterRuns, IsFirst};
+ghost use Rattle.word_lookup.specs.CharacterRuns.{AreCharacterRuns};
 ghost use Rattle.word_lookup.specs.Spans.{spans_in, grouped_with, longest_of, looked_ahead, HasBytes};
 
 use crate::run::{Run, alike_up_to};
-use crate::runs_in_turn::run_behind;
-use crate::word_start::{WordStart, behind};
-use dict_image::Dict;
-use mj_model::{Category, CharInfo};
+use crate::unknown_start::UnknownStart;
+use crate::word_start::behind;
+use mj_model::Category;
 use paths::LastRuns;
 
 /// The unknown spans of a place: that of the whole run, where it is grouped, and those of 1 to
@@ -23,46 +21,39 @@ pub struct Spans {
     pub longest: usize,
 }
 
-/// The unknown spans of a place whose words begin with the character `first`, which has the categories `info`. `last` are the runs that
-/// were looked at last.
-#[inline(always)]
-pub fn spans_from(
-    system: &Dict,
-    grouping: u16,
-    none_known: bool,
-    at: WordStart<'_>,
-    first: char,
-    info: CharInfo,
-    last: &mut LastRuns,
-) -> Spans
-    requires system { (image_tables system.now).kind ≡ System }
-    requires first { IsFirst at.rest.now first (len_utf8 first) }
-    requires info { info ≡ (image_tables system.now).info first }
-    requires category { info.head < length (image_tables system.now).categories }
-    requires last { AreCharacterRuns (image_tables system.now).info at.text.now last.old }
-    ensures spans { spans_in result ≡ spans_by (image_tables system.now) grouping none_known
-        first (chars (drop (len_utf8 first) at.entry.rest.now)) }
-    ensures bytes { IfSome result.grouped (HasBytes (chars at.entry.rest.now)) }
-    ensures within { result.longest ≤ length (chars at.entry.rest.now) }
-    ensures last { AreCharacterRuns (image_tables system.now).info at.entry.text.now last.new }
-    ensures blanks { last.new.blanks ≡ last.old.blanks }
-{
-    let category = system.category(usize::from(info.first()));
-    if !makes_words(category, none_known) {
-        return Spans {
-            grouped: None,
-            longest: 0,
+impl UnknownStart<'_> {
+    /// The unknown spans of the place. `last` are the runs that were looked at last.
+    #[inline(always)]
+    pub fn spans(self, grouping: u16, none_known: bool, last: &mut LastRuns) -> Spans
+        requires { AreCharacterRuns (image_tables self.system.now).info
+            self.at.text.now last.old }
+        ensures spans { spans_in result
+            ≡ spans_by (image_tables self.entry.system.now) grouping none_known
+            self.entry.first (chars (drop (len_utf8 self.entry.first) self.entry.at.rest.now)) }
+        ensures bytes { IfSome result.grouped (HasBytes (chars self.entry.at.rest.now)) }
+        ensures within { result.longest ≤ length (chars self.entry.at.rest.now) }
+        ensures last { AreCharacterRuns (image_tables self.entry.system.now).info
+            self.entry.at.text.now last.new }
+        ensures blanks { last.new.blanks ≡ last.old.blanks }
+    {
+        let category = self.system.category(usize::from(self.info.first()));
+        if !makes_words(category, none_known) {
+            return Spans {
+                grouped: None,
+                longest: 0,
+            };
+        }
+        let ahead = look_ahead(category, grouping);
+        let run = self.run_behind(ahead, last);
+        let following = behind(self.at.rest, self.first.len_utf8());
+        let most = usize::from(category.length);
+        let alike = 1 + alike_up_to(self.system, self.info, following, most);
+        let spans = Spans {
+            grouped: grouped_run(category, grouping, self.first, run),
+            longest: longest_length(category, run.characters, alike),
         };
+        at_least_one(none_known, spans)
     }
-    let ahead = look_ahead(category, grouping);
-    let run = run_behind(system, at, first, info, ahead, last);
-    let following = behind(at.rest, first.len_utf8());
-    let alike = 1 + alike_up_to(system, info, following, usize::from(category.length));
-    let spans = Spans {
-        grouped: grouped_run(category, grouping, first, run),
-        longest: longest_length(category, run.characters, alike),
-    };
-    at_least_one(none_known, spans)
 }
 
 /// Whether unknown words are made: always where nothing is known.

@@ -10,8 +10,8 @@ ghost use Rattle.word_lookup.specs.Surfaces.{GrowsByWords};
 ghost use Rattle.word_lookup.specs.WordsHere.{unknown_here};
 
 use crate::dictionaries::Dictionaries;
-use crate::spans::spans_from;
 use crate::unknown_entries::UnknownEntries;
+use crate::unknown_start::UnknownStart;
 use crate::word_start::{WordStart, behind};
 use paths::{LastRuns, Surface};
 use std::alloc::AllocError;
@@ -103,15 +103,13 @@ impl<'a> Dictionaries<'a> {
             return Ok(());
         };
         let info = self.system.info_near(first, &mut last.range);
-        let spans = spans_from(
-            self.system,
-            self.grouping,
-            none_known,
+        let start = UnknownStart {
+            system: self.system,
             at,
             first,
             info,
-            last,
-        );
+        };
+        let spans = start.spans(self.grouping, none_known, last);
         let entries = UnknownEntries {
             dictionaries: *self,
             category: usize::from(info.first()),

@@ -1,12 +1,11 @@
 //! The unknown entries of a category.
 
 ghost use Rattle.std.specs.Prelude.{◌≡◌, ◌<◌, ◌≤◌, length, take, vec_len, chars, IfSome, OnOk};
+ghost use Rattle.std.proofs.Props.{props};
 ghost use Rattle.mj_model.specs.Lists.{up_to};
 ghost use Rattle.word_lookup.specs.Overlays.{overlay_of};
 ghost use Rattle.word_lookup.specs.Spans.{spans_in, HasBytes};
 ghost use Rattle.word_lookup.specs.Surfaces.{GrowsByWords};
-ghost use Rattle.word_lookup.specs.UnknownEntries.{entries_of};
-ghost use Rattle.word_lookup.specs.WordsHere.{spans_here, unknown_up_to};
 
 use crate::dictionaries::Dictionaries;
 use crate::spans::Spans;
@@ -19,9 +18,13 @@ use std::alloc::AllocError;
 pub struct UnknownEntries<'a> {
     pub dictionaries: Dictionaries<'a>,
     pub category: usize,
+    ghost there: { category < length (overlay_of dictionaries).system.categories } by { Prim.hlevel props },
 }
 
 impl<'a> UnknownEntries<'a> {
+    ghost use Rattle.word_lookup.specs.UnknownEntries.{entries_of};
+    ghost use Rattle.word_lookup.specs.WordsHere.{spans_here, unknown_up_to};
+
     /// Appends the surfaces of these spans.
     #[inline(always)]
     pub fn append_spans(
@@ -30,7 +33,6 @@ impl<'a> UnknownEntries<'a> {
         at: WordStart<'_>,
         out: &mut Vec<Surface>,
     ) -> Result<(), AllocError>
-        requires there { self.category < length (overlay_of self.dictionaries).system.categories }
         requires bytes { IfSome spans.grouped (HasBytes (chars at.rest.now)) }
         requires within { spans.longest ≤ length (chars at.rest.now) }
         ensures appended { OnOk result (GrowsByWords (overlay_of self.entry.dictionaries)
@@ -52,8 +54,7 @@ impl<'a> UnknownEntries<'a> {
         at: WordStart<'_>,
         out: &mut Vec<Surface>,
     ) -> Result<(), AllocError>
-        requires there { self.category < length (overlay_of self.dictionaries).system.categories }
-        requires within { longest ≤ length (chars at.rest.now) }
+        requires { longest ≤ length (chars at.rest.now) }
         ensures appended { OnOk result (GrowsByWords (overlay_of self.entry.dictionaries)
             (spans_here at.entry (entries_of self.entry) (up_to longest))
             out.old.items out.new.items) }
@@ -75,8 +76,7 @@ impl<'a> UnknownEntries<'a> {
         end: usize,
         out: &mut Vec<Surface>,
     ) -> Result<(), AllocError>
-        requires there { self.category < length (overlay_of self.dictionaries).system.categories }
-        requires forward { at.start ≤ end }
+        requires { at.start ≤ end }
         ensures appended { OnOk result (GrowsByWords (overlay_of self.entry.dictionaries)
             (unknown_up_to at.entry end (entries_of self.entry))
             out.old.items out.new.items) }

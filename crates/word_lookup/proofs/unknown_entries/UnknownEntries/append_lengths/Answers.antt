@@ -22,7 +22,7 @@ overflow_add-end c =
     let cs = chars c.args.at.rest.now in
     let t = YieldsList-turn (YieldsList-from_take c.args.longest (YieldsList-from_chars c.args.at.rest.now c.args.at.is_text cc) cc) c.loop-c.yielded _ c.loop-c.yielded_by _ _ c.in-Some.c c.in-Some.is c.next.ensures.steps in
     let len = length-take c.args.longest cs in
-    let more = one_character_more cs c.args.at.start c.args.longest (length c.loop-c.yielded) c.in-Some.c c.loop-c.end t.0 (omega (arith, t.0, len)) c.requires.within t.1 c.loop-c.invariant.end_is in
+    let more = one_character_more cs c.args.at.start c.args.longest (length c.loop-c.yielded) c.in-Some.c c.loop-c.end t.0 (omega (arith, t.0, len)) c.requires t.1 c.loop-c.invariant.end_is in
     let all = chars_within c.args.at.rest.now (length c.loop-c.yielded + 1) c.args.at.is_text in
     omega (arith, more, all, c.args.at.fits, c.len_utf8-end.ensures.value)
 
@@ -34,7 +34,7 @@ loop-c-preserved c =
     let t = YieldsList-turn (YieldsList-from_take c.args.longest (YieldsList-from_chars c.args.at.rest.now c.args.at.is_text cc) cc) c.loop-c.yielded _ c.loop-c.yielded_by _ _ c.in-Some.c c.in-Some.is c.next.ensures.steps in
     let len = length-take c.args.longest cs in
     let n = length c.loop-c.yielded in
-    let more = one_character_more cs c.args.at.start c.args.longest n c.in-Some.c c.loop-c.end t.0 (omega (arith, t.0, len)) c.requires.within t.1 c.loop-c.invariant.end_is in
+    let more = one_character_more cs c.args.at.start c.args.longest n c.in-Some.c c.loop-c.end t.0 (omega (arith, t.0, len)) c.requires t.1 c.loop-c.invariant.end_is in
     let value = c.len_utf8-end.ensures.value in
     let long = length_push c.loop-c.yielded c.in-Some.c in
     let at : c.loop-c.end + c.len_utf8-end.result ≡ c.args.at.start + bytes_of (n + 1) cs = omega (arith, more, value) in
@@ -57,6 +57,6 @@ returns-clause-appended c =
     let cs = chars c.args.at.rest.now in
     let t = YieldsList-end (YieldsList-from_take c.args.longest (YieldsList-from_chars c.args.at.rest.now c.args.at.is_text cc) cc) c.loop-c.yielded _ c.loop-c.yielded_by _ _ c.in-None.is c.next.ensures.steps in
     let len = length-take c.args.longest cs in
-    let low = c.requires.within in
+    let low = c.requires in
     let e : length c.loop-c.yielded ≡ c.args.longest = omega (arith, t.1, len, low) in
     subst (λ (k : ℕ). GrowsByWords (overlay_of c.args.self.dictionaries) (words_of_spans c.args.at.place c.args.at.start cs (entries_of c.args.self) (up_to k)) c.args.out.now.items c.loop-c.out.items) e c.loop-c.invariant.grown

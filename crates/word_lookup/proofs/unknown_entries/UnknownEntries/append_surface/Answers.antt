@@ -12,14 +12,14 @@ use Rattle.word_lookup.proofs.unknown_entries.UnknownEntries.append_surface.Goal
 
 pub unknown-requires : goal.unknown-requires
 unfolding overlay_of
-unknown-requires c = c.requires.there
+unknown-requires c = c.args.self.there
 
 pub returns-clause-appended : goal.returns-clause-appended
 unfolding overlay_of
 returns-clause-appended c =
     let d = c.args.self.dictionaries in
     let t = image_tables d.system.now in
-    let stand = unknown_stand t c.args.self.category (all_fit d).0 c.requires.there in
+    let stand = unknown_stand t c.args.self.category (all_fit d).0 c.args.self.there in
     surface_appended (overlay_of d) c.args.at Categories c.row-row.result c.args.end c.surface.result c.unknown.result _ _ _ c.surface.ensures c.in_ok-push.ensures.items c.row-row.ensures
     (subst (AllByRecursion (StandsAtNumber (numbered_tokens t))) (sym c.unknown.ensures.unknown) stand) c.unknown.ensures.some
-    (words_from_start c.args.at.place c.args.at.start c.args.end c.unknown.result (t.unknown c.args.self.category) c.requires.forward c.unknown.ensures.unknown)
+    (words_from_start c.args.at.place c.args.at.start c.args.end c.unknown.result (t.unknown c.args.self.category) c.requires c.unknown.ensures.unknown)
