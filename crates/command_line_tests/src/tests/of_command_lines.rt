@@ -1,6 +1,7 @@
 //! Command lines: what is chosen, and what is refused.
 
 mod dictc;
+mod endings;
 mod jseg;
 mod words;
 

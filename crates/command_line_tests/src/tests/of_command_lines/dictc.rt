@@ -1,5 +1,6 @@
 //! Command lines of `dictc`.
 
+use super::endings::{EndRow, Program, expect_ends, expect_wrong};
 use Asked::{AllFaults, System, Told, Trusting, User};
 use command_lines::dictc::{Asked as AskedFor, Base, IdsOptions, Options, options};
 use std::alloc::{AllocError, Global};
@@ -107,7 +108,7 @@ fn command_lines_of_ids(rt: HostRuntime) -> Result<(), Fail> {
 const HELP: (u8, &str) = (0, "Usage: dictc");
 
 #[rattlefmt::skip]
-static COMMAND_LINES_THAT_END_AT_ONCE: [(&str, &str, (u8, &str)); 16] = [
+static COMMAND_LINES_THAT_END_AT_ONCE: [EndRow<'static>; 16] = [
     // (what, words, status and what is in the text)
     ("help", "--help", HELP),
     ("help for a system", "system --help", HELP),
@@ -127,20 +128,9 @@ static COMMAND_LINES_THAT_END_AT_ONCE: [(&str, &str, (u8, &str)); 16] = [
     ("a line feed", "user --a\nb", (2, "dictc: unexpected argument '--a\\nb' found\n")),
 ];
 
-/// Whether a command line asks for nothing, and ends with this status and this in its text.
-fn is_ended(alloc: Global, given: &str, status: u8, text: &str) -> Result<bool, AllocError> {
-    Ok(match options(alloc, words(alloc, given)?) {
-        Ok(_options) => false,
-        Err(fault) => fault.status() == status && fault.text().contains(text),
-    })
-}
-
 #[test]
 fn command_lines_that_end_at_once(rt: HostRuntime) -> Result<(), Fail> {
-    for (what, given, (status, text)) in &COMMAND_LINES_THAT_END_AT_ONCE {
-        assert!(rt; is_ended(rt.alloc(), given, *status, text)?, "{what}");
-    }
-    Ok(())
+    expect_ends(&rt, Program::Dictc, &COMMAND_LINES_THAT_END_AT_ONCE)
 }
 
 #[rattlefmt::skip]
@@ -166,8 +156,5 @@ static WRONG_COMMAND_LINES: [(&str, &str); 16] = [
 
 #[test]
 fn wrong_command_lines(rt: HostRuntime) -> Result<(), Fail> {
-    for (what, given) in &WRONG_COMMAND_LINES {
-        assert!(rt; is_ended(rt.alloc(), given, 2, "dictc: ")?, "{what}");
-    }
-    Ok(())
+    expect_wrong(&rt, Program::Dictc, &WRONG_COMMAND_LINES)
 }

@@ -1,59 +1,37 @@
 //! What `jseg` is asked of itself and its faults, and what it refuses.
 
-use command_lines::jseg::task;
-use std::alloc::{AllocError, Global};
+use crate::tests::of_command_lines::endings::{
+    EndRow, Program, expect_ends, expect_wrong, is_ended,
+};
 use std::test::Fail;
-use test_words::words;
-
-/// Whether a command line is answered with this status and with this in the text.
-fn is_answered(alloc: Global, given: &str, status: u8, text: &str) -> Result<bool, AllocError> {
-    Ok(match task(alloc, words(alloc, given)?) {
-        Ok(_task) => false,
-        Err(fault) => fault.status() == status && fault.text().contains(text),
-    })
-}
 
 #[rattlefmt::skip]
-static ANSWERS: [(&str, u8, &str); 18] = [
-    // (words, status, what is in the text)
-    ("--version",        0, "layouts read: 1, 2, 3; written: 3"),
-    ("--explain L4",     0, "L4 BadSection\nMeaning: "),
-    ("--explain=Memory", 0, "Memory\nMeaning: "),
-    ("--explain l4",     0, "L4 BadSection\nMeaning: "),
-    ("--explain k7",     0, "K7 ShortBuffer\nMeaning: "),
-    ("--explain notutf8", 0, "S1 NotUtf8\nMeaning: "),
-    ("--explain NotUtf8", 0, "\n\nG3 NotUtf8\nMeaning: "),
-    ("--explain",        0, "\nG3 NotUtf8\nG4 TooLong\n"),
-    ("--explain X9",     2, "jseg: no fault has the code or name 'X9'\n"),
-    ("--simple",         2, "'--sample'"),
-    ("--soures a",       2, "'--sources'"),
-    ("--x\u{1b}[2J",      2, "jseg: unexpected argument '--x\\u{1b}[2J' found\n"),
-    ("--a\nb",           2, "jseg: unexpected argument '--a\\nb' found\n"),
-    ("--sample -M 7\n",  2, "jseg: invalid value '7\\n' for '-M <N>': "),
-    ("--explain L4\t",   2, "jseg: no fault has the code or name 'L4\\t'\n"),
-    ("-d -x.img",        2, "\n\n  tip: for the file '-x.img' write './-x.img'\n\n"),
-    ("--smple -d s.img", 2, "'--sample'"),
-    ("-q",               2, "jseg: unexpected argument '-q' found\n\nUsage: jseg "),
+static ANSWERS: [EndRow<'static>; 18] = [
+    // (what, words, (status, what is in the text))
+    ("the version",           "--version",         (0, "layouts read: 1, 2, 3; written: 3")),
+    ("a code",                "--explain L4",      (0, "L4 BadSection\nMeaning: ")),
+    ("memory",                "--explain=Memory",  (0, "Memory\nMeaning: ")),
+    ("a code in lower case",  "--explain l4",      (0, "L4 BadSection\nMeaning: ")),
+    ("a code of the library", "--explain k7",      (0, "K7 ShortBuffer\nMeaning: ")),
+    ("a name in lower case",  "--explain notutf8", (0, "S1 NotUtf8\nMeaning: ")),
+    ("a name of two codes",   "--explain NotUtf8", (0, "\n\nG3 NotUtf8\nMeaning: ")),
+    ("all codes",             "--explain",         (0, "\nG3 NotUtf8\nG4 TooLong\n")),
+    ("a code of none",        "--explain X9",      (2, "jseg: no fault has the code or name 'X9'\n")),
+    ("a near option",         "--simple",          (2, "'--sample'")),
+    ("another near option",   "--soures a",        (2, "'--sources'")),
+    ("controls",              "--x\u{1b}[2J",      (2, "jseg: unexpected argument '--x\\u{1b}[2J' found\n")),
+    ("a line feed",           "--a\nb",            (2, "jseg: unexpected argument '--a\\nb' found\n")),
+    ("one in a value",        "--sample -M 7\n",   (2, "jseg: invalid value '7\\n' for '-M <N>': ")),
+    ("a tab in a code",       "--explain L4\t",    (2, "jseg: no fault has the code or name 'L4\\t'\n")),
+    ("a file like an option", "-d -x.img",         (2, "\n\n  tip: for the file '-x.img' write './-x.img'\n\n")),
+    ("one beside an image",   "--smple -d s.img",  (2, "'--sample'")),
+    ("a short option",        "-q",                (2, "jseg: unexpected argument '-q' found\n\nUsage: jseg ")),
 ];
 
 /// What is answered about the program and its faults.
 #[test]
 fn answers(rt: HostRuntime) -> Result<(), Fail> {
-    for (given, status, text) in &ANSWERS {
-        assert!(rt; is_answered(rt.alloc(), given, *status, text)?, "{given}");
-    }
-    Ok(())
-}
-
-/// Whether a command line ends with status 2, and this is in its text.
-fn is_refused(alloc: Global, given: &str, text: &str) -> Result<bool, AllocError> {
-    Ok(match task(alloc, words(alloc, given)?) {
-        Ok(_task) => false,
-        Err(fault) => {
-            let told = fault.text();
-            fault.status() == 2 && told.starts_with("jseg: ") && told.contains(text)
-        }
-    })
+    expect_ends(&rt, Program::Jseg, &ANSWERS)
 }
 
 #[rattlefmt::skip]
@@ -101,7 +79,10 @@ static MECAB_HABITS: [(&str, &str); 36] = [
 #[test]
 fn mecab_habits(rt: HostRuntime) -> Result<(), Fail> {
     for (given, text) in &MECAB_HABITS {
-        assert!(rt; is_refused(rt.alloc(), given, text)?, "{given}");
+        assert!(rt;
+            is_ended(rt.alloc(), Program::Jseg, given, 2, text)?,
+            "{given}"
+        );
     }
     Ok(())
 }
@@ -162,8 +143,5 @@ static WRONG_COMMAND_LINES: [(&str, &str); 49] = [
 
 #[test]
 fn wrong_command_lines(rt: HostRuntime) -> Result<(), Fail> {
-    for (what, given) in &WRONG_COMMAND_LINES {
-        assert!(rt; is_refused(rt.alloc(), given, "jseg: ")?, "{what}");
-    }
-    Ok(())
+    expect_wrong(&rt, Program::Jseg, &WRONG_COMMAND_LINES)
 }
