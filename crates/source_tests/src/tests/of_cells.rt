@@ -1,7 +1,9 @@
 //! Rows of cells, and refused growths. A growth is refused where the tests run under `tools/refuse`,
 //! which looks for the line that says so.
 use cells::{CELLS_MAX, Cells};
-use std::alloc::{AllocError, Global};
+use std::alloc::{Alloc, AllocError, Global};
+use std::io::Eprint;
+use std::process::Abort;
 use std::test::Fail;
 
 /// The cell, or nothing past the end.
@@ -44,15 +46,25 @@ fn holds(cells: &Cells, count: usize, n: usize) -> bool {
     true
 }
 
-/// Four cells. What is refused once is asked again.
-fn four_cells(rt: &HostRuntime) -> Result<Cells, Fail> {
-    match Cells::new(rt.alloc(), 4) {
-        Ok(cells) => Ok(cells),
-        Err(_refused) => {
-            rt.eprintln("refused")?;
-            Ok(Cells::new(rt.alloc(), 4)?)
-        }
+/// So many cells. What is refused once is asked again.
+pub fn new_cells(rt: &(impl Alloc<A = Global> + Eprint), n: usize) -> Result<Cells, Fail> {
+    Ok(again!(rt, Err(_), Cells::new(rt.alloc(), n.clamp(1, CELLS_MAX)))?)
+}
+
+/// Grows cells of which the first `count` were set, and the others are free. After a refusal they are still so.
+fn grow_again(
+    rt: &(impl Abort + Eprint),
+    cells: &mut Cells,
+    count: usize,
+    n: usize,
+) -> Result<(), Fail> {
+    let before = cells.len();
+    if grow(cells, n).is_err() {
+        rt.eprintln("refused")?;
+        assert!(rt; holds(cells, count, before), "{n}");
+        assert!(rt; grow(cells, n).is_ok(), "{n}");
     }
+    Ok(())
 }
 
 /// What the cells hold.
@@ -101,15 +113,19 @@ fn ends_of_the_numbers(rt: HostRuntime) -> Result<(), Fail> {
     Ok(())
 }
 
+/// Sets the last cell, and grows by one, which is free.
+fn add_one(cells: &mut Cells, base: i32) -> Result<bool, AllocError> {
+    let length = cells.len();
+    put(cells, length.saturating_sub(1), base, -5);
+    grow(cells, length.saturating_add(1))?;
+    Ok(cells.len() == length.saturating_add(1) && cell(cells, length) == Some((0, -1)))
+}
+
 #[test]
 fn one_more_at_a_time(rt: HostRuntime) -> Result<(), Fail> {
     let mut cells = Cells::new(rt.alloc(), 1)?;
     for n in 2..=1_000 {
-        let last = n - 2;
-        put(&mut cells, last, n as i32, -5);
-        grow(&mut cells, n)?;
-        assert_eq!(rt; cells.len(), n);
-        assert_eq!(rt; cell(&cells, n - 1), Some((0, -1)), "{n}");
+        assert!(rt; add_one(&mut cells, n)?, "{n}");
     }
     for i in 0..999 {
         assert_eq!(rt; cell(&cells, i), Some((i as i32 + 2, -5)), "{i}");
@@ -121,24 +137,19 @@ fn one_more_at_a_time(rt: HostRuntime) -> Result<(), Fail> {
 
 #[test]
 fn refused_cells_are_asked_again(rt: HostRuntime) -> Result<(), Fail> {
-    let cells = four_cells(&rt)?;
+    let cells = new_cells(&rt, 4)?;
     assert!(rt; holds(&cells, 0, 4));
     Ok(())
 }
 
 #[test]
 fn refused_growth_keeps_the_cells(rt: HostRuntime) -> Result<(), Fail> {
-    let mut cells = four_cells(&rt)?;
+    let mut cells = new_cells(&rt, 4)?;
     for i in 0..4 {
         put(&mut cells, i, i as i32 + 1, 7);
     }
     for n in [5, 100, 1_000] {
-        let before = cells.len();
-        if grow(&mut cells, n).is_err() {
-            rt.eprintln("refused")?;
-            assert!(rt; holds(&cells, 4, before), "{n}");
-            assert!(rt; grow(&mut cells, n).is_ok());
-        }
+        grow_again(&rt, &mut cells, 4, n)?;
         assert!(rt; holds(&cells, 4, n), "{n}");
     }
     Ok(())
@@ -146,15 +157,10 @@ fn refused_growth_keeps_the_cells(rt: HostRuntime) -> Result<(), Fail> {
 
 #[test]
 fn blocks_are_given_back(rt: HostRuntime) -> Result<(), Fail> {
-    let mut cells = four_cells(&rt)?;
-    let other = four_cells(&rt)?;
+    let mut cells = new_cells(&rt, 4)?;
+    let other = new_cells(&rt, 4)?;
     for n in [100, 1_000] {
-        let before = cells.len();
-        if grow(&mut cells, n).is_err() {
-            rt.eprintln("refused")?;
-            assert!(rt; holds(&cells, 0, before), "{n}");
-            assert!(rt; grow(&mut cells, n).is_ok());
-        }
+        grow_again(&rt, &mut cells, 0, n)?;
     }
     assert!(rt; holds(&cells, 0, 1_000));
     assert!(rt; holds(&other, 0, 4));

@@ -3,5 +3,5 @@
 mod chars;
 mod ranges;
 mod refused;
-mod samples;
+pub mod samples;
 mod unk;

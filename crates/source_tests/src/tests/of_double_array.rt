@@ -4,8 +4,8 @@ mod growing;
 mod grown_cells;
 mod relocated;
 
-use self::access::{Counting, expect_hits, insert, value};
-use double_array::{CellRead, DaFault, DoubleArray, Inserted};
+use self::access::{has_hits, has_value, inserts};
+use double_array::{CellRead, DaFault, DoubleArray};
 use std::test::Fail;
 use test_words::{FaultRow, first_untold};
 
@@ -44,18 +44,13 @@ static HITS: [(&[u8], &[(usize, u32)], u64); 5] = [
 fn insert_and_walk(rt: HostRuntime) -> Result<(), Fail> {
     let mut array = DoubleArray::new(rt.alloc())?;
     for (key, number, old) in &INSERTED {
-        let inserted = insert(&mut array, key, *number)?;
-        assert_eq!(rt; inserted.old, *old, "{number}");
-        if old.is_some() {
-            assert_eq!(rt; inserted.moved, 0, "{number}");
-        }
+        assert!(rt; inserts(&mut array, key, *number, *old)?, "{number}");
     }
     for (key, expected) in &VALUES {
-        assert_eq!(rt; value(&array, key), *expected, "{key:?}");
-        assert_eq!(rt; value(&Counting::over(&array), key), *expected, "{key:?}");
+        assert!(rt; has_value(&array, key, *expected), "{key:?}");
     }
     for (text, hits, reads) in &HITS {
-        expect_hits(&rt, &array, text, hits, *reads);
+        assert!(rt; has_hits(&array, text, hits, *reads), "{text:?}");
     }
     Ok(())
 }
@@ -64,9 +59,9 @@ fn insert_and_walk(rt: HostRuntime) -> Result<(), Fail> {
 fn the_empty_array(rt: HostRuntime) -> Result<(), Fail> {
     let array = DoubleArray::new(rt.alloc())?;
     assert!(rt; (1..=600).contains(&array.len()));
-    assert_eq!(rt; value(&array, b""), None);
-    assert_eq!(rt; value(&array, b"\0"), None);
-    expect_hits(&rt, &array, b"a", &[], 2);
+    assert!(rt; has_value(&array, b"", None));
+    assert!(rt; has_value(&array, b"\0", None));
+    assert!(rt; has_hits(&array, b"a", &[], 2));
     Ok(())
 }
 
@@ -84,11 +79,10 @@ static ENDS: [(&[u8], u32); 4] = [
 fn ends_of_the_numbers(rt: HostRuntime) -> Result<(), Fail> {
     let mut array = DoubleArray::new(rt.alloc())?;
     for (key, number) in &ENDS {
-        let inserted = insert(&mut array, key, *number)?;
-        assert_eq!(rt; inserted.old, None, "{key:?}");
+        assert!(rt; inserts(&mut array, key, *number, None)?, "{number}");
     }
     for (key, number) in &ENDS {
-        assert_eq!(rt; value(&array, key), Some(*number), "{key:?}");
+        assert!(rt; has_value(&array, key, Some(*number)), "{number}");
     }
     Ok(())
 }
@@ -111,13 +105,9 @@ fn words_of_faults(rt: HostRuntime) -> Result<(), Fail> {
 fn a_long_key(rt: HostRuntime) -> Result<(), Fail> {
     let key = [7; 65_535];
     let mut array = DoubleArray::new(rt.alloc())?;
-    let none = Inserted {
-        old: None,
-        moved: 0,
-    };
-    assert_eq!(rt; insert(&mut array, &key, 3)?, none);
-    assert_eq!(rt; value(&array, &key), Some(3));
-    assert_eq!(rt; value(&array, &key[1..]), None);
-    expect_hits(&rt, &array, &key, &[(65_535, 3)], 131_071);
+    assert!(rt; inserts(&mut array, &key, 3, None)?);
+    assert!(rt; has_value(&array, &key, Some(3)));
+    assert!(rt; has_value(&array, &key[1..], None));
+    assert!(rt; has_hits(&array, &key, &[(65_535, 3)], 131_071));
     Ok(())
 }

@@ -2,17 +2,38 @@
 mod pieces;
 mod refused;
 
-use matrix_def::read_matrix;
-use mj_model::MatrixSizes;
-use mj_model::SourceKind::{self, BadHeader, BadRow, PairOutside, TooLarge};
+use super::of_char_def::samples::Read;
+use matrix_def::{Matrix, read_matrix};
+use mj_model::SourceKind::Memory;
+use mj_model::{MatrixSizes, SourceFault};
+use std::alloc::{Alloc, Global};
+use std::io::Eprint;
 use std::test::Fail;
+
+/// What a `matrix.def` says. What is refused memory once is asked again.
+pub fn matrix_of(rt: &(impl Alloc<A = Global> + Eprint), bytes: &[u8]) -> Read<Matrix> {
+    Ok(again!(
+        rt,
+        Err(SourceFault { kind: Memory, .. }),
+        read_matrix(rt.alloc(), bytes)
+    ))
+}
+
+/// The cost of a pair of ids, if they lie within the sizes.
+fn cost_of(matrix: &Matrix, right: u16, left: u16) -> Option<i16> {
+    if matrix.is_valid(left, right) {
+        Some(matrix.cost(right, left))
+    } else {
+        None
+    }
+}
 
 /// The costs of an asymmetric table.
 #[rattlefmt::skip]
-static COSTS: [(u16, u16, i16); 6] = [
+static COSTS: [(u16, u16, Option<i16>); 8] = [
     // (right id before, left id behind, cost)
-    (0, 0, 0), (0, 1, 0), (0, 2, 100),
-    (1, 0, 9), (1, 1, 0), (1, 2, 0),
+    (0, 0, Some(0)), (0, 1, Some(0)), (0, 2, Some(100)), (0, 3, None),
+    (1, 0, Some(9)), (1, 1, Some(0)), (1, 2, Some(0)),   (2, 0, None),
 ];
 
 #[test]
@@ -20,58 +41,43 @@ fn asymmetric_matrix(rt: HostRuntime) -> Result<(), Fail> {
     let matrix = read_matrix(rt.alloc(), b"2 3\n0 2 100\n1 0 9\n")?;
     assert_eq!(rt; matrix.sizes(), MatrixSizes { right: 2, left: 3 });
     for (right, left, expected) in &COSTS {
-        assert!(rt; matrix.is_valid(*left, *right), "{right} {left}");
-        assert_eq!(rt; matrix.cost(*right, *left), *expected, "{right} {left}");
+        assert_eq!(rt;
+            cost_of(&matrix, *right, *left),
+            *expected,
+            "{right} {left}"
+        );
     }
-    assert!(rt; !matrix.is_valid(0, 2));
-    assert!(rt; !matrix.is_valid(3, 0));
     Ok(())
 }
 
-/// Tables with the cost of 0 and 0.
+/// Tables with one cost. Of some the last line has no end.
 #[rattlefmt::skip]
-static LISTED: [(&str, &str, i16); 5] = [
-    // (what, matrix.def, the cost of 0 and 0)
-    ("the least",             "1 1\n0 0 -434",                                 -434),
-    ("a pair listed twice",   "1 1\n0 0 1\n0 0 2\n",                           2),
-    ("blank lines and CR LF", "\n \t\r\n1\t1\r\n\n 0  0\t7 \r\n\r\n",        7),
-    ("signs and zeros",       "+1 01\n-0 00 -0007",                            -7),
-    ("the lowest cost",       "1 1\n0 0 -32768",                               -32_768),
+static LISTED: [(&str, &str, i16); 13] = [
+    // (what, matrix.def, its one cost)
+    ("the least",                    "1 1\n0 0 -434",                                 -434),
+    ("a pair listed twice",          "1 1\n0 0 1\n0 0 2\n",                           2),
+    ("blank lines and CR LF",        "\n \t\r\n1\t1\r\n\n 0  0\t7 \r\n\r\n",          7),
+    ("signs and zeros",              "+1 01\n-0 00 -0007",                            -7),
+    ("the lowest cost",              "1 1\n0 0 -32768",                               -32_768),
+    ("blanks and tabs",              " \t  1 \t\t 1  \n  0 \t  0\t\t   -9  \t  ",     -9),
+    ("blanks alone",                 "1 1\n0 0 7\n   \t   ",                          7),
+    ("zeros",                        "001 0000001\n00 000 000000000000000012",        12),
+    ("zeros behind a sign",          "+001 +01\n-000 +00 -00000000000000032768",      -32_768),
+    ("zeros within a number",        "1 1\n0 0 10001",                                10_001),
+    ("a carriage return at the end", "1 1\n0 0 5\r",                                  5),
+    ("blanks before it",             "1 1\n0 0 5  \r",                                5),
+    ("a row behind a long one",      "1 1\n00 00 00005   \n0  0   6",                 6),
 ];
+
+/// The cost of 0 and 0 in a table.
+fn first_cost(alloc: Global, text: &str) -> Result<Option<i16>, SourceFault> {
+    Ok(cost_of(&read_matrix(alloc, text.as_bytes())?, 0, 0))
+}
 
 #[test]
 fn listed_rows(rt: HostRuntime) -> Result<(), Fail> {
-    for (what, bytes, expected) in &LISTED {
-        let matrix = read_matrix(rt.alloc(), bytes.as_bytes())?;
-        assert!(rt; matrix.is_valid(0, 0), "{what}");
-        assert_eq!(rt; matrix.cost(0, 0), *expected, "{what}");
+    for (what, text, expected) in &LISTED {
+        assert_eq!(rt; first_cost(rt.alloc(), text)?, Some(*expected), "{what}");
     }
     Ok(())
-}
-
-/// Tables that are refused.
-#[rattlefmt::skip]
-static REFUSED: [(&str, u64, SourceKind); 13] = [
-    // (matrix.def, line of the fault, its kind)
-    ("", 0, BadHeader),
-    ("\n \t\n", 0, BadHeader),
-    ("0 2\n", 1, BadHeader),
-    ("\n2 0\n", 2, BadHeader),
-    ("65536 1\n", 1, BadHeader),
-    ("2\n", 1, BadHeader),
-    ("2 2 2\n", 1, BadHeader),
-    ("65535 65535\n", 1, TooLarge),
-    ("2 2\n0 0 40000\n", 2, BadRow),
-    ("2 2\n0 0\n", 2, BadRow),
-    ("2 2\n0 0 1 1\n", 2, BadRow),
-    ("2 2\n\n2 0 1\nx\n", 3, PairOutside),
-    ("2 2\n0 2 1\n", 2, PairOutside),
-];
-
-#[test]
-fn number_ranges(rt: HostRuntime) {
-    for (bytes, line, kind) in &REFUSED {
-        let fault = read_matrix(rt.alloc(), bytes.as_bytes()).err();
-        assert_eq!(rt; fault, Some(kind.at(0, *line)), "{kind}");
-    }
 }

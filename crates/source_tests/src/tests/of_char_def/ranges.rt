@@ -1,6 +1,6 @@
 //! Ranges of code points with the same categories.
 
-use super::samples::{COMMENTED, with_lines};
+use super::samples::{commented, joined};
 use char_def::read_chars;
 use mj_model::sample;
 use std::alloc::{Alloc, Global};
@@ -28,25 +28,25 @@ fn expect_ranges(
 
 /// Mappings with their ranges.
 #[rattlefmt::skip]
-static RANGES: [(&str, &str, &[Range]); 11] = [
+static RANGES: [(&str, &[u8], &[Range]); 11] = [
     // (what, mappings, ranges)
-    ("no mapping", "", &[(0, 1, 0)]),
-    ("a mapping", "0x41..0x5A SPACE", &[(0, 1, 0), (0x41, 2, 1), (0x5B, 1, 0)]),
-    ("from code point 0 on", "0x00..0x1F SPACE", &[(0, 2, 1), (0x20, 1, 0)]),
-    ("code point 0 alone", "0x0 SPACE DEFAULT", &[(0, 3, 1), (1, 1, 0)]),
-    ("up to the last code point", "0x80..0x10FFFF SPACE", &[(0, 1, 0), (0x80, 2, 1)]),
-    ("the last code point alone", "0x10FFFF SPACE", &[(0, 1, 0), (0x10FFFF, 2, 1)]),
-    ("all code points", "0x0..0x10FFFF SPACE", &[(0, 2, 1)]),
-    ("DEFAULT by a mapping", "0x41 DEFAULT", &[(0, 1, 0)]),
-    ("side by side", "0x3 SPACE\n0x1..0x2 SPACE", &[(0, 1, 0), (1, 2, 1), (4, 1, 0)]),
-    ("other order", "0x0 SPACE DEFAULT\n0x1 DEFAULT SPACE", &[(0, 3, 1), (1, 3, 0), (2, 1, 0)]),
-    ("nested", "0x0..0x2 SPACE\n0x1 DEFAULT", &[(0, 2, 1), (1, 1, 0), (2, 2, 1), (3, 1, 0)]),
+    ("no mapping", b"", &[(0, 1, 0)]),
+    ("a mapping", b"0x41..0x5A SPACE", &[(0, 1, 0), (0x41, 2, 1), (0x5B, 1, 0)]),
+    ("from code point 0 on", b"0x00..0x1F SPACE", &[(0, 2, 1), (0x20, 1, 0)]),
+    ("code point 0 alone", b"0x0 SPACE DEFAULT", &[(0, 3, 1), (1, 1, 0)]),
+    ("up to the last code point", b"0x80..0x10FFFF SPACE", &[(0, 1, 0), (0x80, 2, 1)]),
+    ("the last code point alone", b"0x10FFFF SPACE", &[(0, 1, 0), (0x10FFFF, 2, 1)]),
+    ("all code points", b"0x0..0x10FFFF SPACE", &[(0, 2, 1)]),
+    ("DEFAULT by a mapping", b"0x41 DEFAULT", &[(0, 1, 0)]),
+    ("side by side", b"0x3 SPACE\n0x1..0x2 SPACE", &[(0, 1, 0), (1, 2, 1), (4, 1, 0)]),
+    ("other order", b"0x0 SPACE DEFAULT\n0x1 DEFAULT SPACE", &[(0, 3, 1), (1, 3, 0), (2, 1, 0)]),
+    ("nested", b"0x0..0x2 SPACE\n0x1 DEFAULT", &[(0, 2, 1), (1, 1, 0), (2, 2, 1), (3, 1, 0)]),
 ];
 
 #[test]
 fn ranges(rt: HostRuntime) -> Result<(), Fail> {
     for (what, further, expected) in &RANGES {
-        let bytes = with_lines(&rt, b"DEFAULT 0 1 0\nSPACE 0 1 0\n", further)?;
+        let bytes = joined(rt.alloc(), b"DEFAULT 0 1 0\nSPACE 0 1 0\n", further)?;
         expect_ranges(&rt, what, &bytes, expected)?;
     }
     Ok(())
@@ -64,5 +64,10 @@ static OF_THE_SAMPLE: [Range; 13] = [
 #[test]
 fn ranges_of_the_sample(rt: HostRuntime) -> Result<(), Fail> {
     expect_ranges(&rt, "the sample", sample().chars, &OF_THE_SAMPLE)?;
-    expect_ranges(&rt, "with comments", COMMENTED.as_bytes(), &OF_THE_SAMPLE)
+    expect_ranges(
+        &rt,
+        "with comments",
+        &commented(rt.alloc())?,
+        &OF_THE_SAMPLE,
+    )
 }

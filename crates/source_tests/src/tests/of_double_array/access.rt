@@ -4,7 +4,6 @@ ghost use Rattle.cell_walk.specs.CellRules.{AreCells};
 
 use double_array::{CellRead, DaFault, DoubleArray, Hit, Inserted, get, prefixes};
 use std::cell::Cell;
-use std::process::Abort;
 
 /// The cells of an array, and how often one of them was read.
 #[derive(Drop)]
@@ -68,35 +67,46 @@ pub fn insert(array: &mut DoubleArray, key: &[u8], value: u32) -> Result<Inserte
     array.insert(key, value)
 }
 
+/// Inserts a key. Whether it had this value before; one that is inserted anew moves no cells where it had one.
+pub fn inserts(
+    array: &mut DoubleArray,
+    key: &[u8],
+    number: u32,
+    old: Option<u32>,
+) -> Result<bool, DaFault>
+    ensures { AreCells array.new }
+{
+    let inserted = insert(array, key, number)?;
+    Ok(inserted.old == old && (old.is_none() || inserted.moved == 0))
+}
+
 pub fn value<C: CellRead>(cells: &C, key: &[u8]) -> Option<u32>
     requires { AreCells (C.cells cells.now) }
 {
     get(cells, key)
 }
 
-/// Asks for the keys that begin a text, and how many cells are read for them. At each moment the walk tells as many as the cells
+/// Whether a key has this value, also where the cells are counted.
+pub fn has_value(array: &DoubleArray, key: &[u8], expected: Option<u32>) -> bool
+    requires { AreCells array.now }
+{
+    value(array, key) == expected && value(&Counting::over(array), key) == expected
+}
+
+/// Whether these are the keys that begin a text, and so many cells are read for them. At each moment the walk tells as many as the cells
 /// themselves.
-pub fn expect_hits(
-    rt: &impl Abort,
-    array: &DoubleArray,
-    text: &[u8],
-    hits: &[(usize, u32)],
-    reads: u64,
-)
+pub fn has_hits(array: &DoubleArray, text: &[u8], hits: &[(usize, u32)], reads: u64) -> bool
     requires { AreCells array.now }
 {
     let cells = Counting::over(array);
     let mut found = prefixes(&cells, text);
-    assert_eq!(rt; found.reads(), cells.calls.get(), "{text:?}");
+    let mut same = found.reads() == cells.calls.get();
     for (length, value) in hits {
         let hit = Hit {
             length: *length,
             value: *value,
         };
-        assert_eq!(rt; found.next(), Some(hit), "{text:?}");
-        assert_eq!(rt; found.reads(), cells.calls.get(), "{text:?}");
+        same = same && found.next() == Some(hit) && found.reads() == cells.calls.get();
     }
-    assert_eq!(rt; found.next(), None, "{text:?}");
-    assert_eq!(rt; found.reads(), reads, "{text:?}");
-    assert_eq!(rt; cells.calls.get(), reads, "{text:?}");
+    same && found.next() == None && found.reads() == reads && cells.calls.get() == reads
 }

@@ -1,6 +1,9 @@
 //! All pairs of `a` or `b` with a byte, inserted one after another.
-use super::access::{expect_hits, have_same_cells, insert, value};
+use super::access::{has_hits, have_same_cells, insert, value};
 use double_array::{CellRead, DaFault, DoubleArray, Inserted};
+use std::alloc::{Alloc, Global};
+use std::io::Eprint;
+use std::process::Abort;
 use std::test::Fail;
 
 /// How many keys there are.
@@ -38,53 +41,67 @@ fn has_first_keys(array: &DoubleArray, n: usize) -> bool {
 }
 
 /// An empty array. What is refused once is asked again.
-pub fn new_array(rt: &HostRuntime) -> Result<DoubleArray, Fail> {
-    match DoubleArray::new(rt.alloc()) {
-        Ok(array) => Ok(array),
-        Err(_refused) => {
-            rt.eprintln("refused")?;
-            Ok(DoubleArray::new(rt.alloc())?)
-        }
-    }
+pub fn new_array(rt: &(impl Alloc<A = Global> + Eprint)) -> Result<DoubleArray, Fail> {
+    Ok(again!(rt, Err(_), DoubleArray::new(rt.alloc()))?)
+}
+
+/// Inserts key `n`, which is new, and moves no more cells than a state has.
+fn is_new_key(array: &mut DoubleArray, n: usize) -> Result<bool, DaFault> {
+    let inserted = insert_key(array, n)?;
+    Ok(inserted.old.is_none() && inserted.moved <= 257)
 }
 
 #[test]
 fn byte_after_byte(rt: HostRuntime) -> Result<(), Fail> {
     let mut array = DoubleArray::new(rt.alloc())?;
     for n in 0..KEYS {
-        let inserted = insert_key(&mut array, n)?;
-        assert_eq!(rt; inserted.old, None, "{n}");
-        assert!(rt; inserted.moved <= 257, "{n}");
+        assert!(rt; is_new_key(&mut array, n)?, "{n}");
     }
     assert!(rt; has_first_keys(&array, KEYS));
     let _ = array.len();
     assert_eq!(rt; value(&array, b"b"), None);
-    expect_hits(&rt, &array, b"abc", &[(1, 0), (2, 99)], 6);
+    assert!(rt; has_hits(&array, b"abc", &[(1, 0), (2, 99)], 6));
     Ok(())
 }
 
-/// Keys of few bytes, and what they make of the array.
-#[rattlefmt::skip]
-static LENGTHS: [(&[u8], usize); 5] = [
-    // (key, by how many cells the array is longer than at first)
-    (b"a", 601),
-    (b"a", 601),
-    (b"b", 601),
-    (b"aa", 601),
-    (b"c", 601),
-];
+/// Keys of few bytes.
+static FEW_BYTES: [&[u8]; 5] = [b"a", b"a", b"b", b"aa", b"c"];
 
 /// The first key makes the array longer by its length and 600 cells. Then there is room after the last used cell for a key of one byte.
 #[test]
 fn room_is_used_up_first(rt: HostRuntime) -> Result<(), Fail> {
     let mut array = DoubleArray::new(rt.alloc())?;
-    let first = array.len();
-    for (key, more) in &LENGTHS {
+    let length = array.len().saturating_add(601);
+    for key in &FEW_BYTES {
         insert(&mut array, key, 1)?;
-        assert_eq!(rt; array.len().saturating_sub(first), *more, "{key:?}");
+        assert!(rt; array.len() == length, "{key:?}");
     }
-    for (key, _) in &LENGTHS {
-        assert_eq!(rt; value(&array, key), Some(1), "{key:?}");
+    for key in &FEW_BYTES {
+        assert!(rt; value(&array, key) == Some(1), "{key:?}");
+    }
+    Ok(())
+}
+
+/// Whether an array has the cells of another one of its keys; without one, whether it has the keys before key `n`.
+fn is_as_before(array: &DoubleArray, other: Option<&DoubleArray>, n: usize) -> bool {
+    match other {
+        Some(other) => have_same_cells(array, other),
+        None => has_first_keys(array, n),
+    }
+}
+
+/// Inserts key `n`. After a refusal the array is as before, and the key is inserted again.
+pub fn insert_again(
+    rt: &(impl Abort + Eprint),
+    array: &mut DoubleArray,
+    n: usize,
+    other: Option<&DoubleArray>,
+) -> Result<(), Fail> {
+    if let Err(fault) = insert_key(array, n) {
+        rt.eprintln("refused")?;
+        assert!(rt; fault == DaFault::Memory);
+        assert!(rt; is_as_before(array, other, n), "{n}");
+        assert!(rt; insert_key(array, n).is_ok(), "{n}");
     }
     Ok(())
 }
@@ -95,18 +112,8 @@ fn refused_growth_keeps_the_cells(rt: HostRuntime) -> Result<(), Fail> {
     let mut array = new_array(&rt)?;
     let mut other = new_array(&rt)?;
     for n in 0..KEYS {
-        if let Err(fault) = insert_key(&mut array, n) {
-            rt.eprintln("refused")?;
-            assert_eq!(rt; fault, DaFault::Memory);
-            assert!(rt; have_same_cells(&array, &other), "{n}");
-            assert!(rt; insert_key(&mut array, n).is_ok(), "{n}");
-        }
-        if let Err(fault) = insert_key(&mut other, n) {
-            rt.eprintln("refused")?;
-            assert_eq!(rt; fault, DaFault::Memory);
-            assert!(rt; has_first_keys(&other, n), "{n}");
-            assert!(rt; insert_key(&mut other, n).is_ok(), "{n}");
-        }
+        insert_again(&rt, &mut array, n, Some(&other))?;
+        insert_again(&rt, &mut other, n, None)?;
     }
     assert!(rt; have_same_cells(&array, &other));
     assert!(rt; has_first_keys(&array, KEYS));

@@ -1,33 +1,12 @@
 //! Cells by themselves that hold what an array's do and grow as long. A growth is refused where the tests run under `tools/refuse`.
 use super::access;
-use super::growing::{KEYS, insert_key, new_array};
+use super::growing::{KEYS, insert_again, new_array};
 use crate::tests::of_cells;
 use cells::Cells;
-use double_array::{CellRead, DaFault, DoubleArray};
+use double_array::{CellRead, DoubleArray};
 use std::io::Eprint;
 use std::process::Abort;
 use std::test::Fail;
-
-/// One cell. What is refused once is asked again.
-fn one_cell(rt: &HostRuntime) -> Result<Cells, Fail> {
-    match Cells::new(rt.alloc(), 1) {
-        Ok(cells) => Ok(cells),
-        Err(_refused) => {
-            rt.eprintln("refused")?;
-            Ok(Cells::new(rt.alloc(), 1)?)
-        }
-    }
-}
-
-/// Inserts key `n`. What is refused once is asked again.
-fn insert_again(rt: &(impl Abort + Eprint), array: &mut DoubleArray, n: usize) -> Result<(), Fail> {
-    if let Err(fault) = insert_key(array, n) {
-        rt.eprintln("refused")?;
-        assert_eq!(rt; fault, DaFault::Memory);
-        assert!(rt; insert_key(array, n).is_ok(), "{n}");
-    }
-    Ok(())
-}
 
 /// Sets the cells to those of an array.
 fn copy_cells(cells: &mut Cells, array: &DoubleArray) {
@@ -52,25 +31,36 @@ fn hold(cells: &Cells, array: &DoubleArray, n: usize) -> bool {
     true
 }
 
+/// Grows cells that hold what an array's do to another length. After a refusal they still do.
+fn grow_again(
+    rt: &(impl Abort + Eprint),
+    cells: &mut Cells,
+    array: &DoubleArray,
+    length: usize,
+) -> Result<(), Fail> {
+    let held = cells.len();
+    if of_cells::grow(cells, length).is_err() {
+        rt.eprintln("refused")?;
+        assert!(rt; hold(cells, array, held), "{length}");
+        assert!(rt; of_cells::grow(cells, length).is_ok(), "{length}");
+    }
+    Ok(())
+}
+
 /// Where the next key makes an array longer, the cells of the array before it grow to the new length.
 #[test]
 fn refused_growth_keeps_the_cells(rt: HostRuntime) -> Result<(), Fail> {
     let mut array = new_array(&rt)?;
     let mut before = new_array(&rt)?;
-    let mut cells = one_cell(&rt)?;
+    let mut cells = of_cells::new_cells(&rt, 1)?;
     for n in 0..KEYS {
-        insert_again(&rt, &mut array, n)?;
+        insert_again(&rt, &mut array, n, None)?;
         if array.len() > cells.len() {
             copy_cells(&mut cells, &before);
-            let held = cells.len();
-            if of_cells::grow(&mut cells, array.len()).is_err() {
-                rt.eprintln("refused")?;
-                assert!(rt; hold(&cells, &before, held), "{n}");
-                assert!(rt; of_cells::grow(&mut cells, array.len()).is_ok(), "{n}");
-            }
+            grow_again(&rt, &mut cells, &before, array.len())?;
             assert!(rt; hold(&cells, &before, array.len()), "{n}");
         }
-        insert_again(&rt, &mut before, n)?;
+        insert_again(&rt, &mut before, n, None)?;
     }
     assert_eq!(rt; cells.len(), array.len());
     Ok(())

@@ -3,14 +3,34 @@
 ghost use Rattle.std.specs.Prelude.{◌≤◌, IfOk};
 
 use std::io;
-use std::io::{ErrorKind, Read, Write};
+use std::io::ErrorKind::{self, Interrupted, TimedOut};
+use std::io::{Read, Write};
+
+/// What a device answers, by name.
+#[rattlefmt::skip]
+pub static ANSWERS: [(&str, Result<usize, ErrorKind>); 5] = [
+    // (what, the answer)
+    ("all of four bytes", Ok(4)),
+    ("three of them",     Ok(3)),
+    ("none",              Ok(0)),
+    ("interrupted",       Err(Interrupted)),
+    ("timed out",         Err(TimedOut)),
+];
+
+/// An answer with the kind of its error alone.
+pub fn kind_of<T>(answer: io::Result<T>) -> Result<T, ErrorKind> {
+    match answer {
+        Ok(value) => Ok(value),
+        Err(error) => Err(error.kind()),
+    }
+}
 
 /// Gives or takes so many bytes, or fails in this way. It tells how often it was called, and how many bytes were asked for at last.
 #[derive(Drop)]
 pub struct Device {
-    pub answer: Result<usize, ErrorKind>,
-    pub calls: u64,
-    pub asked: usize,
+    answer: Result<usize, ErrorKind>,
+    calls: u64,
+    asked: usize,
 }
 
 impl Device {
@@ -21,6 +41,11 @@ impl Device {
             calls: 0,
             asked: 0,
         }
+    }
+
+    /// Whether it was called once, and asked for so many bytes.
+    pub fn was_asked(&self, count: usize) -> bool {
+        self.calls == 1 && self.asked == count
     }
 
     fn called(&mut self, asked: usize) -> io::Result<usize>

@@ -1,8 +1,12 @@
 //! Codes, names and texts of faults.
+use FormatFault::Bad;
+use FormatKind::{BadEscape, BadIndex, BadItem};
+use FormatPart::{Bos, Eos, Node, Unk};
 use mj_model::{
     FormatFault, FormatKind, FormatPart, ImageFault, NO_FILE, OverlayFault, RunFault, SourceFault,
     SourceKind,
 };
+use std::alloc::Global;
 use std::test::Fail;
 use test_words::{FaultRow, first_untold, is_told};
 
@@ -34,34 +38,6 @@ static KINDS: [FaultRow<SourceKind>; 22] = [
     (SourceKind::Memory,             "Memory", "Memory",           "Memory"),
 ];
 
-#[test]
-fn kinds_of_sources(rt: HostRuntime) -> Result<(), Fail> {
-    assert_eq!(rt; first_untold(rt.alloc(), &KINDS)?, None);
-    Ok(())
-}
-
-/// Places of faults.
-#[rattlefmt::skip]
-static PLACES: [(u32, u64, &str); 4] = [
-    // (file, line, how the text begins)
-    (0,       1,        "file 0, line 1: "),
-    (2,       0,        "file 2, line 0: "),
-    (3,       u64::MAX, "file 3, line 18446744073709551615: "),
-    (NO_FILE, 0,        "file 4294967295, line 0: "),
-];
-
-#[test]
-fn places_of_sources(rt: HostRuntime) -> Result<(), Fail> {
-    for (file, line, begin) in &PLACES {
-        for (kind, code, name, text) in &KINDS {
-            let text = format!(in rt.alloc(); "{begin}{text}")?;
-            let told = is_told(rt.alloc(), kind.at(*file, *line), code, name, text.as_str())?;
-            assert!(rt; told, "{text}");
-        }
-    }
-    Ok(())
-}
-
 /// Faults of the bytes of an image.
 #[rattlefmt::skip]
 static IMAGES: [FaultRow<ImageFault>; 9] = [
@@ -77,12 +53,6 @@ static IMAGES: [FaultRow<ImageFault>; 9] = [
     (ImageFault::Memory,            "Memory", "Memory",     "Memory"),
 ];
 
-#[test]
-fn images(rt: HostRuntime) -> Result<(), Fail> {
-    assert_eq!(rt; first_untold(rt.alloc(), &IMAGES)?, None);
-    Ok(())
-}
-
 /// Faults of dictionaries that are laid over one another.
 #[rattlefmt::skip]
 static OVERLAYS: [FaultRow<OverlayFault>; 3] = [
@@ -92,43 +62,17 @@ static OVERLAYS: [FaultRow<OverlayFault>; 3] = [
     (OverlayFault::OtherSizes(12), "O3", "OtherSizes", "O3 OtherSizes 12"),
 ];
 
-#[test]
-fn overlays(rt: HostRuntime) -> Result<(), Fail> {
-    assert_eq!(rt; first_untold(rt.alloc(), &OVERLAYS)?, None);
-    Ok(())
-}
-
-/// Faults of a part of a format.
+/// Faults of formats.
 #[rattlefmt::skip]
-static FORMATS: [(FormatPart, usize, FormatKind, &str, &str, &str); 5] = [
-    // (part, byte, kind, code, name, text)
-    (FormatPart::Node, 1,      FormatKind::BadEscape, "P1", "BadEscape", "P1 BadEscape 1"),
-    (FormatPart::Node, 16,     FormatKind::BadItem,   "P2", "BadItem",   "P2 BadItem 16"),
-    (FormatPart::Unk,  0,      FormatKind::BadIndex,  "P3", "BadIndex",  "P3 BadIndex 0"),
-    (FormatPart::Bos,  0,      FormatKind::BadItem,   "P2", "BadItem",   "P2 BadItem 0"),
-    (FormatPart::Eos,  70_000, FormatKind::BadEscape, "P1", "BadEscape", "P1 BadEscape 70000"),
+static FORMATS: [FaultRow<FormatFault>; 6] = [
+    // (fault, code, name, text)
+    (Bad { part: Node, at: 1,      kind: BadEscape }, "P1",     "BadEscape", "P1 BadEscape 1"),
+    (Bad { part: Node, at: 16,     kind: BadItem },   "P2",     "BadItem",   "P2 BadItem 16"),
+    (Bad { part: Unk,  at: 0,      kind: BadIndex },  "P3",     "BadIndex",  "P3 BadIndex 0"),
+    (Bad { part: Bos,  at: 0,      kind: BadItem },   "P2",     "BadItem",   "P2 BadItem 0"),
+    (Bad { part: Eos,  at: 70_000, kind: BadEscape }, "P1",     "BadEscape", "P1 BadEscape 70000"),
+    (FormatFault::Memory,                             "Memory", "Memory",    "Memory"),
 ];
-
-#[test]
-fn formats(rt: HostRuntime) -> Result<(), Fail> {
-    for (part, at, kind, code, name, text) in &FORMATS {
-        let fault = FormatFault::Bad {
-            part: *part,
-            at: *at,
-            kind: *kind,
-        };
-        assert!(rt; is_told(rt.alloc(), fault, code, name, text)?, "{text}");
-    }
-    let memory = is_told(
-        rt.alloc(),
-        FormatFault::Memory,
-        "Memory",
-        "Memory",
-        "Memory",
-    )?;
-    assert!(rt; memory);
-    Ok(())
-}
 
 /// The fault of the first line of a lexicon with an open quote.
 const OPEN_QUOTE: SourceFault = SourceFault {
@@ -151,8 +95,55 @@ static RUNS: [FaultRow<RunFault>; 8] = [
     (RunFault::Memory(5),                 "Memory", "Memory",       "Memory"),
 ];
 
+/// The text of the first row of all these tables whose fault is told otherwise.
+fn first_untold_of_all(alloc: Global) -> Result<Option<&'static str>, Fail> {
+    let source = first_untold(alloc, &KINDS)?;
+    let image = first_untold(alloc, &IMAGES)?;
+    let overlay = first_untold(alloc, &OVERLAYS)?;
+    let format = first_untold(alloc, &FORMATS)?;
+    let run = first_untold(alloc, &RUNS)?;
+    Ok(source.or(image).or(overlay).or(format).or(run))
+}
+
 #[test]
-fn runs(rt: HostRuntime) -> Result<(), Fail> {
-    assert_eq!(rt; first_untold(rt.alloc(), &RUNS)?, None);
+fn codes_names_and_texts(rt: HostRuntime) -> Result<(), Fail> {
+    assert_eq!(rt; first_untold_of_all(rt.alloc())?, None);
+    Ok(())
+}
+
+/// Places of faults.
+#[rattlefmt::skip]
+static PLACES: [(u32, u64, &str); 4] = [
+    // (file, line, how the text begins)
+    (0,       1,        "file 0, line 1: "),
+    (2,       0,        "file 2, line 0: "),
+    (3,       u64::MAX, "file 3, line 18446744073709551615: "),
+    (NO_FILE, 0,        "file 4294967295, line 0: "),
+];
+
+/// Whether a fault is told with its place before it.
+fn is_told_at(
+    alloc: Global,
+    row: &FaultRow<SourceKind>,
+    place: &(u32, u64, &str),
+) -> Result<bool, Fail> {
+    let (kind, code, name, text) = *row;
+    let (file, line, begin) = *place;
+    let text = format!(in alloc; "{begin}{text}")?;
+    is_told(alloc, kind.at(file, line), code, name, text.as_str())
+}
+
+#[test]
+fn places_of_sources(rt: HostRuntime) -> Result<(), Fail> {
+    for place in &PLACES {
+        for row in &KINDS {
+            assert!(rt;
+                is_told_at(rt.alloc(), row, place)?,
+                "{} {}",
+                place.2,
+                row.3
+            );
+        }
+    }
     Ok(())
 }

@@ -1,6 +1,6 @@
 //! Counted reads.
 
-use super::device::Device;
+use super::device::{ANSWERS, Device, kind_of};
 use mj_model::{Counted, TextIn};
 use std::io::ErrorKind::{self, Interrupted, OutOfMemory, TimedOut};
 use std::io::Read;
@@ -27,31 +27,45 @@ static READS: [(
     ("fails and has no room", Err(TimedOut),  0, Err(TimedOut),    b"....", 0, 1),
 ];
 
+/// Whether a device that is read into so many bytes has this answer, and leaves these bytes and these counts.
+fn is_read(
+    given: Result<usize, ErrorKind>,
+    room: usize,
+    answer: Result<usize, ErrorKind>,
+    bytes: &[u8; 4],
+    counts: (u64, u64),
+) -> bool {
+    let mut buffer = *b"....";
+    let length = buffer.len().min(room);
+    let mut counted = Counted::new(Device::new(given));
+    let got = kind_of(counted.read_counted(&mut buffer[..length]));
+    got == answer
+        && buffer == *bytes
+        && counted.reads() == 1
+        && (counted.ends(), counted.failures()) == counts
+        && counted.get_ref().was_asked(room)
+}
+
 #[test]
 fn reads(rt: HostRuntime) {
     for (what, given, room, answer, bytes, ends, failures) in &READS {
-        let mut buffer = *b"....";
-        let length = buffer.len().min(*room);
-        let mut counted = Counted::new(Device::new(*given));
-        let got = counted.read_counted(&mut buffer[..length]);
-        assert_eq!(rt; got.map_err(|error| error.kind()), *answer, "{what}");
-        assert_eq!(rt; &buffer, *bytes, "{what}");
-        let counts = (counted.reads(), counted.ends(), counted.failures());
-        assert_eq!(rt; counts, (1, *ends, *failures), "{what}");
-        let device = counted.get_ref();
-        assert_eq!(rt; (device.calls, device.asked), (1, *room), "{what}");
+        let same = is_read(*given, *room, *answer, bytes, (*ends, *failures));
+        assert!(rt; same, "{what}");
     }
+}
+
+/// Whether a device that is read without counts has its own answer, and none is counted.
+fn is_plain_read(given: Result<usize, ErrorKind>) -> bool {
+    let mut plain = Counted::new(Device::new(given));
+    let got = kind_of(plain.read(&mut [0; 4]));
+    got == given
+        && (plain.reads(), plain.ends(), plain.failures()) == (0, 0, 0)
+        && plain.get_ref().was_asked(4)
 }
 
 #[test]
 fn plain_reads(rt: HostRuntime) {
-    for given in [Ok(4), Ok(3), Ok(0), Err(Interrupted), Err(TimedOut)] {
-        let mut plain = Counted::new(Device::new(given));
-        let got = plain.read(&mut [0; 4]);
-        assert_eq!(rt; got.map_err(|error| error.kind()), given);
-        let counts = (plain.reads(), plain.ends(), plain.failures());
-        assert_eq!(rt; counts, (0, 0, 0), "{given:?}");
-        let device = plain.get_ref();
-        assert_eq!(rt; (device.calls, device.asked), (1, 4), "{given:?}");
+    for (what, given) in &ANSWERS {
+        assert!(rt; is_plain_read(*given), "{what}");
     }
 }

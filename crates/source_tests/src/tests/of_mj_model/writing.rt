@@ -1,6 +1,6 @@
 //! Counted writes and flushes.
 
-use super::device::Device;
+use super::device::{ANSWERS, Device, kind_of};
 use mj_model::{Counted, TextOut};
 use std::io::ErrorKind::{self, Interrupted, OutOfMemory, TimedOut};
 use std::io::Write;
@@ -26,16 +26,26 @@ static WRITES: [(
     ("fails and nothing to write", Err(TimedOut),   "",     Err(TimedOut),    1, false),
 ];
 
+/// Whether a device to which these bytes are written has this answer, so many failures, and a flush that is due.
+fn is_written(
+    given: Result<usize, ErrorKind>,
+    bytes: &str,
+    answer: Result<usize, ErrorKind>,
+    failures: u64,
+    due: bool,
+) -> bool {
+    let mut counted = Counted::new(Device::new(given));
+    let got = kind_of(counted.write_counted(bytes.as_bytes()));
+    got == answer
+        && (counted.failures(), counted.flushes(), counted.unflushed()) == (failures, 0, due)
+        && counted.get_ref().was_asked(bytes.len())
+}
+
 #[test]
 fn writes(rt: HostRuntime) {
     for (what, given, bytes, answer, failures, due) in &WRITES {
-        let mut counted = Counted::new(Device::new(*given));
-        let got = counted.write_counted(bytes.as_bytes());
-        assert_eq!(rt; got.map_err(|error| error.kind()), *answer, "{what}");
-        let counts = (counted.failures(), counted.flushes(), counted.unflushed());
-        assert_eq!(rt; counts, (*failures, 0, *due), "{what}");
-        let device = counted.get_ref();
-        assert_eq!(rt; (device.calls, device.asked), (1, bytes.len()), "{what}");
+        let same = is_written(*given, bytes, *answer, *failures, *due);
+        assert!(rt; same, "{what}");
     }
 }
 
@@ -49,43 +59,59 @@ static FLUSHES: [(&str, Result<usize, ErrorKind>, Result<(), ErrorKind>, u64); 4
     ("out of memory", Err(OutOfMemory), Err(OutOfMemory), 1),
 ];
 
+/// Whether a device that is flushed has this answer, and so many failures.
+fn is_flushed(
+    given: Result<usize, ErrorKind>,
+    answer: Result<(), ErrorKind>,
+    failures: u64,
+) -> bool {
+    let mut counted = Counted::new(Device::new(given));
+    let got = kind_of(counted.flush_counted());
+    got == answer
+        && (counted.failures(), counted.flushes(), counted.unflushed()) == (failures, 1, false)
+        && counted.get_ref().was_asked(0)
+}
+
 #[test]
 fn flushes(rt: HostRuntime) {
     for (what, given, answer, failures) in &FLUSHES {
-        let mut counted = Counted::new(Device::new(*given));
-        let got = counted.flush_counted();
-        assert_eq!(rt; got.map_err(|error| error.kind()), *answer, "{what}");
-        let counts = (counted.failures(), counted.flushes(), counted.unflushed());
-        assert_eq!(rt; counts, (*failures, 1, false), "{what}");
-        assert_eq!(rt; counted.get_ref().calls, 1, "{what}");
+        assert!(rt; is_flushed(*given, *answer, *failures), "{what}");
     }
+}
+
+/// Whether nothing is counted.
+fn has_no_counts(plain: &Counted<Device>) -> bool {
+    (plain.failures(), plain.flushes(), plain.unflushed()) == (0, 0, false)
+}
+
+/// Whether a device to which four bytes are written without counts has its own answer.
+fn is_plain_write(given: Result<usize, ErrorKind>) -> bool {
+    let mut plain = Counted::new(Device::new(given));
+    let got = kind_of(plain.write(b"zzzz"));
+    got == given && has_no_counts(&plain) && plain.get_ref().was_asked(4)
 }
 
 #[test]
 fn plain_writes(rt: HostRuntime) {
-    for given in [Ok(4), Ok(3), Ok(0), Err(Interrupted), Err(TimedOut)] {
-        let mut plain = Counted::new(Device::new(given));
-        let got = plain.write(b"zzzz");
-        assert_eq!(rt; got.map_err(|error| error.kind()), given);
-        let counts = (plain.failures(), plain.flushes(), plain.unflushed());
-        assert_eq!(rt; counts, (0, 0, false), "{given:?}");
-        let device = plain.get_ref();
-        assert_eq!(rt; (device.calls, device.asked), (1, 4), "{given:?}");
+    for (what, given) in &ANSWERS {
+        assert!(rt; is_plain_write(*given), "{what}");
     }
+}
+
+/// Whether a device that is flushed without counts has its own answer.
+fn is_plain_flush(given: Result<usize, ErrorKind>) -> bool {
+    let mut plain = Counted::new(Device::new(given));
+    let got = kind_of(plain.flush());
+    let answer = match given {
+        Ok(_count) => Ok(()),
+        Err(kind) => Err(kind),
+    };
+    got == answer && has_no_counts(&plain) && plain.get_ref().was_asked(0)
 }
 
 #[test]
 fn plain_flushes(rt: HostRuntime) {
-    for (given, answer) in [
-        (Ok(4), Ok(())),
-        (Err(Interrupted), Err(Interrupted)),
-        (Err(TimedOut), Err(TimedOut)),
-    ] {
-        let mut plain = Counted::new(Device::new(given));
-        let got = plain.flush();
-        assert_eq!(rt; got.map_err(|error| error.kind()), answer);
-        let counts = (plain.failures(), plain.flushes(), plain.unflushed());
-        assert_eq!(rt; counts, (0, 0, false), "{given:?}");
-        assert_eq!(rt; plain.get_ref().calls, 1, "{given:?}");
+    for (what, given) in &ANSWERS {
+        assert!(rt; is_plain_flush(*given), "{what}");
     }
 }

@@ -1,0 +1,115 @@
+//! Records that a lexicon adds behind another one. What is refused memory once is asked again.
+use lex_source::read_lexicon;
+use mj_model::SourceKind::Memory;
+use mj_model::{Record, SourceFault};
+use std::alloc::{Alloc, Global};
+use std::io::Eprint;
+use std::process::Abort;
+use std::test::Fail;
+
+/// A record of left id and right id 1: its line, surface, cost and feature.
+pub type Expected = (u64, &'static str, i16, &'static str);
+
+/// What a lexicon has, the lexicon, how many of its lines are skipped, and its records.
+pub type Row = (&'static str, &'static str, u64, &'static [Expected]);
+
+/// Lexicons that are accepted.
+#[rattlefmt::skip]
+pub static ACCEPTED: [Row; 7] = [
+    ("lexicon_lines",        "\n,1,1,5,X\nも,1,1,20,Y\r\n",                  1, &[(3, "も", 20, "Y")]),
+    ("a comma",              "\"a,b\",1,1,10,X",                            0, &[(1, "a,b", 10, "X")]),
+    ("a quote",              "\"a\"\"b\",1,1,10,Y",                         0, &[(1, "a\"b", 10, "Y")]),
+    ("quotes in all fields", "a,\"1\",\"1\",\"10\"x,\"Y\",",                0, &[(1, "a", 10, "\"Y\",")]),
+    ("an empty feature",     "a,1,1,10,",                                   0, &[(1, "a", 10, "")]),
+    ("a comma, a quote",     "\"a,b\",1,1,10,X\n\"a\"\"b\",1,1,10,Y\n",     0, &[(1, "a,b", 10, "X"), (2, "a\"b", 10, "Y")]),
+    ("the least cost",       "も,1,1,-32768,助詞,も\n",                         0, &[(1, "も", -32768, "助詞,も")]),
+];
+
+/// The record of `z,1,1,5,Z`, which stands before those of a lexicon.
+static BEFORE: Expected = (1, "z", 5, "Z");
+
+fn is_record(record: &Record<'_>, expected: &Expected) -> bool {
+    let (line, surface, cost, feature) = *expected;
+    let entry = &record.entry;
+    (record.line, record.surface.as_str()) == (line, surface)
+        && (entry.left, entry.right, entry.cost) == (1, 1, cost)
+        && entry.feature == feature
+}
+
+/// Whether these are the records behind the one that stands before, and there are no others.
+fn stand_behind(records: &[Record<'_>], expected: &[Expected]) -> bool {
+    let Some((first, others)) = records.split_first() else {
+        return false;
+    };
+    let mut all = is_record(first, &BEFORE) && others.len() == expected.len();
+    for (record, expected) in others.iter().zip(expected) {
+        all = all && is_record(record, expected);
+    }
+    all
+}
+
+/// A list with the record that stands before.
+fn one_record(
+    rt: &(impl Abort + Alloc<A = Global> + Eprint),
+) -> Result<Vec<Record<'static>>, Fail> {
+    let mut out = Vec::new(rt.alloc());
+    if let Err(fault) = read_lexicon(rt.alloc(), b"z,1,1,5,Z", 3, &mut out) {
+        rt.eprintln("refused")?;
+        assert_eq!(rt; fault.kind, Memory);
+        assert!(rt; out.is_empty());
+        assert_eq!(rt; read_lexicon(rt.alloc(), b"z,1,1,5,Z", 3, &mut out)?, 0);
+    }
+    Ok(out)
+}
+
+/// Reads a lexicon of this number behind the record that stands before. After a refusal that one alone is there.
+fn read_behind<'a>(
+    rt: &(impl Abort + Alloc<A = Global> + Eprint),
+    number: u32,
+    lexicon: &'a [u8],
+    out: &mut Vec<Record<'a>>,
+) -> Result<Result<u64, SourceFault>, Fail> {
+    let read = read_lexicon(rt.alloc(), lexicon, number, out);
+    let is_refused = matches!(read, Err(SourceFault { kind: Memory, .. }));
+    if is_refused {
+        rt.eprintln("refused")?;
+        assert!(rt; stand_behind(out, &[]));
+        return Ok(read_lexicon(rt.alloc(), lexicon, number, out));
+    }
+    Ok(read)
+}
+
+/// The fault of a lexicon of this number, which leaves the record that stands before alone.
+pub fn fault_behind(
+    rt: &(impl Abort + Alloc<A = Global> + Eprint),
+    number: u32,
+    lexicon: &[u8],
+) -> Result<Option<SourceFault>, Fail> {
+    let mut out = one_record(rt)?;
+    let read = read_behind(rt, number, lexicon, &mut out)?;
+    assert!(rt; stand_behind(&out, &[]));
+    Ok(read.err())
+}
+
+/// Whether a lexicon has so many skipped lines, and adds these records.
+fn adds(
+    rt: &(impl Abort + Alloc<A = Global> + Eprint),
+    lexicon: &str,
+    skipped: u64,
+    expected: &[Expected],
+) -> Result<bool, Fail> {
+    let mut out = one_record(rt)?;
+    let read = read_behind(rt, 3, lexicon.as_bytes(), &mut out)?;
+    Ok(read == Ok(skipped) && stand_behind(&out, expected))
+}
+
+/// Asks for the records of each row's lexicon.
+pub fn expect_records(
+    rt: &(impl Abort + Alloc<A = Global> + Eprint),
+    rows: &[Row],
+) -> Result<(), Fail> {
+    for (what, lexicon, skipped, expected) in rows {
+        assert!(rt; adds(rt, lexicon, *skipped, expected)?, "{what}");
+    }
+    Ok(())
+}

@@ -1,0 +1,68 @@
+//! Lexicons one behind another, in the order of the surfaces.
+use lex_source::SourceLexicon;
+use mj_model::MatrixSizes;
+use mj_model::SourceKind::{self, BadNumber, IdOutside, TooFewFields};
+use std::alloc::Global;
+use std::test::Fail;
+
+/// The sizes of a connection table with three right ids and two left ids.
+const SIZES: MatrixSizes = MatrixSizes { right: 3, left: 2 };
+
+/// Lexicons one behind another.
+#[rattlefmt::skip]
+static SORTED: [(&str, [&str; 2], &str); 7] = [
+    // (what, two lexicons, the features in the order of the surfaces)
+    ("no lines",                      ["",                          ""],              ""),
+    ("bytes, not letters",            ["b,0,0,1,x\nB,0,0,1,y\n",    "あ,0,0,1,z\n"], "yxz"),
+    ("one surface",                   ["a,1,2,9,x\na,0,0,1,y\n",    "a,0,0,5,z\n"],  "xyz"),
+    ("a surface that begins another", ["ab,0,0,1,x\nabc,0,0,1,y\n", "a,0,0,1,z\n"],  "zxy"),
+    ("7, 8 and 9 bytes", ["abcdefghi,0,0,1,x\nabcdefgh,0,0,1,y\n",  "abcdefg,0,0,1,z\n"],  "zyx"),
+    ("equal up to byte 8", ["abcdefghz,0,0,1,x\nabcdefgha,0,0,1,y\n", "abcdefgz,0,0,1,z\n"], "yxz"),
+    ("U+0000 at the end", ["a\0,0,0,1,x\na\0\0,0,0,1,y\n",       "a,0,0,1,z\n"],  "zxy"),
+];
+
+/// Whether the entries of two lexicons have these features of one letter, in the order of the surfaces.
+fn are_sorted(alloc: Global, lexicons: &[&str; 2], expected: &str) -> Result<bool, Fail> {
+    let [first, second] = lexicons;
+    let mut lexicon = SourceLexicon::new(alloc, SIZES);
+    lexicon.add(alloc, first.as_bytes(), 3)?;
+    lexicon.add(alloc, second.as_bytes(), 4)?;
+    let count = lexicon.len();
+    let sorted = lexicon.sorted()?;
+    let mut features = Vec::new(alloc);
+    for entry in sorted.records() {
+        features.extend_from_slice(entry.entry.feature.as_bytes())?;
+    }
+    let same = features.as_slice() == expected.as_bytes();
+    Ok(same && count == expected.len() && sorted.sizes() == SIZES)
+}
+
+#[test]
+fn sorted_lexicons(rt: HostRuntime) -> Result<(), Fail> {
+    for (what, lexicons, expected) in &SORTED {
+        assert!(rt; are_sorted(rt.alloc(), lexicons, expected)?, "{what}");
+    }
+    Ok(())
+}
+
+/// Lexicons that are refused behind another one.
+#[rattlefmt::skip]
+static REFUSED: [(&str, &str, u64, SourceKind); 4] = [
+    // (what, a lexicon, the line, the kind)
+    ("a left id outside",     "b,0,0,1,y\nc,2,0,1,z\n", 2, IdOutside),
+    ("a right id outside",    "b,0,3,1,y\n",            1, IdOutside),
+    ("a bad line behind one", "b,0,0,1,y\nc,0,0,1\n",   2, TooFewFields),
+    ("a line before its ids", "b,9,9,1,y\nc,0,0,x,z\n", 2, BadNumber),
+];
+
+#[test]
+fn refused_lexicons_add_nothing(rt: HostRuntime) -> Result<(), Fail> {
+    let mut lexicon = SourceLexicon::new(rt.alloc(), SIZES);
+    lexicon.add(rt.alloc(), b"a,0,0,1,x\n", 3)?;
+    for (what, bytes, line, kind) in &REFUSED {
+        let fault = lexicon.add(rt.alloc(), bytes.as_bytes(), 4).err();
+        assert_eq!(rt; fault, Some(kind.at(4, *line)), "{what}");
+        assert_eq!(rt; lexicon.len(), 1, "{what}");
+    }
+    Ok(())
+}
