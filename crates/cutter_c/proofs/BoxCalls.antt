@@ -27,10 +27,10 @@ use Rattle.cutter_c.proofs.session.Session.TheLaws as session_laws
 
 module _ {M : Type 1} {𝓤 : Ura M} (𝓛 : Logic 𝓤) where
   -- the calls are lent `'static` for the lifetime of each type argument, and a token of it is had for nothing
-  abbrev static : Item 𝓤
+  abbrev pub static : Item 𝓤
   static = ‵ (flft [] full_share) ⊛ ‵ (flft [] full_share) ⊛ ‵ ftrue
 
-  static_had : ent 𝓤 (emp 𝓤) (mean 𝓛 static)
+  pub static_had : ent 𝓤 (emp 𝓤) (mean 𝓛 static)
   static_had = qed 𝓛 [] ∵ nothing ! $ use0 𝓛 (‵ (flft [] full_share)) (𝓛.lfts.lft-nil full_share) $ join ! $ use0 𝓛 (‵ (flft [] full_share)) (𝓛.lfts.lft-nil full_share) $ join ! $ done !
 
   -- both types may live that long

@@ -23,17 +23,11 @@ use denote.Triple.Spec.{triple_of}
 use denote.Triple.Statement.{Contract}
 use Rattle.cutter_c.specs.Owned.{token}
 use Rattle.cutter_c.proofs.PassedTypes.{Heap, HeapPassed, heap_drop}
+use Rattle.cutter_c.proofs.BoxCalls.{static, static_had}
 use Rattle.cutter_c.proofs.BufferTypes.{BoxedBuffer, Buffer, BufferPassed, buffer_drop_passed}
 use Rattle.cutter_c.proofs.image_buffer.ImageBuffer.TheLaws as buffer_laws
 
 module _ {M : Type 1} {𝓤 : Ura M} (𝓛 : Logic 𝓤) where
-  -- the calls are lent `'static` for the lifetime of each type argument, and a token of it is had for nothing
-  abbrev static : Item 𝓤
-  static = ‵ (flft [] full_share) ⊛ ‵ (flft [] full_share) ⊛ ‵ ftrue
-
-  static_had : ent 𝓤 (emp 𝓤) (mean 𝓛 static)
-  static_had = qed 𝓛 [] ∵ nothing ! $ use0 𝓛 (‵ (flft [] full_share)) (𝓛.lfts.lft-nil full_share) $ join ! $ use0 𝓛 (‵ (flft [] full_share)) (𝓛.lfts.lft-nil full_share) $ join ! $ done !
-
   -- both types may live that long
   abbrev lasting : Item 𝓤
   lasting = raw (fact 𝓤 ([] ⊑ Buffer.lives)) ⊛ raw (fact 𝓤 ([] ⊑ Heap.lives))
@@ -57,12 +51,12 @@ module _ {M : Type 1} {𝓤 : Ura M} (𝓛 : Logic 𝓤) where
       -- the call asks the box
       pub into_raw_asks : ent 𝓤 (sem 𝓛 (BoxedBuffer.own_val boxed (w ∷ []))) (IntoRaw.pre into_raw_at)
       into_raw_asks = qed 𝓛 (‵ (BoxedBuffer.own_val boxed (w ∷ [])) ∷ []) ∵ nothing ! $ move ! (1 ∷ 0 ∷ []) $ fjoin ! $
-          use0 𝓛 static static_had $ join ! $ nothing ! $ use0 𝓛 lasting lasting_had $ split ! $ move ! (3 ∷ 0 ∷ 1 ∷ 2 ∷ []) $ done !
+          use0 𝓛 (static 𝓛) (static_had 𝓛) $ join ! $ nothing ! $ use0 𝓛 lasting lasting_had $ split ! $ move ! (3 ∷ 0 ∷ 1 ∷ 2 ∷ []) $ done !
 
       -- it gives a pointer, and the block that lies there with the buffer
       pub into_raw_gives : (v : Val) → ent 𝓤 (IntoRaw.post into_raw_at v) (mean 𝓛 (later (some (λ (at : Ptr). given (v ≡ ptr_val at) (‵ (box_owns token Buffer at boxed.value))))))
       into_raw_gives v =
-          qed 𝓛 (later (some (λ (at : Ptr). (static ⊛ ‵ (RawPtr.own_val at (v ∷ []))) ⊛
+          qed 𝓛 (later (some (λ (at : Ptr). (static 𝓛 ⊛ ‵ (RawPtr.own_val at (v ∷ []))) ⊛
           some (λ (ws : Lasts taken_apart into_raw_at.0.0 into_raw_at.0.3). ‵ (lasts taken_apart into_raw_at.0.0 into_raw_at.0.3 ws) ⊛ ‵ (box_owns token Buffer at boxed.value)))) ∷ []) ∵
           updating ! $ await ! tt $ at_once ! $ pick ! (λ at. split ! $ split ! $ drop ! $ feq_l ! (λ is. pick ! (λ _. split ! $ drop ! $
           show ! (λ (p : Ptr). guard 𝓤 (v ≡ ptr_val p) (sem 𝓛 (box_owns token Buffer p boxed.value))) at $ check ! (ap only is) $ done !)))
@@ -82,12 +76,12 @@ module _ {M : Type 1} {𝓤 : Ura M} (𝓛 : Logic 𝓤) where
       pub from_raw_asks : ent 𝓤 (mean 𝓛 (‵ (Heap.own_val handle (w ∷ [])) ⊛ ‵ (box_owns token Buffer at buffer))) (FromRaw.pre from_raw_at)
       from_raw_asks = qed 𝓛 ((‵ (Heap.own_val handle (w ∷ [])) ⊛ ‵ (box_owns token Buffer at buffer)) ∷ []) ∵ split ! $
           nothing ! $ feq_i ! (List Val) (ptr_val at ∷ []) (ptr_val at ∷ []) refl $ fjoin ! $ move ! (1 ∷ 0 ∷ []) $ fjoin ! $
-          use0 𝓛 static static_had $ join ! $ use0 𝓛 lasting lasting_had $ split ! $ move ! (2 ∷ 0 ∷ 1 ∷ []) $ done !
+          use0 𝓛 (static 𝓛) (static_had 𝓛) $ join ! $ use0 𝓛 lasting lasting_had $ split ! $ move ! (2 ∷ 0 ∷ 1 ∷ []) $ done !
 
       -- it gives a box of the buffer
       pub from_raw_gives : (v : Val) → ent 𝓤 (FromRaw.post from_raw_at v) (mean 𝓛 (later (some (λ (boxed : BoxedBuffer.Denot). given (boxed.value ≡ buffer) (‵ (BoxedBuffer.own_val boxed (v ∷ [])))))))
       from_raw_gives v =
-          qed 𝓛 (later (some (λ (boxed : BoxedBuffer.Denot). (static ⊛ ‵ (BoxedBuffer.own_val boxed (v ∷ []))) ⊛
+          qed 𝓛 (later (some (λ (boxed : BoxedBuffer.Denot). (static 𝓛 ⊛ ‵ (BoxedBuffer.own_val boxed (v ∷ []))) ⊛
           some (λ (ws : Lasts put_together from_raw_at.0.0 from_raw_at.0.3). ‵ (lasts put_together from_raw_at.0.0 from_raw_at.0.3 ws) ⊛ raw (fact 𝓤 (boxed.value ≡ buffer)) ⊛ raw (fact 𝓤 (boxed.alloc ≡ handle))))) ∷ []) ∵
           updating ! $ await ! tt $ at_once ! $ pick ! (λ boxed. split ! $ split ! $ drop ! $ move ! (1 ∷ []) $ pick ! (λ _. split3 ! $ drop ! $ heard ! (boxed.value ≡ buffer) (λ same. drop ! $
           show ! (λ (b : BoxedBuffer.Denot). guard 𝓤 (b.value ≡ buffer) (sem 𝓛 (BoxedBuffer.own_val b (v ∷ [])))) boxed $ check ! same $ done !)))

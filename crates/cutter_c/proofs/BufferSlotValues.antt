@@ -4,21 +4,20 @@ use Rattle.std.specs.Box.Ownership.{box_owns}
 use Rattle.std.specs.Prelude.{None, Some, IsSome}
 use lib.Dec.{T}
 use seplogic.Ra.Ura.{Ura}
-use mir.Syntax.{ty_ptr}
 use mir.Val.{Val, has_ty, WT}
-use base.Logic.{ent, guard}
+use base.Logic.{ent}
 use types.Logic.{Logic, sem}
-use types.Kit.{mean, ‵, some, given, ◌$◌, ◌∵◌, !, qed, by, check, done, drop, fjoin, fsplit, show}
+use types.Kit.{mean, ‵, some, given, ◌$◌, ◌∵◌, !, qed, by, done, drop, fjoin, fsplit}
 use denote.Laws.{Is}
 use denote.Param.{layout}
-use denote.RawPtr.{Ptr, ptr_val, rawptr_Lawful, rawptr_pure}
+use denote.RawPtr.{Ptr, ptr_val, rawptr_pure}
 use denote.Steps.{owned}
 use denote.Struct.Owning.{shape}
 use denote.Struct.Struct.{Struct, Struct-Makes}
-use Rattle.cutter_c.specs.Owned.{token}
-use Rattle.cutter_c.specs.OwnedBuffers.{KeptBuffer, buffer_slot_owns}
+use Rattle.cutter_c.specs.Owned.{KeptBuffer, buffer_slot_owns, token}
 use Rattle.cutter_c.specs.contracts.image_buffer.ImageBuffer as buffer
 use Rattle.cutter_c.specs.contracts.buffer_slot.BufferSlot as slot
+use Rattle.cutter_c.proofs.OwnedLemmas.{block_of}
 use Rattle.cutter_c.proofs.buffer_slot.BufferSlot.TheLaws.{lowers, the_field_loose}
 
 -- the machine value of a slot with this pointer, whatever it holds
@@ -30,10 +29,6 @@ word_is : (at : Ptr) → Is (Struct (shape slot.the_type)) (at, tt) (word at ∷
 word_is at = ((ptr_val at ∷ [], tt), (refl, (refl, tt)))
 
 module _ {M : Type 1} {𝓤 : Ura M} (𝓛 : Logic 𝓤) where
-  -- a pointer has a pointer's type
-  pub pointer_typed : (at : Ptr) → T (has_ty ty_ptr (ptr_val at)) × WT (ptr_val at)
-  pointer_typed at = ((rawptr_Lawful 𝓛).typed at (ptr_val at ∷ []) refl).0
-
   -- a slot's value has a slot's type
   pub slot_typed : (at : Ptr) → T (has_ty (layout slot.the_row) (word at)) × WT (word at)
   slot_typed at = ((the_field_loose.lawful 𝓛).typed (record { at = at; value = None }) (word at ∷ []) (word_is at, tt)).0
@@ -43,14 +38,7 @@ module _ {M : Type 1} {𝓤 : Ura M} (𝓛 : Logic 𝓤) where
   slot_made at kept = qed 𝓛 (‵ (buffer_slot_owns at kept) ∷ []) ∵
       owned ! (Struct (shape slot.the_type)) _ (Struct-Makes 𝓛 (shape slot.the_type) (rawptr_pure, tt)) (at, tt) (word at ∷ []) (word_is at) $ fjoin ! $ done !
 
-  -- what is not nothing is a buffer in its block
-  block_of : (at : Ptr) (kept : KeptBuffer) → IsSome kept
-      → ent 𝓤 (sem 𝓛 (buffer_slot_owns at kept)) (mean 𝓛 (some (λ (s : buffer.the_row.Denot). given (kept ≡ Some s) (‵ (box_owns token buffer.the_row at s)))))
-  block_of at None full = absurd (cc)
-  block_of at (Some s) full = qed 𝓛 (‵ (box_owns token buffer.the_row at s) ∷ []) ∵
-      show ! (λ (t : buffer.the_row.Denot). guard 𝓤 (Some s ≡ Some t) (sem 𝓛 (box_owns token buffer.the_row at t))) s $ check ! refl $ done !
-
   -- so a full slot owns the block of its buffer
   pub full_slot : (slot' : slot.the_row.Denot) → IsSome slot'.value
       → ent 𝓤 (sem 𝓛 (slot.the_row.own_val slot' (word slot'.at ∷ []))) (mean 𝓛 (some (λ (s : buffer.the_row.Denot). given (slot'.value ≡ Some s) (‵ (box_owns token buffer.the_row slot'.at s)))))
-  full_slot slot' full = qed 𝓛 (‵ (slot.the_row.own_val slot' (word slot'.at ∷ [])) ∷ []) ∵ fsplit ! $ drop ! $ by ! (block_of slot'.at slot'.value full)
+  full_slot slot' full = qed 𝓛 (‵ (slot.the_row.own_val slot' (word slot'.at ∷ [])) ∷ []) ∵ fsplit ! $ drop ! $ by ! (block_of 𝓛 buffer.the_row slot'.at slot'.value full)

@@ -1,3 +1,4 @@
+pub mod OwnedLemmas
 pub mod SlotValues
 pub mod PassedTypes
 pub mod BoxCalls

@@ -2,7 +2,6 @@ pub mod CallWords
 pub mod Codes
 pub mod Outputs
 pub mod Owned
-pub mod OwnedBuffers
 pub mod Buffers
 pub mod Handles
 pub mod Calls

@@ -1,7 +1,7 @@
 //! What C keeps of the bytes of an image that come in pieces.
 
 ghost use Rattle.std.specs.Prelude.{◌≡◌, Some, None, IsNone, option_map};
-ghost use Rattle.cutter_c.specs.OwnedBuffers.{IsBufferFlag, buffer-flag-prop};
+ghost use Rattle.cutter_c.specs.Owned.{IsFlagOf, flag-prop};
 
 use crate::buffer_slot::{BufferSlot, discard, opened, shut, vacant};
 use crate::image_buffer::ImageBuffer;
@@ -13,7 +13,7 @@ use std::mem::replace;
 pub struct BufferHandle {
     held: bool,
     pub slot: BufferSlot,
-    ghost fits: { IsBufferFlag held slot.value } by { buffer-flag-prop held slot.value },
+    ghost fits: { IsFlagOf held slot.value } by { flag-prop held slot.value },
 }
 
 impl BufferHandle {

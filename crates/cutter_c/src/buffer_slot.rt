@@ -1,7 +1,7 @@
 //! A buffer that C holds: its pointer, with no type that C could look into.
 
 ghost use Rattle.std.specs.Prelude.{◌≡◌, Some, None, IsSome, IsNone};
-ghost use Rattle.cutter_c.specs.OwnedBuffers.{KeptBuffer, buffer_coded, buffer_slot_owns};
+ghost use Rattle.cutter_c.specs.Owned.{KeptBuffer, buffer_coded, buffer_slot_owns};
 
 use crate::image_buffer::ImageBuffer;
 use std::alloc::Global;
@@ -20,14 +20,6 @@ impl Model for BufferSlot {
 
 // By this C may hand a full slot to another thread.
 unsafe impl Send for BufferSlot {}
-
-/// Compiles where a buffer, which a slot holds, may go to another thread.
-fn buffers_may_be_sent() {
-    may_be_sent::<ImageBuffer>();
-}
-
-/// Asks nothing but that values of the type may go to another thread.
-fn may_be_sent<T: Send>() {}
 
 /// A slot with nothing in it.
 pub fn vacant() -> BufferSlot

@@ -3,6 +3,7 @@
 ghost use Rattle.std.specs.Prelude.{◌≡◌, Some, None, IsSome, IsNone};
 ghost use Rattle.cutter_c.specs.Owned.{Kept, kept_coded, slot_owns};
 
+use crate::image_buffer::ImageBuffer;
 use crate::session::Session;
 use std::alloc::Global;
 use std::marker::{Model, Send};
@@ -21,9 +22,10 @@ impl Model for Slot {
 // By this C may hand a full slot to another thread.
 unsafe impl Send for Slot {}
 
-/// Compiles where a session, which a slot holds, may go to another thread.
-fn sessions_may_be_sent() {
+/// Compiles where what slots hold, a session or a buffer, may go to another thread.
+fn held_may_be_sent() {
     may_be_sent::<Session>();
+    may_be_sent::<ImageBuffer>();
 }
 
 /// Asks nothing but that values of the type may go to another thread.

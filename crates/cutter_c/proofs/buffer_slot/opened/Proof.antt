@@ -27,7 +27,8 @@ use Rattle.cutter_c.specs.contracts.buffer_slot.opened as this
 use Rattle.cutter_c.proofs.BufferCalls.{FromRaw, from_raw_asks, from_raw_at, from_raw_gives}
 use Rattle.cutter_c.proofs.PassedTypes.{Heap, HeapPassed, heap_drop, heap_drops, heap_passed}
 use Rattle.cutter_c.proofs.BufferTypes.{BoxedBuffer, Buffer, BufferPassed, boxed_buffer_lawful, buffer_passed}
-use Rattle.cutter_c.proofs.BufferSlotValues.{full_slot, pointer_typed, slot_typed, word}
+use Rattle.cutter_c.proofs.OwnedLemmas.{pointer_typed}
+use Rattle.cutter_c.proofs.BufferSlotValues.{full_slot, slot_typed, word}
 use Rattle.cutter_c.proofs.buffer_slot.BufferSlot.TheLaws as slot_laws
 use Rattle.cutter_c.proofs.buffer_slot.opened.Statement.{statement}
 use Rattle.cutter_c.proofs.buffer_slot.opened.Code as code

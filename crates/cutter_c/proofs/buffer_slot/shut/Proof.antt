@@ -30,7 +30,8 @@ use Rattle.cutter_c.specs.contracts.buffer_slot.shut as this
 use Rattle.cutter_c.proofs.BufferCalls.{IntoRaw, into_raw_asks, into_raw_at, into_raw_gives}
 use Rattle.cutter_c.proofs.PassedTypes.{HeapPassed, heap_drop, heap_drops, heap_passed}
 use Rattle.cutter_c.proofs.BufferTypes.{BoxedBuffer, Buffer, BufferPassed, boxed_buffer_lawful, buffer_drop_passed, buffer_drops, buffer_passed}
-use Rattle.cutter_c.proofs.BufferSlotValues.{pointer_typed, slot_made, slot_typed, word}
+use Rattle.cutter_c.proofs.OwnedLemmas.{pointer_typed}
+use Rattle.cutter_c.proofs.BufferSlotValues.{slot_made, slot_typed, word}
 use Rattle.cutter_c.proofs.buffer_slot.shut.Statement.{statement}
 use Rattle.cutter_c.proofs.buffer_slot.shut.Code as code
 

@@ -26,7 +26,8 @@ use Rattle.cutter_c.specs.contracts.slot.Slot as slot
 use Rattle.cutter_c.specs.contracts.slot.opened as this
 use Rattle.cutter_c.proofs.BoxCalls.{FromRaw, from_raw_asks, from_raw_at, from_raw_gives}
 use Rattle.cutter_c.proofs.PassedTypes.{Boxed, Heap, HeapPassed, Session, SessionPassed, boxed_lawful, heap_drop, heap_drops, heap_passed, session_passed}
-use Rattle.cutter_c.proofs.SlotValues.{full_slot, pointer_typed, slot_typed, word}
+use Rattle.cutter_c.proofs.OwnedLemmas.{pointer_typed}
+use Rattle.cutter_c.proofs.SlotValues.{full_slot, slot_typed, word}
 use Rattle.cutter_c.proofs.slot.Slot.TheLaws as slot_laws
 use Rattle.cutter_c.proofs.slot.opened.Statement.{statement}
 use Rattle.cutter_c.proofs.slot.opened.Code as code

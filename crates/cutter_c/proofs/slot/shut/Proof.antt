@@ -29,7 +29,8 @@ use Rattle.cutter_c.specs.contracts.slot.Slot as slot
 use Rattle.cutter_c.specs.contracts.slot.shut as this
 use Rattle.cutter_c.proofs.BoxCalls.{IntoRaw, into_raw_asks, into_raw_at, into_raw_gives}
 use Rattle.cutter_c.proofs.PassedTypes.{Boxed, HeapPassed, Session, SessionPassed, boxed_lawful, heap_drop, heap_drops, heap_passed, session_drop_passed, session_drops, session_passed}
-use Rattle.cutter_c.proofs.SlotValues.{pointer_typed, slot_made, slot_typed, word}
+use Rattle.cutter_c.proofs.OwnedLemmas.{pointer_typed}
+use Rattle.cutter_c.proofs.SlotValues.{slot_made, slot_typed, word}
 use Rattle.cutter_c.proofs.slot.shut.Statement.{statement}
 use Rattle.cutter_c.proofs.slot.shut.Code as code
 
