@@ -18,6 +18,7 @@ const BOS: End = End {
 };
 
 /// Fills `ends` with the ends of a place, in the order in which they are preferred where costs are equal: the latest node first.
+#[inline(always)]
 pub fn gather<S: WordSource>(
     source: &S,
     nodes: &Nodes,
@@ -34,10 +35,12 @@ pub fn gather<S: WordSource>(
         ends.push(BOS)?;
         return Ok(());
     }
+    let bundles = nodes.bundles.as_slice();
+    let backs = nodes.backs.as_slice();
     let mut link = linked(nodes.heads[place]);
     while let Some(i) = link {
-        let bundle = &nodes.bundles[i];
-        add_bundle_ends(source, &nodes.bundles, &nodes.backs, bundle, ends)?;
+        let bundle = &bundles[i];
+        add_bundle_ends(source, bundles, backs, bundle, ends)?;
         link = linked(bundle.next);
     }
     Ok(())

@@ -5,8 +5,8 @@ use Rattle.path_search.proofs.ends.gather.Given as goal
 
 abbrev pub invariant-loop-link : goal.invariant-loop-link
 invariant-loop-link g l = record {
-  below : IsBelow l.link (length l.nodes.bundles.items);
-  walk : Gathered (g.S.WordSource.says l.source).surface_words l.nodes.bundles.items l.nodes.backs.items l.place l.ends.items l.link;
+  below : IsBelow l.link (length l.bundles);
+  walk : Gathered (g.S.WordSource.says l.source).surface_words l.bundles l.backs l.place l.ends.items l.link;
 }
 
 abbrev pub decreases-loop-link : goal.decreases-loop-link
