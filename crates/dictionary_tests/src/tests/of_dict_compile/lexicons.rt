@@ -1,7 +1,8 @@
 //! Compiled system dictionaries.
-use crate::tests::samples::{Expected, NONE, are_entries, sample_dict, with_lexicons};
-use dict_compile::compile;
-use dict_image::{Dict, Entries, load};
+use crate::tests::samples::{
+    Expected, NONE, are_entries, compiled_of, dict_of, sample_dict, with_lexicons,
+};
+use dict_image::{Dict, Entries};
 use mj_model::{MatrixSizes, Sources, sample};
 use std::alloc::Global;
 use std::test::Fail;
@@ -20,11 +21,27 @@ static SUMOMO: [(&str, &[Expected]); 8] = [
     ("x", NONE),
 ];
 
+/// What a dictionary has: how many entries, how many skipped lines, and whether these are the entries of a key.
+type Answer = (u64, u128, bool);
+
+/// What the dictionary of sources has.
+fn answer(
+    alloc: Global,
+    sources: &Sources<'_>,
+    key: &str,
+    entries: &[Expected],
+) -> Result<Answer, Fail> {
+    let compiled = compiled_of(alloc, sources)?;
+    let (count, skipped) = (compiled.entries, compiled.skipped);
+    let dict = dict_of(alloc, compiled.image)?;
+    Ok((count, skipped, are_entries(&dict, key, entries)))
+}
+
 #[test]
 fn sumomo(rt: HostRuntime) -> Result<(), Fail> {
-    let compiled = compile(rt.alloc(), &sample())?;
-    assert_eq!(rt; (compiled.entries, compiled.skipped), (3, 0));
-    let dict = load(rt.alloc(), compiled.image)?;
+    let counted = answer(rt.alloc(), &sample(), "", NONE)?;
+    assert_eq!(rt; counted, (3, 0, true));
+    let dict = sample_dict(rt.alloc())?;
     assert!(rt; !dict.is_user());
     assert_eq!(rt; dict.matrix_sizes(), MatrixSizes { right: 2, left: 2 });
     for (key, entries) in &SUMOMO {
@@ -78,21 +95,6 @@ fn surfaces_that_begin_a_text(rt: HostRuntime) -> Result<(), Fail> {
     Ok(())
 }
 
-/// What a dictionary of two lexicons has: how many entries, how many skipped lines, and whether these are the entries of a key.
-fn compiled(
-    alloc: Global,
-    first: &str,
-    second: &str,
-    key: &str,
-    entries: &[Expected],
-) -> Result<(u64, u128, bool), Fail> {
-    let lexicons = [first.as_bytes(), second.as_bytes()];
-    let compiled = compile(alloc, &with_lexicons(&lexicons))?;
-    let dict = load(alloc, compiled.image)?;
-    let same = are_entries(&dict, key, entries);
-    Ok((compiled.entries, compiled.skipped, same))
-}
-
 /// Two lexicons, and what their dictionary has.
 #[rattlefmt::skip]
 static TWO_LEXICONS: [(&str, &str, &str, u64, u128, &str, &[Expected]); 11] = [
@@ -110,22 +112,38 @@ static TWO_LEXICONS: [(&str, &str, &str, u64, u128, &str, &[Expected]); 11] = [
     ("beyond the basic plane", "𠮷,1,1,10,X\nも,1,1,20,Y\n", "", 2, 0, "𠮷", &[(1, 1, 1, 10, "X")]),
 ];
 
+/// What the dictionary of two lexicons has.
+fn answer_of_two(
+    alloc: Global,
+    first: &str,
+    second: &str,
+    key: &str,
+    entries: &[Expected],
+) -> Result<Answer, Fail> {
+    let lexicons = [first.as_bytes(), second.as_bytes()];
+    answer(alloc, &with_lexicons(&lexicons), key, entries)
+}
+
 #[test]
 fn two_lexicons(rt: HostRuntime) -> Result<(), Fail> {
     for (what, first, second, count, skipped, key, entries) in &TWO_LEXICONS {
-        let answer = compiled(rt.alloc(), first, second, key, entries)?;
-        assert_eq!(rt; answer, (*count, *skipped, true), "{what}");
+        let found = answer_of_two(rt.alloc(), first, second, key, entries)?;
+        assert_eq!(rt; found, (*count, *skipped, true), "{what}");
     }
     Ok(())
 }
 
+/// Whether the dictionary of no lexicon has no entry, and no surface that begins a text.
+fn is_empty(alloc: Global, text: &str) -> Result<bool, Fail> {
+    let compiled = compiled_of(alloc, &with_lexicons(&[]))?;
+    let counted = (compiled.entries, compiled.skipped) == (0, 0);
+    let dict = dict_of(alloc, compiled.image)?;
+    Ok(counted && are_entries(&dict, text, NONE) && are_prefixes(&dict, text, &[]))
+}
+
 #[test]
 fn no_lexicon(rt: HostRuntime) -> Result<(), Fail> {
-    let compiled = compile(rt.alloc(), &with_lexicons(&[]))?;
-    assert_eq!(rt; (compiled.entries, compiled.skipped), (0, 0));
-    let dict = load(rt.alloc(), compiled.image)?;
-    assert!(rt; are_entries(&dict, "も", &[]));
-    assert!(rt; dict.prefixes("も").next().is_none());
+    assert!(rt; is_empty(rt.alloc(), "も")?);
     Ok(())
 }
 
@@ -138,24 +156,28 @@ static COSTS: [(&str, &str, u32, u32, &[u8]); 3] = [
     ("a pair twice", "2 2\n0 1 3\n0 1 4\n", 2, 2, b"\0\0\x04\0\0\0\0\0"),
 ];
 
+/// Whether the dictionary of a connection table has these sizes and costs, and the entry of its one surface.
+fn has_costs(alloc: Global, matrix: &str, sizes: MatrixSizes, costs: &[u8]) -> Result<bool, Fail> {
+    let lexicons = ["も,1,1,20,X\n".as_bytes()];
+    let sources = Sources {
+        matrix: matrix.as_bytes(),
+        ..with_lexicons(&lexicons)
+    };
+    let image = compiled_of(alloc, &sources)?.image;
+    let begins = image.get(104..).unwrap_or(b"").starts_with(costs);
+    let dict = dict_of(alloc, image)?;
+    let same = dict.matrix_sizes() == sizes && are_entries(&dict, "も", &[(0, 1, 1, 20, "X")]);
+    Ok(begins && same)
+}
+
 #[test]
 fn connection_costs(rt: HostRuntime) -> Result<(), Fail> {
     for (what, matrix, right, left, costs) in &COSTS {
-        let lexicons = ["も,1,1,20,X\n".as_bytes()];
-        let sources = Sources {
-            matrix: matrix.as_bytes(),
-            ..with_lexicons(&lexicons)
-        };
-        let compiled = compile(rt.alloc(), &sources)?;
-        let table = compiled.image.get(104..).unwrap_or(b"");
-        assert!(rt; table.starts_with(costs), "{what}");
-        let dict = load(rt.alloc(), compiled.image)?;
         let sizes = MatrixSizes {
             right: *right,
             left: *left,
         };
-        assert_eq!(rt; dict.matrix_sizes(), sizes, "{what}");
-        assert!(rt; are_entries(&dict, "も", &[(0, 1, 1, 20, "X")]), "{what}");
+        assert!(rt; has_costs(rt.alloc(), matrix, sizes, costs)?, "{what}");
     }
     Ok(())
 }

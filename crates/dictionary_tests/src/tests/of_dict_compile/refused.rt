@@ -1,11 +1,11 @@
 //! Sources that are refused.
-use dict_compile::compile;
+use crate::tests::samples::compiled_of;
 use lex_source::lines;
 use mj_model::SourceKind::{
     self, BadHeader, BadNumber, BadRange, BadRow, IdOutside, MissingCategory, NoDefault, NoSpace,
     NoSuchCategory, PairOutside, TooFewFields, TooLarge, Twice, UndefinedCategory,
 };
-use mj_model::{Sources, sample};
+use mj_model::{SourceFault, Sources, sample};
 use std::alloc::{AllocError, Global};
 use std::test::Fail;
 
@@ -29,15 +29,20 @@ static LEXICONS: [(&str, &str, &str, &str, u32, u64, SourceKind); 14] = [
     ("matrix before lexicon", "0 2", "も,1,1,x,X\n", "", 0, 1, BadHeader),
 ];
 
+/// The fault of a connection table and two lexicons with the sample's other sources.
+fn fault_of_two(alloc: Global, matrix: &str, first: &str, second: &str) -> Option<SourceFault> {
+    let sources = Sources {
+        matrix: matrix.as_bytes(),
+        lexicons: &[first.as_bytes(), second.as_bytes()],
+        ..sample()
+    };
+    compiled_of(alloc, &sources).err()
+}
+
 #[test]
 fn matrix_and_lexicons(rt: HostRuntime) {
     for (what, matrix, first, second, file, line, kind) in &LEXICONS {
-        let sources = Sources {
-            matrix: matrix.as_bytes(),
-            lexicons: &[first.as_bytes(), second.as_bytes()],
-            ..sample()
-        };
-        let fault = compile(rt.alloc(), &sources).err();
+        let fault = fault_of_two(rt.alloc(), matrix, first, second);
         assert_eq!(rt; fault, Some(kind.at(*file, *line)), "{what}");
     }
 }
@@ -73,17 +78,26 @@ static MISSING: [(&str, &str, &str, u32, SourceKind); 4] = [
     ("no DEFAULT",       "DEFAULT", ALL,     1, NoDefault),
 ];
 
+/// The fault of the sample without those lines.
+fn fault_without(
+    alloc: Global,
+    no_chars: &str,
+    no_unknown: &str,
+) -> Result<Option<SourceFault>, AllocError> {
+    let chars = edited(alloc, sample().chars, no_chars, "")?;
+    let unk = edited(alloc, sample().unk, no_unknown, "")?;
+    let sources = Sources {
+        chars: &chars,
+        unk: &unk,
+        ..sample()
+    };
+    Ok(compiled_of(alloc, &sources).err())
+}
+
 #[test]
 fn missing_categories(rt: HostRuntime) -> Result<(), Fail> {
     for (what, no_chars, no_unknown, file, kind) in &MISSING {
-        let chars = edited(rt.alloc(), sample().chars, no_chars, "")?;
-        let unk = edited(rt.alloc(), sample().unk, no_unknown, "")?;
-        let sources = Sources {
-            chars: &chars,
-            unk: &unk,
-            ..sample()
-        };
-        let fault = compile(rt.alloc(), &sources).err();
+        let fault = fault_without(rt.alloc(), no_chars, no_unknown)?;
         assert_eq!(rt; fault, Some(kind.at(*file, 0)), "{what}");
     }
     Ok(())
@@ -107,18 +121,29 @@ static IN_TWO_FILES: [(&str, &str, &str, &str, &str, u32, u64, SourceKind); 8] =
     ("a name, lexicon", "2 2", "", "OTHER,1,1,1,X\n", BAD_COST, 2, 7, NoSuchCategory),
 ];
 
+/// The fault of a connection table and a lexicon, and of the sample with further lines.
+fn fault_with(
+    alloc: Global,
+    matrix: &str,
+    further: &str,
+    unknown: &str,
+    lexicon: &str,
+) -> Result<Option<SourceFault>, AllocError> {
+    let chars = edited(alloc, sample().chars, ALL, further)?;
+    let unk = edited(alloc, sample().unk, ALL, unknown)?;
+    let sources = Sources {
+        matrix: matrix.as_bytes(),
+        chars: &chars,
+        unk: &unk,
+        lexicons: &[lexicon.as_bytes()],
+    };
+    Ok(compiled_of(alloc, &sources).err())
+}
+
 #[test]
 fn faults_in_two_files(rt: HostRuntime) -> Result<(), Fail> {
     for (what, matrix, further, unknown, lexicon, file, line, kind) in &IN_TWO_FILES {
-        let chars = edited(rt.alloc(), sample().chars, "none", further)?;
-        let unk = edited(rt.alloc(), sample().unk, "none", unknown)?;
-        let sources = Sources {
-            matrix: matrix.as_bytes(),
-            chars: &chars,
-            unk: &unk,
-            lexicons: &[lexicon.as_bytes()],
-        };
-        let fault = compile(rt.alloc(), &sources).err();
+        let fault = fault_with(rt.alloc(), matrix, further, unknown, lexicon)?;
         assert_eq!(rt; fault, Some(kind.at(*file, *line)), "{what}");
     }
     Ok(())

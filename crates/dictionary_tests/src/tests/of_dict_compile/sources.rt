@@ -1,27 +1,29 @@
 //! Lexicons one behind another, and all sources together.
-use super::watched::Told;
-use crate::tests::samples::with_lexicons;
-use dict_compile::{Compiled, Step, compile, compile_watched};
+use super::watched::{Told, compiled_with};
+use crate::tests::samples::{compiled_of, with_lexicons};
+use dict_compile::Step;
 use lex_source::SourceLexicon;
 use mj_model::SourceKind::{self, BadNumber, IdOutside, MissingCategory};
 use mj_model::{MatrixSizes, SourceFault, Sources};
+use std::alloc::Global;
 use std::test::Fail;
 
-/// What two lexicons say within 2 right ids and 3 left ids.
-fn read(rt: &HostRuntime, first: &str, second: &str) -> Result<Compiled, SourceFault> {
+/// How many entries and skipped lines two lexicons have within 2 right ids and 3 left ids.
+fn counts(alloc: Global, first: &str, second: &str) -> Result<(u64, u128), SourceFault> {
     let lexicons = [first.as_bytes(), second.as_bytes()];
     let sources = Sources {
         matrix: b"2 3\n",
         ..with_lexicons(&lexicons)
     };
-    compile(rt.alloc(), &sources)
+    let compiled = compiled_of(alloc, &sources)?;
+    Ok((compiled.entries, compiled.skipped))
 }
 
 /// The line of the last entry of two lexicons, in the order of the surfaces.
-fn last_line(rt: &HostRuntime, first: &str, second: &str) -> Result<Option<u64>, Fail> {
-    let mut lexicon = SourceLexicon::new(rt.alloc(), MatrixSizes { right: 2, left: 3 });
-    lexicon.add(rt.alloc(), first.as_bytes(), 3)?;
-    lexicon.add(rt.alloc(), second.as_bytes(), 4)?;
+fn last_line(alloc: Global, first: &str, second: &str) -> Result<Option<u64>, Fail> {
+    let mut lexicon = SourceLexicon::new(alloc, MatrixSizes { right: 2, left: 3 });
+    lexicon.add(alloc, first.as_bytes(), 3)?;
+    lexicon.add(alloc, second.as_bytes(), 4)?;
     let sorted = lexicon.sorted()?;
     Ok(sorted.records().last().map(|record| record.line))
 }
@@ -39,10 +41,10 @@ static ACCEPTED: [(&str, &str, &str, u64, Option<u64>, u128); 4] = [
 #[test]
 fn accepted_lexicons(rt: HostRuntime) -> Result<(), Fail> {
     for (what, first, second, count, line, skipped) in &ACCEPTED {
-        let read = read(&rt, first, second)?;
-        let last = last_line(&rt, first, second)?;
-        let told = (read.entries, last, read.skipped);
-        assert_eq!(rt; told, (*count, *line, *skipped), "{what}");
+        let found = counts(rt.alloc(), first, second)?;
+        assert_eq!(rt; found, (*count, *skipped), "{what}");
+        let last = last_line(rt.alloc(), first, second)?;
+        assert_eq!(rt; last, *line, "{what}");
     }
     Ok(())
 }
@@ -60,7 +62,7 @@ static REFUSED: [(&str, &str, &str, u32, u64, SourceKind); 4] = [
 #[test]
 fn refused_lexicons(rt: HostRuntime) {
     for (what, first, second, file, line, kind) in &REFUSED {
-        let fault = read(&rt, first, second).err();
+        let fault = counts(rt.alloc(), first, second).err();
         assert_eq!(rt; fault, Some(kind.at(*file, *line)), "{what}");
     }
 }
@@ -93,23 +95,27 @@ static ALL_SOURCES: [(&str, &str, &str, Option<At>); 4] = [
     ("an id", "DEFAULT,1,1,9,X\nSPACE,0,0,9,X\n", "も,1,3,20,X\n", Some((IdOutside, 3, 1))),
 ];
 
+/// Whether the sources with these two are accepted with one entry and one skipped line, or have this fault.
+fn are_as(alloc: Global, unknown: &str, lexicon: &str, expected: Option<At>) -> bool {
+    let sources = Sources {
+        matrix: b"3 3\n0 2 100\n",
+        chars: b"DEFAULT 0 1 0\nSPACE 0 1 0\n0x0020 SPACE\n",
+        unk: unknown.as_bytes(),
+        lexicons: &[lexicon.as_bytes()],
+    };
+    let mut told = Told::nothing(alloc);
+    match compiled_with(alloc, &sources, &mut told) {
+        Ok(compiled) => {
+            let counted = (compiled.entries, compiled.skipped) == (1, 1);
+            expected.is_none() && counted && told.steps.starts_with(&FIRST_STEPS)
+        }
+        Err(fault) => fault_at(expected) == Some(fault),
+    }
+}
+
 #[test]
 fn all_sources(rt: HostRuntime) {
     for (what, unknown, lexicon, expected) in &ALL_SOURCES {
-        let sources = Sources {
-            matrix: b"3 3\n0 2 100\n",
-            chars: b"DEFAULT 0 1 0\nSPACE 0 1 0\n0x0020 SPACE\n",
-            unk: unknown.as_bytes(),
-            lexicons: &[lexicon.as_bytes()],
-        };
-        let mut told = Told::nothing(rt.alloc());
-        match compile_watched(rt.alloc(), &sources, &mut told) {
-            Ok(compiled) => {
-                assert!(rt; expected.is_none(), "{what}");
-                assert!(rt; told.steps.starts_with(&FIRST_STEPS), "{what}");
-                assert_eq!(rt; (compiled.entries, compiled.skipped), (1, 1), "{what}");
-            }
-            Err(fault) => assert_eq!(rt; Some(fault), fault_at(*expected), "{what}"),
-        }
+        assert!(rt; are_as(rt.alloc(), unknown, lexicon, *expected), "{what}");
     }
 }

@@ -1,72 +1,71 @@
 //! Refused growths. A growth is refused where the tests run under `tools/refuse`, which looks for the line that says so.
-use crate::tests::samples::{NONE, are_entries};
-use dict_compile::{CompileUserFault, Compiled, compile, compile_user};
-use dict_image::{Dict, load};
+use crate::tests::samples::{Expected, NONE, are_entries, compiled_of, dict_of, user_of};
+use dict_compile::{CompileUserFault, Compiled};
+use dict_image::Dict;
 use mj_model::SourceKind::Memory;
 use mj_model::{ImageFault, SourceFault, sample};
 use std::test::Fail;
 
-/// The sample's image; what is refused once is asked again.
-fn sample_compiled(rt: &HostRuntime) -> Result<Compiled, Fail> {
-    match compile(rt.alloc(), &sample()) {
-        Err(SourceFault { kind: Memory, .. }) => {
+/// The sample's image, or that of a user dictionary for a system.
+fn compiled(rt: &HostRuntime, system: Option<&Dict>) -> Result<Compiled, CompileUserFault> {
+    match system {
+        None => Ok(compiled_of(rt.alloc(), &sample())?),
+        Some(system) => user_of(rt.alloc(), system, &["もも,1,1,1,X\n".as_bytes()]),
+    }
+}
+
+/// The same; what is refused once is asked again.
+fn compiled_again(rt: &HostRuntime, system: Option<&Dict>) -> Result<Compiled, Fail> {
+    match compiled(rt, system) {
+        Err(CompileUserFault::Source(SourceFault { kind: Memory, .. })) => {
             rt.eprintln("refused")?;
-            Ok(compile(rt.alloc(), &sample())?)
+            Ok(compiled(rt, system)?)
         }
         compiled => Ok(compiled?),
     }
 }
 
-/// The sample's dictionary. A refused load drops its bytes, so it is compiled again.
-fn sample_loaded(rt: &HostRuntime) -> Result<Dict, Fail> {
-    match load(rt.alloc(), sample_compiled(rt)?.image) {
+/// The dictionary of it. A refused load drops its bytes, so it is compiled again.
+fn dict_again(rt: &HostRuntime, system: Option<&Dict>) -> Result<Dict, Fail> {
+    match dict_of(rt.alloc(), compiled_again(rt, system)?.image) {
         Err(ImageFault::Memory) => {
             rt.eprintln("refused")?;
-            Ok(load(rt.alloc(), sample_compiled(rt)?.image)?)
+            Ok(dict_of(rt.alloc(), compiled_again(rt, system)?.image)?)
         }
         dict => Ok(dict?),
     }
 }
+
+/// Keys with their entries in the sample's dictionary.
+#[rattlefmt::skip]
+static ENTRIES: [(&str, &[Expected]); 3] = [
+    // (key, its entries)
+    ("すもも", &[(0, 1, 1, 100, "名詞,すもも")]),
+    ("も",     &[(1, 1, 1, 20, "助詞,も")]),
+    ("もも",   &[(2, 1, 1, 30, "名詞,もも")]),
+];
 
 #[test]
 fn starved_system_dictionary(rt: HostRuntime) -> Result<(), Fail> {
-    let dict = sample_loaded(&rt)?;
+    let dict = dict_again(&rt, None)?;
     assert!(rt; !dict.is_user());
-    assert!(rt; are_entries(&dict, "すもも", &[(0, 1, 1, 100, "名詞,すもも")]));
-    assert!(rt; are_entries(&dict, "も", &[(1, 1, 1, 20, "助詞,も")]));
-    assert!(rt; are_entries(&dict, "もも", &[(2, 1, 1, 30, "名詞,もも")]));
+    for (key, entries) in &ENTRIES {
+        assert!(rt; are_entries(&dict, key, entries), "{key}");
+    }
     Ok(())
 }
 
-/// A user dictionary's image for a system; what is refused once is asked again.
-fn user_compiled(rt: &HostRuntime, system: &Dict) -> Result<Compiled, Fail> {
-    let lexicons = ["もも,1,1,1,X\n".as_bytes()];
-    match compile_user(rt.alloc(), system, &lexicons) {
-        Err(CompileUserFault::Source(SourceFault { kind: Memory, .. })) => {
-            rt.eprintln("refused")?;
-            Ok(compile_user(rt.alloc(), system, &lexicons)?)
-        }
-        compiled => Ok(compiled?),
-    }
-}
-
-/// A user dictionary for a system. A refused load drops its bytes, so it is compiled again.
-fn user_loaded(rt: &HostRuntime, system: &Dict) -> Result<Dict, Fail> {
-    match load(rt.alloc(), user_compiled(rt, system)?.image) {
-        Err(ImageFault::Memory) => {
-            rt.eprintln("refused")?;
-            Ok(load(rt.alloc(), user_compiled(rt, system)?.image)?)
-        }
-        dict => Ok(dict?),
-    }
+/// How many entries and skipped lines a user dictionary for a system has.
+fn user_counts(rt: &HostRuntime, system: &Dict) -> Result<(u64, u128), Fail> {
+    let compiled = compiled_again(rt, Some(system))?;
+    Ok((compiled.entries, compiled.skipped))
 }
 
 #[test]
 fn starved_user_dictionary(rt: HostRuntime) -> Result<(), Fail> {
-    let system = sample_loaded(&rt)?;
-    let compiled = user_compiled(&rt, &system)?;
-    assert_eq!(rt; (compiled.entries, compiled.skipped), (1, 0));
-    let user = user_loaded(&rt, &system)?;
+    let system = dict_again(&rt, None)?;
+    assert_eq!(rt; user_counts(&rt, &system)?, (1, 0));
+    let user = dict_again(&rt, Some(&system))?;
     assert!(rt; user.is_user());
     assert!(rt; are_entries(&user, "もも", &[(0, 1, 1, 1, "X")]));
     assert!(rt; are_entries(&user, "も", NONE));

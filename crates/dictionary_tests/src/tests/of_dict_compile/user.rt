@@ -1,8 +1,9 @@
 //! Compiled user dictionaries.
-use crate::tests::samples::{Expected, NONE, are_entries, sample_dict};
+use crate::tests::samples::{
+    Expected, NONE, are_entries, compiled_of, dict_of, sample_dict, user_of,
+};
 use dict_compile::CompileUserFault::{self, NotSystem, Source};
-use dict_compile::{compile, compile_user};
-use dict_image::{Dict, load};
+use dict_image::Dict;
 use mj_model::SourceKind::{
     self, ArrayFull, BadNumber, FeaturesTooLarge, IdOutside, Memory, NotUtf8, TooFewFields,
 };
@@ -23,12 +24,13 @@ fn compiled(
     key: &str,
     entries: &[Expected],
 ) -> Result<(u64, u128, bool), Fail> {
-    let compiled = compile_user(alloc, system, &[first.as_bytes(), second.as_bytes()])?;
-    let dict = load(alloc, compiled.image)?;
+    let compiled = user_of(alloc, system, &[first.as_bytes(), second.as_bytes()])?;
+    let (count, skipped) = (compiled.entries, compiled.skipped);
+    let dict = dict_of(alloc, compiled.image)?;
     let same = dict.is_user()
         && dict.matrix_sizes() == system.matrix_sizes()
         && are_entries(&dict, key, entries);
-    Ok((compiled.entries, compiled.skipped, same))
+    Ok((count, skipped, same))
 }
 
 /// Two lexicons, and what their dictionary has.
@@ -65,20 +67,39 @@ static REFUSED: [(&str, &str, &str, u32, u64, SourceKind); 4] = [
     ("in both",               "もも,1,1,1\n", "もも,1,1,x,X\n",           3, 1, TooFewFields),
 ];
 
-#[test]
-fn refused_lexicons(rt: HostRuntime) -> Result<(), Fail> {
+/// The fault of two lexicons for a system, if they have one.
+fn fault_of_two(
+    alloc: Global,
+    system: &Dict,
+    first: &str,
+    second: &str,
+) -> Option<CompileUserFault> {
+    user_of(alloc, system, &[first.as_bytes(), second.as_bytes()]).err()
+}
+
+/// The dictionary of a system of 2 right ids and 3 left ids.
+fn system_2_3(alloc: Global) -> Result<Dict, Fail> {
     let sources = Sources {
         matrix: b"2 3\n",
         ..sample()
     };
-    let system = load(rt.alloc(), compile(rt.alloc(), &sources)?.image)?;
+    Ok(dict_of(alloc, compiled_of(alloc, &sources)?.image)?)
+}
+
+/// The user dictionary of a lexicon for a system.
+fn user_dict(alloc: Global, system: &Dict, lexicon: &str) -> Result<Dict, Fail> {
+    let compiled = user_of(alloc, system, &[lexicon.as_bytes()])?;
+    Ok(dict_of(alloc, compiled.image)?)
+}
+
+#[test]
+fn refused_lexicons(rt: HostRuntime) -> Result<(), Fail> {
+    let system = system_2_3(rt.alloc())?;
     for (what, first, second, file, line, kind) in &REFUSED {
-        let lexicons = [first.as_bytes(), second.as_bytes()];
-        let fault = compile_user(rt.alloc(), &system, &lexicons).err();
+        let fault = fault_of_two(rt.alloc(), &system, first, second);
         assert_eq!(rt; fault, Some(Source(kind.at(*file, *line))), "{what}");
     }
-    let compiled = compile_user(rt.alloc(), &system, &[ACCEPTED.as_bytes()])?;
-    let sizes = load(rt.alloc(), compiled.image)?.matrix_sizes();
+    let sizes = user_dict(rt.alloc(), &system, ACCEPTED)?.matrix_sizes();
     assert_eq!(rt; sizes, MatrixSizes { right: 2, left: 3 });
     Ok(())
 }
@@ -93,11 +114,9 @@ static LEXICONS: [(&str, &str); 2] = [
 
 #[test]
 fn for_a_user_dictionary(rt: HostRuntime) -> Result<(), Fail> {
-    let system = sample_dict(rt.alloc())?;
-    let compiled = compile_user(rt.alloc(), &system, &[LINE.as_bytes()])?;
-    let user = load(rt.alloc(), compiled.image)?;
+    let user = user_dict(rt.alloc(), &sample_dict(rt.alloc())?, LINE)?;
     for (what, lexicon) in &LEXICONS {
-        let fault = compile_user(rt.alloc(), &user, &[lexicon.as_bytes()]).err();
+        let fault = fault_of_two(rt.alloc(), &user, lexicon, "");
         assert_eq!(rt; fault, Some(NotSystem), "{what}");
     }
     Ok(())

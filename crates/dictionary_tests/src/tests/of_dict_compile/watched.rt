@@ -2,14 +2,13 @@
 
 ghost use Rattle.std.specs.Prelude.{◌≡◌, false};
 
-use crate::tests::samples::with_lexicons;
+use crate::tests::samples::{sample_dict, with_lexicons};
 use dict_compile::{
-    OtherSources, Step, Watch, compile, compile_others_watched, compile_user_watched,
+    Compiled, OtherSources, Step, Watch, compile_others_watched, compile_user_watched,
     compile_watched,
 };
-use dict_image::load;
 use matrix_def::read_matrix;
-use mj_model::{MatrixSizes, Sources, sample};
+use mj_model::{MatrixSizes, SourceFault, Sources};
 use std::alloc::Global;
 use std::test::Fail;
 
@@ -55,54 +54,69 @@ static READ: [Step; 3] = [
 
 /// Whether these are the steps, one list behind another.
 fn are_steps(told: &Told, before: &[Step], then: &[Step]) -> bool {
-    told.steps.len() == before.len().saturating_add(then.len())
+    !told.refused
+        && told.steps.len() == before.len().saturating_add(then.len())
         && told.steps.starts_with(before)
         && told.steps.ends_with(then)
+}
+
+/// What is compiled of sources, with the steps.
+pub fn compiled_with(
+    alloc: Global,
+    sources: &Sources<'_>,
+    told: &mut Told,
+) -> Result<Compiled, SourceFault> {
+    compile_watched(alloc, sources, told)
 }
 
 #[test]
 fn steps_of_a_system(rt: HostRuntime) -> Result<(), Fail> {
     let mut told = Told::nothing(rt.alloc());
-    compile_watched(rt.alloc(), &with_lexicons(LEXICONS), &mut told)?;
-    assert!(rt; !told.refused);
+    compiled_with(rt.alloc(), &with_lexicons(LEXICONS), &mut told)?;
     assert!(rt; are_steps(&told, &BEFORE, &READ));
+    Ok(())
+}
 
-    // The same where the costs were read before.
+/// How many entries and skipped lines are compiled where the costs were read before.
+fn counts_with_costs(alloc: Global, told: &mut Told) -> Result<(u64, u128), Fail> {
     let Sources {
         matrix,
         chars,
         unk,
         lexicons,
     } = with_lexicons(LEXICONS);
-    let costs = read_matrix(rt.alloc(), matrix)?;
+    let costs = read_matrix(alloc, matrix)?;
     let others = OtherSources {
         chars,
         unk,
         lexicons,
     };
+    let compiled = compile_others_watched(alloc, costs, &others, told)?;
+    Ok((compiled.entries, compiled.skipped))
+}
+
+#[test]
+fn steps_with_costs_read_before(rt: HostRuntime) -> Result<(), Fail> {
     let mut told = Told::nothing(rt.alloc());
-    let compiled = compile_others_watched(rt.alloc(), costs, &others, &mut told)?;
-    assert_eq!(rt; (compiled.entries, compiled.skipped), (3, 1));
+    assert_eq!(rt; counts_with_costs(rt.alloc(), &mut told)?, (3, 1));
     assert!(rt; are_steps(&told, &BEFORE, &READ));
     Ok(())
 }
 
 #[test]
 fn steps_of_a_user(rt: HostRuntime) -> Result<(), Fail> {
-    let system = load(rt.alloc(), compile(rt.alloc(), &sample())?.image)?;
+    let system = sample_dict(rt.alloc())?;
     let mut told = Told::nothing(rt.alloc());
     compile_user_watched(rt.alloc(), &system, LEXICONS, &mut told)?;
-    assert!(rt; !told.refused);
     assert!(rt; are_steps(&told, &[], &READ));
     Ok(())
 }
 
 #[test]
-fn steps_before_a_fault(rt: HostRuntime) -> Result<(), Fail> {
+fn steps_before_a_fault(rt: HostRuntime) {
     let mut told = Told::nothing(rt.alloc());
     let sources = with_lexicons(&[b"a,1,1,5,X\n", b"b,1,x,5,X\n"]);
-    assert!(rt; compile_watched(rt.alloc(), &sources, &mut told).is_err());
+    assert!(rt; compiled_with(rt.alloc(), &sources, &mut told).is_err());
     assert_eq!(rt; told.steps.len(), 4);
     assert_eq!(rt; told.steps.last(), Some(&Step::LexiconRead { entries: 1 }));
-    Ok(())
 }

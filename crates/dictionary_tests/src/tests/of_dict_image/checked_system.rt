@@ -1,16 +1,16 @@
 //! A system image with one category and one unknown token, and its changes.
-use super::changes::{Row, expect_faults};
+use super::changes::{Changed, Row, expect_faults};
 use super::images::{image, sealed};
-use dict_image::load;
+use crate::tests::samples::fault_of;
 use mj_model::ImageFault::{self, BadSection, BadText, BadToken};
 use std::alloc::{AllocError, Global};
 use std::test::Fail;
 
 /// The categories of all code points.
-const ONE_RANGE: &[u8] = b"\0\0\0\0\x01\0\0\0";
+pub(crate) const ONE_RANGE: &[u8] = b"\0\0\0\0\x01\0\0\0";
 
 /// The image without its digest, with these ranges as section 3.
-fn one_category(alloc: Global, ranges: &[u8]) -> Result<Vec<u8>, AllocError> {
+pub(crate) fn one_category(alloc: Global, ranges: &[u8]) -> Result<Vec<u8>, AllocError> {
     let categories = b"\0\x01\0\x07DEFAULT";
     let index = b"\0\0\0\0\x01\0\0\0";
     let root = b"\x01\0\0\0\xfe\xff\xff\xff";
@@ -45,8 +45,7 @@ static CHANGES: [Row; 18] = [
 
 #[test]
 fn changes_of_sections(rt: HostRuntime) -> Result<(), Fail> {
-    let body = one_category(rt.alloc(), ONE_RANGE)?;
-    expect_faults(&rt, &body, true, &CHANGES)
+    expect_faults(&rt, Changed::System, &CHANGES)
 }
 
 /// Sections of ranges.
@@ -64,11 +63,17 @@ static RANGES: [(&str, &[u8], Option<ImageFault>); 9] = [
     ("category 1 in the set", b"\0\0\0\0\x03\0\0\0", Some(BadSection(3))),
 ];
 
+/// The fault of the image with these ranges, and with its digest.
+fn fault_of_ranges(alloc: Global, ranges: &[u8]) -> Result<Option<ImageFault>, AllocError> {
+    let body = one_category(alloc, ranges)?;
+    Ok(fault_of(alloc, sealed(alloc, &body)?))
+}
+
 #[test]
 fn ranges_of_code_points(rt: HostRuntime) -> Result<(), Fail> {
     for (what, ranges, expected) in &RANGES {
-        let bytes = sealed(rt.alloc(), &one_category(rt.alloc(), ranges)?)?;
-        assert_eq!(rt; load(rt.alloc(), bytes).err(), *expected, "{what}");
+        let fault = fault_of_ranges(rt.alloc(), ranges)?;
+        assert_eq!(rt; fault, *expected, "{what}");
     }
     Ok(())
 }

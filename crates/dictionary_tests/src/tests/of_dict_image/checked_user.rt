@@ -1,7 +1,7 @@
 //! The user image of layout 3 with the one surface `a`, and its changes.
-use super::changes::{Row, expect_faults};
-use super::images::{Change, changed, one_surface, sealed};
-use dict_image::load;
+use super::changes::{Changed, Row, expect_faults};
+use super::images::{Change, user_body, user_image};
+use crate::tests::samples::{fault_of_front, fault_of_longer};
 use mj_model::ImageFault::{
     BadKey, BadLayout, BadMagic, BadSection, BadText, BadToken, Digest, Truncated,
 };
@@ -43,42 +43,37 @@ static CHANGES: [Row; 23] = [
 
 #[test]
 fn changes_before_the_digest(rt: HostRuntime) -> Result<(), Fail> {
-    let body = one_surface(rt.alloc())?;
+    let body = user_body(rt.alloc(), 3)?;
     assert_eq!(rt; body.len(), 929);
-    expect_faults(&rt, &body, true, &CHANGES)
+    expect_faults(&rt, Changed::Layout3, &CHANGES)
 }
 
 /// Changes of the image, with its first digest.
 #[rattlefmt::skip]
-static BEHIND_THE_DIGEST: [(&str, Change<'_>); 6] = [
-    // (what, bytes from a place on)
-    ("kind",                     (12, b"\0")),
-    ("a free cell",              (200, b"\x01")),
-    ("token",                    (914, b"\x02")),
-    ("feature",                  (928, b"Y")),
-    ("first byte of the digest", (929, b"\x4d\x4a\x44")),
-    ("end of the digest",        (957, b"\0\0\0\0")),
+static BEHIND_THE_DIGEST: [Row; 6] = [
+    ("kind",                     &[(12, b"\0")],            Some(Digest)),
+    ("a free cell",              &[(200, b"\x01")],         Some(Digest)),
+    ("token",                    &[(914, b"\x02")],         Some(Digest)),
+    ("feature",                  &[(928, b"Y")],            Some(Digest)),
+    ("first byte of the digest", &[(929, b"\x4d\x4a\x44")], Some(Digest)),
+    ("end of the digest",        &[(957, b"\0\0\0\0")],    Some(Digest)),
 ];
 
 #[test]
 fn changes_behind_the_digest(rt: HostRuntime) -> Result<(), Fail> {
-    let bytes = sealed(rt.alloc(), &one_surface(rt.alloc())?)?;
-    for (what, change) in &BEHIND_THE_DIGEST {
-        let damaged = changed(rt.alloc(), &bytes, &[*change])?;
-        assert_eq!(rt; load(rt.alloc(), damaged).err(), Some(Digest), "{what}");
-    }
-    Ok(())
+    expect_faults(&rt, Changed::Sealed, &BEHIND_THE_DIGEST)
 }
+
+/// Lengths of less than the image.
+static LENGTHS: [usize; 6] = [0, 103, 104, 928, 929, 960];
 
 #[test]
 fn other_lengths(rt: HostRuntime) -> Result<(), Fail> {
-    let alloc = rt.alloc();
-    let mut bytes = sealed(alloc, &one_surface(alloc)?)?;
-    for length in [0_usize, 103, 104, 928, 929, 960] {
-        let front = Vec::from_slice(alloc, bytes.get(..length).unwrap_or(b""))?;
-        assert_eq!(rt; load(alloc, front).err(), Some(Truncated), "{length}");
+    let bytes = user_image(rt.alloc(), 3)?;
+    for length in &LENGTHS {
+        let fault = fault_of_front(rt.alloc(), &bytes, *length)?;
+        assert_eq!(rt; fault, Some(Truncated), "{length}");
     }
-    bytes.push(0)?;
-    assert_eq!(rt; load(alloc, bytes).err(), Some(BadSection(9)));
+    assert_eq!(rt; fault_of_longer(rt.alloc(), &bytes)?, Some(BadSection(9)));
     Ok(())
 }

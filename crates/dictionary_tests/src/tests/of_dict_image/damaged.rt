@@ -1,118 +1,129 @@
 //! Images that are cut, or of which one byte is changed: each answer is the plain reader's.
-use super::images::{LAYOUT_1, layout_2, one_surface, sealed};
+use super::images::user_image;
 use super::plain_reader::{first_fault, frame_fault};
 use super::questions::answers_all;
-use crate::tests::samples::with_byte;
-use dict_image::load;
+use crate::tests::samples::{dict_of, fault_of, fault_of_front, with_byte};
 use mj_model::ImageFault::{self, BadMagic, BadSection, Digest, Truncated};
-use std::alloc::Global;
-use std::process::Abort;
+use std::alloc::{AllocError, Global};
 use std::test::Fail;
 
-/// Cuts an image to each shorter length.
-fn cut_everywhere(rt: &impl Abort, alloc: Global, bytes: &[u8]) -> Result<(), Fail> {
+/// The first length to which an image can be cut so that it is not told as cut.
+fn accepted_front(alloc: Global, bytes: &[u8]) -> Result<Option<usize>, AllocError> {
     for length in 0..bytes.len() {
-        let front = Vec::from_slice(alloc, bytes.get(..length).unwrap_or(b""))?;
-        assert_eq!(rt; load(alloc, front).err(), Some(Truncated), "{length}");
+        if fault_of_front(alloc, bytes, length)? != Some(Truncated) {
+            return Ok(Some(length));
+        }
     }
-    Ok(())
+    Ok(None)
 }
 
 #[test]
 fn shorter_images(rt: HostRuntime) -> Result<(), Fail> {
-    cut_everywhere(&rt, rt.alloc(), &LAYOUT_1)?;
-    cut_everywhere(&rt, rt.alloc(), &layout_2(rt.alloc())?)?;
-    cut_everywhere(
-        &rt,
-        rt.alloc(),
-        &sealed(rt.alloc(), &one_surface(rt.alloc())?)?,
-    )
-}
-
-/// Sets each byte of an image in turn. The answer is the plain reader's, and a dictionary answers every question.
-fn set_everywhere(rt: &impl Abort, alloc: Global, bytes: &[u8], byte: u8) -> Result<(), Fail> {
-    for place in 0..bytes.len() {
-        let changed = with_byte(alloc, bytes, place, byte)?;
-        let expected = first_fault(alloc, &changed)?;
-        match load(alloc, Vec::from_slice(alloc, &changed)?) {
-            Err(fault) => assert_eq!(rt; Some(fault), expected, "{place}: {byte}"),
-            Ok(dict) => {
-                assert_eq!(rt; None, expected, "{place}: {byte}");
-                assert!(rt; answers_all(&dict, &changed), "{place}: {byte}");
-            }
-        }
+    for layout in 1..=3 {
+        let bytes = user_image(rt.alloc(), layout)?;
+        assert_eq!(rt;
+            accepted_front(rt.alloc(), &bytes)?,
+            None,
+            "layout {layout}"
+        );
     }
     Ok(())
 }
 
+/// Whether the answer to an image is the plain reader's, and a dictionary answers every question.
+fn answers_plainly(alloc: Global, image: &[u8]) -> Result<bool, AllocError> {
+    let expected = first_fault(alloc, image)?;
+    Ok(match dict_of(alloc, Vec::from_slice(alloc, image)?) {
+        Err(fault) => expected == Some(fault),
+        Ok(dict) => expected.is_none() && answers_all(&dict, image),
+    })
+}
+
+/// The first byte of an image whose change to this one is answered otherwise than by the plain reader.
+fn other_answer(alloc: Global, bytes: &[u8], byte: u8) -> Result<Option<usize>, AllocError> {
+    for place in 0..bytes.len() {
+        if !answers_plainly(alloc, &with_byte(alloc, bytes, place, byte)?)? {
+            return Ok(Some(place));
+        }
+    }
+    Ok(None)
+}
+
+/// The first byte of an image whose change to one of these is answered otherwise than by the plain reader, and that one.
+fn other_answer_to_any(alloc: Global, bytes: &[u8]) -> Result<Option<(usize, u8)>, AllocError> {
+    for byte in [0, 1, 0x80, 0xff] {
+        if let Some(place) = other_answer(alloc, bytes, byte)? {
+            return Ok(Some((place, byte)));
+        }
+    }
+    Ok(None)
+}
+
 #[test]
 fn changed_bytes_of_layout_1(rt: HostRuntime) -> Result<(), Fail> {
-    for byte in [0, 1, 0x80, 0xff] {
-        set_everywhere(&rt, rt.alloc(), &LAYOUT_1, byte)?;
-    }
+    let bytes = user_image(rt.alloc(), 1)?;
+    assert_eq!(rt; other_answer_to_any(rt.alloc(), &bytes)?, None);
     Ok(())
 }
 
 #[test]
 fn changed_bytes_of_layout_2(rt: HostRuntime) -> Result<(), Fail> {
-    let bytes = layout_2(rt.alloc())?;
-    for byte in [0, 1, 0x80, 0xff] {
-        set_everywhere(&rt, rt.alloc(), &bytes, byte)?;
-    }
+    let bytes = user_image(rt.alloc(), 2)?;
+    assert_eq!(rt; other_answer_to_any(rt.alloc(), &bytes)?, None);
     Ok(())
 }
 
 /// The fault of the layout 3 image after a change at a place. The magic, the layout and the lengths of the sections are looked at
-/// before the digest, and layout 2 has none.
+/// before the digest.
 fn fault_at(place: usize, changed: &[u8]) -> Option<ImageFault> {
     match place {
         0..=7 => Some(BadMagic),
-        8 => Some(BadSection(9)),
-        9..=11 | 40..=103 => frame_fault(changed),
+        8..=11 | 40..=103 => frame_fault(changed),
         _ => Some(Digest),
     }
 }
 
+/// Whether the layout 3 image with another byte at a place is refused, for that fault.
+fn is_refused_with(
+    alloc: Global,
+    image: &[u8],
+    place: usize,
+    byte: u8,
+) -> Result<bool, AllocError> {
+    let changed = with_byte(alloc, image, place, byte)?;
+    let expected = fault_at(place, &changed);
+    Ok(expected.is_some() && fault_of(alloc, changed) == expected)
+}
+
 #[test]
 fn flipped_bits_of_layout_3(rt: HostRuntime) -> Result<(), Fail> {
-    let bytes = sealed(rt.alloc(), &one_surface(rt.alloc())?)?;
+    let bytes = user_image(rt.alloc(), 3)?;
     assert_eq!(rt; bytes.len(), 961);
     for (place, byte) in bytes.iter().enumerate() {
-        let changed = with_byte(rt.alloc(), &bytes, place, *byte ^ 1)?;
-        let expected = fault_at(place, &changed);
-        assert!(rt; expected.is_some(), "{place}");
-        assert_eq!(rt; load(rt.alloc(), changed).err(), expected, "{place}");
+        let is_refused = is_refused_with(rt.alloc(), &bytes, place, *byte ^ 1)?;
+        assert!(rt; is_refused, "{place}");
     }
+    // Layout 2 has no digest.
+    let layout_2 = with_byte(rt.alloc(), &bytes, 8, 2)?;
+    assert_eq!(rt; fault_of(rt.alloc(), layout_2), Some(BadSection(9)));
     Ok(())
 }
 
-/// Sets each byte of the layout 3 image in turn. The magic, the layout and the lengths of the sections are looked at before the digest.
-fn set_before_the_digest(
-    rt: &impl Abort,
-    alloc: Global,
-    bytes: &[u8],
-    byte: u8,
-) -> Result<(), Fail> {
-    for (place, old) in bytes.iter().enumerate() {
-        if *old != byte {
-            let changed = with_byte(alloc, bytes, place, byte)?;
-            let expected = match place {
-                0..=7 => Some(BadMagic),
-                8..=11 | 40..=103 => frame_fault(&changed),
-                _ => Some(Digest),
-            };
-            assert!(rt; expected.is_some(), "{place}: {byte}");
-            assert_eq!(rt; load(alloc, changed).err(), expected, "{place}: {byte}");
+/// The first other byte of the layout 3 image whose change to this one is not refused as it should be.
+fn other_fault(alloc: Global, image: &[u8], byte: u8) -> Result<Option<usize>, AllocError> {
+    for (place, old) in image.iter().enumerate() {
+        if *old != byte && !is_refused_with(alloc, image, place, byte)? {
+            return Ok(Some(place));
         }
     }
-    Ok(())
+    Ok(None)
 }
 
 #[test]
 fn changed_bytes_of_layout_3(rt: HostRuntime) -> Result<(), Fail> {
-    let bytes = sealed(rt.alloc(), &one_surface(rt.alloc())?)?;
+    let bytes = user_image(rt.alloc(), 3)?;
     for byte in [0, 1, 0x80, 0xff] {
-        set_before_the_digest(&rt, rt.alloc(), &bytes, byte)?;
+        assert_eq!(rt; other_fault(rt.alloc(), &bytes, byte)?, None, "{byte}");
     }
     Ok(())
 }

@@ -1,44 +1,33 @@
 //! The user image of layout 3 with the one surface `a`.
-use super::images::{one_surface, sealed};
-use crate::tests::samples::{Expected, is_entry};
-use dict_image::{Dict, EntryRef, Prefixes, load};
-use mj_model::{ImageFault, MatrixSizes};
+use super::images::user_image;
+use super::questions::{are_prefixes, is_user_with};
+use crate::tests::samples::{Expected, NONE, are_entries, dict_of, fault_of};
+use dict_image::Dict;
+use mj_model::ImageFault;
 use std::alloc::{AllocError, Global};
 use std::test::Fail;
 
-/// The image of the one surface `a`.
-fn whole_image(alloc: Global) -> Result<Vec<u8>, AllocError> {
-    sealed(alloc, &one_surface(alloc)?)
-}
-
-/// Whether this is the first entry that is expected, if any is.
-fn is_first(found: Option<EntryRef<'_>>, expected: Option<Expected>) -> bool {
-    match (found, expected) {
-        (Some(found), Some(expected)) => is_entry(&found, &expected),
-        (None, None) => true,
-        _ => false,
-    }
+/// The dictionary of the one surface `a`.
+fn dict_of_a(alloc: Global) -> Result<Dict, Fail> {
+    Ok(dict_of(alloc, user_image(alloc, 3)?)?)
 }
 
 /// Keys with their entries.
 #[rattlefmt::skip]
-static ENTRIES: [(&str, Option<Expected>); 4] = [
-    // (key, its first entry: number, left id, right id, cost and feature)
-    ("a", Some((0, 1, 1, 1, "X"))),
-    ("b", None),
-    ("", None),
-    ("ab", None),
+static ENTRIES: [(&str, &[Expected]); 4] = [
+    // (key, its entries)
+    ("a", &[(0, 1, 1, 1, "X")]),
+    ("b", NONE),
+    ("", NONE),
+    ("ab", NONE),
 ];
 
 #[test]
 fn entries_of_keys(rt: HostRuntime) -> Result<(), Fail> {
-    let dict = load(rt.alloc(), whole_image(rt.alloc())?)?;
-    assert!(rt; dict.is_user());
-    assert_eq!(rt; dict.matrix_sizes(), MatrixSizes { right: 2, left: 2 });
-    for (key, entry) in &ENTRIES {
-        let mut entries = dict.entries(key);
-        assert!(rt; is_first(entries.next(), *entry), "{key}");
-        assert!(rt; entries.next().is_none(), "{key}");
+    let dict = dict_of_a(rt.alloc())?;
+    assert!(rt; is_user_with(&dict, "a", 1, "b"));
+    for (key, entries) in &ENTRIES {
+        assert!(rt; are_entries(&dict, key, entries), "{key}");
     }
     Ok(())
 }
@@ -54,7 +43,7 @@ fn known_feature<'a>(dict: &'a Dict, number: u32) -> Option<&'a str> {
 
 #[test]
 fn entries_of_numbers(rt: HostRuntime) -> Result<(), Fail> {
-    let dict = load(rt.alloc(), whole_image(rt.alloc())?)?;
+    let dict = dict_of_a(rt.alloc())?;
     for (number, feature) in &FEATURES {
         assert_eq!(rt; known_feature(&dict, *number), *feature, "{number}");
         assert!(rt; dict.unknown_token(*number).is_none(), "{number}");
@@ -62,30 +51,21 @@ fn entries_of_numbers(rt: HostRuntime) -> Result<(), Fail> {
     Ok(())
 }
 
-/// The length of the next key, if there is one.
-fn next_length(prefixes: &mut Prefixes<'_>) -> Option<usize> {
-    let (length, _) = prefixes.next()?;
-    Some(length)
-}
-
 /// Texts with the keys that begin them.
 #[rattlefmt::skip]
-static TEXTS: [(&str, Option<usize>, u64); 4] = [
-    // (text, the length of its one prefix, the cells read: those of the steps on `b` are not there)
-    ("ab", Some(1), 3),
-    ("a", Some(1), 3),
-    ("ba", None, 1),
-    ("", None, 1),
+static TEXTS: [(&str, &[(usize, u32)], u64); 4] = [
+    // (text, the length of its one prefix and the number of its entry, the cells read: those of the steps on `b` are not there)
+    ("ab", &[(1, 0)], 3),
+    ("a", &[(1, 0)], 3),
+    ("ba", &[], 1),
+    ("", &[], 1),
 ];
 
 #[test]
 fn keys_that_begin_a_text(rt: HostRuntime) -> Result<(), Fail> {
-    let dict = load(rt.alloc(), whole_image(rt.alloc())?)?;
-    for (text, length, reads) in &TEXTS {
-        let mut prefixes = dict.prefixes(text);
-        assert_eq!(rt; next_length(&mut prefixes), *length, "{text}");
-        assert!(rt; prefixes.next().is_none(), "{text}");
-        assert_eq!(rt; prefixes.reads(), *reads, "{text}");
+    let dict = dict_of_a(rt.alloc())?;
+    for (text, prefixes, reads) in &TEXTS {
+        assert!(rt; are_prefixes(&dict, text, prefixes, *reads), "{text}");
     }
     Ok(())
 }
@@ -99,13 +79,19 @@ static REFUSED: [(&str, usize, &[u8], ImageFault); 3] = [
     ("another last byte",      960, b"\0",          ImageFault::Digest),
 ];
 
+/// The fault of the first so many bytes of the image, with others behind them.
+fn fault_with(alloc: Global, length: usize, more: &[u8]) -> Result<Option<ImageFault>, AllocError> {
+    let mut bytes = user_image(alloc, 3)?;
+    bytes.truncate(length);
+    bytes.extend_from_slice(more)?;
+    Ok(fault_of(alloc, bytes))
+}
+
 #[test]
 fn refused_images(rt: HostRuntime) -> Result<(), Fail> {
     for (what, length, more, fault) in &REFUSED {
-        let mut bytes = whole_image(rt.alloc())?;
-        bytes.truncate(*length);
-        bytes.extend_from_slice(more)?;
-        assert_eq!(rt; load(rt.alloc(), bytes).err(), Some(*fault), "{what}");
+        let found = fault_with(rt.alloc(), *length, more)?;
+        assert_eq!(rt; found, Some(*fault), "{what}");
     }
     Ok(())
 }

@@ -1,7 +1,8 @@
 //! The user image of the one surface `a` with other features.
 use super::images::{one_surface_with, sealed};
-use dict_image::load;
+use crate::tests::samples::fault_of;
 use mj_model::ImageFault::{self, BadText};
+use std::alloc::{AllocError, Global};
 use std::test::Fail;
 
 /// Features, and the parts of them that tokens have.
@@ -35,12 +36,21 @@ static PARTS: [(&str, &[u8], &[(u8, u8)], Option<ImageFault>); 25] = [
     ("empty past the end",         b"X",              &[(2, 0)],                    Some(BadText(0))),
 ];
 
+/// The fault of the image whose tokens have these parts of the features.
+fn fault_of_parts(
+    alloc: Global,
+    places: &[(u8, u8)],
+    features: &[u8],
+) -> Result<Option<ImageFault>, AllocError> {
+    let body = one_surface_with(alloc, places, features)?;
+    Ok(fault_of(alloc, sealed(alloc, &body)?))
+}
+
 #[test]
 fn parts_of_the_features(rt: HostRuntime) -> Result<(), Fail> {
     for (what, features, places, expected) in &PARTS {
-        let body = one_surface_with(rt.alloc(), places, features)?;
-        let bytes = sealed(rt.alloc(), &body)?;
-        assert_eq!(rt; load(rt.alloc(), bytes).err(), *expected, "{what}");
+        let fault = fault_of_parts(rt.alloc(), places, features)?;
+        assert_eq!(rt; fault, *expected, "{what}");
     }
     Ok(())
 }

@@ -3,7 +3,7 @@ use sha2::{Digest, Sha256};
 use std::alloc::{AllocError, Global};
 
 /// The user image of layout 1 with the one surface `もも`: 137 bytes, and the feature `X`.
-pub(crate) static LAYOUT_1: [u8; 137] =
+static LAYOUT_1: [u8; 137] =
     *b"MJDICT\r\n\x01\0\0\0\x01\0\0\0\x02\0\0\0\x02\0\0\0\0\0\0\0\x01\0\0\0\x01\0\0\0\0\0\0\0\
     \0\0\0\0\0\0\0\0\0\0\0\0\0\0\0\0\0\0\0\0\0\0\0\0\0\0\0\0\0\0\0\0\
     \x08\0\0\0\0\0\0\0\x08\0\0\0\0\0\0\0\x10\0\0\0\0\0\0\0\x01\0\0\0\0\0\0\0\
@@ -60,14 +60,27 @@ pub(crate) fn sealed(alloc: Global, bytes: &[u8]) -> Result<Vec<u8>, AllocError>
     Ok(new)
 }
 
-/// The user image of layout 2 with the one surface `a`: 929 bytes, and the feature `X`.
-pub(crate) fn layout_2(alloc: Global) -> Result<Vec<u8>, AllocError> {
-    changed(alloc, &one_surface(alloc)?, &[(8, b"\x02")])
+/// The user image of a layout with one surface and the feature `X`, in layout 3 without its digest. In layout 1 the surface is `もも`. In the others it
+/// is `a`, and there are 929 bytes.
+pub(crate) fn user_body(alloc: Global, layout: u32) -> Result<Vec<u8>, AllocError> {
+    match layout {
+        1 => Vec::from_slice(alloc, &LAYOUT_1),
+        2 => changed(
+            alloc,
+            &one_surface_with(alloc, &[(0, 1)], b"X")?,
+            &[(8, b"\x02")],
+        ),
+        _ => one_surface_with(alloc, &[(0, 1)], b"X"),
+    }
 }
 
-/// The user image of layout 3 with the one surface `a`, without its digest: 929 bytes, and the feature `X`.
-pub(crate) fn one_surface(alloc: Global) -> Result<Vec<u8>, AllocError> {
-    one_surface_with(alloc, &[(0, 1)], b"X")
+/// The same, in layout 3 with its digest.
+pub(crate) fn user_image(alloc: Global, layout: u32) -> Result<Vec<u8>, AllocError> {
+    let body = user_body(alloc, layout)?;
+    if layout == 3 {
+        return sealed(alloc, &body);
+    }
+    Ok(body)
 }
 
 /// The user image of layout 3 with the one surface `a`, without its digest, with a token for each pair of where its feature begins and its length.

@@ -1,6 +1,6 @@
 //! User images whose cells are made by hand, and the group that has no key.
 use super::images::{image, sealed};
-use dict_image::load;
+use crate::tests::samples::fault_of;
 use mj_model::ImageFault::{self, BadKey};
 use std::alloc::{AllocError, Global};
 use std::test::Fail;
@@ -155,8 +155,8 @@ static KEYS: [(&str, &[&[u8]], Option<ImageFault>); 19] = [
 #[test]
 fn keys_of_cells(rt: HostRuntime) -> Result<(), Fail> {
     for (what, keys, expected) in &KEYS {
-        let bytes = image_of_keys(rt.alloc(), keys)?;
-        assert_eq!(rt; load(rt.alloc(), bytes).err(), *expected, "{what}");
+        let fault = fault_of(rt.alloc(), image_of_keys(rt.alloc(), keys)?);
+        assert_eq!(rt; fault, *expected, "{what}");
     }
     Ok(())
 }
@@ -169,13 +169,22 @@ static RINGS: [(&str, &[Step], &[Value], u32); 2] = [
     ("a, and one on its own",   &[(0, b'a', 1), (2, b'b', 2)], &[(1, 0), (2, 1)], 1),
 ];
 
+/// The fault of the image of these steps and values.
+fn fault_of_steps(
+    alloc: Global,
+    steps: &[Step],
+    values: &[Value],
+) -> Result<Option<ImageFault>, AllocError> {
+    let groups = u32::try_from(values.len()).unwrap_or(0);
+    let cells = cells_of(alloc, steps, values)?;
+    Ok(fault_of(alloc, user_image(alloc, groups, &cells)?))
+}
+
 #[test]
 fn states_in_a_ring(rt: HostRuntime) -> Result<(), Fail> {
-    let alloc = rt.alloc();
     for (what, steps, values, group) in &RINGS {
-        let groups = u32::try_from(values.len()).unwrap_or(0);
-        let bytes = user_image(alloc, groups, &cells_of(alloc, steps, values)?)?;
-        assert_eq!(rt; load(alloc, bytes).err(), Some(BadKey(*group)), "{what}");
+        let fault = fault_of_steps(rt.alloc(), steps, values)?;
+        assert_eq!(rt; fault, Some(BadKey(*group)), "{what}");
     }
     Ok(())
 }
@@ -191,12 +200,17 @@ static STEMS: [(u32, Option<ImageFault>); 5] = [
     (70_000, Some(BadKey(0))),
 ];
 
+/// The fault of the image of so many keys on one stem.
+fn fault_of_stem(alloc: Global, keys: u32) -> Result<Option<ImageFault>, AllocError> {
+    let cells = cells_of_nuls(alloc, keys)?;
+    Ok(fault_of(alloc, user_image(alloc, keys, &cells)?))
+}
+
 #[test]
 fn keys_on_a_long_stem(rt: HostRuntime) -> Result<(), Fail> {
-    let alloc = rt.alloc();
     for (longest, expected) in &STEMS {
-        let bytes = user_image(alloc, *longest, &cells_of_nuls(alloc, *longest)?)?;
-        assert_eq!(rt; load(alloc, bytes).err(), *expected, "{longest}");
+        let fault = fault_of_stem(rt.alloc(), *longest)?;
+        assert_eq!(rt; fault, *expected, "{longest}");
     }
     Ok(())
 }

@@ -1,21 +1,10 @@
 //! The user image of layout 1 with the one surface `もも`, and its changes.
-use super::changes::{Row, expect_faults};
-use super::images::{LAYOUT_1, changed};
-use crate::tests::samples::are_entries;
-use dict_image::load;
+use super::changes::{Changed, Row, expect_faults};
+use super::images::{changed, user_body};
+use super::questions::is_user_with;
+use crate::tests::samples::{dict_of, fault_of_front, fault_of_longer};
 use mj_model::ImageFault::{BadKey, BadLayout, BadMagic, BadSection, BadText, BadToken, Truncated};
-use mj_model::MatrixSizes;
 use std::test::Fail;
-
-#[test]
-fn layout_1_vector(rt: HostRuntime) -> Result<(), Fail> {
-    let dict = load(rt.alloc(), Vec::from_slice(rt.alloc(), &LAYOUT_1)?)?;
-    assert!(rt; dict.is_user());
-    assert_eq!(rt; dict.matrix_sizes(), MatrixSizes { right: 2, left: 2 });
-    assert!(rt; are_entries(&dict, "もも", &[(0, 1, 1, 1, "X")]));
-    assert!(rt; are_entries(&dict, "も", &[]));
-    Ok(())
-}
 
 /// Changes of the image.
 #[rattlefmt::skip]
@@ -53,25 +42,21 @@ static CHANGES: [Row; 29] = [
 
 #[test]
 fn changes_of_layout_1(rt: HostRuntime) -> Result<(), Fail> {
-    expect_faults(&rt, &LAYOUT_1, false, &CHANGES)
+    expect_faults(&rt, Changed::Layout1, &CHANGES)
 }
 
 #[test]
 fn changed_cost_of_layout_1(rt: HostRuntime) -> Result<(), Fail> {
-    let dict = load(
-        rt.alloc(),
-        changed(rt.alloc(), &LAYOUT_1, &[(124, b"\x02")])?,
-    )?;
-    assert!(rt; are_entries(&dict, "もも", &[(0, 1, 1, 2, "X")]));
+    let image = changed(rt.alloc(), &user_body(rt.alloc(), 1)?, &[(124, b"\x02")])?;
+    let dict = dict_of(rt.alloc(), image)?;
+    assert!(rt; is_user_with(&dict, "もも", 2, "も"));
     Ok(())
 }
 
 #[test]
 fn other_lengths_of_layout_1(rt: HostRuntime) -> Result<(), Fail> {
-    let mut bytes = Vec::from_slice(rt.alloc(), &LAYOUT_1)?;
-    bytes.push(0)?;
-    assert_eq!(rt; load(rt.alloc(), bytes).err(), Some(BadSection(9)));
-    let front = Vec::from_slice(rt.alloc(), &LAYOUT_1[..136])?;
-    assert_eq!(rt; load(rt.alloc(), front).err(), Some(Truncated));
+    let bytes = user_body(rt.alloc(), 1)?;
+    assert_eq!(rt; fault_of_longer(rt.alloc(), &bytes)?, Some(BadSection(9)));
+    assert_eq!(rt; fault_of_front(rt.alloc(), &bytes, 136)?, Some(Truncated));
     Ok(())
 }

@@ -1,19 +1,11 @@
 //! The user image of layout 2 with the one surface `a`, and its changes.
-use super::changes::{Row, expect_faults};
-use super::images::{Change, changed, image, layout_2};
-use crate::tests::samples::are_entries;
-use dict_image::load;
+use super::changes::{Changed, Row, expect_faults};
+use super::images::{Change, changed, image, user_body};
+use super::questions::is_user_with;
+use crate::tests::samples::{dict_of, fault_of, fault_of_front};
 use mj_model::ImageFault::{self, BadKey, BadSection, BadText, BadToken, Truncated};
 use std::alloc::{AllocError, Global};
 use std::test::Fail;
-
-#[test]
-fn layout_2_vector(rt: HostRuntime) -> Result<(), Fail> {
-    let dict = load(rt.alloc(), layout_2(rt.alloc())?)?;
-    assert!(rt; are_entries(&dict, "a", &[(0, 1, 1, 1, "X")]));
-    assert!(rt; are_entries(&dict, "b", &[]));
-    Ok(())
-}
 
 /// Cell 50 is (3, 99), and cell 3 is its end: (-1, 50). Value 0 stands there too.
 const VALUE_TWICE: &[Change<'_>] = &[
@@ -45,9 +37,7 @@ static CHANGES: [Row; 17] = [
 
 #[test]
 fn changes_of_layout_2(rt: HostRuntime) -> Result<(), Fail> {
-    let bytes = layout_2(rt.alloc())?;
-    assert_eq!(rt; bytes.len(), 929);
-    expect_faults(&rt, &bytes, false, &CHANGES)
+    expect_faults(&rt, Changed::Layout2, &CHANGES)
 }
 
 /// A cell of which no key has need, and a ring of one state on no key.
@@ -58,12 +48,16 @@ static NEEDLESS: [(&str, Change<'_>); 2] = [
     ("cell 50 is (1, 50)", (504, b"\x01\0\0\0\x32\0\0\0")),
 ];
 
+/// Whether the image with a change has the entry of its one key.
+fn has_key_with(alloc: Global, change: Change<'_>) -> Result<bool, Fail> {
+    let image = changed(alloc, &user_body(alloc, 2)?, &[change])?;
+    Ok(is_user_with(&dict_of(alloc, image)?, "a", 1, "b"))
+}
+
 #[test]
 fn needless_cells_of_layout_2(rt: HostRuntime) -> Result<(), Fail> {
-    let bytes = layout_2(rt.alloc())?;
     for (what, change) in &NEEDLESS {
-        let dict = load(rt.alloc(), changed(rt.alloc(), &bytes, &[*change])?)?;
-        assert!(rt; are_entries(&dict, "a", &[(0, 1, 1, 1, "X")]), "{what}");
+        assert!(rt; has_key_with(rt.alloc(), *change)?, "{what}");
     }
     Ok(())
 }
@@ -99,16 +93,16 @@ static STATES: [(&str, u8, Option<ImageFault>); 3] = [
 #[test]
 fn keys_of_200_cells(rt: HostRuntime) -> Result<(), Fail> {
     for (what, state, expected) in &STATES {
-        let bytes = with_state(rt.alloc(), *state)?;
-        assert_eq!(rt; load(rt.alloc(), bytes).err(), *expected, "{what}");
+        let fault = fault_of(rt.alloc(), with_state(rt.alloc(), *state)?);
+        assert_eq!(rt; fault, *expected, "{what}");
     }
     Ok(())
 }
 
 #[test]
 fn shorter_layout_2(rt: HostRuntime) -> Result<(), Fail> {
-    let mut bytes = layout_2(rt.alloc())?;
-    bytes.truncate(928);
-    assert_eq!(rt; load(rt.alloc(), bytes).err(), Some(Truncated));
+    let bytes = user_body(rt.alloc(), 2)?;
+    assert_eq!(rt; bytes.len(), 929);
+    assert_eq!(rt; fault_of_front(rt.alloc(), &bytes, 928)?, Some(Truncated));
     Ok(())
 }

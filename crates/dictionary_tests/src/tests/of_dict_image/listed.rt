@@ -1,11 +1,10 @@
 //! User images of layout 1 with several keys.
 use super::images::image;
 use super::questions::are_prefixes;
-use crate::tests::samples::{Expected, are_entries};
-use dict_image::{Dict, load};
+use crate::tests::samples::{Expected, are_entries, dict_of, fault_of};
+use dict_image::Dict;
 use mj_model::ImageFault::{self, BadKey, BadSection};
 use std::alloc::{AllocError, Global};
-use std::process::Abort;
 use std::test::Fail;
 
 /// The user image of a section 5 that is to list so many keys. Group i has the one token i, whose cost is i.
@@ -21,6 +20,11 @@ fn with_keys(alloc: Global, groups: u8, keys: &[u8]) -> Result<Vec<u8>, AllocErr
     let count = u32::from(groups);
     let sections = [b"".as_slice(), b"", b"", b"", keys, &index, &tokens, b"X"];
     image(alloc, [1, 1, 2, 2, 0, count, count, 0], sections)
+}
+
+/// The dictionary of a section 5 that lists five keys.
+fn dict_with(alloc: Global, keys: &[u8]) -> Result<Dict, Fail> {
+    Ok(dict_of(alloc, with_keys(alloc, 5, keys)?)?)
 }
 
 /// The five keys `a`, `ab`, `abc`, `b` and `もも`.
@@ -44,59 +48,53 @@ static ENTRIES: [(&str, &[Expected]); 10] = [
 
 #[test]
 fn entries_of_five_keys(rt: HostRuntime) -> Result<(), Fail> {
-    let dict = load(rt.alloc(), with_keys(rt.alloc(), 5, FIVE)?)?;
+    let dict = dict_with(rt.alloc(), FIVE)?;
     for (key, entry) in &ENTRIES {
         assert!(rt; are_entries(&dict, key, entry), "{key}");
     }
     Ok(())
 }
 
-/// A text, and the lengths of its prefixes, each with its token.
-type Prefixes = (&'static str, &'static [(usize, u32)]);
+/// Keys far behind the shorter ones that begin them: `a`, `aab`, `abc`, `abcd` and `c`.
+const OTHERS: &[u8] = b"\x01\0a\x03\0aab\x03\0abc\x04\0abcd\x01\0c";
 
-/// Asks for the prefixes of each text. No cells are read for them.
-fn expect_prefixes(rt: &impl Abort, dict: &Dict, rows: &[Prefixes]) -> Result<(), Fail> {
-    for (text, expected) in rows {
-        assert!(rt; are_prefixes(dict, text, expected, 0), "{text}");
+/// Texts with the keys that begin them.
+#[rattlefmt::skip]
+static PREFIXES: [(&[u8], &str, &[(usize, u32)]); 14] = [
+    // (keys, text, the lengths of its prefixes, each with its token)
+    (FIVE,   "abcd",   &[(1, 0), (2, 1), (3, 2)]),
+    (FIVE,   "ab",     &[(1, 0), (2, 1)]),
+    (FIVE,   "ac",     &[(1, 0)]),
+    (FIVE,   "b",      &[(1, 3)]),
+    (FIVE,   "もももも", &[(6, 4)]),
+    (FIVE,   "もa",    &[]),
+    (FIVE,   "x",      &[]),
+    (FIVE,   "",       &[]),
+    (OTHERS, "abcd", &[(1, 0), (3, 2), (4, 3)]),
+    (OTHERS, "abce", &[(1, 0), (3, 2)]),
+    (OTHERS, "aab",  &[(1, 0), (3, 1)]),
+    (OTHERS, "ab",   &[(1, 0)]),
+    (OTHERS, "c",    &[(1, 4)]),
+    (OTHERS, "b",    &[]),
+];
+
+/// Whether these are the prefixes of a text. No cells are read for them.
+fn has_prefixes(
+    alloc: Global,
+    keys: &[u8],
+    text: &str,
+    expected: &[(usize, u32)],
+) -> Result<bool, Fail> {
+    let dict = dict_with(alloc, keys)?;
+    Ok(are_prefixes(&dict, text, expected, 0))
+}
+
+#[test]
+fn prefixes_of_listed_keys(rt: HostRuntime) -> Result<(), Fail> {
+    for (keys, text, expected) in &PREFIXES {
+        assert!(rt; has_prefixes(rt.alloc(), keys, text, expected)?, "{text}");
     }
     Ok(())
-}
-
-/// Prefixes among the five keys.
-#[rattlefmt::skip]
-static OF_FIVE_KEYS: [Prefixes; 8] = [
-    ("abcd",   &[(1, 0), (2, 1), (3, 2)]),
-    ("ab",     &[(1, 0), (2, 1)]),
-    ("ac",     &[(1, 0)]),
-    ("b",      &[(1, 3)]),
-    ("もももも", &[(6, 4)]),
-    ("もa",    &[]),
-    ("x",      &[]),
-    ("",       &[]),
-];
-
-#[test]
-fn prefixes_of_five_keys(rt: HostRuntime) -> Result<(), Fail> {
-    let dict = load(rt.alloc(), with_keys(rt.alloc(), 5, FIVE)?)?;
-    expect_prefixes(&rt, &dict, &OF_FIVE_KEYS)
-}
-
-/// Keys far behind the shorter ones that begin them, and texts that end before a longer key.
-#[rattlefmt::skip]
-static BETWEEN_OTHERS: [Prefixes; 6] = [
-    ("abcd", &[(1, 0), (3, 2), (4, 3)]),
-    ("abce", &[(1, 0), (3, 2)]),
-    ("aab",  &[(1, 0), (3, 1)]),
-    ("ab",   &[(1, 0)]),
-    ("c",    &[(1, 4)]),
-    ("b",    &[]),
-];
-
-#[test]
-fn keys_between_others(rt: HostRuntime) -> Result<(), Fail> {
-    let keys = b"\x01\0a\x03\0aab\x03\0abc\x04\0abcd\x01\0c";
-    let dict = load(rt.alloc(), with_keys(rt.alloc(), 5, keys)?)?;
-    expect_prefixes(&rt, &dict, &BETWEEN_OTHERS)
 }
 
 /// Sections that are to list keys.
@@ -127,8 +125,8 @@ static LISTED: [(&str, u8, &[u8], Option<ImageFault>); 19] = [
 #[test]
 fn listed_keys(rt: HostRuntime) -> Result<(), Fail> {
     for (what, groups, keys, expected) in &LISTED {
-        let bytes = with_keys(rt.alloc(), *groups, keys)?;
-        assert_eq!(rt; load(rt.alloc(), bytes).err(), *expected, "{what}");
+        let fault = fault_of(rt.alloc(), with_keys(rt.alloc(), *groups, keys)?);
+        assert_eq!(rt; fault, *expected, "{what}");
     }
     Ok(())
 }

@@ -1,7 +1,8 @@
 //! System images of layouts 1 and 2, whose section 3 has an entry for each code point up to U+FFFE.
 use super::images::image;
 use super::questions::has_info;
-use dict_image::load;
+use crate::tests::samples::{dict_of, fault_of};
+use dict_image::Dict;
 use mj_model::ImageFault::{self, BadSection};
 use std::alloc::{AllocError, Global};
 use std::test::Fail;
@@ -62,18 +63,30 @@ static CODE_POINTS: [(char, (u32, u8)); 8] = [
     ('\u{10FFFF}', (3, 1)),
 ];
 
+/// The dictionary of a layout in which three code points have other categories.
+fn dict_in(alloc: Global, layout: u32) -> Result<Dict, Fail> {
+    let infos = entries_with(alloc, &[(0, BOTH), (0x3042, ONE), (0xFFFE, ONE)])?;
+    Ok(dict_of(alloc, two_categories(alloc, layout, &infos)?)?)
+}
+
 #[test]
 fn categories_of_code_points(rt: HostRuntime) -> Result<(), Fail> {
-    let alloc = rt.alloc();
-    let infos = entries_with(alloc, &[(0, BOTH), (0x3042, ONE), (0xFFFE, ONE)])?;
-    let first = load(alloc, two_categories(alloc, 1, &infos)?)?;
-    let second = load(alloc, two_categories(alloc, 2, &infos)?)?;
-    for (c, info) in &CODE_POINTS {
-        let code = u32::from(*c);
-        assert!(rt; has_info(&first, *c, *info), "layout 1, {code}");
-        assert!(rt; has_info(&second, *c, *info), "layout 2, {code}");
+    for layout in [1, 2] {
+        let dict = dict_in(rt.alloc(), layout)?;
+        for (c, info) in &CODE_POINTS {
+            assert!(rt;
+                has_info(&dict, *c, *info),
+                "layout {layout}, {}",
+                u32::from(*c)
+            );
+        }
     }
     Ok(())
+}
+
+/// The fault of the image of a layout with this section 3.
+fn fault_with(alloc: Global, layout: u32, infos: &[u8]) -> Result<Option<ImageFault>, AllocError> {
+    Ok(fault_of(alloc, two_categories(alloc, layout, infos)?))
 }
 
 /// Changed entries of code points.
@@ -94,10 +107,9 @@ static CHANGED: [(&str, &[(u32, u32)], Option<ImageFault>); 8] = [
 fn changed_entries(rt: HostRuntime) -> Result<(), Fail> {
     for (what, others, expected) in &CHANGED {
         let infos = entries_with(rt.alloc(), others)?;
-        let bytes = two_categories(rt.alloc(), 1, &infos)?;
-        assert_eq!(rt; load(rt.alloc(), bytes).err(), *expected, "{what}");
-        let bytes = two_categories(rt.alloc(), 2, &infos)?;
-        assert_eq!(rt; load(rt.alloc(), bytes).err(), *expected, "{what}");
+        let first = fault_with(rt.alloc(), 1, &infos)?;
+        let second = fault_with(rt.alloc(), 2, &infos)?;
+        assert_eq!(rt; (first, second), (*expected, *expected), "{what}");
     }
     Ok(())
 }
@@ -120,19 +132,24 @@ static OTHER_SECTIONS: [(&str, u32, usize, &[u8], Option<ImageFault>); 9] = [
     ("one more",  2, 0,   b"\x01\0\0\0",      Some(BadSection(3))),
 ];
 
+/// The fault of the image of a layout without the first so many bytes of the entries, and with others behind them.
+fn fault_of_part(
+    alloc: Global,
+    layout: u32,
+    left_out: usize,
+    behind: &[u8],
+) -> Result<Option<ImageFault>, AllocError> {
+    let entries = entries_with(alloc, &[])?;
+    let mut infos = Vec::from_slice(alloc, entries.get(left_out..).unwrap_or(b""))?;
+    infos.extend_from_slice(behind)?;
+    fault_with(alloc, layout, &infos)
+}
+
 #[test]
 fn other_sections_of_entries(rt: HostRuntime) -> Result<(), Fail> {
-    let alloc = rt.alloc();
-    let entries = entries_with(alloc, &[])?;
     for (what, layout, left_out, behind, expected) in &OTHER_SECTIONS {
-        let mut infos = Vec::from_slice(alloc, entries.get(*left_out..).unwrap_or(b""))?;
-        infos.extend_from_slice(behind)?;
-        let bytes = two_categories(alloc, *layout, &infos)?;
-        assert_eq!(rt;
-            load(alloc, bytes).err(),
-            *expected,
-            "{what}, layout {layout}"
-        );
+        let fault = fault_of_part(rt.alloc(), *layout, *left_out, behind)?;
+        assert_eq!(rt; fault, *expected, "{what}, layout {layout}");
     }
     Ok(())
 }

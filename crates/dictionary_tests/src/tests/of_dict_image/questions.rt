@@ -1,7 +1,16 @@
 //! Questions to dictionaries.
 use super::plain_walk::reads_for;
+use crate::tests::samples::{NONE, are_entries};
 use dict_image::{Dict, Entries};
-use mj_model::CharInfo;
+use mj_model::{CharInfo, MatrixSizes};
+
+/// Whether a dictionary is a user's for 2 right ids and 2 left ids, with one entry of this cost at a key, and none at another one.
+pub(crate) fn is_user_with(dict: &Dict, key: &str, cost: i16, other: &str) -> bool {
+    dict.is_user()
+        && dict.matrix_sizes() == MatrixSizes { right: 2, left: 2 }
+        && are_entries(dict, key, &[(0, 1, 1, cost, "X")])
+        && are_entries(dict, other, NONE)
+}
 
 /// Whether the next entry has this number.
 fn begins_with(entries: &mut Entries<'_>, token: u32) -> bool {

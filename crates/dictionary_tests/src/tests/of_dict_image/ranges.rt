@@ -2,7 +2,8 @@
 use super::images::sealed;
 use super::older_system::{BOTH, ONE, ZERO, two_categories};
 use super::questions::has_info;
-use dict_image::load;
+use crate::tests::samples::dict_of;
+use dict_image::Dict;
 use std::alloc::{AllocError, Global};
 use std::test::Fail;
 
@@ -47,13 +48,16 @@ static CODE_POINTS: [(char, (u32, u8), (u32, u8)); 15] = [
     ('\u{10FFFF}', (2, 1), (1, 0)),
 ];
 
+/// The dictionary of these ranges.
+fn dict_with(alloc: Global, ranges: &[(u32, u32)]) -> Result<Dict, Fail> {
+    let body = two_categories(alloc, 3, &ranges_of(alloc, ranges)?)?;
+    Ok(dict_of(alloc, sealed(alloc, &body)?)?)
+}
+
 #[test]
 fn categories_of_ranges(rt: HostRuntime) -> Result<(), Fail> {
-    let alloc = rt.alloc();
-    let short = two_categories(alloc, 3, &ranges_of(alloc, &SHORT)?)?;
-    let long = two_categories(alloc, 3, &ranges_of(alloc, &LONG)?)?;
-    let short = load(alloc, sealed(alloc, &short)?)?;
-    let long = load(alloc, sealed(alloc, &long)?)?;
+    let short = dict_with(rt.alloc(), &SHORT)?;
+    let long = dict_with(rt.alloc(), &LONG)?;
     for (c, in_short, in_long) in &CODE_POINTS {
         let code = u32::from(*c);
         assert!(rt; has_info(&short, *c, *in_short), "short, {code}");

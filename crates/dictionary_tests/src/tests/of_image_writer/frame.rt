@@ -1,8 +1,8 @@
 //! A user image of the one surface `a`.
-use super::samples::{section, sorted};
-use image_writer::write_user;
+use super::samples::{section, user_image};
 use mj_model::MatrixSizes;
 use sha2::{Digest, Sha256};
+use std::alloc::{AllocError, Global};
 use std::test::Fail;
 
 /// The header of a user dictionary for a connection table of 2 right ids and 2 left ids, up to the length of section 5.
@@ -16,19 +16,24 @@ static HEADER_END: [u8; 24] = *b"\x08\0\0\0\0\0\0\0\x10\0\0\0\0\0\0\0\x01\0\0\0\
 /// Sections 6 to 8, one behind another.
 static SECTIONS: [u8; 25] = *b"\0\0\0\0\x01\0\0\0\x01\0\x01\0\x01\0\0\0\0\0\0\0\x01\0\0\0X";
 
-#[test]
-fn header_sections_and_digest(rt: HostRuntime) -> Result<(), Fail> {
-    let sizes = MatrixSizes { right: 2, left: 2 };
-    let image = write_user(rt.alloc(), sorted(rt.alloc(), sizes, "a,1,1,1,X\n")?)?;
-
-    // What the cells hold is not known, nor how many there are.
-    let cells = section(&image, 5);
-    let mut body = Vec::new(rt.alloc());
+/// The image without its digest, with these cells.
+fn body_with(alloc: Global, cells: &[u8]) -> Result<Vec<u8>, AllocError> {
+    let mut body = Vec::new(alloc);
     body.extend_from_slice(&HEADER_BEGIN)?;
     body.extend_from_slice(&(cells.len() as u64).to_le_bytes())?;
     body.extend_from_slice(&HEADER_END)?;
     body.extend_from_slice(cells)?;
     body.extend_from_slice(&SECTIONS)?;
+    Ok(body)
+}
+
+#[test]
+fn header_sections_and_digest(rt: HostRuntime) -> Result<(), Fail> {
+    let sizes = MatrixSizes { right: 2, left: 2 };
+    let image = user_image(rt.alloc(), sizes, "a,1,1,1,X\n")?;
+
+    // What the cells hold is not known, nor how many there are.
+    let body = body_with(rt.alloc(), section(&image, 5))?;
     assert_eq!(rt; image.len(), body.len() + 32);
     assert!(rt; image.starts_with(&body));
     assert!(rt; image.ends_with(&Sha256::digest(&body)));

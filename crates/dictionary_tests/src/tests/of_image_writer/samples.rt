@@ -3,7 +3,7 @@ ghost use Rattle.std.specs.Prelude.{◌≡◌, IfOk};
 
 use char_def::{read_chars, read_unk};
 use image_bytes::{HEADER_LENGTH, read_header, section_ends};
-use image_writer::write_system;
+use image_writer::{write_system, write_user};
 use lex_source::{SortedLexicon, SourceLexicon};
 use matrix_def::read_matrix;
 use mj_model::{MatrixSizes, Sources, sample};
@@ -18,12 +18,21 @@ pub const SAMPLE: &str = "\
 ";
 
 /// The dictionary of a lexicon's lines, whose ids lie within the sizes.
-pub fn sorted(alloc: Global, sizes: MatrixSizes, lines: &str) -> Result<SortedLexicon, Fail>
+fn sorted(alloc: Global, sizes: MatrixSizes, lines: &str) -> Result<SortedLexicon, Fail>
     ensures { IfOk result (λ lexicon. lexicon.sizes ≡ sizes) }
 {
     let mut lexicon = SourceLexicon::new(alloc, sizes);
     lexicon.add(alloc, lines.as_bytes(), 0)?;
     Ok(lexicon.sorted()?)
+}
+
+/// The image of a user dictionary of these lines, whose ids lie within the sizes.
+pub fn user_image(alloc: Global, sizes: MatrixSizes, lines: &str) -> Result<Vec<u8>, Fail> {
+    if !sizes.are_allowed() {
+        return Err("a connection table may have the sizes")?;
+    }
+    let lexicon = sorted(alloc, sizes, lines)?;
+    Ok(write_user(alloc, lexicon)?)
 }
 
 /// The image of a system dictionary of these sources and lines. The ids of the unknown entries have to lie within the sizes.

@@ -3,6 +3,7 @@
 use super::samples::{sample_image, section};
 use image_bytes::{DIGEST_LENGTH, HEADER_LENGTH, read_header};
 use sha2::{Digest, Sha256};
+use std::alloc::{AllocError, Global};
 use std::test::Fail;
 
 /// The header of the sample's image up to the lengths of its sections: layout 3, kind 0, 2 right and 2 left ids, 6 categories, 3
@@ -58,6 +59,18 @@ static TOKEN_ROWS: [(&str, &[u8; 16]); 9] = [
     ("HIRAGANA", b"\x01\0\x01\0\xe8\x03\0\0\x27\0\0\0\x06\0\0\0"),
 ];
 
+/// Whether these are the features, one behind another.
+fn are_features(bytes: &[u8]) -> bool {
+    let mut rest = bytes;
+    for feature in &FEATURES {
+        if !rest.starts_with(feature.as_bytes()) {
+            return false;
+        }
+        rest = rest.get(feature.len()..).unwrap_or(b"");
+    }
+    rest.is_empty()
+}
+
 #[test]
 fn sections_of_the_lexicon(rt: HostRuntime) -> Result<(), Fail> {
     let image = sample_image(rt.alloc())?;
@@ -65,13 +78,8 @@ fn sections_of_the_lexicon(rt: HostRuntime) -> Result<(), Fail> {
     assert_eq!(rt; read_header(&image).groups, 3);
     let groups = b"\0\0\0\0\x01\0\0\0\x02\0\0\0\x03\0\0\0";
     assert!(rt; section(&image, 6) == groups.as_slice());
-    let mut features = section(&image, 8);
-    assert_eq!(rt; features.len(), 45);
-    for feature in &FEATURES {
-        assert!(rt; features.starts_with(feature.as_bytes()), "{feature}");
-        features = features.get(feature.len()..).unwrap_or(b"");
-    }
-    assert!(rt; features.is_empty());
+    assert_eq!(rt; section(&image, 8).len(), 45);
+    assert!(rt; are_features(section(&image, 8)));
     assert_eq!(rt; section(&image, 7).len(), 16 * TOKEN_ROWS.len());
     for ((what, expected), token) in TOKEN_ROWS.iter().zip(section(&image, 7).chunks(16)) {
         assert!(rt; token == expected.as_slice(), "{what}");
@@ -79,17 +87,20 @@ fn sections_of_the_lexicon(rt: HostRuntime) -> Result<(), Fail> {
     Ok(())
 }
 
-#[test]
-fn the_whole_image(rt: HostRuntime) -> Result<(), Fail> {
-    let alloc = rt.alloc();
-    let image = sample_image(alloc)?;
-    let mut end = Vec::new(alloc);
-    end.extend_from_slice(TOKENS)?;
+/// The tokens and features, with which the sections end.
+fn end_of_sections(alloc: Global) -> Result<Vec<u8>, AllocError> {
+    let mut end = Vec::from_slice(alloc, TOKENS)?;
     for _ in 0..6 {
         end.extend_from_slice(UNKNOWN_TOKEN)?;
     }
     end.extend_from_slice("名詞,すもも助詞,も名詞,もも未知".as_bytes())?;
+    Ok(end)
+}
 
+#[test]
+fn the_whole_image(rt: HostRuntime) -> Result<(), Fail> {
+    let image = sample_image(rt.alloc())?;
+    let end = end_of_sections(rt.alloc())?;
     assert!(rt; image.starts_with(HEADER));
     assert!(rt; image.get(40..72) == Some(BEGIN_LENGTHS.as_slice()));
     assert!(rt; image.get(80..104) == Some(END_LENGTHS.as_slice()));

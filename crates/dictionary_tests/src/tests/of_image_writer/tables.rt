@@ -1,24 +1,28 @@
 //! The section of connection costs.
 use super::samples::{section, system_image};
 use mj_model::{Sources, sample};
-use std::alloc::Global;
+use std::alloc::{AllocError, Global};
 use std::test::Fail;
 
+/// The names of the sample's categories.
+const NAMES: [&str; 6] = ["DEFAULT", "SPACE", "ALPHA", "KATAKANA", "KANJI", "HIRAGANA"];
+
 /// Unknown entries whose ids lie within the sizes of any connection table.
-const UNK: &str = "\
-DEFAULT,0,0,1000,未知
-SPACE,0,0,1000,未知
-ALPHA,0,0,1000,未知
-KATAKANA,0,0,1000,未知
-KANJI,0,0,1000,未知
-HIRAGANA,0,0,1000,未知
-";
+fn unknown_of_0(alloc: Global) -> Result<Vec<u8>, AllocError> {
+    let mut unk = Vec::new(alloc);
+    for name in NAMES {
+        unk.extend_from_slice(name.as_bytes())?;
+        unk.extend_from_slice(b",0,0,1000,*\n")?;
+    }
+    Ok(unk)
+}
 
 /// Whether section 1 of the image of a connection table has these bytes.
 fn has_costs(alloc: Global, matrix: &[u8], bytes: &[u8]) -> Result<bool, Fail> {
+    let unk = unknown_of_0(alloc)?;
     let sources = Sources {
         matrix,
-        unk: UNK.as_bytes(),
+        unk: &unk,
         ..sample()
     };
     let image = system_image(alloc, &sources, "")?;

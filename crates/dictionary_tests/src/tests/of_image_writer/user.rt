@@ -1,9 +1,9 @@
 //! Images of small user dictionaries, byte for byte but for the cells of their keys.
-use super::samples::{section, sorted};
+use super::samples::{section, user_image};
 use image_bytes::{DIGEST_LENGTH, HEADER_LENGTH};
-use image_writer::write_user;
 use mj_model::MatrixSizes;
 use sha2::{Digest, Sha256};
+use std::alloc::{AllocError, Global};
 use std::test::Fail;
 
 /// The first bytes of a user image: layout 3, kind 1.
@@ -43,54 +43,72 @@ static ROWS: [Row; 3] = [
         features: b"XYZ" },
 ];
 
+/// Whether an image has the row's sections, and the root's check is -2. The root's base is not known.
+fn has_sections(image: &[u8], row: &Row) -> bool {
+    #[rattlefmt::skip]
+    let Row { numbers, groups, tokens, features, .. } = *row;
+    let root_check: &[u8] = b"\xfe\xff\xff\xff";
+    let keys = section(image, 5);
+    image.get(28..32) == numbers.get(12..16)
+        && section(image, 6) == groups
+        && section(image, 7) == tokens
+        && section(image, 8) == features
+        && keys.len() % 8 == 0
+        && keys.get(4..8) == Some(root_check)
+}
+
 #[test]
 fn sections_of_lexicons(rt: HostRuntime) -> Result<(), Fail> {
     for row in &ROWS {
-        #[rattlefmt::skip]
-        let Row { what, sizes, lines, numbers, groups, tokens, features, .. } = *row;
-        let lexicon = sorted(rt.alloc(), sizes, lines)?;
-        let image = write_user(rt.alloc(), lexicon)?;
-        assert!(rt; image.get(28..32) == numbers.get(12..16), "{what}");
-        assert!(rt; section(&image, 6) == groups, "{what}");
-        assert!(rt; section(&image, 7) == tokens, "{what}");
-        assert!(rt; section(&image, 8) == features, "{what}");
-
-        // The root's base is not known; its check is -2.
-        let root_check: &[u8] = b"\xfe\xff\xff\xff";
-        let keys = section(&image, 5);
-        assert_eq!(rt; keys.len() % 8, 0, "{what}");
-        assert!(rt; keys.get(4..8) == Some(root_check), "{what}");
+        let image = user_image(rt.alloc(), row.sizes, row.lines)?;
+        assert!(rt; has_sections(&image, row), "{}", row.what);
     }
     Ok(())
+}
+
+/// Sections 6 to 8 of a row, one behind another.
+fn end_of(alloc: Global, row: &Row) -> Result<Vec<u8>, AllocError> {
+    #[rattlefmt::skip]
+    let Row { groups, tokens, features, .. } = *row;
+    let mut end = Vec::new(alloc);
+    for section in [groups, tokens, features] {
+        end.extend_from_slice(section)?;
+    }
+    Ok(end)
+}
+
+/// The header of a row, whose sections 1 to 4 are empty, and whose cells have so many bytes.
+fn header_of(alloc: Global, row: &Row, cells: u64) -> Result<Vec<u8>, AllocError> {
+    let Row {
+        numbers,
+        lengths,
+        ..
+    } = *row;
+    let mut header = Vec::new(alloc);
+    header.extend_from_slice(BEGIN)?;
+    header.extend_from_slice(numbers)?;
+    header.extend_from_slice(&[0; 32])?;
+    header.extend_from_slice(&cells.to_le_bytes())?;
+    header.extend_from_slice(lengths)?;
+    Ok(header)
+}
+
+/// Whether an image has the row's header, sections and digest. How many cells the keys have is not known.
+fn is_image(alloc: Global, image: &[u8], row: &Row) -> Result<bool, AllocError> {
+    let end = end_of(alloc, row)?;
+    let around = HEADER_LENGTH + DIGEST_LENGTH + end.len();
+    let cells = image.len().saturating_sub(around) as u64;
+    let header = header_of(alloc, row, cells)?;
+    let body = &image[..image.len().saturating_sub(DIGEST_LENGTH)];
+    let framed = cells % 8 == 0 && image.starts_with(&header) && body.ends_with(&end);
+    Ok(framed && image.ends_with(&Sha256::digest(body)))
 }
 
 #[test]
 fn user_images(rt: HostRuntime) -> Result<(), Fail> {
     for row in &ROWS {
-        #[rattlefmt::skip]
-        let Row { what, sizes, lines, numbers, lengths, groups, tokens, features } = *row;
-        let lexicon = sorted(rt.alloc(), sizes, lines)?;
-        let image = write_user(rt.alloc(), lexicon)?;
-        let mut end = Vec::new(rt.alloc());
-        for section in [groups, tokens, features] {
-            end.extend_from_slice(section)?;
-        }
-        let around = HEADER_LENGTH + DIGEST_LENGTH + end.len();
-        let cells = image.len().saturating_sub(around) as u64;
-        assert_eq!(rt; cells % 8, 0, "{what}");
-
-        // Sections 1 to 4 are empty; how many cells the keys have is not known.
-        let mut header = Vec::new(rt.alloc());
-        header.extend_from_slice(BEGIN)?;
-        header.extend_from_slice(numbers)?;
-        header.extend_from_slice(&[0; 32])?;
-        header.extend_from_slice(&cells.to_le_bytes())?;
-        header.extend_from_slice(lengths)?;
-        assert!(rt; image.starts_with(&header), "{what}");
-
-        let body = &image[..image.len().saturating_sub(DIGEST_LENGTH)];
-        assert!(rt; body.ends_with(&end), "{what}");
-        assert!(rt; image.ends_with(&Sha256::digest(body)), "{what}");
+        let image = user_image(rt.alloc(), row.sizes, row.lines)?;
+        assert!(rt; is_image(rt.alloc(), &image, row)?, "{}", row.what);
     }
     Ok(())
 }
