@@ -34,13 +34,24 @@ fn subjects() -> [&'static [Explanation]; 4] {
 pub fn explanation_of(code: &str) -> Option<Explanation>
     ensures { IfSome result (λ found. found.code.now ≡ code.now) }
 {
-    SOURCES
-        .iter()
-        .chain(IMAGES.iter())
-        .chain(RUNS.iter())
-        .chain(CALLS.iter())
-        .find(|one| one.code == code)
-        .copied()
+    for subject in subjects() {
+        if let Some(found) = explanation_in(subject, code) {
+            return Some(found);
+        }
+    }
+    None
+}
+
+/// The one of these with a code.
+fn explanation_in(explanations: &[Explanation], code: &str) -> Option<Explanation>
+    ensures { IfSome result (λ found. found.code.now ≡ code.now) }
+{
+    for one in explanations {
+        if one.code == code {
+            return Some(*one);
+        }
+    }
+    None
 }
 
 /// The explanations of the faults that have this code or name, in any letters; empty where no fault has it. A name may be several faults'.

@@ -103,10 +103,10 @@ fn bad(text: Result<String, AllocError>) -> OptionsFault {
 /// The parts of a text, which have blank lines between them, without the parser's tip to give an option as a word.
 fn without_tip(alloc: Global, text: &str) -> Result<String, AllocError> {
     let mut kept = String::new(alloc);
-    for part in text
-        .split("\n\n")
-        .filter(|part| !part.starts_with("  tip: to pass "))
-    {
+    for part in text.split("\n\n") {
+        if part.starts_with("  tip: to pass ") {
+            continue;
+        }
         if !kept.is_empty() {
             kept.push_str("\n\n")?;
         }

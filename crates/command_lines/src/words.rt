@@ -22,10 +22,11 @@ fn words(rt: &HostRuntime) -> io::Result<Vec<String>> {
 
 /// Words with another character in place of each line feed. Told by `OptionsFault::in_lines` they stand in the lines of the parser's text.
 pub(crate) fn without_feeds(alloc: Global, words: &[String]) -> Result<Vec<String>, AllocError> {
-    words
-        .iter()
-        .map(|word| word.replace(alloc, '\n', WORDS_FEED))
-        .try_collect(alloc)
+    let mut told = Vec::with_capacity(alloc, words.len())?;
+    for word in words {
+        told.push(word.replace(alloc, '\n', WORDS_FEED)?)?;
+    }
+    Ok(told)
 }
 
 /// The first word that begins with `-` behind one of these options, each of which takes the name of a file.

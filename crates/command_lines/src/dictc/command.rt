@@ -92,14 +92,13 @@ fn subcommand<'a>(
 
 /// The choices of `dictc system`.
 fn system_options(alloc: Global, given: &ArgMatches<'_>) -> Result<Options, OptionsFault> {
-    let path = |name| needed_text(alloc, NAME, given, name);
     Ok(Options {
         base: Base::Definitions {
-            matrix: path("matrix")?,
-            chars: path("char")?,
-            unk: path("unk")?,
+            matrix: needed_text(alloc, NAME, given, "matrix")?,
+            chars: needed_text(alloc, NAME, given, "char")?,
+            unk: needed_text(alloc, NAME, given, "unk")?,
         },
-        out: path("out")?,
+        out: needed_text(alloc, NAME, given, "out")?,
         lexicons: texts_of(alloc, given, "lexicons")?,
         all_faults: given.get_flag("all-faults"),
         verbose: given.get_flag("verbose"),

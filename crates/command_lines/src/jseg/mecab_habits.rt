@@ -58,11 +58,17 @@ const OTHER_OUTPUT: &str =
 
 /// What to do instead, where one of these was given, or an output format of another name.
 pub(super) fn habit_in(matches: &ArgMatches<'_>) -> Option<&'static str> {
-    HABITS
-        .iter()
-        .find(|row| matches.contains_id(row.id))
-        .map(|row| row.help)
-        .or(matches.get_str("output").and_then(instead_of_output))
+    help_of_given(&HABITS, matches).or(matches.get_str("output").and_then(instead_of_output))
+}
+
+/// The help of the first row that was given.
+fn help_of_given(rows: &[Row], matches: &ArgMatches<'_>) -> Option<&'static str> {
+    for row in rows {
+        if matches.contains_id(row.id) {
+            return Some(row.help);
+        }
+    }
+    None
 }
 
 /// What to do in place of an output format by a name; None where it has one.
