@@ -23,6 +23,3 @@ pub use rival::{Rival, best_rival};
 pub use rival_path::{RivalPath, STEPS_MAX};
 pub use rivals::{Rivals, rivals_of};
 pub use step::Step;
-
-#[cfg(test)]
-mod tests;

@@ -1,8 +1,8 @@
 //! Rivals of words, by the numbers of nodes that are listed.
 
-use crate::{Rival, best_rival};
 use lattice_nodes::LatticeNode;
 use mj_model::{Origin, Word};
+use path_rivals::{Rival, best_rival};
 use std::test::Fail;
 
 fn word(place: usize, end: usize) -> Word {
