@@ -3,11 +3,17 @@
 #![tactic(auto)]
 
 mod dicts;
+mod images;
 mod layouts;
+mod overlays;
 mod refused;
 mod runs;
+mod segmentations;
 
 pub use dicts::{chars_with, letters, system, system_dict, user};
+pub use images::{image, loaded, loaded_in, user_image};
 pub use layouts::{SURFACES, in_layout, system_in};
+pub use overlays::{Asked, TwoDicts, overlay};
 pub use refused::{dict_again, letters_again};
 pub use runs::{Outcome, run, run_in};
+pub use segmentations::segment_text;

@@ -1,57 +1,40 @@
 //! The lattices of small texts.
 
-ghost use Rattle.std.specs.Prelude.{◌≤◌, ◌^◌};
-
-use super::sample::{A, AB, B, C, Sample, WordRow, sample_of};
+use super::all_match;
+use super::sample::{A, AB, B, C, WordRow, has_number, sample_of};
 use lattice_nodes::{LatticeNode, lattice_nodes, nodes_on_path};
-use mj_model::Origin;
 use path_search::Search;
 use paths::Path;
 use std::alloc::{AllocError, Global};
-use std::process::Abort;
 use std::test::Fail;
 
-fn nodes_of_sample(alloc: Global, sample: &Sample) -> Result<Vec<LatticeNode>, AllocError>
-    requires { sample.now.length ≤ 2 ^ 20 }
-{
-    lattice_nodes(alloc, sample)
-}
-
-/// For each node whether it is on the best path.
-fn best_of_sample(alloc: Global, sample: &Sample) -> Result<Vec<bool>, AllocError>
-    requires { sample.now.length ≤ 2 ^ 20 }
-{
-    let nodes = lattice_nodes(alloc, sample)?;
+/// The nodes of the lattice of a text, by its length and its words, and for each whether it is on the best path.
+fn nodes_of(
+    alloc: Global,
+    length: u16,
+    words: &[WordRow],
+) -> Result<(Vec<LatticeNode>, Vec<bool>), AllocError> {
+    let sample = sample_of(alloc, length, words)?;
+    let nodes = lattice_nodes(alloc, &sample)?;
     let mut path = Path {
         words: Vec::new(alloc),
         total: 0,
     };
-    Search::new(alloc).fill(sample, &mut path)?;
-    nodes_on_path(alloc, &nodes, &path.words)
+    Search::new(alloc).fill(&sample, &mut path)?;
+    let best = nodes_on_path(alloc, &nodes, &path.words)?;
+    Ok((nodes, best))
 }
 
-/// Each node by the number of its word, its total and the least cost of the paths through it, and whether it is on the best path.
-fn expect_nodes(
-    rt: &impl Abort,
-    nodes: &[LatticeNode],
-    best: &[bool],
-    wanted: &[(usize, i64, Option<i64>, bool)],
-    what: &str,
-) {
-    assert_eq!(rt; nodes.len(), wanted.len(), "{what}");
-    assert_eq!(rt; best.len(), wanted.len(), "{what}");
-    for (node, (number, total, through, _)) in nodes.iter().zip(wanted.iter()) {
-        let origin = Origin::Known {
-            dict: *number,
-            token: 0,
-        };
-        assert_eq!(rt; node.word.origin, origin, "{what}");
-        assert_eq!(rt; node.total, *total, "{what}");
-        assert_eq!(rt; node.through, *through, "{what}");
-    }
-    for (on, (_, _, _, is_best)) in best.iter().zip(wanted.iter()) {
-        assert_eq!(rt; *on, *is_best, "{what}");
-    }
+/// A node by the number of its word, its total and the least cost of the paths through it, and whether it is on the best path.
+type NodeRow = (usize, i64, Option<i64>, bool);
+
+fn is_node(node: &LatticeNode, (number, total, through, _is_best): &NodeRow) -> bool {
+    has_number(&node.word, number) && node.total == *total && node.through == *through
+}
+
+/// Whether a node is on the best path if its row says so.
+fn is_marked(on: &bool, row: &NodeRow) -> bool {
+    *on == row.3
 }
 
 const DEAR_A: WordRow = (0, 1, 50);
@@ -63,7 +46,7 @@ const ABC: WordRow = (0, 3, 100);
 // A connection from BOS costs 10, one between words 7 and one to EOS 5. So `A` has the total 10 + 10 = 20, and `B` after it 20 + 7 + 10 = 37;
 // the path of both costs 37 + 5 = 42.
 #[rattlefmt::skip]
-static LATTICES: [(&str, u16, &[WordRow], &[(usize, i64, Option<i64>, bool)]); 9] = [
+static LATTICES: [(&str, u16, &[WordRow], &[NodeRow]); 9] = [
     // (what, length, words, nodes)
     ("one word", 1, &[A], &[(0, 20, Some(25), true)]),
     // 10 + 27 = 37, and 37 + 5 = 42; of equal costs that path is best whose last differing word has the later place
@@ -136,10 +119,9 @@ static LATTICES: [(&str, u16, &[WordRow], &[(usize, i64, Option<i64>, bool)]); 9
 #[test]
 fn lattices(rt: HostRuntime) -> Result<(), Fail> {
     for (what, length, words, wanted) in &LATTICES {
-        let sample = sample_of(rt.alloc(), *length, words)?;
-        let nodes = nodes_of_sample(rt.alloc(), &sample)?;
-        let best = best_of_sample(rt.alloc(), &sample)?;
-        expect_nodes(&rt, &nodes, &best, wanted, what);
+        let (nodes, best) = nodes_of(rt.alloc(), *length, words)?;
+        assert!(rt; all_match(&nodes, wanted, is_node), "{what}");
+        assert!(rt; all_match(&best, wanted, is_marked), "{what}");
     }
     Ok(())
 }

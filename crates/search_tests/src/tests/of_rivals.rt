@@ -1,25 +1,31 @@
 //! The rivals of the words of small texts' best paths.
 
-ghost use Rattle.std.specs.Prelude.{◌≤◌, ◌^◌};
-
-use super::sample::{A, AB, B, C, Sample, WordRow, sample_of};
-use mj_model::Origin;
+use super::all_match;
+use super::sample::{A, AB, B, C, WordRow, has_number, sample_of};
 use path_rivals::{RivalPath, Rivals, STEPS_MAX, Step, rivals_of};
 use path_search::Search;
 use paths::Path;
 use std::alloc::{AllocError, Global};
-use std::process::Abort;
 use std::test::Fail;
 
-fn rivals_of_sample(alloc: Global, sample: &Sample) -> Result<Rivals, AllocError>
-    requires { sample.now.length ≤ 2 ^ 20 }
-{
+/// The rivals of a text's best path, by its length and its words.
+fn rivals_in(alloc: Global, length: u16, words: &[WordRow]) -> Result<Rivals, AllocError> {
+    let sample = sample_of(alloc, length, words)?;
     let mut path = Path {
         words: Vec::new(alloc),
         total: 0,
     };
-    Search::new(alloc).fill(sample, &mut path)?;
-    rivals_of(alloc, sample, &path.words)
+    Search::new(alloc).fill(&sample, &mut path)?;
+    rivals_of(alloc, &sample, &path.words)
+}
+
+/// The rival of a word of the best path, by its number.
+fn rival_of(
+    alloc: Global,
+    rivals: &Rivals,
+    number: usize,
+) -> Result<Option<RivalPath>, AllocError> {
+    rivals.rival(alloc, number)
 }
 
 /// A step by the number of its word, its connection cost and its total.
@@ -28,26 +34,15 @@ type StepRow = (usize, i64, i64);
 /// A rival by its cost, whether its steps begin and end at the best path, and its steps.
 type RivalRow = (i64, bool, bool, &'static [StepRow]);
 
-fn expect_step(rt: &impl Abort, step: &Step, wanted: &StepRow, what: &str) {
-    let (number, connection, total) = *wanted;
-    let origin = Origin::Known {
-        dict: number,
-        token: 0,
-    };
-    assert_eq!(rt; step.word.origin, origin, "{what}");
-    assert_eq!(rt; step.connection, connection, "{what}");
-    assert_eq!(rt; step.total, total, "{what}");
+fn is_step(step: &Step, (number, connection, total): &StepRow) -> bool {
+    has_number(&step.word, number) && step.connection == *connection && step.total == *total
 }
 
-fn expect_rival(rt: &impl Abort, rival: &RivalPath, wanted: &RivalRow, what: &str) {
-    let (cost, begins, ends, steps) = *wanted;
-    assert_eq!(rt; rival.cost, cost, "{what}");
-    assert_eq!(rt; rival.begins, begins, "{what}");
-    assert_eq!(rt; rival.ends, ends, "{what}");
-    assert_eq!(rt; rival.steps.len(), steps.len(), "{what}");
-    for (step, row) in rival.steps.iter().zip(steps.iter()) {
-        expect_step(rt, step, row, what);
-    }
+fn is_rival(rival: &RivalPath, (cost, begins, ends, steps): &RivalRow) -> bool {
+    rival.cost == *cost
+        && rival.begins == *begins
+        && rival.ends == *ends
+        && all_match(&rival.steps, steps, is_step)
 }
 
 const DEAR_AB: WordRow = (0, 2, 40);
@@ -127,24 +122,43 @@ static RIVALS: [(&str, u16, &[WordRow], &[(StepRow, Option<RivalRow>)]); 9] = [
     ("empty text", 0, &[], &[]),
 ];
 
+/// Whether this is the rival of a word of the best path, or there is none.
+fn has_rival(
+    alloc: Global,
+    rivals: &Rivals,
+    number: usize,
+    wanted: Option<&RivalRow>,
+) -> Result<bool, AllocError> {
+    Ok(match (&rival_of(alloc, rivals, number)?, wanted) {
+        (Some(found), Some(wanted)) => is_rival(found, wanted),
+        (None, None) => true,
+        _ => false,
+    })
+}
+
+/// Whether these are the words of a best path with the rival of each, and no rival is behind the last.
+fn are_rivals(
+    alloc: Global,
+    rivals: &Rivals,
+    wanted: &[(StepRow, Option<RivalRow>)],
+) -> Result<bool, AllocError> {
+    let steps = rivals.steps();
+    if steps.len() != wanted.len() {
+        return Ok(false);
+    }
+    for (number, (step, row)) in steps.iter().zip(wanted).enumerate() {
+        if !is_step(step, &row.0) || !has_rival(alloc, rivals, number, row.1.as_ref())? {
+            return Ok(false);
+        }
+    }
+    has_rival(alloc, rivals, wanted.len(), None)
+}
+
 #[test]
 fn rivals(rt: HostRuntime) -> Result<(), Fail> {
     for (what, length, words, wanted) in &RIVALS {
-        let sample = sample_of(rt.alloc(), *length, words)?;
-        let rivals = rivals_of_sample(rt.alloc(), &sample)?;
-        assert_eq!(rt; rivals.steps().len(), wanted.len(), "{what}");
-        for (number, (step, rival)) in wanted.iter().enumerate() {
-            match rivals.steps().get(number) {
-                Some(found) => expect_step(&rt, found, step, what),
-                None => assert!(rt; false, "{what}"),
-            }
-            let found = rivals.rival(rt.alloc(), number)?;
-            assert_eq!(rt; found.is_some(), rival.is_some(), "{what}");
-            if let (Some(found), Some(rival)) = (&found, rival) {
-                expect_rival(&rt, found, rival, what);
-            }
-        }
-        assert!(rt; rivals.rival(rt.alloc(), wanted.len())?.is_none(), "{what}");
+        let rivals = rivals_in(rt.alloc(), *length, words)?;
+        assert!(rt; are_rivals(rt.alloc(), &rivals, wanted)?, "{what}");
     }
     Ok(())
 }
@@ -152,58 +166,60 @@ fn rivals(rt: HostRuntime) -> Result<(), Fail> {
 /// Words of one byte each before a place, and further ones.
 fn letters_with(
     alloc: Global,
-    count: usize,
+    count: u16,
     further: &[WordRow],
-) -> Result<Vec<WordRow>, AllocError>
-    requires { count ≤ 2 ^ 16 }
-{
+) -> Result<Vec<WordRow>, AllocError> {
     let mut words = Vec::new(alloc);
-    for place in 0..count {
+    for place in 0..usize::from(count) {
         words.push((place, place + 1, 10))?;
     }
     words.extend_from_slice(further)?;
     Ok(words)
 }
 
+/// The cost of a rival, whether it begins and ends at the best path, how many steps it has, and the totals of the first and the last.
+type SumsRow = (i64, bool, bool, usize, i64, i64);
+
+/// Whether a rival has these sums.
+fn has_sums(rival: &RivalPath, (cost, begins, ends, count, first, last): &SumsRow) -> bool {
+    let (Some(of_first), Some(of_last)) = (rival.steps.first(), rival.steps.last()) else {
+        return false;
+    };
+    let is_long = rival.steps.len() == *count && rival.steps.len() <= 2 * STEPS_MAX + 1;
+    let is_cut = rival.begins == *begins && rival.ends == *ends && is_long;
+    is_cut && rival.cost == *cost && of_first.total == *first && of_last.total == *last
+}
+
+/// A name, the length of a text, how many letters it has and further words, the number of a word, and its rival.
+type CutOffRow<'a> = (&'a str, u16, u16, &'a [WordRow], usize, SumsRow);
+
+/// Whether a word in a text of letters has such a rival.
+fn is_cut_off(
+    alloc: Global,
+    (_what, length, letters, further, number, wanted): &CutOffRow<'_>,
+) -> Result<bool, AllocError> {
+    let words = letters_with(alloc, *letters, further)?;
+    let rivals = rivals_in(alloc, *length, &words)?;
+    Ok(match &rival_of(alloc, &rivals, *number)? {
+        Some(rival) => has_sums(rival, wanted),
+        None => false,
+    })
+}
+
 // Letter k after the first has the total 20 + 17 * k. A word in place of 40 letters: the first of them takes its place, and 32 stand behind it.
 // Two words in place of 34 letters and two words: one of these takes the place of the second, and 32 letters stand before it.
 #[rattlefmt::skip]
-static CUT_OFF: [(&str, u16, usize, &[WordRow], usize, i64, bool, bool, usize, i64, i64); 3] = [
-    // (what, length, letters, further words, the word's number, the rival's cost, whether it begins and ends, steps, totals of the first and the last)
-    ("40 letters for a word",           40, 40, &[(0, 40, 10)], 0, 688, true,  false, 33, 20, 564),
-    ("34 letters before another word",  37, 34, &[(0, 35, 10), (35, 37, 10), (34, 36, 10), (36, 37, 10)], 1, 620, false, true, 34, 54, 615),
-    ("33 letters for a word",           33, 33, &[(0, 33, 10)], 0, 569, true,  true,  33, 20, 564),
+static CUT_OFF: [CutOffRow<'static>; 3] = [
+    // (what, length, letters, further words, the word's number, (the rival's cost, whether it begins and ends, steps, totals of the first and the last))
+    ("40 letters for a word",           40, 40, &[(0, 40, 10)], 0, (688, true,  false, 33, 20, 564)),
+    ("34 letters before another word",  37, 34, &[(0, 35, 10), (35, 37, 10), (34, 36, 10), (36, 37, 10)], 1, (620, false, true, 34, 54, 615)),
+    ("33 letters for a word",           33, 33, &[(0, 33, 10)], 0, (569, true,  true,  33, 20, 564)),
 ];
 
 #[test]
 fn rivals_cut_off(rt: HostRuntime) -> Result<(), Fail> {
-    for (
-        what,
-        length,
-        letters,
-        further,
-        number,
-        cost,
-        begins,
-        ends,
-        count,
-        first,
-        last,
-    ) in &CUT_OFF {
-        let words = letters_with(rt.alloc(), *letters, further)?;
-        let sample = sample_of(rt.alloc(), *length, &words)?;
-        let rivals = rivals_of_sample(rt.alloc(), &sample)?;
-        let rival = rivals.rival(rt.alloc(), *number)?.expect(&rt, what);
-        assert_eq!(rt; rival.cost, *cost, "{what}");
-        assert_eq!(rt; rival.begins, *begins, "{what}");
-        assert_eq!(rt; rival.ends, *ends, "{what}");
-        assert_eq!(rt; rival.steps.len(), *count, "{what}");
-        assert!(rt; rival.steps.len() <= 2 * STEPS_MAX + 1, "{what}");
-        let totals = (
-            rival.steps.first().map(|step| step.total),
-            rival.steps.last().map(|step| step.total),
-        );
-        assert!(rt; totals == (Some(*first), Some(*last)), "{what}");
+    for row in &CUT_OFF {
+        assert!(rt; is_cut_off(rt.alloc(), row)?, "{}", row.0);
     }
     Ok(())
 }

@@ -163,3 +163,11 @@ pub fn sample_of(alloc: Global, length: u16, entries: &[WordRow]) -> Result<Samp
         words,
     })
 }
+
+/// Whether a word of a text has this number in the list.
+pub fn has_number(word: &Word, number: &usize) -> bool {
+    match word.origin {
+        Origin::Known { dict, token } => dict == *number && token == 0,
+        Origin::Unknown { .. } => false,
+    }
+}

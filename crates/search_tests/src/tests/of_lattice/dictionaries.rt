@@ -1,114 +1,95 @@
 //! Best paths over sources, with their totals.
 
+use super::asked::{expect_sums, path_in, path_over, sums_of};
+use crate::tests::dicts::{Changes, sample_with};
 use dict_image::Dict;
-use lattice::{Lattice, Path, best_path};
-use mj_model::{SENTENCE_MAX, Sources, Word, sample};
-use std::alloc::{AllocError, Global};
+use lattice::{Lattice, Path};
+use mj_model::{SENTENCE_MAX, Sources, sample};
+use std::alloc::Global;
 use std::process::Abort;
 use std::test::Fail;
-use test_samples::{letters, system, system_dict};
-use word_lookup::Dictionaries;
-
-/// The best path of a text, where the text is not too long.
-fn path_over(
-    alloc: Global,
-    dictionaries: &Dictionaries<'_>,
-    text: &str,
-) -> Result<Option<Path>, AllocError> {
-    if text.len() > SENTENCE_MAX {
-        return Ok(None);
-    }
-    let path = best_path(alloc, dictionaries, text)?;
-    Ok(Some(path))
-}
+use test_samples::{letters, overlay, system_dict};
 
 /// The best path of a text with a grouping, where these are not too large.
 fn path_of(alloc: Global, dict: &Dict, grouping: u16, text: &str) -> Result<Option<Path>, Fail> {
     if grouping > 1000 {
         return Ok(None);
     }
-    let dictionaries = Dictionaries::new(dict, &[])?.with_grouping(grouping);
+    let dictionaries = overlay(dict, &[])?.with_grouping(grouping);
     Ok(path_over(alloc, &dictionaries, text)?)
 }
 
-/// Whether these are the surfaces of words.
-fn are_surfaces(words: &[Word], text: &str, surfaces: &[&str]) -> bool {
-    let mut all = words.len() == surfaces.len();
-    for (word, surface) in words.iter().zip(surfaces.iter()) {
+/// Whether these are the surfaces of a path's words.
+fn has_surfaces(path: &Option<Path>, text: &str, surfaces: &[&str]) -> bool {
+    let Some(path) = path else {
+        return false;
+    };
+    let mut all = path.words.len() == surfaces.len();
+    for (word, surface) in path.words.iter().zip(surfaces.iter()) {
         all = all && text.get(word.start..word.end) == Some(*surface);
     }
     all
 }
 
-/// Asks for the best path of a text: these words at this total.
+/// A grouping, a text, and the total and the surfaces of its best path.
+type GroupingRow<'a> = (u16, &'a str, i64, &'a [&'a str]);
+
+/// Asks for the best path of a text.
 fn expect_path(
     rt: &(impl Abort + Alloc<A = Global>),
     what: &str,
-    (dict, grouping, text): (&Dict, u16, &str),
-    total: i64,
-    surfaces: &[&str],
+    dict: &Dict,
+    (grouping, text, total, surfaces): GroupingRow<'_>,
 ) -> Result<(), Fail> {
-    let Some(path) = path_of(rt.alloc(), dict, grouping, text)? else {
-        assert!(rt; false, "{what}");
-        return Ok(());
-    };
-    assert_eq!(rt; path.total, total, "{what}");
-    assert!(rt; are_surfaces(&path.words, text, surfaces), "{what}");
+    let path = path_of(rt.alloc(), dict, grouping, text)?;
+    assert_eq!(rt; sums_of(&path), Some((total, surfaces.len())), "{what}");
+    assert!(rt; has_surfaces(&path, text, surfaces), "{what}");
     Ok(())
 }
 
-/// Asks for how many words the best path of a text has, and for its total.
-fn expect_count(
-    rt: &(impl Abort + Alloc<A = Global>),
-    dictionaries: &Dictionaries<'_>,
-    text: &str,
-    total: i64,
-    words: usize,
-) -> Result<(), Fail> {
-    let Some(path) = path_over(rt.alloc(), dictionaries, text)? else {
-        assert!(rt; false, "{words}");
-        return Ok(());
-    };
-    assert_eq!(rt; path.total, total, "{words}");
-    assert_eq!(rt; path.words.len(), words, "{words}");
-    Ok(())
-}
-
-/// The sample's dictionary with a further line of `char.def`, and with a lexicon in place of its own.
-fn dict_with(alloc: Global, line: &str, lexicon: Option<&str>) -> Result<Dict, Fail> {
-    match lexicon {
-        Some(lexicon) => system(alloc, line, &[lexicon.as_bytes()]),
-        None => system(alloc, line, sample().lexicons),
-    }
-}
+/// A name, what is changed of the sample's dictionary, a text, and the total and the surfaces of its best path.
+type PathRow<'a> = (&'a str, Changes<'a>, &'a str, i64, &'a [&'a str]);
 
 const TIE: Option<&str> = Some("a,1,1,10,X\nb,1,1,10,X\nab,1,1,27,X\n");
 
 const WITH_BLANK: Option<&str> = Some("すもも,1,1,100,X\nも,1,1,20,X\nもも,1,1,30,X\nも ,1,1,500,Z\n");
 
 #[rattlefmt::skip]
-static BEST_PATHS: [(&str, &str, Option<&str>, &str, i64, &[&str]); 12] = [
-    // (what, a line of char.def, a lexicon in place of the sample's, text, total, surfaces)
-    ("sumomo", "", None, "すもももも", 152, &["すもも", "もも"]),
-    ("only_blanks", "", None, "   ", 0, &[]),
-    ("tie_later_place", "", TIE, "ab", 42, &["a", "b"]),
-    ("tokyo_tie", "", None, "東京都", 2022, &["東京", "都"]),
-    ("katakana_group_and_length", "", None, "アイ", 1015, &["アイ"]),
-    ("chain_over_prolonged_mark", "0x30FC KATAKANA HIRAGANA\n", None, "アーす", 1015, &["アーす"]),
-    ("ends_later", "", WITH_BLANK, "も ", 515, &["も "]),
-    ("beyond_the_basic_plane", "", None, "𠮷野", 2022, &["𠮷", "野"]),
-    ("U+0000 is itself alone", "0x0000 KANJI\n", None, "𠮷野", 2022, &["𠮷", "野"]),
-    ("mapped beyond the basic plane", "0x20000..0x2A6DF KANJI\n", None, "𠮷野", 1015, &["𠮷野"]),
-    ("U+FFFF may be mapped", "0xFFFF KANJI\n", None, "も", 35, &["も"]),
-    ("empty_lexicon", "", Some(""), "も", 1015, &["も"]),
+static BEST_PATHS: [PathRow<'static>; 12] = [
+    // (what, (a line of char.def, a lexicon in place of the sample's), text, total, surfaces)
+    ("sumomo", ("", None), "すもももも", 152, &["すもも", "もも"]),
+    ("only_blanks", ("", None), "   ", 0, &[]),
+    ("tie_later_place", ("", TIE), "ab", 42, &["a", "b"]),
+    ("tokyo_tie", ("", None), "東京都", 2022, &["東京", "都"]),
+    ("katakana_group_and_length", ("", None), "アイ", 1015, &["アイ"]),
+    ("chain_over_prolonged_mark", ("0x30FC KATAKANA HIRAGANA\n", None), "アーす", 1015, &["アーす"]),
+    ("ends_later", ("", WITH_BLANK), "も ", 515, &["も "]),
+    ("beyond_the_basic_plane", ("", None), "𠮷野", 2022, &["𠮷", "野"]),
+    ("U+0000 is itself alone", ("0x0000 KANJI\n", None), "𠮷野", 2022, &["𠮷", "野"]),
+    ("mapped beyond the basic plane", ("0x20000..0x2A6DF KANJI\n", None), "𠮷野", 1015, &["𠮷野"]),
+    ("U+FFFF may be mapped", ("0xFFFF KANJI\n", None), "も", 35, &["も"]),
+    ("empty_lexicon", ("", Some("")), "も", 1015, &["も"]),
 ];
 
 #[test]
 fn best_paths(rt: HostRuntime) -> Result<(), Fail> {
-    for (what, line, lexicon, text, total, surfaces) in &BEST_PATHS {
-        let dict = dict_with(rt.alloc(), line, *lexicon)?;
-        expect_path(&rt, what, (&dict, 24, text), *total, surfaces)?;
+    for (what, changes, text, total, surfaces) in &BEST_PATHS {
+        let dict = sample_with(rt.alloc(), *changes)?;
+        expect_path(&rt, what, &dict, (24, text, *total, surfaces))?;
     }
+    Ok(())
+}
+
+/// Asks for how many words the best path of so many letters has, and for its total.
+fn expect_letters(
+    rt: &(impl Abort + Alloc<A = Global>),
+    dict: &Dict,
+    grouping: u16,
+    (count, total, words): (usize, i64, usize),
+) -> Result<(), Fail> {
+    let text = letters(rt.alloc(), count)?;
+    let path = path_of(rt.alloc(), dict, grouping, text.as_str())?;
+    expect_sums(rt, &path, total, words);
     Ok(())
 }
 
@@ -119,7 +100,7 @@ const LETTERS_26: &str = "zzzzzzzzzzzzzzzzzzzzzzzzzz";
 const LETTERS_27: &str = "zzzzzzzzzzzzzzzzzzzzzzzzzzz";
 
 #[rattlefmt::skip]
-static GROUPING_LIMIT: [(u16, &str, i64, &[&str]); 8] = [
+static GROUPING_LIMIT: [GroupingRow<'static>; 8] = [
     // (grouping, text, total, surfaces)
     (24, LETTERS_25, 1015, &[LETTERS_25]),
     (24, LETTERS_26, 2022, &["z", LETTERS_25]),
@@ -134,24 +115,29 @@ static GROUPING_LIMIT: [(u16, &str, i64, &[&str]); 8] = [
 #[test]
 fn grouping_limit(rt: HostRuntime) -> Result<(), Fail> {
     let dict = system_dict(rt.alloc(), &sample())?;
-    for (grouping, text, total, surfaces) in &GROUPING_LIMIT {
-        expect_path(&rt, text, (&dict, *grouping, text), *total, surfaces)?;
+    for row in &GROUPING_LIMIT {
+        expect_path(&rt, row.1, &dict, *row)?;
     }
     // The greatest grouping makes 1,001 letters one word.
-    let long = letters(rt.alloc(), 1001)?;
-    let greatest = Dictionaries::new(&dict, &[])?.with_grouping(1000);
-    expect_count(&rt, &greatest, long.as_str(), 1015, 1)
+    expect_letters(&rt, &dict, 1000, (1001, 1015, 1))
 }
 
-#[test]
-fn asymmetric_matrix(rt: HostRuntime) -> Result<(), Fail> {
+/// A dictionary of two right ids and three left ids.
+fn asymmetric(alloc: Global) -> Result<Dict, Fail> {
     let sources = Sources {
         matrix: b"2 3\n0 2 100\n1 0 9\n",
         lexicons: &["も,2,1,20,X\n".as_bytes()],
         ..sample()
     };
-    let dict = system_dict(rt.alloc(), &sources)?;
-    expect_path(&rt, "も", (&dict, 24, "も"), 129, &["も"])
+    system_dict(alloc, &sources)
+}
+
+static ASYMMETRIC: GroupingRow<'static> = (24, "も", 129, &["も"]);
+
+#[test]
+fn asymmetric_matrix(rt: HostRuntime) -> Result<(), Fail> {
+    let dict = asymmetric(rt.alloc())?;
+    expect_path(&rt, "も", &dict, ASYMMETRIC)
 }
 
 static LONGEST_LINE: [(usize, i64, usize); 3] = [
@@ -164,10 +150,8 @@ static LONGEST_LINE: [(usize, i64, usize); 3] = [
 #[test]
 fn longest_line(rt: HostRuntime) -> Result<(), Fail> {
     let dict = system_dict(rt.alloc(), &sample())?;
-    let dictionaries = Dictionaries::new(&dict, &[])?;
-    for (bytes, total, words) in &LONGEST_LINE {
-        let text = letters(rt.alloc(), *bytes)?;
-        expect_count(&rt, &dictionaries, text.as_str(), *total, *words)?;
+    for row in &LONGEST_LINE {
+        expect_letters(&rt, &dict, 24, *row)?;
     }
     Ok(())
 }
@@ -176,16 +160,24 @@ fn longest_line(rt: HostRuntime) -> Result<(), Fail> {
 fn expect_best(
     rt: &impl Abort,
     lattice: &mut Lattice,
-    dictionaries: &Dictionaries<'_>,
-    text: &str,
-    total: i64,
-    words: usize,
-) -> Result<(), AllocError> {
-    assert!(rt; text.len() <= SENTENCE_MAX);
-    let path = lattice.best(dictionaries, text)?;
-    assert_eq!(rt; path.total, total, "{words}");
-    assert_eq!(rt; path.words.len(), words, "{words}");
+    dict: &Dict,
+    (text, total, words): (&str, i64, usize),
+) -> Result<(), Fail> {
+    let dictionaries = overlay(dict, &[])?;
+    let path = path_in(lattice, &dictionaries, text)?;
+    expect_sums(rt, &path, total, words);
     Ok(())
+}
+
+/// Asks a lattice for the best path of a long text.
+fn expect_long(
+    rt: &(impl Abort + Alloc<A = Global>),
+    lattice: &mut Lattice,
+    dict: &Dict,
+) -> Result<(), Fail> {
+    let long = letters(rt.alloc(), 65_535)?;
+    let row = (long.as_str(), 65_969_585, 65_511);
+    expect_best(rt, lattice, dict, row)
 }
 
 static SHORTER_LINES: [(&str, i64, usize); 2] = [
@@ -196,14 +188,11 @@ static SHORTER_LINES: [(&str, i64, usize); 2] = [
 
 #[test]
 fn one_lattice(rt: HostRuntime) -> Result<(), Fail> {
-    let long = letters(rt.alloc(), 65_535)?;
     let dict = system_dict(rt.alloc(), &sample())?;
-    let dictionaries = Dictionaries::new(&dict, &[])?;
     let mut lattice = Lattice::new(rt.alloc());
-    let text = long.as_str();
-    expect_best(&rt, &mut lattice, &dictionaries, text, 65_969_585, 65_511)?;
-    for (text, total, words) in &SHORTER_LINES {
-        expect_best(&rt, &mut lattice, &dictionaries, text, *total, *words)?;
+    expect_long(&rt, &mut lattice, &dict)?;
+    for row in &SHORTER_LINES {
+        expect_best(&rt, &mut lattice, &dict, *row)?;
     }
     Ok(())
 }

@@ -1,12 +1,13 @@
 //! Best paths whose growths of memory `tools/growths` counts and compares.
 
+use super::asked::{expect_sums, path_in};
+use dict_image::Dict;
 use lattice::Lattice;
-use mj_model::{SENTENCE_MAX, sample};
+use mj_model::sample;
 use std::alloc::Global;
 use std::process::Abort;
 use std::test::Fail;
-use test_samples::{letters, system_dict};
-use word_lookup::Dictionaries;
+use test_samples::{letters, overlay, system_dict};
 
 /// How many letters a text has.
 const LETTERS: usize = 2_000;
@@ -20,26 +21,25 @@ const TOTAL: i64 = 1_989_840;
 /// Asks a new lattice so many times.
 fn ask_lattice(
     rt: &(impl Abort + Alloc<A = Global>),
-    dictionaries: &Dictionaries<'_>,
+    dict: &Dict,
     text: &str,
     calls: usize,
 ) -> Result<(), Fail> {
-    assert!(rt; text.len() <= SENTENCE_MAX);
+    let dictionaries = overlay(dict, &[])?;
     let mut lattice = Lattice::new(rt.alloc());
     for _call in 0..calls {
-        let path = lattice.best(dictionaries, text)?;
-        assert_eq!(rt; (path.total, path.words.len()), (TOTAL, WORDS));
+        let path = path_in(&mut lattice, &dictionaries, text)?;
+        expect_sums(rt, &path, TOTAL, WORDS);
     }
     Ok(())
 }
 
 /// Asks so many lattices, each so many times.
 fn ask(rt: &(impl Abort + Alloc<A = Global>), lattices: usize, calls: usize) -> Result<(), Fail> {
-    let dict = system_dict(rt.alloc(), &sample())?;
-    let dictionaries = Dictionaries::new(&dict, &[])?;
     let text = letters(rt.alloc(), LETTERS)?;
+    let dict = system_dict(rt.alloc(), &sample())?;
     for _lattice in 0..lattices {
-        ask_lattice(rt, &dictionaries, text.as_str(), calls)?;
+        ask_lattice(rt, &dict, text.as_str(), calls)?;
     }
     Ok(())
 }

@@ -1,12 +1,10 @@
 //! Blanks and categories.
 
 use super::expected_words::is_at;
-use mj_model::sample;
+use crate::tests::dicts::sample_with;
 use std::alloc::Global;
-use std::process::Abort;
 use std::test::Fail;
-use test_samples::system;
-use word_lookup::Dictionaries;
+use test_samples::overlay;
 
 /// The place behind the blanks of a place, over the sample's dictionary with a further line of `char.def`.
 fn blanks_behind(
@@ -15,8 +13,8 @@ fn blanks_behind(
     text: &str,
     place: usize,
 ) -> Result<Option<usize>, Fail> {
-    let system = system(alloc, line, sample().lexicons)?;
-    let dictionaries = Dictionaries::new(&system, &[])?;
+    let system = sample_with(alloc, (line, None))?;
+    let dictionaries = overlay(&system, &[])?;
     if is_at(text, place) {
         Ok(Some(dictionaries.blanks(text, place)))
     } else {
@@ -45,18 +43,11 @@ fn blanks(rt: HostRuntime) -> Result<(), Fail> {
     Ok(())
 }
 
-/// Asks for the categories of a character, and for the first of them.
-fn expect_categories(
-    rt: &(impl Abort + Alloc<A = Global>),
-    what: &str,
-    line: &str,
-    c: char,
-    categories: (u32, u8),
-) -> Result<(), Fail> {
-    let system = system(rt.alloc(), line, sample().lexicons)?;
-    let info = Dictionaries::new(&system, &[])?.info(c);
-    assert_eq!(rt; (info.bits, info.first()), categories, "{what}");
-    Ok(())
+/// The categories of a character, and the first of them.
+fn categories_of(alloc: Global, line: &str, c: char) -> Result<(u32, u8), Fail> {
+    let system = sample_with(alloc, (line, None))?;
+    let info = overlay(&system, &[])?.info(c);
+    Ok((info.bits, info.first()))
 }
 
 #[rattlefmt::skip]
@@ -72,7 +63,8 @@ static CATEGORIES: [(&str, &str, char, (u32, u8)); 5] = [
 #[test]
 fn categories(rt: HostRuntime) -> Result<(), Fail> {
     for (what, line, c, categories) in &CATEGORIES {
-        expect_categories(&rt, what, line, *c, *categories)?;
+        let found = categories_of(rt.alloc(), line, *c)?;
+        assert_eq!(rt; found, *categories, "{what}");
     }
     Ok(())
 }

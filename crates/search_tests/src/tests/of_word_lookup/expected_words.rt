@@ -3,8 +3,11 @@
 ghost use Rattle.std.specs.Prelude.{IsTrue};
 ghost use Rattle.paths.specs.Words.{is_place};
 
+use dict_image::Dict;
 use mj_model::{Origin, Word};
 use std::alloc::{AllocError, Global};
+use std::test::Fail;
+use test_samples::overlay;
 use word_lookup::Dictionaries;
 
 /// A word, by the bytes from which and up to which its surface stands.
@@ -58,17 +61,41 @@ pub fn are_expected(
     all
 }
 
+/// Appends the words of a place, where a character begins or the text ends there.
+pub fn add_words(
+    alloc: Global,
+    dictionaries: &Dictionaries<'_>,
+    text: &str,
+    place: usize,
+    out: &mut Vec<Word>,
+) -> Result<(), AllocError> {
+    if is_at(text, place) {
+        dictionaries.words_at(alloc, text, place, out)?;
+    }
+    Ok(())
+}
+
 /// Whether these are the words of a place.
 pub fn are_words(
     alloc: Global,
-    dictionaries: Dictionaries<'_>,
+    dictionaries: &Dictionaries<'_>,
     text: &str,
     place: usize,
     expected: &[Expected],
 ) -> Result<bool, AllocError> {
     let mut words = Vec::new(alloc);
-    if is_at(text, place) {
-        dictionaries.words_at(alloc, text, place, &mut words)?;
-    }
-    Ok(are_expected(&words, &dictionaries, place, expected))
+    add_words(alloc, dictionaries, text, place, &mut words)?;
+    Ok(are_expected(&words, dictionaries, place, expected))
+}
+
+/// Whether these are the words of a place, over dictionaries of a system and of users.
+pub fn has_words(
+    alloc: Global,
+    (system, users): (&Dict, &[Dict]),
+    text: &str,
+    place: usize,
+    expected: &[Expected],
+) -> Result<bool, Fail> {
+    let dictionaries = overlay(system, users)?;
+    Ok(are_words(alloc, &dictionaries, text, place, expected)?)
 }

@@ -1,14 +1,14 @@
 //! Words of places of one text that are asked for in turn.
 
+ghost use Rattle.std.specs.Prelude.{◌≤◌};
 ghost use Rattle.word_lookup.specs.CharacterRuns.{AreRunsOver};
 ghost use Rattle.word_lookup.specs.Overlays.{overlay_of};
 
 use super::expected_words::is_at;
 use mj_model::sample;
 use std::alloc::{AllocError, Global};
-use std::process::Abort;
 use std::test::Fail;
-use test_samples::system;
+use test_samples::{overlay, system};
 use word_lookup::{Dictionaries, LastRuns, Surface};
 
 /// Whether the words of a place end there, in this order.
@@ -63,16 +63,10 @@ const TAB: &str = "0x0009 SPACE ALPHA\n";
 const RANGES: &str = "0x20000..0x20001 ALPHA\n0x20002..0x20003 ALPHA KATAKANA\n0x20004 KATAKANA\n";
 
 /// What is asked, further lines of `char.def`, the grouping, a text, and its places with the ends of the words there.
-type Row = (
-    &'static str,
-    &'static str,
-    u16,
-    &'static str,
-    &'static [(usize, &'static [usize])],
-);
+type Row<'a> = (&'a str, &'a str, u16, &'a str, &'a [(usize, &'a [usize])]);
 
 #[rattlefmt::skip]
-static IN_TURN: [Row; 14] = [
+static IN_TURN: [Row<'static>; 14] = [
     ("each place of a run", "", 24, "zzz", &[(0, &[3]), (1, &[3]), (2, &[3])]),
     ("a run that is longer than the grouping", "", 2, "zzzzzz",
         &[(0, &[1]), (1, &[2]), (2, &[3]), (3, &[6]), (4, &[6]), (5, &[6])]),
@@ -93,13 +87,26 @@ static IN_TURN: [Row; 14] = [
     ("over ranges", RANGES, 24, "\u{20001}\u{20002}\u{20004}", &[(0, &[12]), (4, &[12]), (8, &[12])]),
 ];
 
+/// The first of the places of a text at which words end elsewhere, over the sample's dictionary with further lines of `char.def`.
+fn other_of(
+    alloc: Global,
+    lines: &str,
+    grouping: u16,
+    text: &str,
+    places: &[(usize, &[usize])],
+) -> Result<Option<usize>, Fail>
+    requires { grouping ≤ 1000 }
+{
+    let system = system(alloc, lines, sample().lexicons)?;
+    let dictionaries = overlay(&system, &[])?.with_grouping(grouping);
+    Ok(first_other(alloc, &dictionaries, text, places)?)
+}
+
 #[test]
 fn words_in_turn(rt: HostRuntime) -> Result<(), Fail> {
     for (what, lines, grouping, text, places) in &IN_TURN {
-        let system = system(rt.alloc(), lines, sample().lexicons)?;
         assert!(rt; *grouping <= 1000);
-        let dictionaries = Dictionaries::new(&system, &[])?.with_grouping(*grouping);
-        let other = first_other(rt.alloc(), &dictionaries, text, places)?;
+        let other = other_of(rt.alloc(), lines, *grouping, text, places)?;
         assert_eq!(rt; other, None, "{what}");
     }
     Ok(())

@@ -1,35 +1,47 @@
 //! Users' dictionaries over a system's.
 
-use super::expected_words::Expected::{Known, User};
-use super::expected_words::are_words;
+use super::expected_words::Expected::{self, Known, User};
+use super::expected_words::has_words;
 use dict_image::Dict;
 use mj_model::{Origin, OverlayFault, Sources, Word, sample};
 use std::alloc::Global;
 use std::process::Abort;
 use std::test::Fail;
-use test_samples::{system, system_dict, user};
+use test_samples::{overlay, system, system_dict, user};
 use word_lookup::Dictionaries;
 
 /// The one line of a user's lexicon.
 const USER: &str = "もも,1,1,1,名詞,ユーザ\n";
 
+#[rattlefmt::skip]
+static WORDS: [Expected; 4] = [
+    Known(0, 3, 20, "助詞,も"),
+    Known(0, 6, 30, "名詞,もも"),
+    User(1, 0, 6, 1, "名詞,ユーザ"),
+    User(2, 0, 6, 1, "名詞,ユーザ"),
+];
+
+/// So many dictionaries of users for a system.
+fn users_of(alloc: Global, system: &Dict, count: usize) -> Result<Vec<Dict>, Fail> {
+    let mut users = Vec::new(alloc);
+    for _user in 0..count {
+        add_user(alloc, &mut users, system)?;
+    }
+    Ok(users)
+}
+
+/// Whether a text has the words of the sample's system and one of each of so many users.
+fn has_words_of(alloc: Global, count: usize) -> Result<bool, Fail> {
+    let system = system(alloc, "", sample().lexicons)?;
+    let users = users_of(alloc, &system, count)?;
+    let expected = WORDS.get(..count.saturating_add(2)).unwrap_or(&[]);
+    has_words(alloc, (&system, &users), "もも", 0, expected)
+}
+
 #[test]
 fn words_of_users(rt: HostRuntime) -> Result<(), Fail> {
-    let system = system(rt.alloc(), "", sample().lexicons)?;
-    let mut users: Vec<Dict> = Vec::new(rt.alloc());
-    let all = [
-        Known(0, 3, 20, "助詞,も"),
-        Known(0, 6, 30, "名詞,もも"),
-        User(1, 0, 6, 1, "名詞,ユーザ"),
-        User(2, 0, 6, 1, "名詞,ユーザ"),
-    ];
-    for count in 0..3_usize {
-        let dictionaries = Dictionaries::new(&system, &users)?;
-        assert!(rt;
-            are_words(rt.alloc(), dictionaries, "もも", 0, &all[..2 + count])?,
-            "{count} users"
-        );
-        users.push(user(rt.alloc(), &system, USER)?)?;
+    for count in 0..3 {
+        assert!(rt; has_words_of(rt.alloc(), count)?, "{count} users");
     }
     Ok(())
 }
@@ -43,56 +55,54 @@ fn wide_system(alloc: Global) -> Result<Dict, Fail> {
     system_dict(alloc, &sources)
 }
 
-/// The sample's dictionary, and a user's for another system.
-fn system_and_user(alloc: Global, other: &Dict) -> Result<[Dict; 2], Fail> {
-    Ok([
-        system(alloc, "", sample().lexicons)?,
-        user(alloc, other, USER)?,
-    ])
+/// Adds a user's dictionary for a system.
+fn add_user(alloc: Global, dicts: &mut Vec<Dict>, system: &Dict) -> Result<(), Fail> {
+    dicts.push(user(alloc, system, USER)?)?;
+    Ok(())
 }
 
-/// Users' dictionaries for two systems, and the sample's.
-fn users_and_system(alloc: Global, first: &Dict, second: &Dict) -> Result<[Dict; 3], Fail> {
-    Ok([
-        user(alloc, first, USER)?,
-        user(alloc, second, USER)?,
-        system(alloc, "", sample().lexicons)?,
-    ])
+/// A user's dictionary for the sample's system and one for the wide system, the sample's system, the second once more, and the wide system.
+fn dicts(alloc: Global) -> Result<Vec<Dict>, Fail> {
+    let mut dicts = Vec::new(alloc);
+    let system = system(alloc, "", sample().lexicons)?;
+    let wide = wide_system(alloc)?;
+    add_user(alloc, &mut dicts, &system)?;
+    add_user(alloc, &mut dicts, &wide)?;
+    dicts.push(system)?;
+    add_user(alloc, &mut dicts, &wide)?;
+    dicts.push(wide)?;
+    Ok(dicts)
 }
 
-/// A name, a system, the users over it, and the fault.
-type Row<'a> = (&'a str, &'a Dict, &'a [Dict], OverlayFault);
+/// A name, the number of a system among the dictionaries, from which and up to which users stand over it, and the fault.
+type Row<'a> = (&'a str, usize, (usize, usize), OverlayFault);
 
-fn expect_refusals(rt: &impl Abort, rows: &[Row<'_>]) {
-    for (what, laid_under, users, fault) in rows {
-        assert_eq!(rt;
-            Dictionaries::new(laid_under, users).err(),
-            Some(*fault),
-            "{what}"
-        );
+#[rattlefmt::skip]
+static REFUSED_OVERLAYS: [Row<'static>; 6] = [
+    // (what, system, users, fault)
+    ("user as system",                  0, (0, 0), OverlayFault::NotSystem),
+    ("user as system before its users", 0, (2, 4), OverlayFault::NotSystem),
+    ("system as user",                  2, (2, 4), OverlayFault::NotUser(0)),
+    ("user of sizes 2 3",               2, (1, 2), OverlayFault::OtherSizes(0)),
+    ("the first of two faults",         2, (0, 3), OverlayFault::OtherSizes(1)),
+    ("system of sizes 2 3 as user",     2, (4, 5), OverlayFault::NotUser(0)),
+];
+
+/// What a system and users over it, by their numbers, are refused for.
+fn refused(dicts: &[Dict], system: usize, (from, to): (usize, usize)) -> Option<OverlayFault> {
+    match (dicts.get(system), dicts.get(from..to)) {
+        (Some(system), Some(users)) => overlay(system, users).err(),
+        _ => None,
     }
 }
 
 #[test]
 fn refused_overlays(rt: HostRuntime) -> Result<(), Fail> {
-    let first = system(rt.alloc(), "", sample().lexicons)?;
-    let wide = wide_system(rt.alloc())?;
-    let fitting = user(rt.alloc(), &first, USER)?;
-    let wide_users = [user(rt.alloc(), &wide, USER)?];
-    let system_users = system_and_user(rt.alloc(), &wide)?;
-    let mixed_users = users_and_system(rt.alloc(), &first, &wide)?;
-    let wide_system_users = [wide_system(rt.alloc())?];
-    #[rattlefmt::skip]
-    let rows: [Row<'_>; 6] = [
-        // (what, system, users, fault)
-        ("user as system", &fitting, &[], OverlayFault::NotSystem),
-        ("user as system before its users", &fitting, &system_users, OverlayFault::NotSystem),
-        ("system as user", &first, &system_users, OverlayFault::NotUser(0)),
-        ("user of sizes 2 3", &first, &wide_users, OverlayFault::OtherSizes(0)),
-        ("the first of two faults", &first, &mixed_users, OverlayFault::OtherSizes(1)),
-        ("system of sizes 2 3 as user", &first, &wide_system_users, OverlayFault::NotUser(0)),
-    ];
-    expect_refusals(&rt, &rows);
+    let dicts = dicts(rt.alloc())?;
+    for (what, system, users, fault) in &REFUSED_OVERLAYS {
+        let refused = refused(&dicts, *system, *users);
+        assert_eq!(rt; refused, Some(*fault), "{what}");
+    }
     Ok(())
 }
 
@@ -131,7 +141,7 @@ static FEATURES: [(&str, Origin, &str); 7] = [
 #[test]
 fn features_of_numbers(rt: HostRuntime) -> Result<(), Fail> {
     let system = system(rt.alloc(), "", sample().lexicons)?;
-    let dictionaries = Dictionaries::new(&system, &[])?;
+    let dictionaries = overlay(&system, &[])?;
     for (what, origin, feature) in &FEATURES {
         expect_feature(&rt, what, &dictionaries, *origin, feature);
     }

@@ -1,0 +1,33 @@
+//! Images and their dictionaries, for tests that ask them nothing of what they were made of.
+
+use crate::layouts::in_layout;
+use dict_compile::{compile, compile_user};
+use dict_image::{Dict, load};
+use mj_model::Sources;
+use std::alloc::Global;
+use std::test::Fail;
+
+/// The image of sources.
+pub fn image(alloc: Global, sources: &Sources<'_>) -> Result<Vec<u8>, Fail> {
+    Ok(compile(alloc, sources)?.image)
+}
+
+/// The image of a user's lexicon, for the ids of a system.
+pub fn user_image(alloc: Global, system: &Dict, lexicon: &str) -> Result<Vec<u8>, Fail> {
+    Ok(compile_user(alloc, system, &[lexicon.as_bytes()])?.image)
+}
+
+/// The dictionary of an image.
+pub fn loaded(alloc: Global, image: Vec<u8>) -> Result<Dict, Fail> {
+    Ok(load(alloc, image)?)
+}
+
+/// The dictionary of a compiled image in a layout. The surfaces are those of its lexicon, in rising byte order.
+pub fn loaded_in(
+    alloc: Global,
+    layout: u32,
+    image: &[u8],
+    surfaces: &[&str],
+) -> Result<Dict, Fail> {
+    loaded(alloc, in_layout(alloc, image, layout, surfaces)?)
+}
