@@ -8,8 +8,7 @@ use std::io;
 use std::io::Read;
 use std::process::Abort;
 use std::test::Fail;
-use test_samples::system_dict;
-use word_lookup::Dictionaries;
+use test_samples::{overlay, system_dict};
 use words_printer::{LineMemory, WordsPrinter};
 
 /// Gives a byte a read.
@@ -39,7 +38,7 @@ fn expect_bounded(
     let system = system_dict(rt.alloc(), &sample())?;
     let printer = WordsPrinter {
         alloc: rt.alloc(),
-        dictionaries: Dictionaries::new(&system, &[])?,
+        dictionaries: overlay(&system, &[])?,
         format,
     };
     let mut kept = LineMemory::new(rt.alloc());

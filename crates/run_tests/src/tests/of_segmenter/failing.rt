@@ -54,9 +54,19 @@ type Writes = (usize, usize, bool, bool, ErrorKind);
 /// A name, a writer, the answer of a run to it, how many bytes it takes, and how many flushes it is asked for.
 type WriterRow = (&'static str, Writes, Result<u64, RunFault>, usize, u64);
 
+/// Whether a run ended as its row says, without a failed read, and what it wrote is the beginning of the output.
+fn is_ended(got: &Ended, out: &StepWriter, row: &WriterRow) -> bool {
+    let (_what, _writes, answer, taken, flushes) = *row;
+    let failed_writes = if answer.is_ok() { 0 } else { 1 };
+    let are_failures = got.failed_reads == 0 && got.failed_writes == failed_writes;
+    let are_flushes = got.flushes == flushes && out.flushes == flushes;
+    let is_taken = Some(out.taken.as_slice()) == SUMOMO_OUTPUT.as_bytes().get(..taken);
+    got.answer == answer && are_failures && are_flushes && is_taken
+}
+
 /// Asks how a run of the sample line ends.
 fn expect_writer(rt: &(impl Abort + Alloc<A = Global>), row: &WriterRow) -> Result<(), Fail> {
-    let (what, (step, room, silent, flush_fails, failure), answer, taken, flushes) = *row;
+    let (what, (step, room, silent, flush_fails, failure), ..) = *row;
     let mut out = StepWriter {
         silent,
         flush_fails,
@@ -64,18 +74,7 @@ fn expect_writer(rt: &(impl Abort + Alloc<A = Global>), row: &WriterRow) -> Resu
         ..writer(rt.alloc(), step, room)
     };
     let got = run(rt.alloc(), reader(SUMOMO.as_bytes(), 1, None), &mut out)?;
-    let failed_writes = if answer.is_ok() { 0 } else { 1 };
-    assert!(rt; got.answer == answer, "{what}");
-    assert_eq!(rt;
-        (got.failed_reads, got.failed_writes),
-        (0, failed_writes),
-        "{what}"
-    );
-    assert_eq!(rt; (got.flushes, out.flushes), (flushes, flushes), "{what}");
-    assert!(rt;
-        Some(out.taken.as_slice()) == SUMOMO_OUTPUT.as_bytes().get(..taken),
-        "{what}"
-    );
+    assert!(rt; is_ended(&got, &out, row), "{what}");
     Ok(())
 }
 
@@ -102,6 +101,19 @@ fn failing_writers(rt: HostRuntime) -> Result<(), Fail> {
     Ok(())
 }
 
+/// Whether a run of the sample line ended at the failure of its read of this number, with nothing else failed.
+fn is_failed_read(got: &Ended, out: &StepWriter, read: u64) -> bool {
+    let (line, output) = if read < 17 {
+        (1, "")
+    } else {
+        (2, SUMOMO_OUTPUT)
+    };
+    let are_reads = got.reads == read && got.failed_reads == 1;
+    let are_writes = got.failed_writes == 0 && got.flushes == 0;
+    let is_taken = out.taken.as_slice() == output.as_bytes();
+    got.answer == Err(RunFault::Read(line)) && are_reads && are_writes && is_taken
+}
+
 /// Asks how a run of the sample line ends whose read of this number fails.
 fn expect_failed_read(
     rt: &(impl Abort + Alloc<A = Global>),
@@ -114,15 +126,7 @@ fn expect_failed_read(
         ..reader(SUMOMO.as_bytes(), 1, Some(read))
     };
     let got = run(rt.alloc(), input, &mut out)?;
-    let (line, output) = if read < 17 {
-        (1, "")
-    } else {
-        (2, SUMOMO_OUTPUT)
-    };
-    assert!(rt; got.answer == Err(RunFault::Read(line)), "read {read}");
-    assert_eq!(rt; (got.reads, got.failed_reads), (read, 1), "read {read}");
-    assert_eq!(rt; (got.failed_writes, got.flushes), (0, 0), "read {read}");
-    assert!(rt; out.taken.as_slice() == output.as_bytes(), "read {read}");
+    assert!(rt; is_failed_read(&got, &out, read), "read {read}");
     Ok(())
 }
 
@@ -136,20 +140,17 @@ fn failing_readers(rt: HostRuntime) -> Result<(), Fail> {
     Ok(())
 }
 
-/// Asks how a run of a text ends whose line 2 is at fault, or whose read of this number fails.
-fn expect_fault_behind_line_1(
-    rt: &(impl Abort + Alloc<A = Global>),
-    what: &str,
+/// Whether a run of a text whose line 2 is at fault, or whose read of this number fails, ends so behind the output of line 1.
+fn is_fault_behind_line_1(
+    alloc: Global,
     text: &[u8],
     fails_at: Option<u64>,
     fault: RunFault,
-) -> Result<(), Fail> {
-    let mut out = writer(rt.alloc(), usize::MAX, usize::MAX);
-    let got = run(rt.alloc(), reader(text, usize::MAX, fails_at), &mut out)?;
-    assert!(rt; got.answer == Err(fault), "{what}");
-    assert_eq!(rt; got.flushes, 0, "{what}");
-    assert!(rt; out.taken.as_slice() == MO_OUTPUT.as_bytes(), "{what}");
-    Ok(())
+) -> Result<bool, AllocError> {
+    let mut out = writer(alloc, usize::MAX, usize::MAX);
+    let got = run(alloc, reader(text, usize::MAX, fails_at), &mut out)?;
+    let is_taken = out.taken.as_slice() == MO_OUTPUT.as_bytes();
+    Ok(got.answer == Err(fault) && got.flushes == 0 && is_taken)
 }
 
 #[rattlefmt::skip]
@@ -162,26 +163,22 @@ static FAULTS_BEHIND_LINE_1: [(&str, &[u8], Option<u64>, RunFault); 2] = [
 #[test]
 fn faults_behind_line_1(rt: HostRuntime) -> Result<(), Fail> {
     for (what, text, fails_at, fault) in &FAULTS_BEHIND_LINE_1 {
-        expect_fault_behind_line_1(&rt, what, text, *fails_at, *fault)?;
+        let is_told = is_fault_behind_line_1(rt.alloc(), text, *fails_at, *fault)?;
+        assert!(rt; is_told, "{what}");
     }
     Ok(())
 }
 
-/// Asks how a run of three lines ends that come so many bytes a read, with so much room for what they print, and after how many reads.
-fn expect_reads(
-    rt: &(impl Abort + Alloc<A = Global>),
-    what: &str,
+/// How a run of three lines ends that come so many bytes a read, with so much room for what they print, and after how many reads.
+fn answer_and_reads(
+    alloc: Global,
     step: usize,
     room: usize,
-    answer: Result<u64, RunFault>,
-    reads: u64,
-) -> Result<(), Fail> {
-    let mut out = writer(rt.alloc(), usize::MAX, room);
+) -> Result<(Result<u64, RunFault>, u64), AllocError> {
+    let mut out = writer(alloc, usize::MAX, room);
     let input = reader("も\nも\nも\n".as_bytes(), step, None);
-    let got = run(rt.alloc(), input, &mut out)?;
-    assert!(rt; got.answer == answer, "{what}");
-    assert_eq!(rt; got.reads, reads, "{what}");
-    Ok(())
+    let got = run(alloc, input, &mut out)?;
+    Ok((got.answer, got.reads))
 }
 
 #[rattlefmt::skip]
@@ -196,7 +193,8 @@ static READS: [(&str, usize, usize, Result<u64, RunFault>, u64); 4] = [
 #[test]
 fn worked_through_before_the_next_read(rt: HostRuntime) -> Result<(), Fail> {
     for (what, step, room, answer, reads) in &READS {
-        expect_reads(&rt, what, *step, *room, *answer, *reads)?;
+        let got = answer_and_reads(rt.alloc(), *step, *room)?;
+        assert!(rt; got == (*answer, *reads), "{what}");
     }
     Ok(())
 }
@@ -229,19 +227,20 @@ type LineRow = (
     Result<u64, RunFault>,
 );
 
-/// Asks how a run of a long line ends.
-fn expect_long_line(rt: &(impl Abort + Alloc<A = Global>), row: &LineRow) -> Result<(), Fail> {
-    let (what, first, length, ends, fails_at, reads, answer) = *row;
-    let line = long_line(rt.alloc(), first, length, ends)?;
-    let mut out = writer(rt.alloc(), usize::MAX, usize::MAX);
-    let got = run(rt.alloc(), reader(&line, usize::MAX, fails_at), &mut out)?;
-    assert!(rt; got.answer == answer, "{what}");
-    assert_eq!(rt; got.reads, reads, "{what}");
+/// How many tabs there are: each word prints one.
+fn tabs(bytes: &[u8]) -> usize {
+    bytes.iter().filter(|byte| **byte == b'\t').count()
+}
+
+/// Whether a run of a long line ends as its row says, with all of its words or none.
+fn is_long_line(alloc: Global, row: &LineRow) -> Result<bool, AllocError> {
+    let (_what, first, length, ends, fails_at, reads, answer) = *row;
+    let line = long_line(alloc, first, length, ends)?;
+    let mut out = writer(alloc, usize::MAX, usize::MAX);
+    let got = run(alloc, reader(&line, usize::MAX, fails_at), &mut out)?;
     // All letters but 25 are words of their own.
     let words = if answer.is_ok() { SENTENCE_MAX - 24 } else { 0 };
-    let tabs = out.taken.iter().filter(|byte| **byte == b'\t').count();
-    assert!(rt; tabs == words, "{what}");
-    Ok(())
+    Ok(got.answer == answer && got.reads == reads && tabs(&out.taken) == words)
 }
 
 #[rattlefmt::skip]
@@ -257,7 +256,7 @@ static LONG_LINES: [LineRow; 5] = [
 #[test]
 fn long_lines(rt: HostRuntime) -> Result<(), Fail> {
     for row in &LONG_LINES {
-        expect_long_line(&rt, row)?;
+        assert!(rt; is_long_line(rt.alloc(), row)?, "{}", row.0);
     }
     Ok(())
 }

@@ -1,13 +1,11 @@
 //! Runs whose growths of memory `tools/growths` counts and compares.
 
-use mj_model::{Counted, sample};
+use mj_model::sample;
 use out_format::Format;
-use segmenter::segment;
 use std::alloc::Global;
 use std::process::Abort;
 use std::test::Fail;
-use test_samples::{letters, system_dict};
-use word_lookup::Dictionaries;
+use test_samples::{letters, overlay, segment_text, system_dict};
 
 /// How many letters a line has.
 const LETTERS: usize = 2_000;
@@ -30,12 +28,10 @@ fn lines_of_letters(alloc: Global, lines: usize) -> Result<Vec<u8>, Fail> {
 fn cut(rt: &(impl Abort + Alloc<A = Global>), lines: usize) -> Result<(), Fail> {
     let format = Format::parse(rt.alloc(), "", None, "", "%pc\\n")?;
     let dict = system_dict(rt.alloc(), &sample())?;
-    let dictionaries = Dictionaries::new(&dict, &[])?;
+    let dictionaries = overlay(&dict, &[])?;
     let text = lines_of_letters(rt.alloc(), lines)?;
-    let mut reader = Counted::new(text.as_slice());
     let mut written = Vec::with_capacity(rt.alloc(), 2 * PRINTED.len())?;
-    let mut writer = Counted::new(&mut written);
-    let answer = segment(rt.alloc(), &dictionaries, &format, &mut reader, &mut writer);
+    let answer = segment_text(rt.alloc(), &dictionaries, &format, &text, &mut written);
     assert!(rt; answer == Ok(lines as u64));
     assert_eq!(rt; written.len(), lines.saturating_mul(PRINTED.len()));
     assert!(rt; written.starts_with(PRINTED.as_bytes()));

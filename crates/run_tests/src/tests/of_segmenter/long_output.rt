@@ -1,35 +1,51 @@
 //! Output that is longer than what is held before it is written.
 
-use super::devices::writer as device;
-use mj_model::{Counted, sample};
+use super::devices::{StepWriter, writer as device};
+use mj_model::{Counted, RunFault, sample};
 use out_format::Format;
 use segmenter::segment;
-use std::alloc::Global;
+use std::alloc::{AllocError, Global};
 use std::process::Abort;
 use std::test::Fail;
-use test_samples::{letters, system};
+use test_samples::{letters, overlay, system_dict};
 use word_lookup::Dictionaries;
 
 /// Where more bytes than these wait behind a line, they are written.
 const OUTPUT_MAX: usize = 1 << 20;
 
-/// Asks for what is written of so many empty lines, where each prints so many letters: the bytes in all, and those of the longest write.
+/// The format in which an empty line prints so many letters.
+fn letters_format(alloc: Global, count: usize) -> Result<Format, Fail> {
+    let mut eos = letters(alloc, count)?;
+    eos.push_str("\\n")?;
+    Ok(Format::parse(alloc, "", None, "", eos.as_str())?)
+}
+
+/// What a cut of so many empty lines answers, and the device that it writes to.
+fn written(
+    alloc: Global,
+    dictionaries: &Dictionaries<'_>,
+    format: &Format,
+    lines: usize,
+) -> Result<(Result<u64, RunFault>, StepWriter), AllocError> {
+    let text = Vec::from_elem(alloc, b'\n', lines)?;
+    let mut reader = Counted::new(text.as_slice());
+    let mut out = device(alloc, usize::MAX, usize::MAX);
+    let mut writer = Counted::new(&mut out);
+    let answer = segment(alloc, dictionaries, format, &mut reader, &mut writer);
+    Ok((answer, out))
+}
+
+/// How many empty lines there are, how many letters each prints, the bytes in all, and those of the longest write.
+type Row = (usize, usize, usize, usize);
+
+/// Asks for what is written of empty lines.
 fn expect_pieces(
     rt: &(impl Abort + Alloc<A = Global>),
     dictionaries: &Dictionaries<'_>,
-    lines: usize,
-    count: usize,
-    all: usize,
-    longest: usize,
+    (lines, count, all, longest): Row,
 ) -> Result<(), Fail> {
-    let mut eos = letters(rt.alloc(), count)?;
-    eos.push_str("\\n")?;
-    let format = Format::parse(rt.alloc(), "", None, "", eos.as_str())?;
-    let text = Vec::from_elem(rt.alloc(), b'\n', lines)?;
-    let mut reader = Counted::new(text.as_slice());
-    let mut out = device(rt.alloc(), usize::MAX, usize::MAX);
-    let mut writer = Counted::new(&mut out);
-    let answer = segment(rt.alloc(), dictionaries, &format, &mut reader, &mut writer);
+    let format = letters_format(rt.alloc(), count)?;
+    let (answer, out) = written(rt.alloc(), dictionaries, &format, lines)?;
     assert!(rt; answer == Ok(lines as u64), "{lines}");
     assert_eq!(rt; out.taken.len(), all, "{lines}");
     assert_eq!(rt; out.longest, longest, "{lines}");
@@ -37,7 +53,7 @@ fn expect_pieces(
 }
 
 #[rattlefmt::skip]
-static PIECES: [(usize, usize, usize, usize); 5] = [
+static PIECES: [Row; 5] = [
     // (empty lines, letters that each prints, bytes in all, bytes of the longest write)
     (5,     1_000,      5_005,      5_005),
     (1_047, 1_000,      1_048_047,  1_048_047),
@@ -48,10 +64,10 @@ static PIECES: [(usize, usize, usize, usize); 5] = [
 
 #[test]
 fn written_in_pieces(rt: HostRuntime) -> Result<(), Fail> {
-    let dict = system(rt.alloc(), "", sample().lexicons)?;
-    let dictionaries = Dictionaries::new(&dict, &[])?;
-    for (lines, count, all, longest) in &PIECES {
-        expect_pieces(&rt, &dictionaries, *lines, *count, *all, *longest)?;
+    let dict = system_dict(rt.alloc(), &sample())?;
+    let dictionaries = overlay(&dict, &[])?;
+    for row in &PIECES {
+        expect_pieces(&rt, &dictionaries, *row)?;
     }
     Ok(())
 }

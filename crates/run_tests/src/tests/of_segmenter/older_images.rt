@@ -1,15 +1,12 @@
 //! Dictionaries of images of layouts 1, 2 and 3: they say the same.
 
-use dict_compile::compile_user;
-use dict_image::{Dict, load};
-use mj_model::{Counted, sample};
-use out_format::Format;
-use segmenter::segment;
+use dict_image::Dict;
+use mj_model::sample;
+use out_format::{Format, FormatFault};
 use std::alloc::Global;
 use std::process::Abort;
 use std::test::Fail;
-use test_samples::{SURFACES, in_layout, system_in};
-use word_lookup::Dictionaries;
+use test_samples::{SURFACES, loaded_in, overlay, segment_text, system_in, user_image};
 
 /// The sample's lexicon.
 const LEXICON: &str = "\
@@ -32,32 +29,35 @@ const TIE: &str = "a,1,1,10,X\nb,1,1,10,X\nab,1,1,27,X\n";
 /// A surface with two entries.
 const TWICE: &str = "a,1,1,10,X\na,1,1,10,Y\n";
 
-/// The user dictionary of a lexicon with the one surface もも, in a layout.
-fn user(alloc: Global, system: &Dict, layout: u32, lexicon: &str) -> Result<Dict, Fail> {
-    let image = compile_user(alloc, system, &[lexicon.as_bytes()])?.image;
-    Ok(load(alloc, in_layout(alloc, &image, layout, &["もも"])?)?)
-}
-
 /// What is written of a text.
 fn written(
     alloc: Global,
-    system: &Dict,
-    users: &[Dict],
+    (system, users): (&Dict, &[Dict]),
     format: &Format,
     text: &str,
 ) -> Result<Vec<u8>, Fail> {
-    let dictionaries = Dictionaries::new(system, users)?;
-    let mut reader = Counted::new(text.as_bytes());
+    let dictionaries = overlay(system, users)?;
     let mut written = Vec::new(alloc);
-    let mut writer = Counted::new(&mut written);
-    segment(alloc, &dictionaries, format, &mut reader, &mut writer)?;
+    segment_text(alloc, &dictionaries, format, text.as_bytes(), &mut written)?;
     Ok(written)
 }
 
 /// The default format, wakati, and one with the costs of each word and of its path.
-fn formats(alloc: Global) -> Result<[Format; 3], Fail> {
-    let costs = Format::parse(alloc, "%m/%f[0]/%c/%pn/%pc/%t ", None, "", "%pc\\n")?;
-    Ok([Format::default_of(alloc)?, Format::wakati(alloc)?, costs])
+#[derive(Drop)]
+struct Formats {
+    words: Format,
+    wakati: Format,
+    costs: Format,
+}
+
+impl Formats {
+    fn new(alloc: Global) -> Result<Formats, FormatFault> {
+        Ok(Formats {
+            words: Format::default_of(alloc)?,
+            wakati: Format::wakati(alloc)?,
+            costs: Format::parse(alloc, "%m/%f[0]/%c/%pn/%pc/%t ", None, "", "%pc\\n")?,
+        })
+    }
 }
 
 /// The same dictionary in layouts 1, 2 and 3.
@@ -66,66 +66,89 @@ fn in_each_layout(
     line: &str,
     lexicons: &[&[u8]],
     surfaces: &[&str],
-) -> Result<[Dict; 3], Fail> {
-    Ok([
-        system_in(alloc, 1, line, lexicons, surfaces)?,
-        system_in(alloc, 2, line, lexicons, surfaces)?,
-        system_in(alloc, 3, line, lexicons, surfaces)?,
-    ])
+) -> Result<Vec<Dict>, Fail> {
+    let mut dicts = Vec::new(alloc);
+    for layout in 1..=3 {
+        dicts.push(system_in(alloc, layout, line, lexicons, surfaces)?)?;
+    }
+    Ok(dicts)
 }
 
-/// Whether dictionaries of layouts 1 and 2 write in each format what those of layout 3 do, which in the default format is the output.
+/// Whether each of these dictionaries writes this of a text.
+fn all_write(
+    alloc: Global,
+    dicts: &[Dict],
+    format: &Format,
+    text: &str,
+    wanted: &[u8],
+) -> Result<bool, Fail> {
+    for dict in dicts {
+        if written(alloc, (dict, &[]), format, text)?.as_slice() != wanted {
+            return Ok(false);
+        }
+    }
+    Ok(true)
+}
+
+/// Whether these dictionaries write the same of a text.
 fn write_the_same(
     alloc: Global,
-    dicts: &[Dict; 3],
-    formats: &[Format; 3],
+    dicts: &[Dict],
+    format: &Format,
     text: &str,
-    output: &str,
 ) -> Result<bool, Fail> {
-    let [first, second, third] = dicts;
-    let mut same = true;
-    for format in formats {
-        let newest = written(alloc, third, &[], format, text)?;
-        same = same && written(alloc, first, &[], format, text)? == newest;
-        same = same && written(alloc, second, &[], format, text)? == newest;
+    match dicts.last() {
+        Some(newest) => {
+            let wanted = written(alloc, (newest, &[]), format, text)?;
+            all_write(alloc, dicts, format, text, &wanted)
+        }
+        None => Ok(false),
     }
-    Ok(same && written(alloc, first, &[], &formats[0], text)?.as_slice() == output.as_bytes())
+}
+
+/// A name, a text, and its output in the default format.
+type TextRow<'a> = (&'a str, &'a str, &'a str);
+
+/// Asks that dictionaries write the same of a text in each format, which in the default format is the output.
+fn expect_the_same(
+    rt: &(impl Abort + Alloc<A = Global>),
+    dicts: &[Dict],
+    formats: &Formats,
+    (what, text, output): TextRow<'_>,
+) -> Result<(), Fail> {
+    let alloc = rt.alloc();
+    let wanted = output.as_bytes();
+    assert!(rt;
+        all_write(alloc, dicts, &formats.words, text, wanted)?,
+        "{what}"
+    );
+    assert!(rt;
+        write_the_same(alloc, dicts, &formats.wakati, text)?,
+        "{what}"
+    );
+    assert!(rt;
+        write_the_same(alloc, dicts, &formats.costs, text)?,
+        "{what}"
+    );
+    Ok(())
 }
 
 const LETTERS_25: &str = "zzzzzzzzzzzzzzzzzzzzzzzzz";
 
 const LETTERS_26: &str = "zzzzzzzzzzzzzzzzzzzzzzzzzz";
 
-/// A name, a line of `char.def`, a lexicon, its surfaces, a text and its output in the default format.
-type DictRow = (
-    &'static str,
-    &'static str,
-    &'static str,
-    &'static [&'static str],
-    &'static str,
-    &'static str,
-);
+/// A line of `char.def`, a lexicon, its surfaces, and a text with its name and its output in the default format.
+type DictRow<'a> = (&'a str, &'a str, &'a [&'a str], TextRow<'a>);
 
-/// Asks that dictionaries of each layout write the same of a text.
-fn expect_the_same_of(
-    rt: &(impl Abort + Alloc<A = Global>),
-    formats: &[Format; 3],
-    row: &DictRow,
-) -> Result<(), Fail> {
-    let (what, line, lexicon, surfaces, text, output) = *row;
-    let dicts = in_each_layout(rt.alloc(), line, &[lexicon.as_bytes()], surfaces)?;
-    let same = write_the_same(rt.alloc(), &dicts, formats, text, output)?;
-    assert!(rt; same, "{what}");
-    Ok(())
-}
-
+/// Asks that the dictionaries of each row write the same of its text in each layout.
 fn expect_the_same_of_all(
     rt: &(impl Abort + Alloc<A = Global>),
-    rows: &[DictRow],
+    rows: &[DictRow<'_>],
 ) -> Result<(), Fail> {
-    let formats = formats(rt.alloc())?;
-    for row in rows {
-        expect_the_same_of(rt, &formats, row)?;
+    let formats = Formats::new(rt.alloc())?;
+    for (line, lexicon, surfaces, row) in rows {
+        let dicts = in_each_layout(rt.alloc(), line, &[lexicon.as_bytes()], surfaces)?;
+        expect_the_same(rt, &dicts, &formats, *row)?;
     }
     Ok(())
 }
@@ -139,7 +162,7 @@ const AS_ONE: &str = "\u{fffe}\u{ffff}\u{10ffff}\t未知\nEOS\n";
 const THEN_25: &str = "z\t未知\nzzzzzzzzzzzzzzzzzzzzzzzzz\t未知\nEOS\n";
 
 #[rattlefmt::skip]
-static TEXTS_OF_THE_SAMPLE: [(&str, &str, &str); 11] = [
+static TEXTS_OF_THE_SAMPLE: [TextRow<'static>; 11] = [
     // (what, text, output in the default format)
     ("sumomo",                    "すもももも\n",     TWO),
     ("empty input",               "",                 ""),
@@ -157,10 +180,9 @@ static TEXTS_OF_THE_SAMPLE: [(&str, &str, &str); 11] = [
 #[test]
 fn texts_of_the_sample(rt: HostRuntime) -> Result<(), Fail> {
     let dicts = in_each_layout(rt.alloc(), "", sample().lexicons, SURFACES)?;
-    let formats = formats(rt.alloc())?;
-    for (what, text, output) in &TEXTS_OF_THE_SAMPLE {
-        let same = write_the_same(rt.alloc(), &dicts, &formats, text, output)?;
-        assert!(rt; same, "{what}");
+    let formats = Formats::new(rt.alloc())?;
+    for row in &TEXTS_OF_THE_SAMPLE {
+        expect_the_same(&rt, &dicts, &formats, *row)?;
     }
     Ok(())
 }
@@ -170,10 +192,10 @@ const SURFACES_WITH_BLANK: &[&str] = &["すもも", "も", "も ", "もも"];
 const MARK: &str = "0x30FC KATAKANA HIRAGANA\n";
 
 #[rattlefmt::skip]
-static FURTHER_LINES: [DictRow; 2] = [
-    // (what, a line of char.def, lexicon, surfaces, text, output in the default format)
-    ("chain_over_prolonged_mark", MARK, LEXICON, SURFACES, "アーす\n", "アーす\t未知\nEOS\n"),
-    ("ends_later", "", WITH_BLANK, SURFACES_WITH_BLANK, "も ", "も \tZ\nEOS\n"),
+static FURTHER_LINES: [DictRow<'static>; 2] = [
+    // (a line of char.def, lexicon, surfaces, (what, text, output in the default format))
+    (MARK, LEXICON, SURFACES, ("chain_over_prolonged_mark", "アーす\n", "アーす\t未知\nEOS\n")),
+    ("", WITH_BLANK, SURFACES_WITH_BLANK, ("ends_later", "も ", "も \tZ\nEOS\n")),
 ];
 
 #[test]
@@ -182,10 +204,10 @@ fn texts_of_further_lines(rt: HostRuntime) -> Result<(), Fail> {
 }
 
 #[rattlefmt::skip]
-static FURTHER_LEXICONS: [DictRow; 2] = [
-    // (what, a line of char.def, lexicon, surfaces, text, output in the default format)
-    ("tie_later_place", "", TIE, &["a", "ab", "b"], "ab", "a\tX\nb\tX\nEOS\n"),
-    ("same_surface_twice", "", TWICE, &["a"], "a", "a\tX\nEOS\n"),
+static FURTHER_LEXICONS: [DictRow<'static>; 2] = [
+    // (a line of char.def, lexicon, surfaces, (what, text, output in the default format))
+    ("", TIE, &["a", "ab", "b"], ("tie_later_place", "ab", "a\tX\nb\tX\nEOS\n")),
+    ("", TWICE, &["a"], ("same_surface_twice", "a", "a\tX\nEOS\n")),
 ];
 
 #[test]
@@ -201,7 +223,7 @@ fn written_beyond(
     line: &str,
 ) -> Result<Vec<u8>, Fail> {
     let dict = system_in(alloc, layout, line, sample().lexicons, SURFACES)?;
-    written(alloc, &dict, &[], format, "𠮷野")
+    written(alloc, (&dict, &[]), format, "𠮷野")
 }
 
 const NUL: &str = "0x0000 KANJI\n";
@@ -226,6 +248,12 @@ fn beyond_the_basic_plane(rt: HostRuntime) -> Result<(), Fail> {
     Ok(())
 }
 
+/// The dictionary of a user's line, in a layout.
+fn user_in(alloc: Global, system: &Dict, layout: u32) -> Result<Dict, Fail> {
+    let image = user_image(alloc, system, "もも,1,1,1,名詞,ユーザ\n")?;
+    loaded_in(alloc, layout, &image, &["もも"])
+}
+
 /// What dictionaries of a system and a user, each in a layout, write of the sample's line.
 fn written_with_a_user(
     alloc: Global,
@@ -234,8 +262,8 @@ fn written_with_a_user(
     of_user: u32,
 ) -> Result<Vec<u8>, Fail> {
     let system = system_in(alloc, of_system, "", sample().lexicons, SURFACES)?;
-    let users = [user(alloc, &system, of_user, "もも,1,1,1,名詞,ユーザ\n")?];
-    written(alloc, &system, &users, format, "すもももも\n")
+    let users = [user_in(alloc, &system, of_user)?];
+    written(alloc, (&system, &users), format, "すもももも\n")
 }
 
 #[rattlefmt::skip]

@@ -1,12 +1,11 @@
 //! User dictionaries compiled for dictionaries of images of layouts 1 and 2.
 
-use dict_compile::{CompileUserFault, compile, compile_user};
-use dict_image::load;
+use dict_compile::{CompileUserFault, compile_user};
 use mj_model::{Sources, sample};
 use std::alloc::Global;
 use std::process::Abort;
 use std::test::Fail;
-use test_samples::{SURFACES, in_layout};
+use test_samples::{SURFACES, image, in_layout, loaded, loaded_in, user_image};
 
 /// The user image of layout 1 of the line `もも,1,1,1,X`, for 2 right ids and 2 left ids.
 const FIRST_LAYOUT: [u8; 137] =
@@ -15,20 +14,28 @@ const FIRST_LAYOUT: [u8; 137] =
     \x08\0\0\0\0\0\0\0\x08\0\0\0\0\0\0\0\x10\0\0\0\0\0\0\0\x01\0\0\0\0\0\0\0\
     \x06\0\xe3\x82\x82\xe3\x82\x82\0\0\0\0\x01\0\0\0\x01\0\x01\0\x01\0\0\0\0\0\0\0\x01\0\0\0X";
 
+/// The image of a user's lexicon for the dictionary of sources in a layout.
+fn image_for(
+    alloc: Global,
+    sources: &Sources<'_>,
+    layout: u32,
+    lexicon: &str,
+) -> Result<Vec<u8>, Fail> {
+    let of_sources = image(alloc, sources)?;
+    let system = loaded_in(alloc, layout, &of_sources, SURFACES)?;
+    user_image(alloc, &system, lexicon)
+}
+
 /// Asks that the user image for the sample's dictionary with a matrix, in an older layout, is that for the newest one.
 fn expect_same_user(
     rt: &(impl Abort + Alloc<A = Global>),
     matrix: &[u8],
     layout: u32,
 ) -> Result<(), Fail> {
-    let alloc = rt.alloc();
     let lexicon = "もも,1,1,1,名詞,ユーザ\n";
     let sources = Sources { matrix, ..sample() };
-    let image = compile(alloc, &sources)?.image;
-    let older = load(alloc, in_layout(alloc, &image, layout, SURFACES)?)?;
-    let newest = load(alloc, image)?;
-    let for_older = compile_user(alloc, &older, &[lexicon.as_bytes()])?.image;
-    let for_newest = compile_user(alloc, &newest, &[lexicon.as_bytes()])?.image;
+    let for_older = image_for(rt.alloc(), &sources, layout, lexicon)?;
+    let for_newest = image_for(rt.alloc(), &sources, 3, lexicon)?;
     assert!(rt;
         for_older.get(8..12) == Some(b"\x03\0\0\0".as_slice()),
         "{layout}"
@@ -46,16 +53,26 @@ fn users_for_older_systems(rt: HostRuntime) -> Result<(), Fail> {
     Ok(())
 }
 
+/// The line of the image.
+const LINE: &str = "もも,1,1,1,X\n";
+
+/// The image of the line in layout 1.
+fn first_layout(alloc: Global) -> Result<Vec<u8>, Fail> {
+    let compiled = image_for(alloc, &sample(), 3, LINE)?;
+    Ok(in_layout(alloc, &compiled, 1, &["もも"])?)
+}
+
+/// What a compilation for a user's image, as if it were a system's, is refused for.
+fn refused_for(alloc: Global, image: Vec<u8>) -> Result<Option<CompileUserFault>, Fail> {
+    let user = loaded(alloc, image)?;
+    Ok(compile_user(alloc, &user, &[LINE.as_bytes()]).err())
+}
+
 #[test]
 fn a_user_image_of_layout_1(rt: HostRuntime) -> Result<(), Fail> {
-    let alloc = rt.alloc();
-    let lexicon = "もも,1,1,1,X\n".as_bytes();
-    let system = load(alloc, compile(alloc, &sample())?.image)?;
-    let compiled = compile_user(alloc, &system, &[lexicon])?.image;
-    let made = in_layout(alloc, &compiled, 1, &["もも"])?;
+    let made = first_layout(rt.alloc())?;
     assert!(rt; made.as_slice() == FIRST_LAYOUT.as_slice());
-    let user = load(alloc, made)?;
-    let fault = compile_user(alloc, &user, &[lexicon]).err();
+    let fault = refused_for(rt.alloc(), made)?;
     assert_eq!(rt; fault, Some(CompileUserFault::NotSystem));
     Ok(())
 }

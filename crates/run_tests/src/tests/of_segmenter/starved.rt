@@ -2,12 +2,12 @@
 
 use mj_model::{Counted, GROUPING_DEFAULT, RunFault, TextIn, sample};
 use out_format::Format;
-use segmenter::{run_sources, segment};
+use segmenter::run_sources;
+use std::alloc::Global;
 use std::io::Eprint;
 use std::process::Abort;
 use std::test::Fail;
-use test_samples::{again, dict_again};
-use word_lookup::Dictionaries;
+use test_samples::{again, dict_again, overlay, segment_text};
 
 /// The lines of the text, with what each prints.
 const LINES: [(&str, &str); 3] = [
@@ -31,6 +31,18 @@ fn are_lines_before(line: u64, written: &[u8]) -> bool {
         }
     }
     left.is_empty()
+}
+
+/// The default format.
+fn default_again(rt: &(impl Alloc<A = Global> + Eprint)) -> Result<Format, Fail> {
+    let format = again!(rt, Format::default_of(rt.alloc()));
+    Ok(format)
+}
+
+/// Room for what is printed.
+fn room_again(rt: &(impl Alloc<A = Global> + Eprint)) -> Result<Vec<u8>, Fail> {
+    let room = again!(rt, Vec::with_capacity(rt.alloc(), 1000));
+    Ok(room)
 }
 
 /// What a run answered, where it is Ok or want of memory.
@@ -58,21 +70,19 @@ fn expect_run(
 
 #[test]
 fn starved_runs(rt: HostRuntime) -> Result<(), Fail> {
-    let format = again!(&rt, Format::default_of(rt.alloc()));
+    let format = default_again(&rt)?;
+    let mut written = room_again(&rt)?;
     let dict = dict_again(&rt, sample().lexicons)?;
-    let dictionaries = Dictionaries::new(&dict, &[])?;
-    let mut written = again!(&rt, Vec::with_capacity(rt.alloc(), 1000));
-    let mut reader = Counted::new(TEXT.as_bytes());
-    let mut writer = Counted::new(&mut written);
-    let answer = segment(rt.alloc(), &dictionaries, &format, &mut reader, &mut writer);
-    expect_run(&rt, answer, &written, 1)?;
-    Ok(())
+    let dictionaries = overlay(&dict, &[])?;
+    let text = TEXT.as_bytes();
+    let answer = segment_text(rt.alloc(), &dictionaries, &format, text, &mut written);
+    expect_run(&rt, answer, &written, 1)
 }
 
 #[test]
 fn starved_sources(rt: HostRuntime) -> Result<(), Fail> {
-    let format = again!(&rt, Format::default_of(rt.alloc()));
-    let mut written = again!(&rt, Vec::with_capacity(rt.alloc(), 1000));
+    let format = default_again(&rt)?;
+    let mut written = room_again(&rt)?;
     let mut reader = Counted::new(TEXT.as_bytes());
     let mut writer = Counted::new(&mut written);
     let answer = run_sources(
@@ -84,6 +94,5 @@ fn starved_sources(rt: HostRuntime) -> Result<(), Fail> {
         &mut reader,
         &mut writer,
     );
-    expect_run(&rt, answer, &written, reader.reads())?;
-    Ok(())
+    expect_run(&rt, answer, &written, reader.reads())
 }

@@ -1,15 +1,13 @@
 //! User dictionaries over the sample.
 
 use dict_compile::compile_user;
-use dict_image::load;
-use mj_model::{Counted, RunFault, SourceFault, SourceKind, Sources, sample};
+use dict_image::Dict;
+use mj_model::{RunFault, SourceFault, SourceKind, Sources, sample};
 use out_format::Format;
-use segmenter::segment;
 use std::alloc::Global;
 use std::process::Abort;
 use std::test::Fail;
-use test_samples::{run, run_in, system_dict};
-use word_lookup::Dictionaries;
+use test_samples::{loaded, overlay, run, run_in, segment_text, system_dict};
 
 const USER: &str = "もも,1,1,1,名詞,ユーザ\n";
 
@@ -121,38 +119,36 @@ fn sources_before_users(rt: HostRuntime) {
 fn expect_segmented(
     rt: &(impl Abort + Alloc<A = Global>),
     what: &str,
-    dictionaries: &Dictionaries<'_>,
+    (system, users): (&Dict, &[Dict]),
     format: &Format,
     output: &str,
-) {
-    let mut reader = Counted::new("すもももも\n".as_bytes());
+) -> Result<(), Fail> {
+    let dictionaries = overlay(system, users)?;
     let mut written = Vec::new(rt.alloc());
-    let mut writer = Counted::new(&mut written);
-    let got = segment(rt.alloc(), dictionaries, format, &mut reader, &mut writer);
+    let text = "すもももも\n".as_bytes();
+    let got = segment_text(rt.alloc(), &dictionaries, format, text, &mut written);
     assert!(rt; got == Ok(1), "{what}");
     assert!(rt; written.as_slice() == output.as_bytes(), "{what}");
+    Ok(())
+}
+
+/// The user dictionary of one entry.
+fn one_user(rt: &(impl Abort + Alloc<A = Global>), system: &Dict) -> Result<[Dict; 1], Fail> {
+    let compiled = compile_user(rt.alloc(), system, &[USER.as_bytes()])?;
+    assert_eq!(rt; compiled.entries, 1);
+    Ok([loaded(rt.alloc(), compiled.image)?])
 }
 
 #[test]
 fn segment_over_images(rt: HostRuntime) -> Result<(), Fail> {
-    let alloc = rt.alloc();
-    let system = system_dict(alloc, &sample())?;
-    let compiled = compile_user(alloc, &system, &[USER.as_bytes()])?;
-    assert_eq!(rt; compiled.entries, 1);
-    let users = [load(alloc, compiled.image)?];
-    let words = Format::default_of(alloc)?;
-    let costs = Format::parse(alloc, "%m/%f[1]/%pc ", None, "", "%pc\\n")?;
-    #[rattlefmt::skip]
-    let rows = [
-        // (what, format, whether the user's dictionary is laid over it, output)
-        ("sumomo",          &words, false, "すもも\t名詞,すもも\nもも\t名詞,もも\nEOS\n"),
-        ("costs of sumomo", &costs, false, "すもも/すもも/110 もも/もも/147 152\n"),
-        ("with a user",     &costs, true,  "すもも/すもも/110 もも/ユーザ/118 123\n"),
-    ];
-    for (what, format, with_user, output) in rows {
-        let laid_over = if with_user { &users[..] } else { &users[..0] };
-        let dictionaries = Dictionaries::new(&system, laid_over)?;
-        expect_segmented(&rt, what, &dictionaries, format, output);
-    }
-    Ok(())
+    let words = Format::default_of(rt.alloc())?;
+    let costs = Format::parse(rt.alloc(), "%m/%f[1]/%pc ", None, "", "%pc\\n")?;
+    let system = system_dict(rt.alloc(), &sample())?;
+    let output = "すもも\t名詞,すもも\nもも\t名詞,もも\nEOS\n";
+    expect_segmented(&rt, "sumomo", (&system, &[]), &words, output)?;
+    let output = "すもも/すもも/110 もも/もも/147 152\n";
+    expect_segmented(&rt, "costs of sumomo", (&system, &[]), &costs, output)?;
+    let users = one_user(&rt, &system)?;
+    let output = "すもも/すもも/110 もも/ユーザ/118 123\n";
+    expect_segmented(&rt, "with a user", (&system, &users), &costs, output)
 }
