@@ -1,6 +1,5 @@
 //! Command lines of `dictc`.
 
-use super::endings::{EndRow, Program, expect_ends, expect_wrong};
 use Asked::{AllFaults, System, Told, Trusting, User};
 use command_lines::dictc::{Asked as AskedFor, Base, IdsOptions, Options, options};
 use std::alloc::{AllocError, Global};
@@ -103,58 +102,4 @@ fn command_lines_of_ids(rt: HostRuntime) -> Result<(), Fail> {
         assert!(rt; is_asked(rt.alloc(), given, &wanted)?, "{what}");
     }
     Ok(())
-}
-
-const HELP: (u8, &str) = (0, "Usage: dictc");
-
-#[rattlefmt::skip]
-static COMMAND_LINES_THAT_END_AT_ONCE: [EndRow<'static>; 16] = [
-    // (what, words, status and what is in the text)
-    ("help", "--help", HELP),
-    ("help for a system", "system --help", HELP),
-    ("help for a user", "user --help", HELP),
-    ("the version", "--version", (0, "layouts read: 1, 2, 3; written: 3")),
-    ("a code", "--explain L4", (0, "L4 BadSection\nMeaning: ")),
-    ("memory", "--explain Memory", (0, "Memory\nMeaning: ")),
-    ("a name", "--explain nosuchcategory", (0, "C4 NoSuchCategory\nMeaning: ")),
-    ("all codes", "--explain", (0, "\nL4 BadSection\n")),
-    ("a code of none", "--explain X9", (2, "dictc: no fault has the code or name 'X9'\n")),
-    ("a name that is near", "systen", (2, "'system'")),
-    ("an option that is near", "system --matrx m", (2, "'--matrix'")),
-    ("help for ids", "ids --help", HELP),
-    ("a file like an option", "user --dic s --out o -x.csv", (2, "write './-x.csv'\n\nUsage: ")),
-    ("the same as a value", "user --dic s a --out -o", (2, "write './-o'\n\n")),
-    ("controls", "user\u{1b} a\nb", (2, "dictc: unrecognized subcommand 'user\\u{1b}'")),
-    ("a line feed", "user --a\nb", (2, "dictc: unexpected argument '--a\\nb' found\n")),
-];
-
-#[test]
-fn command_lines_that_end_at_once(rt: HostRuntime) -> Result<(), Fail> {
-    expect_ends(&rt, Program::Dictc, &COMMAND_LINES_THAT_END_AT_ONCE)
-}
-
-#[rattlefmt::skip]
-static WRONG_COMMAND_LINES: [(&str, &str); 16] = [
-    // (what, words)
-    ("nothing asked for", ""),
-    ("another subcommand", "delete"),
-    ("options alone", "--out o a"),
-    ("a system without its options", "system a"),
-    ("no matrix", "system --char c --unk u --out o a"),
-    ("no lexicon", "system --matrix m --char c --unk u --out o"),
-    ("a system's", "system --matrix m --char c --unk u --dic d --out o a"),
-    ("a user for no system", "user --out o a"),
-    ("a user without an image", "user --dic s a"),
-    ("a user without a lexicon", "user --dic s --out o"),
-    ("a user with a matrix", "user --dic s --matrix m --out o a"),
-    ("ids of no image", "ids 名詞"),
-    ("ids of no part of speech", "ids --dic s"),
-    ("ids of two", "ids --dic s 名詞 動詞"),
-    ("an option twice", "user --dic s --dic s --out o a"),
-    ("no value", "user --dic s a --out"),
-];
-
-#[test]
-fn wrong_command_lines(rt: HostRuntime) -> Result<(), Fail> {
-    expect_wrong(&rt, Program::Dictc, &WRONG_COMMAND_LINES)
 }

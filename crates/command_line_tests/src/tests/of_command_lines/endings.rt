@@ -1,5 +1,6 @@
 //! Command lines that ask for nothing, and how a program ends at each.
 
+use Program::{Dictc, Jseg};
 use command_lines::{OptionsFault, dictc, jseg};
 use std::alloc::{AllocError, Global};
 use std::process::Abort;
@@ -18,16 +19,16 @@ impl Program {
     fn fault(self, alloc: Global, given: &str) -> Result<Option<OptionsFault>, AllocError> {
         let words = words(alloc, given)?;
         Ok(match self {
-            Program::Dictc => dictc::options(alloc, words).err(),
-            Program::Jseg => jseg::task(alloc, words).err(),
+            Dictc => dictc::options(alloc, words).err(),
+            Jseg => jseg::task(alloc, words).err(),
         })
     }
 
     /// What the text of a wrong command line begins with.
     fn prefix(self) -> &'static str {
         match self {
-            Program::Dictc => "dictc: ",
-            Program::Jseg => "jseg: ",
+            Dictc => "dictc: ",
+            Jseg => "jseg: ",
         }
     }
 }
@@ -50,31 +51,146 @@ pub(crate) fn is_ended(
     })
 }
 
-/// A name, the words of a command line, and its status with what is in its text.
-pub(crate) type EndRow<'a> = (&'a str, &'a str, (u8, &'a str));
+/// A program, a name, the words of a command line, and its status with what is in its text.
+type EndRow<'a> = (Program, &'a str, &'a str, (u8, &'a str));
 
-/// Asks how command lines end.
-pub(crate) fn expect_ends(
-    rt: &(impl Abort + Alloc<A = Global>),
-    program: Program,
-    rows: &[EndRow<'_>],
-) -> Result<(), Fail> {
-    for (what, given, (status, text)) in rows {
-        let is_ended = is_ended(rt.alloc(), program, given, *status, text)?;
-        assert!(rt; is_ended, "{what}");
+fn expect_ends(rt: &(impl Abort + Alloc<A = Global>), rows: &[EndRow<'_>]) -> Result<(), Fail> {
+    for (program, what, given, (status, text)) in rows {
+        let is_ended = is_ended(rt.alloc(), *program, given, *status, text)?;
+        assert!(rt; is_ended, "{}{what}", program.prefix());
     }
     Ok(())
 }
 
-/// Asks that command lines, which stand behind their names, are wrong.
-pub(crate) fn expect_wrong(
-    rt: &(impl Abort + Alloc<A = Global>),
-    program: Program,
-    rows: &[(&str, &str)],
-) -> Result<(), Fail> {
-    for (what, given) in rows {
-        let is_ended = is_ended(rt.alloc(), program, given, 2, program.prefix())?;
-        assert!(rt; is_ended, "{what}");
+const HELP: (u8, &str) = (0, "Usage: dictc");
+
+/// Command lines that ask for help, for the version or for what faults mean, and those with a word that is not known.
+#[rattlefmt::skip]
+static COMMAND_LINES_THAT_END_AT_ONCE: [EndRow<'static>; 34] = [
+    // (program, what, words, (status, what is in the text))
+    (Dictc, "help", "--help", HELP),
+    (Dictc, "help for a system", "system --help", HELP),
+    (Dictc, "help for a user", "user --help", HELP),
+    (Dictc, "the version", "--version", (0, "layouts read: 1, 2, 3; written: 3")),
+    (Dictc, "a code", "--explain L4", (0, "L4 BadSection\nMeaning: ")),
+    (Dictc, "memory", "--explain Memory", (0, "Memory\nMeaning: ")),
+    (Dictc, "a name", "--explain nosuchcategory", (0, "C4 NoSuchCategory\nMeaning: ")),
+    (Dictc, "all codes", "--explain", (0, "\nL4 BadSection\n")),
+    (Dictc, "a code of none", "--explain X9", (2, "dictc: no fault has the code or name 'X9'\n")),
+    (Dictc, "a name that is near", "systen", (2, "'system'")),
+    (Dictc, "an option that is near", "system --matrx m", (2, "'--matrix'")),
+    (Dictc, "help for ids", "ids --help", HELP),
+    (Dictc, "a file like an option", "user --dic s --out o -x.csv", (2, "write './-x.csv'\n\nUsage: ")),
+    (Dictc, "the same as a value", "user --dic s a --out -o", (2, "write './-o'\n\n")),
+    (Dictc, "controls", "user\u{1b} a\nb", (2, "dictc: unrecognized subcommand 'user\\u{1b}'")),
+    (Dictc, "a line feed", "user --a\nb", (2, "dictc: unexpected argument '--a\\nb' found\n")),
+    (Jseg, "the version", "--version", (0, "layouts read: 1, 2, 3; written: 3")),
+    (Jseg, "a code", "--explain L4", (0, "L4 BadSection\nMeaning: ")),
+    (Jseg, "memory", "--explain=Memory", (0, "Memory\nMeaning: ")),
+    (Jseg, "a code in lower case", "--explain l4", (0, "L4 BadSection\nMeaning: ")),
+    (Jseg, "a code of the library", "--explain k7", (0, "K7 ShortBuffer\nMeaning: ")),
+    (Jseg, "a name in lower case", "--explain notutf8", (0, "S1 NotUtf8\nMeaning: ")),
+    (Jseg, "a name of two codes", "--explain NotUtf8", (0, "\n\nG3 NotUtf8\nMeaning: ")),
+    (Jseg, "all codes", "--explain", (0, "\nG3 NotUtf8\nG4 TooLong\n")),
+    (Jseg, "a code of none", "--explain X9", (2, "jseg: no fault has the code or name 'X9'\n")),
+    (Jseg, "a near option", "--simple", (2, "'--sample'")),
+    (Jseg, "another near option", "--soures a", (2, "'--sources'")),
+    (Jseg, "controls", "--x\u{1b}[2J", (2, "jseg: unexpected argument '--x\\u{1b}[2J' found\n")),
+    (Jseg, "a line feed", "--a\nb", (2, "jseg: unexpected argument '--a\\nb' found\n")),
+    (Jseg, "one in a value", "--sample -M 7\n", (2, "jseg: invalid value '7\\n' for '-M <N>': ")),
+    (Jseg, "a tab in a code", "--explain L4\t", (2, "jseg: no fault has the code or name 'L4\\t'\n")),
+    (Jseg, "a file like an option", "-d -x.img", (2, "\n\n  tip: for the file '-x.img' write './-x.img'\n\n")),
+    (Jseg, "one beside an image", "--smple -d s.img", (2, "'--sample'")),
+    (Jseg, "a short option", "-q", (2, "jseg: unexpected argument '-q' found\n\nUsage: jseg ")),
+];
+
+#[test]
+fn command_lines_that_end_at_once(rt: HostRuntime) -> Result<(), Fail> {
+    expect_ends(&rt, &COMMAND_LINES_THAT_END_AT_ONCE)
+}
+
+/// A program, a name, and the words of a command line.
+type WrongRow<'a> = (Program, &'a str, &'a str);
+
+fn expect_wrong(rt: &(impl Abort + Alloc<A = Global>), rows: &[WrongRow<'_>]) -> Result<(), Fail> {
+    for (program, what, given) in rows {
+        let is_ended = is_ended(rt.alloc(), *program, given, 2, program.prefix())?;
+        assert!(rt; is_ended, "{}{what}", program.prefix());
     }
     Ok(())
+}
+
+#[rattlefmt::skip]
+static WRONG_COMMAND_LINES: [WrongRow<'static>; 65] = [
+    // (program, what, words)
+    (Dictc, "nothing asked for", ""),
+    (Dictc, "another subcommand", "delete"),
+    (Dictc, "options alone", "--out o a"),
+    (Dictc, "a system without its options", "system a"),
+    (Dictc, "no matrix", "system --char c --unk u --out o a"),
+    (Dictc, "no lexicon", "system --matrix m --char c --unk u --out o"),
+    (Dictc, "a system's", "system --matrix m --char c --unk u --dic d --out o a"),
+    (Dictc, "a user for no system", "user --out o a"),
+    (Dictc, "a user without an image", "user --dic s a"),
+    (Dictc, "a user without a lexicon", "user --dic s --out o"),
+    (Dictc, "a user with a matrix", "user --dic s --matrix m --out o a"),
+    (Dictc, "ids of no image", "ids 名詞"),
+    (Dictc, "ids of no part of speech", "ids --dic s"),
+    (Dictc, "ids of two", "ids --dic s 名詞 動詞"),
+    (Dictc, "an option twice", "user --dic s --dic s --out o a"),
+    (Dictc, "no value", "user --dic s a --out"),
+    (Jseg, "an image without a name", "-d"),
+    (Jseg, "two system images", "-d a -d b"),
+    (Jseg, "image and sample", "-d a --sample"),
+    (Jseg, "image and directory", "-d a --sources b"),
+    (Jseg, "a user alone", "-u a"),
+    (Jseg, "a user of the sample", "--sample -u a"),
+    (Jseg, "a user of a directory", "--sources a -u b"),
+    (Jseg, "the digest of a directory", "--sources a --skip-digest"),
+    (Jseg, "the digest of the sample", "--skip-digest --sample"),
+    (Jseg, "a user without a name", "-d a -u"),
+    (Jseg, "nothing asked for", ""),
+    (Jseg, "twice", "--sample --sample"),
+    (Jseg, "two directories", "--sources a --sources b"),
+    (Jseg, "directory and sample", "--sources a --sample"),
+    (Jseg, "no directory", "--sources"),
+    (Jseg, "unknown option", "--simple"),
+    (Jseg, "a word", "--sample text"),
+    (Jseg, "another name", "--sample -O yomi"),
+    (Jseg, "a format twice", "--sample -F a -F b"),
+    (Jseg, "grouping alone", "-M 3"),
+    (Jseg, "grouping too large", "--sample -M 1001"),
+    (Jseg, "grouping below 0", "--sample -M -1"),
+    (Jseg, "grouping no number", "--sample -M x"),
+    (Jseg, "grouping without a value", "--sample -M"),
+    (Jseg, "grouping twice", "--sample -M 1 -M 2"),
+    (Jseg, "a lattice and a format", "--sample --lattice tsv -F a"),
+    (Jseg, "a bound without a lattice", "--sample --within 5"),
+    (Jseg, "why twice", "--sample --why --why"),
+    (Jseg, "why and a lattice", "--sample --why --lattice tsv"),
+    (Jseg, "why within a bound", "--sample --within 5 --why"),
+    (Jseg, "why and an output", "--sample --why -O wakati"),
+    (Jseg, "why and a format", "-F a --why --sample"),
+    (Jseg, "why and a format of unknown words", "--sample --why -U a"),
+    (Jseg, "why and a beginning", "--sample --why -B a"),
+    (Jseg, "why and an end", "--sample -E a --why"),
+    (Jseg, "why of nothing", "--why"),
+    (Jseg, "a list and an image", "--dictionaries -d a"),
+    (Jseg, "a list and a directory", "--sources a --dictionaries"),
+    (Jseg, "a list and the sample", "--dictionaries --sample"),
+    (Jseg, "a list and a user", "--dictionaries -u a"),
+    (Jseg, "a list without digests", "--skip-digest --dictionaries"),
+    (Jseg, "a list and a grouping", "--dictionaries -M 3"),
+    (Jseg, "a list and an output", "--dictionaries -O wakati"),
+    (Jseg, "a list and a format", "--dictionaries -F a"),
+    (Jseg, "a list and an end", "-E a --dictionaries"),
+    (Jseg, "a list and a lattice", "--dictionaries --lattice tsv"),
+    (Jseg, "a list and why", "--dictionaries --why"),
+    (Jseg, "two lists", "--dictionaries --dictionaries"),
+    (Jseg, "a list of a name", "--dictionaries ipadic"),
+];
+
+#[test]
+fn wrong_command_lines(rt: HostRuntime) -> Result<(), Fail> {
+    expect_wrong(&rt, &WRONG_COMMAND_LINES)
 }

@@ -1,6 +1,6 @@
 //! Command lines of `jseg`.
 
-mod refusals;
+mod mecab_habits;
 
 use super::is_text;
 use Asked::{Directory, Images, Sample, Trusted};
