@@ -1,7 +1,7 @@
 //! Dictionaries that are compiled, and refused ones that leave the images as they were.
 
 use super::{in_directory, words_in};
-use crate::tests::new_directory;
+use crate::tests::expect_in_directory;
 use command_lines::dictc::{Asked, options};
 use dict_compile::Compiled;
 use dict_image::load;
@@ -9,7 +9,6 @@ use dictc_work::{NoImage, compile_image, tell_counts};
 use mj_model::{OverlayFault, SourceFault, SourceKind, sample};
 use programs::{Fault, Narrator};
 use std::alloc::Global;
-use std::string::String;
 use std::test::Fail;
 use std::{fs, io};
 
@@ -45,20 +44,19 @@ fn write_in(rt: &HostRuntime, dir: &str, name: &str, bytes: &[u8]) -> io::Result
     fs::write(rt, in_directory(rt, dir, name)?, bytes)
 }
 
-/// A new directory with the sample's sources and the users' lexicons.
-fn directory_of_files(rt: &HostRuntime, test: &str) -> Result<String, Fail> {
-    let dir = new_directory(rt, test)?;
+/// Makes the sample's sources and the users' lexicons.
+fn make_sources(rt: &HostRuntime, dir: &str) -> Result<(), Fail> {
     let sample = sample();
-    write_in(rt, dir.as_str(), "matrix.def", sample.matrix)?;
-    write_in(rt, dir.as_str(), "char.def", sample.chars)?;
-    write_in(rt, dir.as_str(), "unk.def", sample.unk)?;
+    write_in(rt, dir, "matrix.def", sample.matrix)?;
+    write_in(rt, dir, "char.def", sample.chars)?;
+    write_in(rt, dir, "unk.def", sample.unk)?;
     for lexicon in sample.lexicons {
-        write_in(rt, dir.as_str(), "lexicon.csv", *lexicon)?;
+        write_in(rt, dir, "lexicon.csv", *lexicon)?;
     }
     for (name, text) in &LEXICONS {
-        write_in(rt, dir.as_str(), name, text.as_bytes())?;
+        write_in(rt, dir, name, text.as_bytes())?;
     }
-    Ok(dir)
+    Ok(())
 }
 
 /// Compiles what a command line asks for.
@@ -77,8 +75,8 @@ fn bytes_in(rt: &HostRuntime, dir: &str, name: &str) -> Result<Vec<u8>, Fail> {
     Ok(fs::read(rt, path.as_str())?)
 }
 
-/// A name, words, the image that they compile, whether it is a user's, and the line that is told.
-type CompiledRow = (&'static str, &'static str, &'static str, bool, &'static str);
+/// Words, the image that they compile, whether it is a user's, and the line that is told.
+type CompiledRow = (&'static str, &'static str, bool, &'static str);
 
 /// Whether this line is told of what was compiled.
 fn is_told(alloc: Global, compiled: &Compiled, line: &str) -> bool {
@@ -98,7 +96,7 @@ fn is_of_kind(alloc: Global, image: Vec<u8>, user: bool) -> bool {
 fn is_compiled(
     rt: &HostRuntime,
     dir: &str,
-    (_what, given, name, user, line): &CompiledRow,
+    (given, name, user, line): &CompiledRow,
 ) -> Result<bool, Fail> {
     let Ok(compiled) = compile_in(rt, dir, given)? else {
         return Ok(false);
@@ -109,30 +107,16 @@ fn is_compiled(
 }
 
 #[rattlefmt::skip]
-static COMPILED: [CompiledRow; 3] = [
-    // (what, words, image, whether it is a user's, line)
-    ("the sample",       SYSTEM,  "sys.img",     false, "3 entries, 0 skipped\n"),
-    ("a user's",         USER,    "user.img",    true,  "1 entries, 0 skipped\n"),
-    ("an empty surface", SKIPPED, "skipped.img", true,  "1 entries, 1 skipped\n"),
+static COMPILED: [(&str, CompiledRow); 3] = [
+    // (what, (words, image, whether it is a user's, line))
+    ("the sample",       (SYSTEM,  "sys.img",     false, "3 entries, 0 skipped\n")),
+    ("a user's",         (USER,    "user.img",    true,  "1 entries, 0 skipped\n")),
+    ("an empty surface", (SKIPPED, "skipped.img", true,  "1 entries, 1 skipped\n")),
 ];
-
-/// The first row whose image is another one.
-fn first_not_compiled(rt: &HostRuntime, dir: &str) -> Result<Option<&'static str>, Fail> {
-    for row in &COMPILED {
-        if !is_compiled(rt, dir, row)? {
-            return Ok(Some(row.0));
-        }
-    }
-    Ok(None)
-}
 
 #[test]
 fn compiled_dictionaries(rt: HostRuntime) -> Result<(), Fail> {
-    let dir = directory_of_files(&rt, "compiled")?;
-    let wrong = first_not_compiled(&rt, dir.as_str())?;
-    fs::remove_dir_all(&rt, dir.as_str())?;
-    assert_eq!(rt; wrong, None);
-    Ok(())
+    expect_in_directory(&rt, "compiled", make_sources, &COMPILED, is_compiled)
 }
 
 /// Whether the file of this path is told, with this number where it is a source.
@@ -150,55 +134,55 @@ fn is_fault_of(compiled: &Result<Compiled, NoImage>, path: &str, number: Option<
     }
 }
 
-/// Whether a command line compiles nothing, and this file is told, with this number where it is a source.
+/// Makes the sources and the two images, of which there are copies too.
+fn make_images(rt: &HostRuntime, dir: &str) -> Result<(), Fail> {
+    make_sources(rt, dir)?;
+    for given in [SYSTEM, USER] {
+        if compile_in(rt, dir, given)?.is_err() {
+            return Err(Fail::new("an image is not compiled"));
+        }
+    }
+    for (name, copy) in &COPIES {
+        write_in(rt, dir, copy, &bytes_in(rt, dir, name)?)?;
+    }
+    Ok(())
+}
+
+static COPIES: [(&str, &str); 2] = [("sys.img", "sys.copy"), ("user.img", "user.copy")];
+
+/// Whether the images are as their copies.
+fn are_kept(rt: &HostRuntime, dir: &str) -> Result<bool, Fail> {
+    for (name, copy) in &COPIES {
+        if bytes_in(rt, dir, name)? != bytes_in(rt, dir, copy)? {
+            return Ok(false);
+        }
+    }
+    Ok(true)
+}
+
+/// Words that compile nothing, the file that is told, and its number where it is a source.
+type RefusedRow = (&'static str, &'static str, Option<u32>);
+
+/// Whether a command line is refused so, and the images stay.
 fn is_refused(
     rt: &HostRuntime,
     dir: &str,
-    given: &str,
-    wanted: &str,
-    number: Option<u32>,
+    (given, wanted, number): &RefusedRow,
 ) -> Result<bool, Fail> {
-    let compiled = compile_in(rt, dir, given)?;
     let path = in_directory(rt, dir, wanted)?;
-    Ok(is_fault_of(&compiled, path.as_str(), number))
-}
-
-/// Whether a directory's file has these bytes.
-fn has_bytes(rt: &HostRuntime, dir: &str, name: &str, bytes: &[u8]) -> Result<bool, Fail> {
-    Ok(bytes_in(rt, dir, name)?.as_slice() == bytes)
+    let compiled = compile_in(rt, dir, given)?;
+    Ok(is_fault_of(&compiled, path.as_str(), *number) && are_kept(rt, dir)?)
 }
 
 #[rattlefmt::skip]
-static REFUSED: [(&str, &str, &str, Option<u32>); 3] = [
-    // (what, words, the file that is told, its number where it is a source)
-    ("a bad second lexicon",              BAD_SECOND, "bad.csv",  Some(4)),
-    ("a bad lexicon of a user",           BAD_USER,   "bad.csv",  Some(3)),
-    ("for a user's, which is told first", FOR_USER,   "user.img", None),
+static REFUSED: [(&str, RefusedRow); 3] = [
+    // (what, (words, the file that is told, its number where it is a source))
+    ("a bad second lexicon",              (BAD_SECOND, "bad.csv",  Some(4))),
+    ("a bad lexicon of a user",           (BAD_USER,   "bad.csv",  Some(3))),
+    ("for a user's, which is told first", (FOR_USER,   "user.img", None)),
 ];
-
-/// The first row that is told otherwise, or that changes an image.
-fn first_not_refused(rt: &HostRuntime, dir: &str) -> Result<Option<&'static str>, Fail> {
-    let system_image = bytes_in(rt, dir, "sys.img")?;
-    let user_image = bytes_in(rt, dir, "user.img")?;
-    for (what, given, wanted, number) in &REFUSED {
-        let is_kept = is_refused(rt, dir, given, wanted, *number)?
-            && has_bytes(rt, dir, "sys.img", &system_image)?
-            && has_bytes(rt, dir, "user.img", &user_image)?;
-        if !is_kept {
-            return Ok(Some(*what));
-        }
-    }
-    Ok(None)
-}
 
 #[test]
 fn refused_dictionaries(rt: HostRuntime) -> Result<(), Fail> {
-    let dir = directory_of_files(&rt, "refused")?;
-    let is_made = compile_in(&rt, dir.as_str(), SYSTEM)?.is_ok()
-        && compile_in(&rt, dir.as_str(), USER)?.is_ok();
-    assert!(rt; is_made);
-    let wrong = first_not_refused(&rt, dir.as_str())?;
-    fs::remove_dir_all(&rt, dir.as_str())?;
-    assert_eq!(rt; wrong, None);
-    Ok(())
+    expect_in_directory(&rt, "refused", make_images, &REFUSED, is_refused)
 }

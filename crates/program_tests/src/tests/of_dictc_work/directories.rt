@@ -1,7 +1,7 @@
 //! Files that can't be read, or are no image.
 
 use super::in_directory;
-use crate::tests::new_directory;
+use crate::tests::{expect_in_directory, no_files};
 use command_lines::dictc::{Base, Options};
 use dictc_work::{NoImage, compile_image};
 use mj_model::ImageFault;
@@ -34,11 +34,19 @@ fn options_in(rt: &HostRuntime, dir: &str, user: bool) -> io::Result<Options> {
     })
 }
 
+/// Whether it is for a user, the file that is made before, and the one that is told.
+type UnreadableRow = (bool, &'static str, &'static str);
+
 /// Whether this is the file that can't be read, and no image was written.
-fn is_unreadable(rt: &HostRuntime, dir: &str, user: bool, wanted: &str) -> Result<bool, Fail> {
+fn is_unreadable(
+    rt: &HostRuntime,
+    dir: &str,
+    (user, made, wanted): &UnreadableRow,
+) -> Result<bool, Fail> {
+    fs::write(rt, in_directory(rt, dir, made)?, "x")?;
     let path = in_directory(rt, dir, wanted)?;
     let quiet = Narrator::new(rt, "dictc", false);
-    let is_told = match &compile_image(rt, &options_in(rt, dir, user)?, &quiet) {
+    let is_told = match &compile_image(rt, &options_in(rt, dir, *user)?, &quiet) {
         Err(NoImage::Fault(Fault::File(told))) => *told == path,
         _ => false,
     };
@@ -46,41 +54,30 @@ fn is_unreadable(rt: &HostRuntime, dir: &str, user: bool, wanted: &str) -> Resul
 }
 
 #[rattlefmt::skip]
-static FILES_THAT_CANNOT_BE_READ: [(bool, &str, &str); 5] = [
-    // (whether for a user, the file that is made before, the one that is told)
-    (true,  "",           "sys.img"),
-    (false, "",           "matrix.def"),
-    (false, "matrix.def", "char.def"),
-    (false, "char.def",   "unk.def"),
-    (false, "unk.def",    "lexicon.csv"),
+static FILES_THAT_CANNOT_BE_READ: [(&str, UnreadableRow); 5] = [
+    // (what, (whether for a user, the file that is made before, the one that is told))
+    ("the system",        (true,  "another",    "sys.img")),
+    ("connection costs",  (false, "another",    "matrix.def")),
+    ("categories",        (false, "matrix.def", "char.def")),
+    ("unknown words",     (false, "char.def",   "unk.def")),
+    ("a lexicon",         (false, "unk.def",    "lexicon.csv")),
 ];
-
-/// The file of the first row whose file can be read.
-fn first_readable(rt: &HostRuntime, dir: &str) -> Result<Option<&'static str>, Fail> {
-    for (user, name, wanted) in &FILES_THAT_CANNOT_BE_READ {
-        if !name.is_empty() {
-            fs::write(rt, in_directory(rt, dir, name)?, "x")?;
-        }
-        if !is_unreadable(rt, dir, *user, wanted)? {
-            return Ok(Some(*wanted));
-        }
-    }
-    Ok(None)
-}
 
 #[test]
 fn files_that_cannot_be_read(rt: HostRuntime) -> Result<(), Fail> {
-    let dir = new_directory(&rt, "unreadable_files")?;
-    let wrong = first_readable(&rt, dir.as_str())?;
-    fs::remove_dir_all(&rt, dir.as_str())?;
-    assert_eq!(rt; wrong, None);
-    Ok(())
+    expect_in_directory(
+        &rt,
+        "unreadable_files",
+        no_files,
+        &FILES_THAT_CANNOT_BE_READ,
+        is_unreadable,
+    )
 }
 
 /// Whether a system image is told that is none. It is loaded before the lexicon is read, which isn't there.
-fn is_no_image(rt: &HostRuntime, dir: &str) -> Result<bool, Fail> {
+fn is_no_image(rt: &HostRuntime, dir: &str, text: &&str) -> Result<bool, Fail> {
     let path = in_directory(rt, dir, "sys.img")?;
-    fs::write(rt, path.as_str(), "no image")?;
+    fs::write(rt, path.as_str(), *text)?;
     let quiet = Narrator::new(rt, "dictc", false);
     Ok(
         match &compile_image(rt, &options_in(rt, dir, true)?, &quiet) {
@@ -90,11 +87,15 @@ fn is_no_image(rt: &HostRuntime, dir: &str) -> Result<bool, Fail> {
     )
 }
 
+static IMAGES_THAT_ARE_NONE: [(&str, &str); 1] = [("a short text", "no image")];
+
 #[test]
 fn images_that_are_none(rt: HostRuntime) -> Result<(), Fail> {
-    let dir = new_directory(&rt, "no_images")?;
-    let is_told = is_no_image(&rt, dir.as_str())?;
-    fs::remove_dir_all(&rt, dir.as_str())?;
-    assert!(rt; is_told);
-    Ok(())
+    expect_in_directory(
+        &rt,
+        "no_images",
+        no_files,
+        &IMAGES_THAT_ARE_NONE,
+        is_no_image,
+    )
 }

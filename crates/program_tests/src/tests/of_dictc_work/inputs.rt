@@ -1,68 +1,58 @@
 //! Images that would take the place of a file that is read.
 
 use super::{in_directory, words_in};
-use crate::tests::new_directory;
+use crate::tests::expect_in_directory;
 use dictc_work::options_given;
+use std::fs;
 use std::os::unix::fs::symlink;
 use std::test::Fail;
-use std::{fs, io};
 
 /// What is told of such an image, up to its path.
 const LINE: &str = "dictc: --out names a file that is read: /";
 
 /// Whether a command line is accepted, or else refused since a file would be lost.
-fn is_answered(rt: &HostRuntime, dir: &str, given: &str, lost: bool) -> Result<bool, Fail> {
+fn is_answered(
+    rt: &HostRuntime,
+    dir: &str,
+    (given, lost): &(&'static str, bool),
+) -> Result<bool, Fail> {
     Ok(match options_given(rt, words_in(rt, dir, given)?) {
-        Ok(_options) => !lost,
-        Err(fault) => lost && fault.status() == 2 && fault.text().starts_with(LINE),
+        Ok(_options) => !*lost,
+        Err(fault) => *lost && fault.status() == 2 && fault.text().starts_with(LINE),
     })
 }
 
 #[rattlefmt::skip]
-static KEPT_INPUTS: [(&str, &str, bool); 14] = [
-    // (what, words, whether a file would be lost)
-    ("a new image",       "user --dic sys.img --out new.img a.csv", false),
-    ("an old image",      "user --dic sys.img --out old.img a.csv", false),
-    ("the system's",      "user --dic sys.img --out sys.img a.csv", true),
-    ("none yet",          "user --dic none.img --out none.img a.csv", true),
-    ("another spelling",  "user --dic sys.img --out ./sys.img a.csv", true),
-    ("a link to it",      "user --dic sys.img --out link.img a.csv", true),
-    ("by a link",         "user --dic link.img --out sys.img a.csv", true),
-    ("a system's lexicon", "system --matrix m. --char c. --unk u. --out a.csv a.csv", true),
-    ("sources",           "system --matrix m. --char c. --unk u. --out o. a.csv", false),
-    ("connection costs",  "system --matrix m. --char c. --unk u. --out m. a.csv", true),
-    ("categories",        "system --matrix m. --char c. --unk u. --out c. a.csv", true),
-    ("unknown words",     "system --matrix m. --char c. --unk u. --out u. a.csv", true),
-    ("a second lexicon",  "user --dic sys.img --out a.csv b.csv a.csv", true),
-    ("a device of both",  "user --dic sys.img --out /dev/null /dev//null", false),
+static KEPT_INPUTS: [(&str, (&str, bool)); 14] = [
+    // (what, (words, whether a file would be lost))
+    ("a new image",       ("user --dic sys.img --out new.img a.csv", false)),
+    ("an old image",      ("user --dic sys.img --out old.img a.csv", false)),
+    ("the system's",      ("user --dic sys.img --out sys.img a.csv", true)),
+    ("none yet",          ("user --dic none.img --out none.img a.csv", true)),
+    ("another spelling",  ("user --dic sys.img --out ./sys.img a.csv", true)),
+    ("a link to it",      ("user --dic sys.img --out link.img a.csv", true)),
+    ("by a link",         ("user --dic link.img --out sys.img a.csv", true)),
+    ("a system's lexicon", ("system --matrix m. --char c. --unk u. --out a.csv a.csv", true)),
+    ("sources",           ("system --matrix m. --char c. --unk u. --out o. a.csv", false)),
+    ("connection costs",  ("system --matrix m. --char c. --unk u. --out m. a.csv", true)),
+    ("categories",        ("system --matrix m. --char c. --unk u. --out c. a.csv", true)),
+    ("unknown words",     ("system --matrix m. --char c. --unk u. --out u. a.csv", true)),
+    ("a second lexicon",  ("user --dic sys.img --out a.csv b.csv a.csv", true)),
+    ("a device of both",  ("user --dic sys.img --out /dev/null /dev//null", false)),
 ];
 
 static INPUTS: [&str; 3] = ["sys.img", "a.csv", "old.img"];
 
 /// Makes the files that are read.
-fn make_inputs(rt: &HostRuntime, dir: &str) -> io::Result<()> {
+fn make_inputs(rt: &HostRuntime, dir: &str) -> Result<(), Fail> {
     for name in &INPUTS {
         fs::write(rt, in_directory(rt, dir, name)?, "x")?;
     }
-    symlink(rt, "sys.img", in_directory(rt, dir, "link.img")?)
-}
-
-/// The first row that is answered otherwise.
-fn first_wrong(rt: &HostRuntime, dir: &str) -> Result<Option<&'static str>, Fail> {
-    for (what, given, lost) in &KEPT_INPUTS {
-        if !is_answered(rt, dir, given, *lost)? {
-            return Ok(Some(*what));
-        }
-    }
-    Ok(None)
+    symlink(rt, "sys.img", in_directory(rt, dir, "link.img")?)?;
+    Ok(())
 }
 
 #[test]
 fn kept_inputs(rt: HostRuntime) -> Result<(), Fail> {
-    let dir = new_directory(&rt, "inputs")?;
-    make_inputs(&rt, dir.as_str())?;
-    let wrong = first_wrong(&rt, dir.as_str())?;
-    fs::remove_dir_all(&rt, dir.as_str())?;
-    assert_eq!(rt; wrong, None);
-    Ok(())
+    expect_in_directory(&rt, "inputs", make_inputs, &KEPT_INPUTS, is_answered)
 }

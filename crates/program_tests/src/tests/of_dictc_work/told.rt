@@ -85,17 +85,12 @@ fn compilations_that_cannot_be_told(rt: HostRuntime) -> Result<(), Fail> {
     Ok(())
 }
 
-const BAD_NUMBER: SourceFault = SourceFault {
-    file: 3,
-    line: 7,
-    kind: SourceKind::BadNumber,
-};
-
 #[rattlefmt::skip]
 static TOLD_FAULTS_OF_USERS: [FaultRow<CompileUserFault>; 2] = [
     // (fault, code, name, text)
-    (CompileUserFault::NotSystem,          "O1", "NotSystem", "O1 NotSystem"),
-    (CompileUserFault::Source(BAD_NUMBER), "S3", "BadNumber", "file 3, line 7: S3 BadNumber"),
+    (CompileUserFault::NotSystem, "O1", "NotSystem", "O1 NotSystem"),
+    (CompileUserFault::Source(SourceFault { file: 3, line: 7, kind: SourceKind::BadNumber }),
+        "S3", "BadNumber", "file 3, line 7: S3 BadNumber"),
 ];
 
 #[test]

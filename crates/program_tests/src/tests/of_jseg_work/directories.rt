@@ -1,6 +1,6 @@
 //! Source directories that are read, and those that can't be.
 
-use crate::tests::new_directory;
+use crate::tests::{expect_in_directory, new_directory};
 use jseg_work::{Directory, read_directory};
 use programs::Fault;
 use std::alloc::{AllocError, Global};
@@ -81,51 +81,43 @@ fn source_directories(rt: HostRuntime) -> Result<(), Fail> {
     Ok(())
 }
 
-/// Whether a directory can't be read for this path.
-fn is_unreadable(rt: &HostRuntime, dir: &str, path: &str) -> bool {
-    match &read_directory(rt, dir) {
-        Err(Fault::File(told)) => told.as_str() == path,
+/// Makes a folder that has the name of a lexicon.
+fn make_folder(rt: &HostRuntime, dir: &str) -> Result<(), Fail> {
+    let folder = format!(in rt.alloc(); "{dir}/a.csv")?;
+    fs::create_dir(rt, folder.as_str())?;
+    Ok(())
+}
+
+/// Whether a directory can't be read for a file of this name, after another one was made.
+fn is_unreadable(
+    rt: &HostRuntime,
+    dir: &str,
+    (made, wanted): &(&'static str, &'static str),
+) -> Result<bool, Fail> {
+    write_file(rt, dir, made, "x")?;
+    let path = format!(in rt.alloc(); "{dir}/{wanted}")?;
+    Ok(match &read_directory(rt, dir) {
+        Err(Fault::File(told)) => *told == path,
         _ => false,
-    }
+    })
 }
 
 #[rattlefmt::skip]
-static UNREADABLE_DIRECTORIES: [(&str, &str); 3] = [
-    // (what is made before, the name that is told)
-    ("",           "matrix.def"),
-    ("matrix.def", "char.def"),
-    ("char.def",   "unk.def"),
+static UNREADABLE_DIRECTORIES: [(&str, (&str, &str)); 4] = [
+    // (what, (the file that is made before, the name that is told))
+    ("connection costs", ("another",    "matrix.def")),
+    ("categories",       ("matrix.def", "char.def")),
+    ("unknown words",    ("char.def",   "unk.def")),
+    ("a folder",         ("unk.def",    "a.csv")),
 ];
-
-/// The file of the first row that is not the one which can't be read.
-fn first_readable(rt: &HostRuntime, dir: &str) -> io::Result<Option<&'static str>> {
-    for (name, wanted) in &UNREADABLE_DIRECTORIES {
-        if !name.is_empty() {
-            write_file(rt, dir, name, "x")?;
-        }
-        let path = format!(in rt.alloc(); "{dir}/{wanted}")?;
-        if !is_unreadable(rt, dir, path.as_str()) {
-            return Ok(Some(*wanted));
-        }
-    }
-    Ok(None)
-}
-
-/// Whether a directory can't be read for a folder that has the name of a lexicon.
-fn is_folder_told(rt: &HostRuntime, dir: &str) -> io::Result<bool> {
-    write_file(rt, dir, "unk.def", "x")?;
-    let folder = format!(in rt.alloc(); "{dir}/a.csv")?;
-    fs::create_dir(rt, folder.as_str())?;
-    Ok(is_unreadable(rt, dir, folder.as_str()))
-}
 
 #[test]
 fn unreadable_directories(rt: HostRuntime) -> Result<(), Fail> {
-    let dir = new_directory(&rt, "unreadable")?;
-    let wrong = first_readable(&rt, dir.as_str())?;
-    let is_folder_told = is_folder_told(&rt, dir.as_str())?;
-    fs::remove_dir_all(&rt, dir.as_str())?;
-    assert_eq!(rt; wrong, None);
-    assert!(rt; is_folder_told, "a folder");
-    Ok(())
+    expect_in_directory(
+        &rt,
+        "unreadable",
+        make_folder,
+        &UNREADABLE_DIRECTORIES,
+        is_unreadable,
+    )
 }

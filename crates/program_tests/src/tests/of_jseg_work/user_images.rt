@@ -1,29 +1,41 @@
 //! Images of no use where they were given.
 
 use crate::tests::new_directory;
-use dict_compile::{compile, compile_user};
-use dict_image::DigestTest;
+use dict_image::{Dict, DigestTest};
 use jseg_work::overlay_fault;
 use mj_model::OverlayFault;
 use programs::{dictionary_at, report};
 use segmenter::sample;
 use std::fs;
 use std::test::Fail;
+use test_samples::{image, overlay, user_image};
 use test_words::words;
-use word_lookup::Dictionaries;
+
+/// Writes an image in a directory, and reads its dictionary.
+fn written_and_read(rt: &HostRuntime, dir: &str, image: &[u8]) -> Result<Dict, Fail> {
+    let path = format!(in rt.alloc(); "{dir}/some.img")?;
+    fs::write(rt, path.as_str(), image)?;
+    Ok(dictionary_at(rt, path.as_str(), DigestTest::Made)?)
+}
+
+/// The sample's dictionary.
+fn system(rt: &HostRuntime, dir: &str) -> Result<Dict, Fail> {
+    written_and_read(rt, dir, &image(rt.alloc(), &sample())?)
+}
+
+/// A user's dictionary, whose image takes the place of the sample's.
+fn user(rt: &HostRuntime, dir: &str) -> Result<Dict, Fail> {
+    let system = system(rt, dir)?;
+    written_and_read(rt, dir, &user_image(rt.alloc(), &system, "a,1,1,1,X\n")?)
+}
 
 #[test]
 fn user_image_as_the_system(rt: HostRuntime) -> Result<(), Fail> {
     let dir = new_directory(&rt, "user_image")?;
-    let path = format!(in rt.alloc(); "{dir}/some.img")?;
-    fs::write(&rt, path.as_str(), compile(rt.alloc(), &sample())?.image)?;
-    let system = dictionary_at(&rt, path.as_str(), DigestTest::Made)?;
-    let user = compile_user(rt.alloc(), &system, &[b"a,1,1,1,X\n".as_slice()])?;
-    fs::write(&rt, path.as_str(), user.image)?;
-    let dictionary = dictionary_at(&rt, path.as_str(), DigestTest::Made)?;
+    let dictionary = user(&rt, dir.as_str())?;
     fs::remove_dir_all(&rt, dir.as_str())?;
     assert!(rt; dictionary.is_user());
-    let fault = Dictionaries::new(&dictionary, &[]).err();
+    let fault = overlay(&dictionary, &[]).err();
     assert!(rt; fault == Some(OverlayFault::NotSystem));
     Ok(())
 }

@@ -1,13 +1,13 @@
 //! Images whose digest is taken while they are read.
 
-use dict_compile::compile;
 use dict_image::DigestTest::{self, Made, Skipped};
 use mj_model::ImageFault;
-use programs::{ImageReading, read_image};
+use programs::{ImageReading, ReadImage, read_image};
 use segmenter::sample;
 use std::alloc::{AllocError, Global};
 use std::io::{self, Read};
 use std::test::Fail;
+use test_samples::image;
 
 /// A reader that gives bytes, at most so many at once.
 #[derive(Drop)]
@@ -64,30 +64,30 @@ static READ_DIGESTS: [DigestRow; 10] = [
     ("another feature, not asked for",    33, 99_999, Skipped, Skipped, None),
 ];
 
+/// What is read of bytes of which at most so many come at once.
+fn read_at_once(alloc: Global, bytes: &[u8], most: usize, digest: DigestTest) -> Option<ReadImage> {
+    let reading = ImageReading { digest, told: None };
+    read_image(alloc, &mut AtOnce { bytes, most }, None, 1 << 20, reading).ok()
+}
+
 fn is_as_wanted(
     alloc: Global,
     image: &[u8],
     (_what, from_end, most, asked, left, fault): &DigestRow,
 ) -> Result<bool, AllocError> {
     let bytes = changed(alloc, image, *from_end)?;
-    let mut reader = AtOnce {
-        bytes: &bytes,
-        most: *most,
-    };
-    let reading = ImageReading {
-        digest: *asked,
-        told: None,
-    };
-    let Ok(read) = read_image(alloc, &mut reader, None, 1 << 20, reading) else {
-        return Ok(false);
-    };
-    let is_read = read.bytes == bytes && read.digest == *left;
-    Ok(is_read && read.load(alloc).err() == *fault)
+    Ok(match read_at_once(alloc, &bytes, *most, *asked) {
+        Some(read) => {
+            let is_read = read.bytes == bytes && read.digest == *left;
+            is_read && read.load(alloc).err() == *fault
+        }
+        None => false,
+    })
 }
 
 #[test]
 fn digests_taken_meanwhile(rt: HostRuntime) -> Result<(), Fail> {
-    let image = compile(rt.alloc(), &sample())?.image;
+    let image = image(rt.alloc(), &sample())?;
     for row in &READ_DIGESTS {
         assert!(rt; is_as_wanted(rt.alloc(), &image, row)?, "{}", row.0);
     }

@@ -2,7 +2,7 @@
 
 use super::failing_files::FailingFiles;
 use super::names_in;
-use crate::tests::new_directory;
+use crate::tests::{expect_in_directory, new_directory, no_files};
 use dict_image::DigestTest;
 use mj_model::ImageFault;
 use programs::{Fault, SourceFiles, WholeFile, dictionary_at, read_files, texts, write_file};
@@ -27,24 +27,24 @@ fn is_refused(rt: &HostRuntime, path: &str) -> bool {
     is_file_fault(read.as_ref(), path) && is_file_fault(written.as_ref(), path)
 }
 
-/// The same of a file by its path behind a directory's.
-fn is_refused_in(rt: &HostRuntime, dir: &str, name: &str) -> io::Result<bool> {
+/// The same of a file by its path behind a directory's, in which there is none then.
+fn is_refused_in(rt: &HostRuntime, dir: &str, name: &&'static str) -> Result<bool, Fail> {
     let path = format!(in rt.alloc(); "{dir}{name}")?;
-    Ok(is_refused(rt, path.as_str()))
+    Ok(is_refused(rt, path.as_str()) && names_in(rt, dir)? == 0)
 }
 
-static NAMES_THAT_FAIL: [&str; 3] = ["/none/file", "", "/none/"];
+#[rattlefmt::skip]
+static NAMES_THAT_FAIL: [(&str, &str); 3] = [
+    // (what, the name behind the directory's)
+    ("in no folder", "/none/file"),
+    ("the folder",   ""),
+    ("no folder",    "/none/"),
+];
 
 #[test]
 fn files_that_fail(rt: HostRuntime) -> Result<(), Fail> {
-    let dir = new_directory(&rt, "failing")?;
-    for name in &NAMES_THAT_FAIL {
-        assert!(rt; is_refused_in(&rt, dir.as_str(), name)?, "{name}");
-    }
     assert!(rt; is_refused(&rt, ""), "no name");
-    assert!(rt; names_in(&rt, dir.as_str())? == 0);
-    fs::remove_dir_all(&rt, dir.as_str())?;
-    Ok(())
+    expect_in_directory(&rt, "failing", no_files, &NAMES_THAT_FAIL, is_refused_in)
 }
 
 #[test]
@@ -155,28 +155,46 @@ fn files_in_their_order(rt: HostRuntime) -> Result<(), Fail> {
     Ok(())
 }
 
-/// Whether an image that isn't there is told as a file.
-fn is_missing_image(rt: &HostRuntime, dir: &str) -> io::Result<bool> {
-    let path = format!(in rt.alloc(); "{dir}/none.img")?;
-    let fault = dictionary_at(rt, path.as_str(), DigestTest::Made).err();
-    Ok(is_file_fault(fault.as_ref(), path.as_str()))
+/// What is told of an image at a path.
+fn fault_at(rt: &HostRuntime, path: &str) -> Option<Fault> {
+    dictionary_at(rt, path, DigestTest::Made).err()
 }
 
-/// Whether a file that is no image is told as one.
-fn is_short_image(rt: &HostRuntime, dir: &str) -> io::Result<bool> {
+/// Makes a file that is no image.
+fn make_short(rt: &HostRuntime, dir: &str) -> Result<(), Fail> {
     let path = format!(in rt.alloc(); "{dir}/short.img")?;
     fs::write(rt, path.as_str(), "no image")?;
-    let fault = dictionary_at(rt, path.as_str(), DigestTest::Made).err();
-    Ok(fault == Some(Fault::Image(path, ImageFault::Truncated)))
+    Ok(())
 }
+
+/// Whether an image of a directory is told as one, with this fault, or else as a file.
+fn is_image_fault(
+    rt: &HostRuntime,
+    dir: &str,
+    (name, fault): &(&'static str, Option<ImageFault>),
+) -> Result<bool, Fail> {
+    let path = format!(in rt.alloc(); "{dir}/{name}")?;
+    Ok(match (&fault_at(rt, path.as_str()), fault) {
+        (Some(Fault::File(told)), None) => *told == path,
+        (Some(Fault::Image(told, found)), Some(fault)) => *told == path && found == fault,
+        _ => false,
+    })
+}
+
+#[rattlefmt::skip]
+static IMAGES_THAT_CANNOT_BE_READ: [(&str, (&str, Option<ImageFault>)); 2] = [
+    // (what, (name, the fault of an image))
+    ("missing", ("none.img",  None)),
+    ("short",   ("short.img", Some(ImageFault::Truncated))),
+];
 
 #[test]
 fn images_that_cannot_be_read(rt: HostRuntime) -> Result<(), Fail> {
-    let dir = new_directory(&rt, "images")?;
-    let is_missing = is_missing_image(&rt, dir.as_str())?;
-    let is_short = is_short_image(&rt, dir.as_str())?;
-    fs::remove_dir_all(&rt, dir.as_str())?;
-    assert!(rt; is_missing);
-    assert!(rt; is_short);
-    Ok(())
+    expect_in_directory(
+        &rt,
+        "images",
+        make_short,
+        &IMAGES_THAT_CANNOT_BE_READ,
+        is_image_fault,
+    )
 }

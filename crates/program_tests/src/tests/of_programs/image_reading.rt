@@ -4,7 +4,7 @@ use Answer::{Endless, Refused, Whole};
 use First::{Image, Other};
 use dict_image::DigestTest;
 use mj_model::ImageFault::{self, BadLayout, BadMagic, BadSection, Truncated};
-use programs::{ImageReadFault, ImageReading, ReadFault, ReadImage, read_image};
+use programs::{ImageReadFault, ImageReading, ReadFault, read_image};
 use std::alloc::{AllocError, Global};
 use std::io::{self, Read};
 use std::process::Abort;
@@ -57,16 +57,19 @@ enum Answer {
     Endless,
 }
 
-/// Where the digest is tested, and nobody is told how far the reading is.
-fn tested() -> ImageReading<'static> {
-    ImageReading {
+/// What is answered of a reader that gives these bytes, where the digest is tested and nobody is told how far the reading is.
+fn answered<R: Read>(
+    alloc: Global,
+    reader: &mut R,
+    known: Option<u64>,
+    reads: u64,
+    bytes: &[u8],
+) -> Option<Answer> {
+    let reading = ImageReading {
         digest: DigestTest::Made,
         told: None,
-    }
-}
-
-fn answered(read: Result<ReadImage, ImageReadFault>, bytes: &[u8]) -> Option<Answer> {
-    match read {
+    };
+    match read_image(alloc, reader, known, reads, reading) {
         Ok(image) => (image.bytes.as_slice() == bytes).then_some(Answer::Whole),
         Err(ImageReadFault::Image(fault)) => Some(Answer::Refused(fault)),
         Err(ImageReadFault::Read(ReadFault::Endless)) => Some(Answer::Endless),
@@ -83,8 +86,8 @@ fn expect_judged(
 ) -> Result<(), AllocError> {
     let bytes = image(rt.alloc(), *layout, *section, *behind)?;
     let mut reader = bytes.as_slice();
-    let read = read_image(rt.alloc(), &mut reader, *known, *reads, tested());
-    assert!(rt; answered(read, &bytes) == Some(*wanted), "{what}");
+    let answer = answered(rt.alloc(), &mut reader, *known, *reads, &bytes);
+    assert!(rt; answer == Some(*wanted), "{what}");
     Ok(())
 }
 
@@ -147,8 +150,8 @@ fn expect_dripping(
         ends: *ends,
         reads: 0,
     };
-    let read = read_image(rt.alloc(), &mut reader, None, 1 << 40, tested());
-    assert!(rt; answered(read, bytes) == Some(*wanted), "{what}");
+    let answer = answered(rt.alloc(), &mut reader, None, 1 << 40, bytes);
+    assert!(rt; answer == Some(*wanted), "{what}");
     assert!(rt; reader.reads <= *most, "{what}: {} reads", reader.reads);
 }
 

@@ -132,12 +132,16 @@ static TOLD_FAULTS: [(Told, &str, u8); 51] = [
     (Told::Memory,                                  "Memory",                          4),
 ];
 
+/// Whether a fault is told in this line with this status, and the line has its words.
+fn is_line(alloc: Global, fault: &Fault, line: &str, status: u8) -> Result<bool, Fail> {
+    Ok(is_told(alloc, fault, line, status)? && has_words(alloc, line, fault)?)
+}
+
 #[test]
 fn told_faults(rt: HostRuntime) -> Result<(), Fail> {
     for (told, line, status) in &TOLD_FAULTS {
         let fault = told.fault(rt.alloc())?;
-        assert!(rt; is_told(rt.alloc(), &fault, line, *status)?, "{line}");
-        assert!(rt; has_words(rt.alloc(), line, &fault)?, "{line}");
+        assert!(rt; is_line(rt.alloc(), &fault, line, *status)?, "{line}");
         assert!(rt; is_explained(&fault), "{line}");
     }
     Ok(())
@@ -167,36 +171,69 @@ static CARRIED_SOURCES: [(SourceKind, &str); 2] = [
     (SourceKind::MissingCategory(4), "file 4, line 12: U2 MissingCategory 4"),
 ];
 
+/// Whether a fault, and those that carry it, are printed in this text, which has its words.
+fn is_carried(alloc: Global, kind: SourceKind, text: &str) -> Result<bool, Fail> {
+    let fault = kind.at(4, 12);
+    Ok(
+        has_words(alloc, text, kind)?
+            && is_printed(alloc, text, fault)?
+            && is_printed(alloc, text, RunFault::Source(fault))?
+            && is_printed(alloc, text, RunFault::UserSource(1, fault))?,
+    )
+}
+
 #[test]
 fn carried_sources(rt: HostRuntime) -> Result<(), Fail> {
     for (kind, text) in &CARRIED_SOURCES {
-        let fault = kind.at(4, 12);
-        assert!(rt; has_words(rt.alloc(), text, *kind)?, "{text}");
-        assert!(rt; is_printed(rt.alloc(), text, fault)?, "{text}");
-        assert!(rt;
-            is_printed(rt.alloc(), text, RunFault::Source(fault))?,
-            "{text}"
-        );
-        assert!(rt;
-            is_printed(rt.alloc(), text, RunFault::UserSource(1, fault))?,
-            "{text}"
-        );
+        assert!(rt; is_carried(rt.alloc(), *kind, text)?, "{text}");
     }
     Ok(())
+}
+
+/// Whether a fault is printed in this text behind a path.
+fn is_behind(alloc: Global, fault: &Fault, path: &str, text: &str) -> Result<bool, Fail> {
+    let printed = format!(in alloc; "{fault}")?;
+    let wanted = format!(in alloc; "{path}{text}")?;
+    Ok(printed == wanted)
+}
+
+/// The fault of an image or a file at a path.
+fn image_or_file(alloc: Global, path: &str, is_image: bool) -> Result<Fault, AllocError> {
+    let path = String::from_str(alloc, path)?;
+    if is_image {
+        Ok(Fault::Image(path, ImageFault::Truncated))
+    } else {
+        Ok(Fault::File(path))
+    }
 }
 
 /// Whether a path is told so in each fault that has one.
 fn is_path_told(alloc: Global, path: &str, told: &str) -> Result<bool, Fail> {
     let bad = SourceKind::BadNumber.at(3, 7);
-    let source = Fault::of_source(alloc, Some(path), bad);
-    let overlay = Fault::of_overlay(alloc, path, NotSystem);
-    let image = Fault::Image(String::from_str(alloc, path)?, ImageFault::Truncated);
-    let file = Fault::File(String::from_str(alloc, path)?);
-    let text = format!(in alloc; "{source}; {overlay}; {image}; {file}")?;
-    let wanted = format!(in alloc;
-        "{told}:7: S3 BadNumber; {told}: O1 NotSystem; {told}: L1 Truncated; {told}: F1 File"
-    )?;
-    Ok(text == wanted)
+    let source = ":7: S3 BadNumber";
+    Ok(
+        is_behind(
+            alloc,
+            &Fault::of_source(alloc, Some(path), bad),
+            told,
+            source,
+        )? && is_behind(
+            alloc,
+            &Fault::of_overlay(alloc, path, NotSystem),
+            told,
+            ": O1 NotSystem",
+        )? && is_behind(
+            alloc,
+            &image_or_file(alloc, path, true)?,
+            told,
+            ": L1 Truncated",
+        )? && is_behind(
+            alloc,
+            &image_or_file(alloc, path, false)?,
+            told,
+            ": F1 File",
+        )?,
+    )
 }
 
 /// A path is told in one line.

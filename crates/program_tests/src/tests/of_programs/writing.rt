@@ -2,7 +2,7 @@
 
 use super::failing_files::FailingFiles;
 use super::names_in;
-use crate::tests::new_directory;
+use crate::tests::{expect_in_directory, new_directory, no_files};
 use programs::{Fault, write_as, write_file};
 use std::alloc::{AllocError, Global};
 use std::fs::{self, Permissions};
@@ -11,22 +11,26 @@ use std::os::unix::fs::{PermissionsExt, symlink};
 use std::string::String;
 use std::test::Fail;
 
-/// A new directory of this test's own, and the path of a file in it.
+/// The path of a directory's file.
+fn file_in(rt: &HostRuntime, dir: &str) -> io::Result<String> {
+    Ok(format!(in rt.alloc(); "{dir}/file")?)
+}
+
+/// A new directory of this test's own, and the path of its file.
 fn new_place(rt: &HostRuntime, test: &str) -> io::Result<(String, String)> {
     let dir = new_directory(rt, test)?;
-    let path = format!(in rt.alloc(); "{dir}/file")?;
+    let path = file_in(rt, dir.as_str())?;
     Ok((dir, path))
+}
+
+/// Whether a file is written, and then has these bytes.
+fn is_kept(rt: &HostRuntime, path: &str, bytes: &[u8]) -> io::Result<bool> {
+    Ok(write_file(rt, path, bytes).is_ok() && has_bytes(rt, path, bytes)?)
 }
 
 /// Whether these are the bytes of the file at a path.
 fn has_bytes(rt: &HostRuntime, path: &str, bytes: &[u8]) -> io::Result<bool> {
     Ok(fs::read(rt, path)?.as_slice() == bytes)
-}
-
-/// Writes a file of a directory. Whether it then has these bytes, and no other name is there.
-fn is_written(rt: &HostRuntime, dir: &str, path: &str, bytes: &[u8]) -> io::Result<bool> {
-    let written = write_file(rt, path, bytes).is_ok();
-    Ok(written && has_bytes(rt, path, bytes)? && names_in(rt, dir)? == 1)
 }
 
 /// More bytes than are written at once.
@@ -36,43 +40,47 @@ fn many_bytes(alloc: Global) -> Result<Vec<u8>, AllocError> {
         .collect(alloc)
 }
 
-static WRITTEN_BYTES: [(&str, &[u8]); 5] = [
-    ("first", b"first"),
-    ("in its place", b"in its place"),
-    ("one byte", b"\xff"),
-    ("another", b"\0"),
-    ("none", b""),
+/// What is written: these bytes, or else many.
+fn bytes_of(alloc: Global, few: Option<&[u8]>) -> Result<Vec<u8>, AllocError> {
+    match few {
+        Some(bytes) => Vec::from_slice(alloc, bytes),
+        None => many_bytes(alloc),
+    }
+}
+
+/// Writes a directory's file. Whether it then has these bytes, and no other name is there.
+fn is_written(rt: &HostRuntime, dir: &str, few: &Option<&'static [u8]>) -> Result<bool, Fail> {
+    let bytes = bytes_of(rt.alloc(), *few)?;
+    let path = file_in(rt, dir)?;
+    Ok(is_kept(rt, path.as_str(), &bytes)? && names_in(rt, dir)? == 1)
+}
+
+#[rattlefmt::skip]
+static WRITTEN_BYTES: [(&str, Option<&[u8]>); 6] = [
+    ("first",         Some(b"first")),
+    ("in its place",  Some(b"in its place")),
+    ("one byte",      Some(b"\xff")),
+    ("another",       Some(b"\0")),
+    ("none",          Some(b"")),
+    ("above 256 KiB", None),
 ];
 
 #[test]
 fn written_bytes(rt: HostRuntime) -> Result<(), Fail> {
-    let (dir, path) = new_place(&rt, "written")?;
-    for (what, bytes) in &WRITTEN_BYTES {
-        assert!(rt;
-            is_written(&rt, dir.as_str(), path.as_str(), bytes)?,
-            "{what}"
-        );
-    }
-    let large = many_bytes(rt.alloc())?;
-    assert!(rt;
-        is_written(&rt, dir.as_str(), path.as_str(), &large)?,
-        "above 256 KiB"
-    );
-    fs::remove_dir_all(&rt, dir.as_str())?;
-    Ok(())
+    expect_in_directory(&rt, "written", no_files, &WRITTEN_BYTES, is_written)
 }
 
-/// A name, the room of a file, the bytes that it takes at once, whether it is interrupted, synced and renamed, and so written.
-type WriteRow = (&'static str, usize, usize, bool, bool, bool, bool);
+/// The room of a file, the bytes that it takes at once, whether it is interrupted, synced and renamed, and so written.
+type WriteRow = (usize, usize, bool, bool, bool, bool);
 
 /// Writes a file that stands there already, where calls fail so. Whether it then has all of the new bytes, or else the old ones.
 fn is_whole_or_old(
     rt: &HostRuntime,
     dir: &str,
-    path: &str,
-    (_what, room, at_once, interrupts, syncs, renames, is_written): &WriteRow,
-) -> io::Result<bool> {
-    fs::write(rt, path, "old")?;
+    (room, at_once, interrupts, syncs, renames, is_written): &WriteRow,
+) -> Result<bool, Fail> {
+    let path = file_in(rt, dir)?;
+    fs::write(rt, path.as_str(), "old")?;
     let files = FailingFiles {
         room: *room,
         at_once: *at_once,
@@ -81,38 +89,35 @@ fn is_whole_or_old(
         renames: *renames,
         ..FailingFiles::none(rt)
     };
-    let written = write_as(&files, 7, path, b"new bytes").is_ok();
+    let written = write_as(&files, 7, path.as_str(), b"new bytes").is_ok();
     let wanted = if *is_written { "new bytes" } else { "old" };
-    let has_wanted = has_bytes(rt, path, wanted.as_bytes())?;
+    let has_wanted = has_bytes(rt, path.as_str(), wanted.as_bytes())?;
     Ok(written == *is_written && has_wanted && names_in(rt, dir)? == 1)
 }
 
 #[rattlefmt::skip]
-static WHOLE_OR_NOT_AT_ALL: [WriteRow; 9] = [
-    // (what, room, bytes at once, whether it is interrupted, synced, renamed, and so written)
-    ("all at once",    9, 9, false, true,  true,  true),
-    ("short writes",   9, 2, false, true,  true,  true),
-    ("single bytes",   9, 1, false, true,  true,  true),
-    ("no room",        0, 9, false, true,  true,  false),
-    ("room for some",  8, 9, false, true,  true,  false),
-    ("for some bytes", 5, 1, false, true,  true,  false),
-    ("interrupted",    9, 9, true,  true,  true,  false),
-    ("not synced",     9, 9, false, false, true,  false),
-    ("not renamed",    9, 9, false, true,  false, false),
+static WHOLE_OR_NOT_AT_ALL: [(&str, WriteRow); 9] = [
+    // (what, (room, bytes at once, whether it is interrupted, synced, renamed, and so written))
+    ("all at once",    (9, 9, false, true,  true,  true)),
+    ("short writes",   (9, 2, false, true,  true,  true)),
+    ("single bytes",   (9, 1, false, true,  true,  true)),
+    ("no room",        (0, 9, false, true,  true,  false)),
+    ("room for some",  (8, 9, false, true,  true,  false)),
+    ("for some bytes", (5, 1, false, true,  true,  false)),
+    ("interrupted",    (9, 9, true,  true,  true,  false)),
+    ("not synced",     (9, 9, false, false, true,  false)),
+    ("not renamed",    (9, 9, false, true,  false, false)),
 ];
 
 #[test]
 fn whole_or_not_at_all(rt: HostRuntime) -> Result<(), Fail> {
-    let (dir, path) = new_place(&rt, "whole")?;
-    for row in &WHOLE_OR_NOT_AT_ALL {
-        let what = row.0;
-        assert!(rt;
-            is_whole_or_old(&rt, dir.as_str(), path.as_str(), row)?,
-            "{what}"
-        );
-    }
-    fs::remove_dir_all(&rt, dir.as_str())?;
-    Ok(())
+    expect_in_directory(
+        &rt,
+        "whole",
+        no_files,
+        &WHOLE_OR_NOT_AT_ALL,
+        is_whole_or_old,
+    )
 }
 
 /// The path of a new file, by its number, which process 7 would write.
@@ -157,11 +162,6 @@ fn are_written(rt: &HostRuntime, dir: &str, length: usize) -> io::Result<bool> {
     Ok(is_kept(rt, path.as_str(), b"first")? && is_kept(rt, path.as_str(), b"other")?)
 }
 
-/// Whether a file is written, and then has these bytes.
-fn is_kept(rt: &HostRuntime, path: &str, bytes: &[u8]) -> io::Result<bool> {
-    Ok(write_file(rt, path, bytes).is_ok() && has_bytes(rt, path, bytes)?)
-}
-
 static LENGTHS: [usize; 4] = [240, 241, 254, 255];
 
 /// A name has up to 255 bytes: that of the new file is a short one.
@@ -176,26 +176,27 @@ fn long_names(rt: HostRuntime) -> Result<(), Fail> {
     Ok(())
 }
 
-/// Whether a file of a mode is written, and keeps it.
-fn keeps_mode(rt: &HostRuntime, path: &str, mode: u32) -> io::Result<bool> {
-    fs::set_permissions(rt, path, Permissions::from_mode(mode))?;
-    let files = FailingFiles::none(rt);
-    let is_written = write_as(&files, 7, path, b"new").is_ok();
-    let kept = fs::metadata(rt, path)?.permissions().mode();
-    Ok(is_written && kept & 0o777 == mode)
+/// Makes the file.
+fn make_file(rt: &HostRuntime, dir: &str) -> Result<(), Fail> {
+    fs::write(rt, file_in(rt, dir)?, "old")?;
+    Ok(())
 }
 
-static MODES: [u32; 3] = [0o600, 0o444, 0o664];
+/// Whether the file of a mode is written, and keeps it.
+fn keeps_mode(rt: &HostRuntime, dir: &str, mode: &u32) -> Result<bool, Fail> {
+    let path = file_in(rt, dir)?;
+    fs::set_permissions(rt, path.as_str(), Permissions::from_mode(*mode))?;
+    let files = FailingFiles::none(rt);
+    let is_written = write_as(&files, 7, path.as_str(), b"new").is_ok();
+    let kept = fs::metadata(rt, path.as_str())?.permissions().mode();
+    Ok(is_written && kept & 0o777 == *mode)
+}
+
+static MODES: [(&str, u32); 3] = [("600", 0o600), ("444", 0o444), ("664", 0o664)];
 
 #[test]
 fn modes_are_kept(rt: HostRuntime) -> Result<(), Fail> {
-    let (dir, path) = new_place(&rt, "modes")?;
-    fs::write(&rt, path.as_str(), "old")?;
-    for mode in &MODES {
-        assert!(rt; keeps_mode(&rt, path.as_str(), *mode)?, "{mode:o}");
-    }
-    fs::remove_dir_all(&rt, dir.as_str())?;
-    Ok(())
+    expect_in_directory(&rt, "modes", make_file, &MODES, keeps_mode)
 }
 
 /// Whether what is written to a link is in the file that it leads to, and it stays a link.
