@@ -4,8 +4,8 @@ mod growing;
 mod grown_cells;
 mod relocated;
 
-use self::access::{has_hits, has_value, inserts};
-use double_array::{CellRead, DaFault, DoubleArray};
+use self::access::{has_hits, has_value, insert, inserts};
+use double_array::{CellRead, DaFault, DoubleArray, Inserted};
 use std::test::Fail;
 use test_words::{FaultRow, first_untold};
 
@@ -105,7 +105,11 @@ fn words_of_faults(rt: HostRuntime) -> Result<(), Fail> {
 fn a_long_key(rt: HostRuntime) -> Result<(), Fail> {
     let key = [7; 65_535];
     let mut array = DoubleArray::new(rt.alloc())?;
-    assert!(rt; inserts(&mut array, &key, 3, None)?);
+    let first = Inserted {
+        old: None,
+        moved: 0,
+    };
+    assert_eq!(rt; insert(&mut array, &key, 3)?, first);
     assert!(rt; has_value(&array, &key, Some(3)));
     assert!(rt; has_value(&array, &key[1..], None));
     assert!(rt; has_hits(&array, &key, &[(65_535, 3)], 131_071));

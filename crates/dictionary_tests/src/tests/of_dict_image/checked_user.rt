@@ -64,7 +64,7 @@ fn changes_behind_the_digest(rt: HostRuntime) -> Result<(), Fail> {
     expect_faults(&rt, Changed::Sealed, &BEHIND_THE_DIGEST)
 }
 
-/// Lengths of less than the image.
+/// Lengths that are less than the image's.
 static LENGTHS: [usize; 6] = [0, 103, 104, 928, 929, 960];
 
 #[test]

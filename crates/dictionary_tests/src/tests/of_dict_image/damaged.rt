@@ -39,7 +39,7 @@ fn answers_plainly(alloc: Global, image: &[u8]) -> Result<bool, AllocError> {
     })
 }
 
-/// The first byte of an image whose change to this one is answered otherwise than by the plain reader.
+/// The place of the first byte whose change to this value is answered otherwise than by the plain reader.
 fn other_answer(alloc: Global, bytes: &[u8], byte: u8) -> Result<Option<usize>, AllocError> {
     for place in 0..bytes.len() {
         if !answers_plainly(alloc, &with_byte(alloc, bytes, place, byte)?)? {
@@ -49,7 +49,7 @@ fn other_answer(alloc: Global, bytes: &[u8], byte: u8) -> Result<Option<usize>, 
     Ok(None)
 }
 
-/// The first byte of an image whose change to one of these is answered otherwise than by the plain reader, and that one.
+/// The place of the first byte whose change to one of these values is answered otherwise than by the plain reader, and the value.
 fn other_answer_to_any(alloc: Global, bytes: &[u8]) -> Result<Option<(usize, u8)>, AllocError> {
     for byte in [0, 1, 0x80, 0xff] {
         if let Some(place) = other_answer(alloc, bytes, byte)? {
@@ -109,7 +109,7 @@ fn flipped_bits_of_layout_3(rt: HostRuntime) -> Result<(), Fail> {
     Ok(())
 }
 
-/// The first other byte of the layout 3 image whose change to this one is not refused as it should be.
+/// The place of the first byte of the layout 3 image that differs from this value and whose change to it is not refused as it should be.
 fn other_fault(alloc: Global, image: &[u8], byte: u8) -> Result<Option<usize>, AllocError> {
     for (place, old) in image.iter().enumerate() {
         if *old != byte && !is_refused_with(alloc, image, place, byte)? {

@@ -92,7 +92,8 @@ fn has_prefixes(
 #[test]
 fn prefixes_of_listed_keys(rt: HostRuntime) -> Result<(), Fail> {
     for (keys, text, expected) in &PREFIXES {
-        assert!(rt; has_prefixes(rt.alloc(), keys, text, expected)?, "{text}");
+        let has = has_prefixes(rt.alloc(), keys, text, expected)?;
+        assert!(rt; has, "{text} among {} bytes of keys", keys.len());
     }
     Ok(())
 }

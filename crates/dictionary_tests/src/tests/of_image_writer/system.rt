@@ -59,16 +59,16 @@ static TOKEN_ROWS: [(&str, &[u8; 16]); 9] = [
     ("HIRAGANA", b"\x01\0\x01\0\xe8\x03\0\0\x27\0\0\0\x06\0\0\0"),
 ];
 
-/// Whether these are the features, one behind another.
-fn are_features(bytes: &[u8]) -> bool {
+/// The first of the features that does not stand behind the one before it.
+fn missing_feature(bytes: &[u8]) -> Option<&'static str> {
     let mut rest = bytes;
     for feature in &FEATURES {
         if !rest.starts_with(feature.as_bytes()) {
-            return false;
+            return Some(*feature);
         }
         rest = rest.get(feature.len()..).unwrap_or(b"");
     }
-    rest.is_empty()
+    None
 }
 
 #[test]
@@ -79,7 +79,7 @@ fn sections_of_the_lexicon(rt: HostRuntime) -> Result<(), Fail> {
     let groups = b"\0\0\0\0\x01\0\0\0\x02\0\0\0\x03\0\0\0";
     assert!(rt; section(&image, 6) == groups.as_slice());
     assert_eq!(rt; section(&image, 8).len(), 45);
-    assert!(rt; are_features(section(&image, 8)));
+    assert_eq!(rt; missing_feature(section(&image, 8)), None);
     assert_eq!(rt; section(&image, 7).len(), 16 * TOKEN_ROWS.len());
     for ((what, expected), token) in TOKEN_ROWS.iter().zip(section(&image, 7).chunks(16)) {
         assert!(rt; token == expected.as_slice(), "{what}");

@@ -50,7 +50,7 @@ pub fn joined_again(
     Ok(again!(rt, Err(_), joined(rt.alloc(), source, further))?)
 }
 
-/// What a source says, or its fault, where the runtime works at all.
+/// What a source says, or its fault; an outer fault is one of the test itself.
 pub type Read<T> = Result<Result<T, SourceFault>, Fail>;
 
 /// What a `char.def` says.

@@ -67,7 +67,7 @@ pub fn insert(array: &mut DoubleArray, key: &[u8], value: u32) -> Result<Inserte
     array.insert(key, value)
 }
 
-/// Inserts a key. Whether it had this value before; one that is inserted anew moves no cells where it had one.
+/// Inserts a key. Whether it had this value before, and where it had one, whether no cells were moved.
 pub fn inserts(
     array: &mut DoubleArray,
     key: &[u8],

@@ -87,7 +87,7 @@ pub fn fault_behind(
 ) -> Result<Option<SourceFault>, Fail> {
     let mut out = one_record(rt)?;
     let read = read_behind(rt, number, lexicon, &mut out)?;
-    assert!(rt; stand_behind(&out, &[]));
+    assert!(rt; stand_behind(&out, &[]), "{lexicon:?}");
     Ok(read.err())
 }
 
