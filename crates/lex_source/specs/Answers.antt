@@ -55,11 +55,6 @@ AnswersRecord number line answer =
     MatchResult answer (λ found. IsOutcome row_outcome number line (record_outcome found))
     (λ kind. IsOrMemory kind (IsOutcome row_outcome number line (Refused kind)))
 
--- an outcome
-abbrev pub AnswersOutcome : Outcome → Result LineOutcome SourceKind → Type 0
-AnswersOutcome outcome answer =
-    MatchResult answer (λ read. outcome ≡ outcome_of read) (λ kind. IsOrMemory kind (outcome ≡ Refused kind))
-
 -- the record that an outcome accepts
 abbrev pub AnswersAccepted : Outcome → Result Record SourceKind → Type 0
 AnswersAccepted outcome answer =

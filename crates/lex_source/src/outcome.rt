@@ -1,8 +1,8 @@
 //! What comes of a line of a lexicon.
-ghost use Rattle.std.specs.Prelude.{◌≡◌, ℕ, Some, None, option_map};
+ghost use Rattle.std.specs.Prelude.{◌≡◌, ℕ, Some, option_map};
 ghost use Rattle.mj_model.specs.declared.source_fault.SourceKind.TheVariants.{BadNumber};
-ghost use Rattle.mj_model.specs.Lexicon.{Parts, Accepted, lexicon_outcome, row_from, accept_short};
-ghost use Rattle.lex_source.specs.Answers.{AnswersAccepted, AnswersLine, AnswersOutcome, AnswersRow};
+ghost use Rattle.mj_model.specs.Lexicon.{Parts, Accepted, row_from, accept_short};
+ghost use Rattle.lex_source.specs.Answers.{AnswersAccepted, AnswersLine, AnswersRow};
 ghost use Rattle.lex_source.specs.Spelled.{StandsFor};
 ghost use Rattle.lex_source.specs.Steps.{row_with};
 
@@ -36,22 +36,9 @@ pub(crate) fn read_line(
 ) -> Result<LineOutcome<'_>, SourceKind>
     ensures { AnswersLine number line.now result }
 {
-    match split_line(line)? {
-        Some(parts) => read_parts(alloc, number, parts),
-        None => Ok(LineOutcome::Blank),
-    }
-}
-
-/// What comes of a line with these parts.
-fn read_parts<'a>(
-    alloc: Global,
-    number: u64,
-    parts: LineParts<'a>,
-) -> Result<LineOutcome<'a>, SourceKind>
-    requires { (meant : Parts) × StandsFor parts meant }
-    ensures { (meant : Parts) → StandsFor parts.entry meant
-        → AnswersOutcome (lexicon_outcome number meant) result }
-{
+    let Some(parts) = split_line(line)? else {
+        return Ok(LineOutcome::Blank);
+    };
     if parts.surface.raw.is_empty() {
         return Ok(LineOutcome::Skipped);
     }

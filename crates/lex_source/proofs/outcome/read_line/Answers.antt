@@ -1,17 +1,29 @@
-use Rattle.std.proofs.Common.{refl}
-use Rattle.std.proofs.lemmas.Result.{MatchResult-weaker}
-use Rattle.mj_model.specs.Lexicon.{is_blank, lexicon_outcome}
+use Rattle.std.proofs.Common.{◌∙◌, refl, sym}
+use Rattle.std.proofs.lemmas.Result.{err_from_is_err_and}
+use Rattle.mj_model.specs.Lexicon.{Skipped, is_blank, lexicon_outcome}
 use Rattle.lex_source.specs.Spelled.{HasEntry}
-use Rattle.lex_source.specs.Steps.{outcome_of}
-use Rattle.lex_source.proofs.OutcomeLemmas.{parts_outcome, parts_refusal}
+use Rattle.lex_source.proofs.OutcomeLemmas.{is_judged_line, is_skipped_line, judged_refusal, parts_outcome, parts_refusal}
 use Rattle.lex_source.proofs.outcome.read_line.Goals as goal
 
-pub returns-in-Some : goal.returns-in-Some
-returns-in-Some c =
-    let entry : HasEntry c.args.line.now c.in-Some.parts = rw c.in-Some.is at c.in_ok-parts.ensures in
-    MatchResult-weaker c.read_parts.result (c.read_parts.ensures entry.has.parts entry.has.stands)
-    (λ read is. parts_outcome lexicon_outcome c.args.number c.args.line.now c.args.line.now entry.has.parts (outcome_of read) entry.filled refl entry.utf8 entry.has.first is)
-    (λ kind is. parts_refusal lexicon_outcome c.args.number c.args.line.now c.args.line.now entry.has.parts kind entry.filled refl entry.utf8 entry.has.first is)
+pub returns-in_default : goal.returns-in_default
+returns-in_default c = is_blank (rw c.in_default.is at c.in_ok-parts.ensures)
 
-pub returns-in-None : goal.returns-in-None
-returns-in-None c = is_blank (rw c.in-None.is at c.in_ok-parts.ensures)
+pub returns-then-is_empty : goal.returns-then-is_empty
+returns-then-is_empty c =
+    let entry : HasEntry c.args.line.now c.in-Some.parts = rw c.in-Some.is at c.in_ok-parts.ensures in
+    parts_outcome lexicon_outcome c.args.number c.args.line.now c.args.line.now entry.has.parts Skipped entry.filled refl entry.utf8 entry.has.first
+    (is_skipped_line c.args.number entry.has.parts _ _ entry.has.stands.surface (sym c.is_empty.ensures ∙ c.if-is_empty.true))
+
+pub returns-in_err-accept : goal.returns-in_err-accept
+returns-in_err-accept c =
+    let entry : HasEntry c.args.line.now c.in-Some.parts = rw c.in-Some.is at c.in_ok-parts.ensures in
+    let p = err_from_is_err_and c.from_residual-in_err-accept.result c.from_residual-in_err-accept.ensures.1 in
+    rw (p.1, p.2) (parts_refusal lexicon_outcome c.args.number c.args.line.now c.args.line.now entry.has.parts c.in_err-accept.field-0.0 entry.filled refl entry.utf8 entry.has.first
+    (judged_refusal c.args.number entry.has.parts _ _ c.in_err-accept.field-0.0 entry.has.stands.surface (sym c.is_empty.ensures ∙ c.if-is_empty.false)
+    (c.in_err-accept.ensures entry.has.parts entry.has.stands)))
+
+pub returns : goal.returns
+returns c =
+    let entry : HasEntry c.args.line.now c.in-Some.parts = rw c.in-Some.is at c.in_ok-parts.ensures in
+    parts_outcome lexicon_outcome c.args.number c.args.line.now c.args.line.now entry.has.parts _ entry.filled refl entry.utf8 entry.has.first
+    (is_judged_line c.args.number entry.has.parts _ _ entry.has.stands.surface (sym c.is_empty.ensures ∙ c.if-is_empty.false) ∙ c.in_ok-accept.ensures entry.has.parts entry.has.stands)
