@@ -7,7 +7,8 @@ ghost use Rattle.cell_walk.specs.Reads.{walk_reads};
 ghost use Rattle.cell_walk.specs.Walking.{walked_to};
 
 use crate::cell_read::CellRead;
-use crate::walk::{Hit, Walk, begin, next_hit};
+use crate::hit::Hit;
+use crate::walk::{Walk, begin, next_hit};
 use std::marker::Model;
 
 /// The keys of a map that begin a text, the shortest first.

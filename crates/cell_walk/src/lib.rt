@@ -2,12 +2,13 @@
 #![tactic(auto)]
 
 mod cell_read;
+mod hit;
 mod hits;
 mod lookup;
 mod steps;
 mod walk;
 
 pub use cell_read::CellRead;
+pub use hit::Hit;
 pub use hits::Prefixes;
 pub use lookup::{get, prefixes};
-pub use walk::Hit;

@@ -7,14 +7,8 @@ ghost use Rattle.cell_walk.specs.CellMap.{prefixes_of};
 ghost use Rattle.cell_walk.specs.CellRules.{AreCells};
 
 use crate::cell_read::CellRead;
+use crate::hit::Hit;
 use crate::steps::{Place, root, step, value_at};
-
-/// A key that begins the text: its length in bytes, and its value.
-#[derive(Clone, Copy, Debug, PartialEq, Eq, Drop)]
-pub struct Hit {
-    pub length: usize,
-    pub value: u32,
-}
 
 /// How far a walk has come: the bytes walked over, where it stands until it ends, and the cells read.
 #[derive(Clone, Copy, Debug, Drop)]
