@@ -3,11 +3,10 @@
 ghost use Rattle.std.specs.Prelude.{◌≡◌, ◌≤◌, length, IfOk, OnOk, OnErr};
 ghost use Rattle.mj_model.specs.declared.limits.TheConstants.{SENTENCE_MAX};
 ghost use Rattle.paths.specs.BestOver.{IsBestOver, cost_over};
-ghost use Rattle.path_search.specs.SearchedText.{CanBeSearched, IsBestIn, cost_of};
 ghost use Rattle.word_lookup.specs.Overlays.{overlay_of};
 
 use crate::dictionary_text::DictionaryText;
-use path_search::{Search, WordSource};
+use path_search::Search;
 use paths::Path;
 use std::alloc::{AllocError, Global};
 use word_lookup::Dictionaries;
@@ -29,21 +28,6 @@ impl Lattice {
         }
     }
 
-    /// Makes `path` the best path of a text. Its memory and the lattice's are used again.
-    pub fn fill<S: WordSource>(&mut self, source: &S, path: &mut Path) -> Result<(), AllocError>
-        requires { CanBeSearched (S.says source.now) }
-        // It is before every other path.
-        ensures best { OnOk result (IsBestIn (S.says source.now) path.new.words.items) }
-        ensures total { OnOk result
-            (path.new.total ≡ cost_of (S.says source.now) path.new.words.items) }
-
-        // On an error the path is as it was.
-        ensures words_kept { OnErr result (path.new.words.items ≡ path.old.words.items) }
-        ensures total_kept { OnErr result (path.new.total ≡ path.old.total) }
-    {
-        self.search.fill(source, path)
-    }
-
     /// Makes `path` the best path of a text of at most `SENTENCE_MAX` bytes. Its memory and the lattice's are used again.
     pub fn fill_best(
         &mut self,
@@ -61,7 +45,8 @@ impl Lattice {
         ensures words_kept { OnErr result (path.new.words.items ≡ path.old.words.items) }
         ensures total_kept { OnErr result (path.new.total ≡ path.old.total) }
     {
-        self.fill(&DictionaryText { dictionaries, text }, path)
+        self.search
+            .fill(&DictionaryText { dictionaries, text }, path)
     }
 
     /// The best path of a text of at most `SENTENCE_MAX` bytes.

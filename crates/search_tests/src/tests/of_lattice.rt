@@ -7,7 +7,8 @@ mod starved;
 
 use super::all_match;
 use super::sample::{A, AB, B, C, WordRow, has_number, sample_of};
-use lattice::{Lattice, Path};
+use path_search::Search;
+use paths::Path;
 use std::alloc::{AllocError, Global};
 use std::process::Abort;
 use std::test::Fail;
@@ -15,13 +16,13 @@ use std::test::Fail;
 /// Makes a path the best one of a text, by its length and its words.
 fn fill(
     alloc: Global,
-    lattice: &mut Lattice,
+    search: &mut Search,
     length: u16,
     words: &[WordRow],
     path: &mut Path,
 ) -> Result<(), AllocError> {
     let sample = sample_of(alloc, length, words)?;
-    lattice.fill(&sample, path)
+    search.fill(&sample, path)
 }
 
 /// No path yet.
@@ -35,29 +36,29 @@ fn no_path(alloc: Global) -> Path {
 /// A text by its length and its words, and the numbers of the words of its best path with their total.
 type BestRow<'a> = ((u16, &'a [WordRow]), (&'a [usize], i64));
 
-/// Asks a lattice for the best path of a text.
+/// Asks a search for the best path of a text.
 fn expect_path(
     rt: &(impl Abort + Alloc<A = Global>),
-    lattice: &mut Lattice,
+    search: &mut Search,
     what: &str,
     ((length, words), (numbers, total)): BestRow<'_>,
 ) -> Result<(), AllocError> {
     let mut path = no_path(rt.alloc());
-    fill(rt.alloc(), lattice, length, words, &mut path)?;
+    fill(rt.alloc(), search, length, words, &mut path)?;
     assert_eq!(rt; path.total, total, "{what}");
     assert!(rt; all_match(&path.words, numbers, has_number), "{what}");
     Ok(())
 }
 
-/// Asks a new lattice and this one for the best path of a text.
+/// Asks a new search and this one for the best path of a text.
 fn expect_best(
     rt: &(impl Abort + Alloc<A = Global>),
-    lattice: &mut Lattice,
+    search: &mut Search,
     what: &str,
     row: BestRow<'_>,
 ) -> Result<(), AllocError> {
-    expect_path(rt, &mut Lattice::new(rt.alloc()), what, row)?;
-    expect_path(rt, lattice, what, row)
+    expect_path(rt, &mut Search::new(rt.alloc()), what, row)?;
+    expect_path(rt, search, what, row)
 }
 
 const DEAR_AB: WordRow = (0, 2, 900);
@@ -77,9 +78,9 @@ static BEST_PATHS: [(&str, BestRow<'static>); 7] = [
 
 #[test]
 fn best_paths(rt: HostRuntime) -> Result<(), Fail> {
-    let mut lattice = Lattice::new(rt.alloc());
+    let mut search = Search::new(rt.alloc());
     for (what, row) in &BEST_PATHS {
-        expect_best(&rt, &mut lattice, what, *row)?;
+        expect_best(&rt, &mut search, what, *row)?;
     }
     Ok(())
 }
@@ -98,19 +99,19 @@ fn sums_of(path: &Path) -> (usize, i64) {
     (path.words.len(), path.total)
 }
 
-/// Asks for the best path of a text of letters. After a refusal the path is as it was, and the lattice is asked again.
+/// Asks for the best path of a text of letters. After a refusal the path is as it was, and the search is asked again.
 fn expect_letters(
     rt: &(impl Abort + Alloc<A = Global>),
-    lattice: &mut Lattice,
+    search: &mut Search,
     path: &mut Path,
     length: u16,
     total: i64,
 ) -> Result<(), AllocError> {
     let words = letters(rt.alloc(), length)?;
     let before = sums_of(path);
-    if fill(rt.alloc(), lattice, length, &words, path).is_err() {
+    if fill(rt.alloc(), search, length, &words, path).is_err() {
         assert!(rt; sums_of(path) == before, "after a refusal");
-        fill(rt.alloc(), lattice, length, &words, path)?;
+        fill(rt.alloc(), search, length, &words, path)?;
     }
     assert!(rt; sums_of(path) == (usize::from(length), total), "{length}");
     Ok(())
@@ -121,10 +122,10 @@ static LONG_THEN_SHORT: [(u16, i64); 3] = [(1000, 17008), (3, 59), (0, 0)];
 
 #[test]
 fn long_then_short(rt: HostRuntime) -> Result<(), Fail> {
-    let mut lattice = Lattice::new(rt.alloc());
+    let mut search = Search::new(rt.alloc());
     let mut path = no_path(rt.alloc());
     for (length, total) in &LONG_THEN_SHORT {
-        expect_letters(&rt, &mut lattice, &mut path, *length, *total)?;
+        expect_letters(&rt, &mut search, &mut path, *length, *total)?;
     }
     Ok(())
 }
@@ -154,21 +155,21 @@ static MANY_WORDS: [(usize, usize, i64); 7] = [
 /// Asks for the best path of two letters, the first of many words.
 fn expect_many(
     rt: &(impl Abort + Alloc<A = Global>),
-    lattice: &mut Lattice,
+    search: &mut Search,
     (count, cheap, total): (usize, usize, i64),
 ) -> Result<(), AllocError> {
     let words = two_letters(rt.alloc(), count, cheap)?;
     let first = if cheap < count { cheap } else { 0 };
     let numbers = [first, count];
     let row = ((2, words.as_slice()), (numbers.as_slice(), total));
-    expect_best(rt, lattice, "many words", row)
+    expect_best(rt, search, "many words", row)
 }
 
 #[test]
 fn many_words_of_one_surface(rt: HostRuntime) -> Result<(), Fail> {
-    let mut lattice = Lattice::new(rt.alloc());
+    let mut search = Search::new(rt.alloc());
     for row in &MANY_WORDS {
-        expect_many(&rt, &mut lattice, *row)?;
+        expect_many(&rt, &mut search, *row)?;
     }
     Ok(())
 }
