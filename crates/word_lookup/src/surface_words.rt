@@ -4,11 +4,14 @@ ghost use Rattle.std.specs.Prelude.{◌≡◌, ◌<◌, Some, length, slice_get}
 ghost use Rattle.image_bytes.specs.ImageMeaning.{image_tables};
 ghost use Rattle.dict_image.specs.Fitting.{AreFitting};
 ghost use Rattle.dict_image.specs.Numbered.{numbered_tokens};
-ghost use Rattle.word_lookup.specs.Surfaces.{words_among, word_with as word_of_surface};
+ghost use Rattle.paths.specs.Surfaces.{IsWhole};
+ghost use Rattle.word_lookup.specs.Overlays.{overlay_of};
+ghost use Rattle.word_lookup.specs.Surfaces.{surface_words, tokens_of, words_among, word_with as word_of_surface};
 
+use crate::dictionaries::Dictionaries;
 use dict_image::{Dict, IdsAndCost};
 use mj_model::Word;
-use paths::Surface;
+use paths::{EntryList, Surface};
 use std::marker::Model;
 
 /// The words of a surface, whose dictionary was found once for all of them. Each is read where its entry lies.
@@ -49,6 +52,38 @@ impl<'a> SurfaceWords<'a> {
     {
         let token = self.surface.first + i;
         word_with(&self.surface, token, self.dict.ids_and_cost(token))
+    }
+}
+
+impl<'a> Dictionaries<'a> {
+    /// Word `i` of a surface of these dictionaries, read where its entry lies.
+    pub fn word(&self, surface: &Surface, i: u32) -> Word
+        requires surface { IsWhole (surface_words (overlay_of self.now)) surface.now }
+        requires within { i < surface.now.count }
+        ensures { slice_get (surface_words (overlay_of self.now) surface.now) i ≡ Some result }
+    {
+        self.words_of(surface).word(i)
+    }
+
+    /// The words of a surface of these dictionaries.
+    pub fn words_of(&self, surface: &Surface) -> SurfaceWords<'a>
+        requires { IsWhole (surface_words (overlay_of self.now)) surface.now }
+        ensures { result ≡ surface_words (overlay_of self.now) surface.now }
+    {
+        SurfaceWords::among(self.listed(surface.list), *surface)
+    }
+
+    /// The dictionary of a list that has entries.
+    fn listed(&self, list: EntryList) -> &'a Dict
+        requires { 0 < length (tokens_of (overlay_of self.now) list) }
+        ensures tokens { tokens_of (overlay_of self.now) list
+            ≡ numbered_tokens (image_tables result.now) }
+        ensures fits { AreFitting (image_tables result.now) }
+    {
+        match list {
+            EntryList::Lexicon(number) => self.numbered(number),
+            EntryList::Categories => self.system,
+        }
     }
 }
 
