@@ -8,7 +8,7 @@ use Rattle.out_format.specs.PrintedPaths.{cost_with_word}
 use Rattle.word_lookup.specs.Overlays.{overlay_of}
 use Rattle.cutter.specs.Cutters.{Cut, HasNoRoom, Held, overlay_held}
 use Rattle.cutter.specs.declared.last_words.LastWords.{LastWords}
-use Rattle.cutter.specs.declared.last_words.Reached.{Reached}
+use Rattle.cutter.specs.declared.reached.Reached.{Reached}
 
 -- a path at its beginning, which BOS ends
 abbrev pub at_bos : Reached

@@ -9,11 +9,13 @@ mod features;
 mod last_cut;
 mod last_words;
 mod owned_dictionaries;
+mod reached;
 mod text_lines;
 
 pub use cutter::Cutter;
 pub use dict_image::DigestTest;
 pub use fault::CutFault;
-pub use last_words::{LastWords, Reached};
+pub use last_words::LastWords;
 pub use lattice::{LatticeNode, MarkedLattice};
+pub use reached::Reached;
 pub use text_lines::LinesFault;

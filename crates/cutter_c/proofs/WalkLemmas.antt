@@ -6,7 +6,7 @@ use Rattle.std.proofs.lemmas.List.{drop-drop, drop_min, drop_more, get_or-drop}
 use Rattle.cutter.specs.Cutters.{Cut, Held, IsCutOver, OfCut, overlay_held}
 use Rattle.cutter.specs.Reaching.{AreLast, MayFollow, at_bos, reached_with}
 use Rattle.cutter.specs.declared.last_words.LastWords.{LastWords}
-use Rattle.cutter.specs.declared.last_words.Reached.{Reached}
+use Rattle.cutter.specs.declared.reached.Reached.{Reached}
 use Rattle.cutter_c.specs.Outputs.{with_front}
 use Rattle.cutter_c.specs.Words.{AreTold, c_word, c_word_in, c_words}
 use Rattle.cutter_c.specs.declared.words.CWord.{CWord}

@@ -8,7 +8,7 @@ use Rattle.mj_model.specs.Tables.{Overlay}
 use Rattle.out_format.specs.PrintedPaths.{first_category}
 use Rattle.paths.specs.Blanks.{chars_from}
 use Rattle.cutter.specs.Cutters.{Cut, Held, overlay_held}
-use Rattle.cutter.specs.declared.last_words.Reached.{Reached}
+use Rattle.cutter.specs.declared.reached.Reached.{Reached}
 use Rattle.cutter.specs.Reaching.{at_bos, reached_with}
 use Rattle.cutter_c.specs.Outputs.{with_front}
 use Rattle.cutter_c.specs.declared.words.CWord.{CWord}

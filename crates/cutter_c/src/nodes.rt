@@ -96,7 +96,8 @@ pub extern "C" fn kumquatsieve_nodes(
     out: &mut [CNode],
     count: &mut usize,
 ) -> u32
-    ensures { TellsItems AreNodesTold IsPrintRefusal first (cutter_in cutter.old) (cutter_in cutter.new)
+    ensures { TellsItems AreNodesTold IsPrintRefusal first
+        (cutter_in cutter.old) (cutter_in cutter.new)
         out.old out.new count.old count.new result }
 {
     cutter.tell_items(alloc, first, out, count)
