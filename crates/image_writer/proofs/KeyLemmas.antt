@@ -20,6 +20,7 @@ use Rattle.image_writer.specs.Entries.{no_row, surface_at}
 use Rattle.image_writer.specs.Groups.{AreGroups, AreGrouped, MapsGroups}
 use Rattle.image_writer.specs.Sections.{AreKeyBytes}
 use Rattle.image_writer.proofs.GroupLemmas.{starts_below}
+use Rattle.image_writer.proofs.GroupingLemmas.{most_of_all}
 use Rattle.image_bytes.proofs.ImageKeys.{key_is}
 
 -- ---- value cells
@@ -153,6 +154,10 @@ key_bytes sizes rows each texts groups bytes grouped same fill most formed keys 
           once = λ g less. subst (λ (cs : List Cell). StandsOnce cs g) (sym same) (once g (below g less));
         };
         keys = λ g less. subst (λ (cs : List Cell). HasKey cs g) (sym same) (surface_at rows (get_or starts g n), key g (below g less));
+      };
+      cells = record {
+        few = let m = grouped.most in let all = most_of_all rows n in omega (arith, fill, m, all);
+        on_keys = subst AreOnKeys (sym same) keys;
       };
       is_index = record {
         fills = index_fill ∙ ap (λ (n : ℕ). 4 * (n + 1)) (sym count);

@@ -136,6 +136,11 @@ module _ (t : CharCategories) (ranges : List InfoRange) (formed : IsCategoryTabl
         within = each (λ r. r.first ≤ code_point_max) are.within;
         infos = each (λ r. IsInfoOf (length t.categories) r.info) info_is;
       };
+      changing = λ i less same.
+          let n = count in
+          let a = ap (λ (r : StoredRange). r.info) (range_back i (omega (arith, n, less))) in
+          let b = ap (λ (r : StoredRange). r.info) (range_back (suc i) (omega (arith, n, less))) in
+          are.changing i (omega (arith, n, less)) (sym a ∙ same ∙ b);
       infos = λ code low.
           ap (λ (rs : List StoredRange). option_map_or (λ (r : StoredRange). r.info) (find (λ (r : StoredRange). nat_le r.first code) (reverse rs)) no_info) ranges_back
           ∙ ap (λ (rs : List StoredRange). option_map_or (λ (r : StoredRange). r.info) (find (λ (r : StoredRange). nat_le r.first code) rs) no_info) (reversed_stored ranges)

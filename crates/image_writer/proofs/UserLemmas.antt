@@ -16,6 +16,7 @@ use Rattle.image_writer.specs.Sections.{AreSections}
 use Rattle.mj_model.specs.Connection.{AreMatrixSizes}
 use Rattle.lex_source.specs.Lexicons.{AreLexiconRows}
 use Rattle.image_writer.specs.UserImages.{IsUserImage}
+use Rattle.image_writer.specs.WrittenCells.{AreCellsFor}
 use Rattle.image_writer.proofs.FormedLemmas.{at, from_parts}
 use Rattle.image_writer.proofs.PartLemmas.{AreParts, header_with, intact}
 
@@ -56,5 +57,6 @@ module _ (sizes : MatrixSizes) (rows : List Row) (bytes : LexiconBytes) where
       sizes_kept = ap (λ (h : Header). h.sizes) framed.header;
       lexicon = from_parts header sections image framed
           (λ h ss. lexicon_in h.groups (record { form = key_form h.layout; keys = at ss 4; groups = at ss 5; tokens = at ss 6; features = at ss 7 }) ≡ lexemes_of rows) parts.lexicon.means;
+      cells = from_parts header sections image framed (λ h ss. AreCellsFor (lexemes_of rows) (at ss 4)) parts.lexicon.cells;
       few_features = subst (λ (all : List Row). feature_bytes (tokens_of all) < feature_bytes_end) (append-nil rows) parts.lexicon.few_features;
     }

@@ -18,6 +18,7 @@ use Rattle.image_writer.specs.Groups.{AreUnderKeys}
 use Rattle.image_writer.specs.FirstUses.{AreFirstUses}
 use Rattle.image_writer.specs.Places.{joined_texts}
 use Rattle.image_writer.specs.Entries.{all_rows, lexemes_of, tokens_of}
+use Rattle.image_writer.specs.WrittenCells.{AreCellsFor}
 
 abbrev pub sections_of : LexiconBytes → LexiconSections
 sections_of bytes = record { form = Cells; keys = bytes.keys.items; groups = bytes.groups.items; tokens = bytes.tokens.items; features = joined_texts bytes.features.items }
@@ -30,6 +31,7 @@ pub record HoldKeys (groups : ℕ) (cells : List ℕ) : Type 0 where
 -- the cells of the keys and the index of the groups, for these entries
 pub record AreKeyBytes (rows : List Row) (keys : KeyBytes) : Type 0 where
   pub hold_keys : HoldKeys keys.groups keys.cells.items
+  pub cells : AreCellsFor (lexemes_of rows) keys.cells.items
   pub is_index : IsIndex keys.groups 0 (length rows) keys.index.items
   pub few : keys.groups ≤ length rows
   pub entries : AreUnderKeys rows keys.groups keys.cells.items keys.index.items
@@ -52,6 +54,7 @@ features_of rows = map (λ (row : Row). row.feature) rows
 -- the sections are well formed, and mean these entries of a lexicon and these unknown ones of each category
 pub record AreSections (lexicon : List Row) (unknown : List (List Row)) (s : LexiconBytes) : Type 0 where
   pub keys : HoldKeys s.group_count s.keys.items
+  pub cells : AreCellsFor (lexemes_of lexicon) s.keys.items
   pub groups : IsIndex s.group_count 0 (length lexicon) s.groups.items
   pub few_groups : s.group_count ≤ length lexicon
   pub tokens : HoldTokens (all_rows lexicon unknown) s.tokens.items (joined_texts s.features.items)

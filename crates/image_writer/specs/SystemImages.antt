@@ -4,7 +4,7 @@ use Rattle.mj_model.specs.CharDef.{NamedCategory}
 use Rattle.image_bytes.specs.ImageBounds.{feature_bytes, feature_bytes_end}
 use Rattle.mj_model.specs.Connection.{is_pair}
 use Rattle.image_bytes.specs.declared.layout.TheConstants.{LAYOUT}
-use Rattle.image_bytes.specs.ImageBytes.{header_of}
+use Rattle.image_bytes.specs.ImageBytes.{header_of, section}
 use Rattle.image_bytes.specs.ImageFaults.{IsIntact}
 use Rattle.image_bytes.specs.ImageMeaning.{image_categories, image_tables}
 use Rattle.mj_model.specs.Lexicon.{Row}
@@ -14,6 +14,8 @@ use Rattle.mj_model.specs.UnkDef.{unknown_tokens}
 use Rattle.matrix_def.specs.Costs.{CostTable, matrix_cost}
 use Rattle.char_def.specs.Categories.{CharCategories, table_info}
 use Rattle.image_writer.specs.Entries.{all_rows, lexemes_of, tokens_of}
+use Rattle.image_writer.specs.StoredTables.{AreChanging}
+use Rattle.image_writer.specs.WrittenCells.{AreCellsFor}
 
 -- the tables of a system dictionary, part by part
 abbrev pub tables_with : CostTable → CharCategories → List (List Row) → List Row → Tables
@@ -33,4 +35,6 @@ pub record IsSystemImage (matrix : CostTable) (chars : CharCategories) (unknown 
   pub layout : (header_of image).layout ≡ LAYOUT
   pub tables : SayTheSame (image_tables image) (tables_with matrix chars unknown rows)
   pub categories : image_categories image ≡ chars.categories
+  pub ranges : AreChanging (section image 3)
+  pub cells : AreCellsFor (lexemes_of rows) (section image 5)
   pub few_features : feature_bytes (tokens_of (all_rows rows unknown)) < feature_bytes_end

@@ -3,12 +3,13 @@ use Rattle.std.specs.Prelude.{◌≡◌, ℕ, ◌<◌, List}
 use Rattle.image_bytes.specs.ImageBounds.{feature_bytes, feature_bytes_end}
 use Rattle.mj_model.specs.declared.matrix_sizes.MatrixSizes.{MatrixSizes}
 use Rattle.image_bytes.specs.declared.layout.TheConstants.{LAYOUT}
-use Rattle.image_bytes.specs.ImageBytes.{header_of}
+use Rattle.image_bytes.specs.ImageBytes.{header_of, section}
 use Rattle.image_bytes.specs.ImageFaults.{IsIntact}
 use Rattle.image_bytes.specs.ImageMeaning.{image_lexicon, image_tables}
 use Rattle.mj_model.specs.Lexicon.{Row}
 use Rattle.mj_model.specs.Tables.{User}
 use Rattle.image_writer.specs.Entries.{lexemes_of, tokens_of}
+use Rattle.image_writer.specs.WrittenCells.{AreCellsFor}
 
 -- a well-formed image of layout 3 of a user dictionary with these sizes and these entries
 pub record IsUserImage (sizes : MatrixSizes) (rows : List Row) (image : List ℕ) : Type 0 where
@@ -17,4 +18,5 @@ pub record IsUserImage (sizes : MatrixSizes) (rows : List Row) (image : List ℕ
   pub kind : (image_tables image).kind ≡ User
   pub sizes_kept : (image_tables image).sizes ≡ sizes
   pub lexicon : image_lexicon image ≡ lexemes_of rows
+  pub cells : AreCellsFor (lexemes_of rows) (section image 5)
   pub few_features : feature_bytes (tokens_of rows) < feature_bytes_end

@@ -12,7 +12,8 @@ use sha2::{Digest, Sha256};
 use std::alloc::{AllocError, Global};
 
 /// The image of a header, of connection costs, of the six sections after them, and of features. On `Err` memory was refused.
-pub(crate) fn write_image(
+/// The header and the digest are this project's own choice.
+pub fn write_image(
     alloc: Global,
     header: Header,
     costs: &[i16],

@@ -23,8 +23,6 @@ mod tokens;
 mod unknown_index;
 mod user;
 
+pub use frame::write_image;
 pub use system::write_system;
 pub use user::write_user;
-
-#[cfg(test)]
-mod tests;

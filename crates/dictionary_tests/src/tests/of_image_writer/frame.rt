@@ -1,5 +1,7 @@
 //! A user image of the one surface `a`.
 use super::samples::{section, user_image};
+use image_bytes::{DictKind, Header, LAYOUT};
+use image_writer::write_image;
 use mj_model::MatrixSizes;
 use sha2::{Digest, Sha256};
 use std::alloc::{AllocError, Global};
@@ -35,6 +37,34 @@ fn header_sections_and_digest(rt: HostRuntime) -> Result<(), Fail> {
     // What the cells hold is not known, nor how many there are.
     let body = body_with(rt.alloc(), section(&image, 5))?;
     assert_eq!(rt; image.len(), body.len() + 32);
+    assert!(rt; image.starts_with(&body));
+    assert!(rt; image.ends_with(&Sha256::digest(&body)));
+    Ok(())
+}
+
+/// The header of such an image whose sections 5 to 8 have 8, 8, 16 and 1 bytes.
+const HEADER: Header = Header {
+    layout: LAYOUT,
+    kind: DictKind::User,
+    sizes: MatrixSizes { right: 2, left: 2 },
+    categories: 0,
+    groups: 1,
+    tokens: 1,
+    unknown: 0,
+    lengths: [0, 0, 0, 0, 8, 8, 16, 1],
+};
+
+/// Its one cell: BASE 1 and CHECK -2.
+static CELL: [u8; 8] = *b"\x01\0\0\0\xfe\xff\xff\xff";
+
+#[test]
+fn sections_made_by_hand(rt: HostRuntime) -> Result<(), Fail> {
+    let empty = b"".as_slice();
+    let (groups, tokens) = (&SECTIONS[..8], &SECTIONS[8..24]);
+    let sections = [empty, empty, empty, &CELL, groups, tokens];
+    let image = write_image(rt.alloc(), HEADER, &[], &sections, &["X"])?;
+    let body = body_with(rt.alloc(), &CELL)?;
+    assert_eq!(rt; image.len(), 169);
     assert!(rt; image.starts_with(&body));
     assert!(rt; image.ends_with(&Sha256::digest(&body)));
     Ok(())

@@ -6,6 +6,7 @@ use Rattle.image_writer.proofs.lexicon.sections.Goals as goal
 pub returns : goal.returns
 returns c = λ lexicon unknown keys written. record {
   keys = keys.hold_keys;
+  cells = keys.cells;
   groups = keys.is_index;
   few_groups = keys.few;
   tokens = written.tokens;
