@@ -9,20 +9,23 @@ use Rattle.mj_model.specs.CharDef.{CharSource}
 use Rattle.mj_model.specs.declared.matrix_sizes.MatrixSizes.{MatrixSizes}
 use Rattle.mj_model.specs.Dictionary.{AreLexicons, IsLexiconOf}
 use Rattle.image_bytes.specs.ImageBounds.{cells_max, feature_bytes, feature_bytes_end, lexicon_tokens, most_cells, system_tokens}
-use Rattle.image_bytes.specs.ImageBytes.{header_of}
+use Rattle.image_bytes.specs.ImageBytes.{header_of, section}
 use Rattle.image_bytes.specs.ImageFaults.{IsIntact}
 use Rattle.image_bytes.specs.ImageMeaning.{image_tables, image_lexicon, image_categories}
 use Rattle.mj_model.specs.Lexicon.{Row, SkipLines}
 use Rattle.mj_model.specs.SourceTables.{HaveTables, AreChars, IsSourcesFault, lexicon_bytes}
 use Rattle.mj_model.specs.Tables.{Tables, Token, Lexeme, System, User}
+use Rattle.image_writer.specs.StoredTables.{AreChanging}
+use Rattle.image_writer.specs.WrittenCells.{AreCellsFor}
 
 -- ---- what is common to system and user dictionaries
 
--- an image of layout 3 that has these tokens, with how many entries its lexicon has and how many lines were skipped
+-- an image of layout 3 that has these tokens and no cells that its surfaces do not need, with how many entries its lexicon has and how many lines were skipped
 pub record IsCompiled (tokens : List Token) (lexicons : List (List ℕ)) (image : List ℕ) (entries skipped : ℕ) : Type 0 where
   pub intact : IsIntact image
   pub layout : (header_of image).layout ≡ 3
   pub few_features : feature_bytes tokens < feature_bytes_end
+  pub cells : AreCellsFor (image_lexicon image) (section image 5)
   pub all_entries : entries ≡ length (image_lexicon image)
   pub all_skipped : SkipLines lexicons skipped
 
@@ -40,11 +43,12 @@ MayBeFull lexicon fault = (cells_max < most_cells lexicon) × (fault ≡ fault_o
 abbrev pub HasSourceCategories : Sources → List ℕ → Type 0
 HasSourceCategories s image = (chars : CharSource) × AreChars s chars × (image_categories image ≡ chars.categories)
 
--- an image whose tables are those of the sources, with its counts
+-- an image whose tables are those of the sources, with no more ranges of code points than they need, and with its counts
 pub record IsCompilation (s : Sources) (image : List ℕ) (entries skipped : ℕ) : Type 0 where
   pub have : HaveTables s (image_tables image)
   pub compiled : IsCompiled (system_tokens (image_tables image)) (lexicon_bytes s) image entries skipped
   pub categories : HasSourceCategories s image
+  pub ranges : AreChanging (section image 3)
 
 -- the first fault of a compilation: that of the sources, else that of the features
 abbrev pub IsCompilationFault : Sources → SourceFault → Type 0

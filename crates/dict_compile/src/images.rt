@@ -1,6 +1,6 @@
 //! The images of what sources say.
 
-ghost use Rattle.std.specs.Prelude.{◌++◌, List, [], ◌∷◌, length, OnOk, IfOk, IfErr};
+ghost use Rattle.std.specs.Prelude.{◌≡◌, ◌++◌, List, [], ◌∷◌, length, OnOk, IfOk, IfErr};
 ghost use Rattle.mj_model.specs.Connection.{AreMatrixSizes};
 ghost use Rattle.lex_source.specs.Lexicons.{AreSortedOf};
 ghost use Rattle.dict_compile.specs.Images.{IsImageOf, IsImageRefusal};
@@ -31,8 +31,7 @@ pub(crate) fn system_image<W: Watch>(
     ensures steps { (before : List StepOf) → W.told watch.old before → OnOk result
         (W.told watch.new (before ++ Sorted (length parts.entry.lexicon.rows) ∷ [])) }
 {
-    let entries = parts.lexicon.len() as u64;
-    let lexicon = sorted(parts.lexicon, watch)?;
+    let (lexicon, entries) = sorted(parts.lexicon, watch)?;
     let image = write_system(alloc, &parts.matrix, &parts.chars, &parts.unknown, lexicon).map_err(
         of_image,
     )?;
@@ -55,8 +54,7 @@ pub(crate) fn user_image<W: Watch>(
     ensures steps { (before : List StepOf) → W.told watch.old before → OnOk result
         (W.told watch.new (before ++ Sorted (length read.entry.lexicon.rows) ∷ [])) }
 {
-    let entries = read.lexicon.len() as u64;
-    let lexicon = sorted(read.lexicon, watch)?;
+    let (lexicon, entries) = sorted(read.lexicon, watch)?;
     let image = write_user(alloc, lexicon).map_err(of_image)?;
     Ok(Compiled {
         image,
@@ -65,17 +63,18 @@ pub(crate) fn user_image<W: Watch>(
     })
 }
 
-/// The entries in the order of an image, of which whoever watches is told.
+/// The entries in the order of an image, and how many they are. Whoever watches is told of them.
 fn sorted<'a, W: Watch>(
     lexicon: SourceLexicon<'a>,
     watch: &mut W,
-) -> Result<SortedLexicon<'a>, AllocError>
-    ensures order { IfOk result (AreSortedOf lexicon.entry) }
+) -> Result<(SortedLexicon<'a>, u64), AllocError>
+    ensures order { IfOk result (λ sorted. AreSortedOf lexicon.entry sorted.0) }
+    ensures count { IfOk result (λ sorted. sorted.1 ≡ length lexicon.entry.rows) }
     ensures step { (before : List StepOf) → W.told watch.old before → OnOk result
         (W.told watch.new (before ++ Sorted (length lexicon.entry.rows) ∷ [])) }
 {
     let entries = lexicon.len() as u64;
     let sorted = lexicon.sorted()?;
     watch.done(Step::Sorted { entries });
-    Ok(sorted)
+    Ok((sorted, entries))
 }
