@@ -1,5 +1,6 @@
 //! The words of a command line, and what a command finds in them.
 
+use crate::about::answer_explain;
 use crate::one_line::WORDS_FEED;
 use crate::options_fault::OptionsFault;
 use clap::{ArgMatches, Command};
@@ -50,8 +51,20 @@ pub(crate) fn file_among(words: &[String]) -> Option<&str> {
         .find(|word| word.starts_with('-') && word.contains('.') && !word.contains('='))
 }
 
-/// What a command finds in words.
+/// What a command finds in words. Where they have `--explain`, that is answered.
 pub(crate) fn found<'a>(
+    alloc: Global,
+    program: &str,
+    command: Command<'a>,
+    words: &'a [String],
+) -> Result<ArgMatches<'a>, OptionsFault> {
+    let matches = parsed(alloc, program, command, words)?;
+    answer_explain(alloc, program, &matches)?;
+    Ok(matches)
+}
+
+/// What the parser finds in words.
+pub(crate) fn parsed<'a>(
     alloc: Global,
     program: &str,
     command: Command<'a>,

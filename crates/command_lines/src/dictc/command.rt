@@ -1,11 +1,11 @@
 //! What is asked for by a command line of `dictc`.
 
 use super::choices::{Asked, Base, IdsOptions, Options};
-use super::rows::{IDS_ROWS, ROWS, SYSTEM_ROWS, USER_ROWS};
-use crate::about::{VERSION, answer_explain};
+use super::rows::{COMPILING_ROWS, IDS_ROWS, ROWS, SYSTEM_ROWS, USER_ROWS};
+use crate::about::VERSION;
 use crate::options_fault::OptionsFault;
 use crate::row::{Row, with_rows};
-use crate::words::{file_among, file_behind, found, needed_text, texts_of, without_feeds};
+use crate::words::{file_among, file_behind, found, needed_text, parsed, texts_of, without_feeds};
 use clap::{ArgMatches, Command};
 use std::alloc::{AllocError, Global};
 use std::string::String;
@@ -31,15 +31,13 @@ const NO_SUBCOMMAND: &str = "one of 'dictc system', 'dictc user' and 'dictc ids'
 /// Reads the words that follow the program's name.
 pub fn options(alloc: Global, words: Vec<String>) -> Result<Asked, OptionsFault> {
     let told = without_feeds(alloc, &words)?;
-    if let Err(fault) = found(alloc, NAME, command(alloc)?, told.as_slice()) {
+    if let Err(fault) = parsed(alloc, NAME, command(alloc)?, told.as_slice()) {
         return Err(refusal(alloc, fault, &words));
     }
     let matches = found(alloc, NAME, command(alloc)?, words.as_slice())?;
-    answer_explain(alloc, NAME, &matches)?;
     match matches.subcommand() {
-        Some((name, given)) if name == USER => Ok(Asked::Image(user_options(alloc, given)?)),
         Some((name, given)) if name == IDS => Ok(Asked::Ids(ids_options(alloc, given)?)),
-        Some((_, given)) => Ok(Asked::Image(system_options(alloc, given)?)),
+        Some((name, given)) => Ok(Asked::Image(image_options(alloc, name, given)?)),
         None => Err(OptionsFault::wrong(alloc, NAME, NO_SUBCOMMAND)),
     }
 }
@@ -66,38 +64,34 @@ fn command<'a>(alloc: Global) -> Result<Command<'a>, AllocError> {
         .about("Compiles the sources of a dictionary to an image")
         .version(VERSION)
         .no_binary_name(true);
-    let system = subcommand(alloc, SYSTEM, "Compiles a system dictionary", &SYSTEM_ROWS)?;
-    let user = subcommand(alloc, USER, "Compiles a user dictionary", &USER_ROWS)?;
-    let ids = subcommand(
-        alloc,
-        IDS,
+    let system = Command::new(alloc, SYSTEM).about("Compiles a system dictionary");
+    let user = Command::new(alloc, USER).about("Compiles a user dictionary");
+    let ids = Command::new(alloc, IDS).about(
         "Prints which ids and word costs the entries of a part of speech have",
-        &IDS_ROWS,
-    )?;
+    );
     with_rows(alloc, command, &ROWS)?
-        .subcommand(system)?
-        .subcommand(user)?
-        .subcommand(ids)
+        .subcommand(compiling(alloc, system, &SYSTEM_ROWS)?)?
+        .subcommand(compiling(alloc, user, &USER_ROWS)?)?
+        .subcommand(with_rows(alloc, ids, &IDS_ROWS)?)
 }
 
-/// A subcommand that takes the rows of a table.
-fn subcommand<'a>(
+/// A subcommand that compiles, with these rows of its own.
+fn compiling<'a>(
     alloc: Global,
-    name: &'a str,
-    about: &'a str,
+    command: Command<'a>,
     rows: &[Row],
 ) -> Result<Command<'a>, AllocError> {
-    with_rows(alloc, Command::new(alloc, name).about(about), rows)
+    with_rows(alloc, with_rows(alloc, command, rows)?, &COMPILING_ROWS)
 }
 
-/// The choices of `dictc system`.
-fn system_options(alloc: Global, given: &ArgMatches<'_>) -> Result<Options, OptionsFault> {
+/// The choices of a subcommand that compiles.
+fn image_options(
+    alloc: Global,
+    subcommand: &str,
+    given: &ArgMatches<'_>,
+) -> Result<Options, OptionsFault> {
     Ok(Options {
-        base: Base::Definitions {
-            matrix: needed_text(alloc, NAME, given, "matrix")?,
-            chars: needed_text(alloc, NAME, given, "char")?,
-            unk: needed_text(alloc, NAME, given, "unk")?,
-        },
+        base: base(alloc, subcommand, given)?,
         out: needed_text(alloc, NAME, given, "out")?,
         lexicons: texts_of(alloc, given, "lexicons")?,
         all_faults: given.get_flag("all-faults"),
@@ -105,17 +99,18 @@ fn system_options(alloc: Global, given: &ArgMatches<'_>) -> Result<Options, Opti
     })
 }
 
-/// The choices of `dictc user`.
-fn user_options(alloc: Global, given: &ArgMatches<'_>) -> Result<Options, OptionsFault> {
-    Ok(Options {
-        base: Base::System {
+/// What the lexicons are compiled with: definitions, or for `dictc user` a system dictionary.
+fn base(alloc: Global, subcommand: &str, given: &ArgMatches<'_>) -> Result<Base, OptionsFault> {
+    if subcommand == USER {
+        return Ok(Base::System {
             dic: needed_text(alloc, NAME, given, "dic")?,
             skip_digest: given.get_flag("skip-digest"),
-        },
-        out: needed_text(alloc, NAME, given, "out")?,
-        lexicons: texts_of(alloc, given, "lexicons")?,
-        all_faults: given.get_flag("all-faults"),
-        verbose: given.get_flag("verbose"),
+        });
+    }
+    Ok(Base::Definitions {
+        matrix: needed_text(alloc, NAME, given, "matrix")?,
+        chars: needed_text(alloc, NAME, given, "char")?,
+        unk: needed_text(alloc, NAME, given, "unk")?,
     })
 }
 

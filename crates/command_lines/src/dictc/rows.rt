@@ -19,31 +19,26 @@ const LEXICONS: Row = Row { id: "lexicons", name: Words, values: &["LEX"],
 /// What the program takes without a subcommand.
 pub(super) static ROWS: [Row; 1] = [EXPLAIN];
 
-/// What `dictc system` takes, in the order of help.
+/// What a subcommand that compiles takes behind its own rows, in the order of help.
+pub(super) static COMPILING_ROWS: [Row; 4] = [OUT, ALL_FAULTS, VERBOSE, LEXICONS];
+
+/// What `dictc system` takes besides, in the order of help.
 #[rattlefmt::skip]
-pub(super) static SYSTEM_ROWS: [Row; 7] = [
+pub(super) static SYSTEM_ROWS: [Row; 3] = [
     Row { id: "matrix", name: Long("matrix"), values: &["FILE"],
         help: "The connection costs: matrix.def", ..NEEDED },
     Row { id: "char", name: Long("char"), values: &["FILE"],
         help: "The character categories: char.def", ..NEEDED },
     Row { id: "unk", name: Long("unk"), values: &["FILE"],
         help: "The unknown words: unk.def", ..NEEDED },
-    OUT,
-    ALL_FAULTS,
-    VERBOSE,
-    LEXICONS,
 ];
 
-/// What `dictc user` takes, in the order of help.
+/// What `dictc user` takes besides, in the order of help.
 #[rattlefmt::skip]
-pub(super) static USER_ROWS: [Row; 6] = [
+pub(super) static USER_ROWS: [Row; 2] = [
     Row { id: "dic", name: Long("dic"), values: &["IMG"],
         help: "The image of the system dictionary that it is made for", ..NEEDED },
     SKIP_DIGEST,
-    OUT,
-    ALL_FAULTS,
-    VERBOSE,
-    LEXICONS,
 ];
 
 /// What `dictc ids` takes, in the order of help.

@@ -3,10 +3,10 @@
 use super::choices::{Form, Input, LatticeChoice, Options, Task, ViewChoice};
 use super::mecab_habits::{HABITS, habit_in};
 use super::rows::{INPUTS, ROWS};
-use crate::about::{VERSION, answer_explain};
+use crate::about::VERSION;
 use crate::options_fault::OptionsFault;
 use crate::row::with_rows;
-use crate::words::{file_behind, found, text_of, texts_of, without_feeds};
+use crate::words::{file_behind, found, parsed, text_of, texts_of, without_feeds};
 use clap::{ArgGroup, ArgMatches, Command};
 use mj_model::GROUPING_DEFAULT;
 use std::alloc::{AllocError, Global};
@@ -27,11 +27,10 @@ const NO_LATTICE: &str = "--within N is for --lattice FORM";
 /// Reads the words that follow the program's name.
 pub fn task(alloc: Global, words: Vec<String>) -> Result<Task, OptionsFault> {
     let told = without_feeds(alloc, &words)?;
-    if let Err(fault) = found(alloc, NAME, command(alloc)?, told.as_slice()) {
+    if let Err(fault) = parsed(alloc, NAME, command(alloc)?, told.as_slice()) {
         return Err(refusal(alloc, fault, &words));
     }
     let matches = found(alloc, NAME, command(alloc)?, words.as_slice())?;
-    answer_explain(alloc, NAME, &matches)?;
     match habit_in(&matches) {
         Some(instead) => Err(OptionsFault::wrong(alloc, NAME, instead)),
         None if matches.get_flag("dictionaries") => Ok(Task::ListImages {
