@@ -1,5 +1,5 @@
 -- The lines of a text in memory, printed one by one: behind those that printed stands the rest of the text.
-use Rattle.std.proofs.Common.{◌≡◌, ℕ, ◌+◌, ◌<◌, ◌≤◌, true, List, [], ◌∷◌, ◌++◌, length, take, drop, get_or, suc, sym, ap, ◌∙◌, subst, arith, append_assoc, append-nil, length-append}
+use Rattle.std.proofs.Common.{◌≡◌, ℕ, ◌+◌, ◌<◌, ◌≤◌, true, List, [], ◌∷◌, ◌++◌, length, take, drop, get_or, suc, refl, sym, ap, ◌∙◌, subst, arith, append_assoc, append-nil, length-append}
 use Rattle.std.specs.Prelude.{None, Some, Result, Err}
 use Rattle.std.proofs.Math.Seq.{split_at}
 use Rattle.memchr.specs.Find.{Passes, is_byte, Nowhere, NoneBefore}
@@ -9,6 +9,7 @@ use Rattle.mj_model.specs.Output.{Output, text_lines}
 use Rattle.line_stream.specs.declared.line_fault.LineFault.{LineFault}
 use Rattle.line_stream.specs.declared.line_fault.LineError.{LineError}
 use Rattle.line_stream.specs.declared.line_fault.LineError.TheVariants.{Bad, Memory}
+use Rattle.line_stream.specs.GoodLines.{IsGood}
 use Rattle.line_stream.specs.LineErrors.{TellsFault}
 use Rattle.line_stream.specs.LinesInMemory.{PrintsLines, StopsAt}
 use Rattle.line_stream.specs.Progress.{AllPrint, HasNoFeed, IsPrinted}
@@ -73,23 +74,25 @@ module _ (Tells : List ℕ → Result (List ℕ) LineFault → Type 0) where
           }
 
       stops_at : (number : ℕ) (error : LineError) → number ≡ lines + 1 → TellsFault (λ fault. Tells line (Err fault)) error
-          → StopsAt Tells text number error p.shown
-      stops_at number (Bad fault) is tells =
+          → (error ≡ Memory → IsGood line) → StopsAt Tells text number error p.shown
+      stops_at number (Bad fault) is tells good =
           subst (λ ls. Output Tells 1 ls p.shown (Some (record { number = number; fault = fault }))) (sym parts_next)
           (bad_behind Tells 1 p.done (text_lines behind) p.shown line fault number p.printed tells (omega (arith, is, p.counted)))
-      stops_at number Memory is tells =
+      stops_at number Memory is tells good =
           record {
             before = p.done;
             line = line;
             more = text_lines behind;
             parts = parts_next;
             printed = p.printed;
+            good = good refl;
             number_is = omega (arith, is, p.counted);
           }
 
       pub printing_stopped : (after : List ℕ) (number : ℕ) (error : LineError) → after ≡ now → number ≡ lines + 1
-          → TellsFault (λ fault. Tells line (Err fault)) error → GrowsBy (StopsAt Tells text number error) before after
-      printing_stopped after number error same is tells = (p.shown, stops_at number error is tells, same ∙ p.grew)
+          → TellsFault (λ fault. Tells line (Err fault)) error → (error ≡ Memory → IsGood line)
+          → GrowsBy (StopsAt Tells text number error) before after
+      printing_stopped after number error same is tells good = (p.shown, stops_at number error is tells good, same ∙ p.grew)
 
     -- ---- no rest is left
 

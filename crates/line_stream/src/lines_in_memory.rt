@@ -2,9 +2,11 @@
 
 ghost use Rattle.std.specs.Prelude.{◌≡◌, ◌+◌, ◌<◌, ◌^◌, Err, OnOk, OnErr, IfOk, IfErr};
 ghost use Rattle.mj_model.specs.Lists.{GrowsBy};
+ghost use Rattle.line_stream.specs.GoodLines.{IsGood};
 ghost use Rattle.line_stream.specs.LineErrors.{TellsFault};
 ghost use Rattle.line_stream.specs.LinesInMemory.{PrintsLines, StopsAt};
 ghost use Rattle.line_stream.specs.Progress.{IsPrinted};
+ghost use Rattle.line_stream.specs.declared.line_fault.LineError.TheVariants.{Memory};
 
 use crate::line_fault::LineError;
 use crate::line_printer::LinePrinter;
@@ -34,6 +36,7 @@ fn print_next<P: LinePrinter>(
     ensures number { IfErr result (λ stopped. stopped.line ≡ lines.old + 1) }
     ensures bad { IfErr result (λ stopped.
         TellsFault (λ fault. P.tells printer.now line.now (Err fault)) stopped.error) }
+    ensures good { IfErr result (λ stopped. stopped.error ≡ Memory → IsGood line.now) }
     ensures kept { OnErr result (out.new.items ≡ out.old.items) }
 {
     *lines += 1;

@@ -2,7 +2,9 @@
 
 ghost use Rattle.std.specs.Prelude.{◌≡◌, ◌+◌, ◌<◌, ◌≤◌, ◌^◌, ◌++◌, length, Err, OnOk, IfErr, OnErr, []};
 ghost use Rattle.mj_model.specs.declared.limits.TheConstants.{SENTENCE_MAX};
+ghost use Rattle.line_stream.specs.GoodLines.{IsGood};
 ghost use Rattle.line_stream.specs.LineErrors.{TellsFault};
+ghost use Rattle.line_stream.specs.declared.line_fault.LineError.TheVariants.{Memory};
 ghost use Rattle.line_stream.specs.declared.line_fault.LineFault.TheVariants.{TooLong};
 ghost use Rattle.line_stream.specs.Progress.{IsPrinted, Worked};
 ghost use Rattle.line_stream.specs.Steps.{last_line, IsLastCause};
@@ -54,6 +56,7 @@ pub fn print_line<P: LinePrinter>(
     ensures printed { OnOk result (IsPrinted (P.tells printer.now) line.now
         out.old.items out.new.items) }
     ensures bad { IfErr result (TellsFault (λ fault. P.tells printer.now line.now (Err fault))) }
+    ensures good { IfErr result (λ error. error ≡ Memory → IsGood line.now) }
     ensures kept { OnErr result (out.new.items ≡ out.old.items) }
 {
     match text_of(line) {

@@ -1,6 +1,7 @@
 use Rattle.std.proofs.Common.{rules, ◌+◌, ◌<◌, [], length, length-drop, take, drop, refl, subst, arith, List, ℕ}
 use Rattle.std.specs.Prelude.{Err}
 use Rattle.std.proofs.lemmas.Result.{err_from_is_err_and}
+use Rattle.line_stream.specs.GoodLines.{IsGood}
 use Rattle.line_stream.specs.LineErrors.{TellsFault}
 use Rattle.line_stream.specs.Progress.{IsPrinted}
 use Rattle.line_stream.proofs.LinesInMemory.{line_left, lines_at, printing_done, printing_on, printing_stopped}
@@ -28,7 +29,8 @@ returns-in_err-print_next-clause-stopped g c =
     let p = err_from_is_err_and c.from_residual.result c.from_residual.ensures.1 in
     rw (p.1, p.2)
     (printing_stopped Tells c.args.text.now rest c.loop-at.lines c.args.out.now.items c.loop-at.out.items c.loop-at.invariant (take at rest) (drop (at + 1) rest)
-    (lines_at rest at c.in-Some.ensures.0 c.in-Some.ensures.1) c.print_next.new.out.items stopped.line stopped.error c.in_err-print_next.ensures.kept c.in_err-print_next.ensures.number bad)
+    (lines_at rest at c.in-Some.ensures.0 c.in-Some.ensures.1) c.print_next.new.out.items stopped.line stopped.error c.in_err-print_next.ensures.kept c.in_err-print_next.ensures.number bad
+    (λ memory. subst IsGood c.cut.ensures.line (c.in_err-print_next.ensures.good memory)))
 
 pub returns-in_err-print_next-2-clause-stopped : goal.returns-in_err-print_next-2-clause-stopped
 returns-in_err-print_next-2-clause-stopped g c =
@@ -39,7 +41,8 @@ returns-in_err-print_next-2-clause-stopped g c =
     rw (p.1, p.2)
     (printing_stopped Tells c.args.text.now rest c.loop-at.lines c.args.out.now.items c.loop-at.out.items c.loop-at.invariant rest []
     (line_left rest (search rules) c.in_default.ensures) c.print_next-then-not-is_empty.new.out.items stopped.line stopped.error
-    c.in_err-print_next-2.ensures.kept c.in_err-print_next-2.ensures.number c.in_err-print_next-2.ensures.bad)
+    c.in_err-print_next-2.ensures.kept c.in_err-print_next-2.ensures.number c.in_err-print_next-2.ensures.bad
+    c.in_err-print_next-2.ensures.good)
 
 pub returns-in_ok-print_next-2-clause-printed : goal.returns-in_ok-print_next-2-clause-printed
 returns-in_ok-print_next-2-clause-printed g c =
