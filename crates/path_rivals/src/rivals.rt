@@ -1,6 +1,6 @@
 //! The rivals of the words of a text's best path.
 
-ghost use Rattle.std.specs.Prelude.{◌≡◌, ℕ, ℤ, List, IfOk, Some, slice_get};
+ghost use Rattle.std.specs.Prelude.{◌≡◌, ℕ, ℤ, ◌≤◌, List, IfOk, None, Some, length, slice_get};
 ghost use Rattle.mj_model.specs.declared.word.Word.{Word as WordOf};
 ghost use Rattle.path_search.specs.SearchedText.{CanBeSearched, IsBestIn};
 ghost use Rattle.path_rivals.specs.Kept.{AreRivals, AreRivalsIn};
@@ -97,10 +97,13 @@ impl Rivals {
     ///
     /// The time is no more than linear in `STEPS_MAX`.
     pub fn rival(&self, alloc: Global, number: usize) -> Result<Option<RivalPath>, AllocError>
-        ensures { (words : ℕ → List WordOf) (conn : ℕ → ℕ → ℤ) (len : ℕ) (path : List WordOf)
+        ensures rival { (words : ℕ → List WordOf) (conn : ℕ → ℕ → ℤ) (len : ℕ) (path : List WordOf)
             (word : WordOf) → AreRivals words conn len path self.now
             → slice_get path number ≡ Some word
             → IfOk result (IsRivalOrNone words conn path word) }
+        ensures none { (words : ℕ → List WordOf) (conn : ℕ → ℕ → ℤ) (len : ℕ) (path : List WordOf)
+            → AreRivals words conn len path self.now → length path ≤ number
+            → IfOk result (λ rival. rival ≡ None) }
     {
         match rival_at(&self.bests, number) {
             Some(best) => Ok(Some(path_through(alloc, &self.linked, &best)?)),

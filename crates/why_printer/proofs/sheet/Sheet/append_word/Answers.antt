@@ -15,7 +15,7 @@ append_if_some-requires-clause-rival c =
     let w = c.args.step.now.word in
     let here = word_of_step o.system.connection (best_of_line l) c.args.number c.args.step.now c.requires.step in
     rival_printable l w c.in_ok-rival.rival c.requires.line
-    (c.in_ok-rival.ensures (words o l.text.now) o.system.connection (length l.text.now) (best_of_line l) w c.requires.rivals here)
+    (c.in_ok-rival.ensures.rival (words o l.text.now) o.system.connection (length l.text.now) (best_of_line l) w c.requires.rivals here)
 
 pub returns-clause-appended : goal.returns-clause-appended
 returns-clause-appended c =
@@ -24,5 +24,5 @@ returns-clause-appended c =
     let s = c.args.step.now in
     let here = word_of_step o.system.connection (best_of_line l) c.args.number s c.requires.step in
     word_shown c.append_if_some.result o l.text.now (best_of_line l) s c.in_ok-rival.rival c.args.out.now.items c.append_step.new.out.items c.append_if_some.new.out.items
-    (c.in_ok-rival.ensures (words o l.text.now) o.system.connection (length l.text.now) (best_of_line l) s.word c.requires.rivals here)
+    (c.in_ok-rival.ensures.rival (words o l.text.now) o.system.connection (length l.text.now) (best_of_line l) s.word c.requires.rivals here)
     c.in_ok-append_step.ensures.appended c.append_if_some.ensures.appended
