@@ -1,5 +1,5 @@
 -- What the first bytes of an image say of the whole: its header, and the first fault of its tests.
-use Rattle.std.proofs.Common.{◌≡◌, ℕ, ◌+◌, ◌≤◌, ◌<◌, List, [], ◌∷◌, ◌++◌, length, take, Bool, true, false, None, Some, refl, sym, ap, ◌∙◌, subst, inl, inr, arith}
+use Rattle.std.proofs.Common.{◌≡◌, ℕ, ◌+◌, ◌≤◌, ◌<◌, ◌^◌, List, [], ◌∷◌, ◌++◌, length, take, Bool, true, false, None, Some, refl, sym, ap, ◌∙◌, subst, inl, inr, arith}
 use Rattle.std.specs.Prelude.{Option, IfSome}
 use Rattle.std.proofs.lemmas.List.{length-append, take-append-le}
 use Rattle.std.specs.Io.KnownBytes.{Consumes}
@@ -9,7 +9,7 @@ use Rattle.image_bytes.specs.DictKinds.{kind_numbered}
 use Rattle.image_bytes.specs.ImageBytes.{header_of, header_length, image_magic, number_at, total_length}
 use Rattle.image_bytes.specs.Layouts.{IsReadLayout}
 use Rattle.image_bytes.proofs.NumberLemmas.{number_kept}
-use Rattle.programs.specs.ImageHeads.{HasLength, IsFaultOf, IsFaultOfEach, IsHead, IsRefusalAt, IsRestRefusal}
+use Rattle.programs.specs.ImageHeads.{HasLength, IsFaultOf, IsFaultOfEach, IsHead, IsJudged, IsJudgedAt, IsJudgedOfEach, IsRefusalAt, IsRestRefusal}
 use Rattle.programs.specs.Reading.{IsReadOn}
 use Rattle.programs.specs.declared.image_reading.ImageReadFault.{ImageReadFault}
 use Rattle.programs.specs.declared.image_reading.ImageReadFault.TheVariants.{Read, Image}
@@ -51,6 +51,10 @@ module _ (first rest : List ℕ) (within : header_length ≤ length first) where
   total_kept : total_length (header_of (first ++ rest)) ≡ total_length (header_of first)
   total_kept = ap total_length header_kept
 
+  -- so does what a header demands
+  pub head_kept : (told : ℕ) → IsHead first told → IsHead (first ++ rest) told
+  head_kept told head = record { long = long; magic = magic_kept ∙ head.magic; layout = subst IsReadLayout (sym layout_kept) head.layout; told_is = head.told_is ∙ sym total_kept }
+
   -- bytes without the magic
   pub no_magic : (take 8 first ≡ image_magic → ⊥) → IsFaultOf (first ++ rest) BadMagic
   no_magic other digest = inr (long, inl ((λ is. other (sym magic_kept ∙ is)), refl))
@@ -90,6 +94,25 @@ refused_behind known before after first (Read fault) gave rest = tt
 refused_behind known None after first (Image fault) gave rest = tt
 refused_behind known (Some bytes) None first (Image fault) gave rest = absurd gave
 refused_behind known (Some bytes) (Some more) first (Image fault) gave rest = λ fits. subst (λ (b : List ℕ). IsFaultOf b fault) (sym gave) rest
+
+-- what was judged of each image that begins with the bytes that a reader gave is so of the reader's
+pub judged_at : (known : Option ℕ) (before after : Option (List ℕ)) (first : List ℕ) (fault : ImageFault) → Consumes before after first → IsJudgedOfEach known first fault → IsJudgedAt known before (Image fault)
+judged_at known None after first fault gave each = tt
+judged_at known (Some bytes) None first fault gave each = absurd gave
+judged_at known (Some bytes) (Some rest) first fault gave each =
+    λ few. subst (λ (b : List ℕ). IsJudged known b fault) (sym gave) (each rest (subst (λ (b : List ℕ). length b < 2 ^ 64) gave few))
+
+pub judged_behind : (known : Option ℕ) (before after : Option (List ℕ)) (first : List ℕ) (fault : ImageReadFault) → Consumes before after first → IsRestRefusal first after fault → IsJudgedAt known before fault
+judged_behind known before after first (Read fault) gave rest = tt
+judged_behind known None after first (Image fault) gave rest = tt
+judged_behind known (Some bytes) None first (Image fault) gave rest = absurd gave
+judged_behind known (Some bytes) (Some more) first (Image fault) gave rest = λ few. subst (λ (b : List ℕ). IsJudged known b fault) (sym gave) (inl rest)
+
+-- what was read behind a head, and is no more than it demands
+pub head_behind : (first now : List ℕ) (told : ℕ) (before after : Option (List ℕ)) → IsHead first told → IsReadOn first before after now → length now ≤ told
+    → (demanded : ℕ) × IsHead now demanded × (length now ≤ demanded)
+head_behind first now told before after head read few =
+    (told, subst (λ (b : List ℕ). IsHead b told) (sym read.2) (head_kept first read.0 head.long told head), few)
 
 -- more bytes than the first ones tell
 pub longer_behind : (first now : List ℕ) (told : ℕ) (before after : Option (List ℕ)) → IsHead first told → IsReadOn first before after now → told < length now → IsRestRefusal first before (Image (BadSection 9))

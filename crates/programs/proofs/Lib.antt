@@ -2,6 +2,7 @@ pub mod FirstBytes
 pub mod HomeLemmas
 mod HashLemmas
 mod ImageHeadLemmas
+pub mod ImageRefusals
 mod ReadOn
 mod Results
 mod WrittenBytes

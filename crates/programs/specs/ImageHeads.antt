@@ -1,6 +1,7 @@
 -- What the first bytes of an image say of the whole.
-use Rattle.std.specs.Prelude.{◌≡◌, ℕ, ◌≤◌, ◌<◌, ◌^◌, List, ◌++◌, length, take, Option, IfSome}
+use Rattle.std.specs.Prelude.{◌≡◌, ℕ, ◌≤◌, ◌<◌, ◌^◌, ◌⊎◌, List, ◌++◌, length, take, Option, Some, IfSome}
 use Rattle.mj_model.specs.declared.image_fault.ImageFault.{ImageFault}
+use Rattle.mj_model.specs.declared.image_fault.ImageFault.TheVariants.{BadSection, Memory as NoMemory, Truncated}
 use Rattle.image_bytes.specs.declared.digest_test.DigestTest.{DigestTest}
 use Rattle.image_bytes.specs.ImageBytes.{header_of, header_length, image_magic, total_length}
 use Rattle.image_bytes.specs.ImageFaults.{IsImageFault}
@@ -30,6 +31,28 @@ pub record IsHead (first : List ℕ) (told : ℕ) : Type 0 where
   pub layout : IsReadLayout (header_of first).layout
   pub told_is : told ≡ total_length (header_of first)
 
+-- bytes that are fewer than a header has, or that pass those tests and are no more than their header demands
+abbrev pub IsReadHead : List ℕ → Type 0
+IsReadHead bytes = (length bytes < header_length) ⊎ ((demanded : ℕ) × IsHead bytes demanded × (length bytes ≤ demanded))
+
+-- bytes pass the tests of an image's magic and layout, but their header demands more bytes than so many, or fewer
+abbrev pub IsLengthFault : ℕ → List ℕ → ImageFault → Type 0
+IsLengthFault count bytes fault =
+    (demanded : ℕ) × IsHead bytes demanded × (((fault ≡ Truncated) × (count < demanded)) ⊎ ((fault ≡ BadSection 9) × (demanded < count)))
+
+-- the first fault of bytes, or else that of the number of bytes that is known, which may be another than theirs
+abbrev pub IsJudged : Option ℕ → List ℕ → ImageFault → Type 0
+IsJudged known bytes fault = IsFaultOf bytes fault ⊎ ((count : ℕ) × (known ≡ Some count) × IsLengthFault count bytes fault)
+
+-- so of all bytes that begin with these and are few enough for a file
+abbrev pub IsJudgedOfEach : Option ℕ → List ℕ → ImageFault → Type 0
+IsJudgedOfEach known first fault = (rest : List ℕ) → length (first ++ rest) < 2 ^ 64 → IsJudged known (first ++ rest) fault
+
+-- so of the bytes of a reader, where these are known
+abbrev pub IsJudgedAt : Option ℕ → Option (List ℕ) → ImageReadFault → Type 0
+IsJudgedAt known remaining (Read fault) = Unit {0}
+IsJudgedAt known remaining (Image fault) = IfSome remaining (λ bytes. length bytes < 2 ^ 64 → IsJudged known bytes fault)
+
 -- the bytes of a reader are refused with a fault only where it is theirs
 abbrev pub IsRefusalAt : Option ℕ → Option (List ℕ) → ImageReadFault → Type 0
 IsRefusalAt known remaining (Read fault) = Unit {0}
@@ -40,8 +63,19 @@ abbrev pub IsRestRefusal : List ℕ → Option (List ℕ) → ImageReadFault →
 IsRestRefusal first remaining (Read fault) = Unit {0}
 IsRestRefusal first remaining (Image fault) = IfSome remaining (λ rest. IsFaultOf (first ++ rest) fault)
 
--- an image is refused with a fault only where the bytes of some file that was opened have it, if these are known and as many as was told of
--- the file; other faults are not of the bytes
+-- the first fault of bytes; or, of a file of which another length was told than it has, that of this length
+abbrev pub IsFaultOrLength : List ℕ → ImageFault → Type 0
+IsFaultOrLength bytes fault = IsFaultOf bytes fault ⊎ ((count : ℕ) × IsLengthFault count bytes fault)
+
+-- an image is refused with a fault only where it is that of some file that was opened, if its bytes are known; other faults are not of the bytes
 abbrev pub IsRefusalOfAFile : {F : Type 0} → (F → Option (List ℕ)) → Fault → Type 0
-IsRefusalOfAFile {F = F} remaining (image.Image path fault) = (opened : F) × (known : Option ℕ) × IsRefusalAt known (remaining opened) (Image fault)
+IsRefusalOfAFile {F = F} remaining (image.Image path fault) =
+    (opened : F) × IfSome (remaining opened) (λ bytes. length bytes < 2 ^ 64 → IsFaultOrLength bytes fault)
 IsRefusalOfAFile remaining told = Unit {0}
+
+-- the same where the image was to be loaded: its other tests may be what it does not pass, and memory may be refused
+abbrev pub IsLoadRefusal : {F : Type 0} → DigestTest → (F → Option (List ℕ)) → Fault → Type 0
+IsLoadRefusal {F = F} digest remaining (image.Image path fault) =
+    (opened : F)
+    × IfSome (remaining opened) (λ bytes. length bytes < 2 ^ 64 → (fault ≡ NoMemory) ⊎ (IsImageFault digest bytes fault ⊎ IsFaultOrLength bytes fault))
+IsLoadRefusal digest remaining told = Unit {0}

@@ -1,7 +1,7 @@
 -- What a writer took.
-use Rattle.std.specs.Prelude.{ℕ, ◌≤◌, List, Option, length, take}
+use Rattle.std.specs.Prelude.{ℕ, ◌<◌, List, Option, length, take}
 use Rattle.std.specs.Io.KnownBytes.{Appends}
 
--- it took the first so many of these bytes
+-- it took the first of these bytes, and not all of them
 abbrev pub AppendsFront : Option (List ℕ) → Option (List ℕ) → List ℕ → Type 0
-AppendsFront before after bytes = (sent : ℕ) × (sent ≤ length bytes) × Appends before after (take sent bytes)
+AppendsFront before after bytes = (sent : ℕ) × (sent < length bytes) × Appends before after (take sent bytes)

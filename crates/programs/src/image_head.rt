@@ -2,7 +2,7 @@
 
 ghost use Rattle.std.specs.Prelude.{◌≡◌, ◌≤◌, ◌↔◌, ◌^◌, length, take, IfErr, IfOk, IsTrue, MatchOption};
 ghost use Rattle.image_bytes.specs.ImageBytes.{header_length, image_magic, total_length};
-ghost use Rattle.programs.specs.ImageHeads.{IsFaultOfEach, IsHead};
+ghost use Rattle.programs.specs.ImageHeads.{IsFaultOfEach, IsHead, IsJudgedOfEach};
 
 use image_bytes::{Header, MAGIC, read_header, section_ends};
 use mj_model::ImageFault;
@@ -13,7 +13,9 @@ use mj_model::ImageFault;
 pub(crate) fn judge_head(first: &[u8], known: Option<u64>) -> Result<u64, ImageFault>
     requires { header_length ≤ length first.now }
     ensures told { IfOk result (IsHead first.now) }
+    ensures few { IfOk result (λ told. length first.now ≤ told) }
     ensures refused { IfErr result (IsFaultOfEach known first.now) }
+    ensures judged { IfErr result (IsJudgedOfEach known first.now) }
 {
     if !has_magic(first) {
         return Err(ImageFault::BadMagic);

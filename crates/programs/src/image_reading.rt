@@ -1,12 +1,12 @@
 //! The bytes of an image, whose first ones are judged before the others are read.
 
-ghost use Rattle.std.specs.Prelude.{◌≡◌, ◌<◌, ◌⊎◌, Err, IfErr, IfOk, IfSome, OnOk, length};
+ghost use Rattle.std.specs.Prelude.{◌≡◌, ◌<◌, ◌≤◌, ◌⊎◌, Err, IfErr, IfOk, IfSome, OnOk, length};
 ghost use Rattle.std.specs.Io.KnownBytes.{IsAtEnd};
 ghost use Rattle.image_bytes.specs.ImageFaults.{IsAccepted, IsImageFault};
 ghost use Rattle.image_bytes.specs.declared.digest_test.DigestTest.{DigestTest as DigestTestOf};
 ghost use Rattle.mj_model.specs.declared.image_fault.ImageFault.TheVariants.{Memory as NoMemory};
 ghost use Rattle.programs.specs.HashedImages.{DecideAlike};
-ghost use Rattle.programs.specs.ImageHeads.{IsHead, IsRefusalAt, IsRestRefusal};
+ghost use Rattle.programs.specs.ImageHeads.{IsHead, IsJudgedAt, IsReadHead, IsRefusalAt, IsRestRefusal};
 ghost use Rattle.programs.specs.Reading.{GivesAtLeast, IsReadOn};
 ghost use Rattle.programs.specs.declared.image_reading.ImageReadFault.TheVariants.{Read};
 ghost use Rattle.programs.specs.declared.reading.ReadFault.TheVariants.{Endless, Memory};
@@ -88,8 +88,12 @@ pub fn read_image<R: io::Read>(
     // It is called endless only where each of the reads gave a byte at least.
     ensures endless { result ≡ Err (Read Endless)
         → GivesAtLeast reads (R.remaining reader.old) (R.remaining reader.new) }
+    // What is read passed the tests of its header's magic and layout, and of its end.
+    ensures head { IfOk result (λ image. IsReadHead image.bytes.items) }
     // An image is refused only with the fault that its bytes have.
     ensures refused { IfErr result (IsRefusalAt known (R.remaining reader.old)) }
+    // Where `known` is not their number, it may be that of this number in its place.
+    ensures judged { IfErr result (IsJudgedAt known (R.remaining reader.old)) }
 {
     let mut buffer = new_buffer(alloc)?;
     let head = HEADER_LENGTH as u64 - 1;
@@ -125,8 +129,10 @@ fn read_rest<R: io::Read>(
 ) -> Result<ReadImage, ImageReadFault>
     requires buffer { 0 < length buffer.old }
     requires head { IsHead first.items told }
+    requires few { length first.items ≤ told }
     ensures whole { IfOk result (λ image. IsReadOn first.items (R.remaining reader.old)
         (R.remaining reader.new) image.bytes.items) }
+    ensures few { IfOk result (λ image. length image.bytes.items ≤ told) }
     ensures end { IfOk result (λ _. IsAtEnd (R.remaining reader.new)) }
     ensures digest { IfOk result (λ image.
         DecideAlike reading.entry.digest image.digest image.bytes.items) }

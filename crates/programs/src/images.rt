@@ -4,7 +4,7 @@ ghost use Rattle.std.specs.Prelude.{◌≡◌, length, All, IfErr, IfOk, string_
 ghost use Rattle.image_bytes.specs.ImageFaults.{IsAccepted};
 ghost use Rattle.programs.specs.Faults.{NamesFileOrImage, NamesFileOrImageOf};
 ghost use Rattle.programs.specs.HashedImages.{DecideAlike};
-ghost use Rattle.programs.specs.ImageHeads.{IsRefusalOfAFile};
+ghost use Rattle.programs.specs.ImageHeads.{IsLoadRefusal, IsRefusalOfAFile};
 ghost use Rattle.programs.specs.Reading.{AreOfAFile};
 
 use crate::fault::Fault;
@@ -41,6 +41,7 @@ fn load_at<R: Files + AllocGlobal>(
     ensures bytes { IfOk result (λ dict. AreOfAFile R.File.remaining dict) }
     ensures accepted { IfOk result (λ dict. IsAccepted digest dict) }
     ensures fault { IfErr result (NamesFileOrImage path.now) }
+    ensures refused { IfErr result (IsLoadRefusal digest R.File.remaining) }
 {
     let ImageFile { path, image } = image_at(rt, path, digest, progress)?;
     match image.load(rt.alloc()) {

@@ -13,6 +13,7 @@ use std::io::{self, ErrorKind, Write};
 pub fn write_whole<W: Write>(writer: &mut W, bytes: &[u8]) -> io::Result<()>
     ensures written { OnOk result
         (Appends (W.contents writer.old) (W.contents writer.new) bytes.now) }
+    // It fails before the last byte is taken.
     ensures cut { OnErr result
         (AppendsFront (W.contents writer.old) (W.contents writer.new) bytes.now) }
 {

@@ -1,10 +1,10 @@
-use Rattle.std.proofs.Common.{◌≡◌, ℕ, List, [], subst, sym, ◌∙◌}
+use Rattle.std.proofs.Common.{◌≡◌, ℕ, ◌≤◌, List, [], length, subst, sym, inr, ◌∙◌}
 use Rattle.std.specs.Prelude.{IfSome}
 use Rattle.std.specs.Io.KnownBytes.{IsAtEnd}
 use Rattle.std.proofs.lemmas.Result.{err_from_is_err_and}
-use Rattle.programs.specs.ImageHeads.{IsFaultOfEach, IsHead, IsRefusalAt, IsRestRefusal}
+use Rattle.programs.specs.ImageHeads.{IsFaultOfEach, IsHead, IsJudgedAt, IsJudgedOfEach, IsReadHead, IsRefusalAt, IsRestRefusal}
 use Rattle.programs.specs.Reading.{IsReadOn}
-use Rattle.programs.proofs.ImageHeadLemmas.{refused_at, refused_behind}
+use Rattle.programs.proofs.ImageHeadLemmas.{head_behind, judged_at, judged_behind, refused_at, refused_behind}
 use Rattle.programs.proofs.ReadOn.{begun, consumed, gives_further, read_further, read_is_all}
 use Rattle.programs.proofs.Results.{if_err_so, if_ok_both}
 use Rattle.programs.proofs.image_reading.read_image.Goals as goal
@@ -30,6 +30,18 @@ returns-in-Ok-clause-whole g c =
     (λ image more at_end. read_is_all a e image.bytes.items (read_further a b e [] first image.bytes.items read more) at_end)
     c.read_rest.ensures.whole c.read_rest.ensures.end
 
+pub returns-in-Ok-clause-head : goal.returns-in-Ok-clause-head
+returns-in-Ok-clause-head g c =
+    let a = g.R.Read.remaining c.args.reader.now in
+    let b = g.R.Read.remaining c.read_past.new.reader in
+    let e = g.R.Read.remaining c.read_rest.new.reader in
+    let told = c.in-Ok.told in
+    let first = c.in_ok-first-in-Ok.first.items in
+    let head = subst (λ (first : List ℕ). IsHead first told) (c.deref.ensures.value ∙ sym c.in_ok-first-in-Ok.ensures) c.in-Ok.ensures.told in
+    if_ok_both (λ image. IsReadOn first b e image.bytes.items) (λ image. length image.bytes.items ≤ told) (λ image. IsReadHead image.bytes.items) c.read_rest.result
+    (λ image more few. inr (head_behind first image.bytes.items told b e head more few))
+    c.read_rest.ensures.whole c.read_rest.ensures.few
+
 pub returns-in-Ok-clause-endless : goal.returns-in-Ok-clause-endless
 returns-in-Ok-clause-endless g c =
     let a = g.R.Read.remaining c.args.reader.now in
@@ -48,6 +60,31 @@ returns-in-Ok-clause-refused g c =
     if_err_so (IsRestRefusal first b) (IsRefusalAt c.args.known a) c.read_rest.result
     (λ fault rest. refused_behind c.args.known a b first fault (consumed a b first read) rest)
     c.read_rest.ensures.refused
+
+pub returns-in-Ok-clause-judged : goal.returns-in-Ok-clause-judged
+returns-in-Ok-clause-judged g c =
+    let a = g.R.Read.remaining c.args.reader.now in
+    let b = g.R.Read.remaining c.read_past.new.reader in
+    let first = c.in_ok-first-in-Ok.first.items in
+    let start = begun 103 c.args.reads c.in-Ok-More.left a b c.in-Ok-More.field-0 c.in-Ok-More.bytes c.in-Ok-More.field-0-is (c.in-Ok-More.ensures.front [] c.new.ensures.items) in
+    let read = subst (IsReadOn [] a b) (sym c.in_ok-first-in-Ok.ensures) start.0 in
+    if_err_so (IsRestRefusal first b) (IsJudgedAt c.args.known a) c.read_rest.result
+    (λ fault rest. judged_behind c.args.known a b first fault (consumed a b first read) rest)
+    c.read_rest.ensures.refused
+
+pub returns-in_err-first-in-Ok-clause-judged : goal.returns-in_err-first-in-Ok-clause-judged
+returns-in_err-first-in-Ok-clause-judged g c =
+    let p = err_from_is_err_and c.from_residual-in_err-first-in-Ok.result c.from_residual-in_err-first-in-Ok.ensures.1 in
+    rw (p.1, p.2) tt
+
+pub returns-in-Ok-More-clause-judged : goal.returns-in-Ok-More-clause-judged
+returns-in-Ok-More-clause-judged g c =
+    let a = g.R.Read.remaining c.args.reader.now in
+    let b = g.R.Read.remaining c.read_past.new.reader in
+    let fault = c.in-Err-judge_head.fault in
+    let start = begun 103 c.args.reads c.in-Ok-More.left a b c.in-Ok-More.field-0 c.in-Ok-More.bytes c.in-Ok-More.field-0-is (c.in-Ok-More.ensures.front [] c.new.ensures.items) in
+    judged_at c.args.known a b c.in-Ok-More.bytes.items fault (consumed a b c.in-Ok-More.bytes.items start.0)
+    (subst (λ (first : List ℕ). IsJudgedOfEach c.args.known first fault) c.deref.ensures.value c.in-Err-judge_head.ensures.judged)
 
 pub returns-in-Ok-More-clause-refused : goal.returns-in-Ok-More-clause-refused
 returns-in-Ok-More-clause-refused g c =

@@ -1,4 +1,4 @@
-use Rattle.std.proofs.Common.{ℕ, List, sym, subst, arith, ap}
+use Rattle.std.proofs.Common.{ℕ, List, length, sym, subst, arith, ap}
 use Rattle.std.specs.Prelude.{Err}
 use Rattle.programs.specs.HashedImages.{DecideAlike, HasCome}
 use Rattle.programs.specs.Reading.{IsFront, IsReadOn}
@@ -25,6 +25,18 @@ returns-in-Ok-Whole-clause-end g c =
     let front = c.in-Ok-Whole.ensures.front c.args.first.items c.begun-begun.ensures in
     let is = subst (IsFront (λ (pieces : ImagePieces) (bytes : List ℕ). HasCome bytes pieces) _ c.args.reads c.args.first.items before after) c.in-Ok-Whole.field-0-is front in
     is.3
+
+pub returns-in-Ok-Whole-clause-few : goal.returns-in-Ok-Whole-clause-few
+returns-in-Ok-Whole-clause-few g c =
+    let before = g.R.Read.remaining c.args.reader.now in
+    let after = g.R.Read.remaining c.read_past.new.reader in
+    let front = c.in-Ok-Whole.ensures.front c.args.first.items c.begun-begun.ensures in
+    let is = subst (IsFront (λ (pieces : ImagePieces) (bytes : List ℕ). HasCome bytes pieces) _ c.args.reads c.args.first.items before after) c.in-Ok-Whole.field-0-is front in
+    let long = ap length (c.whole.ensures.bytes is.0 is.1) in
+    let most = is.4 in
+    let more = c.saturating_sub-more.ensures in
+    let few = c.requires.few in
+    omega (arith, long, most, more, few)
 
 pub returns-in-Ok-Whole-clause-digest : goal.returns-in-Ok-Whole-clause-digest
 returns-in-Ok-Whole-clause-digest g c =
