@@ -1,8 +1,9 @@
 -- The longest of two lists of surfaces, and the surfaces of one more lexicon.
-use Rattle.std.proofs.Common.{◌≡◌, ℕ, suc, ◌+◌, ◌<◌, ◌≤◌, All, List, [], ◌∷◌, ◌++◌, length, take, get_or, Bor, None, Some, Ok, Err, refl, sym, ap, ◌∙◌, inl, inr, subst, append_assoc, arith, length-take}
-use Rattle.std.specs.Prelude.{Contains, Option}
-use Rattle.std.proofs.lemmas.List.{append-nil, get_or-map, length-map, map-append, take_more}
-use Rattle.std.proofs.lemmas.List.Elements.{All-append, All-cons, All-nil, All-weaker, Contains-get_or}
+use Rattle.std.proofs.Common.{◌≡◌, ℕ, suc, ◌+◌, ◌<◌, ◌≤◌, All, List, [], ◌∷◌, ◌++◌, length, map, take, drop, get_or, Bor, None, Some, Ok, Err, refl, sym, ap, ◌∙◌, inl, inr, subst, append_assoc, arith, length-take}
+use Rattle.std.specs.Prelude.{Option}
+use Rattle.std.proofs.lemmas.List.{append-nil, length-map, map-append, take_more}
+use Rattle.std.proofs.lemmas.List.Elements.{All-append, All-cons, All-nil, All-weaker}
+use Rattle.std.proofs.Math.Seq.{split_at}
 use Rattle.mj_model.specs.FirstFault.{IsRefusal}
 use Rattle.mj_model.specs.declared.entry.Record.{Record}
 use Rattle.mj_model.specs.declared.source_fault.SourceFault.{SourceFault}
@@ -10,7 +11,7 @@ use Rattle.mj_model.specs.Lexicon.{IsLexicon, Row, row_of, rows_of}
 use Rattle.dict_compile.specs.Answers.{lexicons_of}
 use Rattle.dict_compile.proofs.SkipLemmas.{before_more, bytes_before}
 use Rattle.dictc_work.specs.declared.surfaces.Surface.{Surface}
-use Rattle.dictc_work.specs.Surfaces.{HasSurfaces, HaveFault, HaveSurfaces, IsLongerOf, IsLongestIn, IsLongestOf, surface_of, surfaces_of}
+use Rattle.dictc_work.specs.Surfaces.{HasSurfaces, HaveFirstFault, HaveSurfaces, IsLongerOf, IsLongestIn, IsLongestOf, lexicon_file, surface_of, surfaces_of}
 
 abbrev HaveAtMost : ℕ → List Surface → Type 0
 HaveAtMost n surfaces = All (λ surface. surface.bytes ≤ n) surfaces
@@ -96,13 +97,21 @@ longest_with lexicons i d first second longer low was found is =
       longest_of_both was.0 found.0 first second longer was.2 found.2 is,
     )
 
--- what a lexicon is refused for is a fault of one of the lexicons
-pub fault_of_one : (lexicons : List (Bor (List ℕ))) (i file : ℕ) (d : Bor (List ℕ)) (fault : SourceFault) → i < length lexicons
-    → IsRefusal fault (IsLexicon file 0 (get_or lexicons i d).now (Err fault)) → IsRefusal fault (HaveFault (lexicons_of lexicons) fault)
-fault_of_one lexicons i file d fault low (inl memory) = inl memory
-fault_of_one lexicons i file d fault low (inr is) =
+-- what a lexicon behind accepted ones is refused for is the first fault of the lexicons
+pub first_fault : (lexicons : List (Bor (List ℕ))) (i file : ℕ) (d : Bor (List ℕ)) (fault : SourceFault) (longest : Option Surface) → i < length lexicons
+    → file ≡ lexicon_file i → IsLongestOf (bytes_before lexicons i) longest
+    → IsRefusal fault (IsLexicon file 0 (get_or lexicons i d).now (Err fault)) → IsRefusal fault (HaveFirstFault (lexicons_of lexicons) fault)
+first_fault lexicons i file d fault longest low file_is was (inl memory) = inl memory
+first_fault lexicons i file d fault longest low file_is was (inr is) =
     let bytes : Bor (List ℕ) → List ℕ = λ lexicon. lexicon.now in
-    let same = length-map lexicons bytes in
-    let within : i < length (lexicons_of lexicons) = omega (arith, low, same) in
-    let there = subst (Contains (lexicons_of lexicons)) (get_or-map bytes lexicons i d [] low) (Contains-get_or (lexicons_of lexicons) i [] within) in
-    inr (file, (get_or lexicons i d).now, there, is)
+    let front = length-map (take i lexicons) bytes in
+    let some = length-take i lexicons in
+    let count : i ≡ length (bytes_before lexicons i) = omega (arith, front, some, low) in
+    inr (record {
+      before = bytes_before lexicons i;
+      refused = (get_or lexicons i d).now;
+      behind = map bytes (drop (suc i) lexicons);
+      parts = ap (map bytes) (split_at lexicons i d low) ∙ map-append bytes (take i lexicons) (get_or lexicons i d ∷ drop (suc i) lexicons);
+      accepted = (was.0, was.1);
+      is_fault = subst (λ (n : ℕ). IsLexicon n 0 (get_or lexicons i d).now (Err fault)) (file_is ∙ ap lexicon_file count) is;
+    })

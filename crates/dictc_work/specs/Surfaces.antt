@@ -1,7 +1,8 @@
 -- The surfaces of lexicons, and the longest one.
-use Rattle.std.specs.Prelude.{◌≡◌, ◌<◌, ◌≤◌, ◌⊎◌, ℕ, ◌+◌, All, Contains, List, [], ◌∷◌, ◌++◌, length, map, Option, Some, None, Ok, Err}
+use Rattle.std.specs.Prelude.{◌≡◌, ◌<◌, ◌≤◌, ◌⊎◌, ℕ, ◌+◌, ◌-◌, ◌^◌, min, All, List, [], ◌∷◌, ◌++◌, length, map, Option, Some, None, Ok, Err}
 use Rattle.mj_model.specs.Lexicon.{IsLexicon, Row}
 use Rattle.mj_model.specs.declared.source_fault.SourceFault.{SourceFault}
+use Rattle.mj_model.specs.declared.source_fault.TheConstants.{FIRST_LEXICON_FILE}
 use Rattle.dictc_work.specs.declared.surfaces.Surface.{Surface}
 
 -- the surface of an entry of the lexicon with a number
@@ -36,9 +37,18 @@ IsLongestIn surfaces (Some longest) =
 abbrev pub IsLongestOf : List (List ℕ) → Option Surface → Type 0
 IsLongestOf lexicons longest = (surfaces : List Surface) × HaveSurfaces 0 lexicons surfaces × IsLongestIn surfaces longest
 
--- one of lexicons has this fault
-abbrev pub HaveFault : List (List ℕ) → SourceFault → Type 0
-HaveFault lexicons fault = (file : ℕ) × (lexicon : List ℕ) × Contains lexicons lexicon × IsLexicon file 0 lexicon (Err fault)
+-- the file that is the lexicon with a number, as far as files have numbers
+abbrev pub lexicon_file : ℕ → ℕ
+lexicon_file number = min (FIRST_LEXICON_FILE + number) (2 ^ 32 - 1)
+
+-- of lexicons the first that is refused has this fault: those before it are accepted
+pub record HaveFirstFault (lexicons : List (List ℕ)) (fault : SourceFault) : Type 0 where
+  pub before : List (List ℕ)
+  pub refused : List ℕ
+  pub behind : List (List ℕ)
+  pub parts : lexicons ≡ before ++ refused ∷ behind
+  pub accepted : (surfaces : List Surface) × HaveSurfaces 0 before surfaces
+  pub is_fault : IsLexicon (lexicon_file (length before)) 0 refused (Err fault)
 
 -- of two surfaces this is the first that has as many bytes as the other
 abbrev pub IsLongerOf : Option Surface → Option Surface → Option Surface → Type 0

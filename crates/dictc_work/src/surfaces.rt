@@ -4,7 +4,7 @@ ghost use Rattle.std.specs.Prelude.{List, Err, IfErr, IfOk};
 ghost use Rattle.dict_compile.specs.Answers.{lexicons_of};
 ghost use Rattle.mj_model.specs.FirstFault.{IsRefusal};
 ghost use Rattle.mj_model.specs.Lexicon.{IsLexicon, rows_of};
-ghost use Rattle.dictc_work.specs.Surfaces.{HasSurfaces, HaveFault, IsLongerOf, IsLongestIn, IsLongestOf, surfaces_of};
+ghost use Rattle.dictc_work.specs.Surfaces.{HasSurfaces, HaveFirstFault, IsLongerOf, IsLongestIn, IsLongestOf, surfaces_of};
 ghost use Rattle.dictc_work.specs.declared.surfaces.Surface.{Surface as SurfaceOf};
 
 use lex_source::read_lexicon;
@@ -26,7 +26,7 @@ pub struct Surface {
 pub fn longest_surface(alloc: Global, lexicons: &[&[u8]]) -> Result<Option<Surface>, SourceFault>
     ensures longest { IfOk result (IsLongestOf (lexicons_of lexicons.now)) }
     ensures refused { IfErr result (λ fault.
-        IsRefusal fault (HaveFault (lexicons_of lexicons.now) fault)) }
+        IsRefusal fault (HaveFirstFault (lexicons_of lexicons.now) fault)) }
 {
     let mut longest = None;
     let mut file = FIRST_LEXICON_FILE;

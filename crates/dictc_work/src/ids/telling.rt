@@ -1,5 +1,10 @@
 //! The rows of `dictc ids` on standard output.
 
+ghost use Rattle.std.specs.Prelude.{IfErr, IfOk};
+ghost use Rattle.programs.specs.Faults.{NamesFileOrImage};
+ghost use Rattle.programs.specs.ImageHeads.{IsLoadRefusal};
+ghost use Rattle.programs.specs.Reading.{AreOfAFile};
+
 use super::counted_dict::CountedDict;
 use super::pair_row::PairRow;
 use super::pair_rows::rows_of_pairs;
@@ -10,6 +15,7 @@ use mj_model::OverlayFault;
 use programs::{Fault, ImageFile, Narrator, Progress, Stage, image_at, write_whole};
 use std::alloc::{AllocError, Global};
 use std::io::{self, Write};
+use std::rt::Files;
 use std::slice;
 use std::string::String;
 use word_lookup::Dictionaries;
@@ -74,15 +80,22 @@ fn dictionary_at(
     Ok(dict)
 }
 
-/// The same, while it is told how much of the file was read.
-fn load_at(
-    rt: &HostRuntime,
+/// The same of some system's files, whose bytes are known.
+fn load_at<R: Files + AllocGlobal>(
+    rt: &R,
     path: &str,
     digest: DigestTest,
     progress: &Progress<'_>,
-) -> Result<CountedDict, Fault> {
+) -> Result<CountedDict, Fault>
+    ensures bytes { IfOk result (λ counted. AreOfAFile R.File.remaining counted.dict) }
+    ensures fault { IfErr result (NamesFileOrImage path.now) }
+    ensures refused { IfErr result (IsLoadRefusal digest R.File.remaining) }
+{
     let ImageFile { path, image } = image_at(rt, path, digest, progress)?;
-    CountedDict::load(rt.alloc(), image).map_err(|fault| Fault::Image(path, fault))
+    match CountedDict::load(rt.alloc(), image) {
+        Ok(counted) => Ok(counted),
+        Err(fault) => Err(Fault::Image(path, fault)),
+    }
 }
 
 /// Whether a dictionary is a system's.

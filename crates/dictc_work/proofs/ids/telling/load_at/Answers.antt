@@ -1,0 +1,17 @@
+use Rattle.std.proofs.Common.{refl, inr}
+use Rattle.std.proofs.lemmas.Result.{err_from_is_err_and}
+use Rattle.programs.proofs.ImageRefusals.{load_refusal, read_refusal}
+use Rattle.dictc_work.proofs.ids.telling.load_at.Goals as goal
+
+pub returns-in-Err-clause-fault : goal.returns-in-Err-clause-fault
+returns-in-Err-clause-fault g c = inr (c.in-Err.fault, inr (c.in_ok-path.field-0.path, refl, c.in_ok-path.ensures.path))
+
+pub returns-in-Err-clause-refused : goal.returns-in-Err-clause-refused
+returns-in-Err-clause-refused g c =
+    load_refusal g.R.File.Read.remaining c.args.digest c.in_ok-path.field-0.image.bytes.items c.in-Err.fault c.in_ok-path.ensures.bytes
+    (c.in-Err.ensures.refused c.args.digest c.in_ok-path.ensures.digest)
+
+pub returns-in_err-path-clause-refused : goal.returns-in_err-path-clause-refused
+returns-in_err-path-clause-refused g c =
+    let p = err_from_is_err_and c.from_residual.result c.from_residual.ensures.1 in
+    rw (p.1, p.2) (read_refusal g.R.File.Read.remaining c.args.digest c.in_err-path.field-0.0 c.in_err-path.ensures.refused)
