@@ -15,6 +15,7 @@ use Rattle.mj_model.specs.Tables.{Token}
 use Rattle.mj_model.specs.UnkDef.{token_of}
 use Rattle.image_writer.specs.declared.feature_place.FeaturePlace.{FeaturePlace}
 use Rattle.image_writer.specs.declared.features.FeatureStore.{FeatureStore}
+use Rattle.image_writer.specs.Compact.{features_once}
 use Rattle.image_writer.specs.Entries.{tokens_of}
 use Rattle.image_writer.specs.Sections.{HasPlace, HoldsTexts, HoldsOneMore, IsNextUse, IsPlaced, StandsAt, features_in, features_of, place_behind, IsTooLarge}
 use Rattle.image_bytes.proofs.NumberLemmas.{range_kept, range_behind}
@@ -170,6 +171,9 @@ features_numbered n (row ∷ rows) = ap (λ (texts : List (List ℕ)). row.featu
 
 pub feature_bytes_of : (rows : List Row) → feature_bytes (tokens_of rows) ≡ sum_by length (each_once (features_of rows))
 feature_bytes_of rows = ap (λ (texts : List (List ℕ)). sum_by length (each_once texts)) (features_numbered 0 rows)
+
+pub features_once_of : (rows : List Row) → features_once (tokens_of rows) ≡ concat (each_once (features_of rows))
+features_once_of rows = ap (λ (texts : List (List ℕ)). concat (each_once texts)) (features_numbered 0 rows)
 
 pub too_large : (rows : List Row) → feature_bytes_end ≤ sum_by length (each_once (features_of rows)) → IsTooLarge rows
 too_large rows h = let e = feature_bytes_of rows in omega (arith, e, h)

@@ -1,5 +1,5 @@
 -- A whole image of a user dictionary.
-use Rattle.std.proofs.Common.{◌≡◌, ℕ, ◌<◌, List, [], append-nil, refl, ap, subst, arith}
+use Rattle.std.proofs.Common.{◌≡◌, ℕ, ◌<◌, List, [], append-nil, refl, sym, ap, ◌∙◌, subst, arith}
 use Rattle.image_bytes.specs.ImageBounds.{feature_bytes, feature_bytes_end}
 use Rattle.mj_model.specs.declared.matrix_sizes.MatrixSizes.{MatrixSizes}
 use Rattle.image_bytes.specs.ImageBytes.{kind_of}
@@ -11,12 +11,13 @@ use Rattle.image_bytes.specs.declared.header.Header.{Header}
 use Rattle.image_bytes.specs.declared.kind.DictKind.TheVariants as dict
 use Rattle.image_writer.specs.Frames.{IsFramed, sections_with}
 use Rattle.image_writer.specs.declared.lexicon_bytes.LexiconBytes.{LexiconBytes}
-use Rattle.image_writer.specs.Entries.{lexemes_of, tokens_of}
+use Rattle.image_writer.specs.Entries.{all_rows, lexemes_of, tokens_of}
 use Rattle.image_writer.specs.Sections.{AreSections}
 use Rattle.mj_model.specs.Connection.{AreMatrixSizes}
 use Rattle.lex_source.specs.Lexicons.{AreLexiconRows}
 use Rattle.image_writer.specs.UserImages.{IsUserImage}
-use Rattle.image_writer.specs.WrittenCells.{AreCellsFor}
+use Rattle.image_writer.specs.Compact.{AreCellsFor, features_once}
+use Rattle.image_writer.proofs.FeatureLemmas.{features_once_of}
 use Rattle.image_writer.proofs.FormedLemmas.{at, from_parts}
 use Rattle.image_writer.proofs.PartLemmas.{AreParts, header_with, intact}
 
@@ -58,5 +59,7 @@ module _ (sizes : MatrixSizes) (rows : List Row) (bytes : LexiconBytes) where
       lexicon = from_parts header sections image framed
           (λ h ss. lexicon_in h.groups (record { form = key_form h.layout; keys = at ss 4; groups = at ss 5; tokens = at ss 6; features = at ss 7 }) ≡ lexemes_of rows) parts.lexicon.means;
       cells = from_parts header sections image framed (λ h ss. AreCellsFor (lexemes_of rows) (at ss 4)) parts.lexicon.cells;
+      features = from_parts header sections image framed (λ h ss. at ss 7 ≡ features_once (tokens_of rows))
+          (subst (λ (all : List Row). at sections 7 ≡ features_once (tokens_of all)) (append-nil rows) (parts.lexicon.features ∙ sym (features_once_of (all_rows rows []))));
       few_features = subst (λ (all : List Row). feature_bytes (tokens_of all) < feature_bytes_end) (append-nil rows) parts.lexicon.few_features;
     }

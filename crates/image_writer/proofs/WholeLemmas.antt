@@ -18,12 +18,13 @@ use Rattle.lex_source.specs.Lexicons.{AreLexiconRows}
 use Rattle.char_def.specs.Categories.{CharCategories, IsCategoryTable}
 use Rattle.char_def.specs.Outside.{all_lines_outside}
 use Rattle.image_writer.specs.Frames.{IsFramed, sections_with}
-use Rattle.image_writer.specs.StoredTables.{AreCategoriesOf, AreChanging, AreCostsOf, HoldRangesOf, AreUnknownOf}
+use Rattle.image_writer.specs.StoredTables.{AreCategoriesOf, AreCostsOf, HoldRangesOf, AreUnknownOf}
 use Rattle.image_writer.specs.declared.lexicon_bytes.LexiconBytes.{LexiconBytes}
 use Rattle.image_writer.specs.Sections.{AreSections}
 use Rattle.image_writer.specs.SystemImages.{IsSystemImage, tables_with}
-use Rattle.image_writer.specs.Entries.{lexemes_of}
-use Rattle.image_writer.specs.WrittenCells.{AreCellsFor}
+use Rattle.image_writer.specs.Entries.{all_rows, lexemes_of, tokens_of}
+use Rattle.image_writer.specs.Compact.{AreCellsFor, AreChanging, features_once}
+use Rattle.image_writer.proofs.FeatureLemmas.{features_once_of}
 use Rattle.image_writer.proofs.FormedLemmas.{at, eight_of, from_parts}
 use Rattle.image_writer.proofs.PartLemmas.{AreParts, header_with, intact}
 use Rattle.image_writer.proofs.SystemLemmas.{same_cost, same_unknown}
@@ -98,5 +99,6 @@ module _ (m : CostTable) (chars : CharCategories) (unknown : List (List Row)) (r
       categories = from_parts header sections image framed (λ h ss. categories_in h.categories (at ss 1) ≡ chars.categories) parts.categories_are.categories;
       ranges = from_parts header sections image framed (λ h ss. AreChanging (at ss 2)) parts.ranges_are.changing;
       cells = from_parts header sections image framed (λ h ss. AreCellsFor (lexemes_of rows) (at ss 4)) parts.lexicon.cells;
+      features = from_parts header sections image framed (λ h ss. at ss 7 ≡ features_once (tokens_of (all_rows rows unknown))) (parts.lexicon.features ∙ sym (features_once_of (all_rows rows unknown)));
       few_features = parts.lexicon.few_features;
     }

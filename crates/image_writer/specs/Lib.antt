@@ -8,7 +8,7 @@ pub mod Places
 pub mod Sections
 pub mod TokenBytes
 pub mod Written
-pub mod WrittenCells
+pub mod Compact
 pub mod SystemImages
 pub mod UserImages
 pub mod Refusals

@@ -18,7 +18,7 @@ use Rattle.image_writer.specs.Groups.{AreUnderKeys}
 use Rattle.image_writer.specs.FirstUses.{AreFirstUses}
 use Rattle.image_writer.specs.Places.{joined_texts}
 use Rattle.image_writer.specs.Entries.{all_rows, lexemes_of, tokens_of}
-use Rattle.image_writer.specs.WrittenCells.{AreCellsFor}
+use Rattle.image_writer.specs.Compact.{AreCellsFor}
 
 abbrev pub sections_of : LexiconBytes → LexiconSections
 sections_of bytes = record { form = Cells; keys = bytes.keys.items; groups = bytes.groups.items; tokens = bytes.tokens.items; features = joined_texts bytes.features.items }

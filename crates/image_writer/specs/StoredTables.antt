@@ -1,14 +1,15 @@
 -- Sections of an image that say what tables say.
-use Rattle.std.specs.Prelude.{◌≡◌, ◌≢◌, ℕ, suc, ℤ, ◌+◌, ◌<◌, ◌≤◌, IsTrue, List, flat_map, length, take}
+use Rattle.std.specs.Prelude.{◌≡◌, ℕ, ℤ, ◌+◌, ◌≤◌, IsTrue, List, flat_map, length, take}
 use Rattle.std.specs.Int.{w16, cast_unsigned}
 use Rattle.std.specs.List.{sum_by}
 use Rattle.byteorder.specs.Endian.{little_bytes}
 use Rattle.mj_model.specs.CharDef.{code_point_max}
 use Rattle.mj_model.specs.Connection.{is_pair}
-use Rattle.image_bytes.specs.ImageSections.{AreCategories, AreCosts, AreRanges, IsIndex, categories_in, index_at, range_at, range_count, stored_cost, stored_info}
+use Rattle.image_bytes.specs.ImageSections.{AreCategories, AreCosts, AreRanges, IsIndex, categories_in, index_at, stored_cost, stored_info}
 use Rattle.mj_model.specs.Lexicon.{Row}
 use Rattle.matrix_def.specs.Costs.{CostTable, matrix_cost}
 use Rattle.char_def.specs.Categories.{CharCategories, table_info}
+use Rattle.image_writer.specs.Compact.{AreChanging}
 
 -- costs of 2 bytes each, low byte first
 abbrev pub cost_bytes : ℤ → List ℕ
@@ -26,10 +27,6 @@ pub record AreCostsOf (m : CostTable) (bytes : List ℕ) : Type 0 where
 pub record AreCategoriesOf (t : CharCategories) (bytes : List ℕ) : Type 0 where
   pub formed : AreCategories (length t.categories) bytes
   pub categories : categories_in (length t.categories) bytes ≡ t.categories
-
--- ranges that follow one another have other categories
-abbrev pub AreChanging : List ℕ → Type 0
-AreChanging ranges = (i : ℕ) → suc i < range_count ranges → (range_at ranges i).info ≢ (range_at ranges (suc i)).info
 
 -- the categories of each code point, in as few ranges as can be
 pub record HoldRangesOf (t : CharCategories) (bytes : List ℕ) : Type 0 where

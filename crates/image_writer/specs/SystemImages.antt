@@ -14,8 +14,7 @@ use Rattle.mj_model.specs.UnkDef.{unknown_tokens}
 use Rattle.matrix_def.specs.Costs.{CostTable, matrix_cost}
 use Rattle.char_def.specs.Categories.{CharCategories, table_info}
 use Rattle.image_writer.specs.Entries.{all_rows, lexemes_of, tokens_of}
-use Rattle.image_writer.specs.StoredTables.{AreChanging}
-use Rattle.image_writer.specs.WrittenCells.{AreCellsFor}
+use Rattle.image_writer.specs.Compact.{AreCellsFor, AreChanging, features_once}
 
 -- the tables of a system dictionary, part by part
 abbrev pub tables_with : CostTable → CharCategories → List (List Row) → List Row → Tables
@@ -37,4 +36,5 @@ pub record IsSystemImage (matrix : CostTable) (chars : CharCategories) (unknown 
   pub categories : image_categories image ≡ chars.categories
   pub ranges : AreChanging (section image 3)
   pub cells : AreCellsFor (lexemes_of rows) (section image 5)
+  pub features : section image 8 ≡ features_once (tokens_of (all_rows rows unknown))
   pub few_features : feature_bytes (tokens_of (all_rows rows unknown)) < feature_bytes_end

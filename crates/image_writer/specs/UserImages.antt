@@ -9,7 +9,7 @@ use Rattle.image_bytes.specs.ImageMeaning.{image_lexicon, image_tables}
 use Rattle.mj_model.specs.Lexicon.{Row}
 use Rattle.mj_model.specs.Tables.{User}
 use Rattle.image_writer.specs.Entries.{lexemes_of, tokens_of}
-use Rattle.image_writer.specs.WrittenCells.{AreCellsFor}
+use Rattle.image_writer.specs.Compact.{AreCellsFor, features_once}
 
 -- a well-formed image of layout 3 of a user dictionary with these sizes and these entries
 pub record IsUserImage (sizes : MatrixSizes) (rows : List Row) (image : List ℕ) : Type 0 where
@@ -19,4 +19,5 @@ pub record IsUserImage (sizes : MatrixSizes) (rows : List Row) (image : List ℕ
   pub sizes_kept : (image_tables image).sizes ≡ sizes
   pub lexicon : image_lexicon image ≡ lexemes_of rows
   pub cells : AreCellsFor (lexemes_of rows) (section image 5)
+  pub features : section image 8 ≡ features_once (tokens_of rows)
   pub few_features : feature_bytes (tokens_of rows) < feature_bytes_end
