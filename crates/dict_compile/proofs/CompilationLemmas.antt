@@ -16,7 +16,7 @@ use Rattle.image_bytes.specs.ImageMeaning.{image_lexicon, image_tables}
 use Rattle.mj_model.specs.SourceTables.{HaveTables, IsSourcesFault, SayTheSame, lexicon_bytes, system_tables}
 use Rattle.mj_model.specs.Tables.{Tables, Lexeme, Token}
 use Rattle.image_bytes.specs.ImageBytes.{section}
-use Rattle.image_writer.specs.WrittenCells.{AreCellsFor}
+use Rattle.image_writer.specs.Compact.{AreCellsFor, features_once}
 use Rattle.mj_model.specs.UnkDef.{unknown_tokens}
 use Rattle.dict_compile.specs.Parts.{AreParts, FitTogether}
 use Rattle.dict_compile.specs.declared.parts.SourceParts.{SourceParts}
@@ -111,6 +111,7 @@ is_compilation s parts c h fit is = record {
     layout = is.image.layout;
     few_features = subst (λ (ts : List Token). feature_bytes ts < feature_bytes_end) (sym (tokens_are s parts h fit is.ordered is.in_order (image_tables c.image.items) is.image.tables)) is.image.few_features;
     cells = subst (λ (lexicon : List Lexeme). AreCellsFor lexicon (section c.image.items 5)) (sym is.image.tables.lexicon) is.image.cells;
+    features = subst (λ (ts : List Token). section c.image.items 8 ≡ features_once ts) (sym (tokens_are s parts h fit is.ordered is.in_order (image_tables c.image.items) is.image.tables)) is.image.features;
     all_entries = is.entries ∙ as_many parts is.ordered (image_lexicon c.image.items) is.in_order is.image.tables.lexicon;
     all_skipped = subst (SkipLines (lexicon_bytes s)) (sym is.skipped) h.skipped;
   };

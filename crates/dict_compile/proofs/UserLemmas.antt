@@ -12,7 +12,7 @@ use Rattle.mj_model.specs.FirstFault.{IsRefusal}
 use Rattle.image_bytes.specs.ImageMeaning.{image_lexicon, image_tables}
 use Rattle.mj_model.specs.Tables.{Tables, Lexeme, Token, User}
 use Rattle.image_bytes.specs.ImageBytes.{section}
-use Rattle.image_writer.specs.WrittenCells.{AreCellsFor}
+use Rattle.image_writer.specs.Compact.{AreCellsFor, features_once}
 use Rattle.dict_compile.specs.declared.lexicons.LexiconsRead.{LexiconsRead}
 use Rattle.image_writer.specs.Entries.{lexemes_of, tokens_of}
 use Rattle.dict_compile.specs.Answers.{IsRefusedFor, IsToldFor}
@@ -56,6 +56,7 @@ module _ (sizes : MatrixSizes) (system : Tables) (is : IsSystemOf sizes system) 
             layout = i.image.layout;
             few_features = subst (λ (ts : List Token). feature_bytes ts < feature_bytes_end) (sym tokens) i.image.few_features;
             cells = subst (λ (lexicon : List Lexeme). AreCellsFor lexicon (section c.image.items 5)) (sym i.image.lexicon) i.image.cells;
+            features = subst (λ (ts : List Token). section c.image.items 8 ≡ features_once ts) (sym tokens) i.image.features;
             all_entries = i.entries ∙ omega (arith, b, n, d);
             all_skipped = subst (SkipLines lexicons) (sym i.skipped) skips;
           };

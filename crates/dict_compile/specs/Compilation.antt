@@ -15,17 +15,17 @@ use Rattle.image_bytes.specs.ImageMeaning.{image_tables, image_lexicon, image_ca
 use Rattle.mj_model.specs.Lexicon.{Row, SkipLines}
 use Rattle.mj_model.specs.SourceTables.{HaveTables, AreChars, IsSourcesFault, lexicon_bytes}
 use Rattle.mj_model.specs.Tables.{Tables, Token, Lexeme, System, User}
-use Rattle.image_writer.specs.StoredTables.{AreChanging}
-use Rattle.image_writer.specs.WrittenCells.{AreCellsFor}
+use Rattle.image_writer.specs.Compact.{AreCellsFor, AreChanging, features_once}
 
 -- ---- what is common to system and user dictionaries
 
--- an image of layout 3 that has these tokens and no cells that its surfaces do not need, with how many entries its lexicon has and how many lines were skipped
+-- an image of layout 3 that has these tokens, each feature once, and no cells that its surfaces do not need, with how many entries its lexicon has and how many lines were skipped
 pub record IsCompiled (tokens : List Token) (lexicons : List (List ℕ)) (image : List ℕ) (entries skipped : ℕ) : Type 0 where
   pub intact : IsIntact image
   pub layout : (header_of image).layout ≡ 3
   pub few_features : feature_bytes tokens < feature_bytes_end
   pub cells : AreCellsFor (image_lexicon image) (section image 5)
+  pub features : section image 8 ≡ features_once tokens
   pub all_entries : entries ≡ length (image_lexicon image)
   pub all_skipped : SkipLines lexicons skipped
 
