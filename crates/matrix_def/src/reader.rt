@@ -69,49 +69,27 @@ impl MatrixReader {
     }
 
     /// After the rest of a line, and its LF.
-    fn read_to_end(self, part: &[u8]) -> Result<MatrixReader, AllocError>
+    fn read_to_end(mut self, part: &[u8]) -> Result<MatrixReader, AllocError>
         requires { HasNoFeed part.now }
         ensures { (bytes : List ℕ) → HasRead bytes self
             → IfOk result (HasRead (bytes ++ part.now ++ line_feed ∷ [])) }
     {
-        let MatrixReader {
-            alloc,
-            ended,
-            mut begun,
-            standing,
-        } = self;
-        begun.extend_from_slice(part)?;
-        let number = ended.saturating_add(1);
-        let standing = standing.after(alloc, number, &begun)?;
-        begun.clear();
-        Ok(MatrixReader {
-            alloc,
-            ended: number,
-            begun,
-            standing,
-        })
+        self.begun.extend_from_slice(part)?;
+        self.ended = self.ended.saturating_add(1);
+        self.standing = self.standing.after(self.alloc, self.ended, &self.begun)?;
+        self.begun.clear();
+        Ok(self)
     }
 
     /// After bytes of a line that does not end with them.
-    fn read_begun(self, part: &[u8]) -> Result<MatrixReader, AllocError>
+    fn read_begun(mut self, part: &[u8]) -> Result<MatrixReader, AllocError>
         requires { HasNoFeed part.now }
         ensures read { (bytes : List ℕ) → HasRead bytes self
             → IfOk result (HasRead (bytes ++ part.now)) }
         ensures brief { IfOk result (λ reader. length reader.begun ≤ held_most) }
     {
-        let MatrixReader {
-            alloc,
-            ended,
-            mut begun,
-            standing,
-        } = self;
-        append_bytes(&mut begun, part)?;
-        Ok(MatrixReader {
-            alloc,
-            ended,
-            begun,
-            standing,
-        })
+        append_bytes(&mut self.begun, part)?;
+        Ok(self)
     }
 
     /// What the bytes say: what `read_matrix` reads of them as one slice. Of a fault behind 2^64 lines the line is told as the last that

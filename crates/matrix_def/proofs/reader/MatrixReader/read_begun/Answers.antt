@@ -1,5 +1,8 @@
-use Rattle.std.proofs.Common.{refl, subst, sym}
-use Rattle.matrix_def.specs.Reading.{HasRead, ReaderSeen}
+use Rattle.std.proofs.Common.{Bool, ◌||◌, ◌++◌, refl, ap, ◌∙◌, subst, sym}
+use Rattle.std.specs.List.{list_any}
+use Rattle.std.proofs.lemmas.List.Folds.{list_any-append}
+use Rattle.mj_model.specs.Bytes.{is_line_feed}
+use Rattle.matrix_def.specs.Reading.{HasNoFeed, HasRead, ReaderSeen}
 use Rattle.matrix_def.proofs.BriefLemmas.{held_few}
 use Rattle.matrix_def.proofs.ReadingLemmas.{begun_read}
 use Rattle.matrix_def.proofs.reader.MatrixReader.read_begun.Goals as goal
@@ -12,3 +15,10 @@ returns-clause-read c = λ bytes given.
 
 pub returns-clause-brief : goal.returns-clause-brief
 returns-clause-brief c = held_few c.append_bytes.new.begun.items (c.in_ok-append_bytes.ensures.brief c.self.invariant.1)
+
+pub invariant_of-self : goal.invariant_of-self
+invariant_of-self c =
+    let begun = c.self.inside.begun.items in
+    let part = c.args.part.now in
+    let unended : HasNoFeed (begun ++ part) = list_any-append is_line_feed begun part ∙ ap (λ (b : Bool). b || list_any is_line_feed part) c.self.invariant.0 ∙ c.requires in
+    (c.in_ok-append_bytes.ensures.unended unended, c.in_ok-append_bytes.ensures.brief c.self.invariant.1)
