@@ -1,1 +1,4 @@
+pub mod Formatting
+pub mod Images
+pub mod Printing
 pub mod Views

@@ -2,13 +2,13 @@
 
 use crate::formatting::{Printed, printed_for, text_given};
 use crate::images::cut_by_images;
+use crate::printing::cut_over_sources;
 use crate::source_directory::{Directory, read_directory};
-use crate::views::print_source_views;
 use command_lines::jseg::{Input, Options};
 use dict_image::DigestTest;
-use mj_model::{Counted, FormatFault, GROUPING_MAX, NO_FILE, RunFault, Sources};
+use mj_model::{Counted, FormatFault, NO_FILE, RunFault, Sources};
 use programs::{Fault, Narrator, Stage, texts};
-use segmenter::{run_sources, sample};
+use segmenter::sample;
 use std::io::Write;
 
 /// How lines are cut and printed, and what is said meanwhile.
@@ -91,26 +91,14 @@ fn cut_by_directory(rt: &HostRuntime, dir: &str, manner: &Manner<'_>) -> Result<
 fn cut_by(rt: &HostRuntime, sources: &Sources<'_>, manner: &Manner<'_>) -> Result<u64, RunFault> {
     let mut reader = Counted::new(rt.reader());
     let mut writer = Counted::new(rt.stdout());
-    let grouping = manner.grouping.min(GROUPING_MAX);
-    let cut = match &manner.printed {
-        Printed::Words(format) => run_sources(
-            rt.alloc(),
-            sources,
-            &[],
-            grouping,
-            format,
-            &mut reader,
-            &mut writer,
-        ),
-        Printed::View(view) => print_source_views(
-            rt.alloc(),
-            sources,
-            grouping,
-            *view,
-            &mut reader,
-            &mut writer,
-        ),
-    };
+    let cut = cut_over_sources(
+        rt.alloc(),
+        sources,
+        manner.grouping,
+        &manner.printed,
+        &mut reader,
+        &mut writer,
+    );
     if cut.is_err() {
         let _ = writer.flush();
     }

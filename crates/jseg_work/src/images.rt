@@ -1,16 +1,18 @@
 //! Standard input is cut by the images that the command line names.
 
+ghost use Rattle.std.specs.Prelude.{◌≡◌, slice_get};
+ghost use Rattle.programs.specs.Faults.{Names};
+ghost use Rattle.programs.specs.declared.fault.Fault.TheVariants.{Overlay};
+ghost use Rattle.jseg_work.specs.Images.{path_at_fault, path_or};
+
 use crate::cutting::Manner;
-use crate::formatting::Printed;
-use crate::views::print_views;
+use crate::printing::cut_over;
 use dict_image::DigestTest;
-use mj_model::{Counted, GROUPING_MAX, OverlayFault};
+use mj_model::{Counted, OverlayFault};
 use programs::{Fault, Stage, dictionaries_at, dictionary_at};
-use segmenter::segment;
 use std::alloc::Global;
 use std::io::Write;
 use std::string::String;
-use word_lookup::Dictionaries;
 
 /// Cuts it by a system dictionary and user dictionaries laid over it. After a fault what was printed before is flushed.
 pub fn cut_by_images(
@@ -23,19 +25,18 @@ pub fn cut_by_images(
     let system = dictionary_at(rt, dic, digest)?;
     manner.narrator.say(Stage::Loaded { path: dic });
     let overlays = dictionaries_at(rt, users, digest)?;
-    let dictionaries = Dictionaries::new(&system, &overlays)
-        .map_err(|fault| overlay_fault(rt.alloc(), dic, users, fault))?
-        .with_grouping(manner.grouping.min(GROUPING_MAX));
     let mut reader = Counted::new(rt.reader());
     let mut writer = Counted::new(rt.stdout());
-    let cut = match &manner.printed {
-        Printed::Words(format) => {
-            segment(rt.alloc(), &dictionaries, format, &mut reader, &mut writer)
-        }
-        Printed::View(view) => {
-            print_views(rt.alloc(), &dictionaries, *view, &mut reader, &mut writer)
-        }
-    };
+    let cut = cut_over(
+        rt.alloc(),
+        &system,
+        &overlays,
+        manner.grouping,
+        &manner.printed,
+        &mut reader,
+        &mut writer,
+    )
+    .map_err(|fault| overlay_fault(rt.alloc(), dic, users, fault))?;
     if cut.is_err() {
         let _ = writer.flush();
     }
@@ -43,13 +44,28 @@ pub fn cut_by_images(
 }
 
 /// What is wrong with the images together, with the path of the one at fault.
-pub fn overlay_fault(alloc: Global, dic: &str, users: &[String], fault: OverlayFault) -> Fault {
-    let path = match fault {
+pub fn overlay_fault(alloc: Global, dic: &str, users: &[String], fault: OverlayFault) -> Fault
+    ensures { Names (λ told. Overlay told fault) (path_at_fault dic.now users.now fault) result }
+{
+    Fault::of_overlay(alloc, path_of(dic, users, fault), fault)
+}
+
+/// The path of the image at fault.
+fn path_of<'a>(dic: &'a str, users: &'a [String], fault: OverlayFault) -> &'a str
+    ensures { result.now ≡ path_at_fault dic.now users.now fault }
+{
+    match fault {
         OverlayFault::NotSystem => dic,
-        OverlayFault::NotUser(i) | OverlayFault::OtherSizes(i) => match users.get(i) {
-            Some(path) => path.as_str(),
-            None => dic,
-        },
-    };
-    Fault::of_overlay(alloc, path, fault)
+        OverlayFault::NotUser(i) | OverlayFault::OtherSizes(i) => path_of_user(dic, users, i),
+    }
+}
+
+/// The path of the user dictionary with a number, or that of the system where there is none.
+fn path_of_user<'a>(dic: &'a str, users: &'a [String], number: usize) -> &'a str
+    ensures { result.now ≡ path_or dic.now (slice_get users.now number) }
+{
+    match users.get(number) {
+        Some(path) => path.as_str(),
+        None => dic,
+    }
 }

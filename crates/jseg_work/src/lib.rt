@@ -6,6 +6,7 @@ mod formatting;
 mod images;
 mod inputs;
 mod listing;
+mod printing;
 mod source_directory;
 mod views;
 mod work;

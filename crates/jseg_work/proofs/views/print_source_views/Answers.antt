@@ -1,15 +1,22 @@
 use Rattle.std.proofs.Common.{[], ◌∙◌, refl, inl, inr}
+use Rattle.dict_compile.proofs.FirstFaults.{not_compiled}
 use Rattle.image_bytes.specs.ImageMeaning.{image_tables}
 use Rattle.line_stream.proofs.RunEnds.{ran_tells_no_source, ran_tells_no_user}
 use Rattle.mj_model.specs.Overlays.{overlay_fault}
 use Rattle.mj_model.specs.declared.run_fault.RunFault.TheVariants.{Source}
-use Rattle.segmenter.proofs.EarlyEnds.{not_early, source_is_early, source_of_no_user, source_told}
+use Rattle.segmenter.proofs.EarlyEnds.{not_early, source_first, source_is_early, source_of_no_user, source_told}
 use Rattle.segmenter.proofs.OverlayLemmas.{have_overlay, no_overlay_fault, none_and_some, with_grouping}
 use Rattle.word_lookup.specs.Overlays.{overlay_of}
 use Rattle.jseg_work.proofs.views.print_source_views.Goals as goal
 
 pub returns-in-Err-clause-source : goal.returns-in-Err-clause-source
 returns-in-Err-clause-source g c = λ told e. source_told c.args.sources.now c.in-Err.fault told c.early_end.result (c.early_end.ensures Source refl) c.in-Err.ensures.refused e
+
+pub returns-in-Err-clause-refused : goal.returns-in-Err-clause-refused
+returns-in-Err-clause-refused g c = λ fault h. source_first c.in-Err.fault fault c.early_end.result (c.early_end.ensures Source refl) (c.in-Err.ensures.first fault h)
+
+pub returns-in-Err-clause-succeeds : goal.returns-in-Err-clause-succeeds
+returns-in-Err-clause-succeeds g c = λ good. inr (source_is_early c.in-Err.fault c.early_end.result (c.early_end.ensures Source refl))
 
 pub returns-in-Err-clause-no_user : goal.returns-in-Err-clause-no_user
 returns-in-Err-clause-no_user g c = λ i told e. source_of_no_user c.in-Err.fault told i c.early_end.result (c.early_end.ensures Source refl) e
@@ -45,3 +52,10 @@ returns-clause-run g c =
       covered = c.print_views.ensures.covered;
       ran = c.print_views.ensures.run;
     })
+
+pub returns-clause-refused : goal.returns-clause-refused
+returns-clause-refused g c = λ fault h.
+    absurd (not_compiled c.args.sources.now c.in-Ok.system c.in-Ok.ensures.dict.0 c.in-Ok.ensures.dict.1 fault c.in-Ok.ensures.dict.2 h)
+
+pub returns-clause-succeeds : goal.returns-clause-succeeds
+returns-clause-succeeds g c = λ good. inl (c.print_views.ensures.succeeds good)
