@@ -9,7 +9,7 @@ use Rattle.image_bytes.specs.DictKinds.{kind_numbered}
 use Rattle.image_bytes.specs.ImageBytes.{header_of, header_length, image_magic, number_at, total_length}
 use Rattle.image_bytes.specs.Layouts.{IsReadLayout}
 use Rattle.image_bytes.proofs.NumberLemmas.{number_kept}
-use Rattle.programs.specs.ImageHeads.{HasLength, IsFaultOf, IsFaultOfEach, IsHead, IsJudged, IsJudgedAt, IsJudgedOfEach, IsRefusalAt, IsRestRefusal}
+use Rattle.programs.specs.ImageHeads.{HasLength, IsFaultOf, IsFaultOfEach, IsForLength, IsHead, IsJudged, IsJudgedAt, IsJudgedOfEach, IsRefusalAt, IsRefusedEarly, IsRestRefusal}
 use Rattle.programs.specs.Reading.{IsReadOn}
 use Rattle.programs.specs.declared.image_reading.ImageReadFault.{ImageReadFault}
 use Rattle.programs.specs.declared.image_reading.ImageReadFault.TheVariants.{Read, Image}
@@ -107,6 +107,11 @@ judged_behind known before after first (Read fault) gave rest = tt
 judged_behind known None after first (Image fault) gave rest = tt
 judged_behind known (Some bytes) None first (Image fault) gave rest = absurd gave
 judged_behind known (Some bytes) (Some more) first (Image fault) gave rest = λ few. subst (λ (b : List ℕ). IsJudged known b fault) (sym gave) (inl rest)
+
+-- what is refused for its length is refused so
+pub late : (before after : Option (List ℕ)) (fault : ImageReadFault) → IsForLength fault → IsRefusedEarly before after fault
+late before after (Read fault) longer = tt
+late before after (Image fault) longer = inl longer
 
 -- what was read behind a head, and is no more than it demands
 pub head_behind : (first now : List ℕ) (told : ℕ) (before after : Option (List ℕ)) → IsHead first told → IsReadOn first before after now → length now ≤ told

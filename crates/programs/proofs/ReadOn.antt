@@ -30,12 +30,13 @@ pub consumed : (a b : Option (List ℕ)) (now : List ℕ) → IsReadOn [] a b no
 consumed a b now read = subst (Consumes a b) (sym read.2) read.1
 
 -- what was read behind nothing, where there is more
-pub begun : (most reads left : ℕ) (a b : Option (List ℕ)) (front : Front (Vec ℕ Global)) (bytes : Vec ℕ Global) → front ≡ More bytes left
-    → IsFront (λ (v : Vec ℕ Global) (now : List ℕ). v.items ≡ now) most reads [] a b front
-    → IsReadOn [] a b bytes.items × (most < length bytes.items) × (reads ≤ length bytes.items + left)
-begun most reads left a b front bytes is read =
-    let more = subst (IsFront (λ (v : Vec ℕ Global) (now : List ℕ). v.items ≡ now) most reads [] a b) is read in
+pub begun : (most reads width left : ℕ) (a b : Option (List ℕ)) (front : Front (Vec ℕ Global)) (bytes : Vec ℕ Global) → front ≡ More bytes left
+    → IsFront (λ (v : Vec ℕ Global) (now : List ℕ). v.items ≡ now) most reads width [] a b front
+    → IsReadOn [] a b bytes.items × (most < length bytes.items) × (reads ≤ length bytes.items + left) × (length bytes.items ≤ most + width)
+begun most reads width left a b front bytes is read =
+    let more = subst (IsFront (λ (v : Vec ℕ Global) (now : List ℕ). v.items ≡ now) most reads width [] a b) is read in
     let long = ap length more.1 in
     let much = more.3 in
     let few = more.4 in
-    (subst (λ (now : List ℕ). IsReadOn [] a b now) (sym more.1) more.2, omega (arith, long, much), omega (arith, long, few))
+    let near = more.5 in
+    (subst (λ (now : List ℕ). IsReadOn [] a b now) (sym more.1) more.2, omega (arith, long, much), omega (arith, long, few), omega (arith, long, near))

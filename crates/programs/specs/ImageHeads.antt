@@ -1,5 +1,6 @@
 -- What the first bytes of an image say of the whole.
-use Rattle.std.specs.Prelude.{◌≡◌, ℕ, ◌≤◌, ◌<◌, ◌^◌, ◌⊎◌, List, ◌++◌, length, take, Option, Some, IfSome}
+use Rattle.std.specs.Prelude.{◌≡◌, ℕ, ◌+◌, ◌≤◌, ◌<◌, ◌^◌, ◌⊎◌, List, ◌++◌, length, take, Option, Some, IfSome}
+use Rattle.std.specs.Io.KnownBytes.{Consumes}
 use Rattle.mj_model.specs.declared.image_fault.ImageFault.{ImageFault}
 use Rattle.mj_model.specs.declared.image_fault.ImageFault.TheVariants.{BadSection, Memory as NoMemory, Truncated}
 use Rattle.image_bytes.specs.declared.digest_test.DigestTest.{DigestTest}
@@ -62,6 +63,17 @@ IsRefusalAt known remaining (Image fault) = IfSome remaining (λ bytes. HasLengt
 abbrev pub IsRestRefusal : List ℕ → Option (List ℕ) → ImageReadFault → Type 0
 IsRestRefusal first remaining (Read fault) = Unit {0}
 IsRestRefusal first remaining (Image fault) = IfSome remaining (λ rest. IsFaultOf (first ++ rest) fault)
+
+-- bytes are refused because they go on behind those that their header demands
+abbrev pub IsForLength : ImageReadFault → Type 0
+IsForLength (Read fault) = Unit {0}
+IsForLength (Image fault) = fault ≡ BadSection 9
+
+-- between two states a reader gave those of a header and what one read may give, where bytes are refused for another fault
+abbrev pub IsRefusedEarly : Option (List ℕ) → Option (List ℕ) → ImageReadFault → Type 0
+IsRefusedEarly before after (Read fault) = Unit {0}
+IsRefusedEarly before after (Image fault) =
+    (fault ≡ BadSection 9) ⊎ ((bytes : List ℕ) × Consumes before after bytes × (length bytes < header_length + 2 ^ 16))
 
 -- the first fault of bytes; or, of a file of which another length was told than it has, that of this length
 abbrev pub IsFaultOrLength : List ℕ → ImageFault → Type 0

@@ -6,7 +6,7 @@ ghost use Rattle.image_bytes.specs.ImageFaults.{IsAccepted, IsImageFault};
 ghost use Rattle.image_bytes.specs.declared.digest_test.DigestTest.{DigestTest as DigestTestOf};
 ghost use Rattle.mj_model.specs.declared.image_fault.ImageFault.TheVariants.{Memory as NoMemory};
 ghost use Rattle.programs.specs.HashedImages.{DecideAlike};
-ghost use Rattle.programs.specs.ImageHeads.{IsHead, IsJudgedAt, IsReadHead, IsRefusalAt, IsRestRefusal};
+ghost use Rattle.programs.specs.ImageHeads.{IsForLength, IsHead, IsJudgedAt, IsReadHead, IsRefusalAt, IsRefusedEarly, IsRestRefusal};
 ghost use Rattle.programs.specs.Reading.{GivesAtLeast, IsReadOn};
 ghost use Rattle.programs.specs.declared.image_reading.ImageReadFault.TheVariants.{Read};
 ghost use Rattle.programs.specs.declared.reading.ReadFault.TheVariants.{Endless, Memory};
@@ -94,6 +94,8 @@ pub fn read_image<R: io::Read>(
     ensures refused { IfErr result (IsRefusalAt known (R.remaining reader.old)) }
     // Where `known` is not their number, it may be that of this number in its place.
     ensures judged { IfErr result (IsJudgedAt known (R.remaining reader.old)) }
+    // The header is judged before more is read than it and what one read gives.
+    ensures early { IfErr result (IsRefusedEarly (R.remaining reader.old) (R.remaining reader.new)) }
 {
     let mut buffer = new_buffer(alloc)?;
     let head = HEADER_LENGTH as u64 - 1;
@@ -139,6 +141,7 @@ fn read_rest<R: io::Read>(
     ensures endless { result ≡ Err (Read Endless)
         → GivesAtLeast reads (R.remaining reader.old) (R.remaining reader.new) }
     ensures refused { IfErr result (IsRestRefusal first.items (R.remaining reader.old)) }
+    ensures longer { IfErr result IsForLength }
 {
     let more = told.saturating_sub(first.len() as u64);
     let begun = ImagePieces::begun(first, reading);

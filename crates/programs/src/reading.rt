@@ -1,6 +1,6 @@
 //! The bytes of a reader that ends.
 
-ghost use Rattle.std.specs.Prelude.{◌≡◌, ℕ, ◌<◌, ◌++◌, List, Err, IfOk, IfSome, length, vec_len};
+ghost use Rattle.std.specs.Prelude.{◌≡◌, ℕ, ◌<◌, ◌≤◌, ◌^◌, ◌++◌, List, Err, IfOk, IfSome, length, vec_len};
 ghost use Rattle.std.specs.Io.KnownBytes.{IsAtEnd};
 ghost use Rattle.programs.specs.Reading.{GivesAtLeast};
 ghost use Rattle.programs.specs.declared.reading.ReadFault.TheVariants.{Endless, Memory};
@@ -80,7 +80,7 @@ pub fn read_into<R: Read, P: Pieces + Drop>(
 }
 
 pub(crate) fn new_buffer(alloc: Global) -> Result<Vec<u8>, AllocError>
-    ensures { IfOk result (λ buffer. 0 < vec_len buffer) }
+    ensures { IfOk result (λ buffer. (0 < vec_len buffer) × (vec_len buffer ≤ 2 ^ 16)) }
 {
     vec![in alloc; 0; BUFFER]
 }

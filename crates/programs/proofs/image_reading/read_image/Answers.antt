@@ -1,10 +1,10 @@
-use Rattle.std.proofs.Common.{◌≡◌, ℕ, ◌≤◌, List, [], length, subst, sym, inr, ◌∙◌}
+use Rattle.std.proofs.Common.{◌≡◌, ℕ, ◌≤◌, List, [], length, subst, sym, inr, ◌∙◌, arith}
 use Rattle.std.specs.Prelude.{IfSome}
 use Rattle.std.specs.Io.KnownBytes.{IsAtEnd}
 use Rattle.std.proofs.lemmas.Result.{err_from_is_err_and}
-use Rattle.programs.specs.ImageHeads.{IsFaultOfEach, IsHead, IsJudgedAt, IsJudgedOfEach, IsReadHead, IsRefusalAt, IsRestRefusal}
+use Rattle.programs.specs.ImageHeads.{IsFaultOfEach, IsForLength, IsHead, IsJudgedAt, IsJudgedOfEach, IsReadHead, IsRefusalAt, IsRefusedEarly, IsRestRefusal}
 use Rattle.programs.specs.Reading.{IsReadOn}
-use Rattle.programs.proofs.ImageHeadLemmas.{head_behind, judged_at, judged_behind, refused_at, refused_behind}
+use Rattle.programs.proofs.ImageHeadLemmas.{head_behind, judged_at, judged_behind, late, refused_at, refused_behind}
 use Rattle.programs.proofs.ReadOn.{begun, consumed, gives_further, read_further, read_is_all}
 use Rattle.programs.proofs.Results.{if_err_so, if_ok_both}
 use Rattle.programs.proofs.image_reading.read_image.Goals as goal
@@ -24,7 +24,7 @@ returns-in-Ok-clause-whole g c =
     let b = g.R.Read.remaining c.read_past.new.reader in
     let e = g.R.Read.remaining c.read_rest.new.reader in
     let first = c.in_ok-first-in-Ok.first.items in
-    let start = begun 103 c.args.reads c.in-Ok-More.left a b c.in-Ok-More.field-0 c.in-Ok-More.bytes c.in-Ok-More.field-0-is (c.in-Ok-More.ensures.front [] c.new.ensures.items) in
+    let start = begun 103 c.args.reads _ c.in-Ok-More.left a b c.in-Ok-More.field-0 c.in-Ok-More.bytes c.in-Ok-More.field-0-is (c.in-Ok-More.ensures.front [] c.new.ensures.items) in
     let read = subst (IsReadOn [] a b) (sym c.in_ok-first-in-Ok.ensures) start.0 in
     if_ok_both (λ image. IsReadOn first b e image.bytes.items) (λ image. IsAtEnd e) (λ image. IfSome a (λ known. image.bytes.items ≡ known)) c.read_rest.result
     (λ image more at_end. read_is_all a e image.bytes.items (read_further a b e [] first image.bytes.items read more) at_end)
@@ -47,7 +47,7 @@ returns-in-Ok-clause-endless g c =
     let a = g.R.Read.remaining c.args.reader.now in
     let b = g.R.Read.remaining c.read_past.new.reader in
     let e = g.R.Read.remaining c.read_rest.new.reader in
-    let start = begun 103 c.args.reads c.in-Ok-More.left a b c.in-Ok-More.field-0 c.in-Ok-More.bytes c.in-Ok-More.field-0-is (c.in-Ok-More.ensures.front [] c.new.ensures.items) in
+    let start = begun 103 c.args.reads _ c.in-Ok-More.left a b c.in-Ok-More.field-0 c.in-Ok-More.bytes c.in-Ok-More.field-0-is (c.in-Ok-More.ensures.front [] c.new.ensures.items) in
     λ endless. gives_further c.args.reads c.in-Ok-More.left a b e c.in-Ok-More.bytes.items start.0 start.2 (c.read_rest.ensures.endless endless)
 
 pub returns-in-Ok-clause-refused : goal.returns-in-Ok-clause-refused
@@ -55,7 +55,7 @@ returns-in-Ok-clause-refused g c =
     let a = g.R.Read.remaining c.args.reader.now in
     let b = g.R.Read.remaining c.read_past.new.reader in
     let first = c.in_ok-first-in-Ok.first.items in
-    let start = begun 103 c.args.reads c.in-Ok-More.left a b c.in-Ok-More.field-0 c.in-Ok-More.bytes c.in-Ok-More.field-0-is (c.in-Ok-More.ensures.front [] c.new.ensures.items) in
+    let start = begun 103 c.args.reads _ c.in-Ok-More.left a b c.in-Ok-More.field-0 c.in-Ok-More.bytes c.in-Ok-More.field-0-is (c.in-Ok-More.ensures.front [] c.new.ensures.items) in
     let read = subst (IsReadOn [] a b) (sym c.in_ok-first-in-Ok.ensures) start.0 in
     if_err_so (IsRestRefusal first b) (IsRefusalAt c.args.known a) c.read_rest.result
     (λ fault rest. refused_behind c.args.known a b first fault (consumed a b first read) rest)
@@ -66,7 +66,7 @@ returns-in-Ok-clause-judged g c =
     let a = g.R.Read.remaining c.args.reader.now in
     let b = g.R.Read.remaining c.read_past.new.reader in
     let first = c.in_ok-first-in-Ok.first.items in
-    let start = begun 103 c.args.reads c.in-Ok-More.left a b c.in-Ok-More.field-0 c.in-Ok-More.bytes c.in-Ok-More.field-0-is (c.in-Ok-More.ensures.front [] c.new.ensures.items) in
+    let start = begun 103 c.args.reads _ c.in-Ok-More.left a b c.in-Ok-More.field-0 c.in-Ok-More.bytes c.in-Ok-More.field-0-is (c.in-Ok-More.ensures.front [] c.new.ensures.items) in
     let read = subst (IsReadOn [] a b) (sym c.in_ok-first-in-Ok.ensures) start.0 in
     if_err_so (IsRestRefusal first b) (IsJudgedAt c.args.known a) c.read_rest.result
     (λ fault rest. judged_behind c.args.known a b first fault (consumed a b first read) rest)
@@ -82,7 +82,7 @@ returns-in-Ok-More-clause-judged g c =
     let a = g.R.Read.remaining c.args.reader.now in
     let b = g.R.Read.remaining c.read_past.new.reader in
     let fault = c.in-Err-judge_head.fault in
-    let start = begun 103 c.args.reads c.in-Ok-More.left a b c.in-Ok-More.field-0 c.in-Ok-More.bytes c.in-Ok-More.field-0-is (c.in-Ok-More.ensures.front [] c.new.ensures.items) in
+    let start = begun 103 c.args.reads _ c.in-Ok-More.left a b c.in-Ok-More.field-0 c.in-Ok-More.bytes c.in-Ok-More.field-0-is (c.in-Ok-More.ensures.front [] c.new.ensures.items) in
     judged_at c.args.known a b c.in-Ok-More.bytes.items fault (consumed a b c.in-Ok-More.bytes.items start.0)
     (subst (λ (first : List ℕ). IsJudgedOfEach c.args.known first fault) c.deref.ensures.value c.in-Err-judge_head.ensures.judged)
 
@@ -91,6 +91,26 @@ returns-in-Ok-More-clause-refused g c =
     let a = g.R.Read.remaining c.args.reader.now in
     let b = g.R.Read.remaining c.read_past.new.reader in
     let fault = c.in-Err-judge_head.fault in
-    let start = begun 103 c.args.reads c.in-Ok-More.left a b c.in-Ok-More.field-0 c.in-Ok-More.bytes c.in-Ok-More.field-0-is (c.in-Ok-More.ensures.front [] c.new.ensures.items) in
+    let start = begun 103 c.args.reads _ c.in-Ok-More.left a b c.in-Ok-More.field-0 c.in-Ok-More.bytes c.in-Ok-More.field-0-is (c.in-Ok-More.ensures.front [] c.new.ensures.items) in
     refused_at c.args.known a b c.in-Ok-More.bytes.items fault (consumed a b c.in-Ok-More.bytes.items start.0)
     (subst (λ (first : List ℕ). IsFaultOfEach c.args.known first fault) c.deref.ensures.value c.in-Err-judge_head.ensures.refused)
+
+pub returns-in-Ok-More-clause-early : goal.returns-in-Ok-More-clause-early
+returns-in-Ok-More-clause-early g c =
+    let a = g.R.Read.remaining c.args.reader.now in
+    let b = g.R.Read.remaining c.read_past.new.reader in
+    let start = begun 103 c.args.reads _ c.in-Ok-More.left a b c.in-Ok-More.field-0 c.in-Ok-More.bytes c.in-Ok-More.field-0-is (c.in-Ok-More.ensures.front [] c.new.ensures.items) in
+    let near = start.3 in
+    let width = c.in_ok-buffer.ensures.1 in
+    inr (c.in-Ok-More.bytes.items, consumed a b c.in-Ok-More.bytes.items start.0, omega (arith, near, width))
+
+pub returns-in_err-first-in-Ok-clause-early : goal.returns-in_err-first-in-Ok-clause-early
+returns-in_err-first-in-Ok-clause-early g c =
+    let p = err_from_is_err_and c.from_residual-in_err-first-in-Ok.result c.from_residual-in_err-first-in-Ok.ensures.1 in
+    rw (p.1, p.2) tt
+
+pub returns-in-Ok-clause-early : goal.returns-in-Ok-clause-early
+returns-in-Ok-clause-early g c =
+    let a = g.R.Read.remaining c.args.reader.now in
+    let e = g.R.Read.remaining c.read_rest.new.reader in
+    if_err_so IsForLength (IsRefusedEarly a e) c.read_rest.result (λ fault longer. late a e fault longer) c.read_rest.ensures.longer

@@ -15,7 +15,7 @@ returns-in-Ok-Whole-clause-whole g c =
     let before = g.R.Read.remaining c.args.reader.now in
     let after = g.R.Read.remaining c.read_past.new.reader in
     let front = c.in-Ok-Whole.ensures.front c.args.first.items c.begun-begun.ensures in
-    let is = subst (IsFront (λ (pieces : ImagePieces) (bytes : List ℕ). HasCome bytes pieces) _ c.args.reads c.args.first.items before after) c.in-Ok-Whole.field-0-is front in
+    let is = subst (IsFront (λ (pieces : ImagePieces) (bytes : List ℕ). HasCome bytes pieces) _ c.args.reads _ c.args.first.items before after) c.in-Ok-Whole.field-0-is front in
     subst (IsReadOn c.args.first.items before after) (sym (c.whole.ensures.bytes is.0 is.1)) is.2
 
 pub returns-in-Ok-Whole-clause-end : goal.returns-in-Ok-Whole-clause-end
@@ -23,7 +23,7 @@ returns-in-Ok-Whole-clause-end g c =
     let before = g.R.Read.remaining c.args.reader.now in
     let after = g.R.Read.remaining c.read_past.new.reader in
     let front = c.in-Ok-Whole.ensures.front c.args.first.items c.begun-begun.ensures in
-    let is = subst (IsFront (λ (pieces : ImagePieces) (bytes : List ℕ). HasCome bytes pieces) _ c.args.reads c.args.first.items before after) c.in-Ok-Whole.field-0-is front in
+    let is = subst (IsFront (λ (pieces : ImagePieces) (bytes : List ℕ). HasCome bytes pieces) _ c.args.reads _ c.args.first.items before after) c.in-Ok-Whole.field-0-is front in
     is.3
 
 pub returns-in-Ok-Whole-clause-few : goal.returns-in-Ok-Whole-clause-few
@@ -31,7 +31,7 @@ returns-in-Ok-Whole-clause-few g c =
     let before = g.R.Read.remaining c.args.reader.now in
     let after = g.R.Read.remaining c.read_past.new.reader in
     let front = c.in-Ok-Whole.ensures.front c.args.first.items c.begun-begun.ensures in
-    let is = subst (IsFront (λ (pieces : ImagePieces) (bytes : List ℕ). HasCome bytes pieces) _ c.args.reads c.args.first.items before after) c.in-Ok-Whole.field-0-is front in
+    let is = subst (IsFront (λ (pieces : ImagePieces) (bytes : List ℕ). HasCome bytes pieces) _ c.args.reads _ c.args.first.items before after) c.in-Ok-Whole.field-0-is front in
     let long = ap length (c.whole.ensures.bytes is.0 is.1) in
     let most = is.4 in
     let more = c.saturating_sub-more.ensures in
@@ -43,7 +43,7 @@ returns-in-Ok-Whole-clause-digest g c =
     let before = g.R.Read.remaining c.args.reader.now in
     let after = g.R.Read.remaining c.read_past.new.reader in
     let front = c.in-Ok-Whole.ensures.front c.args.first.items c.begun-begun.ensures in
-    let is = subst (IsFront (λ (pieces : ImagePieces) (bytes : List ℕ). HasCome bytes pieces) _ c.args.reads c.args.first.items before after) c.in-Ok-Whole.field-0-is front in
+    let is = subst (IsFront (λ (pieces : ImagePieces) (bytes : List ℕ). HasCome bytes pieces) _ c.args.reads _ c.args.first.items before after) c.in-Ok-Whole.field-0-is front in
     subst (λ (bytes : List ℕ). DecideAlike c.args.reading.digest c.whole.result.digest bytes) (sym (c.whole.ensures.bytes is.0 is.1)) (c.whole.ensures.digest is.0 is.1)
 
 pub returns-in-Ok-More-clause-refused : goal.returns-in-Ok-More-clause-refused
@@ -51,7 +51,7 @@ returns-in-Ok-More-clause-refused g c =
     let before = g.R.Read.remaining c.args.reader.now in
     let after = g.R.Read.remaining c.read_past.new.reader in
     let front = c.in-Ok-More.ensures.front c.args.first.items c.begun-begun.ensures in
-    let is = subst (IsFront (λ (pieces : ImagePieces) (bytes : List ℕ). HasCome bytes pieces) _ c.args.reads c.args.first.items before after) c.in-Ok-More.field-0-is front in
+    let is = subst (IsFront (λ (pieces : ImagePieces) (bytes : List ℕ). HasCome bytes pieces) _ c.args.reads _ c.args.first.items before after) c.in-Ok-More.field-0-is front in
     let many = is.3 in
     let more = c.saturating_sub-more.ensures in
     longer_behind c.args.first.items is.0 c.args.told before after c.requires.head is.2 (omega (arith, many, more))
