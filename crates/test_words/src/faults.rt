@@ -1,5 +1,6 @@
 //! Codes, names and texts of faults.
 
+use crate::texts::printed;
 use mj_model::NamedFault;
 use std::alloc::Global;
 use std::fmt::Display;
@@ -16,12 +17,12 @@ pub fn is_told<F: NamedFault + Display + Drop>(
     name: &str,
     text: &str,
 ) -> Result<bool, Fail> {
-    let printed = format!(in alloc; "{fault}")?;
-    Ok(fault.code() == code && fault.name() == name && printed.as_str() == text)
+    let same = fault.code() == code && fault.name() == name;
+    Ok(same && printed(alloc, fault)?.as_str() == text)
 }
 
 /// The text of the first row whose fault is not told so.
-pub fn first_untold<F: NamedFault + Display + Copy + Drop>(
+fn first_untold<F: NamedFault + Display + Copy + Drop>(
     alloc: Global,
     rows: &[FaultRow<F>],
 ) -> Result<Option<&'static str>, Fail> {
@@ -31,4 +32,15 @@ pub fn first_untold<F: NamedFault + Display + Copy + Drop>(
         }
     }
     Ok(None)
+}
+
+/// Fails at the first fault that is not told as its row says, with the row's text.
+pub fn expect_told<F: NamedFault + Display + Copy + Drop>(
+    alloc: Global,
+    rows: &[FaultRow<F>],
+) -> Result<(), Fail> {
+    match first_untold(alloc, rows)? {
+        Some(text) => Err(Fail::new(text)),
+        None => Ok(()),
+    }
 }

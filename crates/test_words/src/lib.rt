@@ -1,9 +1,11 @@
-//! What tests of several crates ask with: the words of a command line, and what is told of faults. Nothing rests on it but tests, and it has no
-//! contracts.
+//! What tests of several crates ask with: the words of a command line, texts that are put together, and what is told of faults.
+//! Nothing rests on it but tests, and it has no contracts.
 #![tactic(auto)]
 
 mod command_line;
 mod faults;
+mod texts;
 
 pub use command_line::words;
-pub use faults::{FaultRow, first_untold, is_told};
+pub use faults::{FaultRow, expect_told, is_told};
+pub use texts::{joined, printed};

@@ -7,7 +7,7 @@ mod relocated;
 use self::access::{has_hits, has_value, insert, inserts};
 use double_array::{CellRead, DaFault, DoubleArray, Inserted};
 use std::test::Fail;
-use test_words::{FaultRow, first_untold};
+use test_words::{FaultRow, expect_told};
 
 /// Keys that are inserted one after another.
 #[rattlefmt::skip]
@@ -97,8 +97,7 @@ static FAULTS: [FaultRow<DaFault>; 2] = [
 
 #[test]
 fn words_of_faults(rt: HostRuntime) -> Result<(), Fail> {
-    assert_eq!(rt; first_untold(rt.alloc(), &FAULTS)?, None);
-    Ok(())
+    expect_told(rt.alloc(), &FAULTS)
 }
 
 #[test]

@@ -10,7 +10,7 @@ use mj_model::SourceKind::{
 use mj_model::{MatrixSizes, NO_FILE, SourceFault, Sources, sample};
 use std::alloc::Global;
 use std::test::Fail;
-use test_words::{FaultRow, first_untold};
+use test_words::{FaultRow, expect_told};
 
 const LINE: &str = "もも,1,1,1,名詞,ユーザ\n";
 
@@ -148,6 +148,5 @@ const OF_FEATURES: SourceFault = SourceFault {
 
 #[test]
 fn codes_names_and_texts(rt: HostRuntime) -> Result<(), Fail> {
-    assert_eq!(rt; first_untold(rt.alloc(), &FAULTS)?, None);
-    Ok(())
+    expect_told(rt.alloc(), &FAULTS)
 }

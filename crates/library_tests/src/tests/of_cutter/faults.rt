@@ -3,7 +3,7 @@
 use cutter::{CutFault, LinesFault};
 use mj_model::{FormatFault, FormatKind, FormatPart, ImageFault, OverlayFault};
 use std::test::Fail;
-use test_words::{FaultRow, first_untold};
+use test_words::{FaultRow, expect_told};
 
 const BAD_ITEM: FormatFault = FormatFault::Bad {
     part: FormatPart::Unk,
@@ -29,8 +29,7 @@ static FAULT_WORDS: [FaultRow<CutFault>; 11] = [
 
 #[test]
 fn fault_words(rt: HostRuntime) -> Result<(), Fail> {
-    assert_eq!(rt; first_untold(rt.alloc(), &FAULT_WORDS)?, None);
-    Ok(())
+    expect_told(rt.alloc(), &FAULT_WORDS)
 }
 
 static STOPPED_LINES: [(u64, CutFault, &str); 3] = [

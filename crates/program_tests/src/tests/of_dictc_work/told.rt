@@ -7,7 +7,7 @@ use programs::Fault;
 use std::alloc::Global;
 use std::io::{self, ErrorKind, Write};
 use std::test::Fail;
-use test_words::{FaultRow, first_untold};
+use test_words::{FaultRow, expect_told};
 
 /// A writer that takes so many bytes in all, and whose flush may fail.
 #[derive(Drop)]
@@ -95,6 +95,5 @@ static TOLD_FAULTS_OF_USERS: [FaultRow<CompileUserFault>; 2] = [
 
 #[test]
 fn told_faults_of_users(rt: HostRuntime) -> Result<(), Fail> {
-    assert_eq!(rt; first_untold(rt.alloc(), &TOLD_FAULTS_OF_USERS)?, None);
-    Ok(())
+    expect_told(rt.alloc(), &TOLD_FAULTS_OF_USERS)
 }

@@ -2,7 +2,7 @@
 
 use mj_model::{RunFault, SourceFault, SourceKind};
 use std::test::Fail;
-use test_words::{FaultRow, first_untold};
+use test_words::{FaultRow, expect_told};
 
 #[rattlefmt::skip]
 static FAULT_WORDS: [FaultRow<RunFault>; 4] = [
@@ -16,6 +16,5 @@ static FAULT_WORDS: [FaultRow<RunFault>; 4] = [
 
 #[test]
 fn fault_words(rt: HostRuntime) -> Result<(), Fail> {
-    assert_eq!(rt; first_untold(rt.alloc(), &FAULT_WORDS)?, None);
-    Ok(())
+    expect_told(rt.alloc(), &FAULT_WORDS)
 }

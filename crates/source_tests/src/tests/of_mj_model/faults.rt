@@ -8,7 +8,7 @@ use mj_model::{
 };
 use std::alloc::Global;
 use std::test::Fail;
-use test_words::{FaultRow, first_untold, is_told};
+use test_words::{FaultRow, expect_told, is_told};
 
 /// Faults of a line of a source, and of the sources together.
 #[rattlefmt::skip]
@@ -97,12 +97,11 @@ static RUNS: [FaultRow<RunFault>; 8] = [
 
 #[test]
 fn codes_names_and_texts(rt: HostRuntime) -> Result<(), Fail> {
-    assert_eq!(rt; first_untold(rt.alloc(), &KINDS)?, None, "of a source");
-    assert_eq!(rt; first_untold(rt.alloc(), &IMAGES)?, None, "of an image");
-    assert_eq!(rt; first_untold(rt.alloc(), &OVERLAYS)?, None, "of an overlay");
-    assert_eq!(rt; first_untold(rt.alloc(), &FORMATS)?, None, "of a format");
-    assert_eq!(rt; first_untold(rt.alloc(), &RUNS)?, None, "of a run");
-    Ok(())
+    expect_told(rt.alloc(), &KINDS)?;
+    expect_told(rt.alloc(), &IMAGES)?;
+    expect_told(rt.alloc(), &OVERLAYS)?;
+    expect_told(rt.alloc(), &FORMATS)?;
+    expect_told(rt.alloc(), &RUNS)
 }
 
 /// Places of faults.
