@@ -80,15 +80,20 @@ static GROWN: [(usize, Option<(i32, i32)>); 7] = [
     (6, None),
 ];
 
+/// Asks for what the cells hold.
+fn expect_grown(rt: &impl Abort, cells: &Cells) {
+    for (i, expected) in &GROWN {
+        assert_eq!(rt; cell(cells, *i), *expected, "{i}");
+    }
+}
+
 #[test]
 fn grown_cells(rt: HostRuntime) -> Result<(), Fail> {
     let mut cells = Cells::new(rt.alloc(), 4)?;
     put(&mut cells, 3, 8, 1);
     grow(&mut cells, 6)?;
     assert_eq!(rt; cells.len(), 6);
-    for (i, expected) in &GROWN {
-        assert_eq!(rt; cell(&cells, *i), *expected, "{i}");
-    }
+    expect_grown(&rt, &cells);
     Ok(())
 }
 
@@ -101,15 +106,20 @@ static ENDS: [(usize, i32, i32); 3] = [
     (2, 2_147_483_647, -2_147_483_648),
 ];
 
+/// Asks for those cells.
+fn expect_ends(rt: &impl Abort, cells: &Cells) {
+    for (i, base, check) in &ENDS {
+        assert_eq!(rt; cell(cells, *i), Some((*base, *check)), "{i}");
+    }
+}
+
 #[test]
 fn ends_of_the_numbers(rt: HostRuntime) -> Result<(), Fail> {
     let mut cells = Cells::new(rt.alloc(), 3)?;
     for (i, base, check) in &ENDS {
         put(&mut cells, *i, *base, *check);
     }
-    for (i, base, check) in &ENDS {
-        assert_eq!(rt; cell(&cells, *i), Some((*base, *check)), "{i}");
-    }
+    expect_ends(&rt, &cells);
     Ok(())
 }
 
@@ -121,15 +131,20 @@ fn add_one(cells: &mut Cells, base: i32) -> Result<bool, AllocError> {
     Ok(cells.len() == length.saturating_add(1) && cell(cells, length) == Some((0, -1)))
 }
 
+/// Asks for the numbers of 999 cells.
+fn expect_numbers(rt: &impl Abort, cells: &Cells) {
+    for i in 0..999 {
+        assert_eq!(rt; cell(cells, i), Some((i as i32 + 2, -5)), "{i}");
+    }
+}
+
 #[test]
 fn one_more_at_a_time(rt: HostRuntime) -> Result<(), Fail> {
     let mut cells = Cells::new(rt.alloc(), 1)?;
     for n in 2..=1_000 {
         assert!(rt; add_one(&mut cells, n)?, "{n}");
     }
-    for i in 0..999 {
-        assert_eq!(rt; cell(&cells, i), Some((i as i32 + 2, -5)), "{i}");
-    }
+    expect_numbers(&rt, &cells);
     grow(&mut cells, 1_000)?;
     assert_eq!(rt; cells.len(), 1_000);
     Ok(())

@@ -4,9 +4,7 @@ mod refused;
 mod sorted;
 
 use super::faults::{File, expect_faults};
-use lex_source::{
-    FilledLines, Words, append_field, context_id, cost, field, lines, number, read_lexicon,
-};
+use lex_source::{FilledLines, Words, append_field, context_id, cost, field, lines, number};
 use mj_model::SourceKind::SurfaceTooLong;
 use mj_model::{Record, SourceFault};
 use std::alloc::{AllocError, Global};
@@ -154,7 +152,7 @@ fn read_long(alloc: Global, length: usize) -> Result<Result<u64, SourceFault>, A
     let mut bytes = Vec::from_elem(alloc, b'a', length)?;
     bytes.extend_from_slice(b",1,1,5,X")?;
     let mut out: Vec<Record> = Vec::new(alloc);
-    Ok(read_lexicon(alloc, &bytes, 3, &mut out))
+    Ok(records::read(alloc, 3, &bytes, &mut out))
 }
 
 #[test]

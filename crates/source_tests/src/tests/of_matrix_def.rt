@@ -10,12 +10,17 @@ use std::alloc::{Alloc, Global};
 use std::io::Eprint;
 use std::test::Fail;
 
+/// The table of a `matrix.def`.
+pub fn table_of(alloc: Global, bytes: &[u8]) -> Result<Matrix, SourceFault> {
+    read_matrix(alloc, bytes)
+}
+
 /// What a `matrix.def` says. What is refused memory once is asked again.
 pub fn matrix_of(rt: &(impl Alloc<A = Global> + Eprint), bytes: &[u8]) -> Read<Matrix> {
     Ok(again!(
         rt,
         Err(SourceFault { kind: Memory, .. }),
-        read_matrix(rt.alloc(), bytes)
+        table_of(rt.alloc(), bytes)
     ))
 }
 
@@ -38,14 +43,11 @@ static COSTS: [(u16, u16, Option<i16>); 8] = [
 
 #[test]
 fn asymmetric_matrix(rt: HostRuntime) -> Result<(), Fail> {
-    let matrix = read_matrix(rt.alloc(), b"2 3\n0 2 100\n1 0 9\n")?;
-    assert_eq!(rt; matrix.sizes(), MatrixSizes { right: 2, left: 3 });
+    let matrix = table_of(rt.alloc(), b"2 3\n0 2 100\n1 0 9\n")?;
+    assert!(rt; matrix.sizes() == MatrixSizes { right: 2, left: 3 });
     for (right, left, expected) in &COSTS {
-        assert_eq!(rt;
-            cost_of(&matrix, *right, *left),
-            *expected,
-            "{right} {left}"
-        );
+        let cost = cost_of(&matrix, *right, *left);
+        assert!(rt; cost == *expected, "{right} {left}");
     }
     Ok(())
 }
@@ -71,7 +73,7 @@ static LISTED: [(&str, &str, i16); 13] = [
 
 /// The cost of 0 and 0 in a table.
 fn first_cost(alloc: Global, text: &str) -> Result<Option<i16>, SourceFault> {
-    Ok(cost_of(&read_matrix(alloc, text.as_bytes())?, 0, 0))
+    Ok(cost_of(&table_of(alloc, text.as_bytes())?, 0, 0))
 }
 
 #[test]

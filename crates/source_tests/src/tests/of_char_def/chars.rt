@@ -1,11 +1,9 @@
 //! Rows of `char.def`.
 
-use super::samples::{TWELVE, chars_of, chars_with, commented, info_of, joined};
+use super::samples::{TWELVE, chars_of, chars_with, commented, info_with, joined};
 use crate::tests::faults::{File, expect_faults};
 use char_def::CharTable;
 use mj_model::{Category, CharInfo, sample};
-use std::alloc::{Alloc, Global};
-use std::io::Eprint;
 use std::process::Abort;
 use std::test::Fail;
 
@@ -119,16 +117,6 @@ static CODE_POINTS: [(&str, &[u8], u32, CharInfo); 24] = [
     ("behind both", b"0x41..0x43 KANJI\n0x42 SPACE", 0x44, CharInfo { bits: 4, head: 2 }),
     ("the last of three", b"0x41 KANJI\n0x40..0x50 SPACE\n0x41..0x42 DEFAULT", 0x41, CharInfo { bits: 1, head: 0 }),
 ];
-
-/// The categories of a code point in the sample with further lines.
-fn info_with(
-    rt: &(impl Alloc<A = Global> + Eprint),
-    further: &[u8],
-    code: u32,
-) -> Result<Option<CharInfo>, Fail> {
-    let table = chars_with(rt, further)?;
-    Ok(info_of(&table, code))
-}
 
 #[test]
 fn categories_of_code_points(rt: HostRuntime) -> Result<(), Fail> {

@@ -53,12 +53,17 @@ pub fn joined_again(
 /// What a source says, or its fault; an outer fault is one of the test itself.
 pub type Read<T> = Result<Result<T, SourceFault>, Fail>;
 
+/// The categories of a `char.def`.
+pub fn table_of(alloc: Global, bytes: &[u8]) -> Result<CharTable, SourceFault> {
+    read_chars(alloc, bytes)
+}
+
 /// What a `char.def` says.
 pub fn chars_of(rt: &(impl Alloc<A = Global> + Eprint), bytes: &[u8]) -> Read<CharTable> {
     Ok(again!(
         rt,
         Err(SourceFault { kind: Memory, .. }),
-        read_chars(rt.alloc(), bytes)
+        table_of(rt.alloc(), bytes)
     ))
 }
 
@@ -78,13 +83,32 @@ pub fn info_of(table: &CharTable, code: u32) -> Option<CharInfo> {
     Some(table.info(code))
 }
 
+/// The categories of a code point in the sample with further lines.
+pub fn info_with(
+    rt: &(impl Alloc<A = Global> + Eprint),
+    further: &[u8],
+    code: u32,
+) -> Result<Option<CharInfo>, Fail> {
+    let table = chars_with(rt, further)?;
+    Ok(info_of(&table, code))
+}
+
+/// The entries of an `unk.def` for these categories.
+fn entries_of<'a>(
+    alloc: Global,
+    bytes: &'a [u8],
+    chars: &CharTable,
+) -> Result<UnkTable<'a>, SourceFault> {
+    read_unk(alloc, bytes, chars)
+}
+
 /// What an `unk.def` says of the sample's categories.
 pub fn unk_of<'a>(rt: &(impl Alloc<A = Global> + Eprint), bytes: &'a [u8]) -> Read<UnkTable<'a>> {
     let chars = chars_with(rt, b"")?;
     Ok(again!(
         rt,
         Err(SourceFault { kind: Memory, .. }),
-        read_unk(rt.alloc(), bytes, &chars)
+        entries_of(rt.alloc(), bytes, &chars)
     ))
 }
 

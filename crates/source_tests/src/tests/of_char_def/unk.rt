@@ -7,6 +7,7 @@ use mj_model::SourceKind::MissingCategory;
 use mj_model::{MatrixSizes, Record, sample};
 use std::alloc::{Alloc, Global};
 use std::io::Eprint;
+use std::process::Abort;
 use std::test::Fail;
 
 /// The number of KANJI among the sample's categories.
@@ -71,18 +72,25 @@ fn is_line(record: &Record<'_>, expected: &Expected) -> bool {
         && entry.feature == feature
 }
 
-#[test]
-fn unknown_entries(rt: HostRuntime) -> Result<(), Fail> {
-    let lines =
-        b"KANJI,1,2,3,A\nSPACE,1,1,1,X\nALPHA,1,1,1,X\nKANJI,4,5,-6,B,C\nDEFAULT,1,1,1,X\nHIRAGANA,1,1,1,X\n";
-    assert_eq!(rt; unk_fault(&rt, lines)?, Some(MissingCategory(3).at(2, 0)));
-    let bytes = joined(rt.alloc(), lines, b"KATAKANA,1,1,1,X\n")?;
-    let unknown = unk_of(&rt, &bytes)??;
-    let kanji = kanji_lines(&unknown, 6);
-    assert_eq!(rt; kanji.len(), LINES.len());
+/// Lines of all categories but KATAKANA.
+static ALL_BUT_ONE: &[u8] =
+    b"KANJI,1,2,3,A\nSPACE,1,1,1,X\nALPHA,1,1,1,X\nKANJI,4,5,-6,B,C\nDEFAULT,1,1,1,X\nHIRAGANA,1,1,1,X\n";
+
+/// Asks for the lines of KANJI.
+fn expect_kanji(rt: &impl Abort, kanji: &[Record<'_>]) {
+    assert!(rt; kanji.len() == LINES.len());
     for (record, expected) in kanji.iter().zip(&LINES) {
         assert!(rt; is_line(record, expected), "{}", expected.0);
     }
+}
+
+#[test]
+fn unknown_entries(rt: HostRuntime) -> Result<(), Fail> {
+    let missing = unk_fault(&rt, ALL_BUT_ONE)?;
+    assert!(rt; missing == Some(MissingCategory(3).at(2, 0)));
+    let bytes = joined(rt.alloc(), ALL_BUT_ONE, b"KATAKANA,1,1,1,X\n")?;
+    let unknown = unk_of(&rt, &bytes)??;
+    expect_kanji(&rt, kanji_lines(&unknown, 6));
     Ok(())
 }
 

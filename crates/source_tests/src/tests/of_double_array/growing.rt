@@ -9,24 +9,32 @@ use std::test::Fail;
 /// How many keys there are.
 pub const KEYS: usize = 513;
 
-/// Inserts key `n`, with the value `n`: `a`, then `a` with each byte, then `b` with each byte.
-pub fn insert_key(array: &mut DoubleArray, n: usize) -> Result<Inserted, DaFault> {
-    let number = n.min(KEYS) as u32;
+/// The two bytes of key `n`: `a` with each byte, then `b` with each byte. Key 0 is the first of its bytes alone.
+fn bytes_of(n: usize) -> [u8; 2] {
     match n {
-        0 => insert(array, b"a", number),
-        1..=256 => insert(array, &[b'a', (n - 1) as u8], number),
-        _ => insert(array, &[b'b', (n - 257).min(255) as u8], number),
+        0 => [b'a', 0],
+        1..=256 => [b'a', (n - 1) as u8],
+        _ => [b'b', (n - 257).min(255) as u8],
     }
+}
+
+/// Key `n`, of its two bytes.
+fn key_of(bytes: &[u8; 2], n: usize) -> &[u8] {
+    if n == 0 {
+        &bytes[..1]
+    } else {
+        bytes.as_slice()
+    }
+}
+
+/// Inserts key `n`, with the value `n`.
+pub fn insert_key(array: &mut DoubleArray, n: usize) -> Result<Inserted, DaFault> {
+    insert(array, key_of(&bytes_of(n), n), n.min(KEYS) as u32)
 }
 
 /// The value of key `n`.
 fn value_of_key(array: &DoubleArray, n: usize) -> Option<u32> {
-    let _ = array.len();
-    match n {
-        0 => value(array, b"a"),
-        1..=256 => value(array, &[b'a', (n - 1) as u8]),
-        _ => value(array, &[b'b', (n - 257).min(255) as u8]),
-    }
+    value(array, key_of(&bytes_of(n), n))
 }
 
 /// Whether the keys below `n` have their values, and those from `n` on have none.
@@ -58,7 +66,6 @@ fn byte_after_byte(rt: HostRuntime) -> Result<(), Fail> {
         assert!(rt; is_new_key(&mut array, n)?, "{n}");
     }
     assert!(rt; has_first_keys(&array, KEYS));
-    let _ = array.len();
     assert_eq!(rt; value(&array, b"b"), None);
     assert!(rt; has_hits(&array, b"abc", &[(1, 0), (2, 99)], 6));
     Ok(())
@@ -106,16 +113,25 @@ pub fn insert_again(
     Ok(())
 }
 
+/// Inserts all keys in two arrays, each in the first and then in the second.
+fn insert_in_both(
+    rt: &(impl Abort + Eprint),
+    array: &mut DoubleArray,
+    other: &mut DoubleArray,
+) -> Result<(), Fail> {
+    for n in 0..KEYS {
+        insert_again(rt, array, n, Some(other))?;
+        insert_again(rt, other, n, None)?;
+    }
+    assert!(rt; have_same_cells(array, other));
+    assert!(rt; has_first_keys(array, KEYS));
+    Ok(())
+}
+
 /// A refused growth leaves the cells of an array that was refused none, and asked again it makes those that this one gets.
 #[test]
 fn refused_growth_keeps_the_cells(rt: HostRuntime) -> Result<(), Fail> {
     let mut array = new_array(&rt)?;
     let mut other = new_array(&rt)?;
-    for n in 0..KEYS {
-        insert_again(&rt, &mut array, n, Some(&other))?;
-        insert_again(&rt, &mut other, n, None)?;
-    }
-    assert!(rt; have_same_cells(&array, &other));
-    assert!(rt; has_first_keys(&array, KEYS));
-    Ok(())
+    insert_in_both(&rt, &mut array, &mut other)
 }

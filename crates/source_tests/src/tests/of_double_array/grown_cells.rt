@@ -47,21 +47,41 @@ fn grow_again(
     Ok(())
 }
 
-/// Where the next key makes an array longer, the cells of the array before it grow to the new length.
+/// Inserts key `n` in an array, and then in one that was as it. Where the first is longer then, the cells of the second grow to its length.
+fn insert_and_grow(
+    rt: &(impl Abort + Eprint),
+    array: &mut DoubleArray,
+    before: &mut DoubleArray,
+    cells: &mut Cells,
+    n: usize,
+) -> Result<(), Fail> {
+    insert_again(rt, array, n, None)?;
+    if array.len() > cells.len() {
+        copy_cells(cells, before);
+        grow_again(rt, cells, before, array.len())?;
+        assert!(rt; hold(cells, before, array.len()), "{n}");
+    }
+    insert_again(rt, before, n, None)
+}
+
+/// Inserts all keys.
+fn insert_all(
+    rt: &(impl Abort + Eprint),
+    array: &mut DoubleArray,
+    before: &mut DoubleArray,
+    cells: &mut Cells,
+) -> Result<(), Fail> {
+    for n in 0..KEYS {
+        insert_and_grow(rt, array, before, cells, n)?;
+    }
+    assert!(rt; cells.len() == array.len());
+    Ok(())
+}
+
 #[test]
 fn refused_growth_keeps_the_cells(rt: HostRuntime) -> Result<(), Fail> {
     let mut array = new_array(&rt)?;
     let mut before = new_array(&rt)?;
     let mut cells = of_cells::new_cells(&rt, 1)?;
-    for n in 0..KEYS {
-        insert_again(&rt, &mut array, n, None)?;
-        if array.len() > cells.len() {
-            copy_cells(&mut cells, &before);
-            grow_again(&rt, &mut cells, &before, array.len())?;
-            assert!(rt; hold(&cells, &before, array.len()), "{n}");
-        }
-        insert_again(&rt, &mut before, n, None)?;
-    }
-    assert_eq!(rt; cells.len(), array.len());
-    Ok(())
+    insert_all(&rt, &mut array, &mut before, &mut cells)
 }

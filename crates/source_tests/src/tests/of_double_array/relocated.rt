@@ -3,7 +3,9 @@
 //! The state `a` has the children 1, 2, 3 and its value, the root has `a` and `b`. A byte whose cell, from the base of `a`, is
 //! that of `b`, makes the two of the root move: `a` is one of them.
 use super::access::{cell, insert, value};
-use double_array::{CellRead, DoubleArray};
+use double_array::{CellRead, DaFault, DoubleArray};
+use std::alloc::Global;
+use std::process::Abort;
 use std::test::Fail;
 
 static KEYS: [&[u8]; 5] = [b"a", b"b", b"a\x01", b"a\x02", b"a\x03"];
@@ -76,24 +78,46 @@ fn byte_of_a_sibling(array: &DoubleArray, key: &[u8]) -> Option<u8> {
     None
 }
 
-#[test]
-fn relocated_parent(rt: HostRuntime) -> Result<(), Fail> {
-    let mut array = DoubleArray::new(rt.alloc())?;
+/// An array of the keys, with their numbers as values.
+fn array_of_keys(alloc: Global) -> Result<DoubleArray, Fail> {
+    let mut array = DoubleArray::new(alloc)?;
     for (n, key) in KEYS.iter().enumerate() {
         insert(&mut array, key, n as u32)?;
     }
-    let byte = byte_of_a_sibling(&array, b"a").ok_or("no such byte")?;
-    let before = state_of(&array, b"a");
-    let inserted = insert(&mut array, &[b'a', byte], 5)?;
-    assert_eq!(rt; inserted.old, None);
-    assert_eq!(rt; inserted.moved, 2);
-    assert_ne!(rt; state_of(&array, b"a"), before, "a has moved");
+    Ok(array)
+}
 
-    let _ = array.len();
+/// Asks for the values of the keys.
+fn expect_keys(rt: &impl Abort, array: &DoubleArray) {
     for (n, key) in KEYS.iter().enumerate() {
-        assert_eq!(rt; value(&array, key), Some(n as u32), "{key:?}");
+        assert!(rt; value(array, key) == Some(n as u32), "{key:?}");
     }
-    assert_eq!(rt; value(&array, &[b'a', byte]), Some(5));
-    assert_eq!(rt; value(&array, b""), None);
+}
+
+/// Inserts a key below the state `a`, which moves with the root's other child.
+fn expect_relocation(rt: &impl Abort, array: &mut DoubleArray, key: &[u8]) -> Result<(), DaFault> {
+    let before = state_of(array, b"a");
+    let inserted = insert(array, key, 5)?;
+    assert!(rt; inserted.old.is_none() && inserted.moved == 2);
+    assert!(rt; state_of(array, b"a") != before, "a has moved");
+    Ok(())
+}
+
+/// Inserts a key whose byte below the state `a` has the cell of `b`.
+fn expect_relocated(rt: &impl Abort, array: &mut DoubleArray) -> Result<(), DaFault> {
+    let byte = byte_of_a_sibling(array, b"a");
+    assert!(rt; byte.is_some(), "no such byte");
+    let key = [b'a', byte.unwrap_or(0)];
+    expect_relocation(rt, array, &key)?;
+    expect_keys(rt, array);
+    assert!(rt; value(array, &key) == Some(5));
+    assert!(rt; value(array, b"") == None);
+    Ok(())
+}
+
+#[test]
+fn relocated_parent(rt: HostRuntime) -> Result<(), Fail> {
+    let mut array = array_of_keys(rt.alloc())?;
+    expect_relocated(&rt, &mut array)?;
     Ok(())
 }

@@ -48,16 +48,25 @@ fn stand_behind(records: &[Record<'_>], expected: &[Expected]) -> bool {
     all
 }
 
+/// Reads a lexicon of this number.
+pub fn read<'a>(
+    alloc: Global,
+    number: u32,
+    lexicon: &'a [u8],
+    out: &mut Vec<Record<'a>>,
+) -> Result<u64, SourceFault> {
+    read_lexicon(alloc, lexicon, number, out)
+}
+
 /// A list with the record that stands before.
 fn one_record(
     rt: &(impl Abort + Alloc<A = Global> + Eprint),
 ) -> Result<Vec<Record<'static>>, Fail> {
     let mut out = Vec::new(rt.alloc());
-    if let Err(fault) = read_lexicon(rt.alloc(), b"z,1,1,5,Z", 3, &mut out) {
+    if let Err(fault) = read(rt.alloc(), 3, b"z,1,1,5,Z", &mut out) {
         rt.eprintln("refused")?;
-        assert_eq!(rt; fault.kind, Memory);
-        assert!(rt; out.is_empty());
-        assert_eq!(rt; read_lexicon(rt.alloc(), b"z,1,1,5,Z", 3, &mut out)?, 0);
+        assert!(rt; fault.kind == Memory && out.is_empty());
+        assert_eq!(rt; read(rt.alloc(), 3, b"z,1,1,5,Z", &mut out)?, 0);
     }
     Ok(out)
 }
@@ -69,14 +78,13 @@ fn read_behind<'a>(
     lexicon: &'a [u8],
     out: &mut Vec<Record<'a>>,
 ) -> Result<Result<u64, SourceFault>, Fail> {
-    let read = read_lexicon(rt.alloc(), lexicon, number, out);
-    let is_refused = matches!(read, Err(SourceFault { kind: Memory, .. }));
-    if is_refused {
+    let found = read(rt.alloc(), number, lexicon, out);
+    if matches!(found, Err(SourceFault { kind: Memory, .. })) {
         rt.eprintln("refused")?;
         assert!(rt; stand_behind(out, &[]));
-        return Ok(read_lexicon(rt.alloc(), lexicon, number, out));
+        return Ok(read(rt.alloc(), number, lexicon, out));
     }
-    Ok(read)
+    Ok(found)
 }
 
 /// The fault of a lexicon of this number, which leaves the record that stands before alone.

@@ -1,8 +1,8 @@
 //! Lexicons one behind another, in the order of the surfaces.
-use lex_source::SourceLexicon;
-use mj_model::MatrixSizes;
+use lex_source::{SortedLexicon, SourceLexicon};
 use mj_model::SourceKind::{self, BadNumber, IdOutside, TooFewFields};
-use std::alloc::Global;
+use mj_model::{MatrixSizes, SourceFault};
+use std::alloc::{AllocError, Global};
 use std::test::Fail;
 
 /// The sizes of a connection table with three right ids and two left ids.
@@ -21,19 +21,40 @@ static SORTED: [(&str, [&str; 2], &str); 7] = [
     ("U+0000 at the end", ["a\0,0,0,1,x\na\0\0,0,0,1,y\n",       "a,0,0,1,z\n"],  "zxy"),
 ];
 
-/// Whether the entries of two lexicons have these features of one letter, in the order of the surfaces.
-fn are_sorted(alloc: Global, lexicons: &[&str; 2], expected: &str) -> Result<bool, Fail> {
+/// Adds a lexicon of this number to another one.
+pub fn add<'a>(
+    alloc: Global,
+    lexicon: &mut SourceLexicon<'a>,
+    number: u32,
+    bytes: &'a [u8],
+) -> Result<u64, SourceFault> {
+    lexicon.add(alloc, bytes, number)
+}
+
+/// Two lexicons one behind another.
+fn joined<'a>(alloc: Global, lexicons: &[&'a str; 2]) -> Result<SourceLexicon<'a>, SourceFault> {
     let [first, second] = lexicons;
     let mut lexicon = SourceLexicon::new(alloc, SIZES);
-    lexicon.add(alloc, first.as_bytes(), 3)?;
-    lexicon.add(alloc, second.as_bytes(), 4)?;
-    let count = lexicon.len();
-    let sorted = lexicon.sorted()?;
+    add(alloc, &mut lexicon, 3, first.as_bytes())?;
+    add(alloc, &mut lexicon, 4, second.as_bytes())?;
+    Ok(lexicon)
+}
+
+/// The features of entries, one behind another.
+fn features_of(alloc: Global, sorted: &SortedLexicon<'_>) -> Result<Vec<u8>, AllocError> {
     let mut features = Vec::new(alloc);
     for entry in sorted.records() {
         features.extend_from_slice(entry.entry.feature.as_bytes())?;
     }
-    let same = features.as_slice() == expected.as_bytes();
+    Ok(features)
+}
+
+/// Whether the entries of two lexicons have these features of one letter, in the order of the surfaces.
+fn are_sorted(alloc: Global, lexicons: &[&str; 2], expected: &str) -> Result<bool, Fail> {
+    let lexicon = joined(alloc, lexicons)?;
+    let count = lexicon.len();
+    let sorted = lexicon.sorted()?;
+    let same = features_of(alloc, &sorted)?.as_slice() == expected.as_bytes();
     Ok(same && count == expected.len() && sorted.sizes() == SIZES)
 }
 
@@ -58,11 +79,11 @@ static REFUSED: [(&str, &str, u64, SourceKind); 4] = [
 #[test]
 fn refused_lexicons_add_nothing(rt: HostRuntime) -> Result<(), Fail> {
     let mut lexicon = SourceLexicon::new(rt.alloc(), SIZES);
-    lexicon.add(rt.alloc(), b"a,0,0,1,x\n", 3)?;
+    add(rt.alloc(), &mut lexicon, 3, b"a,0,0,1,x\n")?;
     for (what, bytes, line, kind) in &REFUSED {
-        let fault = lexicon.add(rt.alloc(), bytes.as_bytes(), 4).err();
-        assert_eq!(rt; fault, Some(kind.at(4, *line)), "{what}");
-        assert_eq!(rt; lexicon.len(), 1, "{what}");
+        let fault = add(rt.alloc(), &mut lexicon, 4, bytes.as_bytes()).err();
+        assert!(rt; fault == Some(kind.at(4, *line)), "{what}");
+        assert!(rt; lexicon.len() == 1, "{what}");
     }
     Ok(())
 }

@@ -1,7 +1,7 @@
 //! A `matrix.def` that comes in pieces says what it says as one slice.
-use super::LISTED;
-use crate::tests::faults::{self, File};
-use matrix_def::{Matrix, MatrixReader, read_matrix};
+use super::{LISTED, table_of};
+use crate::tests::faults;
+use matrix_def::{Matrix, MatrixReader};
 use mj_model::SourceFault;
 use std::alloc::{Alloc, Global};
 use std::process::Abort;
@@ -45,7 +45,7 @@ fn expect_said(
     }
     let read = of_bytes(rt.alloc(), bytes);
     assert!(rt; says(read, expected), "{what}, byte by byte");
-    let read = read_matrix(rt.alloc(), bytes);
+    let read = table_of(rt.alloc(), bytes);
     assert!(rt; says(read, expected), "{what}, as one slice");
 }
 
@@ -64,9 +64,7 @@ fn listed_rows_of_pieces(rt: HostRuntime) {
 
 #[test]
 fn faults_of_pieces(rt: HostRuntime) {
-    for (file, what, text, line, kind) in faults::rows() {
-        if *file == File::Matrix {
-            expect_said(&rt, what, text, Err(kind.at(0, *line)));
-        }
+    for (_, what, text, line, kind) in faults::rows_of_matrices() {
+        expect_said(&rt, what, text, Err(kind.at(0, *line)));
     }
 }

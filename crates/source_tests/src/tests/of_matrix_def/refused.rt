@@ -5,18 +5,18 @@ use std::test::Fail;
 
 /// Tables that are accepted.
 #[rattlefmt::skip]
-static ACCEPTED: [(&[u8], &[i16]); 3] = [
-    // (matrix.def, the costs of each right id in turn)
-    (b"2 3\n0 2 100\n1 0 9\n",                          &[0, 0, 100, 9, 0, 0]),
-    (b"2 2\n0 0 0\n0 1 10\n1 0 5\n1 1 7\n",             &[0, 10, 5, 7]),
-    (b"2 2\n0 0 0\n0 1 10\n1 0 5\n1 1 7\n0 0 -434\n",   &[-434, 10, 5, 7]),
+static ACCEPTED: [(&str, &[u8], &[i16]); 3] = [
+    // (what, matrix.def, the costs of each right id in turn)
+    ("asymmetric",   b"2 3\n0 2 100\n1 0 9\n",                          &[0, 0, 100, 9, 0, 0]),
+    ("each pair",    b"2 2\n0 0 0\n0 1 10\n1 0 5\n1 1 7\n",             &[0, 10, 5, 7]),
+    ("a pair twice", b"2 2\n0 0 0\n0 1 10\n1 0 5\n1 1 7\n0 0 -434\n",   &[-434, 10, 5, 7]),
 ];
 
 #[test]
 fn refused_matrix(rt: HostRuntime) -> Result<(), Fail> {
-    for (bytes, costs) in &ACCEPTED {
+    for (what, bytes, costs) in &ACCEPTED {
         let matrix = matrix_of(&rt, bytes)??;
-        assert_eq!(rt; matrix.costs(), *costs);
+        assert_eq!(rt; matrix.costs(), *costs, "{what}");
     }
     Ok(())
 }
