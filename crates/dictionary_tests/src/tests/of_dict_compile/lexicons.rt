@@ -5,6 +5,7 @@ use crate::tests::samples::{
 use dict_image::{Dict, Entries};
 use mj_model::{MatrixSizes, Sources, sample};
 use std::alloc::Global;
+use std::process::Abort;
 use std::test::Fail;
 
 /// Keys of the sample, with their entries.
@@ -37,16 +38,20 @@ fn answer(
     Ok((count, skipped, are_entries(&dict, key, entries)))
 }
 
+/// Asks for the entries of the sample's keys.
+fn expect_sumomo(rt: &impl Abort, dict: &Dict) {
+    let sizes = MatrixSizes { right: 2, left: 2 };
+    assert!(rt; !dict.is_user() && dict.matrix_sizes() == sizes);
+    for (key, entries) in &SUMOMO {
+        assert!(rt; are_entries(dict, key, entries), "{key}");
+    }
+}
+
 #[test]
 fn sumomo(rt: HostRuntime) -> Result<(), Fail> {
     let counted = answer(rt.alloc(), &sample(), "", NONE)?;
-    assert_eq!(rt; counted, (3, 0, true));
-    let dict = sample_dict(rt.alloc())?;
-    assert!(rt; !dict.is_user());
-    assert_eq!(rt; dict.matrix_sizes(), MatrixSizes { right: 2, left: 2 });
-    for (key, entries) in &SUMOMO {
-        assert!(rt; are_entries(&dict, key, entries), "{key}");
-    }
+    assert!(rt; counted == (3, 0, true));
+    expect_sumomo(&rt, &sample_dict(rt.alloc())?);
     Ok(())
 }
 
@@ -86,12 +91,16 @@ static TEXTS: [(&str, &[Prefix]); 5] = [
     ("", &[]),
 ];
 
+/// Asks for the surfaces that begin the texts.
+fn expect_prefixes(rt: &impl Abort, dict: &Dict) {
+    for (text, expected) in &TEXTS {
+        assert!(rt; are_prefixes(dict, text, expected), "{text}");
+    }
+}
+
 #[test]
 fn surfaces_that_begin_a_text(rt: HostRuntime) -> Result<(), Fail> {
-    let dict = sample_dict(rt.alloc())?;
-    for (text, expected) in &TEXTS {
-        assert!(rt; are_prefixes(&dict, text, expected), "{text}");
-    }
+    expect_prefixes(&rt, &sample_dict(rt.alloc())?);
     Ok(())
 }
 
@@ -128,7 +137,7 @@ fn answer_of_two(
 fn two_lexicons(rt: HostRuntime) -> Result<(), Fail> {
     for (what, first, second, count, skipped, key, entries) in &TWO_LEXICONS {
         let found = answer_of_two(rt.alloc(), first, second, key, entries)?;
-        assert_eq!(rt; found, (*count, *skipped, true), "{what}");
+        assert!(rt; found == (*count, *skipped, true), "{what}");
     }
     Ok(())
 }
@@ -156,6 +165,11 @@ static COSTS: [(&str, &str, u32, u32, &[u8]); 3] = [
     ("a pair twice", "2 2\n0 1 3\n0 1 4\n", 2, 2, b"\0\0\x04\0\0\0\0\0"),
 ];
 
+/// Whether a dictionary has these sizes and the entry of its one surface.
+fn has_sizes(dict: &Dict, sizes: MatrixSizes) -> bool {
+    dict.matrix_sizes() == sizes && are_entries(dict, "も", &[(0, 1, 1, 20, "X")])
+}
+
 /// Whether the dictionary of a connection table has these sizes and costs, and the entry of its one surface.
 fn has_costs(alloc: Global, matrix: &str, sizes: MatrixSizes, costs: &[u8]) -> Result<bool, Fail> {
     let lexicons = ["も,1,1,20,X\n".as_bytes()];
@@ -165,9 +179,7 @@ fn has_costs(alloc: Global, matrix: &str, sizes: MatrixSizes, costs: &[u8]) -> R
     };
     let image = compiled_of(alloc, &sources)?.image;
     let begins = image.get(104..).unwrap_or(b"").starts_with(costs);
-    let dict = dict_of(alloc, image)?;
-    let same = dict.matrix_sizes() == sizes && are_entries(&dict, "も", &[(0, 1, 1, 20, "X")]);
-    Ok(begins && same)
+    Ok(begins && has_sizes(&dict_of(alloc, image)?, sizes))
 }
 
 #[test]

@@ -43,7 +43,7 @@ fn fault_of_two(alloc: Global, matrix: &str, first: &str, second: &str) -> Optio
 fn matrix_and_lexicons(rt: HostRuntime) {
     for (what, matrix, first, second, file, line, kind) in &LEXICONS {
         let fault = fault_of_two(rt.alloc(), matrix, first, second);
-        assert_eq!(rt; fault, Some(kind.at(*file, *line)), "{what}");
+        assert!(rt; fault == Some(kind.at(*file, *line)), "{what}");
     }
 }
 
@@ -98,7 +98,7 @@ fn fault_without(
 fn missing_categories(rt: HostRuntime) -> Result<(), Fail> {
     for (what, no_chars, no_unknown, file, kind) in &MISSING {
         let fault = fault_without(rt.alloc(), no_chars, no_unknown)?;
-        assert_eq!(rt; fault, Some(kind.at(*file, 0)), "{what}");
+        assert!(rt; fault == Some(kind.at(*file, 0)), "{what}");
     }
     Ok(())
 }
@@ -144,7 +144,7 @@ fn fault_with(
 fn faults_in_two_files(rt: HostRuntime) -> Result<(), Fail> {
     for (what, matrix, further, unknown, lexicon, file, line, kind) in &IN_TWO_FILES {
         let fault = fault_with(rt.alloc(), matrix, further, unknown, lexicon)?;
-        assert_eq!(rt; fault, Some(kind.at(*file, *line)), "{what}");
+        assert!(rt; fault == Some(kind.at(*file, *line)), "{what}");
     }
     Ok(())
 }

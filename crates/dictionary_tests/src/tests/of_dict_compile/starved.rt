@@ -4,6 +4,7 @@ use dict_compile::{CompileUserFault, Compiled};
 use dict_image::Dict;
 use mj_model::SourceKind::Memory;
 use mj_model::{ImageFault, SourceFault, sample};
+use std::process::Abort;
 use std::test::Fail;
 
 /// The sample's image, or that of a user dictionary for a system.
@@ -45,13 +46,17 @@ static ENTRIES: [(&str, &[Expected]); 3] = [
     ("もも",   &[(2, 1, 1, 30, "名詞,もも")]),
 ];
 
-#[test]
-fn starved_system_dictionary(rt: HostRuntime) -> Result<(), Fail> {
-    let dict = dict_again(&rt, None)?;
+/// Asks for the entries of the sample's dictionary.
+fn expect_entries(rt: &impl Abort, dict: &Dict) {
     assert!(rt; !dict.is_user());
     for (key, entries) in &ENTRIES {
-        assert!(rt; are_entries(&dict, key, entries), "{key}");
+        assert!(rt; are_entries(dict, key, entries), "{key}");
     }
+}
+
+#[test]
+fn starved_system_dictionary(rt: HostRuntime) -> Result<(), Fail> {
+    expect_entries(&rt, &dict_again(&rt, None)?);
     Ok(())
 }
 
@@ -61,14 +66,18 @@ fn user_counts(rt: &HostRuntime, system: &Dict) -> Result<(u64, u128), Fail> {
     Ok((compiled.entries, compiled.skipped))
 }
 
+/// Whether the user dictionary for a system has its one entry.
+fn has_user(rt: &HostRuntime, system: &Dict) -> Result<bool, Fail> {
+    let user = dict_again(rt, Some(system))?;
+    let has_one = are_entries(&user, "もも", &[(0, 1, 1, 1, "X")]);
+    Ok(user.is_user() && has_one && are_entries(&user, "も", NONE))
+}
+
 #[test]
 fn starved_user_dictionary(rt: HostRuntime) -> Result<(), Fail> {
     let system = dict_again(&rt, None)?;
-    assert_eq!(rt; user_counts(&rt, &system)?, (1, 0));
-    let user = dict_again(&rt, Some(&system))?;
-    assert!(rt; user.is_user());
-    assert!(rt; are_entries(&user, "もも", &[(0, 1, 1, 1, "X")]));
-    assert!(rt; are_entries(&user, "も", NONE));
+    assert!(rt; user_counts(&rt, &system)? == (1, 0));
+    assert!(rt; has_user(&rt, &system)?);
     assert!(rt; are_entries(&system, "もも", &[(2, 1, 1, 30, "名詞,もも")]));
     Ok(())
 }

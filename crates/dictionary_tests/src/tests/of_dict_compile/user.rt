@@ -8,7 +8,8 @@ use mj_model::SourceKind::{
     self, ArrayFull, BadNumber, FeaturesTooLarge, IdOutside, Memory, NotUtf8, TooFewFields,
 };
 use mj_model::{MatrixSizes, NO_FILE, SourceFault, Sources, sample};
-use std::alloc::Global;
+use std::alloc::{Alloc, Global};
+use std::process::Abort;
 use std::test::Fail;
 use test_words::{FaultRow, expect_told};
 
@@ -45,14 +46,18 @@ static USERS: [(&str, &str, &str, u64, u128, &str, &[Expected]); 6] = [
     ("a byte order mark is a surface's", "\u{feff}a,1,1,5,X\n", "", 1, 0, "a", NONE),
 ];
 
-#[test]
-fn user_dictionary(rt: HostRuntime) -> Result<(), Fail> {
-    let system = sample_dict(rt.alloc())?;
+/// Asks what the users' dictionaries for a system have.
+fn expect_users(rt: &(impl Abort + Alloc<A = Global>), system: &Dict) -> Result<(), Fail> {
     for (what, first, second, count, skipped, key, entries) in &USERS {
-        let answer = compiled(rt.alloc(), &system, first, second, key, entries)?;
-        assert_eq!(rt; answer, (*count, *skipped, true), "{what}");
+        let answer = compiled(rt.alloc(), system, first, second, key, entries)?;
+        assert!(rt; answer == (*count, *skipped, true), "{what}");
     }
     Ok(())
+}
+
+#[test]
+fn user_dictionary(rt: HostRuntime) -> Result<(), Fail> {
+    expect_users(&rt, &sample_dict(rt.alloc())?)
 }
 
 const ACCEPTED: &str = "もも,2,1,1,X\n";
@@ -92,15 +97,20 @@ fn user_dict(alloc: Global, system: &Dict, lexicon: &str) -> Result<Dict, Fail> 
     Ok(dict_of(alloc, compiled.image)?)
 }
 
+/// Asks for the faults of lexicons for a system.
+fn expect_refused(rt: &(impl Abort + Alloc<A = Global>), system: &Dict) {
+    for (what, first, second, file, line, kind) in &REFUSED {
+        let fault = fault_of_two(rt.alloc(), system, first, second);
+        assert!(rt; fault == Some(Source(kind.at(*file, *line))), "{what}");
+    }
+}
+
 #[test]
 fn refused_lexicons(rt: HostRuntime) -> Result<(), Fail> {
     let system = system_2_3(rt.alloc())?;
-    for (what, first, second, file, line, kind) in &REFUSED {
-        let fault = fault_of_two(rt.alloc(), &system, first, second);
-        assert_eq!(rt; fault, Some(Source(kind.at(*file, *line))), "{what}");
-    }
+    expect_refused(&rt, &system);
     let sizes = user_dict(rt.alloc(), &system, ACCEPTED)?.matrix_sizes();
-    assert_eq!(rt; sizes, MatrixSizes { right: 2, left: 3 });
+    assert!(rt; sizes == MatrixSizes { right: 2, left: 3 });
     Ok(())
 }
 
@@ -117,7 +127,7 @@ fn for_a_user_dictionary(rt: HostRuntime) -> Result<(), Fail> {
     let user = user_dict(rt.alloc(), &sample_dict(rt.alloc())?, LINE)?;
     for (what, lexicon) in &LEXICONS {
         let fault = fault_of_two(rt.alloc(), &user, lexicon, "");
-        assert_eq!(rt; fault, Some(NotSystem), "{what}");
+        assert!(rt; fault == Some(NotSystem), "{what}");
     }
     Ok(())
 }

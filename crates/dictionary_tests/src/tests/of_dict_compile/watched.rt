@@ -52,6 +52,9 @@ static READ: [Step; 3] = [
     Step::Sorted { entries: 3 },
 ];
 
+/// The step of the first lexicon where the second one is at fault.
+static FIRST_READ: [Step; 1] = [Step::LexiconRead { entries: 1 }];
+
 /// Whether these are the steps, one list behind another.
 fn are_steps(told: &Told, before: &[Step], then: &[Step]) -> bool {
     !told.refused
@@ -98,7 +101,7 @@ fn counts_with_costs(alloc: Global, told: &mut Told) -> Result<(u64, u128), Fail
 #[test]
 fn steps_with_costs_read_before(rt: HostRuntime) -> Result<(), Fail> {
     let mut told = Told::nothing(rt.alloc());
-    assert_eq!(rt; counts_with_costs(rt.alloc(), &mut told)?, (3, 1));
+    assert!(rt; counts_with_costs(rt.alloc(), &mut told)? == (3, 1));
     assert!(rt; are_steps(&told, &BEFORE, &READ));
     Ok(())
 }
@@ -117,6 +120,5 @@ fn steps_before_a_fault(rt: HostRuntime) {
     let mut told = Told::nothing(rt.alloc());
     let sources = with_lexicons(&[b"a,1,1,5,X\n", b"b,1,x,5,X\n"]);
     assert!(rt; compiled_with(rt.alloc(), &sources, &mut told).is_err());
-    assert_eq!(rt; told.steps.len(), 4);
-    assert_eq!(rt; told.steps.last(), Some(&Step::LexiconRead { entries: 1 }));
+    assert!(rt; are_steps(&told, &BEFORE, &FIRST_READ));
 }

@@ -14,6 +14,6 @@ static FAULTS: [(SourceKind, &str, &str); 3] = [
 #[test]
 fn codes_and_names(rt: HostRuntime) {
     for (fault, code, name) in &FAULTS {
-        assert_eq!(rt; (fault.code(), fault.name()), (*code, *name));
+        assert!(rt; fault.code() == *code && fault.name() == *name, "{name}");
     }
 }

@@ -4,6 +4,7 @@ use super::samples::{sample_image, section};
 use image_bytes::{DIGEST_LENGTH, HEADER_LENGTH, read_header};
 use sha2::{Digest, Sha256};
 use std::alloc::{AllocError, Global};
+use std::process::Abort;
 use std::test::Fail;
 
 /// The header of the sample's image up to the lengths of its sections: layout 3, kind 0, 2 right and 2 left ids, 6 categories, 3
@@ -71,19 +72,35 @@ fn missing_feature(bytes: &[u8]) -> Option<&'static str> {
     None
 }
 
-#[test]
-fn sections_of_the_lexicon(rt: HostRuntime) -> Result<(), Fail> {
-    let image = sample_image(rt.alloc())?;
-    assert!(rt; image.len() >= HEADER_LENGTH);
-    assert_eq!(rt; read_header(&image).groups, 3);
-    let groups = b"\0\0\0\0\x01\0\0\0\x02\0\0\0\x03\0\0\0";
-    assert!(rt; section(&image, 6) == groups.as_slice());
-    assert_eq!(rt; section(&image, 8).len(), 45);
-    assert_eq!(rt; missing_feature(section(&image, 8)), None);
-    assert_eq!(rt; section(&image, 7).len(), 16 * TOKEN_ROWS.len());
-    for ((what, expected), token) in TOKEN_ROWS.iter().zip(section(&image, 7).chunks(16)) {
+/// How many groups an image has, if it has a header.
+fn groups_of(image: &[u8]) -> Option<u32> {
+    if image.len() < HEADER_LENGTH {
+        return None;
+    }
+    Some(read_header(image).groups)
+}
+
+/// Asks for the tokens in section 7.
+fn expect_tokens(rt: &impl Abort, tokens: &[u8]) {
+    assert!(rt; tokens.len() == 16 * TOKEN_ROWS.len());
+    for ((what, expected), token) in TOKEN_ROWS.iter().zip(tokens.chunks(16)) {
         assert!(rt; token == expected.as_slice(), "{what}");
     }
+}
+
+/// Asks for the lexicon of the sample's image.
+fn expect_lexicon(rt: &impl Abort, image: &[u8]) {
+    let groups = b"\0\0\0\0\x01\0\0\0\x02\0\0\0\x03\0\0\0";
+    assert!(rt; groups_of(image) == Some(3));
+    assert!(rt; section(image, 6) == groups.as_slice());
+    assert!(rt; section(image, 8).len() == 45);
+    assert_eq!(rt; missing_feature(section(image, 8)), None);
+    expect_tokens(rt, section(image, 7));
+}
+
+#[test]
+fn sections_of_the_lexicon(rt: HostRuntime) -> Result<(), Fail> {
+    expect_lexicon(&rt, &sample_image(rt.alloc())?);
     Ok(())
 }
 
@@ -97,17 +114,21 @@ fn end_of_sections(alloc: Global) -> Result<Vec<u8>, AllocError> {
     Ok(end)
 }
 
-#[test]
-fn the_whole_image(rt: HostRuntime) -> Result<(), Fail> {
-    let image = sample_image(rt.alloc())?;
-    let end = end_of_sections(rt.alloc())?;
+/// Asks for the sample's image, whose sections have this end.
+fn expect_image(rt: &impl Abort, image: &[u8], end: &[u8]) {
     assert!(rt; image.starts_with(HEADER));
     assert!(rt; image.get(40..72) == Some(BEGIN_LENGTHS.as_slice()));
     assert!(rt; image.get(80..104) == Some(END_LENGTHS.as_slice()));
     assert!(rt; image.get(104..306) == Some(BEGIN.as_slice()));
 
     let body = &image[..image.len().saturating_sub(DIGEST_LENGTH)];
-    assert!(rt; body.ends_with(&end));
+    assert!(rt; body.ends_with(end));
     assert!(rt; image.ends_with(&Sha256::digest(body)));
+}
+
+#[test]
+fn the_whole_image(rt: HostRuntime) -> Result<(), Fail> {
+    let end = end_of_sections(rt.alloc())?;
+    expect_image(&rt, &sample_image(rt.alloc())?, &end);
     Ok(())
 }

@@ -5,12 +5,12 @@ use std::alloc::{AllocError, Global};
 use std::test::Fail;
 
 /// The names of the sample's categories.
-const NAMES: [&str; 6] = ["DEFAULT", "SPACE", "ALPHA", "KATAKANA", "KANJI", "HIRAGANA"];
+static NAMES: [&str; 6] = ["DEFAULT", "SPACE", "ALPHA", "KATAKANA", "KANJI", "HIRAGANA"];
 
 /// Unknown entries whose ids lie within the sizes of any connection table.
 fn unknown_of_0(alloc: Global) -> Result<Vec<u8>, AllocError> {
     let mut unk = Vec::new(alloc);
-    for name in NAMES {
+    for name in &NAMES {
         unk.extend_from_slice(name.as_bytes())?;
         unk.extend_from_slice(b",0,0,1000,*\n")?;
     }
