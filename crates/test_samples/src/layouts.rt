@@ -1,12 +1,7 @@
 //! Images of layouts 1 and 2, made of compiled ones.
 
-use crate::dicts::chars_with;
-use dict_compile::compile;
-use dict_image::{Dict, load};
 use image_bytes::{HEADER_LENGTH, OWN_ENTRIES, read_header, section_ends};
-use mj_model::{Sources, sample};
 use std::alloc::{AllocError, Global};
-use std::test::Fail;
 
 /// The surfaces of the sample's lexicon, in rising byte order.
 pub const SURFACES: &[&str] = &["すもも", "も", "もも"];
@@ -50,24 +45,6 @@ pub fn in_layout(
         ],
     )?;
     Ok(bytes)
-}
-
-/// The sample's dictionary with a further line of `char.def` and these lexicons, in a layout.
-pub fn system_in(
-    alloc: Global,
-    layout: u32,
-    line: &str,
-    lexicons: &[&[u8]],
-    surfaces: &[&str],
-) -> Result<Dict, Fail> {
-    let chars = chars_with(alloc, line)?;
-    let sources = Sources {
-        chars: &chars,
-        lexicons,
-        ..sample()
-    };
-    let image = compile(alloc, &sources)?.image;
-    Ok(load(alloc, in_layout(alloc, &image, layout, surfaces)?)?)
 }
 
 /// Appends the lengths of sections and the sections.

@@ -10,9 +10,9 @@ mod refused;
 mod runs;
 mod segmentations;
 
-pub use dicts::{chars_with, letters, system, system_dict, user};
-pub use images::{image, loaded, loaded_in, user_image};
-pub use layouts::{SURFACES, in_layout, system_in};
+pub use dicts::{letters, system, system_dict, system_in, user};
+pub use images::{chars_with, image, loaded, loaded_in, user_image};
+pub use layouts::{SURFACES, in_layout};
 pub use overlays::{Asked, TwoDicts, overlay};
 pub use refused::{dict_again, letters_again};
 pub use runs::{Outcome, run, run_in};
