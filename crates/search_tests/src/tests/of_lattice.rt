@@ -140,29 +140,32 @@ fn two_letters(alloc: Global, count: usize, cheap: usize) -> Result<Vec<WordRow>
     Ok(words)
 }
 
+/// A name, how many words there are, the number of the cheap one, and the total.
+type ManyRow = (&'static str, usize, usize, i64);
+
 #[rattlefmt::skip]
-static MANY_WORDS: [(usize, usize, i64); 7] = [
-    // (how many words, the number of the cheap one, total)
-    (1,      1,      42),
-    (9,      9,      42),
-    (9,      8,      41),
-    (1000,   1000,   42),
-    (65_600, 65_600, 42),
-    (65_600, 65_590, 41),
-    (65_600, 60,     41),
+static MANY_WORDS: [ManyRow; 7] = [
+    // (what, how many words, the number of the cheap one, total)
+    ("one word",                  1,      1,      42),
+    ("nine",                      9,      9,      42),
+    ("the last of nine is cheap", 9,      8,      41),
+    ("1,000",                     1000,   1000,   42),
+    ("65,600",                    65_600, 65_600, 42),
+    ("one of the last is cheap",  65_600, 65_590, 41),
+    ("one of the first is cheap", 65_600, 60,     41),
 ];
 
 /// Asks for the best path of two letters, the first of many words.
 fn expect_many(
     rt: &(impl Abort + Alloc<A = Global>),
     search: &mut Search,
-    (count, cheap, total): (usize, usize, i64),
+    (what, count, cheap, total): ManyRow,
 ) -> Result<(), AllocError> {
     let words = two_letters(rt.alloc(), count, cheap)?;
     let first = if cheap < count { cheap } else { 0 };
     let numbers = [first, count];
     let row = ((2, words.as_slice()), (numbers.as_slice(), total));
-    expect_best(rt, search, "many words", row)
+    expect_best(rt, search, what, row)
 }
 
 #[test]

@@ -32,7 +32,7 @@ fn is_node(node: &LatticeNode, (number, total, through, _is_best): &NodeRow) -> 
     has_number(&node.word, number) && node.total == *total && node.through == *through
 }
 
-/// Whether a node is on the best path if its row says so.
+/// Whether a node is on the best path where its row says so, and nowhere else.
 fn is_marked(on: &bool, row: &NodeRow) -> bool {
     *on == row.3
 }

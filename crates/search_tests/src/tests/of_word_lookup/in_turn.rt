@@ -105,7 +105,7 @@ fn other_of(
 #[test]
 fn words_in_turn(rt: HostRuntime) -> Result<(), Fail> {
     for (what, lines, grouping, text, places) in &IN_TURN {
-        assert!(rt; *grouping <= 1000);
+        assert!(rt; *grouping <= 1000, "{what}");
         let other = other_of(rt.alloc(), lines, *grouping, text, places)?;
         assert_eq!(rt; other, None, "{what}");
     }
