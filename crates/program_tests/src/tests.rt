@@ -7,6 +7,7 @@ mod of_programs;
 use std::string::String;
 use std::test::Fail;
 use std::{fs, io, process};
+use test_words::joined;
 
 /// A new directory of this test's own.
 pub(crate) fn new_directory(rt: &HostRuntime, test: &str) -> io::Result<String> {
@@ -14,6 +15,17 @@ pub(crate) fn new_directory(rt: &HostRuntime, test: &str) -> io::Result<String> 
     let dir = format!(in rt.alloc(); "/tmp/program_tests_{test}_{id}")?;
     fs::create_dir(rt, dir.as_str())?;
     Ok(dir)
+}
+
+/// The path of a name in a directory.
+pub(crate) fn in_directory(rt: &HostRuntime, dir: &str, name: &str) -> io::Result<String> {
+    Ok(joined(rt.alloc(), &[dir, "/", name])?)
+}
+
+/// Writes a file of a directory.
+pub(crate) fn write_in(rt: &HostRuntime, dir: &str, name: &str, bytes: &[u8]) -> io::Result<()> {
+    let path = in_directory(rt, dir, name)?;
+    fs::write(rt, path.as_str(), bytes)
 }
 
 /// The name of the first row that doesn't hold in a directory.

@@ -7,6 +7,12 @@ mod inputs;
 mod surfaces;
 mod told;
 
+use super::in_directory;
+use command_lines::dictc::Options;
+use dict_compile::Compiled;
+use dictc_work::{NoImage, compile_image, tell_counts};
+use programs::Narrator;
+use std::alloc::Global;
 use std::io;
 use std::string::String;
 use test_words::words;
@@ -22,7 +28,13 @@ pub(crate) fn words_in(rt: &HostRuntime, dir: &str, text: &str) -> io::Result<Ve
     Ok(words)
 }
 
-/// The path of a name in a directory, as an option has it.
-pub(crate) fn in_directory(rt: &HostRuntime, dir: &str, name: &str) -> io::Result<String> {
-    Ok(format!(in rt.alloc(); "{dir}/{name}")?)
+/// Whether this line is told of what was compiled.
+pub(crate) fn is_told(alloc: Global, compiled: &Compiled, line: &str) -> bool {
+    let mut told = Vec::new(alloc);
+    tell_counts(compiled, &mut told).is_ok() && told.as_slice() == line.as_bytes()
+}
+
+/// Compiles what options ask for. Nobody is told how far it is.
+pub(crate) fn compiled_as(rt: &HostRuntime, options: &Options) -> Result<Compiled, NoImage> {
+    compile_image(rt, options, &Narrator::new(rt, "dictc", false))
 }

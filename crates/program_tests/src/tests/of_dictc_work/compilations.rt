@@ -1,16 +1,16 @@
 //! Dictionaries that are compiled, and refused ones that leave the images as they were.
 
-use super::{in_directory, words_in};
-use crate::tests::expect_in_directory;
+use super::{compiled_as, is_told, words_in};
+use crate::tests::{expect_in_directory, in_directory, write_in};
 use command_lines::dictc::{Asked, options};
 use dict_compile::Compiled;
 use dict_image::load;
-use dictc_work::{NoImage, compile_image, tell_counts};
+use dictc_work::NoImage;
 use mj_model::{OverlayFault, SourceFault, SourceKind, sample};
-use programs::{Fault, Narrator};
+use programs::Fault;
 use std::alloc::Global;
+use std::fs;
 use std::test::Fail;
-use std::{fs, io};
 
 /// Lexicons of users, by their names.
 static LEXICONS: [(&str, &str); 3] = [
@@ -39,11 +39,6 @@ const BAD_USER: &str = "user --dic sys.img --out user.img bad.csv";
 /// What compiles that lexicon for a user dictionary.
 const FOR_USER: &str = "user --dic user.img --out sys.img bad.csv";
 
-/// Writes a file of a directory.
-fn write_in(rt: &HostRuntime, dir: &str, name: &str, bytes: &[u8]) -> io::Result<()> {
-    fs::write(rt, in_directory(rt, dir, name)?, bytes)
-}
-
 /// Makes the sample's sources and the users' lexicons.
 fn make_sources(rt: &HostRuntime, dir: &str) -> Result<(), Fail> {
     let sample = sample();
@@ -59,14 +54,17 @@ fn make_sources(rt: &HostRuntime, dir: &str) -> Result<(), Fail> {
     Ok(())
 }
 
+/// What a command line asks for.
+fn asked_in(rt: &HostRuntime, dir: &str, given: &str) -> Result<Asked, Fail> {
+    Ok(options(rt.alloc(), words_in(rt, dir, given)?)?)
+}
+
 /// Compiles what a command line asks for.
 fn compile_in(rt: &HostRuntime, dir: &str, given: &str) -> Result<Result<Compiled, NoImage>, Fail> {
-    let asked = options(rt.alloc(), words_in(rt, dir, given)?)?;
-    let Asked::Image(options) = &asked else {
-        return Err(Fail::new("it asks for no image"));
-    };
-    let quiet = Narrator::new(rt, "dictc", false);
-    Ok(compile_image(rt, options, &quiet))
+    match &asked_in(rt, dir, given)? {
+        Asked::Image(options) => Ok(compiled_as(rt, options)),
+        _ => Err(Fail::new("it asks for no image")),
+    }
 }
 
 /// The bytes of a directory's file.
@@ -77,12 +75,6 @@ fn bytes_in(rt: &HostRuntime, dir: &str, name: &str) -> Result<Vec<u8>, Fail> {
 
 /// Words, the image that they compile, whether it is a user's, and the line that is told.
 type CompiledRow = (&'static str, &'static str, bool, &'static str);
-
-/// Whether this line is told of what was compiled.
-fn is_told(alloc: Global, compiled: &Compiled, line: &str) -> bool {
-    let mut told = Vec::new(alloc);
-    tell_counts(compiled, &mut told).is_ok() && told.as_slice() == line.as_bytes()
-}
 
 /// Whether an image loads, and is a user's or not.
 fn is_of_kind(alloc: Global, image: Vec<u8>, user: bool) -> bool {
@@ -120,18 +112,21 @@ fn compiled_dictionaries(rt: HostRuntime) -> Result<(), Fail> {
 }
 
 /// Whether the file of this path is told, with this number where it is a source.
-fn is_fault_of(compiled: &Result<Compiled, NoImage>, path: &str, number: Option<u32>) -> bool {
-    match compiled {
-        Err(NoImage::Fault(Fault::Source(told, fault))) => {
-            let SourceFault { file, line, kind } = fault;
-            let is_line = *line == 2 && *kind == SourceKind::BadNumber;
-            told.as_str() == path && number == Some(*file) && is_line
+fn is_fault_of(fault: &NoImage, path: &str, number: Option<u32>) -> bool {
+    match fault {
+        NoImage::Fault(Fault::Source(told, fault)) => {
+            told.as_str() == path && number == Some(fault.file) && is_bad_number(fault)
         }
-        Err(NoImage::Fault(Fault::Overlay(told, OverlayFault::NotSystem))) => {
+        NoImage::Fault(Fault::Overlay(told, OverlayFault::NotSystem)) => {
             told.as_str() == path && number == None
         }
         _ => false,
     }
+}
+
+/// Whether a fault is the bad number in line 2.
+fn is_bad_number(fault: &SourceFault) -> bool {
+    fault.line == 2 && fault.kind == SourceKind::BadNumber
 }
 
 /// Makes the sources and the two images, of which there are copies too.
@@ -170,8 +165,11 @@ fn is_refused(
     (given, wanted, number): &RefusedRow,
 ) -> Result<bool, Fail> {
     let path = in_directory(rt, dir, wanted)?;
-    let compiled = compile_in(rt, dir, given)?;
-    Ok(is_fault_of(&compiled, path.as_str(), *number) && are_kept(rt, dir)?)
+    let is_told = match &compile_in(rt, dir, given)? {
+        Ok(_) => false,
+        Err(fault) => is_fault_of(fault, path.as_str(), *number),
+    };
+    Ok(is_told && are_kept(rt, dir)?)
 }
 
 #[rattlefmt::skip]

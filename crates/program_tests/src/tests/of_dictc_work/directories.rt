@@ -1,34 +1,50 @@
 //! Files that can't be read, or are no image.
 
-use super::in_directory;
-use crate::tests::{expect_in_directory, no_files};
+use super::compiled_as;
+use crate::tests::{expect_in_directory, in_directory, no_files, write_in};
 use command_lines::dictc::{Base, Options};
-use dictc_work::{NoImage, compile_image};
+use dictc_work::NoImage;
 use mj_model::ImageFault;
-use programs::{Fault, Narrator};
+use programs::Fault;
+use std::string::String;
 use std::test::Fail;
 use std::{fs, io};
 
-/// What compiles the files of a directory to its file `img`.
-fn options_in(rt: &HostRuntime, dir: &str, user: bool) -> io::Result<Options> {
+/// The lexicons of a directory.
+fn lexicons_in(rt: &HostRuntime, dir: &str) -> io::Result<Vec<String>> {
     let mut lexicons = Vec::new(rt.alloc());
     lexicons.push(in_directory(rt, dir, "lexicon.csv")?)?;
+    Ok(lexicons)
+}
+
+/// The system image of a directory, for a user.
+fn system_in(rt: &HostRuntime, dir: &str) -> io::Result<Base> {
+    Ok(Base::System {
+        dic: in_directory(rt, dir, "sys.img")?,
+        skip_digest: false,
+    })
+}
+
+/// The definitions of a directory.
+fn definitions_in(rt: &HostRuntime, dir: &str) -> io::Result<Base> {
+    Ok(Base::Definitions {
+        matrix: in_directory(rt, dir, "matrix.def")?,
+        chars: in_directory(rt, dir, "char.def")?,
+        unk: in_directory(rt, dir, "unk.def")?,
+    })
+}
+
+/// What compiles the files of a directory to its file `img`.
+fn options_in(rt: &HostRuntime, dir: &str, user: bool) -> io::Result<Options> {
     let base = if user {
-        Base::System {
-            dic: in_directory(rt, dir, "sys.img")?,
-            skip_digest: false,
-        }
+        system_in(rt, dir)?
     } else {
-        Base::Definitions {
-            matrix: in_directory(rt, dir, "matrix.def")?,
-            chars: in_directory(rt, dir, "char.def")?,
-            unk: in_directory(rt, dir, "unk.def")?,
-        }
+        definitions_in(rt, dir)?
     };
     Ok(Options {
         base,
         out: in_directory(rt, dir, "img")?,
-        lexicons,
+        lexicons: lexicons_in(rt, dir)?,
         all_faults: false,
         verbose: false,
     })
@@ -37,20 +53,29 @@ fn options_in(rt: &HostRuntime, dir: &str, user: bool) -> io::Result<Options> {
 /// Whether it is for a user, the file that is made before, and the one that is told.
 type UnreadableRow = (bool, &'static str, &'static str);
 
+/// Whether a directory has the image.
+fn has_image(rt: &HostRuntime, dir: &str) -> io::Result<bool> {
+    let path = in_directory(rt, dir, "img")?;
+    fs::exists(rt, path.as_str())
+}
+
+/// Whether the file of this path is told as one that can't be read.
+fn is_no_file(rt: &HostRuntime, dir: &str, user: bool, path: &str) -> io::Result<bool> {
+    Ok(match &compiled_as(rt, &options_in(rt, dir, user)?) {
+        Err(NoImage::Fault(Fault::File(told))) => told.as_str() == path,
+        _ => false,
+    })
+}
+
 /// Whether this is the file that can't be read, and no image was written.
 fn is_unreadable(
     rt: &HostRuntime,
     dir: &str,
     (user, made, wanted): &UnreadableRow,
 ) -> Result<bool, Fail> {
-    fs::write(rt, in_directory(rt, dir, made)?, "x")?;
+    write_in(rt, dir, made, b"x")?;
     let path = in_directory(rt, dir, wanted)?;
-    let quiet = Narrator::new(rt, "dictc", false);
-    let is_told = match &compile_image(rt, &options_in(rt, dir, *user)?, &quiet) {
-        Err(NoImage::Fault(Fault::File(told))) => *told == path,
-        _ => false,
-    };
-    Ok(is_told && !fs::exists(rt, in_directory(rt, dir, "img")?)?)
+    Ok(is_no_file(rt, dir, *user, path.as_str())? && !has_image(rt, dir)?)
 }
 
 #[rattlefmt::skip]
@@ -76,15 +101,12 @@ fn files_that_cannot_be_read(rt: HostRuntime) -> Result<(), Fail> {
 
 /// Whether a system image is told that is none. It is loaded before the lexicon is read, which isn't there.
 fn is_no_image(rt: &HostRuntime, dir: &str, text: &&str) -> Result<bool, Fail> {
+    write_in(rt, dir, "sys.img", text.as_bytes())?;
     let path = in_directory(rt, dir, "sys.img")?;
-    fs::write(rt, path.as_str(), *text)?;
-    let quiet = Narrator::new(rt, "dictc", false);
-    Ok(
-        match &compile_image(rt, &options_in(rt, dir, true)?, &quiet) {
-            Err(NoImage::Fault(Fault::Image(told, ImageFault::Truncated))) => *told == path,
-            _ => false,
-        },
-    )
+    Ok(match &compiled_as(rt, &options_in(rt, dir, true)?) {
+        Err(NoImage::Fault(Fault::Image(told, ImageFault::Truncated))) => *told == path,
+        _ => false,
+    })
 }
 
 static IMAGES_THAT_ARE_NONE: [(&str, &str); 1] = [("a short text", "no image")];

@@ -1,9 +1,8 @@
 //! Images that would take the place of a file that is read.
 
-use super::{in_directory, words_in};
-use crate::tests::expect_in_directory;
+use super::words_in;
+use crate::tests::{expect_in_directory, in_directory, write_in};
 use dictc_work::options_given;
-use std::fs;
 use std::os::unix::fs::symlink;
 use std::test::Fail;
 
@@ -46,7 +45,7 @@ static INPUTS: [&str; 3] = ["sys.img", "a.csv", "old.img"];
 /// Makes the files that are read.
 fn make_inputs(rt: &HostRuntime, dir: &str) -> Result<(), Fail> {
     for name in &INPUTS {
-        fs::write(rt, in_directory(rt, dir, name)?, "x")?;
+        write_in(rt, dir, name, b"x")?;
     }
     symlink(rt, "sys.img", in_directory(rt, dir, "link.img")?)?;
     Ok(())

@@ -1,5 +1,6 @@
 //! What is told of compilations.
 
+use super::is_told;
 use dict_compile::{CompileUserFault, Compiled};
 use dictc_work::tell_counts;
 use mj_model::{SourceFault, SourceKind};
@@ -52,14 +53,11 @@ static TOLD_COMPILATIONS: [(u64, u128, &str); 3] = [
 ];
 
 #[test]
-fn told_compilations(rt: HostRuntime) -> Result<(), Fail> {
+fn told_compilations(rt: HostRuntime) {
     for (entries, skipped, line) in &TOLD_COMPILATIONS {
-        let mut told = Vec::new(rt.alloc());
         let counts = compiled(rt.alloc(), *entries, *skipped);
-        assert!(rt; tell_counts(&counts, &mut told).is_ok(), "{line}");
-        assert!(rt; told.as_slice() == line.as_bytes(), "{line}");
+        assert!(rt; is_told(rt.alloc(), &counts, line), "{line}");
     }
-    Ok(())
 }
 
 #[rattlefmt::skip]

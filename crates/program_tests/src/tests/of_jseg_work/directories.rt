@@ -1,16 +1,10 @@
 //! Source directories that are read, and those that can't be.
 
-use crate::tests::{expect_in_directory, new_directory};
+use crate::tests::{expect_in_directory, in_directory, new_directory, write_in};
 use jseg_work::{Directory, read_directory};
 use programs::Fault;
-use std::alloc::{AllocError, Global};
 use std::test::Fail;
 use std::{fs, io};
-
-fn write_file(rt: &HostRuntime, dir: &str, name: &str, text: &str) -> io::Result<()> {
-    let path = format!(in rt.alloc(); "{dir}/{name}")?;
-    fs::write(rt, path.as_str(), text)
-}
 
 /// The files of a directory: (name, text, number where it is a source).
 #[rattlefmt::skip]
@@ -42,13 +36,13 @@ fn is_source(directory: &Directory, number: u32, path: &str, text: &str) -> bool
 
 /// The name of the first row that is another source.
 fn first_wrong(
-    alloc: Global,
+    rt: &HostRuntime,
     dir: &str,
     directory: &Directory,
-) -> Result<Option<&'static str>, AllocError> {
+) -> io::Result<Option<&'static str>> {
     for (name, text, number) in &SOURCE_DIRECTORY {
         if let Some(number) = *number {
-            let path = format!(in alloc; "{dir}/{name}")?;
+            let path = in_directory(rt, dir, name)?;
             if !is_source(directory, number, path.as_str(), text) {
                 return Ok(Some(*name));
             }
@@ -60,30 +54,33 @@ fn first_wrong(
 /// Makes the files of a directory.
 fn make_sources(rt: &HostRuntime, dir: &str) -> io::Result<()> {
     for (name, text, _) in &SOURCE_DIRECTORY {
-        write_file(rt, dir, name, text)?;
+        write_in(rt, dir, name, text.as_bytes())?;
     }
     Ok(())
+}
+
+/// What is wrong of the directory's sources, of which three are lexicons.
+fn wrong_source(rt: &HostRuntime, dir: &str) -> io::Result<Option<&'static str>> {
+    match &read_directory(rt, dir) {
+        Ok(directory) if directory.files.lexicons.len() == 3 => first_wrong(rt, dir, directory),
+        Ok(_) => Ok(Some("other lexicons")),
+        Err(_) => Ok(Some("the directory is not read")),
+    }
 }
 
 #[test]
 fn source_directories(rt: HostRuntime) -> Result<(), Fail> {
     let dir = new_directory(&rt, "sources")?;
     make_sources(&rt, dir.as_str())?;
-    let read = read_directory(&rt, dir.as_str());
+    let wrong = wrong_source(&rt, dir.as_str())?;
     fs::remove_dir_all(&rt, dir.as_str())?;
-    let Ok(directory) = &read else {
-        assert!(rt; false, "the directory is read");
-        return Ok(());
-    };
-    assert!(rt; directory.files.lexicons.len() == 3);
-    let wrong = first_wrong(rt.alloc(), dir.as_str(), directory)?;
     assert_eq!(rt; wrong, None);
     Ok(())
 }
 
 /// Makes a folder that has the name of a lexicon.
 fn make_folder(rt: &HostRuntime, dir: &str) -> Result<(), Fail> {
-    let folder = format!(in rt.alloc(); "{dir}/a.csv")?;
+    let folder = in_directory(rt, dir, "a.csv")?;
     fs::create_dir(rt, folder.as_str())?;
     Ok(())
 }
@@ -94,8 +91,8 @@ fn is_unreadable(
     dir: &str,
     (made, wanted): &(&'static str, &'static str),
 ) -> Result<bool, Fail> {
-    write_file(rt, dir, made, "x")?;
-    let path = format!(in rt.alloc(); "{dir}/{wanted}")?;
+    write_in(rt, dir, made, b"x")?;
+    let path = in_directory(rt, dir, wanted)?;
     Ok(match &read_directory(rt, dir) {
         Err(Fault::File(told)) => *told == path,
         _ => false,

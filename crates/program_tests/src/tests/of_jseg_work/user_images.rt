@@ -1,6 +1,6 @@
 //! Images of no use where they were given.
 
-use crate::tests::new_directory;
+use crate::tests::{in_directory, new_directory, write_in};
 use dict_image::{Dict, DigestTest};
 use jseg_work::overlay_fault;
 use mj_model::OverlayFault;
@@ -13,8 +13,8 @@ use test_words::words;
 
 /// Writes an image in a directory, and reads its dictionary.
 fn written_and_read(rt: &HostRuntime, dir: &str, image: &[u8]) -> Result<Dict, Fail> {
-    let path = format!(in rt.alloc(); "{dir}/some.img")?;
-    fs::write(rt, path.as_str(), image)?;
+    write_in(rt, dir, "some.img", image)?;
+    let path = in_directory(rt, dir, "some.img")?;
     Ok(dictionary_at(rt, path.as_str(), DigestTest::Made)?)
 }
 
@@ -29,14 +29,19 @@ fn user(rt: &HostRuntime, dir: &str) -> Result<Dict, Fail> {
     written_and_read(rt, dir, &user_image(rt.alloc(), &system, "a,1,1,1,X\n")?)
 }
 
+/// Whether a user's dictionary is refused as a system's.
+fn is_no_system(rt: &HostRuntime, dir: &str) -> Result<bool, Fail> {
+    let dictionary = user(rt, dir)?;
+    let fault = overlay(&dictionary, &[]).err();
+    Ok(dictionary.is_user() && fault == Some(OverlayFault::NotSystem))
+}
+
 #[test]
 fn user_image_as_the_system(rt: HostRuntime) -> Result<(), Fail> {
     let dir = new_directory(&rt, "user_image")?;
-    let dictionary = user(&rt, dir.as_str())?;
+    let is_no_system = is_no_system(&rt, dir.as_str())?;
     fs::remove_dir_all(&rt, dir.as_str())?;
-    assert!(rt; dictionary.is_user());
-    let fault = overlay(&dictionary, &[]).err();
-    assert!(rt; fault == Some(OverlayFault::NotSystem));
+    assert!(rt; is_no_system);
     Ok(())
 }
 

@@ -2,7 +2,7 @@
 
 use super::failing_files::FailingFiles;
 use super::names_in;
-use crate::tests::{expect_in_directory, new_directory, no_files};
+use crate::tests::{expect_in_directory, in_directory, new_directory, no_files, write_in};
 use dict_image::DigestTest;
 use mj_model::ImageFault;
 use programs::{Fault, SourceFiles, WholeFile, dictionary_at, read_files, texts, write_file};
@@ -27,7 +27,7 @@ fn is_refused(rt: &HostRuntime, path: &str) -> bool {
     is_file_fault(read.as_ref(), path) && is_file_fault(written.as_ref(), path)
 }
 
-/// The same of a file by its path behind a directory's, in which there is none then.
+/// Whether the file whose path is a directory's and this name can be neither read nor written, and the directory is empty then.
 fn is_refused_in(rt: &HostRuntime, dir: &str, name: &&'static str) -> Result<bool, Fail> {
     let path = format!(in rt.alloc(); "{dir}{name}")?;
     Ok(is_refused(rt, path.as_str()) && names_in(rt, dir)? == 0)
@@ -65,16 +65,21 @@ fn file(alloc: Global, path: &str, byte: u8) -> Result<WholeFile, AllocError> {
     })
 }
 
-/// The files of a system dictionary with two lexicons.
-fn source_files(alloc: Global) -> Result<SourceFiles, AllocError> {
+/// Two lexicons.
+fn two_lexicons(alloc: Global) -> Result<Vec<WholeFile>, AllocError> {
     let mut lexicons = Vec::new(alloc);
     lexicons.push(file(alloc, "a.csv", 4)?)?;
     lexicons.push(file(alloc, "b.csv", 5)?)?;
+    Ok(lexicons)
+}
+
+/// The files of a system dictionary with two lexicons.
+fn source_files(alloc: Global) -> Result<SourceFiles, AllocError> {
     Ok(SourceFiles {
         matrix: String::from_str(alloc, "matrix.def")?,
         chars: file(alloc, "char.def", 2)?,
         unk: file(alloc, "unk.def", 3)?,
-        lexicons,
+        lexicons: two_lexicons(alloc)?,
     })
 }
 
@@ -113,9 +118,8 @@ static NAMES_IN_ORDER: [&str; 3] = ["b", "a", "c"];
 fn written_paths(rt: &HostRuntime, dir: &str) -> io::Result<Vec<String>> {
     let mut paths = Vec::new(rt.alloc());
     for name in &NAMES_IN_ORDER {
-        let path = format!(in rt.alloc(); "{dir}/{name}")?;
-        fs::write(rt, path.as_str(), *name)?;
-        paths.push(path)?;
+        write_in(rt, dir, name, name.as_bytes())?;
+        paths.push(in_directory(rt, dir, name)?)?;
     }
     Ok(paths)
 }
@@ -162,8 +166,7 @@ fn fault_at(rt: &HostRuntime, path: &str) -> Option<Fault> {
 
 /// Makes a file that is no image.
 fn make_short(rt: &HostRuntime, dir: &str) -> Result<(), Fail> {
-    let path = format!(in rt.alloc(); "{dir}/short.img")?;
-    fs::write(rt, path.as_str(), "no image")?;
+    write_in(rt, dir, "short.img", b"no image")?;
     Ok(())
 }
 
@@ -173,7 +176,7 @@ fn is_image_fault(
     dir: &str,
     (name, fault): &(&'static str, Option<ImageFault>),
 ) -> Result<bool, Fail> {
-    let path = format!(in rt.alloc(); "{dir}/{name}")?;
+    let path = in_directory(rt, dir, name)?;
     Ok(match (&fault_at(rt, path.as_str()), fault) {
         (Some(Fault::File(told)), None) => *told == path,
         (Some(Fault::Image(told, found)), Some(fault)) => *told == path && found == fault,

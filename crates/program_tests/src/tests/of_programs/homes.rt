@@ -1,12 +1,12 @@
 //! Where images live, and which of them stand there.
 
-use crate::tests::new_directory;
+use crate::tests::{new_directory, write_in};
 use programs::{Surroundings, image_in, image_names, in_byte_order, prefix_of, told_names};
 use std::alloc::{AllocError, Global};
 use std::string::String;
 use std::test::Fail;
 use std::{fs, io};
-use test_words::words;
+use test_words::{joined, words};
 
 /// A text of its own, where there is one.
 fn own(alloc: Global, text: Option<&str>) -> Result<Option<String>, AllocError> {
@@ -109,8 +109,7 @@ static NAMES: [&str; 9] = [
 /// Makes files of these names in a folder.
 fn make_images(rt: &HostRuntime, dir: &str) -> io::Result<()> {
     for name in &NAMES {
-        let path = format!(in rt.alloc(); "{dir}/{name}")?;
-        fs::write(rt, path.as_str(), "x")?;
+        write_in(rt, dir, name, b"x")?;
     }
     Ok(())
 }
@@ -159,7 +158,7 @@ static NAMES_THAT_ARE_TOLD: [(&str, &str); 5] = [
 /// Whether this is told of names.
 fn is_told(alloc: Global, names: &str, line: &str) -> Result<bool, AllocError> {
     let told = told_names(alloc, &words(alloc, names)?)?;
-    Ok(told == format!(in alloc; "images there: {line}")?)
+    Ok(told.as_str().strip_prefix("images there: ") == Some(line))
 }
 
 #[test]
@@ -168,7 +167,7 @@ fn names_that_are_told(rt: HostRuntime) -> Result<(), Fail> {
         assert!(rt; is_told(rt.alloc(), names, line)?, "{names}");
     }
     let further = "a b c d e f g h i j k l m n o p q r s t u v w";
-    let line = format!(in rt.alloc(); "{TWENTY} and 3 more")?;
+    let line = joined(rt.alloc(), &[TWENTY, " and 3 more"])?;
     assert!(rt; is_told(rt.alloc(), further, line.as_str())?);
     Ok(())
 }

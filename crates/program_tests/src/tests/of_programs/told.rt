@@ -11,13 +11,14 @@ use std::alloc::{AllocError, Global};
 use std::fmt::Display;
 use std::string::String;
 use std::test::Fail;
+use test_words::{joined, printed};
 
 /// Whether a text has a fault's code and then its name, and want of memory its name alone.
 fn has_words<F: NamedFault + Drop>(alloc: Global, text: &str, fault: F) -> Result<bool, Fail> {
     if fault.code() == "Memory" {
         return Ok(text == fault.name());
     }
-    let words = format!(in alloc; "{} {}", fault.code(), fault.name())?;
+    let words = joined(alloc, &[fault.code(), " ", fault.name()])?;
     Ok(text.contains(words.as_str()))
 }
 
@@ -25,7 +26,7 @@ fn has_words<F: NamedFault + Drop>(alloc: Global, text: &str, fault: F) -> Resul
 fn is_told(alloc: Global, fault: &Fault, line: &str, status: u8) -> Result<bool, Fail> {
     for program in ["dictc", "jseg"] {
         let mut told = Vec::new(alloc);
-        let text = format!(in alloc; "{program}: {line}\n")?;
+        let text = joined(alloc, &[program, ": ", line, "\n"])?;
         if report(alloc, program, fault, &mut told) != status
             || told.as_slice() != text.as_bytes()
         {
@@ -159,8 +160,7 @@ fn is_printed<F: NamedFault + Display + Copy + Drop>(
     text: &str,
     fault: F,
 ) -> Result<bool, Fail> {
-    let printed = format!(in alloc; "{fault}")?;
-    Ok(has_words(alloc, text, fault)? && printed.as_str() == text)
+    Ok(has_words(alloc, text, fault)? && printed(alloc, fault)?.as_str() == text)
 }
 
 /// Faults of sources without a path, and the ones that carry them.
@@ -192,9 +192,8 @@ fn carried_sources(rt: HostRuntime) -> Result<(), Fail> {
 
 /// Whether a fault is printed in this text behind a path.
 fn is_behind(alloc: Global, fault: &Fault, path: &str, text: &str) -> Result<bool, Fail> {
-    let printed = format!(in alloc; "{fault}")?;
-    let wanted = format!(in alloc; "{path}{text}")?;
-    Ok(printed == wanted)
+    let printed = printed(alloc, fault)?;
+    Ok(printed.as_str().strip_prefix(path) == Some(text))
 }
 
 /// The fault of an image or a file at a path.

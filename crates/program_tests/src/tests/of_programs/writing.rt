@@ -2,7 +2,7 @@
 
 use super::failing_files::FailingFiles;
 use super::names_in;
-use crate::tests::{expect_in_directory, new_directory, no_files};
+use crate::tests::{expect_in_directory, in_directory, new_directory, no_files, write_in};
 use programs::{Fault, write_as, write_file};
 use std::alloc::{AllocError, Global};
 use std::fs::{self, Permissions};
@@ -13,14 +13,7 @@ use std::test::Fail;
 
 /// The path of a directory's file.
 fn file_in(rt: &HostRuntime, dir: &str) -> io::Result<String> {
-    Ok(format!(in rt.alloc(); "{dir}/file")?)
-}
-
-/// A new directory of this test's own, and the path of its file.
-fn new_place(rt: &HostRuntime, test: &str) -> io::Result<(String, String)> {
-    let dir = new_directory(rt, test)?;
-    let path = file_in(rt, dir.as_str())?;
-    Ok((dir, path))
+    in_directory(rt, dir, "file")
 }
 
 /// Whether a file is written, and then has these bytes.
@@ -120,34 +113,36 @@ fn whole_or_not_at_all(rt: HostRuntime) -> Result<(), Fail> {
     )
 }
 
-/// The path of a new file, by its number, which process 7 would write.
-fn new_path(rt: &HostRuntime, dir: &str, number: u32) -> io::Result<String> {
-    Ok(format!(in rt.alloc(); "{dir}/.kumquatsieve.7.{number}.new")?)
-}
+/// The name of a new file of number 0, which process 7 would write, and that of number 1.
+const NEW_0: &str = ".kumquatsieve.7.0.new";
+
+const NEW_1: &str = ".kumquatsieve.7.1.new";
 
 /// Makes a file and a directory of the first two names.
 fn take_names(rt: &HostRuntime, dir: &str) -> io::Result<()> {
-    fs::write(rt, new_path(rt, dir, 0)?, "of another run")?;
-    fs::create_dir(rt, new_path(rt, dir, 1)?)
+    write_in(rt, dir, NEW_0, b"of another run")?;
+    let path = in_directory(rt, dir, NEW_1)?;
+    fs::create_dir(rt, path.as_str())
 }
 
 /// Whether a file is written beside these, which stay.
-fn is_written_beside(rt: &HostRuntime, dir: &str, path: &str) -> io::Result<bool> {
-    let written = write_as(rt, 7, path, b"new").is_ok();
-    let first = new_path(rt, dir, 0)?;
-    Ok(
-        written
-            && has_bytes(rt, path, b"new")?
-            && has_bytes(rt, first.as_str(), b"of another run")?
-            && names_in(rt, dir)? == 3,
-    )
+fn is_written_beside(rt: &HostRuntime, dir: &str) -> io::Result<bool> {
+    let path = file_in(rt, dir)?;
+    let written = write_as(rt, 7, path.as_str(), b"new").is_ok();
+    Ok(written && has_bytes(rt, path.as_str(), b"new")? && are_kept(rt, dir)?)
+}
+
+/// Whether the file of the first name has its bytes, and there are three names.
+fn are_kept(rt: &HostRuntime, dir: &str) -> io::Result<bool> {
+    let first = in_directory(rt, dir, NEW_0)?;
+    Ok(has_bytes(rt, first.as_str(), b"of another run")? && names_in(rt, dir)? == 3)
 }
 
 #[test]
 fn names_that_are_taken(rt: HostRuntime) -> Result<(), Fail> {
-    let (dir, path) = new_place(&rt, "taken")?;
+    let dir = new_directory(&rt, "taken")?;
     take_names(&rt, dir.as_str())?;
-    let is_written = is_written_beside(&rt, dir.as_str(), path.as_str())?;
+    let is_written = is_written_beside(&rt, dir.as_str())?;
     fs::remove_dir_all(&rt, dir.as_str())?;
     assert!(rt; is_written);
     Ok(())
@@ -155,7 +150,7 @@ fn names_that_are_taken(rt: HostRuntime) -> Result<(), Fail> {
 
 /// Whether files of a name of so many bytes are written, one in the place of the other.
 fn are_written(rt: &HostRuntime, dir: &str, length: usize) -> io::Result<bool> {
-    let mut path = format!(in rt.alloc(); "{dir}/")?;
+    let mut path = in_directory(rt, dir, "")?;
     for _ in 0..length {
         path.push('n')?;
     }
@@ -178,7 +173,7 @@ fn long_names(rt: HostRuntime) -> Result<(), Fail> {
 
 /// Makes the file.
 fn make_file(rt: &HostRuntime, dir: &str) -> Result<(), Fail> {
-    fs::write(rt, file_in(rt, dir)?, "old")?;
+    write_in(rt, dir, "file", b"old")?;
     Ok(())
 }
 
@@ -207,26 +202,28 @@ fn is_link_kept(rt: &HostRuntime, link: &str, file: &str) -> io::Result<bool> {
     Ok(written && has_bytes(rt, file, b"new")? && fs::symlink_metadata(rt, link)?.is_symlink())
 }
 
+/// The same of a link in a directory, in which there are then two names.
+fn is_link_kept_in(rt: &HostRuntime, dir: &str) -> io::Result<bool> {
+    let file = file_in(rt, dir)?;
+    let link = in_directory(rt, dir, "link")?;
+    Ok(is_link_kept(rt, link.as_str(), file.as_str())? && names_in(rt, dir)? == 2)
+}
+
 #[test]
 fn links_are_kept(rt: HostRuntime) -> Result<(), Fail> {
-    let (dir, file) = new_place(&rt, "links")?;
-    let link = format!(in rt.alloc(); "{dir}/link")?;
-    let is_kept = is_link_kept(&rt, link.as_str(), file.as_str())?;
-    let is_device_written = write_file(&rt, "/dev/null", b"new").is_ok();
-    let names = names_in(&rt, dir.as_str())?;
+    assert!(rt; write_file(&rt, "/dev/null", b"new").is_ok());
+    let dir = new_directory(&rt, "links")?;
+    let is_kept = is_link_kept_in(&rt, dir.as_str())?;
     fs::remove_dir_all(&rt, dir.as_str())?;
     assert!(rt; is_kept);
-    assert!(rt; is_device_written);
-    assert_eq!(rt; names, 2);
     Ok(())
 }
 
 #[test]
-fn full_devices(rt: HostRuntime) -> Result<(), Fail> {
-    let Some(Fault::File(path)) = &write_file(&rt, "/dev/full", b"text").err() else {
-        assert!(rt; false, "it is written");
-        return Ok(());
+fn full_devices(rt: HostRuntime) {
+    let is_told = match &write_file(&rt, "/dev/full", b"text") {
+        Err(Fault::File(path)) => path.as_str() == "/dev/full",
+        _ => false,
     };
-    assert!(rt; path.as_str() == "/dev/full");
-    Ok(())
+    assert!(rt; is_told);
 }
