@@ -1,6 +1,8 @@
 //! Why a call of a cutter is refused.
 
 ghost use Rattle.std.specs.Prelude.{◌≡◌};
+ghost use Rattle.cutter.specs.FaultWords.{cut_words, told_of_image, told_of_line, told_of_error, told_of_format};
+ghost use Rattle.cutter.specs.declared.fault.CutFault.TheVariants.{Overlay, Memory};
 
 use line_stream::{LineError, LineFault};
 use mj_model::{FormatFault, ImageFault, NamedFault, OverlayFault};
@@ -46,8 +48,6 @@ pub enum CutFault {
 }
 
 impl NamedFault for CutFault {
-    ghost use Rattle.cutter.specs.FaultWords.{cut_words};
-
     ghost words_of = { cut_words };
 
     fn words(self) -> (&'static str, &'static str) {
@@ -68,9 +68,6 @@ impl NamedFault for CutFault {
 }
 
 impl From<ImageFault> for CutFault {
-    ghost use Rattle.std.specs.Prelude.{◌≡◌};
-    ghost use Rattle.cutter.specs.FaultWords.{told_of_image};
-
     ghost from_gives = { λ fault told. told ≡ told_of_image fault };
 
     fn from(fault: ImageFault) -> CutFault {
@@ -82,9 +79,6 @@ impl From<ImageFault> for CutFault {
 }
 
 impl From<LineFault> for CutFault {
-    ghost use Rattle.std.specs.Prelude.{◌≡◌};
-    ghost use Rattle.cutter.specs.FaultWords.{told_of_line};
-
     ghost from_gives = { λ fault told. told ≡ told_of_line fault };
 
     fn from(fault: LineFault) -> CutFault {
@@ -96,9 +90,6 @@ impl From<LineFault> for CutFault {
 }
 
 impl From<LineError> for CutFault {
-    ghost use Rattle.std.specs.Prelude.{◌≡◌};
-    ghost use Rattle.cutter.specs.FaultWords.{told_of_error};
-
     ghost from_gives = { λ error told. told ≡ told_of_error error };
 
     fn from(error: LineError) -> CutFault {
@@ -110,9 +101,6 @@ impl From<LineError> for CutFault {
 }
 
 impl From<FormatFault> for CutFault {
-    ghost use Rattle.std.specs.Prelude.{◌≡◌};
-    ghost use Rattle.cutter.specs.FaultWords.{told_of_format};
-
     ghost from_gives = { λ fault told. told ≡ told_of_format fault };
 
     fn from(fault: FormatFault) -> CutFault {
@@ -124,9 +112,6 @@ impl From<FormatFault> for CutFault {
 }
 
 impl From<OverlayFault> for CutFault {
-    ghost use Rattle.std.specs.Prelude.{◌≡◌};
-    ghost use Rattle.cutter.specs.declared.fault.CutFault.TheVariants.{Overlay};
-
     ghost from_gives = { λ fault told. told ≡ Overlay fault };
 
     fn from(fault: OverlayFault) -> CutFault {
@@ -135,9 +120,6 @@ impl From<OverlayFault> for CutFault {
 }
 
 impl From<AllocError> for CutFault {
-    ghost use Rattle.std.specs.Prelude.{◌≡◌};
-    ghost use Rattle.cutter.specs.declared.fault.CutFault.TheVariants.{Memory};
-
     ghost from_gives = { λ _ fault. fault ≡ Memory };
 
     fn from(_refused: AllocError) -> CutFault {
@@ -146,9 +128,6 @@ impl From<AllocError> for CutFault {
 }
 
 impl<T: Drop> From<AllocFailed<T>> for CutFault {
-    ghost use Rattle.std.specs.Prelude.{◌≡◌};
-    ghost use Rattle.cutter.specs.declared.fault.CutFault.TheVariants.{Memory};
-
     ghost from_gives = { λ _ fault. fault ≡ Memory };
 
     fn from(_refused: AllocFailed<T>) -> CutFault {

@@ -1,5 +1,7 @@
 //! Why a call of C's is refused.
 
+ghost use Rattle.cutter_c.specs.CallWords.{call_words};
+
 use cutter::CutFault;
 use mj_model::NamedFault;
 
@@ -17,8 +19,6 @@ pub enum CallFault {
 }
 
 impl NamedFault for CallFault {
-    ghost use Rattle.cutter_c.specs.CallWords.{call_words};
-
     ghost words_of = { call_words };
 
     fn words(self) -> (&'static str, &'static str) {

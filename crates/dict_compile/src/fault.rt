@@ -1,7 +1,8 @@
 //! Why a dictionary isn't compiled.
 
 ghost use Rattle.std.specs.Prelude.{◌≡◌};
-ghost use Rattle.dict_compile.specs.Faults.{fault_of_image};
+ghost use Rattle.dict_compile.specs.Faults.{fault_of_image, user_words};
+ghost use Rattle.dict_compile.specs.declared.fault.CompileUserFault.TheVariants.{Source};
 
 use mj_model::{NO_FILE, NamedFault, SourceFault, SourceKind};
 use thiserror::Error;
@@ -18,9 +19,6 @@ pub enum CompileUserFault {
 }
 
 impl From<SourceFault> for CompileUserFault {
-    ghost use Rattle.std.specs.Prelude.{◌≡◌};
-    ghost use Rattle.dict_compile.specs.declared.fault.CompileUserFault.TheVariants.{Source};
-
     ghost from_gives = { λ fault result. result ≡ Source fault };
 
     fn from(fault: SourceFault) -> CompileUserFault {
@@ -29,8 +27,6 @@ impl From<SourceFault> for CompileUserFault {
 }
 
 impl NamedFault for CompileUserFault {
-    ghost use Rattle.dict_compile.specs.Faults.{user_words};
-
     ghost words_of = { user_words };
 
     fn words(self) -> (&'static str, &'static str) {

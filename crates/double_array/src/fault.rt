@@ -1,5 +1,7 @@
 //! Why an insertion is refused.
 
+ghost use Rattle.double_array.specs.FaultWords.{words_of as fault_words};
+
 use mj_model::NamedFault;
 use thiserror::Error;
 
@@ -15,8 +17,6 @@ pub enum DaFault {
 }
 
 impl NamedFault for DaFault {
-    ghost use Rattle.double_array.specs.FaultWords.{words_of as fault_words};
-
     ghost words_of = { fault_words };
 
     fn words(self) -> (&'static str, &'static str) {

@@ -1,6 +1,8 @@
 //! What ends the work on a line.
 
 ghost use Rattle.std.specs.Prelude.{◌≡◌};
+ghost use Rattle.line_stream.specs.LineErrors.{run_fault};
+ghost use Rattle.line_stream.specs.declared.line_fault.LineError.TheVariants.{Memory};
 
 use mj_model::RunFault;
 use std::alloc::AllocError;
@@ -20,8 +22,6 @@ pub enum LineError {
 }
 
 impl LineError {
-    ghost use Rattle.line_stream.specs.LineErrors.{run_fault};
-
     /// As the end of a run at the line of this number.
     pub fn at(self, line: u64) -> RunFault
         ensures { result ≡ run_fault self line }
@@ -35,8 +35,6 @@ impl LineError {
 }
 
 impl From<AllocError> for LineError {
-    ghost use Rattle.line_stream.specs.declared.line_fault.LineError.TheVariants.{Memory};
-
     ghost from_gives = { λ _ error. error ≡ Memory };
 
     fn from(_refused: AllocError) -> LineError {

@@ -1,6 +1,8 @@
 //! What is wrong with an output format.
 
 ghost use Rattle.std.specs.Prelude.{◌≡◌};
+ghost use Rattle.mj_model.specs.FaultWords.{format_words};
+ghost use Rattle.mj_model.specs.declared.format_fault.FormatFault.TheVariants.{Memory};
 
 use crate::named_fault::NamedFault;
 use std::alloc::{AllocError, AllocFailed};
@@ -45,8 +47,6 @@ pub enum FormatFault {
 }
 
 impl NamedFault for FormatFault {
-    ghost use Rattle.mj_model.specs.FaultWords.{format_words};
-
     ghost words_of = { format_words };
 
     fn words(self) -> (&'static str, &'static str) {
@@ -69,9 +69,6 @@ impl NamedFault for FormatFault {
 }
 
 impl From<AllocError> for FormatFault {
-    ghost use Rattle.std.specs.Prelude.{◌≡◌};
-    ghost use Rattle.mj_model.specs.declared.format_fault.FormatFault.TheVariants.{Memory};
-
     ghost from_gives = { λ _ fault. fault ≡ Memory };
 
     fn from(_refused: AllocError) -> FormatFault {
@@ -80,9 +77,6 @@ impl From<AllocError> for FormatFault {
 }
 
 impl<T: Drop> From<AllocFailed<T>> for FormatFault {
-    ghost use Rattle.std.specs.Prelude.{◌≡◌};
-    ghost use Rattle.mj_model.specs.declared.format_fault.FormatFault.TheVariants.{Memory};
-
     ghost from_gives = { λ _ fault. fault ≡ Memory };
 
     fn from(_refused: AllocFailed<T>) -> FormatFault {

@@ -1,6 +1,8 @@
 //! What is wrong with the bytes of an image.
 
 ghost use Rattle.std.specs.Prelude.{◌≡◌};
+ghost use Rattle.mj_model.specs.ImageFaultWords.{image_words};
+ghost use Rattle.mj_model.specs.declared.image_fault.ImageFault.TheVariants.{Memory};
 
 use crate::named_fault::NamedFault;
 use std::alloc::{AllocError, AllocFailed};
@@ -39,8 +41,6 @@ pub enum ImageFault {
 }
 
 impl NamedFault for ImageFault {
-    ghost use Rattle.mj_model.specs.ImageFaultWords.{image_words};
-
     ghost words_of = { image_words };
 
     fn words(self) -> (&'static str, &'static str) {
@@ -59,9 +59,6 @@ impl NamedFault for ImageFault {
 }
 
 impl From<AllocError> for ImageFault {
-    ghost use Rattle.std.specs.Prelude.{◌≡◌};
-    ghost use Rattle.mj_model.specs.declared.image_fault.ImageFault.TheVariants.{Memory};
-
     ghost from_gives = { λ _ fault. fault ≡ Memory };
 
     fn from(_refused: AllocError) -> ImageFault {
@@ -70,9 +67,6 @@ impl From<AllocError> for ImageFault {
 }
 
 impl<T: Drop> From<AllocFailed<T>> for ImageFault {
-    ghost use Rattle.std.specs.Prelude.{◌≡◌};
-    ghost use Rattle.mj_model.specs.declared.image_fault.ImageFault.TheVariants.{Memory};
-
     ghost from_gives = { λ _ fault. fault ≡ Memory };
 
     fn from(_refused: AllocFailed<T>) -> ImageFault {

@@ -1,5 +1,7 @@
 //! What is wrong with dictionaries that are laid over one another.
 
+ghost use Rattle.mj_model.specs.ImageFaultWords.{overlay_words};
+
 use crate::named_fault::NamedFault;
 use thiserror::Error;
 
@@ -18,8 +20,6 @@ pub enum OverlayFault {
 }
 
 impl NamedFault for OverlayFault {
-    ghost use Rattle.mj_model.specs.ImageFaultWords.{overlay_words};
-
     ghost words_of = { overlay_words };
 
     fn words(self) -> (&'static str, &'static str) {

@@ -1,5 +1,7 @@
 //! What ends a run over a text.
 
+ghost use Rattle.mj_model.specs.FaultWords.{run_words};
+
 use crate::named_fault::NamedFault;
 use crate::source_fault::SourceFault;
 use thiserror::Error;
@@ -34,8 +36,6 @@ pub enum RunFault {
 }
 
 impl NamedFault for RunFault {
-    ghost use Rattle.mj_model.specs.FaultWords.{run_words};
-
     ghost words_of = { run_words };
 
     fn words(self) -> (&'static str, &'static str) {

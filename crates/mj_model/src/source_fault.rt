@@ -1,6 +1,8 @@
 //! What is wrong with a dictionary's sources, and where.
 
 ghost use Rattle.std.specs.Prelude.{◌≡◌};
+ghost use Rattle.mj_model.specs.FaultWords.{source_words};
+ghost use Rattle.mj_model.specs.declared.source_fault.SourceKind.TheVariants.{Memory};
 
 use crate::named_fault::NamedFault;
 use std::alloc::{AllocError, AllocFailed};
@@ -109,8 +111,6 @@ impl SourceKind {
 }
 
 impl NamedFault for SourceKind {
-    ghost use Rattle.mj_model.specs.FaultWords.{source_words};
-
     ghost words_of = { source_words };
 
     fn words(self) -> (&'static str, &'static str) {
@@ -142,9 +142,6 @@ impl NamedFault for SourceKind {
 }
 
 impl From<AllocError> for SourceKind {
-    ghost use Rattle.std.specs.Prelude.{◌≡◌};
-    ghost use Rattle.mj_model.specs.declared.source_fault.SourceKind.TheVariants.{Memory};
-
     ghost from_gives = { λ _ kind. kind ≡ Memory };
 
     fn from(_refused: AllocError) -> SourceKind {
@@ -153,9 +150,6 @@ impl From<AllocError> for SourceKind {
 }
 
 impl<T: Drop> From<AllocFailed<T>> for SourceKind {
-    ghost use Rattle.std.specs.Prelude.{◌≡◌};
-    ghost use Rattle.mj_model.specs.declared.source_fault.SourceKind.TheVariants.{Memory};
-
     ghost from_gives = { λ _ kind. kind ≡ Memory };
 
     fn from(_refused: AllocFailed<T>) -> SourceKind {
@@ -175,8 +169,6 @@ pub struct SourceFault {
 }
 
 impl NamedFault for SourceFault {
-    ghost use Rattle.mj_model.specs.FaultWords.{source_words};
-
     ghost words_of = { λ fault. source_words fault.kind };
 
     fn words(self) -> (&'static str, &'static str) {
@@ -185,9 +177,6 @@ impl NamedFault for SourceFault {
 }
 
 impl From<AllocError> for SourceFault {
-    ghost use Rattle.std.specs.Prelude.{◌≡◌};
-    ghost use Rattle.mj_model.specs.declared.source_fault.SourceKind.TheVariants.{Memory};
-
     ghost from_gives = { λ _ fault. fault.kind ≡ Memory };
 
     fn from(_refused: AllocError) -> SourceFault {
@@ -196,9 +185,6 @@ impl From<AllocError> for SourceFault {
 }
 
 impl<T: Drop> From<AllocFailed<T>> for SourceFault {
-    ghost use Rattle.std.specs.Prelude.{◌≡◌};
-    ghost use Rattle.mj_model.specs.declared.source_fault.SourceKind.TheVariants.{Memory};
-
     ghost from_gives = { λ _ fault. fault.kind ≡ Memory };
 
     fn from(_refused: AllocFailed<T>) -> SourceFault {
