@@ -5,14 +5,17 @@ use crate::one_line::OneLine;
 use crate::options_fault::OptionsFault;
 use crate::row::{FLAG, MAY_HAVE_VALUE, Name, Row};
 use clap::ArgMatches;
-use std::alloc::Global;
+use std::alloc::{AllocError, Global};
 
 /// The version of the programs, and the layouts of the images that they read and write.
 pub const VERSION: &str = "0.1.0\nimage layouts read: 1, 2, 3; written: 3";
 
+/// The id of `--explain`.
+const EXPLAIN_ID: &str = "explain";
+
 /// `--explain CODE`.
 pub(crate) const EXPLAIN: Row = Row {
-    id: "explain",
+    id: EXPLAIN_ID,
     name: Name::Long("explain"),
     values: &["CODE"],
     help: "Explain the fault with a code or name, as L4, and what to do; without one, list all",
@@ -41,17 +44,22 @@ pub(crate) fn answer_explain(
     program: &str,
     matches: &ArgMatches<'_>,
 ) -> Result<(), OptionsFault> {
-    if !matches.contains_id(EXPLAIN.id) {
+    if !matches.contains_id(EXPLAIN_ID) {
         return Ok(());
     }
-    let Some(asked) = matches.get_str(EXPLAIN.id) else {
-        return Err(OptionsFault::Help(codes(alloc)?));
-    };
-    let text = explained(alloc, asked)?;
-    if text.is_empty() {
-        let asked = OneLine(asked);
-        let told = format!(in alloc; "no fault has the code or name '{asked}'")?;
-        return Err(OptionsFault::wrong(alloc, program, told.as_str()));
+    match matches.get_str(EXPLAIN_ID) {
+        Some(asked) => Err(answer(alloc, program, asked)?),
+        None => Err(OptionsFault::Help(codes(alloc)?)),
     }
-    Err(OptionsFault::Help(text))
+}
+
+/// The explanation of what is named, or that no fault is called so.
+fn answer(alloc: Global, program: &str, asked: &str) -> Result<OptionsFault, AllocError> {
+    let text = explained(alloc, asked)?;
+    if !text.is_empty() {
+        return Ok(OptionsFault::Help(text));
+    }
+    let asked = OneLine(asked);
+    let told = format!(in alloc; "no fault has the code or name '{asked}'")?;
+    Ok(OptionsFault::wrong(alloc, program, told.as_str()))
 }

@@ -7,10 +7,6 @@ mod images;
 mod runs;
 mod sources;
 
-use calls::CALLS;
-use images::IMAGES;
-use runs::RUNS;
-use sources::SOURCES;
 use std::alloc::{AllocError, Global};
 use std::fmt::{self, Display, Formatter, Write};
 use std::string::String;
@@ -26,8 +22,21 @@ pub struct Explanation {
 }
 
 /// The explanations, those of one subject after those of another.
-fn subjects() -> [&'static [Explanation]; 4] {
-    [&SOURCES, &IMAGES, &RUNS, &CALLS]
+fn subjects() -> [&'static [Explanation]; 12] {
+    [
+        sources::of_matrix(),
+        sources::of_lines(),
+        sources::of_categories(),
+        sources::of_unknown(),
+        sources::of_dictionary(),
+        images::of_bytes(),
+        images::of_overlays(),
+        images::of_files(),
+        runs::of_text(),
+        runs::of_formats(),
+        runs::of_memory(),
+        calls::of_calls(),
+    ]
 }
 
 /// The explanation of the fault with a code, as `L4`; None where no fault has it.
@@ -79,7 +88,10 @@ fn explain(
     asked: &str,
     text: &mut String,
 ) -> Result<(), AllocError> {
-    for one in subject.iter().filter(|one| one.is_called(asked)) {
+    for one in subject {
+        if !one.is_called(asked) {
+            continue;
+        }
         if !text.is_empty() {
             text.push('\n')?;
         }
@@ -114,19 +126,28 @@ struct Heading<'a>(&'a Explanation);
 impl Display for Heading<'_> {
     fn fmt<W: Write>(&self, f: &mut Formatter<W>) -> fmt::Result {
         let Heading(one) = self;
+        f.write_str(one.code)?;
         if one.code == one.name {
-            write!(f, "{}", one.code)
-        } else {
-            write!(f, "{} {}", one.code, one.name)
+            return Ok(());
         }
+        f.write_char(' ')?;
+        f.write_str(one.name)
     }
 }
 
 impl Display for Explanation {
     fn fmt<W: Write>(&self, f: &mut Formatter<W>) -> fmt::Result {
-        writeln!(f, "{}", Heading(self))?;
-        writeln!(f, "Meaning: {}", self.meaning)?;
-        writeln!(f, "Usual cause: {}", self.cause)?;
-        writeln!(f, "What to do: {}", self.cure)
+        Heading(self).fmt(f)?;
+        f.write_char('\n')?;
+        write_part(f, "Meaning: ", self.meaning)?;
+        write_part(f, "Usual cause: ", self.cause)?;
+        write_part(f, "What to do: ", self.cure)
     }
+}
+
+/// Writes a line of an explanation.
+fn write_part<W: Write>(f: &mut Formatter<W>, label: &str, text: &str) -> fmt::Result {
+    f.write_str(label)?;
+    f.write_str(text)?;
+    f.write_char('\n')
 }

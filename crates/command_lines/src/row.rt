@@ -122,37 +122,18 @@ impl Row {
             .required(self.is_needed)
             .allow_hyphen_values(self.is_text)
             .hide(self.is_hidden);
-        let arg = with_letter(arg, self.name.letter());
-        with_word(arg, self.name.word()).conflicts_with_all(self.excluded)
+        self.name.given_to(arg).conflicts_with_all(self.excluded)
     }
 }
 
 impl Name {
-    fn letter(self) -> Option<char> {
+    /// An argument that is called so.
+    fn given_to<'a>(self, arg: Arg<'a>) -> Arg<'a> {
         match self {
-            Name::Letter(letter) | Name::Both(letter, _) => Some(letter),
-            Name::Long(_) | Name::Words => None,
+            Name::Letter(letter) => arg.short(letter),
+            Name::Long(word) => arg.long(word),
+            Name::Both(letter, word) => arg.short(letter).long(word),
+            Name::Words => arg,
         }
-    }
-
-    fn word(self) -> Option<&'static str> {
-        match self {
-            Name::Long(word) | Name::Both(_, word) => Some(word),
-            Name::Letter(_) | Name::Words => None,
-        }
-    }
-}
-
-fn with_letter<'a>(arg: Arg<'a>, letter: Option<char>) -> Arg<'a> {
-    match letter {
-        Some(letter) => arg.short(letter),
-        None => arg,
-    }
-}
-
-fn with_word<'a>(arg: Arg<'a>, word: Option<&'a str>) -> Arg<'a> {
-    match word {
-        Some(word) => arg.long(word),
-        None => arg,
     }
 }

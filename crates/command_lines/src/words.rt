@@ -1,6 +1,5 @@
 //! The words of a command line, and what a command finds in them.
 
-use crate::about::answer_explain;
 use crate::one_line::WORDS_FEED;
 use crate::options_fault::OptionsFault;
 use clap::{ArgMatches, Command};
@@ -44,23 +43,16 @@ pub(crate) fn file_behind<'a>(words: &'a [String], options: &[&str]) -> Option<&
 
 /// The first word before `--` that begins with `-` and has the `.` of a file's name, and no `=` of an option's value.
 pub(crate) fn file_among(words: &[String]) -> Option<&str> {
-    words
-        .iter()
-        .map(|word| word.as_str())
-        .take_while(|word| *word != "--")
-        .find(|word| word.starts_with('-') && word.contains('.') && !word.contains('='))
-}
-
-/// What a command finds in words. Where they have `--explain`, that is answered.
-pub(crate) fn found<'a>(
-    alloc: Global,
-    program: &str,
-    command: Command<'a>,
-    words: &'a [String],
-) -> Result<ArgMatches<'a>, OptionsFault> {
-    let matches = parsed(alloc, program, command, words)?;
-    answer_explain(alloc, program, &matches)?;
-    Ok(matches)
+    for word in words {
+        let word = word.as_str();
+        if word == "--" {
+            return None;
+        }
+        if word.starts_with('-') && word.contains('.') && !word.contains('=') {
+            return Some(word);
+        }
+    }
+    None
 }
 
 /// What the parser finds in words.
@@ -94,8 +86,8 @@ pub(crate) fn needed_text(
     matches: &ArgMatches<'_>,
     id: &str,
 ) -> Result<String, OptionsFault> {
-    match matches.get_str(id) {
-        Some(text) => Ok(String::from_str(alloc, text)?),
+    match text_of(alloc, matches, id)? {
+        Some(text) => Ok(text),
         None => Err(OptionsFault::wrong(alloc, program, "an option is missing")),
     }
 }
@@ -106,9 +98,9 @@ pub(crate) fn texts_of(
     matches: &ArgMatches<'_>,
     id: &str,
 ) -> Result<Vec<String>, AllocError> {
-    let given = matches.get_strs(id).unwrap_or(&[]);
-    given
-        .iter()
-        .map(|text| String::from_str(alloc, text))
-        .try_collect(alloc)
+    let mut texts = Vec::new(alloc);
+    for text in matches.get_strs(id).unwrap_or(&[]) {
+        texts.push(String::from_str(alloc, text)?)?;
+    }
+    Ok(texts)
 }

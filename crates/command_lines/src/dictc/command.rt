@@ -1,11 +1,12 @@
 //! What is asked for by a command line of `dictc`.
 
 use super::choices::{Asked, Base, IdsOptions, Options};
-use super::rows::{COMPILING_ROWS, IDS_ROWS, ROWS, SYSTEM_ROWS, USER_ROWS};
+use super::rows::{compiling_rows, ids_rows, rows, system_rows, user_rows};
 use crate::about::VERSION;
 use crate::options_fault::OptionsFault;
+use crate::program::{Program, found};
 use crate::row::{Row, with_rows};
-use crate::words::{file_among, file_behind, found, needed_text, parsed, texts_of, without_feeds};
+use crate::words::{file_among, file_behind, needed_text, texts_of};
 use clap::{ArgMatches, Command};
 use std::alloc::{AllocError, Global};
 use std::string::String;
@@ -30,23 +31,38 @@ const NO_SUBCOMMAND: &str = "one of 'dictc system', 'dictc user' and 'dictc ids'
 
 /// Reads the words that follow the program's name.
 pub fn options(alloc: Global, words: Vec<String>) -> Result<Asked, OptionsFault> {
-    let told = without_feeds(alloc, &words)?;
-    if let Err(fault) = parsed(alloc, NAME, command(alloc)?, told.as_slice()) {
-        return Err(refusal(alloc, fault, &words));
+    let matches = found::<Dictc>(alloc, &words)?;
+    asked(alloc, &matches)
+}
+
+struct Dictc;
+
+impl Program for Dictc {
+    fn name() -> &'static str {
+        NAME
     }
-    let matches = found(alloc, NAME, command(alloc)?, words.as_slice())?;
+
+    fn command<'a>(alloc: Global) -> Result<Command<'a>, AllocError> {
+        let command = Command::new(alloc, NAME)
+            .bin_name(NAME)?
+            .about("Compiles the sources of a dictionary to an image")
+            .version(VERSION)
+            .no_binary_name(true);
+        with_subcommands(alloc, with_rows(alloc, command, rows())?)
+    }
+
+    fn refusal(alloc: Global, fault: OptionsFault, words: &[String]) -> OptionsFault {
+        fault.with_file_tip(alloc, meant_file(words))
+    }
+}
+
+/// What was found is asked for.
+fn asked(alloc: Global, matches: &ArgMatches<'_>) -> Result<Asked, OptionsFault> {
     match matches.subcommand() {
         Some((name, given)) if name == IDS => Ok(Asked::Ids(ids_options(alloc, given)?)),
         Some((name, given)) => Ok(Asked::Image(image_options(alloc, name, given)?)),
         None => Err(OptionsFault::wrong(alloc, NAME, NO_SUBCOMMAND)),
     }
-}
-
-/// The parser's fault as it is told of these words.
-fn refusal(alloc: Global, fault: OptionsFault, words: &[String]) -> OptionsFault {
-    fault
-        .in_lines(alloc)
-        .with_file_tip(alloc, meant_file(words))
 }
 
 /// The word that is meant as the name of a file and begins as an option, if there is one: no option has a `.`.
@@ -57,22 +73,28 @@ fn meant_file(words: &[String]) -> Option<&str> {
     }
 }
 
-/// What the program takes.
-fn command<'a>(alloc: Global) -> Result<Command<'a>, AllocError> {
-    let command = Command::new(alloc, NAME)
-        .bin_name(NAME)?
-        .about("Compiles the sources of a dictionary to an image")
-        .version(VERSION)
-        .no_binary_name(true);
+/// A command that has the subcommands too, in the order of help.
+fn with_subcommands<'a>(alloc: Global, command: Command<'a>) -> Result<Command<'a>, AllocError> {
+    let command = with_system(alloc, command)?;
+    let command = with_user(alloc, command)?;
+    with_ids(alloc, command)
+}
+
+fn with_system<'a>(alloc: Global, command: Command<'a>) -> Result<Command<'a>, AllocError> {
     let system = Command::new(alloc, SYSTEM).about("Compiles a system dictionary");
+    command.subcommand(compiling(alloc, system, system_rows())?)
+}
+
+fn with_user<'a>(alloc: Global, command: Command<'a>) -> Result<Command<'a>, AllocError> {
     let user = Command::new(alloc, USER).about("Compiles a user dictionary");
+    command.subcommand(compiling(alloc, user, user_rows())?)
+}
+
+fn with_ids<'a>(alloc: Global, command: Command<'a>) -> Result<Command<'a>, AllocError> {
     let ids = Command::new(alloc, IDS).about(
         "Prints which ids and word costs the entries of a part of speech have",
     );
-    with_rows(alloc, command, &ROWS)?
-        .subcommand(compiling(alloc, system, &SYSTEM_ROWS)?)?
-        .subcommand(compiling(alloc, user, &USER_ROWS)?)?
-        .subcommand(with_rows(alloc, ids, &IDS_ROWS)?)
+    command.subcommand(with_rows(alloc, ids, ids_rows())?)
 }
 
 /// A subcommand that compiles, with these rows of its own.
@@ -81,7 +103,7 @@ fn compiling<'a>(
     command: Command<'a>,
     rows: &[Row],
 ) -> Result<Command<'a>, AllocError> {
-    with_rows(alloc, with_rows(alloc, command, rows)?, &COMPILING_ROWS)
+    with_rows(alloc, with_rows(alloc, command, rows)?, compiling_rows())
 }
 
 /// The choices of a subcommand that compiles.
@@ -91,9 +113,9 @@ fn image_options(
     given: &ArgMatches<'_>,
 ) -> Result<Options, OptionsFault> {
     Ok(Options {
-        base: base(alloc, subcommand, given)?,
         out: needed_text(alloc, NAME, given, "out")?,
         lexicons: texts_of(alloc, given, "lexicons")?,
+        base: base(alloc, subcommand, given)?,
         all_faults: given.get_flag("all-faults"),
         verbose: given.get_flag("verbose"),
     })
@@ -118,9 +140,9 @@ fn base(alloc: Global, subcommand: &str, given: &ArgMatches<'_>) -> Result<Base,
 fn ids_options(alloc: Global, given: &ArgMatches<'_>) -> Result<IdsOptions, OptionsFault> {
     Ok(IdsOptions {
         dic: needed_text(alloc, NAME, given, "dic")?,
+        feature: needed_text(alloc, NAME, given, "feature")?,
         users: texts_of(alloc, given, "users")?,
         skip_digest: given.get_flag("skip-digest"),
-        feature: needed_text(alloc, NAME, given, "feature")?,
         verbose: given.get_flag("verbose"),
     })
 }

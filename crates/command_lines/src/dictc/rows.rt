@@ -4,6 +4,31 @@ use crate::about::{EXPLAIN, SKIP_DIGEST, VERBOSE};
 use crate::row::Name::{Letter, Long, Words};
 use crate::row::{FLAG, NEEDED, Row, VALUES, WORDS};
 
+/// What the program takes without a subcommand.
+pub(super) fn rows() -> &'static [Row] {
+    &ROWS
+}
+
+/// What a subcommand that compiles takes behind its own rows, in the order of help.
+pub(super) fn compiling_rows() -> &'static [Row] {
+    &COMPILING_ROWS
+}
+
+/// What `dictc system` takes besides, in the order of help.
+pub(super) fn system_rows() -> &'static [Row] {
+    &SYSTEM_ROWS
+}
+
+/// What `dictc user` takes besides, in the order of help.
+pub(super) fn user_rows() -> &'static [Row] {
+    &USER_ROWS
+}
+
+/// What `dictc ids` takes, in the order of help.
+pub(super) fn ids_rows() -> &'static [Row] {
+    &IDS_ROWS
+}
+
 #[rattlefmt::skip]
 const OUT: Row = Row { id: "out", name: Long("out"), values: &["IMG"],
     help: "The image to write", ..NEEDED };
@@ -16,15 +41,12 @@ const ALL_FAULTS: Row = Row { id: "all-faults", name: Long("all-faults"),
 const LEXICONS: Row = Row { id: "lexicons", name: Words, values: &["LEX"],
     help: "The lexicons, in their order", ..WORDS };
 
-/// What the program takes without a subcommand.
-pub(super) static ROWS: [Row; 1] = [EXPLAIN];
+static ROWS: [Row; 1] = [EXPLAIN];
 
-/// What a subcommand that compiles takes behind its own rows, in the order of help.
-pub(super) static COMPILING_ROWS: [Row; 4] = [OUT, ALL_FAULTS, VERBOSE, LEXICONS];
+static COMPILING_ROWS: [Row; 4] = [OUT, ALL_FAULTS, VERBOSE, LEXICONS];
 
-/// What `dictc system` takes besides, in the order of help.
 #[rattlefmt::skip]
-pub(super) static SYSTEM_ROWS: [Row; 3] = [
+static SYSTEM_ROWS: [Row; 3] = [
     Row { id: "matrix", name: Long("matrix"), values: &["FILE"],
         help: "The connection costs: matrix.def", ..NEEDED },
     Row { id: "char", name: Long("char"), values: &["FILE"],
@@ -33,17 +55,15 @@ pub(super) static SYSTEM_ROWS: [Row; 3] = [
         help: "The unknown words: unk.def", ..NEEDED },
 ];
 
-/// What `dictc user` takes besides, in the order of help.
 #[rattlefmt::skip]
-pub(super) static USER_ROWS: [Row; 2] = [
+static USER_ROWS: [Row; 2] = [
     Row { id: "dic", name: Long("dic"), values: &["IMG"],
         help: "The image of the system dictionary that it is made for", ..NEEDED },
     SKIP_DIGEST,
 ];
 
-/// What `dictc ids` takes, in the order of help.
 #[rattlefmt::skip]
-pub(super) static IDS_ROWS: [Row; 5] = [
+static IDS_ROWS: [Row; 5] = [
     Row { id: "dic", name: Long("dic"), values: &["IMG"],
         help: "The image of a system dictionary", ..NEEDED },
     Row { id: "users", name: Letter('u'), values: &["IMG"],

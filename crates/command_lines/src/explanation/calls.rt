@@ -2,7 +2,12 @@
 
 use super::Explanation;
 
-pub(super) static CALLS: [Explanation; 8] = [
+/// Faults of calls.
+pub(super) fn of_calls() -> &'static [Explanation] {
+    &CALLS
+}
+
+static CALLS: [Explanation; 8] = [
     Explanation {
         code: "K1",
         name: "LineFeed",

@@ -2,7 +2,22 @@
 
 use super::Explanation;
 
-pub(super) static IMAGES: [Explanation; 13] = [
+/// Faults of the bytes of an image.
+pub(super) fn of_bytes() -> &'static [Explanation] {
+    &BYTES
+}
+
+/// Faults of images that are laid over one another.
+pub(super) fn of_overlays() -> &'static [Explanation] {
+    &OVERLAYS
+}
+
+/// Faults of files.
+pub(super) fn of_files() -> &'static [Explanation] {
+    &FILES
+}
+
+static BYTES: [Explanation; 8] = [
     Explanation {
         code: "L1",
         name: "Truncated",
@@ -59,6 +74,9 @@ pub(super) static IMAGES: [Explanation; 13] = [
         cause: "A copy or a disk changed the image.",
         cure: "Copy the image again, or compile it again with dictc.",
     },
+];
+
+static OVERLAYS: [Explanation; 3] = [
     Explanation {
         code: "O1",
         name: "NotSystem",
@@ -80,6 +98,9 @@ pub(super) static IMAGES: [Explanation; 13] = [
         cause: "It was made for another system dictionary, or for an older one.",
         cure: "Compile it again with dictc user for this system dictionary.",
     },
+];
+
+static FILES: [Explanation; 2] = [
     Explanation {
         code: "F1",
         name: "File",

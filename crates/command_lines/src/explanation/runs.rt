@@ -2,7 +2,22 @@
 
 use super::Explanation;
 
-pub(super) static RUNS: [Explanation; 9] = [
+/// Faults of the text and of its output.
+pub(super) fn of_text() -> &'static [Explanation] {
+    &TEXT
+}
+
+/// Faults of formats.
+pub(super) fn of_formats() -> &'static [Explanation] {
+    &FORMATS
+}
+
+/// Want of memory.
+pub(super) fn of_memory() -> &'static [Explanation] {
+    &MEMORY
+}
+
+static TEXT: [Explanation; 5] = [
     Explanation {
         code: "G1",
         name: "Read",
@@ -38,6 +53,9 @@ pub(super) static RUNS: [Explanation; 9] = [
         cause: "The input is a device without an end.",
         cure: "Cut the text into files.",
     },
+];
+
+static FORMATS: [Explanation; 3] = [
     Explanation {
         code: "P1",
         name: "BadEscape",
@@ -59,11 +77,12 @@ pub(super) static RUNS: [Explanation; 9] = [
         cause: "MeCab's %f[0,1] and %F-[0,1] are not known.",
         cure: "Write %f[0]-%f[1].",
     },
-    Explanation {
-        code: "Memory",
-        name: "Memory",
-        meaning: "Memory was refused.",
-        cause: "The machine has too little, or a limit is set: an image takes its size, and dictc several times that.",
-        cure: "Raise the limit (ulimit -v), or take a machine with more memory.",
-    },
 ];
+
+static MEMORY: [Explanation; 1] = [Explanation {
+    code: "Memory",
+    name: "Memory",
+    meaning: "Memory was refused.",
+    cause: "The machine has too little, or a limit is set: an image takes its size, and dictc several times that.",
+    cure: "Raise the limit (ulimit -v), or take a machine with more memory.",
+}];

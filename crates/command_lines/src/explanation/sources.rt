@@ -2,7 +2,32 @@
 
 use super::Explanation;
 
-pub(super) static SOURCES: [Explanation; 21] = [
+/// Faults of `matrix.def`.
+pub(super) fn of_matrix() -> &'static [Explanation] {
+    &MATRIX
+}
+
+/// Faults of lines of sources, and of the lexicons together.
+pub(super) fn of_lines() -> &'static [Explanation] {
+    &LINES
+}
+
+/// Faults of `char.def`.
+pub(super) fn of_categories() -> &'static [Explanation] {
+    &CATEGORIES
+}
+
+/// Faults of `unk.def`.
+pub(super) fn of_unknown() -> &'static [Explanation] {
+    &UNKNOWN
+}
+
+/// Faults of the sources together.
+pub(super) fn of_dictionary() -> &'static [Explanation] {
+    &DICTIONARY
+}
+
+static MATRIX: [Explanation; 4] = [
     Explanation {
         code: "M1",
         name: "BadHeader",
@@ -31,6 +56,9 @@ pub(super) static SOURCES: [Explanation; 21] = [
         cause: "The first line is wrong.",
         cure: "Write how many right ids and how many left ids there are.",
     },
+];
+
+static LINES: [Explanation; 5] = [
     Explanation {
         code: "S1",
         name: "NotUtf8",
@@ -66,6 +94,9 @@ pub(super) static SOURCES: [Explanation; 21] = [
         cause: "A lexicon was given many times.",
         cure: "Give fewer lexicons.",
     },
+];
+
+static CATEGORIES: [Explanation; 7] = [
     Explanation {
         code: "C1",
         name: "BadLine",
@@ -115,6 +146,9 @@ pub(super) static SOURCES: [Explanation; 21] = [
         cause: "Another file was given, or the line was removed.",
         cure: "Add a line such as: SPACE 0 1 0",
     },
+];
+
+static UNKNOWN: [Explanation; 2] = [
     Explanation {
         code: "U1",
         name: "NoSuchCategory",
@@ -129,6 +163,9 @@ pub(super) static SOURCES: [Explanation; 21] = [
         cause: "A category was added to char.def alone.",
         cure: "Add a line for it to unk.def.",
     },
+];
+
+static DICTIONARY: [Explanation; 3] = [
     Explanation {
         code: "I1",
         name: "IdOutside",

@@ -1,12 +1,13 @@
 //! What is asked for by a command line of `jseg`.
 
 use super::choices::{Form, Input, LatticeChoice, Options, Task, ViewChoice};
-use super::mecab_habits::{HABITS, habit_in};
-use super::rows::{INPUTS, ROWS};
+use super::mecab_habits::{habit_in, habits};
+use super::rows::{INPUTS, rows};
 use crate::about::VERSION;
 use crate::options_fault::OptionsFault;
+use crate::program::{Program, found};
 use crate::row::with_rows;
-use crate::words::{file_behind, found, parsed, text_of, texts_of, without_feeds};
+use crate::words::{file_behind, text_of, texts_of};
 use clap::{ArgGroup, ArgMatches, Command};
 use mj_model::GROUPING_DEFAULT;
 use std::alloc::{AllocError, Global};
@@ -26,36 +27,48 @@ const NO_LATTICE: &str = "--within N is for --lattice FORM";
 
 /// Reads the words that follow the program's name.
 pub fn task(alloc: Global, words: Vec<String>) -> Result<Task, OptionsFault> {
-    let told = without_feeds(alloc, &words)?;
-    if let Err(fault) = parsed(alloc, NAME, command(alloc)?, told.as_slice()) {
-        return Err(refusal(alloc, fault, &words));
+    let matches = found::<Jseg>(alloc, &words)?;
+    asked(alloc, &matches)
+}
+
+struct Jseg;
+
+impl Program for Jseg {
+    fn name() -> &'static str {
+        NAME
     }
-    let matches = found(alloc, NAME, command(alloc)?, words.as_slice())?;
-    match habit_in(&matches) {
+
+    fn command<'a>(alloc: Global) -> Result<Command<'a>, AllocError> {
+        let command = Command::new(alloc, NAME)
+            .about("Cuts the Japanese text on standard input into words")
+            .version(VERSION)
+            .override_usage("jseg [OPTIONS] <-d IMG|--sources DIR|--sample> < TEXT")
+            .no_binary_name(true);
+        let command = with_rows(alloc, command, rows())?;
+        let command = with_rows(alloc, command, habits())?;
+        with_input_group(alloc, command)
+    }
+
+    /// The parser's own tip is for a program that takes words.
+    fn refusal(alloc: Global, fault: OptionsFault, words: &[String]) -> OptionsFault {
+        fault
+            .without_tip(alloc)
+            .with_file_tip(alloc, file_behind(words, &FILES))
+    }
+}
+
+/// What was found is asked for.
+fn asked(alloc: Global, matches: &ArgMatches<'_>) -> Result<Task, OptionsFault> {
+    match habit_in(matches) {
         Some(instead) => Err(OptionsFault::wrong(alloc, NAME, instead)),
         None if matches.get_flag("dictionaries") => Ok(Task::ListImages {
             verbose: matches.get_flag("verbose"),
         }),
-        None => Ok(Task::Cut(choices(alloc, &matches)?)),
+        None => Ok(Task::Cut(choices(alloc, matches)?)),
     }
 }
 
-/// The parser's fault as it is told of these words. The parser's own tip is for a program that takes words.
-fn refusal(alloc: Global, fault: OptionsFault, words: &[String]) -> OptionsFault {
-    fault
-        .in_lines(alloc)
-        .without_tip(alloc)
-        .with_file_tip(alloc, file_behind(words, &FILES))
-}
-
-/// What the program takes.
-fn command<'a>(alloc: Global) -> Result<Command<'a>, AllocError> {
-    let command = Command::new(alloc, NAME)
-        .about("Cuts the Japanese text on standard input into words")
-        .version(VERSION)
-        .override_usage("jseg [OPTIONS] <-d IMG|--sources DIR|--sample> < TEXT")
-        .no_binary_name(true);
-    let command = with_rows(alloc, with_rows(alloc, command, &ROWS)?, &HABITS)?;
+fn with_input_group<'a>(alloc: Global, command: Command<'a>) -> Result<Command<'a>, AllocError> {
     command.group(input_group(alloc)?)
 }
 
@@ -74,17 +87,33 @@ fn choices(alloc: Global, matches: &ArgMatches<'_>) -> Result<Options, OptionsFa
     let Some(input) = input(alloc, matches)? else {
         return Err(OptionsFault::wrong(alloc, NAME, NO_INPUT));
     };
-    Ok(Options {
+    let mut options = Options {
         input,
         grouping: matches.get_one("grouping").unwrap_or(GROUPING_DEFAULT),
-        output: text_of(alloc, matches, "output")?,
-        node: text_of(alloc, matches, "node")?,
-        unk: text_of(alloc, matches, "unk")?,
-        bos: text_of(alloc, matches, "bos")?,
-        eos: text_of(alloc, matches, "eos")?,
+        output: None,
+        node: None,
+        unk: None,
+        bos: None,
+        eos: None,
         view: view(alloc, matches)?,
         verbose: matches.get_flag("verbose"),
-    })
+    };
+    read_formats(alloc, matches, &mut options)?;
+    Ok(options)
+}
+
+/// The formats that were found, by name and by their texts.
+fn read_formats(
+    alloc: Global,
+    matches: &ArgMatches<'_>,
+    options: &mut Options,
+) -> Result<(), AllocError> {
+    options.output = text_of(alloc, matches, "output")?;
+    options.node = text_of(alloc, matches, "node")?;
+    options.unk = text_of(alloc, matches, "unk")?;
+    options.bos = text_of(alloc, matches, "bos")?;
+    options.eos = text_of(alloc, matches, "eos")?;
+    Ok(())
 }
 
 /// By what the text is cut: an image, a directory or the sample; None where none is given.

@@ -5,8 +5,12 @@ use crate::row::{REFUSED, Row};
 use clap::ArgMatches;
 
 /// What is taken only to be refused: words that are no options, then MeCab's options. Help says what to do instead.
+pub(super) fn habits() -> &'static [Row] {
+    &HABITS
+}
+
 #[rattlefmt::skip]
-pub(super) static HABITS: [Row; 24] = [
+static HABITS: [Row; 24] = [
     Row { id: "words", name: Words, most: usize::MAX, help: "jseg reads the text on standard input: jseg -d IMG < FILE", ..REFUSED },
     Row { id: "nbest", name: Both('N', "nbest"), help: "-N is not known: jseg writes the one best path, so leave it out", ..REFUSED },
     Row { id: "all-morphs", name: Both('a', "all-morphs"), help: "-a is not known: jseg writes the one best path, so leave it out", ..REFUSED },
@@ -58,7 +62,7 @@ const OTHER_OUTPUT: &str =
 
 /// What to do instead, where one of these was given, or an output format of another name.
 pub(super) fn habit_in(matches: &ArgMatches<'_>) -> Option<&'static str> {
-    help_of_given(&HABITS, matches).or(matches.get_str("output").and_then(instead_of_output))
+    help_of_given(habits(), matches).or(matches.get_str("output").and_then(instead_of_output))
 }
 
 /// The help of the first row that was given.
@@ -76,6 +80,10 @@ fn instead_of_output(name: &str) -> Option<&'static str> {
     if name == WAKATI {
         return None;
     }
-    let known = OUTPUTS.iter().find(|(known, _)| *known == name);
-    Some(known.map_or(OTHER_OUTPUT, |(_, instead)| *instead))
+    for (known, instead) in &OUTPUTS {
+        if *known == name {
+            return Some(*instead);
+        }
+    }
+    Some(OTHER_OUTPUT)
 }

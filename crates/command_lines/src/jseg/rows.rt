@@ -36,8 +36,12 @@ const OF_WORDS_AND_LATTICES: &[&str] = &[
 pub(super) const FORMS: [&str; 2] = ["tsv", "dot"];
 
 /// The options, in the order of help.
+pub(super) fn rows() -> &'static [Row] {
+    &ROWS
+}
+
 #[rattlefmt::skip]
-pub(super) static ROWS: [Row; 17] = [
+static ROWS: [Row; 17] = [
     Row { id: "dic", name: Letter('d'), values: &["IMG"],
         help: "Cut the text with the system dictionary of an image", ..VALUE },
     Row { id: "users", name: Letter('u'), values: &["IMG"], excluded: &["sources", "sample"],
