@@ -13,10 +13,19 @@ pub struct Beginning<'a> {
 
 impl Display for Beginning<'_> {
     fn fmt<W: Write>(&self, f: &mut Formatter<W>) -> fmt::Result {
-        let behind = self.text.char_indices().nth(self.most);
-        match behind {
-            Some((end, _)) => write!(f, "{}..", OneLine(&self.text[..end])),
-            None => write!(f, "{}", OneLine(self.text)),
+        let (told, left_out) = split_behind(self.text, self.most);
+        OneLine(told).fmt(f)?;
+        if left_out.is_empty() {
+            return Ok(());
         }
+        f.write_str("..")
+    }
+}
+
+/// The first characters of a text, so many at most, and the others.
+fn split_behind(text: &str, most: usize) -> (&str, &str) {
+    match text.char_indices().nth(most) {
+        Some((end, _)) => text.split_at(end),
+        None => (text, ""),
     }
 }

@@ -7,6 +7,7 @@ use crate::narrator::Narrator;
 use crate::surroundings::Surroundings;
 use command_lines::OneLine;
 use std::alloc::{AllocError, Global};
+use std::fmt::{self, Display, Formatter, Write};
 use std::string::String;
 
 /// How many names are said.
@@ -25,35 +26,67 @@ pub fn say_homes(rt: &HostRuntime, narrator: &Narrator<'_>, fault: &Fault) {
 
 fn say_folders(rt: &HostRuntime, narrator: &Narrator<'_>) -> Result<(), AllocError> {
     let homes = Surroundings::here(rt)?.homes(rt.alloc())?;
-    let mut names = Vec::new(rt.alloc());
     for home in &homes {
-        narrator.tell(&format!(in rt.alloc(); "looked for in {}", OneLine(home.as_str()))?);
-        let mut there = image_names(rt, home.as_str())?;
+        narrator.tell(&LookedForIn(home.as_str()));
+    }
+    let names = names_there(rt, &homes)?;
+    narrator.tell(&NamesThere(&names));
+    Ok(())
+}
+
+/// The names of the images in folders, in byte order, each once.
+fn names_there(rt: &HostRuntime, folders: &[String]) -> Result<Vec<String>, AllocError> {
+    let mut names = Vec::new(rt.alloc());
+    for folder in folders {
+        let mut there = image_names(rt, folder.as_str())?;
         names.append(&mut there)?;
     }
     let mut names = in_byte_order(names)?;
     names.dedup();
-    narrator.tell(&told_names(rt.alloc(), &names)?);
-    Ok(())
+    Ok(names)
 }
 
 /// The line of the names that are there.
 pub fn told_names(alloc: Global, names: &[String]) -> Result<String, AllocError> {
-    let mut told = String::from_str(alloc, "images there: ")?;
-    if names.is_empty() {
-        told.push_str("none; kumquatsieve-import makes one")?;
+    format!(in alloc; "{}", NamesThere(names))
+}
+
+/// A folder in which an image was looked for, as it is told.
+#[derive(Clone, Copy)]
+struct LookedForIn<'a>(&'a str);
+
+impl Display for LookedForIn<'_> {
+    fn fmt<W: Write>(&self, f: &mut Formatter<W>) -> fmt::Result {
+        f.write_str("looked for in ")?;
+        OneLine(self.0).fmt(f)
     }
-    let mut is_first = true;
-    for name in names.iter().take(NAMES_MAX) {
-        if !is_first {
-            told.push_str(", ")?;
+}
+
+/// The names that are there, as they are told.
+#[derive(Clone, Copy)]
+struct NamesThere<'a>(&'a [String]);
+
+impl Display for NamesThere<'_> {
+    fn fmt<W: Write>(&self, f: &mut Formatter<W>) -> fmt::Result {
+        f.write_str("images there: ")?;
+        match self.0.split_first() {
+            Some((first, others)) => {
+                OneLine(first.as_str()).fmt(f)?;
+                write_others(f, others)
+            }
+            None => f.write_str("none; kumquatsieve-import makes one"),
         }
-        told.push_str(format!(in alloc; "{}", OneLine(name.as_str()))?.as_str())?;
-        is_first = false;
     }
-    let more = names.len().saturating_sub(NAMES_MAX);
-    if more > 0 {
-        told.push_str(format!(in alloc; " and {more} more")?.as_str())?;
+}
+
+/// Writes the names behind the first one, and how many are left out.
+fn write_others<W: Write>(f: &mut Formatter<W>, names: &[String]) -> fmt::Result {
+    for name in names.iter().take(NAMES_MAX - 1) {
+        f.write_str(", ")?;
+        OneLine(name.as_str()).fmt(f)?;
     }
-    Ok(told)
+    match names.len().saturating_sub(NAMES_MAX - 1) {
+        0 => Ok(()),
+        more => write!(f, " and {more} more"),
+    }
 }

@@ -7,6 +7,7 @@ use mj_model::{FormatFault, ImageFault, NamedFault, RunFault, SourceFault, Sourc
 use std::alloc::Global;
 use std::fmt::{self, Display, Formatter, Write};
 use std::io;
+use std::string::String;
 
 /// Writes the fault's line, in one write where memory for it is given, and answers the status.
 ///
@@ -24,26 +25,42 @@ pub fn report<W: io::Write>(alloc: Global, program: &str, fault: &Fault, err: &m
 impl Display for Fault {
     fn fmt<W: Write>(&self, f: &mut Formatter<W>) -> fmt::Result {
         match self {
-            Fault::File(path) => write!(
-                f,
-                "{}: {} {}",
-                OneLine(path.as_str()),
-                self.code(),
-                self.name()
-            ),
+            Fault::File(path) => {
+                write_path(f, path)?;
+                write_words(f, self)
+            }
             Fault::Source(path, SourceFault { line, kind, .. }) if belongs_to_a_file(*kind) => {
                 write!(f, "{}:{line}: {kind}", OneLine(path.as_str()))
             }
             Fault::Source(_, SourceFault { kind, .. }) | Fault::Sources(SourceFault { kind, .. }) =>
-                { write!(f, "{kind}") }
+                { kind.fmt(f) }
             Fault::Image(_, ImageFault::Memory) | Fault::Memory => f.write_str(self.name()),
-            Fault::Image(path, fault) => write!(f, "{}: {fault}", OneLine(path.as_str())),
-            Fault::Overlay(path, fault) => write!(f, "{}: {fault}", OneLine(path.as_str())),
-            Fault::Format(fault) => write!(f, "{fault}"),
-            Fault::Run(fault) => write!(f, "{fault}"),
-            Fault::Output => write!(f, "{} {}", self.code(), self.name()),
+            Fault::Image(path, fault) => {
+                write_path(f, path)?;
+                fault.fmt(f)
+            }
+            Fault::Overlay(path, fault) => {
+                write_path(f, path)?;
+                fault.fmt(f)
+            }
+            Fault::Format(fault) => fault.fmt(f),
+            Fault::Run(fault) => fault.fmt(f),
+            Fault::Output => write_words(f, self),
         }
     }
+}
+
+/// Writes the path of a file, before what is wrong with it.
+fn write_path<W: Write>(f: &mut Formatter<W>, path: &String) -> fmt::Result {
+    OneLine(path.as_str()).fmt(f)?;
+    f.write_str(": ")
+}
+
+/// Writes the code of a fault and its name.
+fn write_words<W: Write>(f: &mut Formatter<W>, fault: &Fault) -> fmt::Result {
+    f.write_str(fault.code())?;
+    f.write_char(' ')?;
+    f.write_str(fault.name())
 }
 
 /// 1 for a refused source, image, overlay or text, 2 for a refused format, 3 for a file or device,
