@@ -133,13 +133,25 @@ fn fault_without(
     lexicons: &mut [WholeFile],
     fault: SourceFault,
 ) -> Result<Option<SourceFault>, AllocError> {
-    let Some(cut) = line_of(lexicons, fault) else {
+    if !empty_line(alloc, lexicons, fault)? {
         return Ok(None);
+    }
+    let texts = texts(alloc, lexicons)?;
+    Ok(beside.first_fault(alloc, &texts))
+}
+
+/// Empties the line of a fault, and answers whether it is of a line.
+fn empty_line(
+    alloc: Global,
+    lexicons: &mut [WholeFile],
+    fault: SourceFault,
+) -> Result<bool, AllocError> {
+    let Some(cut) = line_of(lexicons, fault) else {
+        return Ok(false);
     };
     let kept = cut.without(alloc)?;
     if let Some(file) = lexicons.get_mut(lexicon_number(fault)) {
         file.bytes = kept;
     }
-    let texts = texts(alloc, lexicons)?;
-    Ok(beside.first_fault(alloc, &texts))
+    Ok(true)
 }

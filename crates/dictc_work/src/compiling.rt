@@ -65,26 +65,33 @@ fn compile_files(
     match &options.base {
         Base::Definitions { matrix, chars, unk } => {
             let costs = read_costs(rt, matrix.as_str())?;
-            let files = SourceFiles {
-                matrix: String::from_str(rt.alloc(), matrix.as_str())?,
-                chars: WholeFile::read(rt, chars.as_str())?,
-                unk: WholeFile::read(rt, unk.as_str())?,
-                lexicons: read_files(rt, &options.lexicons)?,
-            };
+            let mut files = read_sources(rt, options, matrix, chars, unk)?;
             files.say(narrator, costs.bytes, &costs.first);
-            compile_sources(rt, costs, files, narrator, options.all_faults)
+            compile_sources(rt, costs, &mut files, narrator, options.all_faults)
         }
         Base::System { dic, skip_digest } => {
             let dic = dic.as_str();
             let system = dictionary_at(rt, dic, DigestTest::skipped_if(*skip_digest))?;
             narrator.say(Stage::Loaded { path: dic });
-            let files = read_files(rt, &options.lexicons)?;
-            for file in &files {
-                narrator.say_source(file);
-            }
-            compile_user_files(rt, (dic, &system), files, narrator, options.all_faults)
+            compile_user_files(rt, (dic, &system), options, narrator)
         }
     }
+}
+
+/// Reads the other sources of a system dictionary than its `matrix.def`.
+fn read_sources(
+    rt: &HostRuntime,
+    options: &Options,
+    matrix: &String,
+    chars: &String,
+    unk: &String,
+) -> Result<SourceFiles, Fault> {
+    Ok(SourceFiles {
+        chars: WholeFile::read(rt, chars.as_str())?,
+        unk: WholeFile::read(rt, unk.as_str())?,
+        lexicons: read_files(rt, &options.lexicons)?,
+        matrix: String::from_str(rt.alloc(), matrix.as_str())?,
+    })
 }
 
 /// Reads a `matrix.def`, which may be large, while a terminal is told how far it is.
@@ -99,26 +106,24 @@ fn read_costs(rt: &HostRuntime, path: &str) -> Result<MatrixFile, Fault> {
 fn compile_sources(
     rt: &HostRuntime,
     costs: MatrixFile,
-    mut files: SourceFiles,
+    files: &mut SourceFiles,
     narrator: &Narrator<'_>,
     all_faults: bool,
 ) -> Result<Compiled, NoImage> {
     narrator.say(Stage::Compiling {
         lexicons: files.lexicons.len(),
     });
-    let matrix = costs.matrix().map_err(|fault| Fault::of_source(
-        rt.alloc(),
-        files.path(fault.file),
-        fault,
-    ))?;
+    let matrix = match costs.matrix() {
+        Ok(matrix) => matrix,
+        Err(fault) => return Err(refusal(rt, files, fault)),
+    };
     let sizes = matrix.sizes();
-    let fault = match compile_others(rt, matrix, &files, narrator) {
+    let fault = match compile_others(rt, matrix, files, narrator) {
         Ok(compiled) => return Ok(compiled),
         Err(fault) => fault,
     };
     if !all_faults || !is_of_a_line(fault) {
-        let path = files.path(fault.file);
-        return Err(NoImage::Fault(Fault::of_source(rt.alloc(), path, fault)));
+        return Err(refusal(rt, files, fault));
     }
     let header = format!(in rt.alloc(); "{} {}\n", sizes.right, sizes.left)?;
     let beside = Beside::Definitions {
@@ -128,6 +133,12 @@ fn compile_sources(
     };
     tell_faults(rt, narrator, beside, &mut files.lexicons, fault);
     Err(NoImage::Told)
+}
+
+/// That there is no image for a fault of these files.
+fn refusal(rt: &HostRuntime, files: &SourceFiles, fault: SourceFault) -> NoImage {
+    let path = files.path(fault.file);
+    NoImage::Fault(Fault::of_source(rt.alloc(), path, fault))
 }
 
 /// The same of the costs that were read, or the first fault of the other files.
@@ -153,10 +164,13 @@ fn compile_others(
 fn compile_user_files(
     rt: &HostRuntime,
     (dic, system): (&str, &Dict),
-    mut files: Vec<WholeFile>,
+    options: &Options,
     narrator: &Narrator<'_>,
-    all_faults: bool,
 ) -> Result<Compiled, NoImage> {
+    let mut files = read_files(rt, &options.lexicons)?;
+    for file in &files {
+        narrator.say_source(file);
+    }
     narrator.say(Stage::Compiling {
         lexicons: files.len(),
     });
@@ -168,7 +182,7 @@ fn compile_user_files(
         }
         Err(CompileUserFault::Source(fault)) => fault,
     };
-    if !all_faults || !is_of_a_line(fault) {
+    if !options.all_faults || !is_of_a_line(fault) {
         let path = lexicon_path(&files, fault.file);
         return Err(NoImage::Fault(Fault::of_source(rt.alloc(), path, fault)));
     }

@@ -48,21 +48,55 @@ fn rows_asked(
     narrator: &Narrator<'_>,
 ) -> Result<Vec<PairRow>, Fault> {
     let digest = DigestTest::skipped_if(options.skip_digest);
-    let dic = options.dic.as_str();
-    let system = dictionary_at(rt, dic, digest, narrator)?;
-    let mut users = Vec::new(rt.alloc());
-    for path in &options.users {
-        let user = dictionary_at(rt, path.as_str(), digest, narrator)?;
-        users.push(user).map_err(AllocError::from)?;
+    let system = dictionary_at(rt, options.dic.as_str(), digest, narrator)?;
+    rows_beside(rt, options, &system, narrator)
+}
+
+/// The same of the system's dictionary, which was loaded, and of those that are laid over it.
+fn rows_beside(
+    rt: &HostRuntime,
+    options: &IdsOptions,
+    system: &CountedDict,
+    narrator: &Narrator<'_>,
+) -> Result<Vec<PairRow>, Fault> {
+    let digest = DigestTest::skipped_if(options.skip_digest);
+    let users = dictionaries_at(rt, &options.users, digest, narrator)?;
+    check_images(rt.alloc(), options, system, &users)?;
+    Ok(rows_of(rt.alloc(), options, system, &users)?)
+}
+
+/// The dictionaries of the images at paths, and of each that it was loaded is said.
+fn dictionaries_at(
+    rt: &HostRuntime,
+    paths: &[String],
+    digest: DigestTest,
+    narrator: &Narrator<'_>,
+) -> Result<Vec<CountedDict>, Fault> {
+    let mut dicts = Vec::new(rt.alloc());
+    for path in paths {
+        let dict = dictionary_at(rt, path.as_str(), digest, narrator)?;
+        dicts.push(dict).map_err(AllocError::from)?;
     }
-    check_system(&system.dict).map_err(|fault| Fault::of_overlay(rt.alloc(), dic, fault))?;
+    Ok(dicts)
+}
+
+/// Refuses images of which one is not of a system's dictionary, or of a user dictionary for it.
+fn check_images(
+    alloc: Global,
+    options: &IdsOptions,
+    system: &CountedDict,
+    users: &[CountedDict],
+) -> Result<(), Fault> {
+    if let Err(fault) = check_system(&system.dict) {
+        return Err(Fault::of_overlay(alloc, options.dic.as_str(), fault));
+    }
     for (i, user) in users.iter().enumerate() {
         let fault = fault_of_user(&system.dict, &user.dict, i);
         if let (Some(fault), Some(path)) = (fault, options.users.get(i)) {
-            return Err(Fault::of_overlay(rt.alloc(), path.as_str(), fault));
+            return Err(Fault::of_overlay(alloc, path.as_str(), fault));
         }
     }
-    Ok(rows_of(rt.alloc(), options, &system, &users)?)
+    Ok(())
 }
 
 /// The dictionary of the image at a path, and that it was loaded is said.
