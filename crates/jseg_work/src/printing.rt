@@ -11,7 +11,7 @@ ghost use Rattle.mj_model.specs.declared.source_fault.SourceFault.{SourceFault a
 ghost use Rattle.paths.specs.PathLaws.{CoversTexts};
 ghost use Rattle.segmenter.specs.SourceDicts.{IsRefusedFor};
 ghost use Rattle.segmenter.specs.SourceRuns.{IsEarly};
-ghost use Rattle.word_lookup.specs.Overlays.{fault_of_images, overlay_of};
+ghost use Rattle.word_lookup.specs.Overlays.{fault_of_images};
 ghost use Rattle.jseg_work.specs.Printing.{RanAsAsked, TellsPrinted, overlay_asked};
 
 use crate::formatting::Printed;
@@ -22,29 +22,8 @@ use segmenter::{run_sources, segment};
 use std::alloc::Global;
 use word_lookup::Dictionaries;
 
-/// Cuts the text of a reader by dictionaries, and prints what is asked for; answers the number of lines.
-fn print_over<R: TextIn, W: TextOut>(
-    alloc: Global,
-    dictionaries: &Dictionaries<'_>,
-    printed: &Printed,
-    reader: &mut R,
-    writer: &mut W,
-) -> Result<u64, RunFault>
-    requires reader { MayBeRead (R.told reader.old) }
-    requires writer { MayBeWritten (W.told writer.old) }
-    ensures covered { CoversTexts (overlay_of dictionaries.now) }
-    ensures run { Ran (TellsPrinted printed.now (overlay_of dictionaries.now)) ReadsMax
-        (R.told reader.old) (R.told reader.new) (W.told writer.old) (W.told writer.new) result }
-    ensures succeeds { NothingFails ReadsMax (R.told reader.old) (R.told reader.new)
-        (W.told writer.old) (W.told writer.new) → IsOkOrMemory result }
-{
-    match printed {
-        Printed::Words(format) => segment(alloc, dictionaries, format, reader, writer),
-        Printed::View(view) => print_views(alloc, dictionaries, *view, reader, writer),
-    }
-}
-
-/// The same by the images of a system and of users, and with a grouping, or what is wrong with the images together.
+/// Cuts the text of a reader by the images of a system and of users, and with a grouping, and prints what is asked for; answers the number of
+/// lines, or what is wrong with the images together.
 pub(crate) fn cut_over<R: TextIn, W: TextOut>(
     alloc: Global,
     system: &Dict,
@@ -71,7 +50,10 @@ pub(crate) fn cut_over<R: TextIn, W: TextOut>(
         Ok(dictionaries) => dictionaries.with_grouping(grouping.min(GROUPING_MAX)),
         Err(fault) => return Err(fault),
     };
-    Ok(print_over(alloc, &dictionaries, printed, reader, writer))
+    Ok(match printed {
+        Printed::Words(format) => segment(alloc, &dictionaries, format, reader, writer),
+        Printed::View(view) => print_views(alloc, &dictionaries, *view, reader, writer),
+    })
 }
 
 /// The same by sources, without users' ones.
