@@ -1,5 +1,6 @@
 //! Tests, by the crate whose calls they ask.
 
+mod of_command_lines;
 mod of_dictc_work;
 mod of_jseg_work;
 mod of_programs;

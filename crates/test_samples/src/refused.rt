@@ -7,27 +7,14 @@ use mj_model::{Sources, sample};
 use std::alloc::{Alloc, Global};
 use std::io::Eprint;
 use std::test::Fail;
-
-/// The answer of a call that may be refused memory. After a refusal it is asked again.
-#[macro_export]
-macro_rules! again {
-    ($rt:expr, $call:expr) => {
-        match $call {
-            Ok(answer) => answer,
-            Err(_refused) => {
-                $rt.eprintln("refused")?;
-                $call?
-            }
-        }
-    };
-}
+use test_words::again;
 
 /// The image of sources.
 fn image_again(
     rt: &(impl Alloc<A = Global> + Eprint),
     sources: &Sources<'_>,
 ) -> Result<Vec<u8>, Fail> {
-    let compiled = again!(rt, compile(rt.alloc(), sources));
+    let compiled = again!(rt, Err(_), compile(rt.alloc(), sources))?;
     Ok(compiled.image)
 }
 

@@ -6,6 +6,7 @@ use mj_model::SourceKind::Memory;
 use mj_model::{ImageFault, SourceFault, sample};
 use std::process::Abort;
 use std::test::Fail;
+use test_words::again;
 
 /// The sample's image, or that of a user dictionary for a system.
 fn compiled(rt: &HostRuntime, system: Option<&Dict>) -> Result<Compiled, CompileUserFault> {
@@ -17,24 +18,20 @@ fn compiled(rt: &HostRuntime, system: Option<&Dict>) -> Result<Compiled, Compile
 
 /// The same; what is refused once is asked again.
 fn compiled_again(rt: &HostRuntime, system: Option<&Dict>) -> Result<Compiled, Fail> {
-    match compiled(rt, system) {
-        Err(CompileUserFault::Source(SourceFault { kind: Memory, .. })) => {
-            rt.eprintln("refused")?;
-            Ok(compiled(rt, system)?)
-        }
-        compiled => Ok(compiled?),
-    }
+    Ok(again!(
+        rt,
+        Err(CompileUserFault::Source(SourceFault { kind: Memory, .. })),
+        compiled(rt, system)
+    )?)
 }
 
 /// The dictionary of it. A refused load drops its bytes, so it is compiled again.
 fn dict_again(rt: &HostRuntime, system: Option<&Dict>) -> Result<Dict, Fail> {
-    match dict_of(rt.alloc(), compiled_again(rt, system)?.image) {
-        Err(ImageFault::Memory) => {
-            rt.eprintln("refused")?;
-            Ok(dict_of(rt.alloc(), compiled_again(rt, system)?.image)?)
-        }
-        dict => Ok(dict?),
-    }
+    Ok(again!(
+        rt,
+        Err(ImageFault::Memory),
+        dict_of(rt.alloc(), compiled_again(rt, system)?.image)
+    )?)
 }
 
 /// Keys with their entries in the sample's dictionary.

@@ -6,25 +6,20 @@ use crate::tests::samples::dict_of;
 use dict_image::Dict;
 use mj_model::ImageFault;
 use std::test::Fail;
+use test_words::again;
 
 /// The image of a layout; what is refused once is made again.
 fn image_again(rt: &HostRuntime, layout: u32) -> Result<Vec<u8>, Fail> {
-    if let Ok(bytes) = user_image(rt.alloc(), layout) {
-        return Ok(bytes);
-    }
-    rt.eprintln("refused")?;
-    Ok(user_image(rt.alloc(), layout)?)
+    Ok(again!(rt, Err(_), user_image(rt.alloc(), layout))?)
 }
 
 /// The dictionary of the image of a layout. A refused load drops its bytes, so they are made again.
 fn dict_again(rt: &HostRuntime, layout: u32) -> Result<Dict, Fail> {
-    match dict_of(rt.alloc(), image_again(rt, layout)?) {
-        Err(ImageFault::Memory) => {
-            rt.eprintln("refused")?;
-            Ok(dict_of(rt.alloc(), image_again(rt, layout)?)?)
-        }
-        dict => Ok(dict?),
-    }
+    Ok(again!(
+        rt,
+        Err(ImageFault::Memory),
+        dict_of(rt.alloc(), image_again(rt, layout)?)
+    )?)
 }
 
 /// Layouts of images.

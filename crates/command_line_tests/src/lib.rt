@@ -1,6 +1,0 @@
-//! Tests of command lines: what is chosen, and what is refused. Nothing else stands here: a crate with tests is proved once with them and once
-//! without.
-#![tactic(auto)]
-
-#[cfg(test)]
-mod tests;

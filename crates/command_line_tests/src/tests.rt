@@ -1,3 +1,0 @@
-//! What the public calls of each crate answer.
-
-mod of_command_lines;

@@ -1,0 +1,60 @@
+//! Refused growths. A growth is refused where the tests run under `tools/refuse`, which looks for the line that says so.
+
+use super::samples::{chars_of, commented, info_of, info_with, unk_of};
+use crate::tests::faults::{File, expect_faults};
+use char_def::CharTable;
+use mj_model::{CharInfo, sample};
+use std::process::Abort;
+use std::test::Fail;
+use test_words::again;
+
+/// How many categories the sample has.
+fn count_of_chars(rt: &HostRuntime) -> Result<usize, Fail> {
+    Ok(chars_of(rt, sample().chars)??.count())
+}
+
+/// How many of them have unknown entries.
+fn count_of_unk(rt: &HostRuntime) -> Result<usize, Fail> {
+    Ok(unk_of(rt, sample().unk)??.count())
+}
+
+#[test]
+fn refused_tables(rt: HostRuntime) -> Result<(), Fail> {
+    assert!(rt; count_of_chars(&rt)? == 6);
+    assert!(rt; count_of_unk(&rt)? == 6);
+    Ok(())
+}
+
+/// Code points with their categories in the sample.
+#[rattlefmt::skip]
+static CODE_POINTS: [(u32, CharInfo); 6] = [
+    // (code point, its categories)
+    (0x20, CharInfo { bits: 2, head: 1 }),
+    (0x3042, CharInfo { bits: 32, head: 5 }),
+    (0x4DFF, CharInfo { bits: 1, head: 0 }),
+    (0x4E00, CharInfo { bits: 16, head: 4 }),
+    (0x9FFF, CharInfo { bits: 16, head: 4 }),
+    (0xA000, CharInfo { bits: 1, head: 0 }),
+];
+
+/// Asks for the sample's six categories, and for those of the code points.
+fn expect_infos(rt: &impl Abort, chars: &CharTable) {
+    assert!(rt; chars.count() == 6);
+    for (code, expected) in &CODE_POINTS {
+        assert!(rt; info_of(chars, *code) == Some(*expected), "{code}");
+    }
+}
+
+#[test]
+fn refused_chars(rt: HostRuntime) -> Result<(), Fail> {
+    let bytes = again!(rt, Err(_), commented(rt.alloc()))?;
+    expect_infos(&rt, &chars_of(&rt, &bytes)??);
+    let info = info_with(&rt, b"0xFFFF KANJI\n", 0xFFFF)?;
+    assert!(rt; info == Some(CharInfo { bits: 16, head: 4 }));
+    Ok(())
+}
+
+#[test]
+fn refused_chars_at_fault(rt: HostRuntime) -> Result<(), Fail> {
+    expect_faults(&rt, File::MoreChars)
+}

@@ -1,0 +1,86 @@
+//! Refused growths of formats and of what is printed. A growth is refused where the tests run under `tools/refuse`, which looks for the line that
+//! says so.
+
+use dict_image::Dict;
+use lattice::best_path;
+use mj_model::{SENTENCE_MAX, sample};
+use out_format::{Format, print};
+use std::alloc::Global;
+use std::io::Eprint;
+use std::process::Abort;
+use std::test::Fail;
+use test_samples::{dict_again, letters_again};
+use test_words::again;
+use word_lookup::Dictionaries;
+
+/// The sample's line with blanks.
+const SPACED: &str = " すもも  もも ";
+
+/// The format of these texts.
+fn format_again(
+    rt: &(impl Alloc<A = Global> + Eprint),
+    node: &str,
+    eos: &str,
+) -> Result<Format, Fail> {
+    Ok(again!(rt, Err(_), Format::parse(rt.alloc(), node, None, "", eos))?)
+}
+
+/// The default format.
+fn tabs_again(rt: &(impl Alloc<A = Global> + Eprint)) -> Result<Format, Fail> {
+    Ok(again!(rt, Err(_), Format::default_of(rt.alloc()))?)
+}
+
+fn wakati_again(rt: &(impl Alloc<A = Global> + Eprint)) -> Result<Format, Fail> {
+    Ok(again!(rt, Err(_), Format::wakati(rt.alloc()))?)
+}
+
+/// Prints the best path of a text behind other bytes. After a refusal these alone are there, and it is printed again.
+fn expect_print(
+    rt: &(impl Abort + Alloc<A = Global> + Eprint),
+    format: &Format,
+    dict: &Dict,
+    text: &str,
+    printed: &str,
+) -> Result<(), Fail> {
+    assert!(rt; text.len() <= SENTENCE_MAX);
+    let dictionaries = Dictionaries::new(dict, &[])?;
+    let mut out = again!(rt, Err(_), Vec::from_slice(rt.alloc(), b">"))?;
+    let Ok(path) = best_path(rt.alloc(), &dictionaries, text) else {
+        rt.eprintln("refused")?;
+        return Ok(());
+    };
+    if print(rt.alloc(), format, &dictionaries, text, &path, &mut out).is_err() {
+        rt.eprintln("refused")?;
+        assert!(rt; out.as_slice() == b">".as_slice(), "{printed}");
+        print(rt.alloc(), format, &dictionaries, text, &path, &mut out)?;
+    }
+    assert!(rt;
+        out.strip_prefix(b">") == Some(printed.as_bytes()),
+        "{printed}"
+    );
+    Ok(())
+}
+
+#[test]
+fn starved_formats(rt: HostRuntime) -> Result<(), Fail> {
+    let costs = format_again(&rt, "%m/%f[0]/%c/%pn/%pc\\s", "%pc\\n")?;
+    let places = format_again(&rt, "%M|%ps|%pe|%pl|%pL|%pS;", "%L\\n")?;
+    let tabs = tabs_again(&rt)?;
+    let wakati = wakati_again(&rt)?;
+    let dict = dict_again(&rt, sample().lexicons)?;
+    let letters = letters_again(&rt)?;
+    #[rattlefmt::skip]
+    let rows: [(&Format, &Dict, &str, &str); 6] = [
+        // (format, dictionary, text, what is printed)
+        (&costs,  &dict,    "すもももも", "すもも/名詞/100/110/110 もも/名詞/30/37/147 152\n"),
+        (&tabs,   &dict,    "すもももも", "すもも\t名詞,すもも\nもも\t名詞,もも\nEOS\n"),
+        (&wakati, &dict,    "すもももも", "すもも もも \n"),
+        (&wakati, &dict,    SPACED,       "すもも もも \n"),
+        (&places, &dict,    SPACED,       " すもも|1|10|9|10| ;  もも|12|18|6|8|  ;19\n"),
+        (&tabs,   &letters, "ab",         "a\tX\nb\tX\nEOS\n"),
+    ];
+    for (format, dict, text, printed) in rows {
+        expect_print(&rt, format, dict, text, printed)?;
+    }
+    Ok(())
+}

@@ -1,0 +1,97 @@
+//! Refused growths of runs. A growth is refused where the tests run under `tools/refuse`, which looks for the line that says so.
+
+use mj_model::{Counted, GROUPING_DEFAULT, RunFault, TextIn, sample};
+use out_format::Format;
+use segmenter::run_sources;
+use std::alloc::Global;
+use std::io::Eprint;
+use std::process::Abort;
+use std::test::Fail;
+use test_samples::{dict_again, overlay, segment_text};
+use test_words::again;
+
+/// The lines of the text, with what each prints.
+const LINES: [(&str, &str); 3] = [
+    ("すもももも\n", "すもも\t名詞,すもも\nもも\t名詞,もも\nEOS\n"),
+    ("ab\n", "ab\t未知\nEOS\n"),
+    ("も\n", "も\t助詞,も\nEOS\n"),
+];
+
+/// The text of the lines, and what those before a number print.
+const TEXT: &str = "すもももも\nab\nも\n";
+
+/// Whether a run printed the lines before the one that it was refused memory at, and nothing else.
+fn are_lines_before(line: u64, written: &[u8]) -> bool {
+    let mut left = written;
+    for (i, (_text, printed)) in LINES.iter().enumerate() {
+        if (i as u64) + 1 < line {
+            match left.strip_prefix(printed.as_bytes()) {
+                Some(rest) => left = rest,
+                None => return false,
+            }
+        }
+    }
+    left.is_empty()
+}
+
+/// The default format.
+fn default_again(rt: &(impl Alloc<A = Global> + Eprint)) -> Result<Format, Fail> {
+    Ok(again!(rt, Err(_), Format::default_of(rt.alloc()))?)
+}
+
+/// Room for what is printed.
+fn room_again(rt: &(impl Alloc<A = Global> + Eprint)) -> Result<Vec<u8>, Fail> {
+    Ok(again!(rt, Err(_), Vec::with_capacity(rt.alloc(), 1000))?)
+}
+
+/// What a run answered, where it is Ok or want of memory.
+fn expect_run(
+    rt: &(impl Abort + Eprint),
+    answer: Result<u64, RunFault>,
+    written: &[u8],
+    reads: u64,
+) -> Result<(), Fail> {
+    let line = match answer {
+        Ok(lines) => {
+            assert_eq!(rt; lines, 3);
+            4
+        }
+        Err(RunFault::Memory(line)) => {
+            rt.eprintln("refused")?;
+            assert!(rt; line > 0 || reads == 0);
+            line
+        }
+        Err(fault) => panic!(rt; "{fault}"),
+    };
+    assert!(rt; are_lines_before(line, written), "line {line}");
+    Ok(())
+}
+
+#[test]
+fn starved_runs(rt: HostRuntime) -> Result<(), Fail> {
+    let format = default_again(&rt)?;
+    let mut written = room_again(&rt)?;
+    let dict = dict_again(&rt, sample().lexicons)?;
+    let dictionaries = overlay(&dict, &[])?;
+    let text = TEXT.as_bytes();
+    let answer = segment_text(rt.alloc(), &dictionaries, &format, text, &mut written);
+    expect_run(&rt, answer, &written, 1)
+}
+
+#[test]
+fn starved_sources(rt: HostRuntime) -> Result<(), Fail> {
+    let format = default_again(&rt)?;
+    let mut written = room_again(&rt)?;
+    let mut reader = Counted::new(TEXT.as_bytes());
+    let mut writer = Counted::new(&mut written);
+    let answer = run_sources(
+        rt.alloc(),
+        &sample(),
+        &[],
+        GROUPING_DEFAULT,
+        &format,
+        &mut reader,
+        &mut writer,
+    );
+    expect_run(&rt, answer, &written, reader.reads())
+}
