@@ -29,6 +29,12 @@ pub(crate) fn write_in(rt: &HostRuntime, dir: &str, name: &str, bytes: &[u8]) ->
     fs::write(rt, path.as_str(), bytes)
 }
 
+/// Makes a folder of a directory.
+pub(crate) fn create_in(rt: &HostRuntime, dir: &str, name: &str) -> io::Result<()> {
+    let path = in_directory(rt, dir, name)?;
+    fs::create_dir(rt, path.as_str())
+}
+
 /// The name of the first row that doesn't hold in a directory.
 fn first_wrong<R, F: Fn(&HostRuntime, &str, &R) -> Result<bool, Fail> + Drop>(
     rt: &HostRuntime,

@@ -144,7 +144,7 @@ fn appended_fields(rt: HostRuntime) -> Result<(), Fail> {
 
 #[test]
 fn bad_lexicon_lines(rt: HostRuntime) -> Result<(), Fail> {
-    expect_faults(&rt, File::Lexicon(4))
+    expect_faults(&rt, File::OtherLexicon)
 }
 
 /// What a lexicon of a line with a surface of so many bytes says.

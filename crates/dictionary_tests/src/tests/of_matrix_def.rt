@@ -1,15 +1,13 @@
 //! Rows of connection costs.
 mod pieces;
-mod refused;
+pub mod refused;
 
-use super::of_char_def::samples::Read;
+use super::faults::{Read, read_again};
 use matrix_def::{Matrix, read_matrix};
-use mj_model::SourceKind::Memory;
 use mj_model::{MatrixSizes, SourceFault};
 use std::alloc::{Alloc, Global};
 use std::io::Eprint;
 use std::test::Fail;
-use test_words::again;
 
 /// The table of a `matrix.def`.
 pub fn table_of(alloc: Global, bytes: &[u8]) -> Result<Matrix, SourceFault> {
@@ -18,11 +16,7 @@ pub fn table_of(alloc: Global, bytes: &[u8]) -> Result<Matrix, SourceFault> {
 
 /// What a `matrix.def` says. What is refused memory once is asked again.
 pub fn matrix_of(rt: &(impl Alloc<A = Global> + Eprint), bytes: &[u8]) -> Read<Matrix> {
-    Ok(again!(
-        rt,
-        Err(SourceFault { kind: Memory, .. }),
-        table_of(rt.alloc(), bytes)
-    ))
+    read_again(rt, bytes, table_of)
 }
 
 /// The cost of a pair of ids, if they lie within the sizes.

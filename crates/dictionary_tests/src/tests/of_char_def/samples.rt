@@ -1,8 +1,8 @@
 //! The sample's sources with further lines. What is refused memory once is asked again.
 
+use crate::tests::faults::{Read, read_again};
 use char_def::{CharTable, UnkTable, read_chars, read_unk};
 use lex_source::lines;
-use mj_model::SourceKind::Memory;
 use mj_model::{CharInfo, SourceFault, sample};
 use std::alloc::{Alloc, AllocError, Global};
 use std::io::Eprint;
@@ -51,9 +51,6 @@ pub fn joined_again(
     Ok(again!(rt, Err(_), joined(rt.alloc(), source, further))?)
 }
 
-/// What a source says, or its fault; an outer fault is one of the test itself.
-pub type Read<T> = Result<Result<T, SourceFault>, Fail>;
-
 /// The categories of a `char.def`.
 pub fn table_of(alloc: Global, bytes: &[u8]) -> Result<CharTable, SourceFault> {
     read_chars(alloc, bytes)
@@ -61,11 +58,7 @@ pub fn table_of(alloc: Global, bytes: &[u8]) -> Result<CharTable, SourceFault> {
 
 /// What a `char.def` says.
 pub fn chars_of(rt: &(impl Alloc<A = Global> + Eprint), bytes: &[u8]) -> Read<CharTable> {
-    Ok(again!(
-        rt,
-        Err(SourceFault { kind: Memory, .. }),
-        table_of(rt.alloc(), bytes)
-    ))
+    read_again(rt, bytes, table_of)
 }
 
 /// What the sample's `char.def` with further lines says.
@@ -106,11 +99,7 @@ fn entries_of<'a>(
 /// What an `unk.def` says of the sample's categories.
 pub fn unk_of<'a>(rt: &(impl Alloc<A = Global> + Eprint), bytes: &'a [u8]) -> Read<UnkTable<'a>> {
     let chars = chars_with(rt, b"")?;
-    Ok(again!(
-        rt,
-        Err(SourceFault { kind: Memory, .. }),
-        entries_of(rt.alloc(), bytes, &chars)
-    ))
+    read_again(rt, bytes, |alloc, bytes| entries_of(alloc, bytes, &chars))
 }
 
 /// The fault of an `unk.def`, if it has one.

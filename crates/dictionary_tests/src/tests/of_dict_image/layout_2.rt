@@ -1,46 +1,28 @@
 //! The user image of layout 2 with the one surface `a`, and its changes.
-use super::changes::{Changed, Row, expect_faults};
-use super::images::{Change, changed, image, user_body};
+use super::changes::{Changed, Row, cells, dict_with, expect_faults, expect_token_faults, headers};
+use super::images::{Change, image, user_body};
 use super::questions::is_user_with;
-use crate::tests::samples::{dict_of, fault_of, fault_of_front};
-use mj_model::ImageFault::{self, BadKey, BadSection, BadText, BadToken, Truncated};
+use crate::tests::samples::{fault_of, fault_of_front};
+use mj_model::ImageFault::{self, BadKey, BadSection, Truncated};
 use std::alloc::{AllocError, Global};
 use std::test::Fail;
 
-/// Cell 50 is (3, 99), and cell 3 is its end: (-1, 50). Value 0 stands there too.
-const VALUE_TWICE: &[Change<'_>] = &[
-    (504, b"\x03\0\0\0\x63\0\0\0"),
-    (128, b"\xff\xff\xff\xff\x32\0\0\0"),
-];
-
-/// Changes of the image. Section 5 begins at byte 104, so that cell n stands at 104 + 8 n.
+/// Changes of the image that name another layout.
 #[rattlefmt::skip]
-static CHANGES: [Row; 17] = [
-    ("no change",                &[],                                   None),
-    ("cell 1 is (-1, 98)",       &[(112, b"\xff\xff\xff\xff\x62\0\0\0")], Some(BadSection(5))),
-    ("cell 1 is (-2, 99)",       &[(112, b"\xfe\xff\xff\xff\x63\0\0\0")], Some(BadSection(5))),
-    ("cell 1 is (0, -1)",        &[(112, b"\0\0\0\0\xff\xff\xff\xff")], Some(BadSection(5))),
-    ("cell 99 is (1, 99)",       &[(896, b"\x01\0\0\0\x63\0\0\0")],     Some(BadKey(0))),
-    ("cell 0 is (1, 0)",         &[(104, b"\x01\0\0\0\0\0\0\0")],       Some(BadSection(5))),
-    ("right id 2",               &[(914, b"\x02")],                     Some(BadToken(0))),
-    ("feature length 2",         &[(924, b"\x02")],                     Some(BadText(0))),
-    ("cell 2 is (5, 99)",        &[(120, b"\x05\0\0\0\x63\0\0\0")],     None),
-    ("cell 50 is (1, 50): a ring", &[(504, b"\x01\0\0\0\x32\0\0\0")],     None),
-    ("value 0 in cells 1 and 3", VALUE_TWICE,                           Some(BadSection(5))),
-    ("cell 3 is (-1, 99)",       &[(128, b"\xff\xff\xff\xff\x63\0\0\0")], Some(BadSection(5))),
-    ("cell 5 is (0, -2)",        &[(144, b"\0\0\0\0\xfe\xff\xff\xff")], Some(BadSection(5))),
-    ("cell 5 is (1, 100)",       &[(144, b"\x01\0\0\0\x64\0\0\0")],     Some(BadSection(5))),
-    ("half a cell at the end",   &[(72, b"\x1c"), (80, b"\x0c")],       Some(BadSection(5))),
-    ("layout 1: cells are no keys", &[(8, b"\x01")],                       Some(BadSection(5))),
-    ("layout 3: 32 bytes missing", &[(8, b"\x03")],                       Some(Truncated)),
+static CHANGES: [Row; 2] = [
+    ("layout 1: cells are no keys", &[(8, b"\x01")], Some(BadSection(5))),
+    ("layout 3: 32 bytes missing",  &[(8, b"\x03")], Some(Truncated)),
 ];
 
 #[test]
 fn changes_of_layout_2(rt: HostRuntime) -> Result<(), Fail> {
+    expect_faults(&rt, Changed::Layout2, headers())?;
+    expect_faults(&rt, Changed::Layout2, cells())?;
+    expect_token_faults(&rt, Changed::Layout2, 904)?;
     expect_faults(&rt, Changed::Layout2, &CHANGES)
 }
 
-/// A cell of which no key has need, and a ring of one state on no key.
+/// A cell of which no key has need, and a ring of one state on no key. Layout 3 has the same cells.
 #[rattlefmt::skip]
 static NEEDLESS: [(&str, Change<'_>); 2] = [
     // (what, bytes from a place on)
@@ -48,16 +30,13 @@ static NEEDLESS: [(&str, Change<'_>); 2] = [
     ("cell 50 is (1, 50)", (504, b"\x01\0\0\0\x32\0\0\0")),
 ];
 
-/// Whether the image with a change has the entry of its one key.
-fn has_key_with(alloc: Global, change: Change<'_>) -> Result<bool, Fail> {
-    let image = changed(alloc, &user_body(alloc, 2)?, &[change])?;
-    Ok(is_user_with(&dict_of(alloc, image)?, "a", 1, "b"))
-}
-
 #[test]
-fn needless_cells_of_layout_2(rt: HostRuntime) -> Result<(), Fail> {
+fn needless_cells(rt: HostRuntime) -> Result<(), Fail> {
     for (what, change) in &NEEDLESS {
-        assert!(rt; has_key_with(rt.alloc(), *change)?, "{what}");
+        let second = dict_with(rt.alloc(), Changed::Layout2, &[*change])?;
+        assert!(rt; is_user_with(&second, "a", 1, "b"), "{what}");
+        let third = dict_with(rt.alloc(), Changed::Layout3, &[*change])?;
+        assert!(rt; is_user_with(&third, "a", 1, "b"), "{what}, layout 3");
     }
     Ok(())
 }

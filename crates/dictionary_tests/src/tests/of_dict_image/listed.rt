@@ -100,7 +100,7 @@ fn prefixes_of_listed_keys(rt: HostRuntime) -> Result<(), Fail> {
 
 /// Sections that are to list keys.
 #[rattlefmt::skip]
-static LISTED: [(&str, u8, &[u8], Option<ImageFault>); 19] = [
+static LISTED: [(&str, u8, &[u8], Option<ImageFault>); 25] = [
     // (what, how many keys there are to be, section 5, the fault)
     ("none",                       0, b"",                         None),
     ("none, and a byte",           0, b"\0",                       Some(BadSection(5))),
@@ -114,13 +114,19 @@ static LISTED: [(&str, u8, &[u8], Option<ImageFault>); 19] = [
     ("a, b, a",                    3, b"\x01\0a\x01\0b\x01\0a",    Some(BadKey(2))),
     ("U+007F, U+0080",             2, b"\x01\0\x7f\x02\0\xc2\x80", None),
     ("an empty key",               1, b"\0\0",                     Some(BadKey(0))),
+    ("an empty key, bytes behind", 1, b"\0\0\xe3\x82\x82\xe3\x82\x82", Some(BadKey(0))),
     ("a, and an empty key",        2, b"\x01\0a\0\0",              Some(BadKey(1))),
     ("a key cut by the end",       1, b"\x02\0a",                  Some(BadKey(0))),
+    ("half a length alone",        1, b"\x06",                      Some(BadKey(0))),
     ("a length cut by the end",    2, b"\x01\0a\x01",              Some(BadKey(1))),
     ("a key not UTF-8",            1, b"\x01\0\xff",               Some(BadKey(0))),
     ("halves of a character",      2, b"\x01\0\xc2\x01\0\xc3",     Some(BadKey(0))),
     ("a byte behind",              2, b"\x01\0a\x01\0b\0",         Some(BadSection(5))),
     ("a, not UTF-8, cut",          3, b"\x01\0a\x01\0\xff\x05\0b", Some(BadKey(1))),
+    ("a first byte not UTF-8",     1, b"\x06\0\xff\x82\x82\xe3\x82\x82",  Some(BadKey(0))),
+    ("a shorter key, bytes behind", 1, b"\x03\0\xe3\x82\x82\xe3\x82\x82", Some(BadSection(5))),
+    ("cut inside a character",     1, b"\x05\0\xe3\x82\x82\xe3\x82\x82",  Some(BadKey(0))),
+    ("longer than the section",    1, b"\x07\0\xe3\x82\x82\xe3\x82\x82",  Some(BadKey(0))),
 ];
 
 #[test]

@@ -20,7 +20,7 @@ fn refused_lexicon_adds_no_records(rt: HostRuntime) -> Result<(), Fail> {
 
 #[test]
 fn refused_lexicon_at_fault(rt: HostRuntime) -> Result<(), Fail> {
-    expect_faults(&rt, File::Lexicon(3))
+    expect_faults(&rt, File::FirstLexicon)
 }
 
 /// A line with a surface of so many bytes; what is refused once is asked again.

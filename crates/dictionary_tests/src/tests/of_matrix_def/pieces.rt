@@ -1,6 +1,6 @@
 //! A `matrix.def` that comes in pieces says what it says as one slice.
+use super::refused::rows_of_matrices;
 use super::{LISTED, table_of};
-use crate::tests::faults;
 use matrix_def::{Matrix, MatrixReader};
 use mj_model::SourceFault;
 use std::alloc::{Alloc, Global};
@@ -64,7 +64,7 @@ fn listed_rows_of_pieces(rt: HostRuntime) {
 
 #[test]
 fn faults_of_pieces(rt: HostRuntime) {
-    for (_, what, text, line, kind) in faults::rows_of_matrices() {
+    for (what, text, line, kind) in rows_of_matrices() {
         expect_said(&rt, what, text, Err(kind.at(0, *line)));
     }
 }

@@ -1,7 +1,51 @@
-//! Refused growths. A growth is refused where the tests run under `tools/refuse`, which looks for the line that says so.
+//! Tables that are refused, and refused growths. A growth is refused where the tests run under `tools/refuse`, which looks for the line that says so.
 use super::matrix_of;
-use crate::tests::faults::{File, expect_faults};
+use mj_model::SourceKind::{self, BadHeader, BadRow, PairOutside, TooLarge};
 use std::test::Fail;
+
+/// What is wrong, a `matrix.def`, the line of its fault and the fault's kind.
+pub type Row = (&'static str, &'static [u8], u64, SourceKind);
+
+/// Tables that are refused.
+#[rattlefmt::skip]
+static MATRICES: [Row; 31] = [
+    ("no bytes",                         b"", 0, BadHeader),
+    ("blank lines",                      b"\n \t\n", 0, BadHeader),
+    ("no right ids",                     b"0 2\n", 1, BadHeader),
+    ("no left ids",                      b"\n2 0\n", 2, BadHeader),
+    ("too many right ids",               b"65536 1\n", 1, BadHeader),
+    ("one size",                         b"2\n", 1, BadHeader),
+    ("three sizes",                      b"2 2 2\n", 1, BadHeader),
+    ("too many pairs",                   b"65535 65535\n", 1, TooLarge),
+    ("a high cost",                      b"2 2\n0 0 40000\n", 2, BadRow),
+    ("no cost",                          b"2 2\n0 0\n", 2, BadRow),
+    ("two costs",                        b"2 2\n0 0 1 1\n", 2, BadRow),
+    ("a right id, and a bad row",        b"2 2\n\n2 0 1\nx\n", 3, PairOutside),
+    ("a left id",                        b"2 2\n0 2 1\n", 2, PairOutside),
+    ("a pair twice",                     b"2 2\n0 0 -434\n0 0 40000\n", 3, BadRow),
+    ("a right id",                       b"2 2\n0 0 -434\n2 0 1\n", 3, PairOutside),
+    ("no right ids, a row",              b"0 2\n0 0 -434\n", 1, BadHeader),
+    ("one size, then two",               b"\n2\n1 1\n", 2, BadHeader),
+    ("a right id, a bad row",            b"2 2\r\n\r\n2 0 1\r\nx\r\n", 3, PairOutside),
+    ("no cost, no line feed",            b"2 2\n0 0 1\n0 0", 3, BadRow),
+    ("two costs, and rows",              b"2 2\n0 0 1 1\n2 2\n0 0 1\n", 2, BadRow),
+    ("three sizes, blanks",              b"1 1 1  ", 1, BadHeader),
+    ("a high size in zeros",             b"1 000100000000000000", 1, BadHeader),
+    ("two costs, one of zeros",          b"1 1\n0 0 1 0000  ", 2, BadRow),
+    ("a high cost behind zeros",         b"1 1\n0 0 00012345678901234567890", 2, BadRow),
+    ("a high id behind zeros",           b"1 1\n0 00065536 1  ", 2, BadRow),
+    ("a sign and blanks",                b"1 1\n0 0 -  5", 2, BadRow),
+    ("a sign behind a zero",             b"1 1\n0 0 0-5", 2, BadRow),
+    ("two carriage returns",             b"1 1\n0 0 5\r\r", 2, BadRow),
+    ("one and a blank",                  b"1 1\n0 0 5\r ", 2, BadRow),
+    ("one and a letter",                 b"1 1\n0 0 5\rx", 2, BadRow),
+    ("an id behind zeros",               b"1 1\n0  0000001   5   ", 2, PairOutside),
+];
+
+/// The rows of tables. Who calls this does not have them in its own proof.
+pub fn rows_of_matrices() -> &'static [Row] {
+    &MATRICES
+}
 
 /// Tables that are accepted.
 #[rattlefmt::skip]
@@ -23,5 +67,9 @@ fn refused_matrix(rt: HostRuntime) -> Result<(), Fail> {
 
 #[test]
 fn refused_matrix_at_fault(rt: HostRuntime) -> Result<(), Fail> {
-    expect_faults(&rt, File::Matrix)
+    for (what, bytes, line, kind) in rows_of_matrices() {
+        let fault = matrix_of(&rt, bytes)?.err();
+        assert_eq!(rt; fault, Some(kind.at(0, *line)), "{what}");
+    }
+    Ok(())
 }

@@ -51,62 +51,73 @@ pub(crate) fn is_ended(
     })
 }
 
-/// A program, a name, the words of a command line, and its status with what is in its text.
-type EndRow<'a> = (Program, &'a str, &'a str, (u8, &'a str));
-
-fn expect_ends(rt: &(impl Abort + Alloc<A = Global>), rows: &[EndRow<'_>]) -> Result<(), Fail> {
-    for (program, what, given, (status, text)) in rows {
-        let is_ended = is_ended(rt.alloc(), *program, given, *status, text)?;
-        assert!(rt; is_ended, "{}{what}", program.prefix());
+/// Whether the command line of each of these programs is ended so.
+fn are_ended(
+    alloc: Global,
+    programs: &[Program],
+    given: &str,
+    (status, text): (u8, &str),
+) -> Result<bool, AllocError> {
+    for program in programs {
+        if !is_ended(alloc, *program, given, status, text)? {
+            return Ok(false);
+        }
     }
-    Ok(())
+    Ok(true)
 }
+
+const DICTC: &[Program] = &[Dictc];
+
+const JSEG: &[Program] = &[Jseg];
+
+const BOTH: &[Program] = &[Dictc, Jseg];
 
 const HELP: (u8, &str) = (0, "Usage: dictc");
 
 /// Command lines that ask for help, for the version or for what faults mean, and those with a word that is not known.
 #[rattlefmt::skip]
-static COMMAND_LINES_THAT_END_AT_ONCE: [EndRow<'static>; 34] = [
-    // (program, what, words, (status, what is in the text))
-    (Dictc, "help", "--help", HELP),
-    (Dictc, "help for a system", "system --help", HELP),
-    (Dictc, "help for a user", "user --help", HELP),
-    (Dictc, "the version", "--version", (0, "layouts read: 1, 2, 3; written: 3")),
-    (Dictc, "a code", "--explain L4", (0, "L4 BadSection\nMeaning: ")),
-    (Dictc, "memory", "--explain Memory", (0, "Memory\nMeaning: ")),
-    (Dictc, "a name", "--explain nosuchcategory", (0, "C4 NoSuchCategory\nMeaning: ")),
-    (Dictc, "all codes", "--explain", (0, "\nL4 BadSection\n")),
-    (Dictc, "a code of none", "--explain X9", (2, "dictc: no fault has the code or name 'X9'\n")),
-    (Dictc, "a name that is near", "systen", (2, "'system'")),
-    (Dictc, "an option that is near", "system --matrx m", (2, "'--matrix'")),
-    (Dictc, "help for ids", "ids --help", HELP),
-    (Dictc, "a file like an option", "user --dic s --out o -x.csv", (2, "write './-x.csv'\n\nUsage: ")),
-    (Dictc, "the same as a value", "user --dic s a --out -o", (2, "write './-o'\n\n")),
-    (Dictc, "controls", "user\u{1b} a\nb", (2, "dictc: unrecognized subcommand 'user\\u{1b}'")),
-    (Dictc, "a line feed", "user --a\nb", (2, "dictc: unexpected argument '--a\\nb' found\n")),
-    (Jseg, "the version", "--version", (0, "layouts read: 1, 2, 3; written: 3")),
-    (Jseg, "a code", "--explain L4", (0, "L4 BadSection\nMeaning: ")),
-    (Jseg, "memory", "--explain=Memory", (0, "Memory\nMeaning: ")),
-    (Jseg, "a code in lower case", "--explain l4", (0, "L4 BadSection\nMeaning: ")),
-    (Jseg, "a code of the library", "--explain k7", (0, "K7 ShortBuffer\nMeaning: ")),
-    (Jseg, "a name in lower case", "--explain notutf8", (0, "S1 NotUtf8\nMeaning: ")),
-    (Jseg, "a name of two codes", "--explain NotUtf8", (0, "\n\nG3 NotUtf8\nMeaning: ")),
-    (Jseg, "all codes", "--explain", (0, "\nG3 NotUtf8\nG4 TooLong\n")),
-    (Jseg, "a code of none", "--explain X9", (2, "jseg: no fault has the code or name 'X9'\n")),
-    (Jseg, "a near option", "--simple", (2, "'--sample'")),
-    (Jseg, "another near option", "--soures a", (2, "'--sources'")),
-    (Jseg, "controls", "--x\u{1b}[2J", (2, "jseg: unexpected argument '--x\\u{1b}[2J' found\n")),
-    (Jseg, "a line feed", "--a\nb", (2, "jseg: unexpected argument '--a\\nb' found\n")),
-    (Jseg, "one in a value", "--sample -M 7\n", (2, "jseg: invalid value '7\\n' for '-M <N>': ")),
-    (Jseg, "a tab in a code", "--explain L4\t", (2, "jseg: no fault has the code or name 'L4\\t'\n")),
-    (Jseg, "a file like an option", "-d -x.img", (2, "\n\n  tip: for the file '-x.img' write './-x.img'\n\n")),
-    (Jseg, "one beside an image", "--smple -d s.img", (2, "'--sample'")),
-    (Jseg, "a short option", "-q", (2, "jseg: unexpected argument '-q' found\n\nUsage: jseg ")),
+static COMMAND_LINES_THAT_END_AT_ONCE: [(&[Program], &str, &str, (u8, &str)); 32] = [
+    // (programs, what, words, (status, what is in the text))
+    (DICTC, "help", "--help", HELP),
+    (DICTC, "help for a system", "system --help", HELP),
+    (DICTC, "help for a user", "user --help", HELP),
+    (DICTC, "help for ids", "ids --help", HELP),
+    (BOTH, "the version", "--version", (0, "layouts read: 1, 2, 3; written: 3")),
+    (BOTH, "a code", "--explain L4", (0, "L4 BadSection\nMeaning: ")),
+    (BOTH, "memory", "--explain Memory", (0, "Memory\nMeaning: ")),
+    (BOTH, "memory, with =", "--explain=Memory", (0, "Memory\nMeaning: ")),
+    (BOTH, "a code in lower case", "--explain l4", (0, "L4 BadSection\nMeaning: ")),
+    (BOTH, "a code of the library", "--explain k7", (0, "K7 ShortBuffer\nMeaning: ")),
+    (BOTH, "a name in lower case", "--explain nosuchcategory", (0, "C4 NoSuchCategory\nMeaning: ")),
+    (BOTH, "another name", "--explain notutf8", (0, "S1 NotUtf8\nMeaning: ")),
+    (BOTH, "a name of two codes", "--explain NotUtf8", (0, "\n\nG3 NotUtf8\nMeaning: ")),
+    (BOTH, "all codes", "--explain", (0, "\nL4 BadSection\n")),
+    (BOTH, "all codes, those of texts", "--explain", (0, "\nG3 NotUtf8\nG4 TooLong\n")),
+    (DICTC, "a code of none", "--explain X9", (2, "dictc: no fault has the code or name 'X9'\n")),
+    (JSEG, "a code of none", "--explain X9", (2, "jseg: no fault has the code or name 'X9'\n")),
+    (DICTC, "a name that is near", "systen", (2, "'system'")),
+    (DICTC, "an option that is near", "system --matrx m", (2, "'--matrix'")),
+    (DICTC, "a file like an option", "user --dic s --out o -x.csv", (2, "write './-x.csv'\n\nUsage: ")),
+    (DICTC, "the same as a value", "user --dic s a --out -o", (2, "write './-o'\n\n")),
+    (DICTC, "controls", "user\u{1b} a\nb", (2, "dictc: unrecognized subcommand 'user\\u{1b}'")),
+    (DICTC, "a line feed", "user --a\nb", (2, "dictc: unexpected argument '--a\\nb' found\n")),
+    (JSEG, "a near option", "--simple", (2, "'--sample'")),
+    (JSEG, "another near option", "--soures a", (2, "'--sources'")),
+    (JSEG, "controls", "--x\u{1b}[2J", (2, "jseg: unexpected argument '--x\\u{1b}[2J' found\n")),
+    (JSEG, "a line feed", "--a\nb", (2, "jseg: unexpected argument '--a\\nb' found\n")),
+    (JSEG, "one in a value", "--sample -M 7\n", (2, "jseg: invalid value '7\\n' for '-M <N>': ")),
+    (JSEG, "a tab in a code", "--explain L4\t", (2, "jseg: no fault has the code or name 'L4\\t'\n")),
+    (JSEG, "a file like an option", "-d -x.img", (2, "\n\n  tip: for the file '-x.img' write './-x.img'\n\n")),
+    (JSEG, "one beside an image", "--smple -d s.img", (2, "'--sample'")),
+    (JSEG, "a short option", "-q", (2, "jseg: unexpected argument '-q' found\n\nUsage: jseg ")),
 ];
 
 #[test]
 fn command_lines_that_end_at_once(rt: HostRuntime) -> Result<(), Fail> {
-    expect_ends(&rt, &COMMAND_LINES_THAT_END_AT_ONCE)
+    for (programs, what, given, end) in &COMMAND_LINES_THAT_END_AT_ONCE {
+        assert!(rt; are_ended(rt.alloc(), programs, given, *end)?, "{what}");
+    }
+    Ok(())
 }
 
 /// A program, a name, and the words of a command line.

@@ -1,27 +1,33 @@
 //! Source directories that are read, and those that can't be.
 
-use crate::tests::{expect_in_directory, in_directory, new_directory, write_in};
+use crate::tests::{create_in, expect_in_directory, in_directory, write_in};
 use jseg_work::{Directory, read_directory};
 use programs::Fault;
 use std::test::Fail;
-use std::{fs, io};
 
-/// The files of a directory: (name, text, number where it is a source).
+/// The name of a file, its text, and its number where it is a source.
+type Source = (&'static str, &'static str, Option<u32>);
+
+/// The files of a directory.
 #[rattlefmt::skip]
-static SOURCE_DIRECTORY: [(&str, &str, Option<u32>); 8] = [
-    ("unk.def",    "unknown",    Some(2)),
-    ("b.csv",      "second",     Some(5)),
-    ("matrix.def", "1 1",        Some(0)),
-    ("char.def",   "categories", Some(1)),
-    ("dicrc",      "not read",   None),
-    ("a.csv",      "first",      Some(4)),
-    ("a.csv.bak",  "not read",   None),
-    (".csv",       "before",     Some(3)),
+static SOURCE_DIRECTORY: [(&str, Source); 8] = [
+    // (what, (name, text, number where it is a source))
+    ("unknown words",             ("unk.def",    "unknown",    Some(2))),
+    ("the last lexicon",          ("b.csv",      "second",     Some(5))),
+    ("connection costs",          ("matrix.def", "1 1",        Some(0))),
+    ("categories",                ("char.def",   "categories", Some(1))),
+    ("no source",                 ("dicrc",      "not read",   None)),
+    ("a lexicon",                 ("a.csv",      "first",      Some(4))),
+    ("a lexicon's name, and more", ("a.csv.bak",  "not read",   None)),
+    ("a name that is the ending", (".csv",       "before",     Some(3))),
 ];
 
-/// Whether the source of a number has this path and these bytes.
-fn is_source(directory: &Directory, number: u32, path: &str, text: &str) -> bool {
+/// Whether the file of a row has this path and these bytes, where it is a source.
+fn is_source(directory: &Directory, (_, text, number): &Source, path: &str) -> bool {
     let Directory { matrix, files } = directory;
+    let Some(number) = *number else {
+        return true;
+    };
     let bytes = match number {
         0 => matrix.as_slice(),
         1 => files.chars.bytes.as_slice(),
@@ -34,54 +40,33 @@ fn is_source(directory: &Directory, number: u32, path: &str, text: &str) -> bool
     files.path(number) == Some(path) && bytes == text.as_bytes()
 }
 
-/// The name of the first row that is another source.
-fn first_wrong(
-    rt: &HostRuntime,
-    dir: &str,
-    directory: &Directory,
-) -> io::Result<Option<&'static str>> {
-    for (name, text, number) in &SOURCE_DIRECTORY {
-        if let Some(number) = *number {
-            let path = in_directory(rt, dir, name)?;
-            if !is_source(directory, number, path.as_str(), text) {
-                return Ok(Some(*name));
-            }
-        }
-    }
-    Ok(None)
-}
-
 /// Makes the files of a directory.
-fn make_sources(rt: &HostRuntime, dir: &str) -> io::Result<()> {
-    for (name, text, _) in &SOURCE_DIRECTORY {
+fn make_sources(rt: &HostRuntime, dir: &str) -> Result<(), Fail> {
+    for (_, (name, text, _)) in &SOURCE_DIRECTORY {
         write_in(rt, dir, name, text.as_bytes())?;
     }
     Ok(())
 }
 
-/// What is wrong of the directory's sources, of which three are lexicons.
-fn wrong_source(rt: &HostRuntime, dir: &str) -> io::Result<Option<&'static str>> {
-    match &read_directory(rt, dir) {
-        Ok(directory) if directory.files.lexicons.len() == 3 => first_wrong(rt, dir, directory),
-        Ok(_) => Ok(Some("other lexicons")),
-        Err(_) => Ok(Some("the directory is not read")),
-    }
+/// Whether a directory is read, three of its files are lexicons, and this one is its source.
+fn has_source(rt: &HostRuntime, dir: &str, source: &Source) -> Result<bool, Fail> {
+    let path = in_directory(rt, dir, source.0)?;
+    Ok(match &read_directory(rt, dir) {
+        Ok(directory) if directory.files.lexicons.len() == 3 => {
+            is_source(directory, source, path.as_str())
+        }
+        _ => false,
+    })
 }
 
 #[test]
 fn source_directories(rt: HostRuntime) -> Result<(), Fail> {
-    let dir = new_directory(&rt, "sources")?;
-    make_sources(&rt, dir.as_str())?;
-    let wrong = wrong_source(&rt, dir.as_str())?;
-    fs::remove_dir_all(&rt, dir.as_str())?;
-    assert_eq!(rt; wrong, None);
-    Ok(())
+    expect_in_directory(&rt, "sources", make_sources, &SOURCE_DIRECTORY, has_source)
 }
 
 /// Makes a folder that has the name of a lexicon.
 fn make_folder(rt: &HostRuntime, dir: &str) -> Result<(), Fail> {
-    let folder = in_directory(rt, dir, "a.csv")?;
-    fs::create_dir(rt, folder.as_str())?;
+    create_in(rt, dir, "a.csv")?;
     Ok(())
 }
 

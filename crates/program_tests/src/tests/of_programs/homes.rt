@@ -1,11 +1,10 @@
 //! Where images live, and which of them stand there.
 
-use crate::tests::{new_directory, write_in};
+use crate::tests::{create_in, expect_in_directory, in_directory, write_in};
 use programs::{Surroundings, image_in, image_names, in_byte_order, prefix_of, told_names};
 use std::alloc::{AllocError, Global};
 use std::string::String;
 use std::test::Fail;
-use std::{fs, io};
 use test_words::{joined, words};
 
 /// A text of its own, where there is one.
@@ -106,25 +105,31 @@ static NAMES: [&str; 9] = [
     "b.img", "B.img", "a.img", "é.img", "a.b.img", "a", "a.dicrc", "img", ".img",
 ];
 
-/// Makes files of these names in a folder.
-fn make_images(rt: &HostRuntime, dir: &str) -> io::Result<()> {
+/// Makes files of these names in a directory, and a folder that has the name of an image.
+fn make_images(rt: &HostRuntime, dir: &str) -> Result<(), Fail> {
     for name in &NAMES {
         write_in(rt, dir, name, b"x")?;
     }
+    create_in(rt, dir, "folder.img")?;
     Ok(())
 }
 
+/// A folder of a directory, and the names of the images there.
+type Listed = (&'static str, &'static str);
+
 /// Whether these are the names of the images in a folder.
-fn has_images(rt: &HostRuntime, folder: &str, names: &str) -> Result<bool, AllocError> {
-    Ok(image_names(rt, folder)? == words(rt.alloc(), names)?)
+fn has_images(rt: &HostRuntime, dir: &str, (folder, names): &Listed) -> Result<bool, Fail> {
+    let path = in_directory(rt, dir, folder)?;
+    Ok(image_names(rt, path.as_str())? == words(rt.alloc(), names)?)
 }
 
-/// Whether the names are those of the images, and not of a folder in which there are none.
-fn are_listed(rt: &HostRuntime, dir: &str) -> io::Result<bool> {
-    let folder = image_in(rt.alloc(), dir, "folder")?;
-    fs::create_dir(rt, folder.as_str())?;
-    Ok(has_images(rt, dir, "B a a.b b é")? && has_images(rt, folder.as_str(), "")?)
-}
+#[rattlefmt::skip]
+static LISTED: [(&str, Listed); 3] = [
+    // (what, (a folder, the names of the images there))
+    ("the directory",           (".",          "B a a.b b é")),
+    ("a folder without images", ("folder.img", "")),
+    ("no folder",               ("other.img",  "")),
+];
 
 /// Whether names are put in this order.
 fn is_order(alloc: Global, names: &str, ordered: &str) -> Result<bool, AllocError> {
@@ -133,12 +138,7 @@ fn is_order(alloc: Global, names: &str, ordered: &str) -> Result<bool, AllocErro
 
 #[test]
 fn names_in_a_folder(rt: HostRuntime) -> Result<(), Fail> {
-    let dir = new_directory(&rt, "homes")?;
-    make_images(&rt, dir.as_str())?;
-    let are_listed = are_listed(&rt, dir.as_str())?;
-    fs::remove_dir_all(&rt, dir.as_str())?;
-    assert!(rt; are_listed);
-    assert!(rt; has_images(&rt, dir.as_str(), "")?, "gone");
+    expect_in_directory(&rt, "homes", make_images, &LISTED, has_images)?;
     assert!(rt; is_order(rt.alloc(), "é b a B a", "B a a b é")?);
     Ok(())
 }

@@ -2,7 +2,9 @@
 
 use super::failing_files::FailingFiles;
 use super::names_in;
-use crate::tests::{expect_in_directory, in_directory, new_directory, no_files, write_in};
+use crate::tests::{
+    create_in, expect_in_directory, in_directory, new_directory, no_files, write_in,
+};
 use programs::{Fault, write_as, write_file};
 use std::alloc::{AllocError, Global};
 use std::fs::{self, Permissions};
@@ -119,17 +121,17 @@ const NEW_0: &str = ".kumquatsieve.7.0.new";
 const NEW_1: &str = ".kumquatsieve.7.1.new";
 
 /// Makes a file and a directory of the first two names.
-fn take_names(rt: &HostRuntime, dir: &str) -> io::Result<()> {
+fn take_names(rt: &HostRuntime, dir: &str) -> Result<(), Fail> {
     write_in(rt, dir, NEW_0, b"of another run")?;
-    let path = in_directory(rt, dir, NEW_1)?;
-    fs::create_dir(rt, path.as_str())
+    create_in(rt, dir, NEW_1)?;
+    Ok(())
 }
 
-/// Whether a file is written beside these, which stay.
-fn is_written_beside(rt: &HostRuntime, dir: &str) -> io::Result<bool> {
+/// Whether a file of these bytes is written beside these, which stay.
+fn is_written_beside(rt: &HostRuntime, dir: &str, bytes: &&'static [u8]) -> Result<bool, Fail> {
     let path = file_in(rt, dir)?;
-    let written = write_as(rt, 7, path.as_str(), b"new").is_ok();
-    Ok(written && has_bytes(rt, path.as_str(), b"new")? && are_kept(rt, dir)?)
+    let written = write_as(rt, 7, path.as_str(), bytes).is_ok();
+    Ok(written && has_bytes(rt, path.as_str(), bytes)? && are_kept(rt, dir)?)
 }
 
 /// Whether the file of the first name has its bytes, and there are three names.
@@ -138,14 +140,11 @@ fn are_kept(rt: &HostRuntime, dir: &str) -> io::Result<bool> {
     Ok(has_bytes(rt, first.as_str(), b"of another run")? && names_in(rt, dir)? == 3)
 }
 
+static BESIDE: [(&str, &[u8]); 1] = [("beside names that are taken", b"new")];
+
 #[test]
 fn names_that_are_taken(rt: HostRuntime) -> Result<(), Fail> {
-    let dir = new_directory(&rt, "taken")?;
-    take_names(&rt, dir.as_str())?;
-    let is_written = is_written_beside(&rt, dir.as_str())?;
-    fs::remove_dir_all(&rt, dir.as_str())?;
-    assert!(rt; is_written);
-    Ok(())
+    expect_in_directory(&rt, "taken", take_names, &BESIDE, is_written_beside)
 }
 
 /// Whether files of a name of so many bytes are written, one in the place of the other.

@@ -36,38 +36,39 @@ fn written(
 }
 
 /// How many empty lines there are, how many letters each prints, the bytes in all, and those of the longest write.
-type Row = (usize, usize, usize, usize);
+type Pieces = (usize, usize, usize, usize);
 
 /// Asks for what is written of empty lines.
 fn expect_pieces(
     rt: &(impl Abort + Alloc<A = Global>),
     dictionaries: &Dictionaries<'_>,
-    (lines, count, all, longest): Row,
+    what: &str,
+    (lines, count, all, longest): Pieces,
 ) -> Result<(), Fail> {
     let format = letters_format(rt.alloc(), count)?;
     let (answer, out) = written(rt.alloc(), dictionaries, &format, lines)?;
-    assert!(rt; answer == Ok(lines as u64), "{lines}");
-    assert_eq!(rt; out.taken.len(), all, "{lines}");
-    assert_eq!(rt; out.longest, longest, "{lines}");
+    assert!(rt; answer == Ok(lines as u64), "{what}");
+    assert_eq!(rt; out.taken.len(), all, "{what}");
+    assert_eq!(rt; out.longest, longest, "{what}");
     Ok(())
 }
 
 #[rattlefmt::skip]
-static PIECES: [Row; 5] = [
-    // (empty lines, letters that each prints, bytes in all, bytes of the longest write)
-    (5,     1_000,      5_005,      5_005),
-    (1_047, 1_000,      1_048_047,  1_048_047),
-    (5_000, 1_000,      5_005_000,  1_049_048),
-    (100,   131_000,    13_100_100, 1_179_009),
-    (3,     OUTPUT_MAX, 3_145_731,  1_048_577),
+static PIECES: [(&str, Pieces); 5] = [
+    // (what, (empty lines, letters that each prints, bytes in all, bytes of the longest write))
+    ("a few lines",             (5,     1_000,      5_005,      5_005)),
+    ("all that is held",        (1_047, 1_000,      1_048_047,  1_048_047)),
+    ("more than that",          (5_000, 1_000,      5_005_000,  1_049_048)),
+    ("longer lines",            (100,   131_000,    13_100_100, 1_179_009)),
+    ("each line more than that", (3,     OUTPUT_MAX, 3_145_731,  1_048_577)),
 ];
 
 #[test]
 fn written_in_pieces(rt: HostRuntime) -> Result<(), Fail> {
     let dict = system_dict(rt.alloc(), &sample())?;
     let dictionaries = overlay(&dict, &[])?;
-    for row in &PIECES {
-        expect_pieces(&rt, &dictionaries, *row)?;
+    for (what, pieces) in &PIECES {
+        expect_pieces(&rt, &dictionaries, what, *pieces)?;
     }
     Ok(())
 }
