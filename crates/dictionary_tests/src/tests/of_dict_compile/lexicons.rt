@@ -25,6 +25,16 @@ static SUMOMO: [(&str, &[Expected]); 8] = [
 /// What a dictionary has: how many entries, how many skipped lines, and whether these are the entries of a key.
 type Answer = (u64, u128, bool);
 
+/// Whether these are the entries of a key in the dictionary of an image.
+fn has_entries(
+    alloc: Global,
+    image: Vec<u8>,
+    key: &str,
+    entries: &[Expected],
+) -> Result<bool, Fail> {
+    Ok(are_entries(&dict_of(alloc, image)?, key, entries))
+}
+
 /// What the dictionary of sources has.
 fn answer(
     alloc: Global,
@@ -34,23 +44,32 @@ fn answer(
 ) -> Result<Answer, Fail> {
     let compiled = compiled_of(alloc, sources)?;
     let (count, skipped) = (compiled.entries, compiled.skipped);
-    let dict = dict_of(alloc, compiled.image)?;
-    Ok((count, skipped, are_entries(&dict, key, entries)))
+    let has_entries = has_entries(alloc, compiled.image, key, entries)?;
+    Ok((count, skipped, has_entries))
+}
+
+/// Whether a dictionary is a system with the sample's sizes.
+fn is_system(dict: &Dict) -> bool {
+    !dict.is_user() && dict.matrix_sizes() == MatrixSizes { right: 2, left: 2 }
 }
 
 /// Asks for the entries of the sample's keys.
 fn expect_sumomo(rt: &impl Abort, dict: &Dict) {
-    let sizes = MatrixSizes { right: 2, left: 2 };
-    assert!(rt; !dict.is_user() && dict.matrix_sizes() == sizes);
+    assert!(rt; is_system(dict));
     for (key, entries) in &SUMOMO {
         assert!(rt; are_entries(dict, key, entries), "{key}");
     }
 }
 
+/// Whether the sample has three entries and no skipped line.
+fn are_three(alloc: Global) -> Result<bool, Fail> {
+    let compiled = compiled_of(alloc, &sample())?;
+    Ok((compiled.entries, compiled.skipped) == (3, 0))
+}
+
 #[test]
 fn sumomo(rt: HostRuntime) -> Result<(), Fail> {
-    let counted = answer(rt.alloc(), &sample(), "", NONE)?;
-    assert!(rt; counted == (3, 0, true));
+    assert!(rt; are_three(rt.alloc())?);
     expect_sumomo(&rt, &sample_dict(rt.alloc())?);
     Ok(())
 }
