@@ -56,7 +56,8 @@ fn entries_of(bytes: &[u8]) -> u32
     ensures { header_length ≤ length bytes.now → result ≡ (header_of bytes.now).tokens }
 {
     if bytes.len() < HEADER_LENGTH {
-        return 0;
+        0
+    } else {
+        read_header(bytes).tokens
     }
-    read_header(bytes).tokens
 }
