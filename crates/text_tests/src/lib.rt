@@ -1,5 +1,5 @@
-//! Tests of texts that are cut: the words of a place, lattices and best paths, formats, runs, and the library that cuts lines in process. Nothing
-//! else stands here: a crate with tests is proved once with them and once without.
+//! Tests of texts that are cut: formats, runs, and the library that cuts lines in process. Nothing else stands here: a crate with tests is
+//! proved once with them and once without.
 #![tactic(auto)]
 
 #[cfg(test)]

@@ -1,9 +1,0 @@
-use Rattle.std.proofs.Common.{◌≤◌, ◌^◌, arith}
-use Rattle.text_tests.proofs.SampleLemmas.{sample_is_searchable}
-use Rattle.text_tests.proofs.tests.of_lattice.fill.Goals as goal
-
-pub fill-requires : goal.fill-requires
-fill-requires c =
-    let sample = c.in_ok-sample.sample in
-    let short : sample.length ≤ 2 ^ 20 = omega (arith, c.in_ok-sample.ensures) in
-    sample_is_searchable sample.words.items sample.length short
