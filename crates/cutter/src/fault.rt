@@ -5,45 +5,35 @@ ghost use Rattle.cutter.specs.FaultWords.{cut_words, told_of_image, told_of_line
 ghost use Rattle.cutter.specs.declared.fault.CutFault.TheVariants.{Overlay, Memory};
 
 use line_stream::{LineError, LineFault};
-use mj_model::{FormatFault, ImageFault, NamedFault, OverlayFault};
+use mj_model::{FormatFault, ImageFault, NamedFault, OverlayFault, write_numbered, write_words};
 use std::alloc::{AllocError, AllocFailed};
+use std::fmt::{self, Display, Formatter, Write};
 use thiserror::Error;
 
 /// Why a call of a cutter is refused. Places are byte offsets into the line, and words are counted from 0.
 #[derive(Clone, Copy, Debug, PartialEq, Eq, Drop, Error)]
 pub enum CutFault {
     /// The image of a dictionary is refused, other than for want of memory.
-    #[error("{0}")]
     Image(ImageFault),
     /// The dictionary doesn't go over the others.
-    #[error("{0}")]
     Overlay(OverlayFault),
     /// The texts are no format, other than for want of memory.
-    #[error("{0}")]
     Format(FormatFault),
     /// The text is not UTF-8.
-    #[error("{} {}", self.code(), self.name())]
     NotUtf8,
     /// The text has more than `SENTENCE_MAX` bytes.
-    #[error("{} {}", self.code(), self.name())]
     TooLong,
     /// The first LF of what was to be one line stands here.
-    #[error("{} {} {}", self.code(), self.name(), .0)]
     LineFeed(usize),
     /// Nothing was cut since the cutter was made, or since its dictionaries or its grouping changed.
-    #[error("{} {}", self.code(), self.name())]
     NothingCut,
     /// Another cutter shares the dictionaries.
-    #[error("{} {}", self.code(), self.name())]
     Shared,
     /// A grouping of more than `GROUPING_MAX` characters.
-    #[error("{} {}", self.code(), self.name())]
     BadGrouping,
     /// The path that was cut last has no word of this number.
-    #[error("{} {} {}", self.code(), self.name(), .0)]
     NoWord(usize),
     /// Memory was refused.
-    #[error("{}", self.name())]
     Memory,
 }
 
@@ -116,6 +106,20 @@ impl From<OverlayFault> for CutFault {
 
     fn from(fault: OverlayFault) -> CutFault {
         CutFault::Overlay(fault)
+    }
+}
+
+impl Display for CutFault {
+    fn fmt<W: Write>(&self, f: &mut Formatter<W>) -> fmt::Result {
+        match *self {
+            CutFault::Image(fault) => fault.fmt(f),
+            CutFault::Overlay(fault) => fault.fmt(f),
+            CutFault::Format(fault) => fault.fmt(f),
+            CutFault::LineFeed(number) | CutFault::NoWord(number) => {
+                write_numbered(*self, number, f)
+            }
+            _ => write_words(*self, f),
+        }
     }
 }
 

@@ -4,17 +4,16 @@ ghost use Rattle.std.specs.Prelude.{◌≡◌};
 ghost use Rattle.dict_compile.specs.Faults.{fault_of_image, user_words};
 ghost use Rattle.dict_compile.specs.declared.fault.CompileUserFault.TheVariants.{Source};
 
-use mj_model::{NO_FILE, NamedFault, SourceFault, SourceKind};
+use mj_model::{NO_FILE, NamedFault, SourceFault, SourceKind, write_words};
+use std::fmt::{self, Display, Formatter, Write};
 use thiserror::Error;
 
 /// Why a user dictionary isn't compiled.
 #[derive(Clone, Copy, Debug, PartialEq, Eq, Drop, Error)]
 pub enum CompileUserFault {
     /// The dictionary that it was to be compiled for is a user dictionary itself.
-    #[error("{} {}", self.code(), self.name())]
     NotSystem,
     /// Its lexicons are refused.
-    #[error("{0}")]
     Source(SourceFault),
 }
 
@@ -33,6 +32,15 @@ impl NamedFault for CompileUserFault {
         match self {
             CompileUserFault::NotSystem => ("O1", "NotSystem"),
             CompileUserFault::Source(fault) => fault.words(),
+        }
+    }
+}
+
+impl Display for CompileUserFault {
+    fn fmt<W: Write>(&self, f: &mut Formatter<W>) -> fmt::Result {
+        match *self {
+            CompileUserFault::NotSystem => write_words(*self, f),
+            CompileUserFault::Source(fault) => fault.fmt(f),
         }
     }
 }

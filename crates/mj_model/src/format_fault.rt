@@ -4,8 +4,9 @@ ghost use Rattle.std.specs.Prelude.{◌≡◌};
 ghost use Rattle.mj_model.specs.FaultWords.{format_words};
 ghost use Rattle.mj_model.specs.declared.format_fault.FormatFault.TheVariants.{Memory};
 
-use crate::named_fault::NamedFault;
+use crate::named_fault::{NamedFault, write_numbered, write_words};
 use std::alloc::{AllocError, AllocFailed};
+use std::fmt::{self, Display, Formatter, Write};
 use thiserror::Error;
 
 /// One of the four texts of an output format.
@@ -35,14 +36,12 @@ pub enum FormatKind {
 /// Why there is no format. `at` is the byte of the `%` or backslash in its part, counted from 0.
 #[derive(Clone, Copy, Debug, PartialEq, Eq, Drop, Error)]
 pub enum FormatFault {
-    #[error("{} {} {at}", self.code(), self.name())]
     Bad {
         part: FormatPart,
         at: usize,
         kind: FormatKind,
     },
     /// Memory was refused.
-    #[error("{}", self.name())]
     Memory,
 }
 
@@ -64,6 +63,15 @@ impl NamedFault for FormatFault {
                 ..
             } => ("P3", "BadIndex"),
             FormatFault::Memory => ("Memory", "Memory"),
+        }
+    }
+}
+
+impl Display for FormatFault {
+    fn fmt<W: Write>(&self, f: &mut Formatter<W>) -> fmt::Result {
+        match *self {
+            FormatFault::Bad { at, .. } => write_numbered(*self, at, f),
+            FormatFault::Memory => write_words(*self, f),
         }
     }
 }

@@ -4,39 +4,31 @@ ghost use Rattle.std.specs.Prelude.{◌≡◌};
 ghost use Rattle.mj_model.specs.ImageFaultWords.{image_words};
 ghost use Rattle.mj_model.specs.declared.image_fault.ImageFault.TheVariants.{Memory};
 
-use crate::named_fault::NamedFault;
+use crate::named_fault::{NamedFault, write_numbered, write_words};
 use std::alloc::{AllocError, AllocFailed};
+use std::fmt::{self, Display, Formatter, Write};
 use thiserror::Error;
 
 /// Why an image is refused. Sections are counted from 1; keys and tokens from 0, and the least bad one is told.
 #[derive(Clone, Copy, Debug, PartialEq, Eq, Drop, Error)]
 pub enum ImageFault {
     /// Fewer bytes than the header, or than it demands.
-    #[error("{} {}", self.code(), self.name())]
     Truncated,
     /// The first 8 bytes are not those of an image.
-    #[error("{} {}", self.code(), self.name())]
     BadMagic,
     /// A layout that is not read here.
-    #[error("{} {} {}", self.code(), self.name(), .0)]
     BadLayout(u32),
     /// This section breaks its rule. Section 0 is the header, 9 what stands behind the last section.
-    #[error("{} {} {}", self.code(), self.name(), .0)]
     BadSection(u8),
     /// This group has no key that is UTF-8 of 1 to `SURFACE_MAX` bytes.
-    #[error("{} {} {}", self.code(), self.name(), .0)]
     BadKey(u32),
     /// An id of this token lies outside the connection table, or its two spare bytes are not 0.
-    #[error("{} {} {}", self.code(), self.name(), .0)]
     BadToken(u32),
     /// The feature of this token lies outside the features, or is not UTF-8.
-    #[error("{} {} {}", self.code(), self.name(), .0)]
     BadText(u32),
     /// The digest at the end is not that of the bytes before it.
-    #[error("{} {}", self.code(), self.name())]
     Digest,
     /// Memory was refused.
-    #[error("{}", self.name())]
     Memory,
 }
 
@@ -54,6 +46,19 @@ impl NamedFault for ImageFault {
             ImageFault::BadText(_) => ("L7", "BadText"),
             ImageFault::Digest => ("L8", "Digest"),
             ImageFault::Memory => ("Memory", "Memory"),
+        }
+    }
+}
+
+impl Display for ImageFault {
+    fn fmt<W: Write>(&self, f: &mut Formatter<W>) -> fmt::Result {
+        match *self {
+            ImageFault::BadSection(section) => write_numbered(*self, section, f),
+            ImageFault::BadLayout(number)
+            | ImageFault::BadKey(number)
+            | ImageFault::BadToken(number)
+            | ImageFault::BadText(number) => write_numbered(*self, number, f),
+            _ => write_words(*self, f),
         }
     }
 }

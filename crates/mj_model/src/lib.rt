@@ -32,7 +32,7 @@ pub use limits::{
     SURFACE_MAX,
 };
 pub use matrix_sizes::MatrixSizes;
-pub use named_fault::NamedFault;
+pub use named_fault::{NamedFault, write_numbered, write_words};
 pub use overlay_fault::OverlayFault;
 pub use run_fault::RunFault;
 pub use sample_sources::sample;

@@ -3,6 +3,8 @@
 ghost use Rattle.std.specs.Prelude.{◌≡◌};
 ghost use Rattle.mj_model.specs.FaultWords.{Words};
 
+use std::fmt::{self, Display, Formatter, Write};
+
 /// A fault with a short code and a name. Codes and names are this project's own choice.
 pub trait NamedFault: Copy {
     /// Its code and its name.
@@ -26,4 +28,24 @@ pub trait NamedFault: Copy {
     {
         self.words().1
     }
+}
+
+/// Writes a fault as it is told: its code and its name, or the name alone where memory was refused.
+pub fn write_words<T: NamedFault, W: Write>(fault: T, f: &mut Formatter<W>) -> fmt::Result {
+    let (code, name) = fault.words();
+    if code != name {
+        f.write_str(code)?;
+        f.write_str(" ")?;
+    }
+    f.write_str(name)
+}
+
+/// Writes a fault with the number that stands behind its code and its name.
+pub fn write_numbered<T: NamedFault, N: Display + Drop, W: Write>(
+    fault: T,
+    number: N,
+    f: &mut Formatter<W>,
+) -> fmt::Result {
+    write_words(fault, f)?;
+    write!(f, " {number}")
 }

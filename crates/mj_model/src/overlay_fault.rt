@@ -2,20 +2,18 @@
 
 ghost use Rattle.mj_model.specs.ImageFaultWords.{overlay_words};
 
-use crate::named_fault::NamedFault;
+use crate::named_fault::{NamedFault, write_numbered, write_words};
+use std::fmt::{self, Display, Formatter, Write};
 use thiserror::Error;
 
 /// Why dictionaries make no overlay. User dictionaries are counted from 0, in the order given.
 #[derive(Clone, Copy, Debug, PartialEq, Eq, Drop, Error)]
 pub enum OverlayFault {
     /// The first dictionary is not a system dictionary.
-    #[error("{} {}", self.code(), self.name())]
     NotSystem,
     /// This one is not a user dictionary.
-    #[error("{} {} {}", self.code(), self.name(), .0)]
     NotUser(usize),
     /// This one was made for another connection table's sizes.
-    #[error("{} {} {}", self.code(), self.name(), .0)]
     OtherSizes(usize),
 }
 
@@ -27,6 +25,17 @@ impl NamedFault for OverlayFault {
             OverlayFault::NotSystem => ("O1", "NotSystem"),
             OverlayFault::NotUser(_) => ("O2", "NotUser"),
             OverlayFault::OtherSizes(_) => ("O3", "OtherSizes"),
+        }
+    }
+}
+
+impl Display for OverlayFault {
+    fn fmt<W: Write>(&self, f: &mut Formatter<W>) -> fmt::Result {
+        match *self {
+            OverlayFault::NotSystem => write_words(*self, f),
+            OverlayFault::NotUser(user) | OverlayFault::OtherSizes(user) => {
+                write_numbered(*self, user, f)
+            }
         }
     }
 }

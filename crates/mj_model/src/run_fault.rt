@@ -2,36 +2,29 @@
 
 ghost use Rattle.mj_model.specs.FaultWords.{run_words};
 
-use crate::named_fault::NamedFault;
+use crate::named_fault::{NamedFault, write_numbered, write_words};
 use crate::source_fault::SourceFault;
+use std::fmt::{self, Display, Formatter, Write};
 use thiserror::Error;
 
 /// Why a run over a text ended before its end. Lines of text are counted from 1.
 #[derive(Clone, Copy, Debug, PartialEq, Eq, Drop, Error)]
 pub enum RunFault {
     /// The sources are refused, and nothing was read.
-    #[error("{0}")]
     Source(SourceFault),
     /// The lexicons of this user dictionary, counted from 0, are refused, and nothing was read.
-    #[error("{1}")]
     UserSource(usize, SourceFault),
     /// A read failed; the number is that of the lines read whole and one.
-    #[error("line {}: {} {}", .0, self.code(), self.name())]
     Read(u64),
     /// A write or a flush failed, or a write took no byte; the number is that of the bytes taken before.
-    #[error("{} {} {}", self.code(), self.name(), .0)]
     Write(u128),
     /// This line is not UTF-8.
-    #[error("line {}: {} {}", .0, self.code(), self.name())]
     NotUtf8(u64),
     /// This line has more than `SENTENCE_MAX` bytes.
-    #[error("line {}: {} {}", .0, self.code(), self.name())]
     TooLong(u64),
     /// `READS_MAX` reads came to no end; the number is that of the lines read whole and one.
-    #[error("line {}: {} {}", .0, self.code(), self.name())]
     InputTooLong(u64),
     /// Memory was refused; the number is that of the lines written whole and one, and 0 before the first read.
-    #[error("{}", self.name())]
     Memory(u64),
 }
 
@@ -47,6 +40,23 @@ impl NamedFault for RunFault {
             RunFault::TooLong(_) => ("G4", "TooLong"),
             RunFault::InputTooLong(_) => ("G5", "InputTooLong"),
             RunFault::Memory(_) => ("Memory", "Memory"),
+        }
+    }
+}
+
+impl Display for RunFault {
+    fn fmt<W: Write>(&self, f: &mut Formatter<W>) -> fmt::Result {
+        match *self {
+            RunFault::Source(fault) | RunFault::UserSource(_, fault) => fault.fmt(f),
+            RunFault::Read(line)
+            | RunFault::NotUtf8(line)
+            | RunFault::TooLong(line)
+            | RunFault::InputTooLong(line) => {
+                write!(f, "line {line}: ")?;
+                write_words(*self, f)
+            }
+            RunFault::Write(taken) => write_numbered(*self, taken, f),
+            RunFault::Memory(_) => write_words(*self, f),
         }
     }
 }

@@ -4,8 +4,9 @@ ghost use Rattle.std.specs.Prelude.{◌≡◌};
 ghost use Rattle.mj_model.specs.FaultWords.{source_words};
 ghost use Rattle.mj_model.specs.declared.source_fault.SourceKind.TheVariants.{Memory};
 
-use crate::named_fault::NamedFault;
+use crate::named_fault::{NamedFault, write_numbered, write_words};
 use std::alloc::{AllocError, AllocFailed};
+use std::fmt::{self, Display, Formatter, Write};
 use thiserror::Error;
 
 /// The number of `matrix.def` among the files of sources.
@@ -30,70 +31,48 @@ pub const NO_FILE: u32 = u32::MAX;
 #[derive(Clone, Copy, Debug, PartialEq, Eq, Drop, Error)]
 pub enum SourceKind {
     /// A line of a lexicon or of `unk.def` is not UTF-8.
-    #[error("{} {}", self.code(), self.name())]
     NotUtf8,
     /// No comma ends the fourth field.
-    #[error("{} {}", self.code(), self.name())]
     TooFewFields,
     /// An id is no number from 0 to 65,535, or the cost none from -32,768 to 32,767.
-    #[error("{} {}", self.code(), self.name())]
     BadNumber,
     /// A surface of more than `SURFACE_MAX` bytes.
-    #[error("{} {}", self.code(), self.name())]
     SurfaceTooLong,
     /// More than `ENTRIES_MAX` entries.
-    #[error("{} {}", self.code(), self.name())]
     TooManyEntries,
     /// The first line of `matrix.def` is not two numbers from 1 to 65,535; line 0 where no line is there.
-    #[error("{} {}", self.code(), self.name())]
     BadHeader,
     /// A further line of `matrix.def` is not two ids and a cost.
-    #[error("{} {}", self.code(), self.name())]
     BadRow,
     /// A row's ids lie outside the sizes.
-    #[error("{} {}", self.code(), self.name())]
     PairOutside,
     /// The product of the sizes is above `MATRIX_CELLS_MAX`.
-    #[error("{} {}", self.code(), self.name())]
     TooLarge,
     /// Too few words, a bad number or a bad name.
-    #[error("{} {}", self.code(), self.name())]
     BadLine,
     /// Code points that are no range from U+0000 to U+10FFFF.
-    #[error("{} {}", self.code(), self.name())]
     BadRange,
     /// A category that is defined already.
-    #[error("{} {}", self.code(), self.name())]
     Twice,
     /// A mapping names a category that `char.def` does not define.
-    #[error("{} {}", self.code(), self.name())]
     UndefinedCategory,
     /// More than `CATEGORIES_MAX` categories.
-    #[error("{} {}", self.code(), self.name())]
     TooManyCategories,
     /// `char.def` does not define DEFAULT.
-    #[error("{} {}", self.code(), self.name())]
     NoDefault,
     /// `char.def` does not define SPACE.
-    #[error("{} {}", self.code(), self.name())]
     NoSpace,
     /// A line of `unk.def` names no category of `char.def`.
-    #[error("{} {}", self.code(), self.name())]
     NoSuchCategory,
     /// This category, the least such, has no line in `unk.def`.
-    #[error("{} {} {}", self.code(), self.name(), .0)]
     MissingCategory(u8),
     /// An id of a lexicon or of `unk.def` lies outside the connection table.
-    #[error("{} {}", self.code(), self.name())]
     IdOutside,
     /// The key index of an image has no room left.
-    #[error("{} {}", self.code(), self.name())]
     ArrayFull,
     /// The features of an image have 2^32 bytes or more.
-    #[error("{} {}", self.code(), self.name())]
     FeaturesTooLarge,
     /// Memory was refused.
-    #[error("{}", self.name())]
     Memory,
 }
 
@@ -137,6 +116,15 @@ impl NamedFault for SourceKind {
             SourceKind::ArrayFull => ("I2", "ArrayFull"),
             SourceKind::FeaturesTooLarge => ("I3", "FeaturesTooLarge"),
             SourceKind::Memory => ("Memory", "Memory"),
+        }
+    }
+}
+
+impl Display for SourceKind {
+    fn fmt<W: Write>(&self, f: &mut Formatter<W>) -> fmt::Result {
+        match *self {
+            SourceKind::MissingCategory(category) => write_numbered(*self, category, f),
+            _ => write_words(*self, f),
         }
     }
 }
