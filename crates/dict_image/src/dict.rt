@@ -85,6 +85,13 @@ impl Dict {
         self.header().sizes
     }
 
+    /// How many entries its lexicon has. Their numbers begin at 0, and those of unknown words stand after them.
+    pub fn entry_count(&self) -> u32
+        ensures { result ≡ (header_of self.now).tokens }
+    {
+        self.header().tokens
+    }
+
     /// The entry of a number. `EntryRef::token` of each entry that `entries`, `prefixes` or `unknown` answers is such a number.
     pub fn token(&self, i: u32) -> EntryRef<'_>
         requires { i < all_tokens (header_of self.now) }

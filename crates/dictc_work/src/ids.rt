@@ -1,6 +1,6 @@
 //! `dictc ids`: which ids and word costs a dictionary's entries of a part of speech have.
 
-mod counted_dict;
+mod listing;
 mod pair_row;
 mod pair_rows;
 mod telling;

@@ -1,21 +1,15 @@
 //! The rows of `dictc ids` on standard output.
 
-ghost use Rattle.std.specs.Prelude.{IfErr, IfOk};
-ghost use Rattle.programs.specs.Faults.{NamesFileOrImage};
-ghost use Rattle.programs.specs.ImageHeads.{IsLoadRefusal};
-ghost use Rattle.programs.specs.Reading.{AreOfAFile};
-
-use super::counted_dict::CountedDict;
+use super::listing::append_entries;
 use super::pair_row::PairRow;
 use super::pair_rows::rows_of_pairs;
 use super::template::Template;
 use command_lines::dictc::IdsOptions;
 use dict_image::{Dict, DigestTest};
 use mj_model::OverlayFault;
-use programs::{Fault, ImageFile, Narrator, Progress, Stage, image_at, write_whole};
+use programs::{Fault, Narrator, Stage, dictionary_at, write_whole};
 use std::alloc::{AllocError, Global};
 use std::io::{self, Write};
-use std::rt::Files;
 use std::slice;
 use std::string::String;
 use word_lookup::Dictionaries;
@@ -48,7 +42,7 @@ fn rows_asked(
     narrator: &Narrator<'_>,
 ) -> Result<Vec<PairRow>, Fault> {
     let digest = DigestTest::skipped_if(options.skip_digest);
-    let system = dictionary_at(rt, options.dic.as_str(), digest, narrator)?;
+    let system = loaded_at(rt, options.dic.as_str(), digest, narrator)?;
     rows_beside(rt, options, &system, narrator)
 }
 
@@ -56,25 +50,25 @@ fn rows_asked(
 fn rows_beside(
     rt: &HostRuntime,
     options: &IdsOptions,
-    system: &CountedDict,
+    system: &Dict,
     narrator: &Narrator<'_>,
 ) -> Result<Vec<PairRow>, Fault> {
     let digest = DigestTest::skipped_if(options.skip_digest);
-    let users = dictionaries_at(rt, &options.users, digest, narrator)?;
+    let users = loaded_from(rt, &options.users, digest, narrator)?;
     check_images(rt.alloc(), options, system, &users)?;
     Ok(rows_of(rt.alloc(), options, system, &users)?)
 }
 
 /// The dictionaries of the images at paths, and of each that it was loaded is said.
-fn dictionaries_at(
+fn loaded_from(
     rt: &HostRuntime,
     paths: &[String],
     digest: DigestTest,
     narrator: &Narrator<'_>,
-) -> Result<Vec<CountedDict>, Fault> {
+) -> Result<Vec<Dict>, Fault> {
     let mut dicts = Vec::new(rt.alloc());
     for path in paths {
-        let dict = dictionary_at(rt, path.as_str(), digest, narrator)?;
+        let dict = loaded_at(rt, path.as_str(), digest, narrator)?;
         dicts.push(dict).map_err(AllocError::from)?;
     }
     Ok(dicts)
@@ -84,14 +78,14 @@ fn dictionaries_at(
 fn check_images(
     alloc: Global,
     options: &IdsOptions,
-    system: &CountedDict,
-    users: &[CountedDict],
+    system: &Dict,
+    users: &[Dict],
 ) -> Result<(), Fault> {
-    if let Err(fault) = check_system(&system.dict) {
+    if let Err(fault) = check_system(system) {
         return Err(Fault::of_overlay(alloc, options.dic.as_str(), fault));
     }
     for (i, user) in users.iter().enumerate() {
-        let fault = fault_of_user(&system.dict, &user.dict, i);
+        let fault = fault_of_user(system, user, i);
         if let (Some(fault), Some(path)) = (fault, options.users.get(i)) {
             return Err(Fault::of_overlay(alloc, path.as_str(), fault));
         }
@@ -100,36 +94,15 @@ fn check_images(
 }
 
 /// The dictionary of the image at a path, and that it was loaded is said.
-fn dictionary_at(
+fn loaded_at(
     rt: &HostRuntime,
     path: &str,
     digest: DigestTest,
     narrator: &Narrator<'_>,
-) -> Result<CountedDict, Fault> {
-    let progress = Progress::new(rt);
-    let loaded = load_at(rt, path, digest, &progress);
-    progress.erase();
-    let dict = loaded?;
+) -> Result<Dict, Fault> {
+    let dict = dictionary_at(rt, path, digest)?;
     narrator.say(Stage::Loaded { path });
     Ok(dict)
-}
-
-/// The same of some system's files, whose bytes are known.
-fn load_at<R: Files + AllocGlobal>(
-    rt: &R,
-    path: &str,
-    digest: DigestTest,
-    progress: &Progress<'_>,
-) -> Result<CountedDict, Fault>
-    ensures bytes { IfOk result (λ counted. AreOfAFile R.File.remaining counted.dict) }
-    ensures fault { IfErr result (NamesFileOrImage path.now) }
-    ensures refused { IfErr result (IsLoadRefusal digest R.File.remaining) }
-{
-    let ImageFile { path, image } = image_at(rt, path, digest, progress)?;
-    match CountedDict::load(rt.alloc(), image) {
-        Ok(counted) => Ok(counted),
-        Err(fault) => Err(Fault::Image(path, fault)),
-    }
 }
 
 /// Whether a dictionary is a system's.
@@ -151,14 +124,14 @@ fn fault_of_user(system: &Dict, user: &Dict, i: usize) -> Option<OverlayFault> {
 fn rows_of(
     alloc: Global,
     options: &IdsOptions,
-    system: &CountedDict,
-    users: &[CountedDict],
+    system: &Dict,
+    users: &[Dict],
 ) -> Result<Vec<PairRow>, AllocError> {
     let template = Template::of(alloc, options.feature.as_str())?;
     let mut entries = Vec::new(alloc);
-    system.append_entries(&mut entries)?;
+    append_entries(system, &mut entries)?;
     for user in users {
-        user.append_entries(&mut entries)?;
+        append_entries(user, &mut entries)?;
     }
     rows_of_pairs(alloc, &template, &entries)
 }

@@ -2,9 +2,9 @@ use Rattle.std.proofs.Common.{rules}
 use Rattle.dict_image.specs.Seen.{token_seen}
 use Rattle.std.proofs.Common.{map}
 use Rattle.dictc_work.proofs.ListingLemmas.{listed_more}
-use Rattle.dictc_work.proofs.ids.counted_dict.CountedDict.append_entries.Goals as goal
+use Rattle.dictc_work.proofs.ids.listing.append_entries.Goals as goal
 
 pub loop-i-preserved : goal.loop-i-preserved
 loop-i-preserved c =
-    listed_more c.args.self.now.dict c.loop-i.entries.items c.push.new.self.items (map token_seen c.args.entries.now.items) c.loop-i.i c.token.result
+    listed_more c.args.dict.now c.loop-i.entries.items c.push.new.self.items (map token_seen c.args.entries.now.items) c.loop-i.i c.token.result
     c.loop-i.invariant c.token.ensures (search rules)

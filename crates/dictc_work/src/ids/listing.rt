@@ -1,0 +1,22 @@
+//! The entries of a dictionary, by their numbers.
+
+ghost use Rattle.std.specs.Prelude.{◌≡◌, ◌++◌, map, IfOk};
+ghost use Rattle.dict_image.specs.Seen.{token_seen};
+ghost use Rattle.dictc_work.specs.Listings.{listed_tokens};
+
+use dict_image::{Dict, EntryRef};
+use std::alloc::AllocError;
+
+/// Appends the entries of a lexicon in the order of their numbers. Those of unknown words are left out.
+pub(crate) fn append_entries<'a>(
+    dict: &'a Dict,
+    entries: &mut Vec<EntryRef<'a>>,
+) -> Result<(), AllocError>
+    ensures { IfOk result (λ _. map token_seen entries.new.items
+        ≡ map token_seen entries.old.items ++ listed_tokens dict.now) }
+{
+    for i in 0..dict.entry_count() {
+        entries.push(dict.token(i))?;
+    }
+    Ok(())
+}
