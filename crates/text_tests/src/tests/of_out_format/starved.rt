@@ -61,26 +61,53 @@ fn expect_print(
     Ok(())
 }
 
+/// Which format a row asks for.
+#[derive(Clone, Copy)]
+enum Asked {
+    /// That of a text for known words, and of one behind the last word.
+    Texts(&'static str, &'static str),
+    Tabs,
+    Wakati,
+}
+
+fn asked_again(rt: &(impl Alloc<A = Global> + Eprint), asked: Asked) -> Result<Format, Fail> {
+    match asked {
+        Asked::Texts(node, eos) => format_again(rt, node, eos),
+        Asked::Tabs => tabs_again(rt),
+        Asked::Wakati => wakati_again(rt),
+    }
+}
+
+/// The same with the format that is asked for.
+fn expect_asked(
+    rt: &(impl Abort + Alloc<A = Global> + Eprint),
+    asked: Asked,
+    dict: &Dict,
+    text: &str,
+    printed: &str,
+) -> Result<(), Fail> {
+    let format = asked_again(rt, asked)?;
+    expect_print(rt, &format, dict, text, printed)
+}
+
 #[test]
 fn starved_formats(rt: HostRuntime) -> Result<(), Fail> {
-    let costs = format_again(&rt, "%m/%f[0]/%c/%pn/%pc\\s", "%pc\\n")?;
-    let places = format_again(&rt, "%M|%ps|%pe|%pl|%pL|%pS;", "%L\\n")?;
-    let tabs = tabs_again(&rt)?;
-    let wakati = wakati_again(&rt)?;
+    const COSTS: Asked = Asked::Texts("%m/%f[0]/%c/%pn/%pc\\s", "%pc\\n");
+    const PLACES: Asked = Asked::Texts("%M|%ps|%pe|%pl|%pL|%pS;", "%L\\n");
     let dict = dict_again(&rt, sample().lexicons)?;
     let letters = letters_again(&rt)?;
     #[rattlefmt::skip]
-    let rows: [(&Format, &Dict, &str, &str); 6] = [
+    let rows: [(Asked, &Dict, &str, &str); 6] = [
         // (format, dictionary, text, what is printed)
-        (&costs,  &dict,    "すもももも", "すもも/名詞/100/110/110 もも/名詞/30/37/147 152\n"),
-        (&tabs,   &dict,    "すもももも", "すもも\t名詞,すもも\nもも\t名詞,もも\nEOS\n"),
-        (&wakati, &dict,    "すもももも", "すもも もも \n"),
-        (&wakati, &dict,    SPACED,       "すもも もも \n"),
-        (&places, &dict,    SPACED,       " すもも|1|10|9|10| ;  もも|12|18|6|8|  ;19\n"),
-        (&tabs,   &letters, "ab",         "a\tX\nb\tX\nEOS\n"),
+        (COSTS,         &dict,    "すもももも", "すもも/名詞/100/110/110 もも/名詞/30/37/147 152\n"),
+        (Asked::Tabs,   &dict,    "すもももも", "すもも\t名詞,すもも\nもも\t名詞,もも\nEOS\n"),
+        (Asked::Wakati, &dict,    "すもももも", "すもも もも \n"),
+        (Asked::Wakati, &dict,    SPACED,       "すもも もも \n"),
+        (PLACES,        &dict,    SPACED,       " すもも|1|10|9|10| ;  もも|12|18|6|8|  ;19\n"),
+        (Asked::Tabs,   &letters, "ab",         "a\tX\nb\tX\nEOS\n"),
     ];
-    for (format, dict, text, printed) in rows {
-        expect_print(&rt, format, dict, text, printed)?;
+    for (asked, dict, text, printed) in rows {
+        expect_asked(&rt, asked, dict, text, printed)?;
     }
     Ok(())
 }
