@@ -4,7 +4,7 @@ ghost use Rattle.cell_walk.specs.CellMap.{value_of, IsMapWith};
 ghost use Rattle.cell_walk.specs.CellRules.{AreCells, AreOnKeys};
 ghost use Rattle.double_array.specs.Moved.{HasSpace, HaveMoved};
 ghost use Rattle.mj_model.specs.declared.limits.TheConstants.{SURFACE_MAX as SurfaceMax};
-ghost use Rattle.double_array.specs.declared.fault.DaFault.TheVariants.{Full};
+ghost use Rattle.double_array.specs.declared.fault.DaFault.TheVariants.{Full, Memory};
 
 use crate::fault::DaFault;
 use crate::insertion::{Inserted, insert_key};
@@ -74,6 +74,8 @@ impl DoubleArray {
         ensures needed { OnErr result (HasSpace self.old (length key.now) → ⊥) }
         ensures full { IfErr result (λ fault. fault ≡ Full
             → 2 ^ 30 - length key.now - 600 < length self.old) }
+        ensures starved { IfErr result (λ fault. fault ≡ Memory
+            → length self.old + length key.now + 600 ≤ 2 ^ 30) }
 
         // For a key of the map, and while there is room after its last used cell, the array stays as long as it is. It is never shorter.
         ensures present { IfOk result

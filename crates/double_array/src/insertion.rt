@@ -5,7 +5,7 @@ ghost use Rattle.double_array.specs.Built.{IsBuilt, values};
 ghost use Rattle.double_array.specs.Insertion.{IsReached, HasRoom};
 ghost use Rattle.double_array.specs.Moved.{HasSpace, HaveMoved};
 ghost use Rattle.double_array.specs.Pool.{IsInUse};
-ghost use Rattle.double_array.specs.declared.fault.DaFault.TheVariants.{Full};
+ghost use Rattle.double_array.specs.declared.fault.DaFault.TheVariants.{Full, Memory};
 
 use crate::clearing::clear_way;
 use crate::fault::DaFault;
@@ -55,6 +55,8 @@ pub(crate) fn insert_key(pool: &mut CellPool, key: &[u8], value: u32) -> Result<
     ensures needed { OnErr result (HasSpace pool.old.cells (length key.now) → ⊥) }
     ensures full { IfErr result (λ fault. fault ≡ Full
         → 2 ^ 30 < length pool.old.cells + length key.now + 600) }
+    ensures starved { IfErr result (λ fault. fault ≡ Memory
+        → length pool.old.cells + length key.now + 600 ≤ 2 ^ 30) }
 {
     let at = walk_key(pool, key);
     let code = code_at(key, at.used);
@@ -142,6 +144,8 @@ fn make_room(pool: &mut CellPool, key_length: usize, left: usize) -> Result<(), 
     ensures needed { OnErr result (HasSpace pool.old.cells key_length → ⊥) }
     ensures full { IfErr result (λ fault. fault ≡ Full
         → 2 ^ 30 < length pool.old.cells + key_length + 600) }
+    ensures starved { IfErr result (λ fault. fault ≡ Memory
+        → length pool.old.cells + key_length + 600 ≤ 2 ^ 30) }
 {
     if has_room(pool, left) {
         return Ok(());
