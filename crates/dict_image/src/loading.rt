@@ -4,6 +4,8 @@ ghost use Rattle.image_bytes.specs.ImageBytes.{header_of};
 ghost use Rattle.image_bytes.specs.ImageFaults.{IsAccepted, IsIntact, IsWellFormed};
 ghost use Rattle.image_bytes.specs.declared.digest_test.DigestTest.TheVariants.{Made, Skipped};
 ghost use Rattle.image_bytes.specs.declared.layout.TheConstants.{LAYOUT as Layout};
+ghost use Rattle.image_check.specs.Starving.{PassToKeys};
+ghost use Rattle.mj_model.specs.declared.image_fault.ImageFault.TheVariants.{Memory};
 ghost use Rattle.dict_image.specs.Loading.{IsLoadFault};
 
 use crate::dict::Dict;
@@ -17,6 +19,8 @@ pub fn load(alloc: Global, bytes: Vec<u8>) -> Result<Dict, ImageFault>
     ensures dict { IfOk result (λ dict. dict ≡ bytes.items) }
     ensures accepted { OnOk result (IsIntact bytes.items) }
     ensures refused { IfErr result (IsLoadFault Made bytes.items) }
+    // Memory is taken only where the bytes pass the tests before those of the keys.
+    ensures starved { IfErr result (λ fault. fault ≡ Memory → PassToKeys Made bytes.items) }
 {
     load_by(alloc, bytes, DigestTest::Made)
 }
@@ -27,6 +31,8 @@ pub fn load_without_digest(alloc: Global, bytes: Vec<u8>) -> Result<Dict, ImageF
     ensures dict { IfOk result (λ dict. dict ≡ bytes.items) }
     ensures accepted { OnOk result (IsWellFormed bytes.items) }
     ensures refused { IfErr result (IsLoadFault Skipped bytes.items) }
+    ensures starved { IfErr result
+        (λ fault. fault ≡ Memory → PassToKeys Skipped bytes.items) }
 {
     load_by(alloc, bytes, DigestTest::Skipped)
 }
@@ -36,6 +42,8 @@ pub fn load_by(alloc: Global, bytes: Vec<u8>, digest: DigestTest) -> Result<Dict
     ensures dict { IfOk result (λ dict. dict ≡ bytes.items) }
     ensures accepted { OnOk result (IsAccepted digest bytes.items) }
     ensures refused { IfErr result (IsLoadFault digest bytes.items) }
+    ensures starved { IfErr result
+        (λ fault. fault ≡ Memory → PassToKeys digest bytes.items) }
 {
     let outline = check_image(alloc, &bytes, digest)?;
     Ok(Dict::over(alloc, bytes, outline)?)

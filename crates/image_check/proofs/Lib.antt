@@ -8,5 +8,6 @@ pub mod KeyLemmas
 pub mod StretchLemmas
 pub mod KeyFrontLemmas
 pub mod FrameLemmas
+pub mod NoMemoryLemmas
 pub mod StageLemmas
 pub mod StandLemmas

@@ -3,9 +3,11 @@ use Rattle.std.proofs.Common.{◌≡◌, ℕ, List, [], ◌∷◌, ◌++◌, inl
 use Rattle.mj_model.specs.declared.image_fault.ImageFault.{ImageFault}
 use Rattle.image_bytes.specs.declared.digest_test.DigestTest.{DigestTest}
 use Rattle.image_bytes.specs.declared.header.Header.{Header}
-use Rattle.image_bytes.specs.ImageBytes.{header_of}
+use Rattle.image_bytes.specs.ImageBytes.{header_of, section}
 use Rattle.image_bytes.specs.ImageFaults.{Test, PassAll, IsFirstTold, IsAccepted, IsImageFault}
-use Rattle.image_bytes.specs.ImageFaults.{front_tests, end_tests, system_tests, token_tests, section_tests}
+use Rattle.image_bytes.specs.ImageFaults.{front_tests, end_tests, header_tests, system_tests, key_tests, token_tests, section_tests}
+use Rattle.image_bytes.specs.Layouts.{key_form}
+use Rattle.image_check.specs.Starving.{PassToKeys}
 
 pub pass_both : (xs ys : List Test) → PassAll xs → PassAll ys → PassAll (xs ++ ys)
 pass_both [] ys p q = q
@@ -34,6 +36,21 @@ pub all_pass : (digest : DigestTest) (bytes : List ℕ) (h : Header) → h ≡ h
 all_pass digest bytes h e front end rest =
     pass_both (front_tests (header_of bytes) bytes) (end_tests digest (header_of bytes) bytes ++ section_tests (header_of bytes) bytes) front
     (pass_both (end_tests digest (header_of bytes) bytes) (section_tests (header_of bytes) bytes) end (subst (λ (g : Header). PassAll (section_tests g bytes)) e rest))
+
+-- accepted bytes pass the tests before those of the keys
+pass_front : (xs ys : List Test) → PassAll (xs ++ ys) → PassAll xs × PassAll ys
+pass_front [] ys p = (tt, p)
+pass_front (x ∷ xs) ys p = let more = pass_front xs ys p.1 in ((p.0, more.0), more.1)
+
+pub to_keys : (digest : DigestTest) (bytes : List ℕ) → IsAccepted digest bytes → PassToKeys digest bytes
+to_keys digest bytes accepted =
+    let h = header_of bytes in
+    let front = pass_front (front_tests h bytes) (end_tests digest h bytes ++ section_tests h bytes) accepted in
+    let ends = pass_front (end_tests digest h bytes) (section_tests h bytes) front.1 in
+    let keys : List Test = key_tests (key_form h.layout) h.groups (section bytes 5) ++ token_tests h (section bytes 6) (section bytes 7) (section bytes 8) in
+    let system : List Test = system_tests h (section bytes 1) (section bytes 2) (section bytes 3) (section bytes 4) in
+    let numbers = pass_front (header_tests h) (system ++ keys) ends.1 in
+    (front.0, ends.0, (numbers.0, (pass_front system keys numbers.1).0))
 
 -- ---- stages on equal sections
 

@@ -9,3 +9,4 @@ pub mod Ways
 pub mod Stretches
 pub mod Stands
 pub mod Checks
+pub mod Starving

@@ -6,6 +6,7 @@ ghost use Rattle.mj_model.specs.declared.image_fault.ImageFault.TheVariants.{Mem
 ghost use Rattle.image_bytes.specs.Headers.{AreEnds};
 ghost use Rattle.image_check.specs.Checks.{TellsSections};
 ghost use Rattle.image_check.specs.Outlines.{IsOutline};
+ghost use Rattle.image_check.specs.Starving.{PassToKeys, PassToSystem};
 
 use crate::frame::{check_ends, check_front};
 use crate::header::check_header;
@@ -25,6 +26,8 @@ pub fn check_image(alloc: Global, bytes: &[u8], digest: DigestTest) -> Result<Ou
     ensures accepted { OnOk result (IsAccepted digest bytes.now) }
     ensures refused { IfErr result
         (λ fault. (fault ≡ Memory) ⊎ IsImageFault digest bytes.now fault) }
+    // Memory is taken only where the bytes pass the tests before those of the keys.
+    ensures starved { IfErr result (λ fault. fault ≡ Memory → PassToKeys digest bytes.now) }
 {
     let header = check_front(bytes)?;
     let ends = check_ends(bytes, &header, digest)?;
@@ -41,7 +44,9 @@ fn check_sections(
 ) -> Result<Keys, ImageFault>
     requires ends { AreEnds ends.now (header_of bytes.now) }
     requires within { section_end (header_of bytes.now) 8 ≤ length bytes.now }
-    ensures { TellsSections header.now bytes.now result }
+    ensures told { TellsSections header.now bytes.now result }
+    ensures starved { IfErr result
+        (λ fault. fault ≡ Memory → PassToSystem header.now bytes.now) }
 {
     check_header(header)?;
     check_system(

@@ -3,6 +3,8 @@ use Rattle.std.proofs.lemmas.Result.{err_from_is_err_and}
 use Rattle.mj_model.specs.declared.image_fault.ImageFault.TheVariants.{Memory}
 use Rattle.image_bytes.specs.ImageFaults.{IsAccepted, IsImageFault}
 use Rattle.image_check.specs.Outlines.{IsOutline}
+use Rattle.image_check.specs.Starving.{PassToKeys}
+use Rattle.image_check.proofs.StageLemmas.{to_keys}
 use Rattle.dict_image.proofs.loading.load_by.Goals as goal
 
 pub over-requires : goal.over-requires
@@ -21,3 +23,13 @@ pub returns-in_err-over-clause-refused : goal.returns-in_err-over-clause-refused
 returns-in_err-over-clause-refused c =
     let p = err_from_is_err_and c.from_residual-in_err-over.result c.from_residual-in_err-over.ensures.1 in
     rw (p.1, p.2) (inl refl)
+
+pub returns-in_err-outline-clause-starved : goal.returns-in_err-outline-clause-starved
+returns-in_err-outline-clause-starved c =
+    let p = err_from_is_err_and c.from_residual.result c.from_residual.ensures.1 in
+    rw (p.1, p.2) (λ memory. subst (PassToKeys c.args.digest) c.deref.ensures.value (c.in_err-outline.ensures.starved memory))
+
+pub returns-in_err-over-clause-starved : goal.returns-in_err-over-clause-starved
+returns-in_err-over-clause-starved c =
+    let p = err_from_is_err_and c.from_residual-in_err-over.result c.from_residual-in_err-over.ensures.1 in
+    rw (p.1, p.2) (λ memory. to_keys c.args.digest c.args.bytes.items (subst (IsAccepted c.args.digest) c.deref.ensures.value c.in_ok-outline.ensures.accepted))

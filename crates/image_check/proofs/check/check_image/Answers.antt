@@ -5,7 +5,9 @@ use Rattle.image_bytes.specs.ImageBytes.{section}
 use Rattle.image_bytes.specs.Layouts.{key_form}
 use Rattle.image_check.specs.KeyPlaces.{AreKeysOf}
 use Rattle.image_check.proofs.OutlineLemmas.{from_accepted}
+use Rattle.image_check.proofs.NoMemoryLemmas.{front_takes_none, ends_take_none}
 use Rattle.image_check.proofs.StageLemmas.{end_told, section_told, all_pass}
+use Rattle.image_check.specs.Starving.{PassToSystem}
 use Rattle.image_check.proofs.check.check_image.Goals as goal
 
 pub returns-in_err-ends-clause-refused : goal.returns-in_err-ends-clause-refused
@@ -18,7 +20,7 @@ returns-in_err-keys-clause-refused c =
     let p = err_from_is_err_and c.from_residual-in_err-keys.result c.from_residual-in_err-keys.ensures.1 in
     let front = c.in_ok-header.ensures in
     let fault = c.in_err-keys.field-0.0 in
-    rw (p.1, p.2) (elim c.in_err-keys.ensures [
+    rw (p.1, p.2) (elim c.in_err-keys.ensures.told [
       | inl memory ↦ inl memory
       | inr first ↦ inr (section_told c.args.digest c.args.bytes.now c.in_ok-header.header fault front.1 front.0 c.in_ok-ends.ensures.0 first)
     ])
@@ -26,7 +28,7 @@ returns-in_err-keys-clause-refused c =
 pub returns-clause-accepted : goal.returns-clause-accepted
 returns-clause-accepted c =
     let front = c.in_ok-header.ensures in
-    all_pass c.args.digest c.args.bytes.now c.in_ok-header.header front.1 front.0 c.in_ok-ends.ensures.0 c.in_ok-keys.ensures.0
+    all_pass c.args.digest c.args.bytes.now c.in_ok-header.header front.1 front.0 c.in_ok-ends.ensures.0 c.in_ok-keys.ensures.told.0
 
 pub returns-clause-outline : goal.returns-clause-outline
 returns-clause-outline c =
@@ -35,8 +37,26 @@ returns-clause-outline c =
     let front = c.in_ok-header.ensures in
     let ends = c.in_ok-ends.ensures in
     record {
-      formed = from_accepted c.args.digest bytes (all_pass c.args.digest bytes h front.1 front.0 ends.0 c.in_ok-keys.ensures.0);
+      formed = from_accepted c.args.digest bytes (all_pass c.args.digest bytes h front.1 front.0 ends.0 c.in_ok-keys.ensures.told.0);
       header_is = front.1;
       ends_are = ends.1;
-      keys_are = subst (λ (g : Header). AreKeysOf (key_form g.layout) g.groups (section bytes 5) c.in_ok-keys.keys) front.1 c.in_ok-keys.ensures.1;
+      keys_are = subst (λ (g : Header). AreKeysOf (key_form g.layout) g.groups (section bytes 5) c.in_ok-keys.keys) front.1 c.in_ok-keys.ensures.told.1;
     }
+
+pub returns-in_err-header-clause-starved : goal.returns-in_err-header-clause-starved
+returns-in_err-header-clause-starved c =
+    let p = err_from_is_err_and c.from_residual.result c.from_residual.ensures.1 in
+    rw (p.1, p.2) (λ memory. absurd (front_takes_none c.args.bytes.now c.in_err-header.field-0.0 memory c.in_err-header.ensures))
+
+pub returns-in_err-ends-clause-starved : goal.returns-in_err-ends-clause-starved
+returns-in_err-ends-clause-starved c =
+    let p = err_from_is_err_and c.from_residual-in_err-ends.result c.from_residual-in_err-ends.ensures.1 in
+    rw (p.1, p.2) (λ memory. absurd (ends_take_none c.args.digest c.args.bytes.now c.in_err-ends.field-0.0 memory c.in_err-ends.ensures))
+
+pub returns-in_err-keys-clause-starved : goal.returns-in_err-keys-clause-starved
+returns-in_err-keys-clause-starved c =
+    let p = err_from_is_err_and c.from_residual-in_err-keys.result c.from_residual-in_err-keys.ensures.1 in
+    let front = c.in_ok-header.ensures in
+    rw (p.1, p.2)
+    (λ memory.
+    (front.0, c.in_ok-ends.ensures.0, subst (λ (h : Header). PassToSystem h c.args.bytes.now) front.1 (c.in_err-keys.ensures.starved memory)))

@@ -7,17 +7,18 @@ use Rattle.image_bytes.specs.ImageFaults.{header_tests, system_tests, key_tests,
 use Rattle.image_bytes.specs.Layouts.{key_form}
 use Rattle.image_check.specs.KeyPlaces.{AreKeysOf}
 use Rattle.image_check.proofs.StageLemmas.{pass_both, told_first, told_later, same_system, same_tokens}
+use Rattle.image_check.proofs.NoMemoryLemmas.{header_takes_none, system_takes_none}
 use Rattle.image_check.proofs.check.check_sections.Goals as goal
 
-pub returns-in_err-check_header : goal.returns-in_err-check_header
-returns-in_err-check_header c =
+pub returns-in_err-check_header-clause-told : goal.returns-in_err-check_header-clause-told
+returns-in_err-check_header-clause-told c =
     let h = c.args.header.now in
     let bytes = c.args.bytes.now in
     let p = err_from_is_err_and c.from_residual.result c.from_residual.ensures.1 in
     rw (p.1, p.2) (inr (told_first (header_tests h) (system_tests h (section bytes 1) (section bytes 2) (section bytes 3) (section bytes 4) ++ (key_tests (key_form h.layout) h.groups (section bytes 5) ++ token_tests h (section bytes 6) (section bytes 7) (section bytes 8))) c.in_err-check_header.field-0.0 c.in_err-check_header.ensures))
 
-pub returns-in_err-check_system : goal.returns-in_err-check_system
-returns-in_err-check_system c =
+pub returns-in_err-check_system-clause-told : goal.returns-in_err-check_system-clause-told
+returns-in_err-check_system-clause-told c =
     let h = c.args.header.now in
     let bytes = c.args.bytes.now in
     let p = err_from_is_err_and c.from_residual-in_err-check_system.result c.from_residual-in_err-check_system.ensures.1 in
@@ -25,8 +26,8 @@ returns-in_err-check_system c =
     let told = subst (λ (tests : List Test). IsFirstTold tests fault) (same_system h c.section_bytes.result.now c.section_bytes-2.result.now c.section_bytes-3.result.now c.section_bytes-4.result.now (section bytes 1) (section bytes 2) (section bytes 3) (section bytes 4) c.section_bytes.ensures c.section_bytes-2.ensures c.section_bytes-3.ensures c.section_bytes-4.ensures) c.in_err-check_system.ensures in
     rw (p.1, p.2) (inr (told_later (header_tests h) (system_tests h (section bytes 1) (section bytes 2) (section bytes 3) (section bytes 4) ++ (key_tests (key_form h.layout) h.groups (section bytes 5) ++ token_tests h (section bytes 6) (section bytes 7) (section bytes 8))) fault c.in_ok-check_header.ensures (told_first (system_tests h (section bytes 1) (section bytes 2) (section bytes 3) (section bytes 4)) (key_tests (key_form h.layout) h.groups (section bytes 5) ++ token_tests h (section bytes 6) (section bytes 7) (section bytes 8)) fault told)))
 
-pub returns-in_err-keys : goal.returns-in_err-keys
-returns-in_err-keys c =
+pub returns-in_err-keys-clause-told : goal.returns-in_err-keys-clause-told
+returns-in_err-keys-clause-told c =
     let h = c.args.header.now in
     let bytes = c.args.bytes.now in
     let p = err_from_is_err_and c.from_residual-in_err-keys.result c.from_residual-in_err-keys.ensures.1 in
@@ -38,8 +39,8 @@ returns-in_err-keys c =
       | inr first ↦ inr (told_later (header_tests h) (system_tests h (section bytes 1) (section bytes 2) (section bytes 3) (section bytes 4) ++ (key_tests (key_form h.layout) h.groups (section bytes 5) ++ token_tests h (section bytes 6) (section bytes 7) (section bytes 8))) fault c.in_ok-check_header.ensures (told_later (system_tests h (section bytes 1) (section bytes 2) (section bytes 3) (section bytes 4)) (key_tests (key_form h.layout) h.groups (section bytes 5) ++ token_tests h (section bytes 6) (section bytes 7) (section bytes 8)) fault system (told_first (key_tests (key_form h.layout) h.groups (section bytes 5)) (token_tests h (section bytes 6) (section bytes 7) (section bytes 8)) fault first)))
     ])
 
-pub returns-in_err-check_tokens : goal.returns-in_err-check_tokens
-returns-in_err-check_tokens c =
+pub returns-in_err-check_tokens-clause-told : goal.returns-in_err-check_tokens-clause-told
+returns-in_err-check_tokens-clause-told c =
     let h = c.args.header.now in
     let bytes = c.args.bytes.now in
     let p = err_from_is_err_and c.from_residual-in_err-check_tokens.result c.from_residual-in_err-check_tokens.ensures.1 in
@@ -52,8 +53,8 @@ returns-in_err-check_tokens c =
       | inr first ↦ inr (told_later (header_tests h) (system_tests h (section bytes 1) (section bytes 2) (section bytes 3) (section bytes 4) ++ (key_tests (key_form h.layout) h.groups (section bytes 5) ++ token_tests h (section bytes 6) (section bytes 7) (section bytes 8))) fault c.in_ok-check_header.ensures (told_later (system_tests h (section bytes 1) (section bytes 2) (section bytes 3) (section bytes 4)) (key_tests (key_form h.layout) h.groups (section bytes 5) ++ token_tests h (section bytes 6) (section bytes 7) (section bytes 8)) fault system (told_later (key_tests (key_form h.layout) h.groups (section bytes 5)) (token_tests h (section bytes 6) (section bytes 7) (section bytes 8)) fault keys first)))
     ])
 
-pub returns : goal.returns
-returns c =
+pub returns-clause-told : goal.returns-clause-told
+returns-clause-told c =
     let h = c.args.header.now in
     let bytes = c.args.bytes.now in
     let system = subst PassAll (same_system h c.section_bytes.result.now c.section_bytes-2.result.now c.section_bytes-3.result.now c.section_bytes-4.result.now (section bytes 1) (section bytes 2) (section bytes 3) (section bytes 4) c.section_bytes.ensures c.section_bytes-2.ensures c.section_bytes-3.ensures c.section_bytes-4.ensures) c.in_ok-check_system.ensures in
@@ -65,3 +66,29 @@ returns c =
           (pass_both (key_tests (key_form h.layout) h.groups (section bytes 5)) (token_tests h (section bytes 6) (section bytes 7) (section bytes 8)) keys tokens)),
       places,
     )
+
+pub returns-in_err-check_header-clause-starved : goal.returns-in_err-check_header-clause-starved
+returns-in_err-check_header-clause-starved c =
+    let p = err_from_is_err_and c.from_residual.result c.from_residual.ensures.1 in
+    rw (p.1, p.2) (λ memory. absurd (header_takes_none c.args.header.now c.in_err-check_header.field-0.0 memory c.in_err-check_header.ensures))
+
+pub returns-in_err-check_system-clause-starved : goal.returns-in_err-check_system-clause-starved
+returns-in_err-check_system-clause-starved c =
+    let p = err_from_is_err_and c.from_residual-in_err-check_system.result c.from_residual-in_err-check_system.ensures.1 in
+    rw (p.1, p.2) (λ memory. absurd (system_takes_none c.args.header.now c.section_bytes.result.now c.section_bytes-2.result.now c.section_bytes-3.result.now c.section_bytes-4.result.now c.in_err-check_system.field-0.0 memory c.in_err-check_system.ensures))
+
+pub returns-in_err-keys-clause-starved : goal.returns-in_err-keys-clause-starved
+returns-in_err-keys-clause-starved c =
+    let h = c.args.header.now in
+    let bytes = c.args.bytes.now in
+    let p = err_from_is_err_and c.from_residual-in_err-keys.result c.from_residual-in_err-keys.ensures.1 in
+    let system = subst PassAll (same_system h c.section_bytes.result.now c.section_bytes-2.result.now c.section_bytes-3.result.now c.section_bytes-4.result.now (section bytes 1) (section bytes 2) (section bytes 3) (section bytes 4) c.section_bytes.ensures c.section_bytes-2.ensures c.section_bytes-3.ensures c.section_bytes-4.ensures) c.in_ok-check_system.ensures in
+    rw (p.1, p.2) (λ memory. (c.in_ok-check_header.ensures, system))
+
+pub returns-in_err-check_tokens-clause-starved : goal.returns-in_err-check_tokens-clause-starved
+returns-in_err-check_tokens-clause-starved c =
+    let h = c.args.header.now in
+    let bytes = c.args.bytes.now in
+    let p = err_from_is_err_and c.from_residual-in_err-check_tokens.result c.from_residual-in_err-check_tokens.ensures.1 in
+    let system = subst PassAll (same_system h c.section_bytes.result.now c.section_bytes-2.result.now c.section_bytes-3.result.now c.section_bytes-4.result.now (section bytes 1) (section bytes 2) (section bytes 3) (section bytes 4) c.section_bytes.ensures c.section_bytes-2.ensures c.section_bytes-3.ensures c.section_bytes-4.ensures) c.in_ok-check_system.ensures in
+    rw (p.1, p.2) (λ memory. (c.in_ok-check_header.ensures, system))
