@@ -1,5 +1,5 @@
 -- Work on the bytes of one read: each step prints the line up to the next LF.
-use Rattle.std.proofs.Common.{◌≡◌, ℕ, ◌+◌, ◌*◌, ◌^◌, ◌<◌, ◌≤◌, suc, true, false, List, [], ◌∷◌, ◌++◌, length, take, drop, get_or, refl, sym, ap, ◌∙◌, subst, arith, append_assoc, append-nil, inl, inr, length-drop, length-take}
+use Rattle.std.proofs.Common.{◌≡◌, ℕ, ◌+◌, ◌*◌, ◌^◌, ◌<◌, ◌≤◌, suc, true, false, List, [], ◌∷◌, ◌++◌, length, take, drop, get_or, refl, sym, ap, ◌∙◌, subst, arith, append_assoc, append-nil, inl, inr, length-append, length-drop, length-take}
 use Rattle.std.specs.Prelude.{Result, Ok, Err, OnOk, OnErr, IfErr}
 use Rattle.std.specs.Io.KnownBytes.{Appends}
 use Rattle.std.proofs.lemmas.List.{get_or-take, get_or_default}
@@ -16,10 +16,11 @@ use Rattle.line_stream.specs.declared.line_fault.LineError.{LineError}
 use Rattle.line_stream.specs.declared.line_fault.LineError.TheVariants.{Bad, Memory}
 use Rattle.mj_model.specs.Counts.{WriterTold}
 use Rattle.mj_model.specs.declared.run_fault.RunFault.{RunFault}
-use Rattle.line_stream.specs.LineErrors.{TellsFault}
-use Rattle.line_stream.specs.Progress.{HasNoFeed, IsCause}
-use Rattle.line_stream.specs.Steps.{Advanced, IsLineCause, Stepped, StepStopped, WaitingStopped, step_of}
+use Rattle.line_stream.specs.LineErrors.{TellsOr}
+use Rattle.line_stream.specs.Progress.{HasNext, HasNoFeed, IsCause}
+use Rattle.line_stream.specs.Steps.{Advanced, IsLineCause, last_line, Stepped, StepStopped, WaitingStopped, step_of}
 use Rattle.line_stream.proofs.PieceLemmas.{whole_lines-none, open_line-none, whole_lines-cut, open_line-cut}
+use Rattle.line_stream.proofs.RunWork.{last_there, text_lines-parts}
 use Rattle.line_stream.proofs.StepLemmas.{IsCutWrite, advanced_on, all_written, cut_stopped, error_stopped, stepped_of, stopped_on, waits_on}
 
 -- ---- where the next LF stands
@@ -37,9 +38,13 @@ no_feed_at_all rest none k d h =
 
 -- ---- the work before the next line
 
--- the bytes behind the last LF are too many for a line, or memory was refused
-abbrev pub IsHeldCause : List ℕ → List (List ℕ) → LineError → Type 0
-IsHeldCause held done error = (done ≡ []) × TellsFault (λ fault. (fault ≡ TooLong) × (SENTENCE_MAX < length held)) error
+-- the bytes behind the last LF are too many for a line, or memory was refused for the rest of them
+abbrev pub TellsHeld : List ℕ → List ℕ → LineError → Type 0
+TellsHeld held rest error =
+    TellsOr ((0 < length rest) × (length (held ++ rest) ≤ SENTENCE_MAX)) (λ fault. (fault ≡ TooLong) × (SENTENCE_MAX < length (held ++ rest))) error
+
+abbrev pub IsHeldCause : List ℕ → List ℕ → List (List ℕ) → LineError → Type 0
+IsHeldCause held rest done error = (done ≡ []) × TellsHeld held rest error
 
 module _ (Tells : List ℕ → Result (List ℕ) LineFault → Type 0) where
   -- the lines so far printed, all bytes are cut as what is held of the open line and the rest will be, and of the rest no more lines can
@@ -104,8 +109,17 @@ module _ (Tells : List ℕ → Result (List ℕ) LineFault → Type 0) where
             no_flush = no_flush ∙ w.no_flush;
           }
 
-      cause_by : (error : LineError) → TellsFault (λ fault. Tells (held ++ take at rest) (Err fault)) error → IsCause Tells bytes w.done error
-      cause_by Memory tells = (whole_lines (held ++ rest), w.whole)
+      next_line : length (held ++ take at rest) ≤ SENTENCE_MAX → HasNext bytes w.done
+      next_line short =
+          let tail = last_line (open_line bytes) in (
+            held ++ take at rest,
+            whole_lines (drop (at + 1) rest) ++ tail,
+            text_lines-parts bytes ∙ ap (λ z. z ++ tail) whole_is ∙ append_assoc w.done ((held ++ take at rest) ∷ whole_lines (drop (at + 1) rest)) tail,
+            short,
+          )
+
+      cause_by : (error : LineError) → TellsOr (length (held ++ take at rest) ≤ SENTENCE_MAX) (λ fault. Tells (held ++ take at rest) (Err fault)) error → IsCause Tells bytes w.done error
+      cause_by Memory tells = (whole_lines (held ++ rest), w.whole, next_line tells)
       cause_by (Bad fault) tells = inl (held ++ take at rest, whole_lines (drop (at + 1) rest), whole_is, tells)
 
       cause_of : (done : List (List ℕ)) (error : LineError) → IsLineCause Tells (held ++ take at rest) done error → IsCause Tells bytes (w.done ++ done) error
@@ -158,24 +172,35 @@ module _ (Tells : List ℕ → Result (List ℕ) LineFault → Type 0) where
           (λ done error none. absurd none) w.advanced
           (cut_stopped Tells (λ done error. ⊥) lines waits [] [] [] waits [] t1 t2 sent1 fault refl (refl, refl) (sym (append-nil waits)) cut failure)
 
+      next_open : 0 < length rest → length (held ++ rest) ≤ SENTENCE_MAX → HasNext bytes w.done
+      next_open some short =
+          let total = length-append held rest in
+          let open_some = subst (λ z. 0 < length z) working_open (omega (arith, some, total)) in (
+            open_line bytes,
+            [],
+            text_lines-parts bytes ∙ ap (λ z. z ++ last_line (open_line bytes)) (whole_done ∙ append-nil w.done)
+                ∙ ap (λ z. w.done ++ z) (last_there (open_line bytes) open_some),
+            subst (λ z. length z ≤ SENTENCE_MAX) working_open short,
+          )
+
       held_by : (error : LineError) → ((line : List ℕ) → SENTENCE_MAX < length line → Tells line (Err TooLong))
-          → TellsFault (λ fault. (fault ≡ TooLong) × (SENTENCE_MAX < length (held ++ rest))) error → IsCause Tells bytes w.done error
-      held_by Memory long tells = (whole_lines (held ++ rest), w.whole)
+          → TellsHeld held rest error → IsCause Tells bytes w.done error
+      held_by Memory long tells = (whole_lines (held ++ rest), w.whole, next_open tells.0 tells.1)
       held_by (Bad fault) long tells =
           let open_long = subst (λ z. SENTENCE_MAX < length z) working_open tells.1 in
           inr (whole_done ∙ append-nil w.done, tells.0, long (open_line bytes) open_long, open_long)
 
       held_of : ((line : List ℕ) → SENTENCE_MAX < length line → Tells line (Err TooLong))
-          → (done : List (List ℕ)) (error : LineError) → IsHeldCause (held ++ rest) done error → IsCause Tells bytes (w.done ++ done) error
+          → (done : List (List ℕ)) (error : LineError) → IsHeldCause held rest done error → IsCause Tells bytes (w.done ++ done) error
       held_of long done error c =
           subst (λ d. IsCause Tells bytes d error) (sym (append-nil w.done) ∙ ap (λ d. w.done ++ d) (sym c.0)) (held_by error long c.1)
 
       -- or the bytes behind the last LF stopped the work
       pub working_held : ((line : List ℕ) → SENTENCE_MAX < length line → Tells line (Err TooLong)) → (error : LineError) (fault : RunFault)
-          → TellsFault (λ fault. (fault ≡ TooLong) × (SENTENCE_MAX < length (held ++ rest))) error
+          → TellsHeld held rest error
           → WaitingStopped waits error (lines + 1) (step_of t1 t2) sent1 fault
           → StepStopped Tells (IsCause Tells bytes) before [] (whole_lines bytes) (step_of t0 t2) sent0 fault
       working_held long error fault tells s =
-          stopped_on Tells (IsCause Tells bytes) (IsHeldCause (held ++ rest)) before [] (whole_lines bytes) w.done lines waits
+          stopped_on Tells (IsCause Tells bytes) (IsHeldCause held rest) before [] (whole_lines bytes) w.done lines waits
           [] [] t0 t1 t2 sent0 sent1 fault whole_done (held_of long) w.advanced
-          (error_stopped Tells (IsHeldCause (held ++ rest)) lines waits [] error t1 t2 sent1 fault s (refl, tells))
+          (error_stopped Tells (IsHeldCause held rest) lines waits [] error t1 t2 sent1 fault s (refl, tells))

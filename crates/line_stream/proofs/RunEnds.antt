@@ -15,12 +15,12 @@ use Rattle.line_stream.specs.declared.line_fault.LineFault.TheVariants.{TooLong,
 use Rattle.line_stream.specs.declared.line_fault.LineError.{LineError}
 use Rattle.line_stream.specs.declared.line_fault.LineError.TheVariants.{Bad, Memory}
 use Rattle.line_stream.specs.LineErrors.{run_fault}
-use Rattle.line_stream.specs.Progress.{AllPrint, IsCause}
+use Rattle.line_stream.specs.Progress.{AllPrint, HasNext, IsCause}
 use Rattle.line_stream.specs.Steps.{Stepped, StepStopped, EndStopped, last_line, IsLastCause}
 use Rattle.line_stream.specs.Runs.{Told, NoEmptyRead, NoFailure, NoFlush, FlushesLast, IsStarved, IsBad, EndsSo, StoppedBehind, WorkedThrough, Ran, both_told, has_ended, lines_read}
 use Rattle.mj_model.specs.declared.source_fault.SourceFault.{SourceFault}
 use Rattle.line_stream.proofs.PieceLemmas.{open_line-append}
-use Rattle.line_stream.proofs.RunWork.{Running, print_on, turn_step, whole_on, text_lines-parts}
+use Rattle.line_stream.proofs.RunWork.{Running, last_there, next_on, print_on, turn_step, whole_on, text_lines-parts}
 use Rattle.line_stream.proofs.PrintedBehind.{bad_behind}
 
 -- (A ++ (D ++ M)) ++ T is (A ++ D) ++ (M ++ T)
@@ -36,10 +36,6 @@ first_lines bytes piece pending done more e front =
 
 last_lines : (bytes pending : List ℕ) → pending ≡ open_line bytes → text_lines bytes ≡ whole_lines bytes ++ last_line pending
 last_lines bytes pending e = text_lines-parts bytes ∙ ap (λ o. whole_lines bytes ++ last_line o) (sym e)
-
-last_there : (tail : List ℕ) → 0 < length tail → last_line tail ≡ tail ∷ []
-last_there [] h = absurd (omega (arith, h))
-last_there (c ∷ cs) h = refl
 
 ltb_same : (n : ℕ) → nat_lt n n ≡ false
 ltb_same n = le-ltb n n (omega arith)
@@ -207,11 +203,19 @@ module _ (Tells : List ℕ → Result (List ℕ) LineFault → Type 0) (bound : 
       printed_on : (done : List (List ℕ)) (text : List ℕ) → AllPrint Tells (lines + 1) done text → AllPrint Tells 1 (whole_lines r.bytes ++ done) (r.written ++ text)
       printed_on done text print = print_on Tells r.bytes pending r.written text lines r.print r.open_is r.counted done None print
 
-      starved_run : (all : List (List ℕ)) (written : List ℕ) (done more : List (List ℕ)) (line : ℕ) → all ≡ (whole_lines r.bytes ++ done) ++ more
-          → AllPrint Tells (lines + 1) done written → line ≡ lines + length done + 1 → IsStarved Tells all (r.written ++ written) line
-      starved_run all written done more line first print e =
+      starved_run : (bytes : List ℕ) (all : List (List ℕ)) (written : List ℕ) (done more : List (List ℕ)) (line : ℕ) → all ≡ (whole_lines r.bytes ++ done) ++ more
+          → AllPrint Tells (lines + 1) done written → line ≡ lines + length done + 1 → HasNext bytes (whole_lines r.bytes ++ done)
+          → IsStarved Tells bytes all (r.written ++ written) line
+      starved_run bytes all written done more line first print e next =
           let number = number_is done line e in
-          record { lines = whole_lines r.bytes ++ done; more = more; first = first; printed = printed_on done written print; number = omega (arith, number) }
+          record {
+            lines = whole_lines r.bytes ++ done;
+            more = more;
+            first = first;
+            printed = printed_on done written print;
+            number = omega (arith, number);
+            next = inr next;
+          }
 
       bad_run : (all : List (List ℕ)) (written : List ℕ) (done more : List (List ℕ)) (bad : List ℕ) (fault : LineFault) (line : ℕ)
           → all ≡ (whole_lines r.bytes ++ done) ++ bad ∷ more → AllPrint Tells (lines + 1) done written → Tells bad (Err fault)
@@ -233,7 +237,8 @@ module _ (Tells : List ℕ → Result (List ℕ) LineFault → Type 0) (bound : 
           → AllPrint Tells (lines + 1) done written → IsCause Tells (pending ++ piece) done error → line ≡ lines + length done + 1
           → EndsSo Tells bound (r.bytes ++ piece) (r.written ++ written) before after (Err (run_fault error line))
       work_error piece written done Memory line ends no_write no_flush print cause e = (
-        starved_run (lines_read (has_ended before after) (r.bytes ++ piece)) written done cause.0 line (lines_of_work piece done cause.0 ends cause.1) print e,
+        starved_run (r.bytes ++ piece) (lines_read (has_ended before after) (r.bytes ++ piece)) written done cause.0 line (lines_of_work piece done cause.0 ends cause.1) print e
+            (next_on r.bytes piece pending done r.open_is cause.2),
         none_failed no_write,
         unflushed no_flush,
       )
@@ -286,8 +291,9 @@ module _ (Tells : List ℕ → Result (List ℕ) LineFault → Type 0) (bound : 
           → AllPrint Tells (lines + 1) done written → IsLastCause Tells pending done error → line ≡ lines + length done + 1
           → EndsSo Tells bound r.bytes (r.written ++ written) before after (Err (run_fault error line))
       finish_error written done Memory line ends no_write no_flush print cause e =
-          let first = lines_of_all ends ∙ lines_at_end done (last_line pending) (ap (λ d. d ++ last_line pending) (sym cause.none_before)) in (
-            starved_run (lines_read (has_ended before after) r.bytes) written done (last_line pending) line first print e,
+          let first = lines_of_all ends ∙ lines_at_end done (last_line pending) (ap (λ d. d ++ last_line pending) (sym cause.none_before)) in
+          let parts = lines_at_end done (pending ∷ []) (cause.there ∙ ap (λ d. d ++ pending ∷ []) (sym cause.none_before)) in (
+            starved_run r.bytes (lines_read (has_ended before after) r.bytes) written done (last_line pending) line first print e (pending, [], parts, cause.tells),
             none_failed no_write,
             unflushed no_flush,
           )

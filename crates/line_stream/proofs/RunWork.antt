@@ -1,5 +1,5 @@
 -- A run over a text, read by read.
-use Rattle.std.proofs.Common.{◌≡◌, ℕ, ◌+◌, ◌*◌, ◌^◌, ◌<◌, ◌≤◌, Bool, true, false, cond, List, [], ◌∷◌, ◌++◌, length, get_or, zero, suc, refl, sym, ap, ◌∙◌, subst, arith, length-append}
+use Rattle.std.proofs.Common.{◌≡◌, ℕ, ◌+◌, ◌*◌, ◌^◌, ◌<◌, ◌≤◌, Bool, true, false, cond, List, [], ◌∷◌, ◌++◌, length, get_or, zero, suc, refl, sym, ap, ◌∙◌, subst, arith, append_assoc, length-append}
 use Rattle.std.proofs.lemmas.List.Elements.{All-nil, All-append}
 use Rattle.std.specs.Prelude.{Option, None, Result}
 use Rattle.std.specs.List.{slice_split, onto_first}
@@ -11,7 +11,7 @@ use Rattle.mj_model.specs.Lines.{without_last_empty}
 use Rattle.mj_model.specs.Output.{Output, BadLine, text_lines}
 use Rattle.mj_model.specs.TextLines.{whole_lines, open_line, all_but_last, last_piece}
 use Rattle.line_stream.specs.declared.line_fault.LineFault.{LineFault}
-use Rattle.line_stream.specs.Progress.{HasNoFeed, AllPrint}
+use Rattle.line_stream.specs.Progress.{HasNext, HasNoFeed, AllPrint}
 use Rattle.line_stream.specs.Steps.{Step, Stepped, last_line}
 use Rattle.line_stream.specs.Runs.{Told}
 use Rattle.line_stream.proofs.PrintedBehind.{print_append}
@@ -28,6 +28,10 @@ pub text_lines-parts : (bytes : List ℕ) → text_lines bytes ≡ whole_lines b
 text_lines-parts bytes =
     let c = split_cons bytes in
     ap without_last_empty c.is ∙ last_kept c.first c.more ∙ sym (ap (λ z. all_but_last z ++ last_line (last_piece z)) c.is)
+
+pub last_there : (tail : List ℕ) → 0 < length tail → last_line tail ≡ tail ∷ []
+last_there [] h = absurd (omega (arith, h))
+last_there (c ∷ cs) h = refl
 
 one_no_feed : (c k d : ℕ) → k < length (c ∷ []) → is_line_feed c ≡ false → is_line_feed (get_or (c ∷ []) k d) ≡ false
 one_no_feed c zero d low e = e
@@ -50,6 +54,26 @@ open_no_feed (c ∷ cs) = last_step (is_line_feed c) c (slice_split is_line_feed
 -- the whole lines with one more piece
 pub whole_on : (bytes piece pending : List ℕ) → pending ≡ open_line bytes → whole_lines (bytes ++ piece) ≡ whole_lines bytes ++ whole_lines (pending ++ piece)
 whole_on bytes piece pending e = whole_lines-append bytes piece ∙ ap (λ o. whole_lines bytes ++ whole_lines (o ++ piece)) (sym e)
+
+-- the lines with one more piece
+lines_on : (bytes piece pending : List ℕ) → pending ≡ open_line bytes → text_lines (bytes ++ piece) ≡ whole_lines bytes ++ text_lines (pending ++ piece)
+lines_on bytes piece pending e =
+    let open_is = open_line-append bytes piece ∙ ap (λ o. open_line (o ++ piece)) (sym e) in
+    text_lines-parts (bytes ++ piece)
+    ∙ ap (λ z. z ++ last_line (open_line (bytes ++ piece))) (whole_on bytes piece pending e)
+    ∙ append_assoc (whole_lines bytes) (whole_lines (pending ++ piece)) (last_line (open_line (bytes ++ piece)))
+    ∙ ap (λ o. whole_lines bytes ++ (whole_lines (pending ++ piece) ++ last_line o)) open_is
+    ∙ ap (λ z. whole_lines bytes ++ z) (sym (text_lines-parts (pending ++ piece)))
+
+-- a line that is next in the open line with one more piece is next in all
+pub next_on : (bytes piece pending : List ℕ) (done : List (List ℕ)) → pending ≡ open_line bytes → HasNext (pending ++ piece) done
+    → HasNext (bytes ++ piece) (whole_lines bytes ++ done)
+next_on bytes piece pending done e next = (
+  next.0,
+  next.1,
+  lines_on bytes piece pending e ∙ ap (λ z. whole_lines bytes ++ z) next.2 ∙ sym (append_assoc (whole_lines bytes) done (next.0 ∷ next.1)),
+  next.3,
+)
 
 -- what a turn of the loop did to the writer
 abbrev pub turn_step : Option (List ℕ) → Option (List ℕ) → Told → Told → Step

@@ -16,3 +16,8 @@ run_fault Memory line = run.Memory line
 abbrev pub TellsFault : (LineFault → Type 0) → LineError → Type 0
 TellsFault IsFault (Bad fault) = IsFault fault
 TellsFault IsFault Memory = Unit {0}
+
+-- the same, and what is so of the line where memory was refused
+abbrev pub TellsOr : Type 0 → (LineFault → Type 0) → LineError → Type 0
+TellsOr Starves IsFault (Bad fault) = IsFault fault
+TellsOr Starves IsFault Memory = Starves

@@ -1,8 +1,8 @@
 -- How far the work on a text has come.
-use Rattle.std.specs.Prelude.{◌≡◌, ℕ, ◌+◌, ◌<◌, List, ◌∷◌, ◌++◌, length, All, false, None, Result, Ok, Err, ◌⊎◌}
+use Rattle.std.specs.Prelude.{◌≡◌, ℕ, ◌+◌, ◌<◌, ◌≤◌, List, ◌∷◌, ◌++◌, length, All, false, None, Result, Ok, Err, ◌⊎◌}
 use Rattle.mj_model.specs.declared.limits.TheConstants.{SENTENCE_MAX}
 use Rattle.mj_model.specs.Bytes.{is_line_feed}
-use Rattle.mj_model.specs.Output.{Output}
+use Rattle.mj_model.specs.Output.{Output, text_lines}
 use Rattle.mj_model.specs.TextLines.{whole_lines, open_line}
 use Rattle.line_stream.specs.declared.line_fault.LineFault.{LineFault}
 use Rattle.line_stream.specs.declared.line_fault.LineFault.TheVariants.{TooLong}
@@ -29,9 +29,13 @@ pub record Worked (Tells : List ℕ → Result (List ℕ) LineFault → Type 0)
   pub counted : after ≡ before + length lines
   pub appended : out_after ≡ out_before ++ text
 
--- why the work stopped behind the printed lines: memory was refused, the next line is bad, or the open line is too long already
+-- behind these lines of bytes another one is there, and it is not too long
+abbrev pub HasNext : List ℕ → List (List ℕ) → Type 0
+HasNext bytes lines = (next : List ℕ) × (rest : List (List ℕ)) × (text_lines bytes ≡ lines ++ next ∷ rest) × (length next ≤ SENTENCE_MAX)
+
+-- why the work stopped behind the printed lines: memory was refused for the next line, that line is bad, or the open line is too long already
 abbrev pub IsCause : (List ℕ → Result (List ℕ) LineFault → Type 0) → List ℕ → List (List ℕ) → LineError → Type 0
-IsCause Tells bytes done Memory = (more : List (List ℕ)) × (whole_lines bytes ≡ done ++ more)
+IsCause Tells bytes done Memory = (more : List (List ℕ)) × (whole_lines bytes ≡ done ++ more) × HasNext bytes done
 IsCause Tells bytes done (Bad fault) =
     ((bad : List ℕ) × (more : List (List ℕ)) × (whole_lines bytes ≡ done ++ bad ∷ more) × Tells bad (Err fault))
     ⊎ ((whole_lines bytes ≡ done) × (fault ≡ TooLong) × Tells (open_line bytes) (Err TooLong) × (SENTENCE_MAX < length (open_line bytes)))

@@ -1,5 +1,5 @@
 -- How a run over a text ends: what it read, what it wrote, and why it stopped.
-use Rattle.std.specs.Prelude.{◌≡◌, ℕ, ◌+◌, ◌-◌, ◌≤◌, Bool, true, false, nat_lt, if◌then◌else◌, List, ◌++◌, length, Some, Result, Ok, Err, ◌⊎◌}
+use Rattle.std.specs.Prelude.{◌≡◌, ℕ, ◌+◌, ◌-◌, ◌≤◌, Bool, true, false, nat_lt, if◌then◌else◌, List, [], ◌++◌, length, Some, Result, Ok, Err, ◌⊎◌}
 use Rattle.std.specs.Io.KnownBytes.{Consumes, Appends, IsAtEnd}
 use Rattle.mj_model.specs.Counts.{ReaderTold, WriterTold}
 use Rattle.mj_model.specs.declared.limits.TheConstants.{SENTENCE_MAX}
@@ -10,7 +10,7 @@ use Rattle.mj_model.specs.TextLines.{whole_lines, open_line}
 use Rattle.line_stream.specs.declared.reading.TheConstants.{BUFFER}
 use Rattle.line_stream.specs.declared.line_fault.LineFault.{LineFault}
 use Rattle.line_stream.specs.declared.line_fault.LineFault.TheVariants.{TooLong, NotUtf8}
-use Rattle.line_stream.specs.Progress.{AllPrint}
+use Rattle.line_stream.specs.Progress.{AllPrint, HasNext}
 
 -- the counts of a reader and a writer before or after a run
 pub record Told : Type 0 where
@@ -117,14 +117,16 @@ FlushesLast Tells bytes written before after =
     NoFlush before after
     ⊎ ((after.flushes ≡ before.flushes + 1) × (after.ends ≡ before.ends + 1) × AllPrint Tells 1 (text_lines bytes) written)
 
--- the first of some lines printed, and what they print is written; the next one has this number
+-- the first of some lines printed, and what they print is written; the next one has this number. It is there and not too long, unless nothing
+-- was read
 pub record IsStarved (Tells : List ℕ → Result (List ℕ) LineFault → Type 0)
-    (all : List (List ℕ)) (written : List ℕ) (line : ℕ) : Type 0 where
+    (bytes : List ℕ) (all : List (List ℕ)) (written : List ℕ) (line : ℕ) : Type 0 where
   pub lines : List (List ℕ)
   pub more : List (List ℕ)
   pub first : all ≡ lines ++ more
   pub printed : AllPrint Tells 1 lines written
   pub number : line ≡ length lines + 1
+  pub next : (bytes ≡ []) ⊎ HasNext bytes lines
 
 -- the lines before the first bad one printed, and what they print is written
 abbrev pub IsBad : (List ℕ → Result (List ℕ) LineFault → Type 0) → List (List ℕ) → List ℕ → ℕ → LineFault → Type 0
@@ -148,7 +150,7 @@ EndsSo Tells bound bytes written before after (Err (run.TooLong line)) =
 EndsSo Tells bound bytes written before after (Err (run.InputTooLong line)) =
     StoppedBehind Tells bytes written before after line × BoundPassed bound bytes before after × NoFailure before after × NoFlush before after
 EndsSo Tells bound bytes written before after (Err (run.Memory line)) =
-    IsStarved Tells (lines_read (has_ended before after) bytes) written line × NoFailure before after × NoFlush before after
+    IsStarved Tells bytes (lines_read (has_ended before after) bytes) written line × NoFailure before after × NoFlush before after
 
 -- a run: what it read, in how many reads at most, and that none of them asked for nothing; what it wrote, that it worked through what it
 -- read, how it ended behind that, and that the reader is at its end where a read met the end

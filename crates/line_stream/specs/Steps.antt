@@ -2,11 +2,12 @@
 use Rattle.std.specs.Prelude.{◌≡◌, ℕ, ◌+◌, ◌≤◌, List, [], ◌∷◌, ◌++◌, length, take, Option, Result, Err, ◌⊎◌}
 use Rattle.std.specs.Io.KnownBytes.{Appends}
 use Rattle.mj_model.specs.Counts.{WriterTold}
+use Rattle.mj_model.specs.declared.limits.TheConstants.{SENTENCE_MAX}
 use Rattle.mj_model.specs.declared.run_fault.RunFault.{RunFault}
 use Rattle.mj_model.specs.declared.run_fault.RunFault.TheVariants as run
 use Rattle.line_stream.specs.declared.line_fault.LineFault.{LineFault}
 use Rattle.line_stream.specs.declared.line_fault.LineError.{LineError}
-use Rattle.line_stream.specs.LineErrors.{run_fault, TellsFault}
+use Rattle.line_stream.specs.LineErrors.{run_fault, TellsOr}
 use Rattle.line_stream.specs.Progress.{AllPrint}
 
 -- what a writer held, and the failures and flushes that it counted, before and after a step
@@ -121,10 +122,10 @@ last_line (c ∷ cs) = (c ∷ cs) ∷ []
 -- a line did not print
 pub record IsLineCause (Tells : List ℕ → Result (List ℕ) LineFault → Type 0) (line : List ℕ) (done : List (List ℕ)) (error : LineError) : Type 0 where
   pub none_before : done ≡ []
-  pub tells : TellsFault (λ fault. Tells line (Err fault)) error
+  pub tells : TellsOr (length line ≤ SENTENCE_MAX) (λ fault. Tells line (Err fault)) error
 
 -- the last line did not print
 pub record IsLastCause (Tells : List ℕ → Result (List ℕ) LineFault → Type 0) (tail : List ℕ) (done : List (List ℕ)) (error : LineError) : Type 0 where
   pub none_before : done ≡ []
   pub there : last_line tail ≡ tail ∷ []
-  pub tells : TellsFault (λ fault. Tells tail (Err fault)) error
+  pub tells : TellsOr (length tail ≤ SENTENCE_MAX) (λ fault. Tells tail (Err fault)) error

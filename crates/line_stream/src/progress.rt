@@ -3,7 +3,7 @@
 ghost use Rattle.std.specs.Prelude.{◌≡◌, ◌+◌, ◌<◌, ◌≤◌, ◌^◌, ◌++◌, length, Err, OnOk, IfErr, OnErr, []};
 ghost use Rattle.mj_model.specs.declared.limits.TheConstants.{SENTENCE_MAX};
 ghost use Rattle.line_stream.specs.GoodLines.{IsGood};
-ghost use Rattle.line_stream.specs.LineErrors.{TellsFault};
+ghost use Rattle.line_stream.specs.LineErrors.{TellsFault, TellsOr};
 ghost use Rattle.line_stream.specs.declared.line_fault.LineError.TheVariants.{Memory};
 ghost use Rattle.line_stream.specs.declared.line_fault.LineFault.TheVariants.{TooLong};
 ghost use Rattle.line_stream.specs.Progress.{IsPrinted, Worked};
@@ -69,13 +69,17 @@ pub fn print_line<P: LinePrinter>(
 pub fn hold(pending: &mut Vec<u8>, part: &[u8]) -> Result<(), LineError>
     ensures held { OnOk result (pending.new.items ≡ pending.old.items ++ part.now) }
     ensures short { OnOk result (length pending.new.items ≤ SENTENCE_MAX) }
-    ensures long { IfErr result (TellsFault (λ fault.
+    ensures long { IfErr result (TellsOr
+        ((0 < length part.now) × (length (pending.old.items ++ part.now) ≤ SENTENCE_MAX))
+        (λ fault.
         (fault ≡ TooLong) × (SENTENCE_MAX < length (pending.old.items ++ part.now)))) }
 {
     if part.len() > SENTENCE_MAX || pending.len() > SENTENCE_MAX - part.len() {
         return Err(LineError::Bad(LineFault::TooLong));
     }
-    pending.extend_from_slice(part)?;
+    if !part.is_empty() {
+        pending.extend_from_slice(part)?;
+    }
     Ok(())
 }
 
@@ -93,8 +97,9 @@ impl Progress {
             self.old.out.items self.new.out.items) }
         ensures counted { OnOk result (self.new.lines ≡ self.old.lines + 1) }
         ensures ended { OnOk result (self.new.pending.items ≡ []) }
-        ensures bad { IfErr result (TellsFault (λ fault.
-            P.tells printer.now (self.old.pending.items ++ part.now) (Err fault))) }
+        ensures bad { IfErr result
+            (TellsOr (length (self.old.pending.items ++ part.now) ≤ SENTENCE_MAX)
+            (λ fault. P.tells printer.now (self.old.pending.items ++ part.now) (Err fault))) }
         ensures kept { OnErr result
             ((self.new.out.items ≡ self.old.out.items) × (self.new.lines ≡ self.old.lines)) }
     {
