@@ -15,9 +15,8 @@ from pathlib import Path
 NOBODY = 65534
 TOOLS = Path(__file__).resolve().parent.parent
 
-# A lexicon of one entry more than a dictionary may have.
-ENTRY = b"a,0,0,0,\n"
-ENTRIES = 2**28 + 1
+# A lexicon of one entry more than a dictionary may have, and one of a single entry whose feature has 2^32 bytes: a piece, and how often it comes.
+LONG = {"entries": (b"a,0,0,0,\n", 2**28 + 1), "feature": (b"a,0,0,0,", 2**29 + 1)}
 AT_ONCE = 2**16
 
 
@@ -53,12 +52,12 @@ def failing_input(text):
     return ours
 
 
-def feed(writer):
-    """Writes entries as long as they are read."""
+def feed(writer, piece, count):
+    """Writes a piece so often, as long as it is read."""
     with suppress(BrokenPipeError), open(writer, "wb", buffering=0) as pipe:
-        for _ in range(ENTRIES // AT_ONCE):
-            pipe.write(ENTRY * AT_ONCE)
-        pipe.write(ENTRY * (ENTRIES % AT_ONCE))
+        for _ in range(count // AT_ONCE):
+            pipe.write(piece * AT_ONCE)
+        pipe.write(piece * (count % AT_ONCE))
 
 
 def feed_slowly(writer, text):
@@ -82,8 +81,8 @@ def fed_input(user, feeding, *given):
 def input_of(kind, text, folder, user):
     if kind == "failing":
         return failing_input(text)
-    if kind == "entries":
-        return fed_input(user, feed)
+    if kind in LONG:
+        return fed_input(user, feed, *LONG[kind])
     if kind == "slow":
         return fed_input(user, feed_slowly, text)
     return os.open(folder, os.O_RDONLY) if kind == "directory" else subprocess.PIPE

@@ -106,3 +106,7 @@ ROWS += [
 # 2^28 entries are 15 GB. These are all of one line, so that memory which repeats holds them.
 MANY_ENTRIES = Under(stdin="entries", repeats=True, seconds=600)
 ROWS.append(Run("too many entries", f"{SYSTEM} /dev/stdin", err="/dev/stdin:268435457: S5 TooMany", status=1, under=MANY_ENTRIES))
+
+# A line of 4 GB, which repeats too: its feature has one byte more than those of an image may have together.
+LONG_FEATURE = Under(stdin="feature", repeats=True, seconds=600)
+ROWS.append(Run("features too large", f"{SYSTEM} /dev/stdin", err="I3 FeaturesTooLarge", status=1, under=LONG_FEATURE))
