@@ -4,6 +4,7 @@ use Rattle.mj_model.specs.Bounds.{IsWithin}
 use Rattle.path_search.specs.Nodes.{Node}
 use Rattle.path_search.specs.declared.node.End.{End}
 use Rattle.path_search.specs.declared.node.Join.{Join}
+use Rattle.path_search.specs.declared.node.Candidate.{Candidate}
 use Rattle.path_search.specs.declared.joins.LeftJoin.{LeftJoin}
 
 -- node k as an end, in which it is numbered from 1
@@ -45,12 +46,12 @@ IsFollowedBy is_pair left e = is_pair e.right left
 abbrev pub end_cost : (ℕ → ℕ → ℤ) → ℕ → End → ℤ
 end_cost conn left e = e.total +ℤ conn e.right left
 
--- the chain of an end, where a word of this left id follows
-abbrev pub join_of : (ℕ → ℕ → ℤ) → ℕ → End → Join
-join_of conn left e = record { before = e.before; cost = end_cost conn left e }
+-- an end by its rank, where a word of this left id follows
+abbrev pub candidate_at : (ℕ → ℕ → ℤ) → ℕ → ℕ → End → Candidate
+candidate_at conn left rank e = record { rank = rank; cost = end_cost conn left e }
 
 -- the lesser of the best so far and the next one: the best so far where costs are equal
-abbrev pub IsLesser : Join → Join → Join → Type 0
+abbrev pub IsLesser : Candidate → Candidate → Candidate → Type 0
 IsLesser best next result = ((result ≡ next) × (next.cost <ℤ best.cost)) ⊎ ((result ≡ best) × (best.cost ≤ℤ next.cost))
 
 -- the join is the first of the least of the ends

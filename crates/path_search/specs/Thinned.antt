@@ -22,7 +22,7 @@ HaveRightsOnce ends = (a b : ℕ) (x y : End) → slice_get ends a ≡ Some x �
 
 -- so few ends that a search takes less than to look up what was found
 abbrev pub few_ends : ℕ
-few_ends = 8
+few_ends = 16
 
 -- the ends are few, or no more than there are right ids
 abbrev pub AreThin : List End → Type 0

@@ -1,15 +1,15 @@
 //! The choice of the best chain to a place.
 
 ghost use Rattle.std.specs.Prelude.{◌≡◌, ◌<◌, length, All, IfOk, OnOk};
-ghost use Rattle.path_search.specs.Ends.{AreLeast, HasSmallTotal, IsFollowedBy, IsLeast, IsLesser, join_of};
+ghost use Rattle.path_search.specs.Ends.{AreLeast, HasSmallTotal, IsFollowedBy, IsLeast, IsLesser, candidate_at};
 
 use crate::joins::Joins;
-use crate::node::{End, Join};
+use crate::node::{Candidate, End, Join};
 use crate::source::WordSource;
 use std::alloc::AllocError;
 
 /// Among so few ends a search takes less than to look up what was found.
-pub const FEW_ENDS: usize = 8;
+pub const FEW_ENDS: usize = 16;
 
 /// The best of the chains to a place that have these ends, where a word of this left id follows. Where there are more than `FEW_ENDS`, it is
 /// searched once for each left id.
@@ -39,34 +39,38 @@ pub fn join<S: WordSource>(
     }
 }
 
-/// The first of the least of these ends, where a word of this left id follows.
+/// The first of the least of these ends, where a word of this left id follows. What is kept of the best so far is its rank, so that the choice is
+/// no branch, which a processor would often predict wrongly.
 pub fn least<S: WordSource>(source: &S, ends: &[End], left: u16) -> Join
     requires some { 0 < length ends.now }
     requires totals { All HasSmallTotal ends.now }
     requires pairs { All (IsFollowedBy (S.says source.now).is_pair left) ends.now }
     ensures { IsLeast (S.says source.now).connection ends.now left result }
 {
-    let mut best = joined(source, &ends[0], left);
+    let mut best = candidate(source, 0, &ends[0], left);
     for rank in 1..ends.len() {
-        best = lesser(best, joined(source, &ends[rank], left));
+        best = lesser(best, candidate(source, rank, &ends[rank], left));
     }
-    best
+    Join {
+        before: ends[best.rank].before,
+        cost: best.cost,
+    }
 }
 
-/// An end, where a word of this left id follows.
-fn joined<S: WordSource>(source: &S, end: &End, left: u16) -> Join
+/// An end as a candidate, where a word of this left id follows.
+fn candidate<S: WordSource>(source: &S, rank: usize, end: &End, left: u16) -> Candidate
     requires total { HasSmallTotal end.now }
     requires pair { IsFollowedBy (S.says source.now).is_pair left end.now }
-    ensures { result ≡ join_of (S.says source.now).connection left end.now }
+    ensures { result ≡ candidate_at (S.says source.now).connection left rank end.now }
 {
-    Join {
-        before: end.before,
+    Candidate {
+        rank,
         cost: end.total + i64::from(source.connection_cost(end.right, left)),
     }
 }
 
 /// The lesser of the best so far and the next one.
-fn lesser(best: Join, next: Join) -> Join
+fn lesser(best: Candidate, next: Candidate) -> Candidate
     ensures { IsLesser best next result }
 {
     if next.cost < best.cost { next } else { best }

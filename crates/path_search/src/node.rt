@@ -81,3 +81,12 @@ pub struct Join {
     pub before: usize,
     pub cost: i64,
 }
+
+/// One of the ends of a place by its rank among them.
+///
+/// `cost` is its total with the connection cost to a word that follows.
+#[derive(Clone, Copy, Debug, Drop)]
+pub struct Candidate {
+    pub rank: usize,
+    pub cost: i64,
+}

@@ -1,19 +1,17 @@
-use Rattle.std.proofs.Common.{arith, ◌≡◌, ℕ, pos, subst, length}
+use Rattle.std.proofs.Common.{rules, arith, ◌≡◌, ℕ, pos, refl, subst, length, get_or, to_z, of_z, w64}
+use Rattle.std.proofs.lemmas.Int.{to_z-of_z}
+use mir.Val.{SFits}
 use Rattle.path_search.specs.declared.node.End.{End}
-use Rattle.path_search.proofs.Least.{IsLeastOf, least_first, least_more, least_of_all}
+use Rattle.path_search.proofs.Least.{IsLeastOf, least_more, least_of_all}
 use Rattle.path_search.proofs.joining.least.Goals as goal
 
 abbrev no_end : End
 no_end = record { total = pos 0; before = 0; right = 0 }
 
-pub loop-rank-init : goal.loop-rank-init
-loop-rank-init g c =
-    least_first (g.S.WordSource.says c.args.source.now).connection c.args.ends.now c.args.left no_end c.joined-best.result c.requires.some c.joined-best.ensures
-
 pub loop-rank-preserved : goal.loop-rank-preserved
 loop-rank-preserved g c =
-    least_more (g.S.WordSource.says c.args.source.now).connection c.args.ends.now c.args.left no_end c.loop-rank.rank c.loop-rank.best c.joined.result c.lesser-best.result
-    (omega arith) c.joined.ensures c.lesser-best.ensures c.loop-rank.invariant
+    least_more (g.S.WordSource.says c.args.source.now).connection c.args.ends.now c.args.left no_end c.loop-rank.rank c.loop-rank.best c.candidate.result c.lesser-best.result
+    (omega arith) c.candidate.ensures c.lesser-best.ensures c.loop-rank.invariant
 
 pub returns : goal.returns
 returns g c =
@@ -21,4 +19,6 @@ returns g c =
     let ends = c.args.ends.now in
     let best = c.loop-rank.best in
     let all : c.loop-rank.rank ≡ length ends = omega (arith, c.loop-rank.auto.rank-end c.requires.some, c.loop-rank-test.false) in
-    least_of_all conn ends c.args.left best (subst (λ (n : ℕ). IsLeastOf conn ends c.args.left n best) all c.loop-rank.invariant)
+    let fits : SFits w64 best.cost = search rules in
+    least_of_all conn ends c.args.left no_end best (record { before = (get_or ends best.rank no_end).before; cost = to_z w64 (of_z w64 best.cost) })
+    (subst (λ (n : ℕ). IsLeastOf conn ends c.args.left n best) all c.loop-rank.invariant) refl (to_z-of_z w64 best.cost fits)
