@@ -1,6 +1,6 @@
 //! What is kept from line to line.
 
-use lattice::Lattice;
+use crate::lattice::Lattice;
 use paths::Path;
 use std::alloc::Global;
 

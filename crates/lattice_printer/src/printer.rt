@@ -2,11 +2,10 @@
 
 use crate::format::LatticeFormat;
 use crate::sheet::{LineLattice, Sheet};
-use lattice::{MarkedLattice, marked_lattice};
+use lattice::{LineMemory, MarkedLattice, marked_lattice};
 use line_stream::LinePrinter;
 use std::alloc::{AllocError, Global};
 use word_lookup::Dictionaries;
-use words_printer::LineMemory;
 
 /// The memory of one line's search and of a field, used again for the next.
 #[derive(Debug, Drop)]

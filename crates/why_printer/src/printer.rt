@@ -2,11 +2,10 @@
 
 use crate::cut_line::CutLine;
 use crate::sheet::Sheet;
-use lattice::rivals_over;
+use lattice::{LineMemory, rivals_over};
 use line_stream::LinePrinter;
 use std::alloc::{AllocError, Global};
 use word_lookup::Dictionaries;
-use words_printer::LineMemory;
 
 /// Dictionaries that lines are cut by. The rivals of a line take memory of their own, linear in its lattice.
 #[derive(Drop)]

@@ -1,6 +1,6 @@
 //! Lines are printed as the words of their best path.
 
-use crate::line_memory::LineMemory;
+use lattice::LineMemory;
 use line_stream::LinePrinter;
 use out_format::{Format, print};
 use std::alloc::{AllocError, Global};
