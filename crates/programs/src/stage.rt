@@ -75,51 +75,102 @@ pub enum Stage<'a> {
     },
 }
 
+/// What is told of a source that begins with one.
+const BYTE_ORDER_MARK: &str = " begins with a byte order mark, which counts as text";
+
 impl Display for Stage<'_> {
     fn fmt<W: Write>(&self, f: &mut Formatter<W>) -> fmt::Result {
         match *self {
-            Stage::Read { path, bytes } => write!(f, "read {}: {bytes} bytes", OneLine(path)),
-            Stage::ByteOrderMark { path } => {
-                write!(
-                    f,
-                    "{} begins with a byte order mark, which counts as text",
-                    OneLine(path)
-                )
-            }
-            Stage::Loaded { path } => write!(f, "loaded {}", OneLine(path)),
-            Stage::Compiling { lexicons } => write!(f, "compiling {lexicons} lexicons"),
-            Stage::CostsRead { right, left } => {
-                write!(
-                    f,
-                    "connection costs of {right} right ids and {left} left ids"
-                )
-            }
-            Stage::CategoriesRead { categories } => write!(f, "{categories} categories"),
-            Stage::UnknownRead => write!(f, "unknown words"),
-            Stage::LexiconRead { path, entries } => {
-                write!(f, "{entries} entries up to {}", OneLine(path))
-            }
-            Stage::Sorted { entries } => write!(f, "sorted {entries} entries"),
-            Stage::LongestSurface { bytes, path, line } => {
-                write!(
-                    f,
-                    "longest surface: {bytes} bytes, in line {line} of {}",
-                    OneLine(path)
-                )
-            }
-            Stage::Compiled { entries, bytes } => {
-                write!(f, "compiled {entries} entries to {bytes} bytes")
-            }
-            Stage::Written { path, bytes } => {
-                write!(f, "wrote {}: {bytes} bytes", OneLine(path))
-            }
+            Stage::Read { path, bytes } => write_file(f, "read", path, bytes),
+            Stage::ByteOrderMark { path } => write_named(f, "", path, BYTE_ORDER_MARK),
+            Stage::Loaded { path } => write_named(f, "loaded ", path, ""),
+            Stage::Compiling { lexicons } => write_count(f, "compiling ", lexicons, " lexicons"),
+            Stage::CostsRead { right, left } => write_ids(f, right, left),
+            Stage::CategoriesRead { categories } => write_count(f, "", categories, " categories"),
+            Stage::UnknownRead => f.write_str("unknown words"),
+            Stage::LexiconRead { path, entries } => write_entries(f, path, entries),
+            Stage::Sorted { entries } => write_count(f, "sorted ", entries, " entries"),
+            Stage::LongestSurface { bytes, path, line } => write_longest(f, bytes, path, line),
+            Stage::Compiled { entries, bytes } => write_compiled(f, entries, bytes),
+            Stage::Written { path, bytes } => write_file(f, "wrote", path, bytes),
             Stage::Share {
                 section,
                 bytes,
                 percent,
-            } => { write!(f, "{section}: {bytes} bytes, {percent} %") }
-            Stage::NoEntry { feature } => write!(f, "no entry fits '{}'", OneLine(feature)),
-            Stage::Cut { lines } => write!(f, "cut {lines} lines"),
+            } => write_share(f, section, bytes, percent),
+            Stage::NoEntry { feature } => write_named(f, "no entry fits '", feature, "'"),
+            Stage::Cut { lines } => write_count(f, "cut ", lines, " lines"),
         }
     }
+}
+
+/// Writes what was done with a file, its path and its bytes.
+fn write_file<W: Write>(f: &mut Formatter<W>, done: &str, path: &str, bytes: usize) -> fmt::Result {
+    write!(f, "{done} {}: {bytes} bytes", OneLine(path))
+}
+
+/// Writes a path or a feature between two texts.
+fn write_named<W: Write>(
+    f: &mut Formatter<W>,
+    before: &str,
+    name: &str,
+    behind: &str,
+) -> fmt::Result {
+    f.write_str(before)?;
+    OneLine(name).fmt(f)?;
+    f.write_str(behind)
+}
+
+/// Writes a number between two texts.
+fn write_count<N: Display + Drop, W: Write>(
+    f: &mut Formatter<W>,
+    before: &str,
+    number: N,
+    behind: &str,
+) -> fmt::Result {
+    f.write_str(before)?;
+    write!(f, "{number}")?;
+    f.write_str(behind)
+}
+
+/// Writes how many right ids and left ids connection costs are for.
+fn write_ids<W: Write>(f: &mut Formatter<W>, right: u32, left: u32) -> fmt::Result {
+    write!(
+        f,
+        "connection costs of {right} right ids and {left} left ids"
+    )
+}
+
+/// Writes how many entries there are with those of a lexicon.
+fn write_entries<W: Write>(f: &mut Formatter<W>, path: &str, entries: u64) -> fmt::Result {
+    write!(f, "{entries} entries up to {}", OneLine(path))
+}
+
+/// Writes how long the longest surface is, and where it stands.
+fn write_longest<W: Write>(
+    f: &mut Formatter<W>,
+    bytes: usize,
+    path: &str,
+    line: u64,
+) -> fmt::Result {
+    write!(
+        f,
+        "longest surface: {bytes} bytes, in line {line} of {}",
+        OneLine(path)
+    )
+}
+
+/// Writes how many entries were compiled, and to how many bytes.
+fn write_compiled<W: Write>(f: &mut Formatter<W>, entries: u64, bytes: usize) -> fmt::Result {
+    write!(f, "compiled {entries} entries to {bytes} bytes")
+}
+
+/// Writes how many bytes of an image a section has.
+fn write_share<W: Write>(
+    f: &mut Formatter<W>,
+    section: &str,
+    bytes: u64,
+    percent: u128,
+) -> fmt::Result {
+    write!(f, "{section}: {bytes} bytes, {percent} %")
 }
