@@ -131,10 +131,11 @@ def katakana(cutting):
 
 def behind_blanks(cutting):
     """Blanks go on to a run of kanji at each second place, and the places between begin with none of them: so two runs are asked for in turn."""
-    count = cutting.sizes.line_bytes // 6
-    size = f"{count} blanks that are katakana, with ア between, and 1,026 kanji"
+    kanji = "亜" * 1026
+    count = (cutting.sizes.line_bytes - len(kanji.encode())) // 6
+    size = f"{count} blanks that are katakana, with ア between, and {len(kanji):,} kanji"
     lexicon = "ア,1,1,1000,x\nア\u3000,1,1,1000,x\n"
-    return grouping(cutting, "grouping behind blanks", size, "0x3000 SPACE KATAKANA\n", "亜" * 1026, lexicon, "ア\u3000" * count)
+    return grouping(cutting, "grouping behind blanks", size, "0x3000 SPACE KATAKANA\n", kanji, lexicon, "ア\u3000" * count)
 
 
 def stem(cutting):
