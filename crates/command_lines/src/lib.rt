@@ -7,7 +7,6 @@ mod explanation;
 pub mod jseg;
 mod one_line;
 mod options_fault;
-mod program;
 mod row;
 mod words;
 

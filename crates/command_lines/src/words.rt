@@ -1,5 +1,6 @@
 //! The words of a command line, and what a command finds in them.
 
+use crate::about::answer_explain;
 use crate::one_line::WORDS_FEED;
 use crate::options_fault::OptionsFault;
 use clap::{ArgMatches, Command};
@@ -55,8 +56,33 @@ pub(crate) fn file_among(words: &[String]) -> Option<&str> {
     None
 }
 
+/// What a program's command finds in words. Where they have `--explain`, that is answered.
+pub(crate) fn found<'a>(
+    alloc: Global,
+    program: &str,
+    command: Command<'a>,
+    words: &'a [String],
+) -> Result<ArgMatches<'a>, OptionsFault> {
+    let matches = parsed(alloc, program, command, words)?;
+    answer_explain(alloc, program, &matches)?;
+    Ok(matches)
+}
+
+/// Refuses words without feeds that the parser refuses. What it says of them stands in the lines of its text.
+pub(crate) fn check<'a>(
+    alloc: Global,
+    program: &str,
+    command: Command<'a>,
+    told: &'a [String],
+) -> Result<(), OptionsFault> {
+    match parsed(alloc, program, command, told) {
+        Ok(_) => Ok(()),
+        Err(fault) => Err(fault.in_lines(alloc)),
+    }
+}
+
 /// What the parser finds in words.
-pub(crate) fn parsed<'a>(
+fn parsed<'a>(
     alloc: Global,
     program: &str,
     command: Command<'a>,

@@ -4,9 +4,8 @@ use super::choices::{Asked, Base, IdsOptions, Options};
 use super::rows::{compiling_rows, ids_rows, rows, system_rows, user_rows};
 use crate::about::VERSION;
 use crate::options_fault::OptionsFault;
-use crate::program::{Program, found};
 use crate::row::{Row, with_rows};
-use crate::words::{file_among, file_behind, needed_text, texts_of};
+use crate::words::{check, file_among, file_behind, found, needed_text, texts_of, without_feeds};
 use clap::{ArgMatches, Command};
 use std::alloc::{AllocError, Global};
 use std::string::String;
@@ -31,29 +30,23 @@ const NO_SUBCOMMAND: &str = "one of 'dictc system', 'dictc user' and 'dictc ids'
 
 /// Reads the words that follow the program's name.
 pub fn options(alloc: Global, words: Vec<String>) -> Result<Asked, OptionsFault> {
-    let matches = found::<Dictc>(alloc, &words)?;
+    let told = without_feeds(alloc, &words)?;
+    check(alloc, NAME, command(alloc)?, &told).map_err(|fault| fault.with_file_tip(
+        alloc,
+        meant_file(&words),
+    ))?;
+    let matches = found(alloc, NAME, command(alloc)?, &words)?;
     asked(alloc, &matches)
 }
 
-struct Dictc;
-
-impl Program for Dictc {
-    fn name() -> &'static str {
-        NAME
-    }
-
-    fn command<'a>(alloc: Global) -> Result<Command<'a>, AllocError> {
-        let command = Command::new(alloc, NAME)
-            .bin_name(NAME)?
-            .about("Compiles the sources of a dictionary to an image")
-            .version(VERSION)
-            .no_binary_name(true);
-        with_subcommands(alloc, with_rows(alloc, command, rows())?)
-    }
-
-    fn refusal(alloc: Global, fault: OptionsFault, words: &[String]) -> OptionsFault {
-        fault.with_file_tip(alloc, meant_file(words))
-    }
+/// What the program takes.
+fn command<'a>(alloc: Global) -> Result<Command<'a>, AllocError> {
+    let command = Command::new(alloc, NAME)
+        .bin_name(NAME)?
+        .about("Compiles the sources of a dictionary to an image")
+        .version(VERSION)
+        .no_binary_name(true);
+    with_subcommands(alloc, with_rows(alloc, command, rows())?)
 }
 
 /// What was found is asked for.

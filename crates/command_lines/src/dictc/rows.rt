@@ -45,14 +45,17 @@ static ROWS: [Row; 1] = [EXPLAIN];
 
 static COMPILING_ROWS: [Row; 4] = [OUT, ALL_FAULTS, VERBOSE, LEXICONS];
 
+/// An option that has the name of a source, and has to be given.
+const SOURCE: Row = Row {
+    values: &["FILE"],
+    ..NEEDED
+};
+
 #[rattlefmt::skip]
 static SYSTEM_ROWS: [Row; 3] = [
-    Row { id: "matrix", name: Long("matrix"), values: &["FILE"],
-        help: "The connection costs: matrix.def", ..NEEDED },
-    Row { id: "char", name: Long("char"), values: &["FILE"],
-        help: "The character categories: char.def", ..NEEDED },
-    Row { id: "unk", name: Long("unk"), values: &["FILE"],
-        help: "The unknown words: unk.def", ..NEEDED },
+    Row { id: "matrix", name: Long("matrix"), help: "The connection costs: matrix.def", ..SOURCE },
+    Row { id: "char", name: Long("char"), help: "The character categories: char.def", ..SOURCE },
+    Row { id: "unk", name: Long("unk"), help: "The unknown words: unk.def", ..SOURCE },
 ];
 
 #[rattlefmt::skip]

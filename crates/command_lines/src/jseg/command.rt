@@ -5,9 +5,8 @@ use super::mecab_habits::{habit_in, habits};
 use super::rows::{INPUTS, rows};
 use crate::about::VERSION;
 use crate::options_fault::OptionsFault;
-use crate::program::{Program, found};
 use crate::row::with_rows;
-use crate::words::{file_behind, text_of, texts_of};
+use crate::words::{check, file_behind, found, text_of, texts_of, without_feeds};
 use clap::{ArgGroup, ArgMatches, Command};
 use mj_model::GROUPING_DEFAULT;
 use std::alloc::{AllocError, Global};
@@ -27,34 +26,29 @@ const NO_LATTICE: &str = "--within N is for --lattice FORM";
 
 /// Reads the words that follow the program's name.
 pub fn task(alloc: Global, words: Vec<String>) -> Result<Task, OptionsFault> {
-    let matches = found::<Jseg>(alloc, &words)?;
+    let told = without_feeds(alloc, &words)?;
+    check(alloc, NAME, command(alloc)?, &told).map_err(|fault| refused(alloc, fault, &words))?;
+    let matches = found(alloc, NAME, command(alloc)?, &words)?;
     asked(alloc, &matches)
 }
 
-struct Jseg;
+/// The parser's fault, as it is told of these words. The parser's own tip is for a program that takes words.
+fn refused(alloc: Global, fault: OptionsFault, words: &[String]) -> OptionsFault {
+    fault
+        .without_tip(alloc)
+        .with_file_tip(alloc, file_behind(words, &FILES))
+}
 
-impl Program for Jseg {
-    fn name() -> &'static str {
-        NAME
-    }
-
-    fn command<'a>(alloc: Global) -> Result<Command<'a>, AllocError> {
-        let command = Command::new(alloc, NAME)
-            .about("Cuts the Japanese text on standard input into words")
-            .version(VERSION)
-            .override_usage("jseg [OPTIONS] <-d IMG|--sources DIR|--sample> < TEXT")
-            .no_binary_name(true);
-        let command = with_rows(alloc, command, rows())?;
-        let command = with_rows(alloc, command, habits())?;
-        with_input_group(alloc, command)
-    }
-
-    /// The parser's own tip is for a program that takes words.
-    fn refusal(alloc: Global, fault: OptionsFault, words: &[String]) -> OptionsFault {
-        fault
-            .without_tip(alloc)
-            .with_file_tip(alloc, file_behind(words, &FILES))
-    }
+/// What the program takes.
+fn command<'a>(alloc: Global) -> Result<Command<'a>, AllocError> {
+    let command = Command::new(alloc, NAME)
+        .about("Cuts the Japanese text on standard input into words")
+        .version(VERSION)
+        .override_usage("jseg [OPTIONS] <-d IMG|--sources DIR|--sample> < TEXT")
+        .no_binary_name(true);
+    let command = with_rows(alloc, command, rows())?;
+    let command = with_rows(alloc, command, habits())?;
+    with_input_group(alloc, command)
 }
 
 /// What was found is asked for.

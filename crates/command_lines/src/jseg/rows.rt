@@ -35,6 +35,12 @@ const OF_WORDS_AND_LATTICES: &[&str] = &[
 /// The forms of a printed lattice.
 pub(super) const FORMS: [&str; 2] = ["tsv", "dot"];
 
+/// An option that has the text of a format.
+const FORMAT: Row = Row {
+    values: &["FORMAT"],
+    ..TEXT
+};
+
 /// The options, in the order of help.
 pub(super) fn rows() -> &'static [Row] {
     &ROWS
@@ -55,14 +61,10 @@ static ROWS: [Row; 17] = [
         help: "How many characters may follow the first one of a grouped unknown word (24)", ..VALUE },
     Row { id: "output", name: Letter('O'), values: &["NAME"],
         help: "An output format by its name: wakati, a line of surfaces with a blank after each", ..VALUE },
-    Row { id: "node", name: Letter('F'), values: &["FORMAT"],
-        help: "The format of known words", ..TEXT },
-    Row { id: "unk", name: Letter('U'), values: &["FORMAT"],
-        help: "The format of unknown words", ..TEXT },
-    Row { id: "bos", name: Letter('B'), values: &["FORMAT"],
-        help: "What is printed before the first word of a line", ..TEXT },
-    Row { id: "eos", name: Letter('E'), values: &["FORMAT"],
-        help: "What is printed after the last word of a line", ..TEXT },
+    Row { id: "node", name: Letter('F'), help: "The format of known words", ..FORMAT },
+    Row { id: "unk", name: Letter('U'), help: "The format of unknown words", ..FORMAT },
+    Row { id: "bos", name: Letter('B'), help: "What is printed before the first word of a line", ..FORMAT },
+    Row { id: "eos", name: Letter('E'), help: "What is printed after the last word of a line", ..FORMAT },
     Row { id: "lattice", name: Long("lattice"), values: &["FORM"], parser: ValueParser::Names(&FORMS), excluded: OF_WORDS,
         help: "Print the lattice of each line: tsv, a table of its words, or dot, a graph for Graphviz", ..VALUE },
     Row { id: "within", name: Long("within"), values: &["N"], parser: ValueParser::Signed(0, i64::MAX),
