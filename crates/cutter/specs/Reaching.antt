@@ -1,9 +1,10 @@
 -- How far a path comes with each of its words, and what was cut last as it is lent.
-use Rattle.std.specs.Prelude.{◌≡◌, ℕ, pos, List, ◌++◌, flat_map}
+use Rattle.std.specs.Prelude.{◌≡◌, ℕ, pos, List, ◌++◌, flat_map, IsTrue}
 use Rattle.mj_model.specs.declared.word.Word.{Word}
+use Rattle.mj_model.specs.Connection.{is_pair}
 use Rattle.mj_model.specs.Printed.{feature_of}
 use Rattle.mj_model.specs.Tables.{Overlay}
-use Rattle.out_format.specs.Followable.{AreFollowable}
+use Rattle.out_format.specs.Followable.{AreFollowable, IsLow}
 use Rattle.out_format.specs.PrintedPaths.{cost_with_word}
 use Rattle.word_lookup.specs.Overlays.{overlay_of}
 use Rattle.cutter.specs.Cutters.{Cut, HasNoRoom, Held, overlay_held}
@@ -17,6 +18,11 @@ at_bos = record { right = 0; total = pos 0 }
 -- how far a path comes with a further word
 abbrev pub reached_with : Overlay → Reached → Word → Reached
 reached_with o before w = record { right = w.right; total = cost_with_word o before.right before.total w }
+
+-- a word can follow what a path has come to: its ids make a pair with those before it, and the path costs little up to there
+pub record CanFollow (o : Overlay) (before : Reached) (w : Word) : Type 0 where
+  pub pair : IsTrue (is_pair o.system.sizes before.right w.left)
+  pub low : IsLow before.total
 
 -- each word of a text may follow the one before, from where a path has come to
 abbrev pub MayFollow : Overlay → List ℕ → Reached → List Word → Type 0

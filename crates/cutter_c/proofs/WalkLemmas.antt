@@ -4,7 +4,7 @@ use Rattle.std.specs.Prelude.{ℤ, min, Option, Some, None}
 use Rattle.std.specs.Option.{IsSomeAnd}
 use Rattle.std.proofs.lemmas.List.{drop-drop, drop_min, drop_more, get_or-drop}
 use Rattle.cutter.specs.Cutters.{Cut, Held, IsCutOver, OfCut, overlay_held}
-use Rattle.cutter.specs.Reaching.{AreLast, MayFollow, at_bos, reached_with}
+use Rattle.cutter.specs.Reaching.{AreLast, CanFollow, MayFollow, at_bos, reached_with}
 use Rattle.cutter.specs.declared.last_words.LastWords.{LastWords}
 use Rattle.cutter.specs.declared.reached.Reached.{Reached}
 use Rattle.cutter_c.specs.Outputs.{with_front}
@@ -45,8 +45,11 @@ module _ (o : Overlay) (text : List ℕ) (words : List Word) (all : List CWord) 
   pub stands_here : IsWordOf o text now.right here
   stands_here = follow_here.0
 
-  pub low_here : IsLow now.total
+  low_here : IsLow now.total
   low_here = follow_here.1
+
+  pub can_follow : CanFollow o now here
+  can_follow = record { pair = stands_here.follows; low = low_here }
 
   pub walked_on : (next : Reached) → next ≡ beyond → IsWalked o text words all (i + 1) next
   walked_on next is = subst (IsWalked o text words all (i + 1)) (sym is) (record {

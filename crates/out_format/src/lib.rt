@@ -21,4 +21,4 @@ mod word_in_path;
 
 pub use format::Format;
 pub use mj_model::{FormatFault, FormatKind, FormatPart};
-pub use printing::print;
+pub use printing::{cost_with, print};

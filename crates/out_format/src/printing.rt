@@ -105,7 +105,7 @@ fn append_words<'a>(
 }
 
 /// What a path costs with a further word.
-fn cost_with(
+pub fn cost_with(
     dictionaries: &Dictionaries<'_>,
     right_before: u16,
     cost_before: i64,

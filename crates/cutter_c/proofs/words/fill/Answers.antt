@@ -4,7 +4,7 @@ use Rattle.std.proofs.lemmas.Int.{to_z-of_z}
 use mir.Val.{SFits}
 use Rattle.cutter_c.specs.Words.{c_word_in, c_words}
 use Rattle.cutter_c.proofs.FillLemmas.{filling_ends, filling_more}
-use Rattle.cutter_c.proofs.WalkLemmas.{length-c_words, low_here, stands_here, told_here, told_word, walked_on}
+use Rattle.cutter_c.proofs.WalkLemmas.{can_follow, length-c_words, stands_here, told_here, told_word, walked_on}
 use Rattle.out_format.proofs.ShownLemmas.{no_word}
 use Rattle.word_lookup.specs.Overlays.{overlay_of}
 use Rattle.cutter_c.proofs.words.fill.Goals as goal
@@ -15,21 +15,13 @@ loop-i-init c = record {
   walked = record { rest = refl; follow = c.requires };
 }
 
-pub reached_with-reached-requires-clause-pair : goal.reached_with-reached-requires-clause-pair
-reached_with-reached-requires-clause-pair c =
+pub reached_with-reached-requires : goal.reached_with-reached-requires
+reached_with-reached-requires c =
     let l = c.args.last.now in
     let o = overlay_of l.dictionaries in
     let words = c.args.words.now in
     let low : c.loop-i.i < length words = search rules in
-    (stands_here o l.text.now words (c_words o l.text.now c.args.before words) c.loop-i.i c.loop-i.reached no_word low c.loop-i.invariant.walked).follows
-
-pub reached_with-reached-requires-clause-low : goal.reached_with-reached-requires-clause-low
-reached_with-reached-requires-clause-low c =
-    let l = c.args.last.now in
-    let o = overlay_of l.dictionaries in
-    let words = c.args.words.now in
-    let low : c.loop-i.i < length words = search rules in
-    low_here o l.text.now words (c_words o l.text.now c.args.before words) c.loop-i.i c.loop-i.reached no_word low c.loop-i.invariant.walked
+    can_follow o l.text.now words (c_words o l.text.now c.args.before words) c.loop-i.i c.loop-i.reached no_word low c.loop-i.invariant.walked
 
 pub category-requires : goal.category-requires
 category-requires c =

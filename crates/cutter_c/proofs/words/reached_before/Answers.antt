@@ -1,7 +1,7 @@
 use Rattle.std.proofs.Common.{◌<◌, rules, refl, length}
 use Rattle.cutter.specs.Reaching.{at_bos}
 use Rattle.cutter_c.specs.Words.{c_words}
-use Rattle.cutter_c.proofs.WalkLemmas.{low_here, stands_here, walked_on}
+use Rattle.cutter_c.proofs.WalkLemmas.{can_follow, walked_on}
 use Rattle.out_format.proofs.ShownLemmas.{no_word}
 use Rattle.word_lookup.specs.Overlays.{overlay_of}
 use Rattle.cutter_c.proofs.words.reached_before.Goals as goal
@@ -9,19 +9,12 @@ use Rattle.cutter_c.proofs.words.reached_before.Goals as goal
 pub loop-i-init : goal.loop-i-init
 loop-i-init c = record { rest = refl; follow = c.requires.follow }
 
-pub reached_with-reached-requires-clause-pair : goal.reached_with-reached-requires-clause-pair
-reached_with-reached-requires-clause-pair c =
+pub reached_with-reached-requires : goal.reached_with-reached-requires
+reached_with-reached-requires c =
     let l = c.args.last.now in
     let o = overlay_of l.dictionaries in
     let low : c.loop-i.i < length l.words.now = search rules in
-    (stands_here o l.text.now l.words.now (c_words o l.text.now at_bos l.words.now) c.loop-i.i c.loop-i.reached no_word low c.loop-i.invariant).follows
-
-pub reached_with-reached-requires-clause-low : goal.reached_with-reached-requires-clause-low
-reached_with-reached-requires-clause-low c =
-    let l = c.args.last.now in
-    let o = overlay_of l.dictionaries in
-    let low : c.loop-i.i < length l.words.now = search rules in
-    low_here o l.text.now l.words.now (c_words o l.text.now at_bos l.words.now) c.loop-i.i c.loop-i.reached no_word low c.loop-i.invariant
+    can_follow o l.text.now l.words.now (c_words o l.text.now at_bos l.words.now) c.loop-i.i c.loop-i.reached no_word low c.loop-i.invariant
 
 pub loop-i-preserved : goal.loop-i-preserved
 loop-i-preserved c =
