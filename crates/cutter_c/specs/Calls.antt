@@ -2,7 +2,9 @@
 use Rattle.std.specs.Prelude.{◌≡◌, ◌≢◌, ℕ, ℤ, List, [], length, Option, None}
 use Rattle.cutter.specs.Cutters.{Cut, Held, IsLoaded, OfCut, with_user}
 use Rattle.cutter.specs.declared.fault.CutFault.{CutFault}
-use Rattle.cutter.specs.Faults.{IsImage, IsLoadRefusal, IsOneLine, IsUserRefusal}
+use Rattle.cutter.specs.Faults.{IsImage, IsLineRefusal, IsLoadRefusal, IsOneLine, IsTextRefusal, IsUserRefusal}
+use Rattle.cutter_c.specs.declared.cutting.Extent.{Extent}
+use Rattle.cutter_c.specs.declared.cutting.Extent.TheVariants.{Line, Text}
 use Rattle.cutter_c.specs.declared.cutting.PathSize.{PathSize}
 use Rattle.cutter_c.specs.Handles.{Fills, IsFillRefusal, IsRefusal, Moves, TellsLoading}
 use Rattle.cutter_c.specs.Outputs.{IsPlaceIn, OnlyFaultsSet, OnlyOkSets, TellsPlaced}
@@ -58,6 +60,15 @@ IsGoodText text = IsGood text
 
 unfoldable pub IsGoodLine : List ℕ → Type 0
 IsGoodLine line = IsOneLine line × IsGood line
+
+-- what may be cut so far, and why it is not
+abbrev pub IsGoodFor : Extent → List ℕ → Type 0
+IsGoodFor Line = IsGoodLine
+IsGoodFor Text = IsGoodText
+
+abbrev pub IsRefusalFor : Extent → List ℕ → CutFault → Type 0
+IsRefusalFor Line = IsLineRefusal
+IsRefusalFor Text = IsTextRefusal
 
 -- C is told by 0 how large the path is into which a handle's cutter cut a text that may be cut, or else why the cutter is as it was, and where
 -- the text is at fault

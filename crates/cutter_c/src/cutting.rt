@@ -2,8 +2,8 @@
 
 ghost use Rattle.std.specs.Prelude.{◌≡◌, IfOk, IfErr, OnOk, OnErr};
 ghost use Rattle.cutter.specs.Cutters.{OfCut};
-ghost use Rattle.cutter.specs.Faults.{IsLineRefusal, IsNothingCut, IsTextRefusal};
-ghost use Rattle.cutter_c.specs.Calls.{HasSize, IsCutInto, IsGoodLine, IsGoodText, size_told};
+ghost use Rattle.cutter.specs.Faults.{IsNothingCut};
+ghost use Rattle.cutter_c.specs.Calls.{HasSize, IsCutInto, IsGoodFor, IsRefusalFor, size_told};
 ghost use Rattle.cutter_c.specs.Codes.{told_code};
 ghost use Rattle.cutter_c.specs.Outputs.{IsPlaceFor, IsPlaceIfBad};
 
@@ -20,30 +20,29 @@ pub struct PathSize {
     pub total: i64,
 }
 
-impl Session {
-    /// Cuts a line.
-    #[tactic(auto, unfolding(crate::specs::Calls::IsGoodLine))]
-    pub fn cut(&mut self, line: &[u8]) -> Result<PathSize, CutFault>
-        ensures cut { IfOk result
-            (λ size. IsCutInto line.now size self.old.cutter self.new.cutter) }
-        ensures accepted { OnOk result (IsGoodLine line.now) }
-        ensures refused { IfErr result (IsLineRefusal line.now) }
-        ensures kept { OnErr result (self.new.cutter ≡ self.old.cutter) }
-    {
-        self.cutter.cut(line)?;
-        self.path_size()
-    }
+/// How far what is cut goes on.
+#[derive(Clone, Copy, Debug, PartialEq, Eq, Drop)]
+pub enum Extent {
+    /// It is one line, and has no LF.
+    Line,
+    /// It is a text, in which an LF is a character as others are.
+    Text,
+}
 
-    /// The same of a text.
-    #[tactic(auto, unfolding(crate::specs::Calls::IsGoodText))]
-    pub fn cut_text(&mut self, text: &[u8]) -> Result<PathSize, CutFault>
+impl Session {
+    /// Cuts a line or a text.
+    #[tactic(auto, unfolding(crate::specs::Calls::IsGoodLine, crate::specs::Calls::IsGoodText))]
+    pub fn cut(&mut self, extent: Extent, text: &[u8]) -> Result<PathSize, CutFault>
         ensures cut { IfOk result
             (λ size. IsCutInto text.now size self.old.cutter self.new.cutter) }
-        ensures accepted { OnOk result (IsGoodText text.now) }
-        ensures refused { IfErr result (IsTextRefusal text.now) }
+        ensures accepted { OnOk result (IsGoodFor extent text.now) }
+        ensures refused { IfErr result (IsRefusalFor extent text.now) }
         ensures kept { OnErr result (self.new.cutter ≡ self.old.cutter) }
     {
-        self.cutter.cut_text(text)?;
+        match extent {
+            Extent::Line => self.cutter.cut(text)?,
+            Extent::Text => self.cutter.cut_text(text)?,
+        }
         self.path_size()
     }
 

@@ -8,7 +8,7 @@ ghost use Rattle.cutter_c.specs.Outputs.{OnlyFaultsSet, TellsPlaced};
 ghost use Rattle.cutter_c.specs.Settings.{AreUtf8, IsPlaceInTexts, IsRegrouped, IsSettingRefusal, SetsFormat, four, place_at, texts_in};
 
 use crate::codes::code_told;
-use crate::cutting::told_cut;
+use crate::cutting::{Extent, told_cut};
 use crate::handle::Handle;
 use crate::settings::Texts;
 use crate::{loading, settings};
@@ -87,7 +87,7 @@ pub extern "C" fn kumquatsieve_cut(
         line.now IsGoodLine IsLineRefusal
         (size_told count.old total.old) (size_told count.new total.new) at.old at.new result }
 {
-    let answer = cutter.call(alloc, |session| session.cut(line));
+    let answer = cutter.call(alloc, |session| session.cut(Extent::Line, line));
     told_cut(answer, line, count, total, at)
 }
 
@@ -105,7 +105,7 @@ pub extern "C" fn kumquatsieve_cut_text(
         text.now IsGoodText IsTextRefusal
         (size_told count.old total.old) (size_told count.new total.new) at.old at.new result }
 {
-    let answer = cutter.call(alloc, |session| session.cut_text(text));
+    let answer = cutter.call(alloc, |session| session.cut(Extent::Text, text));
     told_cut(answer, text, count, total, at)
 }
 
