@@ -1,8 +1,17 @@
 -- What words cost together, of a node.
-use Rattle.std.specs.Prelude.{◌≡◌, ◌↔◌, ℤ, ◌+ℤ◌, ◌-ℤ◌, Option, Bool, true, Some, None}
+use Rattle.std.specs.Prelude.{◌≡◌, ◌↔◌, ◌^◌, ℤ, ◌+ℤ◌, ◌-ℤ◌, Option, Bool, true, Some, None}
+use Rattle.mj_model.specs.Bounds.{IsWithin}
 use Rattle.lattice_nodes.specs.declared.lattice_node.LatticeNode.{LatticeNode}
 use Rattle.path_rivals.specs.declared.link.Link.{Link}
 use Rattle.path_rivals.specs.declared.total.Total.{Total}
+
+-- a total is far from overflow
+abbrev pub IsSmall : Total → Type 0
+IsSmall total = IsWithin (2 ^ 43) total.cost
+
+-- a cost is a total with a connection and a word, of 16 bits each
+abbrev pub IsNear : Total → ℤ → Type 0
+IsNear total cost = IsWithin (2 ^ 16) (cost -ℤ total.cost)
 
 -- what is left of a cost behind a total, if there is one
 abbrev pub rest_in : ℤ → Option ℤ → Option Total

@@ -1,9 +1,9 @@
 //! The words of the best path, each with what it costs there.
 
-ghost use Rattle.std.specs.Prelude.{◌≡◌, ◌^◌, ◌+ℤ◌, IfOk};
-ghost use Rattle.mj_model.specs.Bounds.{IsWithin};
+ghost use Rattle.std.specs.Prelude.{◌≡◌, ◌+ℤ◌, IfOk};
 ghost use Rattle.path_search.specs.SearchedText.{CanBeSearched, IsBestIn};
 ghost use Rattle.path_rivals.specs.PathSteps.{steps_of};
+ghost use Rattle.path_rivals.specs.Totals.{IsSmall};
 
 use crate::link::BOUNDARY_ID;
 use crate::step::Step;
@@ -38,7 +38,7 @@ pub fn best_steps<S: WordSource>(
 /// The step of a word that follows this right id, and words of this total.
 fn step_after<S: WordSource>(source: &S, right: u16, total: &Total, word: &Word) -> Step
     requires pair { (S.says source.now).is_pair right word.now.left }
-    requires total { IsWithin (2 ^ 43) total.now.cost }
+    requires total { IsSmall total.now }
     ensures word { result.word ≡ word.now }
     ensures connection { result.connection ≡ (S.says source.now).connection right word.now.left }
     ensures total { result.total

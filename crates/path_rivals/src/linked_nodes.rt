@@ -1,8 +1,8 @@
 //! The nodes of a lattice with what stands next to each on paths of least cost.
 
-ghost use Rattle.std.specs.Prelude.{◌<◌, ◌^◌, ◌-ℤ◌, length};
-ghost use Rattle.mj_model.specs.Bounds.{IsWithin};
+ghost use Rattle.std.specs.Prelude.{◌<◌, length};
 ghost use Rattle.path_rivals.specs.Held.{AreHeld, IsNodeNumber, IsOther};
+ghost use Rattle.path_rivals.specs.Totals.{IsNear, IsSmall};
 ghost use Rattle.path_rivals.specs.Walked.{IsStepAt, IsStepOn, IsTotalAt};
 
 use crate::link::Link;
@@ -61,9 +61,9 @@ impl LinkedNodes {
         requires held { AreHeld self.now }
         requires number { number < length self.now.nodes.items }
         requires next { next < length self.now.nodes.items }
-        requires total { IsWithin (2 ^ 43) total.now.cost }
+        requires total { IsSmall total.now }
         ensures step { IsStepOn self.now total.now.cost number next result }
-        ensures near { IsWithin (2 ^ 16) (result.total -ℤ total.now.cost) }
+        ensures near { IsNear total.now result.total }
     {
         next_step(total, self.after[number].connection, &self.nodes[next].word)
     }

@@ -1,10 +1,9 @@
 //! Whether a node follows another one on a path of least cost.
 
-ghost use Rattle.std.specs.Prelude.{◌≡◌, ◌^◌};
-ghost use Rattle.mj_model.specs.Bounds.{IsWithin};
+ghost use Rattle.std.specs.Prelude.{◌≡◌};
 ghost use Rattle.path_rivals.specs.Following.{IsFollower};
 ghost use Rattle.path_rivals.specs.Places.{IsSmallNode};
-ghost use Rattle.path_rivals.specs.Totals.{IsGoingOn};
+ghost use Rattle.path_rivals.specs.Totals.{IsGoingOn, IsSmall};
 
 use crate::link::{BOUNDARY_ID, Link, link_between};
 use crate::total::{Total, is_same, next_step, rest_at, total_of};
@@ -47,7 +46,7 @@ pub fn link_to<S: WordSource>(
 
 /// Whether what is left behind a node is a link's connection, another node's word, and what is left behind that.
 fn goes_on(rest: &Total, link: &Link, next: &LatticeNode, further: &Total) -> bool
-    requires { IsWithin (2 ^ 43) further.now.cost }
+    requires { IsSmall further.now }
     ensures { IsGoingOn rest.now link.now next.now further.now result }
 {
     let step = next_step(further, link.connection, &next.word);

@@ -1,9 +1,8 @@
 //! What words cost together.
 
-ghost use Rattle.std.specs.Prelude.{◌≡◌, ◌↔◌, ◌^◌, ◌+ℤ◌, ◌-ℤ◌, true};
-ghost use Rattle.mj_model.specs.Bounds.{IsWithin};
+ghost use Rattle.std.specs.Prelude.{◌≡◌, ◌↔◌, ◌+ℤ◌, true};
 ghost use Rattle.path_rivals.specs.Places.{IsSmallNode};
-ghost use Rattle.path_rivals.specs.Totals.{rest_in};
+ghost use Rattle.path_rivals.specs.Totals.{IsNear, IsSmall, rest_in};
 
 use crate::step::Step;
 use lattice_nodes::LatticeNode;
@@ -51,11 +50,11 @@ pub fn is_same(total: &Total, other: &Total) -> bool
 
 /// The step of a word that follows words of this total at this connection cost.
 pub fn next_step(total: &Total, connection: i16, word: &Word) -> Step
-    requires { IsWithin (2 ^ 43) total.now.cost }
+    requires { IsSmall total.now }
     ensures word { result.word ≡ word.now }
     ensures connection { result.connection ≡ connection }
     ensures total { result.total ≡ (total.now.cost +ℤ connection) +ℤ word.now.cost }
-    ensures near { IsWithin (2 ^ 16) (result.total -ℤ total.now.cost) }
+    ensures near { IsNear total.now result.total }
 {
     let connection = i64::from(connection);
     Step {
