@@ -3,8 +3,7 @@
 ghost use Rattle.std.specs.Prelude.{◌≡◌, ◌⊎◌, Err, IfErr, IfOk, OnErr, OnOk, Some};
 ghost use Rattle.dict_compile.specs.Compilation.{IsCompilationCause, IsCompilationFault};
 ghost use Rattle.line_stream.specs.GoodRuns.{IsOkOrMemory, NothingFails};
-ghost use Rattle.line_stream.specs.Runs.{Ran};
-ghost use Rattle.mj_model.specs.Counts.{MayBeRead, MayBeWritten};
+ghost use Rattle.line_stream.specs.Runs.{MayRun, Ran};
 ghost use Rattle.mj_model.specs.declared.limits.TheConstants.{READS_MAX as ReadsMax};
 ghost use Rattle.mj_model.specs.declared.run_fault.RunFault.TheVariants.{Source};
 ghost use Rattle.mj_model.specs.declared.source_fault.SourceFault.{SourceFault as FaultOf};
@@ -33,8 +32,7 @@ pub(crate) fn cut_over<R: TextIn, W: TextOut>(
     reader: &mut R,
     writer: &mut W,
 ) -> Result<Result<u64, RunFault>, OverlayFault>
-    requires reader { MayBeRead (R.told reader.old) }
-    requires writer { MayBeWritten (W.told writer.old) }
+    requires counts { MayRun (R.told reader.old) (W.told writer.old) }
     // Images that do not fit are refused before the first read.
     ensures fault { IfErr result (λ fault. fault_of_images system.now users.now ≡ Some fault) }
     ensures kept { OnErr result
@@ -65,8 +63,7 @@ pub(crate) fn cut_over_sources<R: TextIn, W: TextOut>(
     reader: &mut R,
     writer: &mut W,
 ) -> Result<u64, RunFault>
-    requires reader { MayBeRead (R.told reader.old) }
-    requires writer { MayBeWritten (W.told writer.old) }
+    requires counts { MayRun (R.told reader.old) (W.told writer.old) }
     ensures source { (fault : FaultOf) → result ≡ Err (Source fault)
         → IsCompilationCause sources.now fault }
     ensures refused { (fault : FaultOf) → IsCompilationFault sources.now fault

@@ -3,8 +3,7 @@
 ghost use Rattle.std.specs.Prelude.{◌≡◌, ℕ, ◌≤◌, ◌⊎◌, Err};
 ghost use Rattle.dict_compile.specs.Compilation.{IsCompilationCause, IsCompilationFault};
 ghost use Rattle.line_stream.specs.GoodRuns.{IsOkOrMemory, NothingFails};
-ghost use Rattle.line_stream.specs.Runs.{Ran};
-ghost use Rattle.mj_model.specs.Counts.{MayBeRead, MayBeWritten};
+ghost use Rattle.line_stream.specs.Runs.{MayRun, Ran};
 ghost use Rattle.mj_model.specs.declared.limits.TheConstants.{GROUPING_MAX, READS_MAX as ReadsMax};
 ghost use Rattle.mj_model.specs.declared.run_fault.RunFault.TheVariants.{Source, UserSource};
 ghost use Rattle.mj_model.specs.declared.source_fault.SourceFault.{SourceFault as FaultOf};
@@ -41,8 +40,7 @@ pub fn print_views<R: TextIn, W: TextOut>(
     reader: &mut R,
     writer: &mut W,
 ) -> Result<u64, RunFault>
-    requires reader { MayBeRead (R.told reader.old) }
-    requires writer { MayBeWritten (W.told writer.old) }
+    requires counts { MayRun (R.told reader.old) (W.told writer.old) }
     // The dictionaries cover every text: each has a best path.
     ensures covered { CoversTexts (overlay_of dictionaries.now) }
     // Their words have text and numbers of their own, as the law of one lattice asks.
@@ -86,8 +84,7 @@ pub fn print_source_views<R: TextIn, W: TextOut>(
     writer: &mut W,
 ) -> Result<u64, RunFault>
     requires grouping { grouping ≤ GROUPING_MAX }
-    requires reader { MayBeRead (R.told reader.old) }
-    requires writer { MayBeWritten (W.told writer.old) }
+    requires counts { MayRun (R.told reader.old) (W.told writer.old) }
     // A fault of the sources has its cause, and comes before the first read, as Memory(0) does: nothing was read or written.
     ensures source { (fault : FaultOf) → result ≡ Err (Source fault)
         → IsCompilationCause sources.now fault }

@@ -1,7 +1,7 @@
 -- How a run over a text ends: what it read, what it wrote, and why it stopped.
 use Rattle.std.specs.Prelude.{◌≡◌, ℕ, ◌+◌, ◌-◌, ◌≤◌, Bool, true, false, nat_lt, if◌then◌else◌, List, [], ◌++◌, length, Some, Result, Ok, Err, ◌⊎◌}
 use Rattle.std.specs.Io.KnownBytes.{Consumes, Appends, IsAtEnd}
-use Rattle.mj_model.specs.Counts.{ReaderTold, WriterTold}
+use Rattle.mj_model.specs.Counts.{MayBeRead, MayBeWritten, ReaderTold, WriterTold}
 use Rattle.mj_model.specs.declared.limits.TheConstants.{SENTENCE_MAX}
 use Rattle.mj_model.specs.declared.run_fault.RunFault.{RunFault}
 use Rattle.mj_model.specs.declared.run_fault.RunFault.TheVariants as run
@@ -11,6 +11,10 @@ use Rattle.line_stream.specs.declared.reading.TheConstants.{BUFFER}
 use Rattle.line_stream.specs.declared.line_fault.LineFault.{LineFault}
 use Rattle.line_stream.specs.declared.line_fault.LineFault.TheVariants.{TooLong, NotUtf8}
 use Rattle.line_stream.specs.Progress.{AllPrint, HasNext}
+
+-- a run may begin: no count of the reader or the writer is near overflow
+abbrev pub MayRun : ReaderTold → WriterTold → Type 0
+MayRun reader writer = MayBeRead reader × MayBeWritten writer
 
 -- the counts of a reader and a writer before or after a run
 pub record Told : Type 0 where

@@ -1,8 +1,7 @@
 //! The loop over a text: read, work, write.
 
 ghost use Rattle.std.specs.Prelude.{◌+◌, ◌≤◌, ◌<◌, ◌^◌, length, IfOk, vec_len};
-ghost use Rattle.mj_model.specs.Counts.{MayBeRead, MayBeWritten};
-ghost use Rattle.line_stream.specs.Runs.{Ran};
+ghost use Rattle.line_stream.specs.Runs.{MayRun, Ran};
 
 use crate::line_printer::LinePrinter;
 use crate::piece::work;
@@ -26,8 +25,7 @@ fn print_lines<P: LinePrinter, R: TextIn, W: TextOut>(
 ) -> Result<u64, RunFault>
     requires bound { bound ≤ 2 ^ 40 }
     requires buffer { (0 < length buffer.old) × (length buffer.old ≤ 2 ^ 16) }
-    requires reader { MayBeRead (R.told reader.old) }
-    requires writer { MayBeWritten (W.told writer.old) }
+    requires counts { MayRun (R.told reader.old) (W.told writer.old) }
     ensures run { Ran (P.tells printer.now) bound (R.told reader.old) (R.told reader.new)
         (W.told writer.old) (W.told writer.new) result }
 {
@@ -71,8 +69,7 @@ pub fn run_over<P: LinePrinter, R: TextIn, W: TextOut>(
     bound: u64,
 ) -> Result<u64, RunFault>
     requires bound { bound ≤ 2 ^ 40 }
-    requires reader { MayBeRead (R.told reader.old) }
-    requires writer { MayBeWritten (W.told writer.old) }
+    requires counts { MayRun (R.told reader.old) (W.told writer.old) }
     ensures run { Ran (P.tells printer.now) bound (R.told reader.old) (R.told reader.new)
         (W.told writer.old) (W.told writer.new) result }
 {

@@ -1,13 +1,13 @@
 //! From sources and text to words.
 
 ghost use Rattle.std.specs.Prelude.{◌≡◌, ℕ, ◌<◌, ◌≤◌, ◌⊎◌, Err};
-ghost use Rattle.mj_model.specs.Counts.{MayBeRead, MayBeWritten};
 ghost use Rattle.mj_model.specs.declared.limits.TheConstants.{GROUPING_MAX, READS_MAX as ReadsMax};
 ghost use Rattle.mj_model.specs.declared.run_fault.RunFault.TheVariants.{Source, UserSource};
 ghost use Rattle.mj_model.specs.declared.source_fault.SourceFault.{SourceFault as FaultOf};
 ghost use Rattle.dict_compile.specs.Compilation.{IsCompilationCause, IsCompilationFault};
 ghost use Rattle.dict_compile.specs.SourceOverlays.{IsUsersCause, IsUsersFault};
 ghost use Rattle.line_stream.specs.GoodRuns.{IsOkOrMemory, NothingFails};
+ghost use Rattle.line_stream.specs.Runs.{MayRun};
 ghost use Rattle.segmenter.specs.SourceRuns.{IsEarly, RanOver};
 ghost use Rattle.segmenter.specs.SourceDicts.{IsRefusedFor, users_of};
 
@@ -33,8 +33,7 @@ pub fn run_sources<R: TextIn, W: TextOut>(
     writer: &mut W,
 ) -> Result<u64, RunFault>
     requires grouping { grouping ≤ GROUPING_MAX }
-    requires reader { MayBeRead (R.told reader.old) }
-    requires writer { MayBeWritten (W.told writer.old) }
+    requires counts { MayRun (R.told reader.old) (W.told writer.old) }
     // The fault of the sources or of a user's lexicons has its cause.
     ensures source { (fault : FaultOf) → result ≡ Err (Source fault)
         → IsCompilationCause sources.now fault }

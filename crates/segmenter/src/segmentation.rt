@@ -1,12 +1,11 @@
 //! From text to words.
 
 ghost use Rattle.std.specs.Prelude.{◌<◌};
-ghost use Rattle.mj_model.specs.Counts.{MayBeRead, MayBeWritten};
 ghost use Rattle.mj_model.specs.declared.limits.TheConstants.{READS_MAX as ReadsMax};
 ghost use Rattle.paths.specs.PathLaws.{CoversTexts};
 ghost use Rattle.line_stream.specs.GoodRuns.{IsOkOrMemory, NothingFails};
 ghost use Rattle.words_printer.specs.PrintedLines.{Tells};
-ghost use Rattle.line_stream.specs.Runs.{Ran};
+ghost use Rattle.line_stream.specs.Runs.{MayRun, Ran};
 ghost use Rattle.word_lookup.specs.Overlays.{overlay_of};
 
 use line_stream::run_over;
@@ -28,8 +27,7 @@ pub fn segment<R: TextIn, W: TextOut>(
     reader: &mut R,
     writer: &mut W,
 ) -> Result<u64, RunFault>
-    requires reader { MayBeRead (R.told reader.old) }
-    requires writer { MayBeWritten (W.told writer.old) }
+    requires counts { MayRun (R.told reader.old) (W.told writer.old) }
     // The dictionaries cover every text: each has exactly one best path.
     ensures covered { CoversTexts (overlay_of dictionaries.now) }
     // What was read, what was written, how the run ended, and where the reader is.
