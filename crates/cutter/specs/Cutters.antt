@@ -103,6 +103,10 @@ HasNoRoom capacity count bytes = capacity < count + length bytes
 abbrev pub HasNoRoomForFeature : Held → ℕ → ℕ → ℕ → Cut → Type 0
 HasNoRoomForFeature h i capacity count c = IsSomeAnd (slice_get c.words i) (λ (w : Word). HasNoRoom capacity count (feature_of (overlay_held h) w.origin))
 
+-- the first category of the character that begins at a place
+abbrev pub first_category_at : Overlay → List ℕ → ℕ → ℕ
+first_category_at o text place = first_category o (chars_from text place)
+
 -- the word with a number has this category as the first one of its first character
 abbrev pub HasCategory : Held → ℕ → ℕ → Cut → Type 0
-HasCategory h i category c = IsSomeAnd (slice_get c.words i) (λ (w : Word). category ≡ first_category (overlay_held h) (chars_from c.text w.start))
+HasCategory h i category c = IsSomeAnd (slice_get c.words i) (λ (w : Word). category ≡ first_category_at (overlay_held h) c.text w.start)

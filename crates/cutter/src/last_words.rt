@@ -1,8 +1,7 @@
 //! The words that were cut last, lent with what they are told by.
 
 ghost use Rattle.std.specs.Prelude.{◌≡◌, IsTrue};
-ghost use Rattle.out_format.specs.PrintedPaths.{first_category};
-ghost use Rattle.paths.specs.Blanks.{chars_from};
+ghost use Rattle.cutter.specs.Cutters.{first_category_at};
 ghost use Rattle.paths.specs.Words.{is_place};
 ghost use Rattle.word_lookup.specs.Overlays.{overlay_of};
 
@@ -22,8 +21,8 @@ impl<'a> LastWords<'a> {
     /// The number of the first category of a word's first character, in the order of `char.def`.
     pub fn category(&self, word: &Word) -> u8
         requires { IsTrue (is_place self.now.text.now word.now.start) }
-        ensures { result ≡ first_category (overlay_of self.now.dictionaries)
-            (chars_from self.now.text.now word.now.start) }
+        ensures { result ≡ first_category_at (overlay_of self.now.dictionaries)
+            self.now.text.now word.now.start }
     {
         category_at(&self.dictionaries, self.text, word.start)
     }

@@ -5,9 +5,7 @@ use Rattle.mj_model.specs.declared.word.Origin.TheVariants.{Known, Unknown}
 use Rattle.mj_model.specs.declared.word.Word.{Word}
 use Rattle.mj_model.specs.Printed.{feature_of}
 use Rattle.mj_model.specs.Tables.{Overlay}
-use Rattle.out_format.specs.PrintedPaths.{first_category}
-use Rattle.paths.specs.Blanks.{chars_from}
-use Rattle.cutter.specs.Cutters.{Cut, Held, overlay_held}
+use Rattle.cutter.specs.Cutters.{Cut, Held, first_category_at, overlay_held}
 use Rattle.cutter.specs.declared.reached.Reached.{Reached}
 use Rattle.cutter.specs.Reaching.{at_bos, reached_with}
 use Rattle.cutter_c.specs.Outputs.{with_front}
@@ -45,7 +43,7 @@ c_word w category total feature_length = record {
 
 -- a word of a text, with the first category of its first character and the length of its feature
 abbrev pub c_word_in : Overlay → List ℕ → ℤ → Word → CWord
-c_word_in o text total w = c_word w (first_category o (chars_from text w.start)) total (length (feature_of o w.origin))
+c_word_in o text total w = c_word w (first_category_at o text w.start) total (length (feature_of o w.origin))
 
 -- the words of a text from where a path has come to
 abbrev pub c_words : Overlay → List ℕ → Reached → List Word → List CWord
