@@ -32,9 +32,6 @@ Pairs o right left = IsTrue (is_pair o.system.sizes right left)
 abbrev Precedes : Overlay → List ℕ → ℕ → Type 0
 Precedes o line right = (p : ℕ) (w : Word) → Contains (words o line p) w → Pairs o right w.left
 
-low_there : (p : ℕ) (cost : ℤ) → p ≤ 2 ^ 20 → IsWithin (65536 * p) cost → IsLow cost
-low_there p cost short (low, high) = (omega (arith, ints), omega (arith, ints))
-
 low_behind : (p end : ℕ) (cost connection word : ℤ) → p < end → IsWithin (65536 * p) cost → IsWithin (2 ^ 15) connection → IsWithin (2 ^ 15) word → IsWithin (65536 * end) ((cost +ℤ connection) +ℤ word)
 low_behind p end cost connection word less (a, b) (c, d) (e, f) = (omega (arith, ints), omega (arith, ints))
 
@@ -59,10 +56,13 @@ chain_followable o line has s [] p to right cost chain precedes place in' low = 
 chain_followable o line has s (w ∷ ws) p to right cost chain precedes place in' low =
     let a = in_words o line p w has chain.0 in
     let short = s.short in
+    let above = low.0 in
+    let below = low.1 in
+    let low_here : IsLow cost = (omega (arith, ints, short, in', above), omega (arith, ints, short, in', below)) in
     let less : p < w.end = s.source.are.go_on p w chain.0 in
     let next = low_behind p w.end cost (o.system.connection right w.left) w.cost less low (s.source.connections right w.left) (s.source.costs p w chain.0) in (
       word_of_place o line p right w has place (precedes p w chain.0) chain.0,
-      low_there p cost (omega (arith, short, in')) low,
+      low_here,
       chain_followable o line has s ws w.end to w.right ((cost +ℤ o.system.connection right w.left) +ℤ w.cost) chain.1 (λ q v h. (s.word_follows q v h).after_word p w chain.0)
           (s.places.word_ends_there p w chain.0) a.within next,
     )
