@@ -36,6 +36,11 @@ fn is_told(alloc: Global, fault: &Fault, line: &str, status: u8) -> Result<bool,
     Ok(true)
 }
 
+/// The fault of line 7 of a lexicon.
+fn of_a_line(alloc: Global, kind: SourceKind) -> Fault {
+    Fault::of_source(alloc, Some("a/b.csv"), kind.at(3, 7))
+}
+
 /// A fault, with the paths of the rows.
 enum Told {
     /// Of line 7 of a lexicon.
@@ -56,7 +61,7 @@ enum Told {
 impl Told {
     fn fault(&self, alloc: Global) -> Result<Fault, AllocError> {
         Ok(match self {
-            Told::Source(kind) => Fault::of_source(alloc, Some("a/b.csv"), kind.at(3, 7)),
+            Told::Source(kind) => of_a_line(alloc, *kind),
             Told::Sources(kind) => Fault::of_source(alloc, None, kind.at(NO_FILE, 0)),
             Told::Misplaced(kind) => {
                 Fault::Source(String::from_str(alloc, "a/b.csv")?, kind.at(NO_FILE, 0))
@@ -78,27 +83,8 @@ impl Told {
 
 /// Faults, as they are told.
 #[rattlefmt::skip]
-static TOLD_FAULTS: [(Told, &str, u8); 51] = [
+static TOLD_FAULTS: [(Told, &str, u8); 32] = [
     // (fault, line behind the program's name, status)
-    (Told::Source(SourceKind::NotUtf8),             "a/b.csv:7: S1 NotUtf8",           1),
-    (Told::Source(SourceKind::TooFewFields),        "a/b.csv:7: S2 TooFewFields",      1),
-    (Told::Source(SourceKind::BadNumber),           "a/b.csv:7: S3 BadNumber",         1),
-    (Told::Source(SourceKind::SurfaceTooLong),      "a/b.csv:7: S4 SurfaceTooLong",    1),
-    (Told::Source(SourceKind::TooManyEntries),      "a/b.csv:7: S5 TooMany",           1),
-    (Told::Source(SourceKind::BadHeader),           "a/b.csv:7: M1 BadHeader",         1),
-    (Told::Source(SourceKind::BadRow),              "a/b.csv:7: M2 BadRow",            1),
-    (Told::Source(SourceKind::PairOutside),         "a/b.csv:7: M3 PairOutside",       1),
-    (Told::Source(SourceKind::TooLarge),            "a/b.csv:7: M4 TooLarge",          1),
-    (Told::Source(SourceKind::BadLine),             "a/b.csv:7: C1 BadLine",           1),
-    (Told::Source(SourceKind::BadRange),            "a/b.csv:7: C2 BadRange",          1),
-    (Told::Source(SourceKind::Twice),               "a/b.csv:7: C3 Twice",             1),
-    (Told::Source(SourceKind::UndefinedCategory),   "a/b.csv:7: C4 NoSuchCategory",    1),
-    (Told::Source(SourceKind::TooManyCategories),   "a/b.csv:7: C5 TooMany",           1),
-    (Told::Source(SourceKind::NoDefault),           "a/b.csv:7: C6 NoDefault",         1),
-    (Told::Source(SourceKind::NoSpace),             "a/b.csv:7: C7 NoSpace",           1),
-    (Told::Source(SourceKind::NoSuchCategory),      "a/b.csv:7: U1 NoSuchCategory",    1),
-    (Told::Source(SourceKind::MissingCategory(4)),  "a/b.csv:7: U2 MissingCategory 4", 1),
-    (Told::Source(SourceKind::IdOutside),           "a/b.csv:7: I1 IdOutside",         1),
     (Told::Source(SourceKind::ArrayFull),           "I2 ArrayFull",                    1),
     (Told::Sources(SourceKind::ArrayFull),          "I2 ArrayFull",                    1),
     (Told::Misplaced(SourceKind::ArrayFull),        "I2 ArrayFull",                    1),
@@ -144,6 +130,46 @@ fn told_faults(rt: HostRuntime) -> Result<(), Fail> {
         let fault = told.fault(rt.alloc())?;
         assert!(rt; is_line(rt.alloc(), &fault, line, *status)?, "{line}");
         assert!(rt; is_explained(&fault), "{line}");
+    }
+    Ok(())
+}
+
+/// Faults of a line of a source, as they are told behind its path and the line.
+#[rattlefmt::skip]
+static TOLD_LINES: [(SourceKind, &str); 19] = [
+    // (kind, code and name)
+    (SourceKind::NotUtf8,            "S1 NotUtf8"),
+    (SourceKind::TooFewFields,       "S2 TooFewFields"),
+    (SourceKind::BadNumber,          "S3 BadNumber"),
+    (SourceKind::SurfaceTooLong,     "S4 SurfaceTooLong"),
+    (SourceKind::TooManyEntries,     "S5 TooMany"),
+    (SourceKind::BadHeader,          "M1 BadHeader"),
+    (SourceKind::BadRow,             "M2 BadRow"),
+    (SourceKind::PairOutside,        "M3 PairOutside"),
+    (SourceKind::TooLarge,           "M4 TooLarge"),
+    (SourceKind::BadLine,            "C1 BadLine"),
+    (SourceKind::BadRange,           "C2 BadRange"),
+    (SourceKind::Twice,              "C3 Twice"),
+    (SourceKind::UndefinedCategory,  "C4 NoSuchCategory"),
+    (SourceKind::TooManyCategories,  "C5 TooMany"),
+    (SourceKind::NoDefault,          "C6 NoDefault"),
+    (SourceKind::NoSpace,            "C7 NoSpace"),
+    (SourceKind::NoSuchCategory,     "U1 NoSuchCategory"),
+    (SourceKind::MissingCategory(4), "U2 MissingCategory 4"),
+    (SourceKind::IdOutside,          "I1 IdOutside"),
+];
+
+/// Whether the fault of a line is told behind its path and the line, with its words, and has an explanation.
+fn is_told_of_a_line(alloc: Global, kind: SourceKind, words: &str) -> Result<bool, Fail> {
+    let fault = of_a_line(alloc, kind);
+    let line = joined(alloc, &["a/b.csv:7: ", words])?;
+    Ok(is_line(alloc, &fault, line.as_str(), 1)? && is_explained(&fault))
+}
+
+#[test]
+fn told_lines(rt: HostRuntime) -> Result<(), Fail> {
+    for (kind, words) in &TOLD_LINES {
+        assert!(rt; is_told_of_a_line(rt.alloc(), *kind, words)?, "{words}");
     }
     Ok(())
 }
