@@ -26,7 +26,8 @@ pub(crate) fn read_past<R: Read, P: Pieces + Drop>(
 ) -> Result<Front<P>, ReadFault>
     requires buffer { 0 < length buffer.old }
     ensures front { (earlier : List ℕ) → P.given pieces earlier → IfOk result
-        (IsFront P.given most reads (length buffer.old) earlier (R.remaining reader.old) (R.remaining reader.new)) }
+        (IsFront P.given most reads (length buffer.old) earlier
+        (R.remaining reader.old) (R.remaining reader.new)) }
     ensures endless { result ≡ Err Endless
         → GivesAtLeast reads (R.remaining reader.old) (R.remaining reader.new) }
 {

@@ -95,7 +95,8 @@ pub fn read_image<R: io::Read>(
     // Where `known` is not their number, it may be that of this number in its place.
     ensures judged { IfErr result (IsJudgedAt known (R.remaining reader.old)) }
     // The header is judged before more is read than it and what one read gives.
-    ensures early { IfErr result (IsRefusedEarly (R.remaining reader.old) (R.remaining reader.new)) }
+    ensures early { IfErr result
+        (IsRefusedEarly (R.remaining reader.old) (R.remaining reader.new)) }
 {
     let mut buffer = new_buffer(alloc)?;
     let head = HEADER_LENGTH as u64 - 1;
