@@ -173,8 +173,8 @@ uint32_t kumquatsieve_dictionary_make(
 /* The digests are not tested, as by kumquatsieve_load_by. */
 #define KUMQUATSIEVE_SKIP_DIGEST 1u
 
-/* Makes a dictionary of those of a cutter, as of one that kumquatsieve_load_buffer filled. The cutter is empty then. After another answer than 0 the
-   cutter and *dictionary are as they were. The answer for an empty cutter is K5. */
+/* Makes a dictionary of those of a cutter, as of one that kumquatsieve_load_buffer filled. The cutter is empty then, and its format and its grouping
+   are forgotten. After another answer than 0 the cutter and *dictionary are as they were. The answer for an empty cutter is K5. */
 uint32_t kumquatsieve_dictionary_of(kumquatsieve_dictionary **dictionary, kumquatsieve_cutter *cutter);
 
 /* Fills an empty cutter with these dictionaries, the default format, and a grouping of 24 characters. No dictionary is copied, and any number of

@@ -3,6 +3,12 @@
 #include <kumquatsieve.h>
 #include <pthread.h>
 #include <stdlib.h>
+#include <string.h>
+
+/* What a cutter begins with, as kumquatsieve_load fills it. */
+static const char WORD[] = "%m\\t%H\\n", LINE_END[] = "EOS\\n";
+
+enum { GROUPING = 24 };
 
 struct kumquatsieve_dictionary {
     kumquatsieve_cutter base;
@@ -63,19 +69,24 @@ uint32_t kumquatsieve_dictionary_make(
     return code;
 }
 
+/* Fills a base with the dictionaries of a cutter alone: its format and its grouping are those that a cutter begins with. */
+static uint32_t share_plain(kumquatsieve_cutter *base, kumquatsieve_cutter *cutter) {
+    const uint8_t *word = (const uint8_t *)WORD, *end = (const uint8_t *)LINE_END;
+    size_t length = strlen(WORD);
+    uint32_t code = kumquatsieve_share(base, cutter);
+    if (code == KUMQUATSIEVE_OK) code = kumquatsieve_set_format(base, word, length, word, length, NULL, 0, end, strlen(LINE_END), NULL, NULL);
+    if (code == KUMQUATSIEVE_OK) code = kumquatsieve_set_grouping(base, GROUPING);
+    return code;
+}
+
 uint32_t kumquatsieve_dictionary_of(kumquatsieve_dictionary **dictionary, kumquatsieve_cutter *cutter) {
-    kumquatsieve_cutter other = KUMQUATSIEVE_EMPTY;
     kumquatsieve_dictionary *made = malloc(sizeof *made);
     if (!made) return KUMQUATSIEVE_MEMORY;
-    uint32_t code = kumquatsieve_share(&other, cutter);
-    kumquatsieve_free(&other);
-    if (code != KUMQUATSIEVE_OK) {
-        free(made);
-        return code;
-    }
-    *made = (kumquatsieve_dictionary){*cutter, 1};
-    *cutter = kumquatsieve_empty();
-    *dictionary = made;
+    *made = (kumquatsieve_dictionary){KUMQUATSIEVE_EMPTY, 1};
+    uint32_t code = share_plain(&made->base, cutter);
+    if (code == KUMQUATSIEVE_OK) kumquatsieve_free(cutter);
+    if (code == KUMQUATSIEVE_OK && dictionary) *dictionary = made;
+    else kumquatsieve_dictionary_release(made);
     return code;
 }
 

@@ -100,24 +100,46 @@ static void given_back(file system) {
     kumquatsieve_free(&cutter);
 }
 
-/* A dictionary has what its cutter had, and the cutter is empty and serves again. */
-static void dictionaries(file system, file user) {
-    kumquatsieve_cutter cutter = kumquatsieve_empty(), over = kumquatsieve_empty();
-    kumquatsieve_dictionary *dictionary = NULL;
-    CHECK(kumquatsieve_dictionary_of(&dictionary, &cutter) == KUMQUATSIEVE_EMPTY_CUTTER && !dictionary);
+static kumquatsieve_cutter filled(file system, file user) {
+    kumquatsieve_cutter cutter = kumquatsieve_empty();
     kumquatsieve_buffer buffer = gathered(system, 1000, system.length);
     CHECK(kumquatsieve_load_buffer(&cutter, &buffer, false, NULL) == KUMQUATSIEVE_OK);
     buffer = gathered(user, user.length, user.length);
     CHECK(kumquatsieve_add_user_buffer(&cutter, &buffer, false, NULL) == KUMQUATSIEVE_OK);
+    return cutter;
+}
+
+/* A cutter over a dictionary has the default format, and a grouping of 24. */
+static void cuts_plainly(kumquatsieve_cutter *cutter) {
+    CHECK(cut(cutter, LINE) == KUMQUATSIEVE_OK && prints(cutter, USERS));
+    CHECK(cut(cutter, "zzz") == KUMQUATSIEVE_OK && prints(cutter, "zzz\t未知\nEOS\n"));
+}
+
+/* A dictionary has the dictionaries of its cutter and no more of it, and the cutter is empty and serves again. */
+static void dictionaries(file system, file user) {
+    kumquatsieve_cutter cutter = kumquatsieve_empty(), over = kumquatsieve_empty();
+    kumquatsieve_dictionary *dictionary = NULL;
+    CHECK(kumquatsieve_dictionary_of(&dictionary, &cutter) == KUMQUATSIEVE_EMPTY_CUTTER && !dictionary);
+    cutter = filled(system, user);
+    CHECK(set_texts(&cutter, "%m ", "%m ", "", "") == KUMQUATSIEVE_OK && kumquatsieve_set_grouping(&cutter, 1) == KUMQUATSIEVE_OK);
+    CHECK(cut(&cutter, "zzz") == KUMQUATSIEVE_OK && prints(&cutter, "z zz "));
     CHECK(kumquatsieve_dictionary_of(&dictionary, &cutter) == KUMQUATSIEVE_OK && dictionary && !cutter.held);
     CHECK(cut(&cutter, LINE) == KUMQUATSIEVE_EMPTY_CUTTER);
     CHECK(kumquatsieve_cutter_over(&over, dictionary) == KUMQUATSIEVE_OK);
     CHECK(kumquatsieve_cutter_over(&cutter, dictionary) == KUMQUATSIEVE_OK);
     kumquatsieve_dictionary_release(dictionary);
-    CHECK(cut(&over, LINE) == KUMQUATSIEVE_OK && prints(&over, USERS));
-    CHECK(cut(&cutter, LINE) == KUMQUATSIEVE_OK && prints(&cutter, USERS));
+    cuts_plainly(&over);
+    cuts_plainly(&cutter);
     kumquatsieve_free(&cutter);
     kumquatsieve_free(&over);
+}
+
+/* A dictionary that is not wanted is made and given back. */
+static void no_dictionary(file system, file user) {
+    kumquatsieve_cutter cutter = kumquatsieve_empty();
+    CHECK(kumquatsieve_dictionary_of(NULL, &cutter) == KUMQUATSIEVE_EMPTY_CUTTER && !cutter.held);
+    cutter = filled(system, user);
+    CHECK(kumquatsieve_dictionary_of(NULL, &cutter) == KUMQUATSIEVE_OK && !cutter.held);
 }
 
 int main(int given, char **paths) {
@@ -128,6 +150,7 @@ int main(int given, char **paths) {
     users(system, user);
     given_back(system);
     dictionaries(system, user);
+    no_dictionary(system, user);
     free(system.bytes);
     free(user.bytes);
     puts("images in pieces are loaded and refused as images at once, and stand once");

@@ -128,7 +128,9 @@ static void run_over_a_buffer(file system, file user) {
         CHECK(cutter.held && !buffer.held);
         CHECK(kumquatsieve_buffer_append(&buffer, user.length, user.bytes, user.length) == KUMQUATSIEVE_OK);
     }
-    while (again(kumquatsieve_dictionary_of(&dictionary, &cutter))) CHECK(!dictionary && cutter.held);
+    while (again(set_texts(&cutter, "%m ", "%m ", "", "\\n"))) continue;
+    while (again(cut(&cutter, LINE))) continue;
+    while (again(kumquatsieve_dictionary_of(&dictionary, &cutter))) CHECK(!dictionary && prints(&cutter, "すもももも \n"));
     kumquatsieve_dictionary_release(dictionary);
 }
 
