@@ -3,6 +3,8 @@ import os
 import re
 from typing import Dict, Iterable, List, Optional, Union
 
+from ._images import ENDING
+
 # A field with the blanks before it: in quotes, which are doubled within, or as it stands. What is behind a closing quote is no part of it.
 FIELD = re.compile(r'[ \t]*(?:"((?:[^"]|"")*)"?[^,]*|([^,]*))')
 NOT_PLAIN = re.compile(r'["\t ]')
@@ -32,9 +34,10 @@ def split(feature: str) -> List[str]:
 
 
 def names_beside(image: Union[str, "os.PathLike[str]"], taken: Iterable[str]) -> Dict[str, int]:
-    """The names of fields in the file NAME.fields beside the image NAME.img, as `numbered` has them; none where there is no file. The file has
-    a name on each line; an empty line is a field without one."""
-    path = os.path.splitext(os.fspath(image))[0] + ".fields"
+    """The names of fields in the file NAME.fields beside the image NAME.img, as `numbered` has them; none where there is no file. Where the image is
+    a link it stands beside what that leads to, as `kumquatsieve-import` writes it. The file has a name on each line; an empty line is a field
+    without one."""
+    path = os.path.realpath(image).removesuffix(ENDING) + ".fields"
     try:
         with open(path, encoding="utf-8-sig") as file:
             names = file.read().splitlines()

@@ -54,6 +54,18 @@ COMMON = [
     (["pos1", "lemma"], {"lemma": 1}),
 ]
 NOT_COMMON = ["conjugation_type", "reading", "base_form"]
+# An image, a link to it, or none, the files of names that are there, and what the fields are called: as the import writes the file.
+BESIDE = [
+    ("kept/a.img", "a.img", {"kept/a.fields": "there"}, ("there",)),
+    ("kept/a.img", "a.img", {"a.fields": "here"}, ()),
+    ("kept/a.img", "b.img", {"kept/a.fields": "there", "b.fields": "here", "kept/b.fields": "other"}, ("there",)),
+    ("kept/a.img", "a", {"kept/a.fields": "there"}, ("there",)),
+    ("unidic.v2", None, {"unidic.fields": "first", "unidic.v2.fields": "second"}, ("second",)),
+    ("unidic.v2", None, {"unidic.fields": "first"}, ()),
+    ("unidic.v2.img", None, {"unidic.fields": "first", "unidic.v2.fields": "second"}, ("second",)),
+    ("a.img.old", None, {"a.fields": "first", "a.img.old.fields": "second"}, ("second",)),
+    (".img", None, {".fields": "names"}, ("names",)),
+]
 
 
 @pytest.fixture(scope="module")
@@ -119,6 +131,17 @@ def test_fields_without_a_name(system, tmp_path, text):
     image.with_suffix(".fields").write_bytes(text.encode())
     cutter = Cutter(image)
     assert (cutter.fields, cutter.cut(LINE)[0].reading) == (("reading",), "すもも")
+
+
+@pytest.mark.parametrize("image, link, files, fields", BESIDE)
+def test_the_file_of_names_is_that_of_the_import(system, tmp_path, image, link, files, fields):
+    (tmp_path / "kept").mkdir()
+    shutil.copy(system, tmp_path / image)
+    if link:
+        (tmp_path / link).symlink_to(image)
+    for name, text in files.items():
+        (tmp_path / name).write_text(f"{text}\n")
+    assert Cutter(tmp_path / (link or image)).fields == fields
 
 
 def test_names_by_hand(named, system):
