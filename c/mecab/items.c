@@ -54,7 +54,8 @@ static uint32_t add_letter(items *to, const letter *of, const char **at, fault *
 
 /* Numbers of fields between commas, behind `[` and up to `]`. Where there is no digit the number is 0. (MeCab) */
 static uint32_t add_fields(items *to, const char **at, char separator, fault *error) {
-    if (*(*at)++ != '[') return KUMQUATSIEVE_BAD_INDEX;
+    if (**at != '[') return KUMQUATSIEVE_BAD_INDEX;
+    ++*at;
     if (!add(to, (item){.kind = FIELDS, .separator = separator}, error)) return KUMQUATSIEVE_MEMORY;
     for (uint32_t number = 0;; ++*at) {
         if (**at >= '0' && **at <= '9') {
@@ -72,8 +73,9 @@ static uint32_t add_fields(items *to, const char **at, char separator, fault *er
 }
 
 static uint32_t add_separated(items *to, const char **at, fault *error) {
-    char separator = *(*at)++;
+    char separator = **at;
     if (separator == '\0') return KUMQUATSIEVE_BAD_INDEX;
+    ++*at;
     if (separator == '\\' && escaped(at, &separator) != KUMQUATSIEVE_OK) return KUMQUATSIEVE_BAD_ESCAPE;
     return add_fields(to, at, separator, error);
 }

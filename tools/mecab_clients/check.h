@@ -14,6 +14,15 @@
         }                                                             \
     } while (0)
 
+/* The same of a row of a table, by its name. */
+#define CHECK_ROW(what, holds)                                                    \
+    do {                                                                          \
+        if (!(holds)) {                                                           \
+            fprintf(stderr, "%s:%d: %s: %s\n", __FILE__, __LINE__, what, #holds); \
+            exit(1);                                                              \
+        }                                                                         \
+    } while (0)
+
 __attribute__((unused)) static const char LINE[] = "すもももも";
 __attribute__((unused)) static const char PRINTED[] = "すもも\t名詞,すもも\nもも\t名詞,もも\nEOS\n";
 __attribute__((unused)) static const char WAKATI[] = "すもも もも \n";
