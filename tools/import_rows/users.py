@@ -57,6 +57,7 @@ ROWS = [
     refused("the image is a folder", ONE, "folder: it is a folder", 3, "--user", "sys.img", "--out", "folder"),
     refused("no file", {}, "none.csv: No such file or directory", 3, words=("none.csv",)),
     refused("no image", ONE, "text: L2 BadMagic", 1, "--user", "text", "--out", "new.img"),
+    refused("no image of a name of any bytes", ONE, "an argument is not UTF-8", 2, "--user", b"none\xff.img", "--out", "new.img"),
     refused("no lexicon", {}, WANTED, 2),
     refused("no place", ONE, WANTED, 2, "--user", "sys.img"),
     refused("no system dictionary", ONE, WANTED, 2, "--out", "new.img"),
