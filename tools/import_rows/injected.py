@@ -4,6 +4,7 @@ and its settings stand as they were, or the new ones do, all of them, and no oth
 strace makes them: at each call that makes, moves, writes or removes a file or starts a process, each signal, and where the call can fail a full
 device. Where strace may not be used the table is left out; signals while dictc writes are tried without it.
 """
+import fcntl
 import hashlib
 import os
 import re
@@ -12,6 +13,7 @@ import shutil
 import signal
 import subprocess
 import sys
+import termios
 import time
 from concurrent.futures import ThreadPoolExecutor
 from typing import NamedTuple, Optional
@@ -28,6 +30,9 @@ SOURCES["pos-id.def"] = "名詞 1\n".encode("euc_jp")
 LEXICONS = {"a.csv": "ん,1,1,5,X,ん\n".encode("euc_jp") * 2, "b.csv": b"A,1,1,5,X,A\n"}
 # What an import may take, from less than Python needs to begin to more than all of it.
 MEGABYTES = (12, 24, 32, 40, 48, 64, 96, 160)
+# More words than a pipe has room for in their image, and the call that sets that room.
+MANY = "ん,1,1,5,名詞,ん\n".encode("euc_jp") * 10_000
+SET_ROOM = 1031
 # A dictc that is slow between what it writes and its end.
 SLOW = """#!/bin/sh
 while [ "$1" != --out ]; do shift; done
@@ -206,3 +211,29 @@ def wrong_by_memory(megabytes, kind, programs, folder):
         yield f"status {ran.returncode} leaves {stands(kind, work)}"
     if ran.stderr.startswith(b"kumquatsieve-import: ") and ran.returncode not in (0, 4):
         yield f"tells {ran.stderr!r} with status {ran.returncode}"
+
+
+def in_pipe(pipe):
+    """How many bytes of a pipe are still to be read."""
+    return int.from_bytes(fcntl.ioctl(pipe, termios.FIONREAD, bytes(4)), sys.byteorder)
+
+
+def wrong_by_stop(kind, programs, folder):
+    """The image goes to a pipe that has room for a part of it. The import is stopped while it waits for more room, and goes on: all of it comes."""
+    work = folder / "stopped"
+    prepare(kind, work)
+    (work / "dic" / "a.csv").write_bytes(MANY)
+    (work / "old.img").unlink()
+    os.mkfifo(work / "old.img")
+    with open(os.open(work / "old.img", os.O_RDONLY | os.O_NONBLOCK), "rb") as pipe:
+        room = fcntl.fcntl(pipe, SET_ROOM, 1)
+        ran = subprocess.Popen(command(kind, programs), cwd=work, env=environment(work), stdout=subprocess.DEVNULL)
+        while in_pipe(pipe) < room and ran.poll() is None:
+            time.sleep(0.01)
+        ran.send_signal(signal.SIGSTOP)
+        os.waitpid(ran.pid, os.WUNTRACED)
+        ran.send_signal(signal.SIGCONT)
+        os.set_blocking(pipe.fileno(), True)
+        image = pipe.read()
+    if ran.wait() != 0 or len(image) <= room or not is_image(image):
+        yield f"has the status {ran.returncode}, and {len(image)} bytes came that are {'' if is_image(image) else 'no '}image"

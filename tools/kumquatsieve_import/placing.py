@@ -8,6 +8,8 @@ from .faults import FILE, WRONG_WORDS, Fault, naming, shown
 ENDING = b".img"
 # The longest name of a file.
 NAME_MAX = 255
+# How much a device is handed at once.
+CHUNK = 1 << 16
 
 
 class Place:
@@ -54,11 +56,19 @@ class Place:
         """Gives the new image and the new settings their names: `settings` has a path or None for each name of a file of settings."""
         if self.is_device():
             with naming(self.image), open(new, "rb") as file, open(self.image, "wb", buffering=0) as device:
-                shutil.copyfileobj(file, device)
+                hand_all(file, device.fileno())
             return
         moves = [(path, self.beside(name)) for name, path in settings.items() if self.beside(name)]
         with workshop.signals.held():
             replace_all([*moves, (new, self.image)], workshop.folders[0])
+
+
+def hand_all(file, device):
+    """Hands a device all that a file has. It may take a part at a time, as a pipe does where its writer is stopped and goes on."""
+    while chunk := file.read(CHUNK):
+        rest = memoryview(chunk)
+        while rest:
+            rest = rest[os.write(device, rest):]
 
 
 def is_same(path, other):
