@@ -9,11 +9,10 @@ FOLDER = b"kumquatsieve"
 
 
 class Home(NamedTuple):
-    """A folder of images, what is said of it, and whether it is all users'."""
+    """A folder of images, and what is said of it."""
 
     path: bytes
     said: str
-    is_shared: bool
 
 
 def run_time_home(prefix):
@@ -27,6 +26,12 @@ def own_home():
     if os.path.isabs(share):
         return os.path.join(share, FOLDER)
     return os.path.join(home, b".local", b"share", FOLDER) if os.path.isabs(home) else None
+
+
+def let_all_read(image, prefix):
+    """What stands in the system's folder, all may read, whatever others may read of what this user makes elsewhere."""
+    if os.path.realpath(os.path.dirname(image)) == os.path.realpath(run_time_home(prefix)):
+        os.umask(0o022)
 
 
 def image_named(name, prefix):
@@ -53,5 +58,5 @@ def home_for(prefix):
     """The home of an image that a program of this prefix makes."""
     system, own = run_time_home(prefix), own_home()
     if own is None or may_write(system):
-        return Home(system, "home: the system's, for all users", True)
-    return Home(own, f"home: this user's own, since {shown(system)} can't be written", False)
+        return Home(system, "home: the system's, for all users")
+    return Home(own, f"home: this user's own, since {shown(system)} can't be written")

@@ -10,7 +10,7 @@ from .encodings import missing_converter
 from .faults import FILE, MEMORY, Ended, Fault, naming, shown
 from .fields import FIELDS, find_names, write_names
 from .finding import find_encoding
-from .homes import home_for
+from .homes import home_for, let_all_read
 from .placing import Place
 from .sources import DICRC, SETTINGS, Source, debian_folder, encoding_told, read_folder
 from .telling import Teller
@@ -26,13 +26,15 @@ class Import:
         path = debian_folder(NAMES[choices.name]) if choices.is_debian() else choices.name.rstrip(b"/") or b"/"
         self.folder = read_folder(path)
         self.dictc = dictc_beside(own)
-        self.home = home_for(os.path.dirname(own)) if choices.image is None else None
+        self.prefix = os.path.dirname(own)
+        self.home = home_for(self.prefix) if choices.image is None else None
         self.place = Place(choices.image if self.home is None else os.path.join(self.home.path, choices.name + b".img"))
         self.place.check(self.folder, [*SETTINGS, FIELDS])
 
     def run(self):
+        let_all_read(self.place.image, self.prefix)
         if self.home is not None:
-            self.make_home()
+            self.workshop.make_parents(self.home.path)
         beside = self.workshop.new_folder(None if self.place.is_device() else self.place.folder)
         work = self.workshop.new_folder()
         folder, teller = self.folder, self.teller
@@ -51,12 +53,6 @@ class Import:
         removed = [path for path in map(self.place.beside, (name for name in settings if not settings[name])) if path and os.path.lexists(path)]
         self.place.put(os.path.join(beside, NEW), settings, self.workshop)
         self.tell_end(counted, size, settings, removed)
-
-    def make_home(self):
-        """Makes the home where it isn't there. What stands in that of all users, all may read."""
-        if self.home.is_shared:
-            os.umask(0o022)
-        self.workshop.make_parents(self.home.path)
 
     def convert(self, encoding, work):
         """Makes the sources UTF-8 by names of their own, which are UTF-8 whatever the sources' are."""

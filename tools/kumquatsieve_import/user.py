@@ -5,7 +5,7 @@ from .compiling import NEW, Compilation, dictc_beside, place_for_new
 from .converting import make_utf_8
 from .faults import REFUSED, Fault, naming, shown
 from .finding import find_encoding
-from .homes import image_named
+from .homes import image_named, let_all_read
 from .placing import Place
 from .sources import Source, source_at
 
@@ -29,11 +29,13 @@ class UserImport:
         self.choices, self.workshop, self.teller = choices, workshop, teller
         self.lexicons = list(map(lexicon_at, choices.lexicons))
         self.dictc = dictc_beside(own)
-        self.system = image_named(choices.name, os.path.dirname(own))
+        self.prefix = os.path.dirname(own)
+        self.system = image_named(choices.name, self.prefix)
         self.place = Place(choices.image)
         self.place.check_alone([*choices.lexicons, *([self.system] if self.system else [])])
 
     def run(self):
+        let_all_read(self.place.image, self.prefix)
         beside = self.workshop.new_folder(None if self.place.is_device() else self.place.folder)
         work = self.workshop.new_folder()
         encoding = find_encoding(self.lexicons, self.choices.encoding, None, self.choices.lexicons[0], self.teller)
