@@ -1,6 +1,7 @@
 """The shared library, and its calls."""
 import ctypes
 import os
+import sys
 from pathlib import Path
 from types import SimpleNamespace
 from typing import Any, Callable, Dict, List, Optional
@@ -90,8 +91,16 @@ def arguments() -> Dict[str, Optional[List[Any]]]:
     }
 
 
+def check_lock() -> None:
+    """Without Python's own lock two threads would make calls that are not `LONG` with one handle at once."""
+    has_lock = getattr(sys, "_is_gil_enabled", None)
+    if has_lock is not None and not has_lock():
+        raise ImportError("this Python runs threads without its lock (GIL), and kumquatsieve needs it: PYTHON_GIL=1 or -X gil=1 turns it on")
+
+
 def load() -> SimpleNamespace:
     """The library's calls by their names, with the types of their arguments."""
+    check_lock()
     try:
         alone, beside_others = ctypes.PyDLL(place()), ctypes.CDLL(place())
     except OSError as error:

@@ -36,6 +36,13 @@ def test_a_library_that_is_not_there_is_named():
     assert done.returncode == 1 and "ImportError: none.so" in done.stderr and "KUMQUATSIEVE_LIBRARY" in done.stderr
 
 
+@pytest.mark.parametrize("has_lock, told", [("True", ""), ("False", "ImportError: this Python runs threads without its lock (GIL)")])
+def test_a_python_without_its_lock_is_refused(has_lock, told):
+    code = f"import sys; sys._is_gil_enabled = lambda: {has_lock}; import kumquatsieve"
+    done = subprocess.run([sys.executable, "-c", code], capture_output=True, text=True)
+    assert (done.returncode, told in done.stderr) == (1 if told else 0, True)
+
+
 @pytest.mark.parametrize("hidden", [False, True])
 def test_a_call_is_a_method_of_what_ends(monkeypatch, hidden):
     """Also in a program that hides Python's own calls from ctypes."""
