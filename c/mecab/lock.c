@@ -5,12 +5,21 @@
 static pthread_mutex_t loads = PTHREAD_MUTEX_INITIALIZER;
 static pthread_mutex_t shared = PTHREAD_MUTEX_INITIALIZER;
 
+/* Files are opened and read under the lock of loads, and a thread that was cancelled in such a call would keep it for ever. So no thread is cancelled
+   while it has that lock. Whether it could be before is kept here, under the lock. */
+static int cancellation;
+
 void lock_loads(void) {
+    int before = PTHREAD_CANCEL_ENABLE;
+    pthread_setcancelstate(PTHREAD_CANCEL_DISABLE, &before);
     pthread_mutex_lock(&loads);
+    cancellation = before;
 }
 
 void unlock_loads(void) {
+    int before = cancellation, disabled = PTHREAD_CANCEL_DISABLE;
     pthread_mutex_unlock(&loads);
+    pthread_setcancelstate(before, &disabled);
 }
 
 void lock_shared(void) {

@@ -1,6 +1,10 @@
 /* What models, taggers and threads share of the sample's dictionary: sharing IMG. */
 #include "check.h"
+#include <errno.h>
+#include <fcntl.h>
 #include <pthread.h>
+#include <sys/stat.h>
+#include <unistd.h>
 
 static const char *dictionary;
 
@@ -74,6 +78,42 @@ static void threads_of_one_tagger(void) {
     mecab_model_destroy(model);
 }
 
+static void *open_once(void *options) {
+    mecab_destroy(mecab_new2(options));
+    pthread_testcancel();
+    return NULL;
+}
+
+/* The path of another name of the dictionary, or of what stands beside that. */
+static const char *another(char *path, size_t room, const char *ending) {
+    snprintf(path, room, "%.*s-another%s", (int)(strlen(dictionary) - strlen(".img")), dictionary, ending);
+    return path;
+}
+
+/* A thread that is cancelled while it opens an image keeps no lock: it reads rules for ids out of a pipe then, which others wait for. */
+static void cancelled(void) {
+    static const char RULE[] = "名詞 1\n";
+    char image[4096], settings[4096], rules[4096], options[4200];
+    pthread_t thread;
+    void *end = NULL;
+    int pipe = -1;
+    CHECK(link(dictionary, another(image, sizeof image, ".img")) == 0 && mkfifo(another(rules, sizeof rules, ".pos-id.def"), 0600) == 0);
+    FILE *file = fopen(another(settings, sizeof settings, ".dicrc"), "w");
+    CHECK(file && fclose(file) == 0);
+    snprintf(options, sizeof options, "-d %s", image);
+    CHECK(pthread_create(&thread, NULL, open_once, options) == 0);
+    while ((pipe = open(rules, O_WRONLY | O_NONBLOCK)) < 0) CHECK(errno == ENXIO && usleep(1000) == 0);
+    CHECK(pthread_cancel(thread) == 0 && write(pipe, RULE, strlen(RULE)) == (ssize_t)strlen(RULE) && close(pipe) == 0);
+    CHECK(pthread_join(thread, &end) == 0 && end == PTHREAD_CANCELED);
+    /* Who waits for a lock that is kept is ended. */
+    alarm(60);
+    mecab_t *tagger = mecab_new2(words(""));
+    alarm(0);
+    CHECK(tagger && strcmp(mecab_sparse_tostr(tagger, LINE), PRINTED) == 0);
+    mecab_destroy(tagger);
+    CHECK(unlink(image) == 0 && unlink(settings) == 0 && unlink(rules) == 0);
+}
+
 int main(int given, char **paths) {
     CHECK(given == 2);
     dictionary = paths[1];
@@ -81,6 +121,7 @@ int main(int given, char **paths) {
     images_that_stay();
     threads();
     threads_of_one_tagger();
+    cancelled();
     puts("sharing: a process has an image once, and one tagger serves several threads");
     return 0;
 }
