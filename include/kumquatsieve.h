@@ -137,7 +137,7 @@ enum {
    by L3 to L7, O2 and O3 alone, to what stands beside each code above. */
 uint32_t kumquatsieve_load(kumquatsieve_cutter *cutter, const uint8_t *image, size_t length, uint64_t *number);
 
-/* Lays the image of a user dictionary, which is copied, over the others. *number is set as by kumquatsieve_load. */
+/* Lays the image of a user dictionary, which is copied, over the others. What was cut last is forgotten. *number is set as by kumquatsieve_load. */
 uint32_t kumquatsieve_add_user(kumquatsieve_cutter *cutter, const uint8_t *image, size_t length, uint64_t *number);
 
 /* The two calls before, except that the digest of the image is not tested where skip_digest is true, as MeCab tests nothing. The digest takes most of
@@ -194,13 +194,13 @@ void kumquatsieve_free(kumquatsieve_cutter *cutter);
 
 /* Sets the texts for a known word, an unknown one, the beginning and the end of a line, in MeCab's items and escapes. *part, 0 to 3, and *at, a byte
    of that text, are set by P1 to P3 and G3 alone: where a text can't be read on, or the first byte that is not UTF-8. The default is "%m\t%H\n" for
-   words and "EOS\n" at the end. */
+   words and "EOS\n" at the end. What was cut last stays, and is printed in the new format. */
 uint32_t kumquatsieve_set_format(
     kumquatsieve_cutter *cutter, const uint8_t *node, size_t node_length, const uint8_t *unk, size_t unk_length,
     const uint8_t *bos, size_t bos_length, const uint8_t *eos, size_t eos_length, uint32_t *part, size_t *at
 );
 
-/* Sets how many characters may follow the first one of a grouped unknown word, at most 1,000. */
+/* Sets how many characters may follow the first one of a grouped unknown word, at most 1,000. What was cut last is forgotten. */
 uint32_t kumquatsieve_set_grouping(kumquatsieve_cutter *cutter, uint32_t grouping);
 
 /* Cuts a line, which has no line feed. *count is the number of its words, and *total the cost of the path. *at is set by K1, G3 and G4 alone:
