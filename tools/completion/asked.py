@@ -21,6 +21,8 @@ printf '%s\n' "${COMPREPLY[@]}" "compopt ${asked[*]}"
 # What readline adds then: files or folders where nothing was found, or folders to what was.
 WHERE_NOTHING = {"default": {FILE, FOLDER}, "dirnames": {FOLDER}}
 ALWAYS = {"plusdirs": {FOLDER}}
+# The shells as they read what is typed, without files of the user's own.
+INTERACTIVE = {"bash": ["bash", "--norc", "--noprofile", "-i"], "zsh": ["zsh", "-f", "-i"]}
 
 
 def surroundings():
@@ -50,22 +52,32 @@ def has_terminals():
 
 
 def of_zsh(words, folder):
-    """What zsh completes after these words, of which the last one has begun. They are typed on a terminal."""
+    """What zsh completes after these words, of which the last one has begun."""
+    return set(filter(None, typed("zsh", " ".join(words) + "\x18", folder).split("\n")))
+
+
+def line_after_tab(shell, line, folder):
+    """What stands on the line of a shell after a line was typed and its last word completed."""
+    return typed(shell, f"{line}\t\x01", folder)
+
+
+def typed(shell, keys, folder):
+    """What a shell on a terminal, in which its file of this folder was read, writes to the file $ASKED by these keys."""
     answer = folder.parent / "asked"
     process, terminal = pty.fork()
     if process == 0:
         os.chdir(folder)
-        place = {**surroundings(), "ASKED": str(answer), "COMPLETIONS": str(HERE), "HOME": str(folder.parent), "TERM": "dumb"}
-        os.execvpe("zsh", ["zsh", "-f", "-i"], place)
-    os.write(terminal, f". {HERE}/asked.zsh\n{' '.join(words)}\x18".encode())
+        place = {"ASKED": str(answer), "COMPLETIONS": str(HERE), "HOME": str(folder.parent), "INPUTRC": "/dev/null", "TERM": "dumb"}
+        os.execvpe(shell, INTERACTIVE[shell], {**surroundings(), **place})
+    os.write(terminal, f". {HERE}/asked.{shell}\n{keys}".encode())
     printed = printed_on(terminal)
     os.waitpid(process, 0)
     os.close(terminal)
     if not answer.exists():
-        sys.exit(f"zsh can't complete {' '.join(words)}: {printed.decode(errors='replace')}")
-    found = set(filter(None, answer.read_text().split("\n")))
+        sys.exit(f"{shell} can't complete {keys!r}: {printed.decode(errors='replace')}")
+    written = answer.read_text()
     answer.unlink()
-    return found
+    return written
 
 
 def printed_on(terminal):

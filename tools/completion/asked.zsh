@@ -1,4 +1,5 @@
-# Read by an interactive zsh, whose key ^X completes the line then, writes what was found to the file $ASKED, a word a line, and ends the shell.
+# Read by an interactive zsh, whose key ^X completes the line then, writes what was found to the file $ASKED, a word a line, and ends the shell. Its key
+# ^A writes the line as it stands.
 PS1=
 unsetopt beep
 fpath=($COMPLETIONS $fpath)
@@ -19,10 +20,16 @@ compadd() {
 ask() {
   asked=()
   _main_complete
-  print -rl -- $asked > $ASKED.new
-  mv -f $ASKED.new $ASKED
+  print -rl -- $asked > $ASKED
+  exit
+}
+
+show() {
+  print -rn -- $BUFFER > $ASKED
   exit
 }
 
 zle -C ask complete-word ask
+zle -N show
 bindkey '^X' ask
+bindkey '^A' show

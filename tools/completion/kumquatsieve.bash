@@ -8,7 +8,7 @@ _kumquatsieve_codes="C1 C2 C3 C4 C5 C6 C7 F1 F2 G1 G2 G3 G4 G5 I1 I2 I3 K1 K2 K3
     O1 O2 O3 P1 P2 P3 S1 S2 S3 S4 S5 U1 U2"
 _kumquatsieve_encodings="utf-8 euc-jp euc-jis-2004 cp932 iso-2022-jp"
 
-# Of these words those that begin so.
+# Of these words those that begin so. They are this file's own: `compgen -W` expands them.
 _kumquatsieve_of() {
     local IFS=$' \t\n'
     mapfile -t COMPREPLY < <(compgen -W "$1" -- "$cur")
@@ -55,11 +55,16 @@ _kumquatsieve_names() {
     done
 }
 
-# An image by its file, or by its name.
+# An image by its file, or by its name. A name is compared as it stands, since `compgen -W` would expand it. readline quotes what is put into the line,
+# but not a word with one of these three characters, which it takes for one that the shell should expand; after an opening quote it quotes that too.
 _kumquatsieve_image() {
-    local names=()
+    local name names=() typed=${cur//\\/}
+    [[ $cur != [\"\']* ]] || typed=${cur:1}
     _kumquatsieve_names
-    _kumquatsieve_of "${names[*]}"
+    for name in "${names[@]}"; do
+        [[ $name = "$typed"* ]] || continue
+        [[ $cur != [\"\']* && $name = *[\$\`~]* ]] || COMPREPLY+=("$name")
+    done
     if [[ ${#COMPREPLY[@]} = 0 ]]; then
         _kumquatsieve_files
     else
