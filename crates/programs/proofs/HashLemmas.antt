@@ -10,6 +10,7 @@ use Rattle.image_bytes.specs.ImageFaults.{IsAccepted, IsDigestAt, IsImageFault, 
 use Rattle.image_bytes.specs.declared.digest_test.DigestTest.{DigestTest}
 use Rattle.image_bytes.specs.declared.digest_test.DigestTest.TheVariants.{Made, Skipped}
 use Rattle.image_bytes.specs.declared.header.Header.{Header}
+use Rattle.image_check.specs.Starving.{PassToKeys}
 use Rattle.programs.specs.HashedImages.{DecideAlike, digest_place}
 use Rattle.programs.proofs.FirstBytes.{first_of_both}
 use Rattle.programs.proofs.ImageHeadLemmas.{header_kept}
@@ -34,6 +35,9 @@ digest_found Skipped bytes right = ((λ _ _. tt), (λ _ _. tt))
 module _ (asked left : DigestTest) (bytes : List ℕ) (alike : DecideAlike asked left bytes) where
   pub accepted_alike : IsAccepted left bytes → IsAccepted asked bytes
   accepted_alike w = (w.0, (w.1.0, (w.1.1.0, (w.1.1.1.0, (w.1.1.1.1.0, (alike.1 w.1.1.1.1.1.0, w.1.1.1.1.1.1))))))
+
+  pub keys_alike : PassToKeys left bytes → PassToKeys asked bytes
+  keys_alike w = (w.0, (w.1.0, (w.1.1.0, (alike.1 w.1.1.1.0, w.1.1.1.1))), w.2)
 
   later : {T P F G : Type 0} → (F → G) → T ⊎ (P × F) → T ⊎ (P × G)
   later so (inl tells) = inl tells

@@ -7,6 +7,7 @@ use Rattle.image_bytes.specs.declared.digest_test.DigestTest.{DigestTest}
 use Rattle.image_bytes.specs.ImageBytes.{header_of, header_length, image_magic, total_length}
 use Rattle.image_bytes.specs.ImageFaults.{IsImageFault}
 use Rattle.image_bytes.specs.Layouts.{IsReadLayout}
+use Rattle.image_check.specs.Starving.{PassToKeys}
 use Rattle.programs.specs.declared.fault.Fault.{Fault}
 use Rattle.programs.specs.declared.fault.Fault.TheVariants as image
 use Rattle.programs.specs.declared.image_reading.ImageReadFault.{ImageReadFault}
@@ -75,6 +76,11 @@ IsRefusedEarly before after (Read fault) = Unit {0}
 IsRefusedEarly before after (Image fault) =
     (fault ≡ BadSection 9) ⊎ ((bytes : List ℕ) × Consumes before after bytes × (length bytes < header_length + 2 ^ 16))
 
+-- of the refusal of an image at a path this is so; another fault is not of the image's bytes
+abbrev pub IfRefused : (ImageReadFault → Type 0) → Fault → Type 0
+IfRefused IsSo (image.Image path fault) = IsSo (Image fault)
+IfRefused IsSo told = Unit {0}
+
 -- the first fault of bytes; or, of a file of which another length was told than it has, that of this length
 abbrev pub IsFaultOrLength : List ℕ → ImageFault → Type 0
 IsFaultOrLength bytes fault = IsFaultOf bytes fault ⊎ ((count : ℕ) × IsLengthFault count bytes fault)
@@ -85,9 +91,13 @@ IsRefusalOfAFile {F = F} remaining (image.Image path fault) =
     (opened : F) × IfSome (remaining opened) (λ bytes. length bytes < 2 ^ 64 → IsFaultOrLength bytes fault)
 IsRefusalOfAFile remaining told = Unit {0}
 
--- the same where the image was to be loaded: its other tests may be what it does not pass, and memory may be refused
+-- memory was refused for bytes that pass the tests before those of the keys, which take none
+abbrev pub IsStarvedLoad : DigestTest → List ℕ → ImageFault → Type 0
+IsStarvedLoad digest bytes fault = (fault ≡ NoMemory) × PassToKeys digest bytes
+
+-- the same where the image was to be loaded: its other tests may be what it does not pass, and memory may be refused for them
 abbrev pub IsLoadRefusal : {F : Type 0} → DigestTest → (F → Option (List ℕ)) → Fault → Type 0
 IsLoadRefusal {F = F} digest remaining (image.Image path fault) =
     (opened : F)
-    × IfSome (remaining opened) (λ bytes. length bytes < 2 ^ 64 → (fault ≡ NoMemory) ⊎ (IsImageFault digest bytes fault ⊎ IsFaultOrLength bytes fault))
+    × IfSome (remaining opened) (λ bytes. length bytes < 2 ^ 64 → IsStarvedLoad digest bytes fault ⊎ (IsImageFault digest bytes fault ⊎ IsFaultOrLength bytes fault))
 IsLoadRefusal digest remaining told = Unit {0}

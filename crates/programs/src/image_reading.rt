@@ -4,6 +4,7 @@ ghost use Rattle.std.specs.Prelude.{◌≡◌, ◌<◌, ◌≤◌, ◌⊎◌, Er
 ghost use Rattle.std.specs.Io.KnownBytes.{IsAtEnd};
 ghost use Rattle.image_bytes.specs.ImageFaults.{IsAccepted, IsImageFault};
 ghost use Rattle.image_bytes.specs.declared.digest_test.DigestTest.{DigestTest as DigestTestOf};
+ghost use Rattle.image_check.specs.Starving.{PassToKeys};
 ghost use Rattle.mj_model.specs.declared.image_fault.ImageFault.TheVariants.{Memory as NoMemory};
 ghost use Rattle.programs.specs.HashedImages.{DecideAlike};
 ghost use Rattle.programs.specs.ImageHeads.{IsForLength, IsHead, IsJudgedAt, IsReadHead, IsRefusalAt, IsRefusedEarly, IsRestRefusal};
@@ -45,6 +46,9 @@ impl ReadImage {
         ensures refused { (asked : DigestTestOf) → DecideAlike asked self.digest self.bytes.items
             → IfErr result (λ fault.
             (fault ≡ NoMemory) ⊎ IsImageFault asked self.bytes.items fault) }
+        // Memory is the reason only where the bytes pass the tests before those of the keys.
+        ensures starved { IfErr result
+            (λ fault. fault ≡ NoMemory → PassToKeys self.digest self.bytes.items) }
     {
         load_by(alloc, self.bytes, self.digest)
     }

@@ -1,10 +1,11 @@
 //! Dictionaries of images.
 
-ghost use Rattle.std.specs.Prelude.{◌≡◌, length, All, IfErr, IfOk, string_bytes};
+ghost use Rattle.std.specs.Prelude.{◌≡◌, length, All, IfErr, IfOk, IfSome, string_bytes};
+ghost use Rattle.std.specs.Io.KnownBytes.{IsAtEnd};
 ghost use Rattle.image_bytes.specs.ImageFaults.{IsAccepted};
 ghost use Rattle.programs.specs.Faults.{NamesFileOrImage, NamesFileOrImageOf};
 ghost use Rattle.programs.specs.HashedImages.{DecideAlike};
-ghost use Rattle.programs.specs.ImageHeads.{IsLoadRefusal, IsRefusalOfAFile};
+ghost use Rattle.programs.specs.ImageHeads.{IfRefused, IsJudgedAt, IsLoadRefusal, IsReadHead, IsRefusalAt, IsRefusalOfAFile, IsRefusedEarly};
 ghost use Rattle.programs.specs.Reading.{AreOfAFile};
 
 use crate::fault::Fault;
@@ -12,8 +13,9 @@ use crate::image_reading::{ImageReadFault, ImageReading, ReadImage, read_image};
 use crate::progress::{Progress, ReadProgress};
 use dict_image::{Dict, DigestTest};
 use mj_model::READS_MAX;
-use std::alloc::AllocError;
+use std::alloc::{AllocError, Global};
 use std::fs::{self, OpenFile};
+use std::io;
 use std::rt::Files;
 use std::string::String;
 
@@ -104,13 +106,38 @@ pub fn image_at<R: Files + AllocGlobal>(
             all: known.unwrap_or(0),
         }),
     };
-    match read_image(rt.alloc(), &mut file, known, READS_MAX, reading) {
+    image_from(rt.alloc(), path, &mut file, known, reading)
+}
+
+/// The same of what is left of a file that was opened at a path: `known` is how many bytes that is, where it is known.
+pub fn image_from<F: io::Read>(
+    alloc: Global,
+    path: &str,
+    file: &mut F,
+    known: Option<u64>,
+    reading: ImageReading<'_>,
+) -> Result<ImageFile, Fault>
+    ensures path { IfOk result (λ read. string_bytes read.path ≡ path.now) }
+    ensures bytes { IfOk result (λ read.
+        IfSome (F.remaining file.old) (λ known. read.image.bytes.items ≡ known)) }
+    ensures end { IfOk result (λ _. IsAtEnd (F.remaining file.new)) }
+    ensures head { IfOk result (λ read. IsReadHead read.image.bytes.items) }
+    ensures digest { IfOk result (λ read.
+        DecideAlike reading.entry.digest read.image.digest read.image.bytes.items) }
+    ensures fault { IfErr result (NamesFileOrImage path.now) }
+    // The fault of an image is the one with which `read_image` refuses its bytes.
+    ensures refused { IfErr result (IfRefused (IsRefusalAt known (F.remaining file.old))) }
+    ensures judged { IfErr result (IfRefused (IsJudgedAt known (F.remaining file.old))) }
+    ensures early { IfErr result
+        (IfRefused (IsRefusedEarly (F.remaining file.old) (F.remaining file.new))) }
+{
+    match read_image(alloc, file, known, READS_MAX, reading) {
         Ok(image) => Ok(ImageFile {
-            path: String::from_str(rt.alloc(), path)?,
+            path: String::from_str(alloc, path)?,
             image,
         }),
-        Err(ImageReadFault::Read(fault)) => Err(Fault::of_reading(rt.alloc(), path, fault)),
-        Err(ImageReadFault::Image(fault)) => Err(Fault::of_image(rt.alloc(), path, fault)),
+        Err(ImageReadFault::Read(fault)) => Err(Fault::of_reading(alloc, path, fault)),
+        Err(ImageReadFault::Image(fault)) => Err(Fault::of_image(alloc, path, fault)),
     }
 }
 

@@ -36,7 +36,7 @@ pub use folder_names::{image_names, in_byte_order};
 pub use homes::image_in;
 pub use homes_told::{say_homes, told_names};
 pub use image_reading::{ImageReadFault, ImageReading, ReadImage, read_image};
-pub use images::{ImageFile, dictionaries_at, dictionary_at, image_at};
+pub use images::{ImageFile, dictionaries_at, dictionary_at, image_at, image_from};
 pub use named_image::image_path;
 pub use narrator::Narrator;
 pub use output::{Printed, write_whole};

@@ -14,7 +14,8 @@ returns-in-Err-clause-fault g c = inr (c.in-Err.fault, inr (c.in_ok-path.field-0
 pub returns-in-Err-clause-refused : goal.returns-in-Err-clause-refused
 returns-in-Err-clause-refused g c =
     let image = c.in_ok-path.field-0.image in
-    load_refusal g.R.File.Read.remaining c.args.digest image.bytes.items c.in-Err.fault c.in_ok-path.ensures.bytes (c.in-Err.ensures.refused c.args.digest c.in_ok-path.ensures.digest)
+    load_refusal g.R.File.Read.remaining c.args.digest image.digest image.bytes.items c.in-Err.fault c.in_ok-path.ensures.bytes c.in_ok-path.ensures.digest
+    c.in-Err.ensures.starved (c.in-Err.ensures.refused c.args.digest c.in_ok-path.ensures.digest)
 
 pub returns-in_err-path-clause-refused : goal.returns-in_err-path-clause-refused
 returns-in_err-path-clause-refused g c =
