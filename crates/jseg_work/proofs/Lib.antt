@@ -1,1 +1,2 @@
 mod AskedOverlays
+mod NoUsers

@@ -4,6 +4,7 @@ ghost use Rattle.std.specs.Prelude.{◌≡◌, ◌⊎◌, ◌≤◌, IfErr, IfOk
 ghost use Rattle.image_bytes.specs.ImageBytes.{header_length, header_of};
 ghost use Rattle.image_bytes.specs.ImageFaults.{IsImageFault, IsWellFormed};
 ghost use Rattle.image_bytes.specs.declared.digest_test.DigestTest.TheVariants.{Skipped};
+ghost use Rattle.image_check.specs.Starving.{PassToKeys};
 ghost use Rattle.mj_model.specs.declared.image_fault.ImageFault.TheVariants.{Memory};
 
 use dict_image::{DigestTest, load_without_digest};
@@ -88,6 +89,9 @@ fn entries_of(alloc: Global, bytes: Vec<u8>) -> Result<u32, ImageFault>
         → entries ≡ (header_of bytes.items).tokens) }
     ensures refused { IfErr result
         (λ fault. (fault ≡ Memory) ⊎ IsImageFault Skipped bytes.items fault) }
+    // Memory is the reason only where the bytes pass the tests before those of the keys.
+    ensures starved { IfErr result
+        (λ fault. fault ≡ Memory → PassToKeys Skipped bytes.items) }
 {
     let entries = entries_in(&bytes);
     match load_without_digest(alloc, bytes) {

@@ -1,11 +1,11 @@
 //! The text of a reader is cut and printed as the command line asks, whatever reads and writes it.
 
-ghost use Rattle.std.specs.Prelude.{◌≡◌, ◌⊎◌, Err, IfErr, IfOk, OnErr, OnOk, Some};
+ghost use Rattle.std.specs.Prelude.{◌≡◌, ℕ, ◌⊎◌, Err, IfErr, IfOk, None, OnErr, OnOk, Some};
 ghost use Rattle.dict_compile.specs.Compilation.{IsCompilationCause, IsCompilationFault};
 ghost use Rattle.line_stream.specs.GoodRuns.{IsOkOrMemory, NothingFails};
 ghost use Rattle.line_stream.specs.Runs.{MayRun, Ran};
 ghost use Rattle.mj_model.specs.declared.limits.TheConstants.{READS_MAX as ReadsMax};
-ghost use Rattle.mj_model.specs.declared.run_fault.RunFault.TheVariants.{Source};
+ghost use Rattle.mj_model.specs.declared.run_fault.RunFault.TheVariants.{Source, UserSource};
 ghost use Rattle.mj_model.specs.declared.source_fault.SourceFault.{SourceFault as FaultOf};
 ghost use Rattle.paths.specs.PathLaws.{CoversTexts};
 ghost use Rattle.segmenter.specs.SourceDicts.{IsRefusedFor};
@@ -33,7 +33,8 @@ pub(crate) fn cut_over<R: TextIn, W: TextOut>(
     writer: &mut W,
 ) -> Result<Result<u64, RunFault>, OverlayFault>
     requires counts { MayRun (R.told reader.old) (W.told writer.old) }
-    // Images that do not fit are refused before the first read.
+    // Images that do not fit are refused before the first read, and no others.
+    ensures accepted { OnOk result (fault_of_images system.now users.now ≡ None) }
     ensures fault { IfErr result (λ fault. fault_of_images system.now users.now ≡ Some fault) }
     ensures kept { OnErr result
         ((reader.new ≡ reader.old) × (writer.new ≡ writer.old)) }
@@ -68,6 +69,7 @@ pub(crate) fn cut_over_sources<R: TextIn, W: TextOut>(
         → IsCompilationCause sources.now fault }
     ensures refused { (fault : FaultOf) → IsCompilationFault sources.now fault
         → IsRefusedFor (Source fault) result }
+    ensures no_user { (i : ℕ) (fault : FaultOf) → result ≡ Err (UserSource i fault) → ⊥ }
     ensures early { IsEarly result → (reader.new ≡ reader.old) × (writer.new ≡ writer.old) }
     ensures run { IsEarly result ⊎ RanAsAsked sources.now grouping printed.now
         (R.told reader.old) (R.told reader.new) (W.told writer.old) (W.told writer.new) result }
