@@ -2,4 +2,5 @@ pub mod FaultLemmas
 pub mod LentLemmas
 pub mod OverlayLemmas
 pub mod ResultLemmas
+pub mod StarvedLemmas
 pub mod WordLemmas

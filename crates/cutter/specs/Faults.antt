@@ -1,10 +1,11 @@
 -- When the calls of a cutter are refused, and with which fault. Want of memory may come in any call that takes some; of a text, of a path and
--- of a word's feature only where nothing else is wrong.
+-- of a word's feature only where nothing else is wrong, and of an image only where the bytes pass the tests that take none.
 use Rattle.std.specs.Prelude.{◌≡◌, ℕ, ◌<◌, List, [], ◌∷◌, ◌++◌, length, Some, None, IsSome, Err, slice_get}
 use Rattle.std.specs.Option.{IsSomeAnd}
 use Rattle.memchr.specs.Find.{IsFirstByte}
 use Rattle.image_bytes.specs.ImageFaults.{IsAccepted, IsImageFault}
 use Rattle.image_bytes.specs.declared.digest_test.DigestTest.{DigestTest}
+use Rattle.image_check.specs.Starving.{PassToKeys}
 use Rattle.line_stream.specs.declared.line_fault.LineFault.TheVariants.{TooLong, NotUtf8}
 use Rattle.line_stream.specs.GoodLines.{IsBad, IsGood}
 use Rattle.mj_model.specs.Bytes.{is_line_feed}
@@ -22,6 +23,10 @@ IsImage digest image = IsAccepted digest image
 
 unfoldable pub IsFaultOf : DigestTest → List ℕ → ImageFault → Type 0
 IsFaultOf digest image fault = IsImageFault digest image fault
+
+-- bytes that pass the tests of an image up to those of its keys, which are the first that take memory
+unfoldable pub PassesToKeys : DigestTest → List ℕ → Type 0
+PassesToKeys digest image = PassToKeys digest image
 
 -- why a text is not cut: it is too long, or else no text; memory is asked for a good one alone
 abbrev pub IsTextRefusal : List ℕ → CutFault → Type 0

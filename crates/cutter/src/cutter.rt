@@ -2,7 +2,8 @@
 
 ghost use Rattle.std.specs.Prelude.{◌≡◌, ◌≤◌, [], None, IfOk, IfErr, OnOk, OnErr};
 ghost use Rattle.cutter.specs.Cutters.{IsLoaded, with_user};
-ghost use Rattle.cutter.specs.Faults.{IsFormatRefused, IsGroupingRefusal, IsImage, IsLoadRefusal, IsUserRefusal};
+ghost use Rattle.cutter.specs.Faults.{IsFormatRefused, IsGroupingRefusal, IsImage, IsLoadRefusal, IsUserRefusal, PassesToKeys};
+ghost use Rattle.cutter.specs.declared.fault.CutFault.TheVariants.{Memory};
 ghost use Rattle.mj_model.specs.declared.limits.TheConstants.{GROUPING_MAX as GroupingMax};
 ghost use Rattle.out_format.specs.Formats.{ReadsFormat};
 ghost use Rattle.out_format.specs.Texts.{texts_of};
@@ -53,11 +54,15 @@ impl Model for Cutter {
 
 impl Cutter {
     /// The cutter of a system's image, with the grouping of 24 characters and the format that MeCab has by default.
+    #[tactic(auto, using(crate::proofs::StarvedLemmas::passes))]
     pub fn load(alloc: Global, image: Vec<u8>, digest: DigestTest) -> Result<Cutter, CutFault>
         ensures loaded { IfOk result (IsLoaded image.items) }
         ensures accepted { OnOk result (IsImage digest image.items) }
         ensures fits { OnOk result (fault_of_images image.items [] ≡ None) }
         ensures refused { IfErr result (IsLoadRefusal digest image.items) }
+        // Memory is taken only where the bytes pass the tests before those of the keys.
+        ensures starved { IfErr result
+            (λ fault. fault ≡ Memory → PassesToKeys digest image.items) }
     {
         let dictionaries = OwnedDictionaries::load(alloc, image, digest)?;
         let format = Format::default_of(alloc)?;
@@ -93,6 +98,8 @@ impl Cutter {
         ensures fits { OnOk result (fault_of_images self.new.images.system self.new.images.users
             ≡ None) }
         ensures refused { IfErr result (IsUserRefusal digest self.old.images image.items) }
+        ensures starved { IfErr result
+            (λ fault. fault ≡ Memory → PassesToKeys digest image.items) }
         ensures kept { OnErr result (self.new ≡ self.old) }
     {
         let Some(dictionaries) = Arc::get_mut(&mut self.dictionaries) else {

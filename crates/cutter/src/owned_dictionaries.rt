@@ -2,7 +2,8 @@
 
 ghost use Rattle.std.specs.Prelude.{◌≡◌, ◌≤◌, ◌∷◌, ◌++◌, [], None, take, vec_len, IfOk, IfErr, OnOk, OnErr};
 ghost use Rattle.cutter.specs.Cutters.{GoOver, overlay_in, with_user};
-ghost use Rattle.cutter.specs.Faults.{IsAddRefusal, IsImage, IsLayRefusal, IsLoadRefusal};
+ghost use Rattle.cutter.specs.Faults.{IsAddRefusal, IsImage, IsLayRefusal, IsLoadRefusal, PassesToKeys};
+ghost use Rattle.cutter.specs.declared.fault.CutFault.TheVariants.{Memory};
 ghost use Rattle.mj_model.specs.declared.limits.TheConstants.{GROUPING_MAX};
 ghost use Rattle.word_lookup.specs.Overlays.{fault_of_images, overlay_of};
 
@@ -40,6 +41,9 @@ impl OwnedDictionaries {
         ensures accepted { OnOk result (IsImage digest image.items) }
         ensures fits { OnOk result (fault_of_images image.items [] ≡ None) }
         ensures refused { IfErr result (IsLoadRefusal digest image.items) }
+        // Memory is taken only where the bytes pass the tests before those of the keys.
+        ensures starved { IfErr result
+            (λ fault. fault ≡ Memory → PassesToKeys digest image.items) }
     {
         let system = load_by(alloc, image, digest)?;
         let users = Vec::new(alloc);
@@ -62,6 +66,8 @@ impl OwnedDictionaries {
         ensures fits { OnOk result
             (fault_of_images self.old.system (self.old.users ++ image.items ∷ []) ≡ None) }
         ensures refused { IfErr result (IsLayRefusal digest self.old image.items) }
+        ensures starved { IfErr result
+            (λ fault. fault ≡ Memory → PassesToKeys digest image.items) }
         ensures kept { OnErr result (self.new ≡ self.old) }
     {
         let user = load_by(alloc, image, digest)?;
