@@ -12,3 +12,4 @@ pub mod TextLemmas
 pub mod FillLemmas
 pub mod WalkLemmas
 pub mod NodeLemmas
+pub mod CodeLemmas

@@ -1,9 +1,11 @@
 //! Handles filled.
 
 ghost use Rattle.std.specs.Prelude.{◌≡◌, IfErr, OnOk, OnErr};
-ghost use Rattle.cutter.specs.Faults.{IsLoadRefusal};
+ghost use Rattle.cutter.specs.Faults.{IsLoadRefusal, PassesToKeys};
+ghost use Rattle.cutter.specs.declared.fault.CutFault.TheVariants.{Memory};
 ghost use Rattle.cutter_c.specs.Calls.{IsLoadedFrom, IsShared};
 ghost use Rattle.cutter_c.specs.Handles.{Fills, FillsFrom, IsFillRefusal, IsShareRefusal, cutter_in};
+ghost use Rattle.cutter_c.specs.declared.fault.CallFault.TheVariants.{Cut};
 
 use crate::fault::CallFault;
 use crate::handle::Handle;
@@ -42,6 +44,9 @@ pub fn load_owned(
         (IsLoadedFrom digest image.items)) }
     ensures refused { IfErr result
         (IsFillRefusal (cutter_in cutter.old) (IsLoadRefusal digest image.items)) }
+    // Memory is taken only where the bytes pass the tests before those of the keys.
+    ensures starved { IfErr result
+        (λ fault. fault ≡ Cut Memory → PassesToKeys digest image.items) }
     ensures kept { OnErr result (cutter_in cutter.new ≡ cutter_in cutter.old) }
 {
     if cutter.is_full() {

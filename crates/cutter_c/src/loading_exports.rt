@@ -1,6 +1,7 @@
 //! What C calls to load images: whole, with or without the test of their digest, and in pieces, so that one stands in memory once.
 
 ghost use Rattle.std.specs.Prelude.{◌≡◌, ◌≢◌, ◌+◌, ◌<◌, ◌≤◌, ◌++◌, length, IsSome};
+ghost use Rattle.cutter.specs.Faults.{PassesToKeys};
 ghost use Rattle.cutter_c.specs.Buffers.{IsVacant, gathered, room_in};
 ghost use Rattle.cutter_c.specs.Calls.{TellsLoad, TellsUser};
 ghost use Rattle.cutter_c.specs.Codes.{memory};
@@ -115,6 +116,9 @@ pub extern "C" fn kumquatsieve_load_buffer(
 ) -> u32
     ensures told { TellsLoad (test_by skip_digest) (gathered buffer.old)
         (cutter_in cutter.old) (cutter_in cutter.new) number.old number.new result }
+    // Out of memory is told only where the bytes pass the tests before those of the keys.
+    ensures starved { (result ≡ memory) →
+        PassesToKeys (test_by skip_digest) (gathered buffer.old) }
     ensures spent { IsVacant buffer.new }
 {
     let image = buffer.take_bytes(alloc);
@@ -133,6 +137,8 @@ pub extern "C" fn kumquatsieve_add_user_buffer(
 ) -> u32
     ensures told { TellsUser (test_by skip_digest) (gathered buffer.old)
         (cutter_in cutter.old) (cutter_in cutter.new) number.old number.new result }
+    ensures starved { (result ≡ memory) →
+        PassesToKeys (test_by skip_digest) (gathered buffer.old) }
     ensures spent { IsVacant buffer.new }
 {
     let image = buffer.take_bytes(alloc);

@@ -1,7 +1,7 @@
 //! What C holds of a cutter.
 
 ghost use Rattle.std.specs.Prelude.{◌≡◌, IfOk, IfErr, OnOk, OnErr};
-ghost use Rattle.cutter.specs.Faults.{IsLoadRefusal};
+ghost use Rattle.cutter.specs.Faults.{IsLoadRefusal, PassesToKeys};
 ghost use Rattle.cutter.specs.declared.fault.CutFault.TheVariants.{Memory};
 ghost use Rattle.cutter_c.specs.Calls.{IsExtended, IsLoadedFrom, IsShared, IsUserFault};
 
@@ -21,6 +21,9 @@ impl Session {
         ensures loaded { IfOk result
             (λ session. IsLoadedFrom digest image.items session.value.cutter) }
         ensures refused { IfErr result (IsLoadRefusal digest image.items) }
+        // Memory is taken only where the bytes pass the tests before those of the keys.
+        ensures starved { IfErr result
+            (λ fault. fault ≡ Memory → PassesToKeys digest image.items) }
     {
         Session::of(alloc, Cutter::load(alloc, image, digest)?)
     }
@@ -62,6 +65,8 @@ impl Session {
         ensures added { OnOk result
             (IsExtended digest image.items self.old.cutter self.new.cutter) }
         ensures refused { IfErr result (IsUserFault digest image.items self.old.cutter) }
+        ensures starved { IfErr result
+            (λ fault. fault ≡ Memory → PassesToKeys digest image.items) }
         ensures kept { OnErr result (self.new.cutter ≡ self.old.cutter) }
     {
         self.cutter.add_user(image, digest)
