@@ -1,5 +1,9 @@
 //! Why a compilation leaves no image.
 
+ghost use Rattle.std.specs.Prelude.{◌≡◌};
+ghost use Rattle.dictc_work.specs.declared.no_image.NoImage.TheVariants.{Fault as ForFault};
+ghost use Rattle.programs.specs.declared.fault.Fault.TheVariants.{Memory};
+
 use programs::{EarlyEnd, Fault};
 use std::alloc::AllocError;
 
@@ -25,12 +29,16 @@ impl EarlyEnd for NoImage {
 }
 
 impl From<Fault> for NoImage {
+    ghost from_gives = { λ fault told. told ≡ ForFault fault };
+
     fn from(fault: Fault) -> NoImage {
         NoImage::Fault(fault)
     }
 }
 
 impl From<AllocError> for NoImage {
+    ghost from_gives = { λ _ told. told ≡ ForFault Memory };
+
     fn from(_refused: AllocError) -> NoImage {
         NoImage::Fault(Fault::Memory)
     }
