@@ -63,12 +63,12 @@ of_code P cut.Memory m i t told = m
 module _ (digest : DigestTest) (image : List ℕ) where
   -- why an image is not loaded, and why a user's is not laid over others
   load_want : (fault : CutFault) → IsLoadRefusal digest image fault → call_code (call.Cut fault) ≡ memory → fault ≡ cut.Memory
-  load_want fault refused told =
-      of_code (λ (f : CutFault). IsLoadRefusal digest image f → f ≡ cut.Memory) fault (λ _. refl) (λ tests. absurd (no_test_of_memory digest image tests)) (λ none. absurd none) told refused
+  load_want fault refused told = of_code (λ (f : CutFault). IsLoadRefusal digest image f → f ≡ cut.Memory) fault (λ _. refl)
+      (λ tests. absurd (no_test_of_memory digest image tests)) (λ none. absurd none) told refused
 
   user_want : (images : Images) (fault : CutFault) → IsUserRefusal digest images image fault → call_code (call.Cut fault) ≡ memory → fault ≡ cut.Memory
-  user_want images fault refused told =
-      of_code (λ (f : CutFault). IsUserRefusal digest images image f → f ≡ cut.Memory) fault (λ _. refl) (λ tests. absurd (no_test_of_memory digest image tests)) (λ none. absurd none) told refused
+  user_want images fault refused told = of_code (λ (f : CutFault). IsUserRefusal digest images image f → f ≡ cut.Memory) fault (λ _. refl)
+      (λ tests. absurd (no_test_of_memory digest image tests)) (λ none. absurd none) told refused
 
   fill_want : (old : Option Held) (fault : CallFault) → IsFillRefusal old (IsLoadRefusal digest image) fault → call_code fault ≡ memory → fault ≡ call.Cut cut.Memory
   fill_want None (call.Cut fault) refused told = ap call.Cut (load_want fault refused told)

@@ -69,10 +69,10 @@ pub(crate) fn cut_over_sources<R: TextIn, W: TextOut>(
         → IsCompilationCause sources.now fault }
     ensures refused { (fault : FaultOf) → IsCompilationFault sources.now fault
         → IsRefusedFor (Source fault) result }
-    ensures no_user { (i : ℕ) (fault : FaultOf) → result ≡ Err (UserSource i fault) → ⊥ }
     ensures early { IsEarly result → (reader.new ≡ reader.old) × (writer.new ≡ writer.old) }
     ensures run { IsEarly result ⊎ RanAsAsked sources.now grouping printed.now
         (R.told reader.old) (R.told reader.new) (W.told writer.old) (W.told writer.new) result }
+    ensures no_user { (i : ℕ) (fault : FaultOf) → result ≡ Err (UserSource i fault) → ⊥ }
     ensures succeeds { NothingFails ReadsMax (R.told reader.old) (R.told reader.new)
         (W.told writer.old) (W.told writer.new) → IsOkOrMemory result ⊎ IsEarly result }
 {
