@@ -7,11 +7,11 @@ ghost use Rattle.line_stream.specs.Runs.{MayRun, Ran};
 ghost use Rattle.mj_model.specs.declared.limits.TheConstants.{READS_MAX as ReadsMax};
 ghost use Rattle.mj_model.specs.declared.run_fault.RunFault.TheVariants.{Source, UserSource};
 ghost use Rattle.mj_model.specs.declared.source_fault.SourceFault.{SourceFault as FaultOf};
+ghost use Rattle.jseg_work.specs.Printing.{RanAsAsked, TellsPrinted, overlay_asked};
 ghost use Rattle.paths.specs.PathLaws.{CoversTexts};
 ghost use Rattle.segmenter.specs.SourceDicts.{IsRefusedFor};
 ghost use Rattle.segmenter.specs.SourceRuns.{IsEarly};
 ghost use Rattle.word_lookup.specs.Overlays.{fault_of_images};
-ghost use Rattle.jseg_work.specs.Printing.{RanAsAsked, TellsPrinted, overlay_asked};
 
 use crate::formatting::Printed;
 use crate::views::{print_source_views, print_views};
