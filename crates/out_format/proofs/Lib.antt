@@ -5,6 +5,7 @@ pub mod FaultLemmas
 pub mod NamedFormats
 pub mod ShownLemmas
 pub mod FollowLemmas
+pub mod PlainLemmas
 pub mod OneFormat
 pub mod OneText
 pub mod AFormat

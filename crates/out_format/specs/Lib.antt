@@ -5,6 +5,7 @@ pub mod Texts
 pub mod Standings
 pub mod Followable
 pub mod PrintedPaths
+pub mod Plain
 pub mod Formats
 pub mod ItemTable
 pub mod Answers

@@ -16,6 +16,19 @@ pub fn append_bytes(bytes: &[u8], out: &mut Vec<u8>) -> Result<(), AllocError>
     out.extend_from_slice(bytes)
 }
 
+/// The same of a run between the items of a format. Most runs are one byte, as a blank or a tab, which is written with no call of a copy.
+pub fn append_run(run: &[u8], out: &mut Vec<u8>) -> Result<(), AllocError>
+    ensures appended { OnOk result (out.new.items ≡ out.old.items ++ run.now) }
+    ensures kept { take (vec_len out.old) out.new.items ≡ out.old.items }
+{
+    if run.len() == 1 {
+        out.push(run[0])?;
+        Ok(())
+    } else {
+        append_bytes(run, out)
+    }
+}
+
 /// Appends a count of bytes, an offset, an id or the number of a category.
 pub fn append_count(count: usize, out: &mut Vec<u8>) -> Result<(), AllocError>
     ensures appended { OnOk result (out.new.items ≡ out.old.items ++ decimal count) }

@@ -1,15 +1,17 @@
 //! Formats, read once.
 
-ghost use Rattle.std.specs.Prelude.{◌≡◌, IfOk, IfErr, map};
+ghost use Rattle.std.specs.Prelude.{◌≡◌, IsTrue, IfOk, IfErr, map};
 ghost use Rattle.out_format.specs.Formats.{IsFormatRefusal, ReadsFormat};
 ghost use Rattle.out_format.specs.PrintedPaths.{word_pieces};
 ghost use Rattle.out_format.specs.Pieces.{piece_of, pieces_of};
+ghost use Rattle.out_format.specs.Plain.{HasPlainWords};
 ghost use Rattle.out_format.specs.Texts.{all_alike, texts_of, default_texts, wakati_texts};
 
 use crate::building::PartsSoFar;
 use crate::first_piece::NextPiece;
 use crate::parsing::parse_part;
 use crate::part::Part;
+use crate::plain_word::are_plain;
 use mj_model::{FormatFault, FormatItem, FormatPart, Origin};
 use std::alloc::{AllocError, Global};
 use std::marker::Model;
@@ -104,6 +106,13 @@ impl Format {
             Origin::Known { .. } => &self.node,
             Origin::Unknown { .. } => &self.unk,
         }
+    }
+
+    /// Whether its words show nothing but their surfaces and their features.
+    pub(crate) fn has_plain_words(&self) -> bool
+        ensures { IsTrue result → HasPlainWords self.now }
+    {
+        are_plain(&self.node) && are_plain(&self.unk)
     }
 
     /// The part before the first word.

@@ -15,6 +15,7 @@ pub mod laws;
 mod line;
 mod parsing;
 mod part;
+mod plain_word;
 mod printing;
 mod shows_items;
 mod word_in_path;

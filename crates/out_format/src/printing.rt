@@ -7,11 +7,13 @@ ghost use Rattle.paths.specs.BestOver.{IsPathOver, cost_over};
 ghost use Rattle.mj_model.specs.Connection.{is_pair};
 ghost use Rattle.out_format.specs.PrintedPaths.{ShowsPath, ShowsWords, cost_with_word};
 ghost use Rattle.out_format.specs.Followable.{AreFollowable, IsLow};
+ghost use Rattle.out_format.specs.Plain.{HasPlainWords};
 ghost use Rattle.word_lookup.specs.Overlays.{overlay_of};
 
 use crate::format::Format;
 use crate::last_token::LastToken;
 use crate::line::Line;
+use crate::plain_word::PlainWord;
 use crate::shows_items::append_parts;
 use crate::word_in_path::WordInPath;
 use mj_model::Word;
@@ -60,7 +62,7 @@ fn append_path<'a>(
     ensures kept { take (vec_len out.old) out.new.items ≡ out.old.items }
 {
     append_parts(&Line { text, cost: 0 }, format.bos_parts(), out)?;
-    append_words(format, dictionaries, text, &path.words, out)?;
+    append_all_words(format, dictionaries, text, &path.words, out)?;
     let behind = Line {
         text,
         cost: path.total,
@@ -68,7 +70,52 @@ fn append_path<'a>(
     append_parts(&behind, format.eos_parts(), out)
 }
 
-/// Appends the parts of words, of which the first follows BOS.
+/// Appends the parts of words, of which the first follows BOS. Where nothing but surfaces and features is shown, nothing else is asked for.
+fn append_all_words<'a>(
+    format: &Format,
+    dictionaries: &'a Dictionaries<'a>,
+    text: &'a str,
+    words: &'a [Word],
+    out: &mut Vec<u8>,
+) -> Result<(), AllocError>
+    requires { AreFollowable (overlay_of dictionaries.now) text.now 0 (pos 0) words.now }
+    ensures appended { OnOk result (GrowsBy (ShowsWords (overlay_of dictionaries.now) format.now
+        text.now 0 (pos 0) words.now) out.old.items out.new.items) }
+    ensures kept { take (vec_len out.old) out.new.items ≡ out.old.items }
+{
+    if format.has_plain_words() {
+        append_plain_words(format, dictionaries, text, words, out)
+    } else {
+        append_words(format, dictionaries, text, words, out)
+    }
+}
+
+/// The same in a format that shows nothing else of words.
+fn append_plain_words<'a>(
+    format: &Format,
+    dictionaries: &'a Dictionaries<'a>,
+    text: &'a str,
+    words: &'a [Word],
+    out: &mut Vec<u8>,
+) -> Result<(), AllocError>
+    requires words { AreFollowable (overlay_of dictionaries.now) text.now 0 (pos 0) words.now }
+    requires plain { HasPlainWords format.now }
+    ensures appended { OnOk result (GrowsBy (ShowsWords (overlay_of dictionaries.now) format.now
+        text.now 0 (pos 0) words.now) out.old.items out.new.items) }
+    ensures kept { take (vec_len out.old) out.new.items ≡ out.old.items }
+{
+    for word in words {
+        let shown = PlainWord {
+            dictionaries,
+            text,
+            word,
+        };
+        append_parts(&shown, format.word_parts(word.origin), out)?;
+    }
+    Ok(())
+}
+
+/// The same in any format.
 fn append_words<'a>(
     format: &Format,
     dictionaries: &'a Dictionaries<'a>,

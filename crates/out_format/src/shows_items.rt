@@ -6,7 +6,7 @@ ghost use Rattle.mj_model.specs.Lists.{GrowsBy};
 ghost use Rattle.out_format.specs.PrintedPaths.{ShowsPieces};
 ghost use Rattle.out_format.specs.Pieces.{pieces_in, pieces_of};
 
-use crate::appending::append_bytes;
+use crate::appending::append_run;
 use crate::part::Part;
 use mj_model::FormatItem;
 use std::alloc::AllocError;
@@ -51,7 +51,7 @@ fn append_part<S: ShowsItems>(subject: &S, part: &Part, out: &mut Vec<u8>) -> Re
     ensures kept { take (vec_len out.old) out.new.items ≡ out.old.items }
 {
     match part {
-        Part::Bytes(bytes) => append_bytes(bytes, out),
+        Part::Bytes(bytes) => append_run(bytes, out),
         Part::Item(item) => subject.append_item(*item, out),
     }
 }

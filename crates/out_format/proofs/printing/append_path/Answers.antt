@@ -8,7 +8,7 @@ use Rattle.out_format.proofs.printing.append_path.Goals as goal
 
 pub returns-clause-appended : goal.returns-clause-appended
 returns-clause-appended c =
-    let of_words = c.in_ok-append_words.ensures.appended in
+    let of_words = c.in_ok-append_all_words.ensures.appended in
     let total = c.args.path.now.total in
     let fits : SFits w64 total = search rules in
     let same : to_z w64 (of_z w64 total) ≡ total = to_z-of_z w64 total fits in

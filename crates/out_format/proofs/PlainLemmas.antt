@@ -1,0 +1,88 @@
+-- Words that show nothing but their surfaces and their features, one after another: what the path costs up to them changes nothing.
+use Rattle.std.proofs.Common.{◌≡◌, ℕ, ◌+◌, ◌<◌, ◌≤◌, List, [], ◌∷◌, ◌++◌, append-nil, length, take, drop, get_or, refl, sym, ap, ◌∙◌, subst}
+use Rattle.std.specs.Prelude.{ℤ, pos, ◌+ℤ◌, All}
+use Rattle.std.proofs.lemmas.List.{take_more}
+use Rattle.std.proofs.lemmas.List.Concat.{flat_map-append}
+use Rattle.std.proofs.lemmas.List.Elements.{All-append, All-cons, All-head, All-nil, All-tail}
+use Rattle.mj_model.specs.declared.format_item.FormatItem.{FormatItem}
+use Rattle.mj_model.specs.declared.format_item.FormatItem.TheVariants as item
+use Rattle.mj_model.specs.declared.word.Word.{Word}
+use Rattle.mj_model.specs.declared.word.Origin.{Origin}
+use Rattle.mj_model.specs.declared.word.Origin.TheVariants.{Known, Unknown}
+use Rattle.mj_model.specs.Tables.{Overlay}
+use Rattle.out_format.specs.Followable.{AreFollowable}
+use Rattle.out_format.specs.Formats.{Format, Piece, Byte, Shows}
+use Rattle.out_format.specs.Pieces.{bytes_as_pieces, pieces_in, pieces_of}
+use Rattle.out_format.specs.Plain.{HasPlainWords, HasSurfaceIn, IsPlain, IsPlainItem, ShowsAnywhere}
+use Rattle.out_format.specs.declared.part.Part.{Part}
+use Rattle.out_format.specs.PrintedPaths.{ShowsItem, ShowsPieces, ShowsWords, Standing, word_pieces}
+use Rattle.out_format.proofs.FollowLemmas.{next_followable}
+use Rattle.out_format.proofs.ShownLemmas.{WordsSoFar, all_words, no_words_yet, word_more}
+
+-- ---- which parts are plain
+
+pub bytes_plain : (bytes : List ℕ) → All IsPlain (bytes_as_pieces bytes)
+bytes_plain [] = All-nil IsPlain
+bytes_plain (b ∷ bs) = All-cons IsPlain (Byte b) (bytes_as_pieces bs) tt (bytes_plain bs)
+
+pub item_plain : (i : FormatItem) → IsPlainItem i → All IsPlain (Shows i ∷ [])
+item_plain i plain = All-cons IsPlain (Shows i) [] plain (All-nil IsPlain)
+
+pub not_plain : (i : FormatItem) → (i ≡ item.Surface → ⊥) → (i ≡ item.Feature → ⊥) → IsPlainItem i → ⊥
+not_plain item.Surface no_surface no_feature plain = no_surface refl
+not_plain item.Feature no_surface no_feature plain = no_feature refl
+not_plain i no_surface no_feature plain = plain
+
+pub parts_plain : (parts : List Part) (i : ℕ) (part : Part) → i < length parts → get_or parts i part ≡ part → All IsPlain (pieces_of (take i parts)) → All IsPlain (pieces_in part) → All IsPlain (pieces_of (take (i + 1) parts))
+parts_plain parts i part in' here before one =
+    let split : pieces_of (take (i + 1) parts) ≡ pieces_of (take i parts) ++ pieces_in part =
+    ap pieces_of (take_more parts i part in' ∙ ap (λ (p : Part). take i parts ++ p ∷ []) here) ∙ flat_map-append pieces_in (take i parts) (part ∷ [])
+    ∙ ap (λ (ps : List Piece). pieces_of (take i parts) ++ ps) (append-nil (pieces_in part)) in
+    subst (All IsPlain) (sym split) (All-append IsPlain (pieces_of (take i parts)) (pieces_in part) before one)
+
+-- ---- what they show
+
+-- what plain pieces show of a word they show of it wherever it stands
+shown_standing : (o : Overlay) (line : List ℕ) (s : Standing) (ps : List Piece) (shown : List ℕ) → All IsPlain ps → ShowsPieces (ShowsAnywhere o line s.word) ps shown → ShowsPieces (ShowsItem o line s) ps shown
+shown_standing o line s [] shown plain is = is
+shown_standing o line s (Byte b ∷ ps) shown plain (more, rest, is) = (more, shown_standing o line s ps more (All-tail IsPlain (Byte b) ps plain) rest, is)
+shown_standing o line s (Shows i ∷ ps) shown plain (front, more, one, rest, is) = (front, more, one (All-head IsPlain (Shows i) ps plain) s refl, shown_standing o line s ps more (All-tail IsPlain (Shows i) ps plain) rest, is)
+
+plain_pieces : (f : Format) (origin : Origin) → HasPlainWords f → All IsPlain (word_pieces f origin)
+plain_pieces f (Known dict number) plain = plain.node
+plain_pieces f (Unknown number) plain = plain.unk
+
+-- what the words so far show was appended, and those that are left may follow them
+pub record PlainSoFar (o : Overlay) (f : Format) (line : List ℕ) (words : List Word) (i : ℕ) (old mid : List ℕ) : Type 0 where
+  pub right : ℕ
+  pub cost : ℤ
+  pub follow : AreFollowable o line right cost (drop i words)
+  pub shown : WordsSoFar o f line words i right cost old mid
+
+pub no_plain_yet : (o : Overlay) (f : Format) (line : List ℕ) (words : List Word) (old : List ℕ) → AreFollowable o line 0 (pos 0) words → PlainSoFar o f line words 0 old old
+no_plain_yet o f line words old follow = record { right = 0; cost = pos 0; follow = follow; shown = no_words_yet o f line words old }
+
+-- the next word's surface stands in the line
+pub next_surface : (o : Overlay) (f : Format) (line : List ℕ) (words : List Word) (w default : Word) (i : ℕ) (old mid : List ℕ) → i < length words → w ≡ get_or words i default → PlainSoFar o f line words i old mid → HasSurfaceIn line w
+next_surface o f line words w default i old mid in' here before =
+    let next = next_followable o line words w default i before.right before.cost in' here before.follow in
+    record { forward = next.0.forward; within = next.0.within }
+
+pub plain_more : (o : Overlay) (f : Format) (line : List ℕ) (words : List Word) (w default : Word) (i : ℕ) (ps : List Piece) (old mid new : List ℕ) → HasPlainWords f → i < length words → w ≡ get_or words i default → ps ≡ word_pieces f w.origin
+    → PlainSoFar o f line words i old mid
+    → (shown : List ℕ) × ShowsPieces (ShowsAnywhere o line w) ps shown × (new ≡ mid ++ shown)
+    → PlainSoFar o f line words (i + 1) old new
+plain_more o f line words w default i ps old mid new plain in' here pieces before (front, is, e) =
+    let now = (before.cost +ℤ o.system.connection before.right w.left) +ℤ w.cost in
+    let next = next_followable o line words w default i before.right before.cost in' here before.follow in
+    let standing : Standing = record { word = w; right_before = before.right; cost_so_far = now } in
+    let all : All IsPlain ps = subst (All IsPlain) (sym pieces) (plain_pieces f w.origin plain) in
+    record {
+      right = w.right;
+      cost = now;
+      follow = next.2;
+      shown = word_more o f line words w default i before.right before.cost now ps old mid new in' here refl pieces before.shown (front, shown_standing o line standing ps front all is, e);
+    }
+
+pub all_plain : (o : Overlay) (f : Format) (line : List ℕ) (words : List Word) (i : ℕ) (old new : List ℕ) → length words ≤ i → PlainSoFar o f line words i old new → (shown : List ℕ) × ShowsWords o f line 0 (pos 0) words shown × (new ≡ old ++ shown)
+all_plain o f line words i old new past before = all_words o f line words i before.right before.cost old new past before.shown
