@@ -37,6 +37,14 @@ def refused(name, lexicons, err, status, *options, words=()):
     return Row(name, lexicons, err=err, status=status, options=options or OPTIONS, words=words)
 
 
+def nowhere(name, *looked):
+    """A run for a system dictionary that is nowhere, also where the import gives a file or a folder of its own that name."""
+    told = "\nkumquatsieve-import: ".join([f"{name}: it is not there", f"{name}: F1 File", *looked])
+    return refused(f"no dictionary {name}", ONE, told, 3, "--user", name, "--out", "new.img")
+
+
+LOOKED = ("HOME/kumquatsieve", "PREFIX/var/lib/kumquatsieve", "PREFIX/share/kumquatsieve")
+HOMES = (*(f"looked for in {home}" for home in LOOKED), "images there: here")
 ONE, TWO_CODES = {"a.csv": WORD.encode()}, {"a.csv": WORD.encode("euc_jp") * 2 + b"\xff,1,1,5,X\n"}
 CHOICE = "a.csv: --encoding has to choose: UTF-8 fits; EUC-JP fits; EUC-JIS-2004 fits; CP932 makes half-width kana"
 ROWS = [
@@ -58,6 +66,8 @@ ROWS = [
     refused("no file", {}, "none.csv: No such file or directory", 3, words=("none.csv",)),
     refused("no image", ONE, "text: L2 BadMagic", 1, "--user", "text", "--out", "new.img"),
     refused("no image of a name of any bytes", ONE, "an argument is not UTF-8", 2, "--user", b"none\xff.img", "--out", "new.img"),
+    *(nowhere(name, *HOMES) for name in ("none", "new", "empty", "000000.csv")),
+    *(nowhere(name) for name in ("./none", "./new", "../000000.csv", "../new/image")),
     refused("no lexicon", {}, WANTED, 2),
     refused("no place", ONE, WANTED, 2, "--user", "sys.img"),
     refused("no system dictionary", ONE, WANTED, 2, "--out", "new.img"),
@@ -85,7 +95,7 @@ def wrong(row, programs, work):
     words = [*row.options, *(row.words or sorted(row.lexicons, key=os.fsencode))]
     place = {**os.environ, "XDG_DATA_HOME": str(work / "home")}
     ran = subprocess.run([programs / "kumquatsieve-import", *words], cwd=work, env=place, capture_output=True, text=True)
-    err = f"kumquatsieve-import: {row.err}\n".replace("HOME", str(work / "home")) if row.err else ""
+    err = f"kumquatsieve-import: {row.err}\n".replace("HOME", str(work / "home")).replace("PREFIX", str(programs.parent)) if row.err else ""
     if (ran.stderr, ran.returncode) != (err, row.status):
         yield f"tells {ran.stderr!r} with status {ran.returncode}, not {err!r} with {row.status}"
     left = {path.name for path in work.iterdir()} - there

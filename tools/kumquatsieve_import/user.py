@@ -9,8 +9,10 @@ from .homes import image_named, let_all_read
 from .placing import Place
 from .sources import Source, source_at
 
-# What the system dictionary is called in the folder in which dictc runs.
+# What the system dictionary is called beside the lexicons.
 SYSTEM = b"system.img"
+# dictc runs in a folder below them which has nothing, so that a dictionary that is nowhere is not found among them by its name.
+EMPTY, ABOVE = b"empty", b"../"
 
 
 def lexicon_at(path):
@@ -40,9 +42,12 @@ class UserImport:
         work = self.workshop.new_folder()
         encoding = find_encoding(self.lexicons, self.choices.encoding, None, self.choices.lexicons[0], self.teller)
         self.teller.report(f"encoding: {encoding.name}")
-        names = {b"%06d.csv" % number: lexicon.path for number, lexicon in enumerate(self.lexicons)}
+        names = {ABOVE + b"%06d.csv" % number: lexicon.path for number, lexicon in enumerate(self.lexicons)}
+        empty = os.path.join(work, EMPTY)
+        with naming(work):
+            os.mkdir(empty)
         for name, lexicon in zip(names, self.lexicons):
-            make_utf_8(lexicon, encoding, os.path.join(work, name), self.teller, refuse_line)
+            make_utf_8(lexicon, encoding, os.path.join(empty, name), self.teller, refuse_line)
         counted = self.compile(names, work, beside)
         new = os.path.join(beside, NEW)
         size = os.path.getsize(new)
@@ -52,10 +57,14 @@ class UserImport:
 
     def compile(self, names, work, beside):
         """What dictc counted. It finds a system dictionary that is nowhere no more than this does, and says so by its name."""
-        new, system = place_for_new(work, beside), self.choices.name
+        new, system = ABOVE + place_for_new(work, beside), self.system_for_dictc(work)
+        compilation = Compilation({**names, new: self.place.named, system: self.choices.name}, self.teller)
+        return compilation.run([self.dictc, b"user", b"-v", b"--dic=" + system, b"--out", new, *names], os.path.join(work, EMPTY), self.workshop)
+
+    def system_for_dictc(self, work):
+        """What dictc is to call the system dictionary. A bare name that is nowhere stays as it is, since dictc says where it looked for it."""
         if self.system:
-            system = SYSTEM
             with naming(work):
                 os.symlink(os.path.abspath(self.system), os.path.join(work, SYSTEM))
-        compilation = Compilation({**names, new: self.place.named, system: self.choices.name}, self.teller)
-        return compilation.run([self.dictc, b"user", b"-v", b"--dic=" + system, b"--out", new, *names], work, self.workshop)
+            return ABOVE + SYSTEM
+        return os.path.abspath(self.choices.name) if b"/" in self.choices.name else self.choices.name
