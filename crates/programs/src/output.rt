@@ -1,6 +1,6 @@
 //! Bytes that a writer takes.
 
-ghost use Rattle.std.specs.Prelude.{OnErr, OnOk};
+ghost use Rattle.std.specs.Prelude.{◌≡◌, OnErr, OnOk};
 ghost use Rattle.std.specs.Io.KnownBytes.{Appends};
 ghost use Rattle.programs.specs.Writing.{AppendsFront};
 
@@ -33,6 +33,9 @@ pub fn write_whole<W: Write>(writer: &mut W, bytes: &[u8]) -> io::Result<()>
 pub struct Printed<'a, W>(pub &'a mut W);
 
 impl<W: Write> fmt::Write for Printed<'_, W> {
+    ghost write_str_gives = { λ before text after. (after.0.ghost_name ≡ before.0.ghost_name)
+        × Appends (W.contents before.0.now) (W.contents after.0.now) text };
+
     fn write_str(&mut self, text: &str) -> fmt::Result {
         write_whole(self.0, text.as_bytes()).map_err(|_| fmt::Error)
     }
