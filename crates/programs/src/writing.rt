@@ -1,5 +1,9 @@
 //! A file that is written whole or not at all.
 
+ghost use Rattle.std.specs.Prelude.{IfErr};
+ghost use Rattle.programs.specs.Faults.{Names};
+ghost use Rattle.programs.specs.declared.fault.Fault.TheVariants.{File as OfFile};
+
 use crate::fault::Fault;
 use crate::output::write_whole;
 use std::fs::{self, File, OpenFile, OpenOptions, Permissions};
@@ -21,7 +25,9 @@ const ACCESS_BITS: u32 = 0o777;
 /// leaves the old file as it was, and no new one where that can be removed. The new file has the
 /// old one's mode before it has a byte, and never a wider one. What is no file, as a device, is
 /// written where it stands. No write that fails is made again.
-pub fn write_file(rt: &HostRuntime, path: &str, bytes: &[u8]) -> Result<(), Fault> {
+pub fn write_file(rt: &HostRuntime, path: &str, bytes: &[u8]) -> Result<(), Fault>
+    ensures fault { IfErr result (Names OfFile path.now) }
+{
     let process = process::id(rt.process());
     write_as(rt, process, path, bytes)
 }
@@ -32,13 +38,18 @@ pub fn write_as<R: Files + AllocGlobal>(
     process: u32,
     path: &str,
     bytes: &[u8],
-) -> Result<(), Fault> {
+) -> Result<(), Fault>
+    ensures fault { IfErr result (Names OfFile path.now) }
+{
     let written = match fs::metadata(rt, path) {
         Ok(old) if old.is_file() => replace_behind(rt, process, path, old.permissions(), bytes),
         Ok(_) => write_device(rt, path, bytes),
         Err(_) => replace(rt, process, path, None, bytes),
     };
-    written.map_err(|error| Fault::of_file(rt.alloc(), path, &error))
+    match written {
+        Ok(()) => Ok(()),
+        Err(error) => Err(Fault::of_file(rt.alloc(), path, &error)),
+    }
 }
 
 /// Writes what is no file where it stands.
