@@ -11,7 +11,9 @@ use std::{fs, io};
 
 /// The names of the images in a folder, in byte order: of each `NAME.img` that is no directory. A folder that can't be read has none, and a
 /// name that is not UTF-8 can't be given to a program.
-pub fn image_names(rt: &HostRuntime, folder: &str) -> Result<Vec<String>, AllocError> {
+pub fn image_names(rt: &HostRuntime, folder: &str) -> Result<Vec<String>, AllocError>
+    ensures order { IfOk result (λ names. IsSorted string_cmp names.items) }
+{
     match names_in(rt, folder) {
         Ok(names) => in_byte_order(names),
         Err(error) if error.kind() == ErrorKind::OutOfMemory => Err(AllocError),
