@@ -1,5 +1,5 @@
 -- Where images live: the folders in which the image of a bare name is looked for.
-use Rattle.std.specs.Prelude.{ℕ, ◌==◌, List, [], ◌∷◌, ◌++◌, Option, Some, None, option_map, option_and_then, option_to_list, String, string_bytes, bytes_eq, slice_index, codes, if◌then◌else◌}
+use Rattle.std.specs.Prelude.{◌≡◌, ◌⊎◌, ℕ, ◌==◌, List, [], ◌∷◌, ◌++◌, Option, Some, None, option_map, option_and_then, option_to_list, String, string_bytes, bytes_eq, slice_index, codes, if◌then◌else◌}
 use Rattle.std.specs.List.{list_any}
 use Rattle.std.specs.Path.{path_parent, slash}
 use Rattle.std.specs.declared.alloc.Global.{Global}
@@ -48,3 +48,7 @@ homes_of s = with_system s.prefix (option_to_list (own_home s))
 -- the path of the image of a name in a folder
 abbrev pub image_in : List ℕ → List ℕ → List ℕ
 image_in folder name = folder ++ codes "/" ++ name ++ codes ".img"
+
+-- the path that stands for a name: the name itself, or the path of its image in a folder
+abbrev pub IsPathFor : List ℕ → List ℕ → Type 0
+IsPathFor name path = (path ≡ name) ⊎ ((folder : List ℕ) × (path ≡ image_in folder name))

@@ -1,5 +1,8 @@
 //! Images by their names.
 
+ghost use Rattle.std.specs.Prelude.{IfOk, string_bytes};
+ghost use Rattle.programs.specs.Homes.{IsPathFor};
+
 use crate::homes::image_in;
 use crate::surroundings::Surroundings;
 use std::alloc::AllocError;
@@ -9,7 +12,9 @@ use std::string::String;
 /// The path of the image that an option names.
 ///
 /// A bare name that no file has is that of an image in a home: in the first one that has it. Where none has it the name stays.
-pub fn image_path(rt: &HostRuntime, name: &str) -> Result<String, AllocError> {
+pub fn image_path(rt: &HostRuntime, name: &str) -> Result<String, AllocError>
+    ensures path { IfOk result (λ path. IsPathFor name.now (string_bytes path)) }
+{
     if is_looked_for(rt, name) {
         let homes = Surroundings::here(rt)?.homes(rt.alloc())?;
         for home in &homes {
