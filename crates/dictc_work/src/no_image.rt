@@ -1,6 +1,7 @@
 //! Why a compilation leaves no image.
 
 ghost use Rattle.std.specs.Prelude.{◌≡◌};
+ghost use Rattle.dictc_work.specs.Statuses.{status_of_end};
 ghost use Rattle.dictc_work.specs.declared.no_image.NoImage.TheVariants.{Fault as ForFault};
 ghost use Rattle.programs.specs.declared.fault.Fault.TheVariants.{Memory};
 
@@ -20,6 +21,8 @@ pub enum NoImage {
 }
 
 impl EarlyEnd for NoImage {
+    ghost status = { status_of_end };
+
     fn tell(&self, rt: &HostRuntime, program: &str) -> u8 {
         match self {
             NoImage::Fault(fault) => fault.tell(rt, program),

@@ -5,4 +5,5 @@ pub mod ImageHeads
 pub mod ImageRows
 pub mod Paths
 pub mod Reading
+pub mod Statuses
 pub mod Writing

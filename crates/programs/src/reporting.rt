@@ -1,5 +1,8 @@
 //! The line that a program ends with on standard error, and the exit status.
 
+ghost use Rattle.std.specs.Prelude.{◌≡◌};
+ghost use Rattle.programs.specs.Statuses.{status_of};
+
 use crate::fault::{Fault, belongs_to_a_file};
 use crate::output::Printed;
 use command_lines::OneLine;
@@ -12,7 +15,9 @@ use std::string::String;
 /// Writes the fault's line, in one write where memory for it is given, and answers the status.
 ///
 /// A failed write of it is ignored.
-pub fn report<W: io::Write>(alloc: Global, program: &str, fault: &Fault, err: &mut W) -> u8 {
+pub fn report<W: io::Write>(alloc: Global, program: &str, fault: &Fault, err: &mut W) -> u8
+    ensures status { result ≡ status_of fault.now }
+{
     let mut err = Printed(err);
     let _ = match format!(in alloc; "{program}: {fault}\n") {
         Ok(line) => err.write_str(line.as_str()),
@@ -65,7 +70,9 @@ fn write_words<W: Write>(f: &mut Formatter<W>, fault: &Fault) -> fmt::Result {
 
 /// 1 for a refused source, image, overlay or text, 2 for a refused format, 3 for a file or device,
 /// 4 for memory.
-fn status(fault: &Fault) -> u8 {
+fn status(fault: &Fault) -> u8
+    ensures { result ≡ status_of fault.now }
+{
     match fault {
         Fault::Source(_, fault) | Fault::Sources(fault) => match fault.kind {
             SourceKind::Memory => 4,
