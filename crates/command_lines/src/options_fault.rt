@@ -1,5 +1,8 @@
 //! Why a command line makes no choices.
 
+ghost use Rattle.std.specs.Prelude.{◌≡◌};
+ghost use Rattle.command_lines.specs.Statuses.{status_told};
+
 use crate::one_line::{OneLine, ToldLines};
 use clap::Error;
 use clap::error::ErrorKind as ParserKind;
@@ -83,7 +86,9 @@ impl OptionsFault {
     }
 
     /// The exit status.
-    pub fn status(&self) -> u8 {
+    pub fn status(&self) -> u8
+        ensures { result ≡ status_told self.now }
+    {
         match self {
             OptionsFault::Help(_) => 0,
             OptionsFault::Bad(_) => 2,
