@@ -1,3 +1,4 @@
+pub mod Directories
 pub mod Formatting
 pub mod Images
 pub mod Printing
