@@ -1,5 +1,7 @@
 //! Dictionaries are compiled from the files that the command line names.
 
+ghost use Rattle.std.specs.Prelude.{◌≡◌, IfOk, map, string_bytes};
+
 use crate::all_faults::{is_of_a_line, tell_faults};
 use crate::beside::Beside;
 use crate::matrix_file::MatrixFile;
@@ -85,7 +87,17 @@ fn read_sources(
     matrix: &String,
     chars: &String,
     unk: &String,
-) -> Result<SourceFiles, Fault> {
+) -> Result<SourceFiles, Fault>
+    ensures matrix { IfOk result
+        (λ files. string_bytes files.matrix ≡ string_bytes matrix.now) }
+    ensures chars { IfOk result
+        (λ files. string_bytes files.chars.path ≡ string_bytes chars.now) }
+    ensures unk { IfOk result
+        (λ files. string_bytes files.unk.path ≡ string_bytes unk.now) }
+    ensures lexicons { IfOk result
+        (λ files. map (λ file. string_bytes file.path) files.lexicons.items
+        ≡ map (λ path. string_bytes path) options.now.lexicons.items) }
+{
     Ok(SourceFiles {
         chars: WholeFile::read(rt, chars.as_str())?,
         unk: WholeFile::read(rt, unk.as_str())?,
