@@ -25,9 +25,6 @@ pub bytes_plain : (bytes : List ℕ) → All IsPlain (bytes_as_pieces bytes)
 bytes_plain [] = All-nil IsPlain
 bytes_plain (b ∷ bs) = All-cons IsPlain (Byte b) (bytes_as_pieces bs) tt (bytes_plain bs)
 
-pub item_plain : (i : FormatItem) → IsPlainItem i → All IsPlain (Shows i ∷ [])
-item_plain i plain = All-cons IsPlain (Shows i) [] plain (All-nil IsPlain)
-
 pub not_plain : (i : FormatItem) → (i ≡ item.Surface → ⊥) → (i ≡ item.Feature → ⊥) → IsPlainItem i → ⊥
 not_plain item.Surface no_surface no_feature plain = no_surface refl
 not_plain item.Feature no_surface no_feature plain = no_feature refl

@@ -1,6 +1,6 @@
 //! A word of which nothing but its surface and its feature is shown, and what the items show of it.
 
-ghost use Rattle.std.specs.Prelude.{◌≡◌, IsTrue, All};
+ghost use Rattle.std.specs.Prelude.{IsTrue, All};
 ghost use Rattle.out_format.specs.Pieces.{pieces_in, pieces_of};
 ghost use Rattle.out_format.specs.Plain.{IsPlain};
 
