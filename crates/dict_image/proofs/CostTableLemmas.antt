@@ -52,7 +52,7 @@ cost_more sizes costs left count old rows grown =
 
 -- ---- a row more
 
-next_row : (left width : ℕ) → (left + 1) * width ≡ left * width + width
+pub next_row : (left width : ℕ) → (left + 1) * width ≡ left * width + width
 next_row left width = add-mul left 1 width ∙ ap (λ (n : ℕ). left * width + n) (one-mul width)
 
 -- the costs of a row stand before those of a later one
@@ -79,11 +79,6 @@ row_more sizes costs left old rows are grown =
             (subst (λ (i : ℕ). slice_get rows i ≡ Some (stored_cost sizes costs right left)) at (grown.each right within))
       ];
     }
-
-pub stands_in : (sizes : MatrixSizes) (costs : List ℕ) (rows : List ℤ) (right left : ℕ) → AreRows sizes costs sizes.left rows → right < sizes.right → left < sizes.left
-    → left * sizes.right + right < length rows
-stands_in sizes costs rows right left are within before =
-    subst (λ (n : ℕ). left * sizes.right + right < n) (sym are.many) (in_rows left sizes.left sizes.right right before within)
 
 -- ---- the table of an image
 

@@ -15,4 +15,5 @@ pub mod CategoryLemmas
 pub mod ProgressLemmas
 pub mod FittingLemmas
 pub mod NumberLemmas
+pub mod CostRowLemmas
 pub mod NumberedTokens

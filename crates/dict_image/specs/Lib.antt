@@ -5,6 +5,7 @@ pub mod Ranges
 pub mod Infos
 pub mod InfoTables
 pub mod CostTables
+pub mod CostRows
 pub mod Categories
 pub mod KeyLists
 pub mod Groups

@@ -1,5 +1,5 @@
 //! Connection costs in rows.
-ghost use Rattle.std.specs.Prelude.{◌≡◌, ◌+◌, ◌*◌, ◌<◌, Some, length, slice_get, IfOk, OnOk};
+ghost use Rattle.std.specs.Prelude.{◌≡◌, ◌*◌, ◌<◌, IfOk, OnOk};
 ghost use Rattle.image_bytes.specs.ImageBytes.{kind_of};
 ghost use Rattle.image_bytes.specs.ImageSections.{AreCosts};
 ghost use Rattle.mj_model.specs.Tables.{System};
@@ -74,12 +74,4 @@ fn append_row(
         rows.push(cost_at(costs, sizes, right, left))?;
     }
     Ok(())
-}
-
-/// The connection cost of a right id and a left id, by rows.
-pub(crate) fn cost_in(rows: &[i16], sizes: MatrixSizes, right: u32, left: u32) -> i16
-    requires { left * sizes.right + right < length rows.now }
-    ensures { slice_get rows.now (left * sizes.right + right) ≡ Some result }
-{
-    rows[left as usize * sizes.right as usize + right as usize]
 }

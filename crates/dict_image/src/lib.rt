@@ -4,6 +4,7 @@
 mod categories;
 mod cost_table;
 mod costs;
+mod costs_before;
 mod dict;
 mod entries;
 mod entry_ref;
@@ -25,6 +26,7 @@ mod ranges;
 mod system;
 mod token_row;
 
+pub use costs_before::CostsBefore;
 pub use dict::Dict;
 pub use entries::Entries;
 pub use entry_ref::EntryRef;

@@ -6,13 +6,11 @@ ghost use Rattle.mj_model.specs.Tables.{System};
 ghost use Rattle.dict_image.specs.Categories.{category_names};
 
 use crate::categories::{from_category, name_of};
-use crate::cost_table::{CostTable, cost_in};
-use crate::costs::cost_at;
 use crate::dict::Dict;
 use crate::entries::Entries;
 use crate::info_table::{InfoTable, plane_info};
 use crate::infos::listed_at;
-use image_bytes::Section::{Categories, Costs, Features, Infos, Tokens, UnknownIndex};
+use image_bytes::Section::{Categories, Features, Infos, Tokens, UnknownIndex};
 use mj_model::{Category, CharInfo};
 
 impl Dict {
@@ -24,12 +22,7 @@ impl Dict {
         requires pair { IsTrue (is_pair (image_tables self.now).sizes prev_right next_left) }
         ensures { result ≡ (image_tables self.now).connection prev_right next_left }
     {
-        let sizes = self.header().sizes;
-        let (right, left) = (u32::from(prev_right), u32::from(next_left));
-        match self.cost_table() {
-            CostTable::InSection => cost_at(self.section(Costs), sizes, right, left),
-            CostTable::InRows(rows) => cost_in(rows, sizes, right, left),
-        }
+        self.costs_before(next_left).after(prev_right)
     }
 
     /// The categories of a character. Those of one beyond the basic plane take the time of a binary search at most.

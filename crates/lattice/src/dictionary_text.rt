@@ -1,6 +1,6 @@
 //! A text over dictionaries: its best path and its lattice.
 
-ghost use Rattle.std.specs.Prelude.{◌≡◌, ◌≤◌, length, All, IfOk};
+ghost use Rattle.std.specs.Prelude.{◌≡◌, ◌≤◌, length, slice_get, All, IfOk};
 ghost use Rattle.mj_model.specs.declared.limits.TheConstants.{SENTENCE_MAX};
 ghost use Rattle.paths.specs.BestOver.{IsBestOver, cost_over};
 ghost use Rattle.word_lookup.specs.Overlays.{overlay_of};
@@ -13,7 +13,7 @@ use mj_model::Word;
 use path_search::WordSource;
 use paths::{LastRuns, Path, Surface};
 use std::alloc::{AllocError, Global};
-use word_lookup::{Dictionaries, SurfaceWords, have_same_entries};
+use word_lookup::{CostsBefore, Dictionaries, SurfaceWords, have_same_entries};
 
 /// A text over dictionaries.
 #[derive(Drop)]
@@ -56,8 +56,16 @@ impl<'a> WordSource for DictionaryText<'a> {
         have_same_entries(one, other)
     }
 
-    fn connection_cost(&self, right: u16, left: u16) -> i16 {
-        self.dictionaries.cost(right, left)
+    type Costs = CostsBefore<'a>;
+
+    ghost costs_in = { λ costs. slice_get costs };
+
+    fn costs_before(&self, left: u16) -> CostsBefore<'a> {
+        self.dictionaries.costs_before(left)
+    }
+
+    fn cost_after(&self, costs: &CostsBefore<'a>, right: u16) -> i16 {
+        costs.after(right)
     }
 }
 

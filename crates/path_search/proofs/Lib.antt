@@ -7,6 +7,7 @@ pub mod Noting
 pub mod EndsLemmas
 pub mod ThinnedLemmas
 pub mod Least
+pub mod CostLemmas
 pub mod Links
 pub mod Choice
 pub mod Growth

@@ -7,3 +7,4 @@ pub mod Lattice
 pub mod SearchedText
 pub mod Places
 pub mod Alike
+pub mod Connections

@@ -1,5 +1,5 @@
 -- What the search is told of a text, as one record.
-use Rattle.std.specs.Prelude.{◌≡◌, ℕ, ℤ, ◌+◌, List, length, take, flat_map, slice_get}
+use Rattle.std.specs.Prelude.{◌≡◌, ℕ, ℤ, ◌+◌, List, length, take, flat_map, slice_get, slice_index_or, true}
 use Rattle.std.specs.Option.{option_map_or}
 use Rattle.mj_model.specs.declared.word.Word.{Word}
 use Rattle.paths.specs.Best.{IsBestPath}
@@ -14,7 +14,7 @@ use Rattle.paths.specs.Surfaces.{AreSurfacesOf}
 use Rattle.path_search.specs.declared.nodes.Nodes.{Nodes}
 use Rattle.path_search.specs.declared.node.Bundle.{Bundle}
 use Rattle.path_search.specs.declared.node.Backpointer.{Backpointer}
-use Rattle.path_search.specs.Nodes.{AreLinked, AreBundles, HaveRights, Node, node_words, nodes_of}
+use Rattle.path_search.specs.Nodes.{AreLinked, AreBundles, HaveRights, Node, node_words, nodes_of, reached}
 use Rattle.path_search.specs.Lattice.{IsLattice}
 
 -- a text's length in bytes, the words of each place in their order, the words of a surface, the connection cost of a right id and the
@@ -81,6 +81,10 @@ AreKeptIn t ns = AreKept t ns.bundles.items ns.backs.items ns.heads.items
 
 abbrev pub kept_nodes : SearchedText → Nodes → List Node
 kept_nodes t ns = nodes_in t ns.bundles.items ns.backs.items
+
+-- some chain leads to a place, as its head tells
+abbrev pub IsReachedIn : Nodes → ℕ → Type 0
+IsReachedIn ns place = reached place (slice_index_or ns.heads.items place 0) ≡ true
 
 -- the surfaces are those of the words of a place
 abbrev pub AreSurfacesAt : SearchedText → ℕ → List Surface → Type 0

@@ -1,8 +1,8 @@
 //! The nodes of a text, place by place.
 
-ghost use Rattle.std.specs.Prelude.{◌≡◌, ◌+◌, ◌<◌, true, slice_index_or, OnOk};
+ghost use Rattle.std.specs.Prelude.{◌≡◌, ◌+◌, ◌<◌, ◌≤◌, OnOk};
 ghost use Rattle.path_search.specs.Nodes.{reached};
-ghost use Rattle.path_search.specs.SearchedText.{AreKeptIn, AreRunsOf, CanBeSearched, IsLatticeTo, kept_nodes};
+ghost use Rattle.path_search.specs.SearchedText.{AreKeptIn, AreRunsOf, CanBeSearched, IsLatticeTo, IsReachedIn, kept_nodes};
 
 use crate::ends::gather;
 use crate::joins::Joins;
@@ -55,13 +55,38 @@ pub fn build<S: WordSource>(
     nodes.heads.clear();
     nodes.heads.resize(length + 1, 0)?;
     let mut last = LastRuns::none();
-    for place in 0..length {
+    let mut place = next_reached(source, nodes, 0);
+    while place < length {
         add_place(source, nodes, room, place, &mut last)?;
+        place = next_reached(source, nodes, place + 1);
     }
     Ok(())
 }
 
-/// Adds the words of a place, if some chain leads there. `last` are the runs that were looked at last.
+/// The first place from one on to which some chain leads, or the end of the text.
+fn next_reached<S: WordSource>(source: &S, nodes: &Nodes, from: usize) -> usize
+    requires source { CanBeSearched (S.says source.now) }
+    requires from { from ≤ (S.says source.now).text_length }
+    requires kept { AreKeptIn (S.says source.now) nodes.now }
+    requires lattice { IsLatticeTo (S.says source.now)
+        (kept_nodes (S.says source.now) nodes.now) from }
+    ensures from { from ≤ result }
+    ensures within { result ≤ (S.says source.now).text_length }
+    ensures reached { result < (S.says source.now).text_length → IsReachedIn nodes.now result }
+    ensures lattice { IsLatticeTo (S.says source.now)
+        (kept_nodes (S.says source.now) nodes.now) result }
+{
+    let length = source.length();
+    let heads = nodes.heads.as_slice();
+    for place in from..length {
+        if is_reached(place, heads[place]) {
+            return place;
+        }
+    }
+    length
+}
+
+/// Adds the words of a place to which some chain leads. `last` are the runs that were looked at last.
 fn add_place<S: WordSource>(
     source: &S,
     nodes: &mut Nodes,
@@ -71,6 +96,7 @@ fn add_place<S: WordSource>(
 ) -> Result<(), AllocError>
     requires source { CanBeSearched (S.says source.now) }
     requires place { place < (S.says source.now).text_length }
+    requires reached { IsReachedIn nodes.old place }
     requires last { AreRunsOf (S.says source.now) last.old }
     requires kept { AreKeptIn (S.says source.now) nodes.old }
     requires lattice { IsLatticeTo (S.says source.now)
@@ -79,12 +105,8 @@ fn add_place<S: WordSource>(
     ensures lattice { OnOk result (IsLatticeTo (S.says source.now)
         (kept_nodes (S.says source.now) nodes.new) (place + 1)) }
     ensures last { AreRunsOf (S.says source.now) last.new }
-    ensures looked_at { reached place (slice_index_or nodes.old.heads.items place 0) ≡ true
-        → (S.says source.now).is_kept place last.new }
+    ensures looked_at { (S.says source.now).is_kept place last.new }
 {
-    if !is_reached(place, nodes.heads[place]) {
-        return Ok(());
-    }
     room.surfaces.clear();
     source.surfaces_at(place, last, &mut room.surfaces)?;
     gather(source, nodes, place, &mut room.ends)?;

@@ -1,7 +1,8 @@
 //! The choice of the best chain to a place.
 
-ghost use Rattle.std.specs.Prelude.{◌≡◌, ◌<◌, length, All, IfOk, OnOk};
-ghost use Rattle.path_search.specs.Ends.{AreLeast, HasSmallTotal, IsFollowedBy, IsLeast, IsLesser, candidate_at};
+ghost use Rattle.std.specs.Prelude.{◌<◌, length, All, IfOk, IsSome, OnOk};
+ghost use Rattle.path_search.specs.Ends.{AreLeast, HasSmallTotal, IsFollowedBy, IsLeast, IsLesser};
+ghost use Rattle.path_search.specs.Connections.{IsCandidate};
 
 use crate::joins::Joins;
 use crate::node::{Candidate, End, Join};
@@ -47,9 +48,10 @@ pub fn least<S: WordSource>(source: &S, ends: &[End], left: u16) -> Join
     requires pairs { All (IsFollowedBy (S.says source.now).is_pair left) ends.now }
     ensures { IsLeast (S.says source.now).connection ends.now left result }
 {
-    let mut best = candidate(source, 0, &ends[0], left);
+    let costs = source.costs_before(left);
+    let mut best = candidate(source, &costs, 0, &ends[0]);
     for rank in 1..ends.len() {
-        best = lesser(best, candidate(source, rank, &ends[rank], left));
+        best = lesser(best, candidate(source, &costs, rank, &ends[rank]));
     }
     Join {
         before: ends[best.rank].before,
@@ -57,15 +59,15 @@ pub fn least<S: WordSource>(source: &S, ends: &[End], left: u16) -> Join
     }
 }
 
-/// An end as a candidate, where a word of this left id follows.
-fn candidate<S: WordSource>(source: &S, rank: usize, end: &End, left: u16) -> Candidate
+/// An end as a candidate, where a word with these connection costs before it follows.
+fn candidate<S: WordSource>(source: &S, costs: &S::Costs, rank: usize, end: &End) -> Candidate
     requires total { HasSmallTotal end.now }
-    requires pair { IsFollowedBy (S.says source.now).is_pair left end.now }
-    ensures { result ≡ candidate_at (S.says source.now).connection left rank end.now }
+    requires cost { IsSome (S.costs_in costs.now end.now.right) }
+    ensures { IsCandidate (S.costs_in costs.now) rank end.now result }
 {
     Candidate {
         rank,
-        cost: end.total + i64::from(source.connection_cost(end.right, left)),
+        cost: end.total + i64::from(source.cost_after(costs, end.right)),
     }
 }
 

@@ -1,10 +1,11 @@
 //! Where the search takes words and connection costs from.
 
-ghost use Rattle.std.specs.Prelude.{◌≡◌, ◌<◌, List, length, slice_get, IsTrue, OnOk, OnErr, Some};
+ghost use Rattle.std.specs.Prelude.{◌≡◌, ℕ, ℤ, ◌<◌, List, length, slice_get, IsTrue, IsSome, OnOk, OnErr, Option, Some};
 ghost use Rattle.mj_model.specs.declared.word.Word.{Word};
 ghost use Rattle.mj_model.specs.Lists.{GrowsBy};
 ghost use Rattle.paths.specs.Surfaces.{IsWhole};
 ghost use Rattle.path_search.specs.Alike.{AreAlike};
+ghost use Rattle.path_search.specs.Connections.{AreCostsBefore, IsLeftId};
 ghost use Rattle.path_search.specs.SearchedText.{AreRunsOf, AreSurfacesAt, SearchedText};
 
 use mj_model::Word;
@@ -62,7 +63,27 @@ pub trait WordSource {
         false
     }
 
+    /// The connection costs before words of one left id.
+    type Costs: Drop;
+
+    /// Of each right id that may stand before such a word.
+    ghost costs_in: { Self.Costs → ℕ → Option ℤ };
+
+    /// The connection costs before words of a left id: what is the same for all right ids is looked up once.
+    fn costs_before(&self, left: u16) -> Self::Costs
+        requires { IsLeftId (says self.now) left }
+        ensures { AreCostsBefore (says self.now) left (costs_in result) };
+
+    /// That of a right id.
+    fn cost_after(&self, costs: &Self::Costs, right: u16) -> i16
+        requires { IsSome (costs_in costs.now right) }
+        ensures { costs_in costs.now right ≡ Some result };
+
     fn connection_cost(&self, right: u16, left: u16) -> i16
         requires { (says self.now).is_pair right left }
-        ensures { result ≡ (says self.now).connection right left };
+        ensures { result ≡ (says self.now).connection right left }
+    {
+        let costs = self.costs_before(left);
+        self.cost_after(&costs, right)
+    }
 }

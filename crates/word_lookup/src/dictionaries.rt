@@ -1,17 +1,18 @@
 //! The dictionaries that words are looked up in.
 
-ghost use Rattle.std.specs.Prelude.{◌≡◌, ◌≤◌, [], length, map, IsTrue, IfOk, OnOk, IfErr, Some, None, slice_get, slice_index_or};
+ghost use Rattle.std.specs.Prelude.{◌≡◌, ◌<◌, ◌≤◌, [], length, map, IsTrue, IfOk, OnOk, IfErr, Some, None, slice_get, slice_index_or};
 ghost use Rattle.mj_model.specs.Connection.{is_pair};
 ghost use Rattle.image_bytes.specs.ImageMeaning.{image_tables};
 ghost use Rattle.mj_model.specs.Printed.{feature_of};
 ghost use Rattle.mj_model.specs.Tables.{lexicons};
+ghost use Rattle.dict_image.specs.CostRows.{AreCostsBefore};
 ghost use Rattle.dict_image.specs.Fitting.{AreFitting};
 ghost use Rattle.std.proofs.Props.{props};
 ghost use Rattle.word_lookup.specs.Fitting.{AreOfSpace, IsOverlay};
 ghost use Rattle.word_lookup.specs.Props.{IsOverlay-prop};
 
 use crate::overlay::check_users;
-use dict_image::{Dict, EntryRef};
+use dict_image::{CostsBefore, Dict, EntryRef};
 use mj_model::{CharInfo, GROUPING_DEFAULT, Origin, OverlayFault, Word};
 use std::alloc::{AllocError, Global};
 
@@ -132,6 +133,16 @@ impl<'a> Dictionaries<'a> {
         ensures { result ≡ (overlay_of self.now).system.connection prev_right next_left }
     {
         self.system.cost(prev_right, next_left)
+    }
+
+    /// The connection costs before words of a left id: where they lie is looked up once for all right ids.
+    #[tactic(auto, unfolding(crate::specs::Overlays::overlay_of))]
+    #[inline(always)]
+    pub fn costs_before(&self, left: u16) -> CostsBefore<'a>
+        requires { left < (overlay_of self.now).system.sizes.left }
+        ensures { AreCostsBefore (overlay_of self.now).system left result }
+    {
+        self.system.costs_before(left)
     }
 
     /// The categories of a character.

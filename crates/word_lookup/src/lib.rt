@@ -16,6 +16,7 @@ mod unknown_start;
 mod word_start;
 mod words;
 
+pub use dict_image::CostsBefore;
 pub use dictionaries::Dictionaries;
 pub use mj_model::{Origin, Word};
 pub use paths::{EntryList, LastRuns, Surface};

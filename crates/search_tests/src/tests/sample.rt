@@ -1,6 +1,6 @@
 //! A source of words for tests: a list.
 
-ghost use Rattle.std.specs.Prelude.{◌≡◌, ◌++◌, ◌∷◌, [], IfOk, IsTrue, IsFalse};
+ghost use Rattle.std.specs.Prelude.{◌≡◌, ◌++◌, ◌∷◌, [], Some, IfOk, IsTrue, IsFalse};
 ghost use Rattle.search_tests.specs.Sample.{lies_at, numbered, sample_connection, sample_surface, sample_words, surface_of, words_numbered};
 
 use lattice::WordSource;
@@ -62,8 +62,17 @@ impl WordSource for Sample {
         *words
     }
 
-    fn connection_cost(&self, right: u16, left: u16) -> i16 {
-        match (right, left) {
+    // The left id itself.
+    type Costs = u16;
+
+    ghost costs_in = { λ left right. Some (sample_connection right left) };
+
+    fn costs_before(&self, left: u16) -> u16 {
+        left
+    }
+
+    fn cost_after(&self, costs: &u16, right: u16) -> i16 {
+        match (right, *costs) {
             (0, 0) => 0,
             (0, _) => 10,
             (_, 0) => 5,

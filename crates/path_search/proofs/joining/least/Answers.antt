@@ -1,17 +1,30 @@
-use Rattle.std.proofs.Common.{rules, arith, ◌≡◌, ℕ, pos, refl, subst, length, get_or, to_z, of_z, w64}
+use Rattle.std.proofs.Common.{rules, arith, ◌≡◌, ◌<◌, ℕ, pos, refl, subst, length, get_or, to_z, of_z, w64}
+use Rattle.std.proofs.lemmas.List.Elements.{All-get_or}
 use Rattle.std.proofs.lemmas.Int.{to_z-of_z}
 use mir.Val.{SFits}
 use Rattle.path_search.specs.declared.node.End.{End}
+use Rattle.path_search.specs.Ends.{IsFollowedBy}
+use Rattle.path_search.proofs.CostLemmas.{candidate_is}
 use Rattle.path_search.proofs.Least.{IsLeastOf, least_more, least_of_all}
 use Rattle.path_search.proofs.joining.least.Goals as goal
 
 abbrev no_end : End
 no_end = record { total = pos 0; before = 0; right = 0 }
 
+pub costs_before-costs-requires : goal.costs_before-costs-requires
+costs_before-costs-requires g c =
+    let t = g.S.WordSource.says c.args.source.now in
+    ((get_or c.args.ends.now 0 no_end).right, All-get_or (IsFollowedBy t.is_pair c.args.left) c.args.ends.now 0 no_end c.requires.some c.requires.pairs)
+
 pub loop-rank-preserved : goal.loop-rank-preserved
 loop-rank-preserved g c =
-    least_more (g.S.WordSource.says c.args.source.now).connection c.args.ends.now c.args.left no_end c.loop-rank.rank c.loop-rank.best c.candidate.result c.lesser-best.result
-    (omega arith) c.candidate.ensures c.lesser-best.ensures c.loop-rank.invariant
+    let t = g.S.WordSource.says c.args.source.now in
+    let rank = c.loop-rank.rank in
+    let costs = g.S.WordSource.costs_in c.costs_before-costs.result in
+    let within : rank < length c.args.ends.now = omega arith in
+    let pair = All-get_or (IsFollowedBy t.is_pair c.args.left) c.args.ends.now rank no_end within c.requires.pairs in
+    least_more t.connection c.args.ends.now c.args.left no_end rank c.loop-rank.best c.candidate.result c.lesser-best.result within
+    (candidate_is t c.args.left costs rank (get_or c.args.ends.now rank no_end) c.candidate.result c.costs_before-costs.ensures pair c.candidate.ensures) c.lesser-best.ensures c.loop-rank.invariant
 
 pub returns : goal.returns
 returns g c =

@@ -1,0 +1,37 @@
+-- The connection costs before words of one left id, by right id.
+use Rattle.std.specs.Prelude.{◌≡◌, ℕ, ℤ, ◌<◌, List, Some, map, slice_get, IsTrue}
+use Rattle.std.specs.List.{range_with_len}
+use Rattle.mj_model.specs.declared.matrix_sizes.MatrixSizes.{MatrixSizes}
+use Rattle.mj_model.specs.Connection.{is_pair}
+use Rattle.mj_model.specs.Tables.{Tables}
+use Rattle.image_bytes.specs.ImageSections.{AreCosts, stored_cost}
+use Rattle.dict_image.specs.declared.costs_before.CostRow.{CostRow}
+use Rattle.dict_image.specs.declared.costs_before.CostRow.TheVariants as row
+use Rattle.dict_image.specs.declared.costs_before.SectionRow.{SectionRow}
+
+-- those in section 1: one for each right id of the table
+abbrev pub costs_in_section : SectionRow → List ℤ
+costs_in_section s = map (λ right. stored_cost s.sizes s.costs.now right s.left) (range_with_len 0 s.sizes.right)
+
+-- those of a row
+abbrev pub costs_in_row : CostRow → List ℤ
+costs_in_row (row.InSection s) = costs_in_section s
+costs_in_row (row.InRow costs) = costs.now
+
+-- the section has a table of these sizes, and the left id lies within them
+pub record IsSectionRow (s : SectionRow) : Type 0 where
+  pub costs : AreCosts s.sizes s.costs.now
+  pub left : s.left < s.sizes.left
+
+-- a row can be read
+abbrev pub IsCostRow : CostRow → Type 0
+IsCostRow (row.InSection s) = IsSectionRow s
+IsCostRow (row.InRow costs) = Unit {0}
+
+-- by right id, they are what is stored before this left id
+abbrev pub AreStoredBefore : MatrixSizes → List ℕ → ℕ → List ℤ → Type 0
+AreStoredBefore sizes costs left row = (right : ℕ) → right < sizes.right → slice_get row right ≡ Some (stored_cost sizes costs right left)
+
+-- they are the connection costs of a dictionary before words of this left id
+abbrev pub AreCostsBefore : Tables → ℕ → List ℤ → Type 0
+AreCostsBefore t left costs = (right : ℕ) → IsTrue (is_pair t.sizes right left) → slice_get costs right ≡ Some (t.connection right left)

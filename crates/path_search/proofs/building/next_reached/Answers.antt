@@ -1,0 +1,35 @@
+use Rattle.std.proofs.Common.{arith, ◌≡◌, ◌<◌, ℕ, List, length, slice_index_or, false, subst, sym, ◌∙◌}
+use Rattle.std.proofs.lemmas.Option.{slice_get-get_or}
+use Rattle.path_search.specs.Nodes.{reached}
+use Rattle.path_search.specs.SearchedText.{IsLatticeTo, kept_nodes}
+use Rattle.path_search.proofs.Growth.{not_reached}
+use Rattle.path_search.proofs.building.next_reached.Goals as goal
+
+pub loop-place-init : goal.loop-place-init
+loop-place-init g c = c.requires.lattice
+
+pub returns-then-is_reached-clause-lattice : goal.returns-then-is_reached-clause-lattice
+returns-then-is_reached-clause-lattice g c = c.loop-place.invariant
+
+pub loop-place-preserved : goal.loop-place-preserved
+loop-place-preserved g c =
+    let t = g.S.WordSource.says c.args.source.now in
+    let nodes = c.args.nodes.now in
+    let heads = nodes.heads.items in
+    let place = c.loop-place.place in
+    let kept = c.requires.kept in
+    let long = kept.places in
+    let less = c.loop-place-test.true in
+    let within : place < length heads = omega (arith, less, c.length-length.ensures, long) in
+    let none : reached place (slice_index_or heads place 0) ≡ false =
+    subst (λ (xs : List ℕ). reached place (slice_index_or xs place 0) ≡ false) c.as_slice-heads.ensures.value (sym c.is_reached.ensures ∙ c.if-is_reached.false) in
+    not_reached t.words t.connection t.text_length c.requires.source.source
+    t.surface_words nodes.bundles.items nodes.backs.items heads place (slice_index_or heads place 0) kept.bundles_are kept.all c.loop-place.invariant kept.linked (slice_get-get_or heads place 0 within) none
+
+pub returns-clause-lattice : goal.returns-clause-lattice
+returns-clause-lattice g c =
+    let t = g.S.WordSource.says c.args.source.now in
+    let low = c.requires.from in
+    let last = c.loop-place.auto.place-end (omega (arith, low, c.length-length.ensures)) in
+    let all : c.loop-place.place ≡ c.length-length.result = omega (arith, last, c.loop-place-test.false) in
+    subst (IsLatticeTo t (kept_nodes t c.args.nodes.now)) all c.loop-place.invariant
