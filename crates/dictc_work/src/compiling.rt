@@ -1,6 +1,7 @@
 //! Dictionaries are compiled from the files that the command line names.
 
-ghost use Rattle.std.specs.Prelude.{◌≡◌, IfOk, map, string_bytes};
+ghost use Rattle.std.specs.Prelude.{◌≡◌, ◌∷◌, IfErr, IfOk, map, string_bytes};
+ghost use Rattle.programs.specs.Faults.{NamesOneOf};
 
 use crate::all_faults::{is_of_a_line, tell_faults};
 use crate::beside::Beside;
@@ -97,6 +98,8 @@ fn read_sources(
     ensures lexicons { IfOk result
         (λ files. map (λ file. string_bytes file.path) files.lexicons.items
         ≡ map (λ path. string_bytes path) options.now.lexicons.items) }
+    ensures fault { IfErr result
+        (NamesOneOf (chars.now ∷ unk.now ∷ options.now.lexicons.items)) }
 {
     Ok(SourceFiles {
         chars: WholeFile::read(rt, chars.as_str())?,

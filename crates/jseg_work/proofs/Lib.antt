@@ -1,2 +1,3 @@
 mod AskedOverlays
+mod DirectoryLemmas
 mod NoUsers

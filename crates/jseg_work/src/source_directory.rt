@@ -1,10 +1,16 @@
 //! The files of a source directory.
 
-ghost use Rattle.std.specs.Prelude.{◌≡◌, IfOk, IsSorted, string_bytes, string_cmp};
-ghost use Rattle.jseg_work.specs.Directories.{chars_path, matrix_path, path_in, unk_path};
+ghost use Rattle.std.specs.Prelude.{◌≡◌, All, IfErr, IfOk, IsSorted, string_bytes, string_cmp};
+ghost use Rattle.std.specs.Cmp.Lexicographic.{slice_cmp};
+ghost use Rattle.std.specs.Ordering.{nat_cmp};
+ghost use Rattle.jseg_work.specs.Directories.{HasFilesBytes, IsLexiconIn, NamesReadIn, chars_path, matrix_path, path_in, paths_of, unk_path};
+ghost use Rattle.programs.specs.Faults.{Names};
+ghost use Rattle.programs.specs.Reading.{AreOfAFile};
+ghost use Rattle.programs.specs.declared.fault.Fault.TheVariants.{File};
 
 use programs::{Fault, SourceFiles, WholeFile, read_files};
 use std::alloc::{AllocError, Global};
+use std::rt::Files;
 use std::string::String;
 use std::{fs, io};
 
@@ -17,13 +23,22 @@ pub struct Directory {
 }
 
 /// Reads `matrix.def`, `char.def`, `unk.def`, the directory, and then each file whose name ends with `.csv`, in byte order.
-pub fn read_directory(rt: &HostRuntime, dir: &str) -> Result<Directory, Fault>
+pub fn read_directory<R: Files + AllocGlobal + Clone + Drop>(
+    rt: &R,
+    dir: &str,
+) -> Result<Directory, Fault>
     ensures matrix { IfOk result
         (λ read. string_bytes read.files.matrix ≡ matrix_path dir.now) }
     ensures chars { IfOk result
         (λ read. string_bytes read.files.chars.path ≡ chars_path dir.now) }
     ensures unk { IfOk result
         (λ read. string_bytes read.files.unk.path ≡ unk_path dir.now) }
+    ensures lexicons { IfOk result
+        (λ read. All (IsLexiconIn dir.now) (paths_of read.files.lexicons.items)) }
+    ensures order { IfOk result
+        (λ read. IsSorted (slice_cmp nat_cmp) (paths_of read.files.lexicons.items)) }
+    ensures bytes { IfOk result (HasFilesBytes R.File.remaining) }
+    ensures fault { IfErr result (NamesReadIn dir.now) }
 {
     let matrix = read_named(rt, dir, "matrix.def")?;
     Ok(Directory {
@@ -38,8 +53,10 @@ pub fn read_directory(rt: &HostRuntime, dir: &str) -> Result<Directory, Fault>
 }
 
 /// Reads a file of a directory.
-fn read_named(rt: &HostRuntime, dir: &str, name: &str) -> Result<WholeFile, Fault>
+fn read_named<R: Files + AllocGlobal>(rt: &R, dir: &str, name: &str) -> Result<WholeFile, Fault>
     ensures path { IfOk result (λ read. string_bytes read.path ≡ path_in dir.now name.now) }
+    ensures bytes { IfOk result (λ read. AreOfAFile R.File.remaining read.bytes.items) }
+    ensures fault { IfErr result (Names File (path_in dir.now name.now)) }
 {
     let path = joined(rt.alloc(), dir, name)?;
     WholeFile::read(rt, path.as_str())
@@ -56,13 +73,24 @@ fn joined(alloc: Global, dir: &str, name: &str) -> Result<String, AllocError>
 }
 
 /// The paths of a directory's files that end with `.csv`, in byte order.
-fn lexicon_paths(rt: &HostRuntime, dir: &str) -> Result<Vec<String>, Fault>
+fn lexicon_paths<R: Files + AllocGlobal + Clone + Drop>(
+    rt: &R,
+    dir: &str,
+) -> Result<Vec<String>, Fault>
+    ensures each { IfOk result (λ paths.
+        All (λ path. IsLexiconIn dir.now (string_bytes path)) paths.items) }
     ensures order { IfOk result (λ paths. IsSorted string_cmp paths.items) }
+    ensures fault { IfErr result (Names File dir.now) }
 {
-    paths_in(rt, dir).map_err(|error| Fault::of_file(rt.alloc(), dir, &error))
+    match paths_in(rt, dir) {
+        Ok(paths) => Ok(paths),
+        Err(error) => Err(Fault::of_file(rt.alloc(), dir, &error)),
+    }
 }
 
-fn paths_in(rt: &HostRuntime, dir: &str) -> io::Result<Vec<String>>
+fn paths_in<R: Files + AllocGlobal + Clone + Drop>(rt: &R, dir: &str) -> io::Result<Vec<String>>
+    ensures each { IfOk result (λ paths.
+        All (λ path. IsLexiconIn dir.now (string_bytes path)) paths.items) }
     ensures order { IfOk result (λ paths. IsSorted string_cmp paths.items) }
 {
     let mut paths = Vec::new(rt.alloc());

@@ -5,4 +5,5 @@ mod ImageHeadLemmas
 pub mod ImageRefusals
 mod ReadOn
 mod Results
+pub mod SlashLemmas
 mod WrittenBytes

@@ -1,5 +1,5 @@
 -- Where images live: the folders in which the image of a bare name is looked for.
-use Rattle.std.specs.Prelude.{◌≡◌, ◌⊎◌, ℕ, ◌==◌, List, [], ◌∷◌, ◌++◌, Option, Some, None, option_map, option_and_then, option_to_list, String, string_bytes, bytes_eq, slice_index, codes, if◌then◌else◌}
+use Rattle.std.specs.Prelude.{◌≡◌, ◌≢◌, ◌⊎◌, ℕ, All, Contains, ◌==◌, List, [], ◌∷◌, ◌++◌, Option, Some, None, option_map, option_and_then, option_to_list, String, string_bytes, bytes_eq, slice_index, codes, if◌then◌else◌}
 use Rattle.std.specs.List.{list_any}
 use Rattle.std.specs.Path.{path_parent, slash}
 use Rattle.std.specs.declared.alloc.Global.{Global}
@@ -49,6 +49,18 @@ homes_of s = with_system s.prefix (option_to_list (own_home s))
 abbrev pub image_in : List ℕ → List ℕ → List ℕ
 image_in folder name = folder ++ codes "/" ++ name ++ codes ".img"
 
--- the path that stands for a name: the name itself, or the path of its image in a folder
+-- a folder is such a one for what some system tells of a program and its user
+abbrev pub IsHome : List ℕ → Type 0
+IsHome folder = (here : Surroundings) × Contains (homes_of here) folder
+
+-- the path that stands for a name: the name itself, or the path of its image in such a folder
 abbrev pub IsPathFor : List ℕ → List ℕ → Type 0
-IsPathFor name path = (path ≡ name) ⊎ ((folder : List ℕ) × (path ≡ image_in folder name))
+IsPathFor name path = (path ≡ name) ⊎ ((folder : List ℕ) × IsHome folder × (path ≡ image_in folder name))
+
+-- a bare name, which may stand for an image in a folder: it is not empty and has no slash
+abbrev pub IsBare : List ℕ → Type 0
+IsBare name = (name ≢ []) × All (λ byte. byte ≢ slash) name
+
+-- all names are bare
+abbrev pub AreBare : List (String Global) → Type 0
+AreBare names = All (λ name. IsBare (string_bytes name)) names

@@ -1,9 +1,10 @@
 //! The names of the images in a folder.
 
-ghost use Rattle.std.specs.Prelude.{IfOk, IsPermutation, IsSorted, string_cmp};
+ghost use Rattle.std.specs.Prelude.{◌≡◌, IfOk, IsPermutation, IsSorted, OnOk, string_cmp, true};
+ghost use Rattle.programs.specs.Homes.{AreBare, IsBare};
 
 use crate::homes::image_in;
-use crate::named_image::is_file;
+use crate::named_image::{is_bare, is_file};
 use std::alloc::AllocError;
 use std::io::ErrorKind;
 use std::string::String;
@@ -12,6 +13,7 @@ use std::{fs, io};
 /// The names of the images in a folder, in byte order: of each `NAME.img` that is no directory. A folder that can't be read has none, and a
 /// name that is not UTF-8 can't be given to a program.
 pub fn image_names(rt: &HostRuntime, folder: &str) -> Result<Vec<String>, AllocError>
+    ensures named { IfOk result (λ names. AreBare names.items) }
     ensures order { IfOk result (λ names. IsSorted string_cmp names.items) }
 {
     match names_in(rt, folder) {
@@ -31,7 +33,9 @@ pub fn in_byte_order(mut names: Vec<String>) -> Result<Vec<String>, AllocError>
 }
 
 /// The same in no order.
-fn names_in(rt: &HostRuntime, folder: &str) -> io::Result<Vec<String>> {
+fn names_in(rt: &HostRuntime, folder: &str) -> io::Result<Vec<String>>
+    ensures named { IfOk result (λ names. AreBare names.items) }
+{
     let mut names = Vec::new(rt.alloc());
     for entry in fs::read_dir(rt, folder)? {
         match entry {
@@ -49,13 +53,23 @@ fn add_name(
     folder: &str,
     file: &str,
     names: &mut Vec<String>,
-) -> Result<(), AllocError> {
+) -> Result<(), AllocError>
+    ensures named { OnOk result (AreBare names.old.items → AreBare names.new.items) }
+{
     let Some(name) = file.strip_suffix(".img") else {
         return Ok(());
     };
-    let path = image_in(rt.alloc(), folder, name)?;
-    if !name.is_empty() && is_file(rt, path.as_str()) {
-        names.push(String::from_str(rt.alloc(), name)?)?;
+    if !has_image(rt, folder, name)? {
+        return Ok(());
     }
+    names.push(String::from_str(rt.alloc(), name)?)?;
     Ok(())
+}
+
+/// Whether a folder has the image of a bare name.
+fn has_image(rt: &HostRuntime, folder: &str, name: &str) -> Result<bool, AllocError>
+    ensures bare { IfOk result (λ has. has ≡ true → IsBare name.now) }
+{
+    let path = image_in(rt.alloc(), folder, name)?;
+    Ok(is_bare(name) && is_file(rt, path.as_str()))
 }

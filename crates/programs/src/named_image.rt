@@ -1,7 +1,7 @@
 //! Images by their names.
 
-ghost use Rattle.std.specs.Prelude.{IfOk, string_bytes};
-ghost use Rattle.programs.specs.Homes.{IsPathFor};
+ghost use Rattle.std.specs.Prelude.{◌≡◌, Decides, IfOk, string_bytes, true};
+ghost use Rattle.programs.specs.Homes.{IsBare, IsPathFor};
 
 use crate::homes::image_in;
 use crate::surroundings::Surroundings;
@@ -14,9 +14,12 @@ use std::string::String;
 /// A bare name that no file has is that of an image in a home: in the first one that has it. Where none has it the name stays.
 pub fn image_path(rt: &HostRuntime, name: &str) -> Result<String, AllocError>
     ensures path { IfOk result (λ path. IsPathFor name.now (string_bytes path)) }
+    ensures bare { IfOk result
+        (λ path. (IsBare name.now → ⊥) → string_bytes path ≡ name.now) }
 {
     if is_looked_for(rt, name) {
-        let homes = Surroundings::here(rt)?.homes(rt.alloc())?;
+        let here = Surroundings::here(rt)?;
+        let homes = here.homes(rt.alloc())?;
         for home in &homes {
             let path = image_in(rt.alloc(), home.as_str(), name)?;
             if is_file(rt, path.as_str()) {
@@ -28,8 +31,17 @@ pub fn image_path(rt: &HostRuntime, name: &str) -> Result<String, AllocError>
 }
 
 /// Whether a name is looked for in the homes: it is bare, and no file has it.
-pub(crate) fn is_looked_for(rt: &HostRuntime, name: &str) -> bool {
-    !name.is_empty() && !name.contains('/') && !is_file(rt, name)
+pub(crate) fn is_looked_for(rt: &HostRuntime, name: &str) -> bool
+    ensures bare { result ≡ true → IsBare name.now }
+{
+    is_bare(name) && !is_file(rt, name)
+}
+
+/// Whether a name may be that of an image in a folder: it is not empty and has no slash.
+pub(crate) fn is_bare(name: &str) -> bool
+    ensures { Decides result (IsBare name.now) }
+{
+    !name.is_empty() && !name.contains('/')
 }
 
 /// Whether there is something at a path, and no directory.

@@ -1,6 +1,6 @@
 //! Bytes that a writer takes.
 
-ghost use Rattle.std.specs.Prelude.{◌≡◌, OnErr, OnOk};
+ghost use Rattle.std.specs.Prelude.{◌≡◌, IsOk, OnErr, OnOk};
 ghost use Rattle.std.specs.Io.KnownBytes.{Appends};
 ghost use Rattle.programs.specs.Writing.{AppendsFront};
 
@@ -36,7 +36,13 @@ impl<W: Write> fmt::Write for Printed<'_, W> {
     ghost write_str_gives = { λ before text after. (after.0.ghost_name ≡ before.0.ghost_name)
         × Appends (W.contents before.0.now) (W.contents after.0.now) text };
 
-    fn write_str(&mut self, text: &str) -> fmt::Result {
+    fn write_str(&mut self, text: &str) -> fmt::Result
+        ensures ok { IsOk result → (self.new.0.ghost_name ≡ self.old.0.ghost_name)
+            × Appends (W.contents self.old.0.now) (W.contents self.new.0.now) text.now }
+        // It fails before the last byte is taken.
+        ensures cut { OnErr result (AppendsFront
+            (W.contents self.old.0.now) (W.contents self.new.0.now) text.now) }
+    {
         write_whole(self.0, text.as_bytes()).map_err(|_| fmt::Error)
     }
 }

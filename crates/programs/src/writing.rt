@@ -1,7 +1,9 @@
 //! A file that is written whole or not at all.
 
-ghost use Rattle.std.specs.Prelude.{IfErr};
+ghost use Rattle.std.specs.Prelude.{IfErr, OnOk};
+ghost use Rattle.std.specs.Io.KnownBytes.{Appends};
 ghost use Rattle.programs.specs.Faults.{Names};
+ghost use Rattle.programs.specs.Writing.{WasAppended};
 ghost use Rattle.programs.specs.declared.fault.Fault.TheVariants.{File as OfFile};
 
 use crate::fault::Fault;
@@ -39,6 +41,7 @@ pub fn write_as<R: Files + AllocGlobal>(
     path: &str,
     bytes: &[u8],
 ) -> Result<(), Fault>
+    ensures written { OnOk result (WasAppended R.File.contents bytes.now) }
     ensures fault { IfErr result (Names OfFile path.now) }
 {
     let written = match fs::metadata(rt, path) {
@@ -53,7 +56,9 @@ pub fn write_as<R: Files + AllocGlobal>(
 }
 
 /// Writes what is no file where it stands.
-fn write_device<R: Files>(rt: &R, path: &str, bytes: &[u8]) -> io::Result<()> {
+fn write_device<R: Files>(rt: &R, path: &str, bytes: &[u8]) -> io::Result<()>
+    ensures written { OnOk result (WasAppended R.File.contents bytes.now) }
+{
     let mut device = File::create(rt, path)?;
     write_whole(&mut device, bytes)
 }
@@ -65,7 +70,9 @@ fn replace_behind<R: Files + AllocGlobal>(
     path: &str,
     mode: Permissions,
     bytes: &[u8],
-) -> io::Result<()> {
+) -> io::Result<()>
+    ensures written { OnOk result (WasAppended R.File.contents bytes.now) }
+{
     let file = fs::canonicalize(rt, path)?;
     replace(rt, process, file.as_str(), Some(mode), bytes)
 }
@@ -77,7 +84,9 @@ fn replace<R: Files + AllocGlobal>(
     path: &str,
     mode: Option<Permissions>,
     bytes: &[u8],
-) -> io::Result<()> {
+) -> io::Result<()>
+    ensures written { OnOk result (WasAppended R.File.contents bytes.now) }
+{
     let (beside, mut file) = create_beside(rt, process, path, access_of(&mode))?;
     let moved = match fill(&mut file, mode, bytes) {
         Ok(()) => fs::rename(rt, beside.as_str(), path),
@@ -132,7 +141,10 @@ fn fill<F: Write + OpenFile>(
     file: &mut F,
     mode: Option<Permissions>,
     bytes: &[u8],
-) -> io::Result<()> {
+) -> io::Result<()>
+    ensures written { OnOk result
+        (Appends (F.contents file.old) (F.contents file.new) bytes.now) }
+{
     if let Some(mode) = mode {
         file.set_permissions(mode)?;
     }
