@@ -1,5 +1,5 @@
 -- The connection costs before words of one left id, by right id.
-use Rattle.std.specs.Prelude.{◌≡◌, ℕ, ℤ, ◌<◌, List, Some, map, slice_get, IsTrue}
+use Rattle.std.specs.Prelude.{◌≡◌, ℕ, ℤ, ◌<◌, ◌^◌, List, Some, map, slice_get, IsTrue}
 use Rattle.std.specs.List.{range_with_len}
 use Rattle.mj_model.specs.declared.matrix_sizes.MatrixSizes.{MatrixSizes}
 use Rattle.mj_model.specs.Connection.{is_pair}
@@ -18,10 +18,11 @@ abbrev pub costs_in_row : CostRow → List ℤ
 costs_in_row (row.InSection s) = costs_in_section s
 costs_in_row (row.InRow costs) = costs.now
 
--- the section has a table of these sizes, and the left id lies within them
+-- the section has a table of these sizes, the left id lies within them, and right ids are of 32 bits
 pub record IsSectionRow (s : SectionRow) : Type 0 where
   pub costs : AreCosts s.sizes s.costs.now
   pub left : s.left < s.sizes.left
+  pub rights : s.sizes.right < 2 ^ 32
 
 -- a row can be read
 abbrev pub IsCostRow : CostRow → Type 0

@@ -50,25 +50,34 @@ pub(crate) struct SectionRow<'a> {
 impl<'a> CostsBefore<'a> {
     /// What it costs to set a word of the left id behind one of this right id.
     #[inline(always)]
-    pub fn after(&self, right: u16) -> i16
+    pub fn after(&self, right: usize) -> i16
         requires { right < length self.now }
         ensures { slice_get self.now right ≡ Some result }
     {
         match &self.row {
             CostRow::InSection(row) => cost_in_section(*row, right),
-            CostRow::InRow(costs) => costs[usize::from(right)],
+            CostRow::InRow(costs) => cost_in_row(costs, right),
         }
     }
 }
 
+/// The cost of a right id, in a row.
+#[inline(always)]
+fn cost_in_row(costs: &[i16], right: usize) -> i16
+    requires { right < length costs.now }
+    ensures { slice_get costs.now right ≡ Some result }
+{
+    costs[right]
+}
+
 /// The cost of a right id, by section 1.
 #[inline(always)]
-fn cost_in_section(row: SectionRow<'_>, right: u16) -> i16
+fn cost_in_section(row: SectionRow<'_>, right: usize) -> i16
     requires row { IsSectionRow row }
     requires there { right < length (costs_in_section row) }
     ensures { slice_get (costs_in_section row.entry) right ≡ Some result }
 {
-    cost_at(row.costs, row.sizes, u32::from(right), row.left)
+    cost_at(row.costs, row.sizes, right as u32, row.left)
 }
 
 impl Dict {

@@ -22,7 +22,7 @@ impl Dict {
         requires pair { IsTrue (is_pair (image_tables self.now).sizes prev_right next_left) }
         ensures { result ≡ (image_tables self.now).connection prev_right next_left }
     {
-        self.costs_before(next_left).after(prev_right)
+        self.costs_before(next_left).after(usize::from(prev_right))
     }
 
     /// The categories of a character. Those of one beyond the basic plane take the time of a binary search at most.

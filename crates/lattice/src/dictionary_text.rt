@@ -64,7 +64,7 @@ impl<'a> WordSource for DictionaryText<'a> {
         self.dictionaries.costs_before(left)
     }
 
-    fn cost_after(&self, costs: &CostsBefore<'a>, right: u16) -> i16 {
+    fn cost_after(&self, costs: &CostsBefore<'a>, right: usize) -> i16 {
         costs.after(right)
     }
 }

@@ -5,6 +5,7 @@ ghost use Rattle.path_search.specs.Nodes.{reached};
 ghost use Rattle.path_search.specs.SearchedText.{AreKeptIn, AreRunsOf, CanBeSearched, IsLatticeTo, IsReachedIn, kept_nodes};
 
 use crate::ends::gather;
+use crate::joining::{FEW_ENDS, SearchedAnew};
 use crate::joins::Joins;
 use crate::node::End;
 use crate::nodes::Nodes;
@@ -111,12 +112,15 @@ fn add_place<S: WordSource>(
     source.surfaces_at(place, last, &mut room.surfaces)?;
     gather(source, nodes, place, &mut room.ends)?;
     room.thinning.thin(&mut room.ends)?;
-    room.joins.clear();
     let reached = Place {
         start: place,
         surfaces: &room.surfaces,
         ends: &room.ends,
     };
+    if reached.ends.len() <= FEW_ENDS {
+        return reached.add_surfaces(source, nodes, &mut SearchedAnew);
+    }
+    room.joins.clear();
     reached.add_surfaces(source, nodes, &mut room.joins)
 }
 

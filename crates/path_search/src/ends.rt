@@ -14,7 +14,7 @@ use std::alloc::AllocError;
 const BOS: End = End {
     total: 0,
     before: 0,
-    right: BOUNDARY_ID,
+    right: BOUNDARY_ID as usize,
 };
 
 /// Fills `ends` with the ends of a place, in the order in which they are preferred where costs are equal: the latest node first.

@@ -1,8 +1,9 @@
 //! The choice of the best chain to a place.
 
-ghost use Rattle.std.specs.Prelude.{◌<◌, length, All, IfOk, IsSome, OnOk};
+ghost use Rattle.std.specs.Prelude.{ℕ, ℤ, ◌<◌, List, length, All, IfOk, IsSome, OnOk};
 ghost use Rattle.path_search.specs.Ends.{AreLeast, HasSmallTotal, IsFollowedBy, IsLeast, IsLesser};
 ghost use Rattle.path_search.specs.Connections.{IsCandidate};
+ghost use Rattle.path_search.specs.declared.node.End.{End};
 
 use crate::joins::Joins;
 use crate::node::{Candidate, End, Join};
@@ -12,30 +13,60 @@ use std::alloc::AllocError;
 /// Among so few ends a search takes less than to look up what was found.
 pub const FEW_ENDS: usize = 16;
 
-/// The best of the chains to a place that have these ends, where a word of this left id follows. Where there are more than `FEW_ENDS`, it is
-/// searched once for each left id.
-pub fn join<S: WordSource>(
-    source: &S,
-    ends: &[End],
-    joins: &mut Joins,
-    left: u16,
-) -> Result<Join, AllocError>
-    requires some { 0 < length ends.now }
-    requires totals { All HasSmallTotal ends.now }
-    requires pairs { All (IsFollowedBy (S.says source.now).is_pair left) ends.now }
-    requires joins { AreLeast (S.says source.now).connection ends.now joins.old }
-    ensures join { IfOk result (IsLeast (S.says source.now).connection ends.now left) }
-    ensures joins { OnOk result (AreLeast (S.says source.now).connection ends.now joins.new) }
-{
-    if ends.len() <= FEW_ENDS {
-        return Ok(least(source, ends, left));
+/// How the best of the chains to a place is found for a left id.
+pub trait JoinFinder {
+    /// What it keeps was found among these ends, with these connection costs.
+    ghost is_of: { Self → (ℕ → ℕ → ℤ) → List End → Type 0 };
+
+    /// The best of the chains to a place that have these ends, where a word of this left id follows.
+    fn join<S: WordSource>(
+        &mut self,
+        source: &S,
+        ends: &[End],
+        left: u16,
+    ) -> Result<Join, AllocError>
+        requires some { 0 < length ends.now }
+        requires totals { All HasSmallTotal ends.now }
+        requires pairs { All (IsFollowedBy (S.says source.now).is_pair left) ends.now }
+        requires kept { is_of self.old (S.says source.now).connection ends.now }
+        ensures join { IfOk result (IsLeast (S.says source.now).connection ends.now left) }
+        ensures kept { OnOk result (is_of self.new (S.says source.now).connection ends.now) };
+}
+
+/// By a search for each word: among few ends.
+#[derive(Drop)]
+pub struct SearchedAnew;
+
+impl JoinFinder for SearchedAnew {
+    ghost is_of = { λ finder connection ends. Unit {0} };
+
+    fn join<S: WordSource>(
+        &mut self,
+        source: &S,
+        ends: &[End],
+        left: u16,
+    ) -> Result<Join, AllocError> {
+        Ok(least(source, ends, left))
     }
-    match joins.get(left) {
-        Some(join) => Ok(join),
-        None => {
-            let join = least(source, ends, left);
-            joins.add(left, join)?;
-            Ok(join)
+}
+
+/// By one search for each left id: among more than `FEW_ENDS`.
+impl JoinFinder for Joins {
+    ghost is_of = { λ joins connection ends. AreLeast connection ends joins };
+
+    fn join<S: WordSource>(
+        &mut self,
+        source: &S,
+        ends: &[End],
+        left: u16,
+    ) -> Result<Join, AllocError> {
+        match self.get(left) {
+            Some(join) => Ok(join),
+            None => {
+                let join = least(source, ends, left);
+                self.add(left, join)?;
+                Ok(join)
+            }
         }
     }
 }

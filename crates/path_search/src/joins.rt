@@ -71,10 +71,11 @@ impl Joins {
         requires { IsNewIn self.old left }
         ensures { OnOk result (self.new ≡ self.old ++ record { left = left; join = join } ∷ []) }
     {
-        make_slot(&mut self.slots, left)?;
+        let slot = usize::from(left);
+        make_slot(&mut self.slots, slot)?;
         let number = self.found.len();
         self.found.push(LeftJoin { left, join })?;
-        self.slots[usize::from(left)] = number;
+        self.slots[slot] = number;
         Ok(())
     }
 }

@@ -26,12 +26,13 @@ pub struct Bundle {
 ///
 /// `total` is the cost of the best chain from BOS up to and with the word. `before` is the number
 /// of the node before it in that chain, counted from 1, and 0 where there is none. `right` is the
-/// word's right id, so that the word isn't read again where another one follows it.
+/// word's right id, so that the word isn't read again where another one follows it. It takes 8 bytes, so
+/// that no bytes between nodes have to be cleared.
 #[derive(Clone, Copy, Debug, Drop)]
 pub struct Backpointer {
     pub total: i64,
     pub before: usize,
-    pub right: u16,
+    pub right: usize,
 }
 
 impl Backpointer {
@@ -44,7 +45,7 @@ impl Backpointer {
         Backpointer {
             total: found.cost + i64::from(word.cost),
             before: found.before,
-            right: word.right,
+            right: usize::from(word.right),
         }
     }
 
@@ -70,7 +71,7 @@ pub fn linked(number: usize) -> Option<usize>
 pub struct End {
     pub total: i64,
     pub before: usize,
-    pub right: u16,
+    pub right: usize,
 }
 
 /// The best chain to a place, by the number of its last node, counted from 1, and by 0 where the chain is empty.

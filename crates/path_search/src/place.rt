@@ -2,13 +2,11 @@
 
 ghost use Rattle.std.specs.Prelude.{◌≡◌, ◌+◌, ◌<◌, ◌++◌, ◌∷◌, [], slice_set, length, OnOk};
 ghost use Rattle.path_search.specs.Alike.{EndsWith, EndsWithAny, FollowsNext};
-ghost use Rattle.path_search.specs.Ends.{AreLeast};
 ghost use Rattle.path_search.specs.Places.{AreAddedFrom, AreAddedIn, IsPlaceOf};
 ghost use Rattle.path_search.specs.SearchedText.{AreKeptIn, IsLatticeTo, kept_nodes, word_count};
 ghost use Rattle.path_search.specs.Thinned.{AreBestEnds};
 
-use crate::joining::join;
-use crate::joins::Joins;
+use crate::joining::JoinFinder;
 use crate::node::{Backpointer, Bundle, End};
 use crate::nodes::Nodes;
 use crate::source::WordSource;
@@ -25,11 +23,11 @@ pub struct Place<'a> {
 
 impl Place<'_> {
     /// Adds the words of the place to the nodes, the last one first, each after the best chain to it.
-    pub fn add_surfaces<S: WordSource>(
+    pub fn add_surfaces<S: WordSource, J: JoinFinder>(
         &self,
         source: &S,
         nodes: &mut Nodes,
-        joins: &mut Joins,
+        joins: &mut J,
     ) -> Result<(), AllocError>
         requires place { IsPlaceOf (S.says source.now) self.now }
         requires kept { AreKeptIn (S.says source.now) nodes.old }
@@ -37,8 +35,7 @@ impl Place<'_> {
             (kept_nodes (S.says source.now) nodes.old) self.now.start }
         requires ends { AreBestEnds (kept_nodes (S.says source.now) nodes.old)
             self.now.start self.now.ends.now }
-        requires joins { AreLeast (S.says source.now).connection
-            self.now.ends.now joins.old }
+        requires joins { J.is_of joins.old (S.says source.now).connection self.now.ends.now }
         ensures kept { OnOk result (AreKeptIn (S.says source.now) nodes.new) }
         ensures lattice { OnOk result (IsLatticeTo (S.says source.now)
             (kept_nodes (S.says source.now) nodes.new) (self.now.start + 1)) }
@@ -52,12 +49,12 @@ impl Place<'_> {
     }
 
     /// The same of one surface, by its number.
-    fn add_surface<S: WordSource>(
+    fn add_surface<S: WordSource, J: JoinFinder>(
         &self,
         source: &S,
         nodes: &mut Nodes,
         number: usize,
-        joins: &mut Joins,
+        joins: &mut J,
     ) -> Result<(), AllocError>
         requires place { IsPlaceOf (S.says source.now) self.now }
         requires number { number < length self.now.surfaces.now }
@@ -65,14 +62,13 @@ impl Place<'_> {
             nodes.old.bundles.items }
         requires kept { AreKeptIn (S.says source.now) nodes.old }
         requires added { AreAddedIn (S.says source.now) self.now (number + 1) nodes.old }
-        requires joins { AreLeast (S.says source.now).connection
-            self.now.ends.now joins.old }
+        requires joins { J.is_of joins.old (S.says source.now).connection self.now.ends.now }
         ensures behind { OnOk result (EndsWith (S.says source.now) self.now.surfaces.now number
             nodes.new.bundles.items) }
         ensures kept { OnOk result (AreKeptIn (S.says source.now) nodes.new) }
         ensures added { OnOk result (AreAddedIn (S.says source.now) self.now number nodes.new) }
-        ensures joins { OnOk result (AreLeast (S.says source.now).connection
-            self.now.ends.now joins.new) }
+        ensures joins { OnOk result
+            (J.is_of joins.new (S.says source.now).connection self.now.ends.now) }
     {
         let surface = self.surfaces[number];
         let bundle = Bundle {
@@ -87,13 +83,13 @@ impl Place<'_> {
 
     /// Adds the nodes of the last bundle, whose surface has this number: those of its words, the last one first, each after the best chain
     /// to it. Where the words are like those of the next surface, what is kept of those is kept of them too.
-    fn add_words<S: WordSource>(
+    fn add_words<S: WordSource, J: JoinFinder>(
         &self,
         source: &S,
         bundles: &[Bundle],
         backs: &mut Vec<Backpointer>,
         number: usize,
-        joins: &mut Joins,
+        joins: &mut J,
     ) -> Result<(), AllocError>
         requires place { IsPlaceOf (S.says source.now) self.now }
         requires number { number < length self.now.surfaces.now }
@@ -102,12 +98,11 @@ impl Place<'_> {
             bundles.now }
         requires added { AreAddedFrom (S.says source.now) self.now number
             (word_count self.now.surfaces.now number) bundles.now backs.old.items }
-        requires joins { AreLeast (S.says source.now).connection
-            self.now.ends.now joins.old }
+        requires joins { J.is_of joins.old (S.says source.now).connection self.now.ends.now }
         ensures added { OnOk result (AreAddedFrom (S.says source.now) self.now number
             0 bundles.now backs.new.items) }
-        ensures joins { OnOk result (AreLeast (S.says source.now).connection
-            self.now.ends.now joins.new) }
+        ensures joins { OnOk result
+            (J.is_of joins.new (S.says source.now).connection self.now.ends.now) }
     {
         let surface = &self.surfaces[number];
         if self.is_alike_to_next(source, number) {
@@ -120,7 +115,7 @@ impl Place<'_> {
         while 0 < i {
             i -= 1;
             let word = source.word(&words, i);
-            let found = join(source, self.ends, joins, word.left)?;
+            let found = joins.join(source, self.ends, word.left)?;
             backs.push(Backpointer::after(&found, &word))?;
         }
         Ok(())

@@ -75,7 +75,7 @@ pub trait WordSource {
         ensures { AreCostsBefore (says self.now) left (costs_in result) };
 
     /// That of a right id.
-    fn cost_after(&self, costs: &Self::Costs, right: u16) -> i16
+    fn cost_after(&self, costs: &Self::Costs, right: usize) -> i16
         requires { IsSome (costs_in costs.now right) }
         ensures { costs_in costs.now right ≡ Some result };
 
@@ -84,6 +84,6 @@ pub trait WordSource {
         ensures { result ≡ (says self.now).connection right left }
     {
         let costs = self.costs_before(left);
-        self.cost_after(&costs, right)
+        self.cost_after(&costs, usize::from(right))
     }
 }

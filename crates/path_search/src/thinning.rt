@@ -62,9 +62,9 @@ fn note_rank(ends: &[End], ranks: &mut Vec<usize>, rank: usize) -> Result<(), Al
 {
     let right = ends[rank].right;
     make_slot(ranks, right)?;
-    let noted = ranks[usize::from(right)];
+    let noted = ranks[right];
     if !is_no_more(ends, noted, rank) {
-        ranks[usize::from(right)] = rank;
+        ranks[right] = rank;
     }
     Ok(())
 }
@@ -118,9 +118,9 @@ fn keep_end(
 }
 
 /// Whether this rank is noted for a right id.
-fn is_noted(ranks: &[usize], right: u16, rank: usize) -> bool
+fn is_noted(ranks: &[usize], right: usize, rank: usize) -> bool
     requires { right < length ranks.now }
     ensures { IsTrue result ↔ (slice_get ranks.now right ≡ Some rank) }
 {
-    ranks[usize::from(right)] == rank
+    ranks[right] == rank
 }

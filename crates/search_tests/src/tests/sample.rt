@@ -71,7 +71,7 @@ impl WordSource for Sample {
         left
     }
 
-    fn cost_after(&self, costs: &u16, right: u16) -> i16 {
+    fn cost_after(&self, costs: &u16, right: usize) -> i16 {
         match (right, *costs) {
             (0, 0) => 0,
             (0, _) => 10,

@@ -1,6 +1,5 @@
-use Rattle.std.proofs.Common.{◌≡◌, ℕ, ◌+◌, ◌<◌, set, get_or, length, true, false, Some, refl, subst, sym, slice_get}
+use Rattle.std.proofs.Common.{◌≡◌, get_or, length, true, false, refl}
 use Rattle.std.proofs.lemmas.Option.{slice_get-get_or, slice_get_read}
-use Rattle.path_search.specs.Thinned.{AreNoted}
 use Rattle.path_search.proofs.Noting.{note_set, note_stays, noted_kept}
 use Rattle.path_search.proofs.ThinnedLemmas.{no_end}
 use Rattle.path_search.proofs.thinning.note_rank.Goals as goal
@@ -13,11 +12,9 @@ returns-then-not-is_no_more c =
     let x = get_or ends rank no_end in
     let at = slice_get-get_or ends rank no_end c.requires.rank in
     let noted = c.index-noted.result.now in
-    let within : c.from.result < length ranks = subst (λ (r : ℕ). r < length ranks) (sym c.from.ensures) c.in_ok-make_slot.ensures.there in
-    let slot = subst (λ (r : ℕ). slice_get ranks r ≡ Some noted) c.from.ensures (slice_get_read ranks (length ranks) c.from.result noted refl within c.index-noted.ensures) in
-    subst (λ (r : ℕ). AreNoted ends (rank + 1) (set ranks r rank)) (sym c.from-then-not-is_no_more.ensures)
-    (note_set ends rank ranks x noted at slot (λ h. let is : c.is_no_more.result ≡ true = c.is_no_more.ensures.1 h in let not : c.is_no_more.result ≡ false = c.if-not-is_no_more.true in absurd (cc))
-    (noted_kept ends rank c.args.ranks.now.items ranks c.in_ok-make_slot.ensures.kept c.requires.before))
+    let slot = slice_get_read ranks (length ranks) x.right noted refl c.in_ok-make_slot.ensures.there c.index-noted.ensures in
+    note_set ends rank ranks x noted at slot (λ h. let is : c.is_no_more.result ≡ true = c.is_no_more.ensures.1 h in let not : c.is_no_more.result ≡ false = c.if-not-is_no_more.true in absurd (cc))
+    (noted_kept ends rank c.args.ranks.now.items ranks c.in_ok-make_slot.ensures.kept c.requires.before)
 
 pub returns-else-not-is_no_more : goal.returns-else-not-is_no_more
 returns-else-not-is_no_more c =
@@ -27,6 +24,5 @@ returns-else-not-is_no_more c =
     let x = get_or ends rank no_end in
     let at = slice_get-get_or ends rank no_end c.requires.rank in
     let noted = c.index-noted.result.now in
-    let within : c.from.result < length ranks = subst (λ (r : ℕ). r < length ranks) (sym c.from.ensures) c.in_ok-make_slot.ensures.there in
-    let slot = subst (λ (r : ℕ). slice_get ranks r ≡ Some noted) c.from.ensures (slice_get_read ranks (length ranks) c.from.result noted refl within c.index-noted.ensures) in
+    let slot = slice_get_read ranks (length ranks) x.right noted refl c.in_ok-make_slot.ensures.there c.index-noted.ensures in
     note_stays ends rank ranks x noted at slot (c.is_no_more.ensures.0 c.if-not-is_no_more.false) (noted_kept ends rank c.args.ranks.now.items ranks c.in_ok-make_slot.ensures.kept c.requires.before)

@@ -1,4 +1,4 @@
-use Rattle.std.proofs.Common.{ℕ, List, length, set, ◌∙◌, sym, subst}
+use Rattle.std.proofs.Common.{ℕ, ◌<◌, List, length, set, ◌∙◌, sym, subst}
 use Rattle.path_search.specs.declared.joins.LeftJoin.{LeftJoin}
 use Rattle.path_search.specs.Joins.{HaveSlots, IsNewIn}
 use Rattle.path_search.proofs.JoinLemmas.{have_kept, have_more}
@@ -19,6 +19,7 @@ invariant_of-self-2 c =
     let after = c.push.new.self.items in
     let have = have_kept found c.self.inside.slots.items c.self.invariant slots c.in_ok-make_slot.ensures.kept in
     let new = subst (λ (fs : List LeftJoin). IsNewIn fs c.args.left) (sym c.self.view_is) c.requires in
-    let more = have_more found slots have after c.args.left c.args.join c.in_ok-make_slot.ensures.there new c.in_ok-push.ensures.items in
-    subst (λ (n : ℕ). HaveSlots after (set slots c.from.result n)) (sym (c.len-number.ensures ∙ c.self.inside.found.ok.0))
-    (subst (λ (i : ℕ). HaveSlots after (set slots i (length found))) (sym c.from.ensures) more)
+    let there = subst (λ (i : ℕ). i < length slots) c.from-slot.ensures c.in_ok-make_slot.ensures.there in
+    let more = have_more found slots have after c.args.left c.args.join there new c.in_ok-push.ensures.items in
+    subst (λ (n : ℕ). HaveSlots after (set slots c.from-slot.result n)) (sym (c.len-number.ensures ∙ c.self.inside.found.ok.0))
+    (subst (λ (i : ℕ). HaveSlots after (set slots i (length found))) (sym c.from-slot.ensures) more)

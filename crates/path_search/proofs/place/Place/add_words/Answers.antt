@@ -103,5 +103,5 @@ loop-i-preserved g c =
       within = omega (arith, within);
       added = subst (AreAddedFrom t c.args.self.now c.args.number i c.args.bundles.now) (sym c.in_ok-push.ensures.items)
           (one_more t c.args.self.now c.requires.place c.args.number c.requires.number c.args.bundles.now backs i c.word-word.result its added c.requires.last c.after.result c.in_ok-found.found c.after.ensures.node c.after.ensures.right join);
-      joins = c.in_ok-found.ensures.joins;
+      joins = c.in_ok-found.ensures.kept;
     }

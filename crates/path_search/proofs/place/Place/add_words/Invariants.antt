@@ -1,5 +1,4 @@
 use Rattle.std.proofs.Common.{◌≤◌}
-use Rattle.path_search.specs.Ends.{AreLeast}
 use Rattle.path_search.specs.Places.{AreAddedFrom}
 use Rattle.path_search.specs.SearchedText.{word_count}
 use Rattle.path_search.proofs.place.Place.add_words.Given as goal
@@ -8,7 +7,7 @@ abbrev pub invariant-loop-i : goal.invariant-loop-i
 invariant-loop-i g l = record {
   within : l.i ≤ word_count l.self.surfaces.now l.number;
   added : AreAddedFrom (g.S.WordSource.says l.source) l.self l.number l.i l.bundles l.backs.items;
-  joins : AreLeast (g.S.WordSource.says l.source).connection l.self.ends.now l.joins;
+  joins : g.J.JoinFinder.is_of l.joins (g.S.WordSource.says l.source).connection l.self.ends.now;
 }
 
 abbrev pub decreases-loop-i : goal.decreases-loop-i
