@@ -1,16 +1,17 @@
 -- What one read tells of a step.
-use Rattle.std.proofs.Common.{◌≡◌, ℕ, suc, ◌+◌, ℤ, pos, negsuc, ◌+ℤ◌, ◌-ℤ◌, true, false, List, length, get_or, Option, Some, None, slice_get, ◌⊎◌, inl, inr, sym, ap, ◌∙◌, refl, arith, subst, to_z, of_z, w32, Fits}
+use Rattle.std.proofs.Common.{◌≡◌, ℕ, zero, suc, ◌+◌, ◌<◌, ◌^◌, ◌≤◌, ℤ, pos, negsuc, ◌+ℤ◌, ◌-ℤ◌, List, length, get_or, Option, Some, None, slice_get, inl, inr, sym, ap, ◌∙◌, refl, arith, subst, to_z, of_z, w32, Fits}
 use Rattle.std.specs.Option.{option_and_then}
-use lib.Signed.{le_z, non_neg}
+use lib.Signed.{non_neg}
 use lib.IntN.{nat_abs}
 use lib.Dec.{T}
 use mir.Val.{SFits}
 use Rattle.std.proofs.lemmas.Int.{ints, to_z-of_z}
-use Rattle.std.proofs.lemmas.Bool.{cases_lt, le-leb}
+use Rattle.std.proofs.lemmas.Bool.{cases_lt}
 use Rattle.std.proofs.lemmas.Option.{none-some, slice_get-get_or, get_or_from_slice_get}
 use Rattle.std.proofs.lemmas.List.{get_or_past}
 use Rattle.cell_walk.specs.CellMap.{Cell, free_cell, cell_at, base, check, step, value_in}
-use Rattle.cell_walk.specs.CellRules.{IsBaseAfter, AreCells}
+use Rattle.cell_walk.specs.CellRules.{IsBaseAfter, MeetsRules, AreCells}
+use Rattle.cell_walk.specs.Steps.{IsSmall}
 use Rattle.cell_walk.proofs.CellWalks.{step_named, step_place, step_at, step_child}
 
 -- what is not there is as a free cell
@@ -26,26 +27,35 @@ cell_read cells i x e = get_or_from_slice_get cells i x free_cell (sym e)
 pub no_child_there : (cells : List Cell) (i state : ℕ) → None ≡ slice_get cells i → check cells i ≡ pos state → ⊥
 no_child_there cells i state e named = let k : check cells i ≡ negsuc 0 = ap (λ (x : Cell). x.1) (cell_missing cells i e) in cc
 
-nonnegative : (z : ℤ) → le_z (pos 0) z ≡ true → z ≡ pos (nat_abs z)
-nonnegative (pos n) h = refl
-nonnegative (negsuc n) h = absurd (cc)
+-- no check is below -2
+least_check : (values : ℕ) (cells : List Cell) (i k : ℕ) → MeetsRules values cells → check cells i ≡ negsuc k → k ≤ 1
+least_check values cells zero k rules below = let e = rules.root_check in let same : negsuc k ≡ negsuc 1 = sym below ∙ e in omega (arith, ap nat_abs same)
+least_check values cells (suc i) k rules below = elim (cases_lt (suc i) (length cells)) [
+  | inl within ↦ elim (rules.others (suc i) (omega arith) within) [
+    | inl free ↦ of_free free
+    | inr used ↦ absurd (let named = used.named in cc)
+  ]
+  | inr past ↦ of_free (get_or_past cells (suc i) free_cell past)
+] where
+  of_free : cell_at cells (suc i) ≡ free_cell → k ≤ 1
+  of_free free = let same : negsuc k ≡ negsuc 0 = sym below ∙ ap (λ (x : Cell). x.1) free in omega (arith, ap nat_abs same)
 
-pub child_there : (cells : List Cell) (i state : ℕ) (b k : ℤ) → Some (b, k) ≡ slice_get cells i → le_z (pos 0) (to_z w32 (of_z w32 k)) ≡ true → nat_abs (to_z w32 (of_z w32 k)) ≡ state → SFits w32 b → SFits w32 k
+state_of_bits : (z : ℤ) (state : ℕ) → ((k : ℕ) → z ≡ negsuc k → k ≤ 1) → SFits w32 z → IsSmall state → of_z w32 z ≡ state → z ≡ pos state
+state_of_bits (pos n) state least fits small same = let e : n ≡ state = grind (arith, ints) in ap pos e
+state_of_bits (negsuc k) state least fits small same = let few = least k refl in absurd (grind (arith, ints))
+
+pub child_there : (cells : List Cell) (i state : ℕ) (b k : ℤ) → AreCells cells → Some (b, k) ≡ slice_get cells i → of_z w32 k ≡ state → IsSmall state → SFits w32 b → SFits w32 k
     → (check cells i ≡ pos state) × (base cells i ≡ to_z w32 (of_z w32 b))
-child_there cells i state b k e above same fb fk =
+child_there cells i state b k are e same small fb fk =
     let at = cell_read cells i (b, k) e in
-    let kk = to_z-of_z w32 k fk in
-    let positive : to_z w32 (of_z w32 k) ≡ pos (nat_abs (to_z w32 (of_z w32 k))) = nonnegative (to_z w32 (of_z w32 k)) above in
-    (ap (λ (x : Cell). x.1) at ∙ sym kk ∙ positive ∙ ap pos same, ap (λ (x : Cell). x.0) at ∙ sym (to_z-of_z w32 b fb))
+    let here : check cells i ≡ k = ap (λ (x : Cell). x.1) at in
+    (here ∙ state_of_bits k state (λ n below. least_check are.0 cells i n are.1 (here ∙ below)) fk small same, ap (λ (x : Cell). x.0) at ∙ sym (to_z-of_z w32 b fb))
 
--- a cell of another check, or none
-pub other_check : (cells : List Cell) (i state : ℕ) (b k : ℤ) → Some (b, k) ≡ slice_get cells i → (le_z (pos 0) (to_z w32 (of_z w32 k)) ≡ false) ⊎ (nat_abs (to_z w32 (of_z w32 k)) ≡ state → ⊥) → SFits w32 k → check cells i ≡ pos state → ⊥
-other_check cells i state b k e other fk named =
-    let kk : to_z w32 (of_z w32 k) ≡ pos state = to_z-of_z w32 k fk ∙ sym (ap (λ (x : Cell). x.1) (cell_read cells i (b, k) e)) ∙ named in
-    elim other [
-      | inl below ↦ let f : le_z (pos 0) (pos state) ≡ false = ap (le_z (pos 0)) (sym kk) ∙ below in let t : le_z (pos 0) (pos state) ≡ true = le-leb 0 state (omega arith) in absurd (cc)
-      | inr differs ↦ differs (ap nat_abs kk)
-    ]
+-- a cell of another check
+pub other_check : (cells : List Cell) (i state : ℕ) (b k : ℤ) → Some (b, k) ≡ slice_get cells i → (of_z w32 k ≡ state → ⊥) → IsSmall state → check cells i ≡ pos state → ⊥
+other_check cells i state b k e other small named =
+    let here : k ≡ pos state = sym (ap (λ (x : Cell). x.1) (cell_read cells i (b, k) e)) ∙ named in
+    other (ap (of_z w32) here ∙ (let bits : of_z w32 (pos state) ≡ state = grind (arith, ints) in bits))
 
 -- ---- steps
 
@@ -68,6 +78,10 @@ byte_step cells state byte b z are at named holds =
     let more : byte + 1 ≡ suc byte = omega arith in
     let positive : base cells t ≡ pos (nat_abs (base cells t)) = positive_base are.0 byte (base cells t) (subst (λ (k : ℕ). IsBaseAfter are.0 k (base cells t)) more content) in
     (led, positive ∙ ap (λ (k : ℤ). pos (nat_abs k)) holds)
+
+-- a base of at least 0 that was read
+pub low_base : (z : ℤ) (b : ℕ) → z ≡ pos b → SFits w32 z → nat_abs (to_z w32 (of_z w32 z)) < 2 ^ 31
+low_base z b e fits = grind (arith, ints)
 
 -- the value at a state's end
 pub end_step : (cells : List Cell) (state b : ℕ) (z : ℤ) → AreCells cells → base cells state ≡ pos b → check cells b ≡ pos state → base cells b ≡ z

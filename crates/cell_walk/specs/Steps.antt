@@ -1,11 +1,17 @@
 -- States with their bases, and steps between them.
-use Rattle.std.specs.Prelude.{◌≡◌, ℕ, ℤ, pos, List, Option, None, Some, MatchOption}
+use Rattle.std.specs.Prelude.{◌≡◌, ℕ, ◌+◌, ◌<◌, ◌^◌, ℤ, pos, List, Option, None, Some, MatchOption}
 use Rattle.cell_walk.specs.CellMap.{Cell, base, check, step}
 use Rattle.cell_walk.specs.declared.steps.Place.{Place}
 
--- the base is that of the state
-abbrev pub IsAt : List Cell → Place → Type 0
-IsAt cells place = base cells place.state ≡ pos place.base
+-- 32 bits hold the state, and none of the two numbers that stand for -1 and -2
+abbrev pub IsSmall : ℕ → Type 0
+IsSmall state = state + 2 < 2 ^ 32
+
+-- the base is that of the state, and was read as a signed number
+pub record IsAt (cells : List Cell) (place : Place) : Type 0 where
+  pub based : base cells place.state ≡ pos place.base
+  pub low : place.base < 2 ^ 31
+  pub small : IsSmall place.state
 
 -- the base of a cell, if its check is the state
 abbrev pub IsChildBase : List Cell → ℕ → ℕ → Option ℤ → Type 0

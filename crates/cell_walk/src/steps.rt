@@ -3,7 +3,7 @@ ghost use Rattle.std.specs.Prelude.{◌≡◌, ◌+◌, ◌<◌, ◌^◌, pos, N
 ghost use Rattle.cell_walk.specs.CellRules.{AreCells};
 ghost use Rattle.cell_walk.specs.Hits.{value_here};
 ghost use Rattle.cell_walk.specs.Reads.{reads_at, step_reads};
-ghost use Rattle.cell_walk.specs.Steps.{IsAt, IsChildBase, IsStepTo};
+ghost use Rattle.cell_walk.specs.Steps.{IsAt, IsChildBase, IsSmall, IsStepTo};
 
 use crate::cell_read::CellRead;
 
@@ -31,12 +31,15 @@ fn read<C: CellRead>(cells: &C, i: usize, reads: &mut u64) -> Option<(i32, i32)>
 /// The base of a cell, if it is a child of this state.
 #[inline(always)]
 fn child<C: CellRead>(cells: &C, state: usize, i: usize, reads: &mut u64) -> Option<i32>
-    requires { reads.old + 1 < 2 ^ 64 }
+    requires cells { AreCells (C.cells cells.now) }
+    requires state { IsSmall state }
+    requires reads { reads.old + 1 < 2 ^ 64 }
     ensures child { IsChildBase (C.cells cells.now) state i result }
     ensures reads { reads.new ≡ reads.old + reads_at (C.cells cells.now) (pos i) }
 {
     let (base, check) = read(cells, i, reads)?;
-    if check >= 0 && check as usize == state {
+    // No check is below -2, so that one below 0 is no state when its bits are taken for a number.
+    if check.cast_unsigned() == state as u32 {
         Some(base)
     } else {
         None
