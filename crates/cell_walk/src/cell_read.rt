@@ -16,3 +16,18 @@ pub trait CellRead {
         requires { i < length (cells self.now) }
         ensures { slice_get (cells self.now) i ≡ Some result };
 }
+
+/// Cells that are lent are read as they are.
+impl<'a, C: CellRead> CellRead for &'a C {
+    ghost cells = { λ lent. C.cells lent.now };
+
+    #[inline(always)]
+    fn len(&self) -> usize {
+        C::len(*self)
+    }
+
+    #[inline(always)]
+    fn cell(&self, i: usize) -> (i32, i32) {
+        C::cell(*self, i)
+    }
+}

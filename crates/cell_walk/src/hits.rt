@@ -15,13 +15,13 @@ use std::marker::Model;
 ///
 /// Contracts see the hits that are left, the cells, the text, and how many bytes of it were walked over.
 #[derive(Drop)]
-pub struct Prefixes<'a, C: CellRead> {
-    cells: &'a C,
+pub struct Prefixes<'a, C: CellRead + Copy> {
+    cells: C,
     text: &'a [u8],
     walk: Walk,
 }
 
-impl<'a, C: CellRead> Model for Prefixes<'a, C> {
+impl<'a, C: CellRead + Copy> Model for Prefixes<'a, C> {
     ghost use Rattle.cell_walk.specs.HitsSeen.{HitsSeen};
 
     ghost Value = { HitsSeen };
@@ -30,26 +30,26 @@ impl<'a, C: CellRead> Model for Prefixes<'a, C> {
     ghost use Rattle.cell_walk.specs.Walking.{IsWalking, bytes_walked};
 
     ghost view = { λ it. record {
-      hits = hits_left (C.cells it.cells.now) it.text.now it.walk;
-      cells = C.cells it.cells.now;
+      hits = hits_left (C.cells it.cells) it.text.now it.walk;
+      cells = C.cells it.cells;
       text = it.text.now;
       walked = bytes_walked it.text.now it.walk;
     } };
 
-    ghost invariant = { λ it. IsWalking (C.cells it.cells.now) it.text.now it.walk };
+    ghost invariant = { λ it. IsWalking (C.cells it.cells) it.text.now it.walk };
 }
 
-impl<'a, C: CellRead> Prefixes<'a, C> {
+impl<'a, C: CellRead + Copy> Prefixes<'a, C> {
     /// Reads the root.
     #[inline(always)]
-    pub(crate) fn new(cells: &'a C, text: &'a [u8]) -> Prefixes<'a, C>
-        requires { AreCells (C.cells cells.now) }
-        ensures hits { result.hits ≡ prefixes_of (C.cells cells.now) text.now }
-        ensures cells { result.cells ≡ C.cells cells.now }
+    pub(crate) fn new(cells: C, text: &'a [u8]) -> Prefixes<'a, C>
+        requires { AreCells (C.cells cells) }
+        ensures hits { result.hits ≡ prefixes_of (C.cells cells) text.now }
+        ensures cells { result.cells ≡ C.cells cells }
         ensures text { result.text ≡ text.now }
         ensures walked { result.walked ≡ 0 }
     {
-        let walk = begin(cells, text);
+        let walk = begin(&cells, text);
         Prefixes { cells, text, walk }
     }
 
@@ -62,7 +62,7 @@ impl<'a, C: CellRead> Prefixes<'a, C> {
     }
 }
 
-impl<'a, C: CellRead> Iterator for Prefixes<'a, C> {
+impl<'a, C: CellRead + Copy> Iterator for Prefixes<'a, C> {
     type Item = Hit;
 
     ghost next_gives = { λ old found new.
@@ -74,6 +74,6 @@ impl<'a, C: CellRead> Iterator for Prefixes<'a, C> {
 
     #[inline(always)]
     fn next(&mut self) -> Option<Hit> {
-        next_hit(self.cells, self.text, &mut self.walk)
+        next_hit(&self.cells, self.text, &mut self.walk)
     }
 }

@@ -25,10 +25,10 @@ pub fn get<C: CellRead>(cells: &C, key: &[u8]) -> Option<u32>
 
 /// The keys of the map that begin a text, the shortest first, each with its value.
 #[inline(always)]
-pub fn prefixes<'a, C: CellRead>(cells: &'a C, text: &'a [u8]) -> Prefixes<'a, C>
-    requires { AreCells (C.cells cells.now) }
-    ensures hits { result.hits ≡ prefixes_of (C.cells cells.now) text.now }
-    ensures cells { result.cells ≡ C.cells cells.now }
+pub fn prefixes<'a, C: CellRead + Copy>(cells: C, text: &'a [u8]) -> Prefixes<'a, C>
+    requires { AreCells (C.cells cells) }
+    ensures hits { result.hits ≡ prefixes_of (C.cells cells) text.now }
+    ensures cells { result.cells ≡ C.cells cells }
     ensures text { result.text ≡ text.now }
     ensures walked { result.walked ≡ 0 }
 {

@@ -159,6 +159,16 @@ impl Dict {
         }
     }
 
+    /// The cells of the keys, where they are not listed.
+    #[inline(always)]
+    fn cells(&self) -> ImageCells<'_>
+        ensures { result.bytes.now ≡ section_of self.now 5 }
+    {
+        ImageCells {
+            bytes: self.section(Section::Keys),
+        }
+    }
+
     /// The group of a key.
     pub(crate) fn group_of(&self, key: &[u8]) -> Option<u32>
         ensures group { result ≡ group_under self.now key.now }
@@ -181,7 +191,7 @@ impl Dict {
     {
         match self.key_table() {
             KeyTable::Listed(keys) => KeyHits::Listed(keys.hits(text)),
-            KeyTable::Cells => KeyHits::Cells(prefixes(self, text)),
+            KeyTable::Cells => KeyHits::Cells(prefixes(self.cells(), text)),
         }
     }
 
@@ -212,9 +222,6 @@ impl CellRead for Dict {
 
     #[inline(always)]
     fn cell(&self, i: usize) -> (i32, i32) {
-        ImageCells {
-            bytes: self.section(Section::Keys),
-        }
-        .cell(i)
+        self.cells().cell(i)
     }
 }

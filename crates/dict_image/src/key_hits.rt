@@ -5,15 +5,15 @@ ghost use Rattle.cell_walk.specs.Reads.{walk_reads};
 ghost use Rattle.cell_walk.specs.Walking.{walked_to};
 ghost use Rattle.dict_image.specs.KeyHits.{hits_seen};
 
-use crate::dict::Dict;
 use crate::listed_hits::ListedHits;
 use cell_walk::{Hit, Prefixes as Hits};
+use image_bytes::ImageCells;
 
 /// The keys that begin a text, the shortest first, with their groups.
 #[derive(Drop)]
 pub(crate) enum KeyHits<'a> {
     Listed(ListedHits<'a>),
-    Cells(Hits<'a, Dict>),
+    Cells(Hits<'a, ImageCells<'a>>),
 }
 
 impl<'a> KeyHits<'a> {
