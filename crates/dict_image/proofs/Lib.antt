@@ -17,3 +17,4 @@ pub mod FittingLemmas
 pub mod NumberLemmas
 pub mod CostRowLemmas
 pub mod NumberedTokens
+pub mod EntryRowLemmas

@@ -14,6 +14,7 @@ pub mod ListedHits
 pub mod KeyHits
 pub mod Prefixes
 pub mod Numbered
+pub mod EntryRows
 pub mod Fitting
 pub mod Loading
 pub mod ImageKeys

@@ -1,10 +1,10 @@
 -- Entries whose numbers follow one another are those that stand at these places among all.
-use Rattle.std.proofs.Common.{◌≡◌, ℕ, zero, suc, ◌+◌, ◌-◌, ◌<◌, ◌≤◌, List, [], ◌∷◌, length, get_or, take, drop, map, filter, Option, Some, None, inl, inr, sym, ap, ◌∙◌, refl, arith, subst}
-use Rattle.std.specs.Prelude.{slice_get, option_map, bytes_eq}
+use Rattle.std.proofs.Common.{◌≡◌, ℕ, zero, suc, ◌+◌, ◌-◌, ◌<◌, ◌≤◌, List, [], ◌∷◌, length, get_or, take, drop, map, filter, Some, inl, inr, sym, ap, ◌∙◌, refl, arith, subst}
+use Rattle.std.specs.Prelude.{slice_get, bytes_eq}
 use Rattle.std.specs.List.{AllByRecursion, range_with_len}
 use Rattle.std.proofs.lemmas.Bool.{cases_lt, ltb-true}
 use Rattle.std.proofs.lemmas.List.{drop_more, length-take, length-drop, length-map}
-use Rattle.std.proofs.lemmas.Option.{get_or_from_slice_get, same_Some, slice_get-map, slice_get_within}
+use Rattle.std.proofs.lemmas.Option.{get_or_from_slice_get, none-some, same_Some, slice_get_within}
 use Rattle.mj_model.specs.declared.word.Word.{Word}
 use Rattle.mj_model.specs.Lists.{up_to, StandsIn}
 use Rattle.mj_model.specs.Tables.{Lexeme, Tables, Token}
@@ -15,11 +15,9 @@ use Rattle.dict_image.specs.Fitting.{AreFitting}
 use Rattle.dict_image.specs.Numbered.{numbered_tokens, unknown_tokens}
 use Rattle.dict_image.specs.Prefixes.{has_entries, prefix_at, prefixes_in}
 use Rattle.dict_image.specs.Seen.{ids_and_cost_of}
-use Rattle.paths.specs.declared.entry_list.EntryList.{EntryList}
 use Rattle.paths.specs.declared.surface.Surface.{Surface}
-use Rattle.paths.specs.Surfaces.{origin_in}
 use Rattle.word_lookup.specs.EntryWords.{entry_word}
-use Rattle.word_lookup.specs.Surfaces.{word_with, words_among}
+use Rattle.word_lookup.specs.Surfaces.{word_with, words_among, words_by_ids}
 
 -- an entry stands at the place of its number
 abbrev pub StandsAtNumber : List Token → Token → Type 0
@@ -113,35 +111,43 @@ pub get_in_row : (all : List Token) (first count i : ℕ) → i < count → slic
 get_in_row all first count i less = get_in_take (drop first all) count i less ∙ get_in_drop all first i
 
 -- a row that is whole lies among all
-pub row_within : (all : List Token) (f : Token → Word) (first count i : ℕ) → length (map f (take count (drop first all))) ≡ count → i < count → first + i < length all
-row_within all f first count i whole less =
+pub row_within : (all : List Token) (f : Token → Word) (first count : ℕ) → length (map f (take count (drop first all))) ≡ count → 0 < count → first + count ≤ length all
+row_within all f first count whole some =
     let a = length-map (take count (drop first all)) f in
     let b = length-take count (drop first all) in
     let c = length-drop first all in
-    omega (arith, whole, less, a, b, c)
+    omega (arith, whole, some, a, b, c)
 
--- a word of a row is that of one of all, and there are as many as the row counts at most
-pub entry_within : (all : List Token) (f : Token → Word) (first count i : ℕ) → i < length (map f (take count (drop first all))) → (first + i < length all) × (i < count)
-entry_within all f first count i less =
-    let a = length-map (take count (drop first all)) f in
-    let b = length-take count (drop first all) in
-    let c = length-drop first all in
-    (omega (arith, less, a, b, c), omega (arith, less, a, b, c))
+-- ---- the words of a row, by ids and costs
 
--- the word of an entry, by its number, ids and cost
-word_by : (list : EntryList) (place start end n : ℕ) (ids : IdsAndCost) (o : Option Token) → ((t : Token) → o ≡ Some t → t.number ≡ n) → option_map ids_and_cost_of o ≡ Some ids
-    → option_map (entry_word list place start end) o ≡ Some (record { place = place; start = start; end = end; left = ids.left; right = ids.right; cost = ids.cost; origin = origin_in list n })
-word_by list place start end n ids None numbered h = absurd (cc)
-word_by list place start end n ids (Some t) numbered h =
-    let same = same_Some (ids_and_cost_of t) ids h in
-    let number = numbered t refl in
-    ap Some (λ k. record { place = place; start = start; end = end; left = (same k).left; right = (same k).right; cost = (same k).cost; origin = origin_in list (number k) })
+-- entries whose numbers are those from this one on
+words_are : (s : Surface) (n : ℕ) (ts : List Token) → ((i : ℕ) (t : Token) → slice_get ts i ≡ Some t → t.number ≡ n + i) → words_by_ids s n (map ids_and_cost_of ts) ≡ map (entry_word s.list s.place s.start s.end) ts
+words_are s n [] numbered = refl
+words_are s n (t ∷ ts) numbered =
+    let number : n ≡ t.number = let e = numbered 0 t refl in omega (arith, e) in
+    let word = λ (k : ℕ). word_with s k (ids_and_cost_of t) in
+    ap (λ (w : Word). w ∷ words_by_ids s (n + 1) (map ids_and_cost_of ts)) (ap word number)
+    ∙ ap (λ (ws : List Word). entry_word s.list s.place s.start s.end t ∷ ws) (words_are s (n + 1) ts (λ i u at. let e = numbered (suc i) u at in omega (arith, e)))
 
--- a word of a surface whose entries are among these, by its number, ids and cost
-pub word_is : (all : List Token) (s : Surface) (i : ℕ) (ids : IdsAndCost) → i < s.count → ((i : ℕ) (t : Token) → slice_get all i ≡ Some t → t.number ≡ i)
-    → option_map ids_and_cost_of (slice_get all (s.first + i)) ≡ Some ids → slice_get (words_among all s) i ≡ Some (word_with s (s.first + i) ids)
-word_is all s i ids less numbered h =
-    let f = entry_word s.list s.place s.start s.end in
-    slice_get-map f (take s.count (drop s.first all)) i
-    ∙ ap (option_map f) (get_in_row all s.first s.count i less)
-    ∙ word_by s.list s.place s.start s.end (s.first + i) ids (slice_get all (s.first + i)) (numbered (s.first + i)) h
+-- the words of a surface whose entries are among these
+pub words_of_row : (all : List Token) (s : Surface) → ((i : ℕ) (t : Token) → slice_get all i ≡ Some t → t.number ≡ i) → words_by_ids s s.first (map ids_and_cost_of (take s.count (drop s.first all))) ≡ words_among all s
+words_of_row all s numbered = words_are s s.first (take s.count (drop s.first all)) (λ i t at.
+    let within = slice_get_within (take s.count (drop s.first all)) i t at in
+    let few = length-take s.count (drop s.first all) in
+    let less : i < s.count = omega (arith, within, few) in
+    numbered (s.first + i) t (sym (get_in_row all s.first s.count i less) ∙ at))
+
+-- one of them
+pub words_length : (s : Surface) (n : ℕ) (row : List IdsAndCost) → length (words_by_ids s n row) ≡ length row
+words_length s n [] = refl
+words_length s n (ids ∷ rest) = ap suc (words_length s (n + 1) rest)
+
+pub word_is : (s : Surface) (n : ℕ) (row : List IdsAndCost) (i : ℕ) (ids : IdsAndCost) → slice_get row i ≡ Some ids → slice_get (words_by_ids s n row) i ≡ Some (word_with s (n + i) ids)
+word_is s n [] i ids at = absurd (none-some ids at)
+word_is s n (first ∷ rest) zero ids at =
+    let e : n ≡ n + 0 = omega arith in
+    let same = same_Some first ids at in
+    ap (λ (k : ℕ). Some (word_with s k first)) e ∙ ap (λ (x : IdsAndCost). Some (word_with s (n + 0) x)) same
+word_is s n (first ∷ rest) (suc i) ids at =
+    let e : n + 1 + i ≡ n + suc i = omega arith in
+    word_is s (n + 1) rest i ids at ∙ ap (λ (k : ℕ). Some (word_with s k ids)) e

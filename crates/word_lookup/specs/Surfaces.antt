@@ -1,5 +1,5 @@
 -- Words of a place as surfaces: entries of one list whose numbers follow one another.
-use Rattle.std.specs.Prelude.{ℕ, List, [], ◌∷◌, map, take, drop, slice_get}
+use Rattle.std.specs.Prelude.{ℕ, ◌+◌, List, [], ◌∷◌, map, take, drop, slice_get}
 use Rattle.std.specs.Option.{option_map_or}
 use Rattle.mj_model.specs.declared.word.Word.{Word}
 use Rattle.mj_model.specs.Lists.{GrowsBy}
@@ -33,6 +33,11 @@ surface_words o s = words_among (tokens_of o s.list) s
 abbrev pub word_with : Surface → ℕ → IdsAndCost → Word
 word_with s token ids =
     record { place = s.place; start = s.start; end = s.end; left = ids.left; right = ids.right; cost = ids.cost; origin = origin_in s.list token }
+
+-- the words of a surface whose entries have these ids and costs, and the numbers from this one on
+abbrev pub words_by_ids : Surface → ℕ → List IdsAndCost → List Word
+words_by_ids s token [] = []
+words_by_ids s token (ids ∷ rest) = word_with s token ids ∷ words_by_ids s (token + 1) rest
 
 -- surfaces were appended whose words are these
 abbrev pub GrowsByWords : Overlay → List Word → List Surface → List Surface → Type 0

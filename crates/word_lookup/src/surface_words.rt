@@ -1,6 +1,6 @@
 //! The words of one surface.
 
-ghost use Rattle.std.specs.Prelude.{◌≡◌, ◌<◌, Some, length, slice_get};
+ghost use Rattle.std.specs.Prelude.{◌≡◌, ◌+◌, ◌<◌, ◌≤◌, Some, length, slice_get};
 ghost use Rattle.image_bytes.specs.ImageMeaning.{image_tables};
 ghost use Rattle.dict_image.specs.Fitting.{AreFitting};
 ghost use Rattle.dict_image.specs.Numbered.{numbered_tokens};
@@ -9,40 +9,46 @@ ghost use Rattle.word_lookup.specs.Overlays.{overlay_of};
 ghost use Rattle.word_lookup.specs.Surfaces.{surface_words, tokens_of, words_among, word_with as word_of_surface};
 
 use crate::dictionaries::Dictionaries;
-use dict_image::{Dict, IdsAndCost};
+use dict_image::{Dict, EntryRow, IdsAndCost, TokenRow};
 use mj_model::Word;
 use paths::{EntryList, Surface};
 use std::marker::Model;
 
-/// The words of a surface, whose dictionary was found once for all of them. Each is read where its entry lies.
+/// The words of a surface, whose entries were found once for all of them. Each is read where its entry lies.
 #[derive(Drop)]
 pub struct SurfaceWords<'a> {
-    dict: &'a Dict,
     surface: Surface,
+    entries: EntryRow<'a>,
 }
 
 impl<'a> Model for SurfaceWords<'a> {
-    ghost use Rattle.std.specs.Prelude.{List};
+    ghost use Rattle.std.specs.Prelude.{◌+◌, ◌≤◌, ◌^◌, List, length};
     ghost use Rattle.mj_model.specs.declared.word.Word.{Word};
-    ghost use Rattle.image_bytes.specs.ImageMeaning.{image_tables};
-    ghost use Rattle.dict_image.specs.Fitting.{AreFitting};
-    ghost use Rattle.dict_image.specs.Numbered.{numbered_tokens};
-    ghost use Rattle.word_lookup.specs.Surfaces.{words_among};
+    ghost use Rattle.word_lookup.specs.Surfaces.{words_by_ids};
 
     ghost Value = { List Word };
 
-    ghost view = { λ it. words_among (numbered_tokens (image_tables it.dict.now)) it.surface };
+    ghost view = { λ it. words_by_ids it.surface it.surface.first it.entries };
 
-    ghost invariant = { λ it. AreFitting (image_tables it.dict.now) };
+    ghost invariant = { λ it. it.surface.first + length it.entries ≤ 2 ^ 32 };
 }
 
 impl<'a> SurfaceWords<'a> {
     /// Those of a surface whose entries are a dictionary's.
     pub(crate) fn among(dict: &'a Dict, surface: Surface) -> SurfaceWords<'a>
-        requires { AreFitting (image_tables dict.now) }
+        requires fits { AreFitting (image_tables dict.now) }
+        requires there { surface.first + surface.count
+            ≤ length (numbered_tokens (image_tables dict.now)) }
         ensures { result ≡ words_among (numbered_tokens (image_tables dict.now)) surface }
     {
-        SurfaceWords { dict, surface }
+        let row = TokenRow {
+            first: surface.first,
+            count: surface.count,
+        };
+        SurfaceWords {
+            surface,
+            entries: dict.entry_row(row),
+        }
     }
 
     /// Word `i` of them.
@@ -51,7 +57,7 @@ impl<'a> SurfaceWords<'a> {
         ensures { slice_get self.now i ≡ Some result }
     {
         let token = self.surface.first + i;
-        word_with(&self.surface, token, self.dict.ids_and_cost(token))
+        word_with(&self.surface, token, self.entries.get(i))
     }
 }
 
