@@ -1,6 +1,7 @@
 -- States with their bases, and steps between them.
-use Rattle.std.specs.Prelude.{◌≡◌, ℕ, ◌+◌, ◌<◌, ◌^◌, ℤ, pos, List, Option, None, Some, MatchOption}
+use Rattle.std.specs.Prelude.{◌≡◌, ℕ, ◌+◌, ◌<◌, ◌^◌, pos, List, Option, None, Some, MatchOption}
 use Rattle.cell_walk.specs.CellMap.{Cell, base, check, step}
+use Rattle.cell_walk.specs.declared.steps.ChildCell.{ChildCell}
 use Rattle.cell_walk.specs.declared.steps.Place.{Place}
 
 -- 32 bits hold the state, and none of the two numbers that stand for -1 and -2
@@ -13,9 +14,10 @@ pub record IsAt (cells : List Cell) (place : Place) : Type 0 where
   pub low : place.base < 2 ^ 31
   pub small : IsSmall place.state
 
--- the base of a cell, if its check is the state
-abbrev pub IsChildBase : List Cell → ℕ → ℕ → Option ℤ → Type 0
-IsChildBase cells state i found = MatchOption found (check cells i ≡ pos state → ⊥) (λ z. (check cells i ≡ pos state) × (base cells i ≡ z))
+-- the cell of a number, if its check is the state
+abbrev pub IsChildAt : List Cell → ℕ → ℕ → Option ChildCell → Type 0
+IsChildAt cells state i found =
+    MatchOption found (check cells i ≡ pos state → ⊥) (λ child. (check cells i ≡ pos state) × (base cells i ≡ child.base) × (child.number ≡ i))
 
 -- the place that a step leads to
 abbrev pub IsStepTo : List Cell → ℕ → ℕ → Option Place → Type 0

@@ -3,7 +3,7 @@ ghost use Rattle.std.specs.Prelude.{◌≡◌, ◌+◌, ◌<◌, ◌^◌, pos, N
 ghost use Rattle.cell_walk.specs.CellRules.{AreCells};
 ghost use Rattle.cell_walk.specs.Hits.{value_here};
 ghost use Rattle.cell_walk.specs.Reads.{reads_at, step_reads};
-ghost use Rattle.cell_walk.specs.Steps.{IsAt, IsChildBase, IsSmall, IsStepTo};
+ghost use Rattle.cell_walk.specs.Steps.{IsAt, IsChildAt, IsSmall, IsStepTo};
 
 use crate::cell_read::CellRead;
 
@@ -28,19 +28,26 @@ fn read<C: CellRead>(cells: &C, i: usize, reads: &mut u64) -> Option<(i32, i32)>
     Some(cells.cell(i))
 }
 
-/// The base of a cell, if it is a child of this state.
+/// A child of a state: the number of its cell, with its base.
+#[derive(Clone, Copy, Debug, Drop)]
+struct ChildCell {
+    number: usize,
+    base: i32,
+}
+
+/// The cell of a number, if it is a child of this state.
 #[inline(always)]
-fn child<C: CellRead>(cells: &C, state: usize, i: usize, reads: &mut u64) -> Option<i32>
+fn child<C: CellRead>(cells: &C, state: usize, i: usize, reads: &mut u64) -> Option<ChildCell>
     requires cells { AreCells (C.cells cells.now) }
     requires state { IsSmall state }
     requires reads { reads.old + 1 < 2 ^ 64 }
-    ensures child { IsChildBase (C.cells cells.now) state i result }
+    ensures child { IsChildAt (C.cells cells.now) state i result }
     ensures reads { reads.new ≡ reads.old + reads_at (C.cells cells.now) (pos i) }
 {
     let (base, check) = read(cells, i, reads)?;
     // No check is below -2, so that one below 0 is no state when its bits are taken for a number.
     if check.cast_unsigned() == state as u32 {
-        Some(base)
+        Some(ChildCell { number: i, base })
     } else {
         None
     }
@@ -75,10 +82,10 @@ pub(crate) fn step<C: CellRead>(cells: &C, from: Place, byte: u8, reads: &mut u6
         ≡ reads.old + step_reads (C.cells cells.now) from.state (byte + 1) }
 {
     let state = from.base as usize + byte as usize + 1;
-    let base = child(cells, from.state, state, reads)?;
+    let found = child(cells, from.state, state, reads)?;
     Some(Place {
-        state,
-        base: base as u32,
+        state: found.number,
+        base: found.base as u32,
     })
 }
 
@@ -91,6 +98,6 @@ pub(crate) fn value_at<C: CellRead>(cells: &C, from: Place, reads: &mut u64) -> 
     ensures value { result ≡ value_here (C.cells cells.now) from.state }
     ensures reads { reads.new ≡ reads.old + step_reads (C.cells cells.now) from.state 0 }
 {
-    let base = child(cells, from.state, from.base as usize, reads)?;
-    Some(-(base + 1) as u32)
+    let found = child(cells, from.state, from.base as usize, reads)?;
+    Some(-(found.base + 1) as u32)
 }
