@@ -1,7 +1,8 @@
 -- Within a run of blanks each character goes on from the one before. So behind a place in it that has blanks they end where the run ends.
 use Rattle.std.proofs.Common.{◌≡◌, ℕ, suc, ◌+◌, ◌<◌, ◌≤◌, Bool, true, false, cond, List, [], ◌∷◌, ◌++◌, length, drop, inl, inr, refl, sym, ap, ◌∙◌, arith}
-use Rattle.std.specs.Prelude.{IsTrue, chars, nat_lt}
+use Rattle.std.specs.Prelude.{IsTrue, chars, nat_lt, Some}
 use Rattle.std.proofs.lemmas.Bool.{cases_lt, lt-ltb, ltb-false, ltb-true}
+use Rattle.std.proofs.lemmas.Option.{same_Some}
 use Rattle.mj_model.specs.declared.category.CharInfo.{CharInfo}
 use Rattle.mj_model.specs.Categories.{shares}
 use Rattle.mj_model.specs.Tables.{Overlay}
@@ -10,6 +11,8 @@ use Rattle.paths.specs.Run.{bytes_of, run}
 use Rattle.paths.specs.Words.{is_place}
 use Rattle.paths.specs.declared.blank_run.BlankRun.{BlankRun}
 use Rattle.word_lookup.specs.BlankRuns.{IsBlankRun, begins_with_blank}
+use Rattle.word_lookup.specs.FirstCharacters.{first_in}
+use Rattle.word_lookup.specs.declared.first_character.FirstCharacter.{FirstCharacter}
 use Rattle.word_lookup.proofs.PlaceLemmas.{IsParted, parted}
 use Rattle.word_lookup.proofs.RunLemmas.{bytes_before, bytes_through, goes_on, run_through}
 
@@ -47,13 +50,17 @@ begun_by : (n : ℕ) (b : Bool) → b ≡ nat_lt 0 (cond b (suc n) 0)
 begun_by n true = sym (lt-ltb 0 (suc n) (omega arith))
 begun_by n false = refl
 
--- it shares a category with U+0020, or not
-pub begins_by_first : (o : Overlay) (text rest : List ℕ) (entry : CharInfo) (c : ℕ) → chars text ≡ c ∷ rest → entry ≡ o.system.info space
-    → shares entry (o.system.info c) ≡ begins_with_blank o text
-begins_by_first o text rest entry c split is =
+begins_by_first : (o : Overlay) (cs : List ℕ) (entry : CharInfo) (f : FirstCharacter) → Some f ≡ first_in o.system.info cs → entry ≡ o.system.info space
+    → shares entry f.info ≡ nat_lt 0 (run o.system.info (o.system.info space) cs)
+begins_by_first o [] entry f found is = absurd (cc)
+begins_by_first o (c ∷ cs) entry f found is =
     let info = o.system.info in
-    ap (λ (e : CharInfo). shares e (info c)) is ∙ begun_by (run info (info c) rest) (shares (info space) (info c))
-    ∙ ap (λ (cs : List ℕ). nat_lt 0 (run info (info space) cs)) (sym split)
+    ap (λ (g : FirstCharacter). shares entry g.info) (same_Some _ _ found) ∙ ap (λ (e : CharInfo). shares e (info c)) is ∙ begun_by (run info (info c) cs) (shares (info space) (info c))
+
+-- it shares a category with U+0020, or not
+pub begins_by_found : (o : Overlay) (text : List ℕ) (entry : CharInfo) (f : FirstCharacter) → Some f ≡ first_in o.system.info (chars text) → entry ≡ o.system.info space
+    → shares entry f.info ≡ begins_with_blank o text
+begins_by_found o text entry f found is = begins_by_first o (chars text) entry f found is
 
 pub begins_empty : (o : Overlay) (text : List ℕ) → chars text ≡ [] → false ≡ begins_with_blank o text
 begins_empty o text none = ap (λ (cs : List ℕ). nat_lt 0 (run o.system.info (o.system.info space) cs)) (sym none)
@@ -70,3 +77,7 @@ no_blanks o text rest place at begins =
     let empty : run o.system.info (o.system.info space) (chars_from text place) ≡ 0 = omega (arith, none) in
     let width = ap (λ (k : ℕ). bytes_of k (chars_from text place)) empty in
     omega (arith, width)
+
+-- none are left where the text ends
+pub no_blanks_left : (o : Overlay) (text : List ℕ) (place : ℕ) → chars_from text place ≡ [] → place ≡ skip o text place
+no_blanks_left o text place none = no_blanks o text (drop place text) place refl (sym (begins_empty o (drop place text) none))

@@ -1,8 +1,9 @@
 -- Parts of a run: the part behind a place in it, one that is looked at further, and what a part tells of the run.
-use Rattle.std.proofs.Common.{◌≡◌, ℕ, ◌+◌, ◌-◌, ◌<◌, ◌≤◌, Bool, List, [], ◌∷◌, ◌++◌, length, drop, inl, inr, refl, sym, ap, ◌∙◌, subst, arith}
+use Rattle.std.proofs.Common.{◌≡◌, ℕ, ◌+◌, ◌-◌, ◌<◌, ◌≤◌, Bool, false, List, [], ◌∷◌, ◌++◌, length, drop, inl, inr, refl, sym, ap, ◌∙◌, subst, arith}
 use Rattle.std.specs.Prelude.{IsTrue, IsUtf8, chars, encode_utf8_all, min, nat_lt}
 use Rattle.std.proofs.lemmas.Bool.{cases_lt, ltb-true}
 use Rattle.std.proofs.lemmas.List.{drop-drop}
+use Rattle.std.specs.Char.{len_utf8}
 use Rattle.mj_model.specs.declared.category.CharInfo.{CharInfo}
 use Rattle.paths.specs.Blanks.{chars_from}
 use Rattle.paths.specs.Run.{bytes_of, run}
@@ -13,6 +14,25 @@ use Rattle.paths.proofs.PlaceWords.{place_there}
 use Rattle.word_lookup.specs.CharacterRuns.{IsCharacterRun, IsFirst, count_between, following_in_run}
 use Rattle.word_lookup.proofs.PlaceLemmas.{blanks_fit, parted, text_there}
 use Rattle.word_lookup.proofs.RunLemmas.{bytes_before, bytes_behind, bytes_join, bytes_through, run_through}
+
+-- ---- its first character
+
+pub begun_run : (info : ℕ → CharInfo) (text rest : List ℕ) (start c n : ℕ) (entry : CharInfo) → IsTrue (is_place text start) → rest ≡ drop start text → IsFirst rest c (len_utf8 c) → n ≡ len_utf8 c → entry ≡ info c
+    → IsCharacterRun info text (record { from = start; to = start + n; following = 0; last = entry; is_whole = false })
+begun_run info text rest start c n entry there at first width is =
+    let cs = chars (drop (len_utf8 c) rest) in
+    let split : chars_from text start ≡ c ∷ cs = ap chars (sym at) ∙ first.split in
+    let one = ap (bytes_of 1) split ∙ bytes_behind 0 c cs in
+    let behind : cs ≡ chars_from text (start + n) =
+    ap (λ (bytes : List ℕ). chars (drop (len_utf8 c) bytes)) at ∙ ap chars (drop-drop (len_utf8 c) start text) ∙ ap (λ (k : ℕ). chars_from text (start + k)) (sym width) in
+    let on : following_in_run info (chars_from text start) ≡ run info entry (chars_from text (start + n)) =
+    ap (following_in_run info) split ∙ ap (λ (i : CharInfo). run info i cs) (sym is) ∙ ap (run info entry) behind in
+    record {
+      begins = there;
+      ends = omega (arith, one, width);
+      goes_on = omega (arith, on);
+      whole = λ h. absurd (cc);
+    }
 
 -- ---- behind a place in it
 
@@ -90,6 +110,19 @@ chars_at_end : (info : ℕ → CharInfo) (text : List ℕ) (r : CharacterRun) �
 chars_at_end info text r is =
     let m = 1 + r.following in
     ap (λ (k : ℕ). chars_from text k) is.ends ∙ ap chars (sym (drop-drop _ r.from text)) ∙ chars_behind (drop r.from text) m (text_there text r.from is.begins)
+
+-- it ends at its first character or behind it
+pub ends_behind : (info : ℕ → CharInfo) (text : List ℕ) (begun r : CharacterRun) → IsCharacterRun info text begun → IsCharacterRun info text r → r.from ≡ begun.from → begun.following ≡ 0 → begun.to ≤ r.to
+ends_behind info text begun r first is from one =
+    let cs = chars_from text begun.from in
+    let same = ap (λ (k : ℕ). bytes_of (1 + r.following) (chars_from text k)) from in
+    let few = ap (λ (k : ℕ). bytes_of (1 + k) cs) one in
+    let join = bytes_join (1 + 0) r.following cs in
+    let long : 1 + r.following ≡ (1 + 0) + r.following = omega arith in
+    let all = ap (λ (k : ℕ). bytes_of k cs) long in
+    let ends = is.ends in
+    let begun_ends = first.ends in
+    omega (arith, ends, begun_ends, same, few, join, all, from)
 
 -- more characters of it
 pub further_run : (info : ℕ → CharInfo) (text rest : List ℕ) (r : CharacterRun) (left n bytes : ℕ) (last : CharInfo) (whole : Bool) → IsCharacterRun info text r → rest ≡ drop r.to text

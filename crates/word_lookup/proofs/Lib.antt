@@ -5,6 +5,7 @@ pub mod UserLemmas
 pub mod UnknownWords
 pub mod KnownFound
 pub mod PlaceLemmas
+pub mod FirstLemmas
 pub mod BlankRunLemmas
 pub mod CharacterRunLemmas
 pub mod OverlayLaws

@@ -148,5 +148,10 @@ no_chars text rest u same none =
     let e = ap length same in
     nil_from_length (chars text) (omega (arith, short, spelled, e, none))
 
-pub none_there : (o : Overlay) (none_known : Bool) (place start : ℕ) (text rest : List ℕ) → IsUtf8 text → rest ≡ text → length rest ≡ 0 → [] ≡ unknown o none_known place start (chars text)
-none_there o none_known place start text rest u same none = ap (λ (cs : List ℕ). unknown o none_known place start cs) (sym (no_chars text rest u same none))
+-- where no characters are left the text ends
+pub ends_there : (text : List ℕ) (p : ℕ) → IsTrue (is_place text p) → chars_from text p ≡ [] → length text ≤ p
+ends_there text p h none =
+    let spelled = ap length (encodes-chars (drop p text) (text_there text p h)) in
+    let empty = ap (λ (cs : List ℕ). length (encode_utf8_all cs)) none in
+    let long = length-drop p text in
+    omega (arith, spelled, empty, long)

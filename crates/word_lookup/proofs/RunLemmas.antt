@@ -1,14 +1,15 @@
 -- The run at the beginning of a text, taken character by character up to a limit.
-use Rattle.std.proofs.Common.{◌≡◌, ℕ, zero, suc, ◌+◌, ◌<◌, ◌≤◌, Bool, true, false, cond, List, [], ◌∷◌, ◌++◌, length, take, drop, get_or, refl, sym, ap, ◌∙◌, arith}
-use Rattle.std.specs.Prelude.{encode_utf8_all, encode_utf8, IsUtf8, chars, min}
+use Rattle.std.proofs.Common.{◌≡◌, ℕ, zero, suc, ◌+◌, ◌-◌, ◌<◌, ◌≤◌, Bool, true, false, cond, List, [], ◌∷◌, ◌++◌, length, take, drop, get_or, refl, sym, ap, ◌∙◌, arith, subst}
+use Rattle.std.specs.Prelude.{encode_utf8_all, encode_utf8, IsUtf8, chars}
 use Rattle.std.specs.Char.{len_utf8}
 use Rattle.std.proofs.Math.Seq.{take-append-add}
-use Rattle.std.proofs.lemmas.List.{at_drop_more, at_drop_all, get_or-take, length-append, take_more, take-append-le, take-take, length-take}
-use Rattle.std.proofs.lemmas.Str.{length-encode, encodes-append}
+use Rattle.std.proofs.lemmas.List.{drop-drop, drop_at, length-append, length-drop, take_more, take-append-le}
+use Rattle.std.proofs.lemmas.Str.{chars_past_char, length-encode, encodes-append}
 use Rattle.mj_model.specs.declared.category.CharInfo.{CharInfo}
 use Rattle.mj_model.specs.Categories.{shares}
 use Rattle.paths.specs.Run.{run, bytes_of}
-use Rattle.paths.proofs.CharBytes.{bytes_within, chars_within}
+use Rattle.word_lookup.proofs.PlaceLemmas.{no_chars}
+use Rattle.paths.proofs.CharBytes.{bytes_within, chars_behind, chars_within, text_behind}
 
 -- ---- bytes
 
@@ -53,13 +54,6 @@ bytes_join (suc m) n (c ∷ cs) =
     let h = bytes_join m n cs in
     omega (arith, a, b, h)
 
--- those of the first characters of the first characters
-pub bytes_of_front : (k limit : ℕ) (cs : List ℕ) → k ≤ limit → bytes_of k (take limit cs) ≡ bytes_of k cs
-bytes_of_front k limit cs low = ap (λ (xs : List ℕ). length (encode_utf8_all xs)) (take-take k limit cs low)
-
-pub bytes_fit : (text : List ℕ) (k limit : ℕ) → IsUtf8 text → k ≤ limit → bytes_of k (take limit (chars text)) ≤ length text
-bytes_fit text k limit u low = let e = bytes_of_front k limit (chars text) low in let w = chars_within text k u in omega (arith, e, w)
-
 -- ---- a run that goes past a character goes on from it
 
 first_by : (n : ℕ) (b : Bool) → 0 < cond b (suc n) 0 → cond b (suc n) 0 ≡ suc n
@@ -81,50 +75,65 @@ module _ (info : ℕ → CharInfo) where
 
 -- ---- character by character
 
--- a character among the first ones
-pub in_front : (limit : ℕ) (cs : List ℕ) (k c : ℕ) → k < length (take limit cs) → c ≡ get_or (take limit cs) k c → (k < length cs) × (c ≡ get_or cs k c)
-in_front limit cs k c less at = let long = length-take limit cs in (omega (arith, less, long), at ∙ get_or-take limit cs k c (omega (arith, less, long)))
+-- a text behind its first n characters
+pub record IsLeft (text left : List ℕ) (n : ℕ) : Type 0 where
+  pub utf8 : IsUtf8 left
+  pub chars_are : drop n (chars text) ≡ chars left
+  pub bytes : length text - length left ≡ bytes_of n (chars text)
+  pub fits : length left ≤ length text
 
-module _ (info : ℕ → CharInfo) where
-  run_on_by : (entry : CharInfo) (c : ℕ) (cs : List ℕ) (b : Bool) → shares entry (info c) ≡ b → run info entry (c ∷ cs) ≡ cond b (suc (run info (info c) cs)) 0
-  run_on_by entry c cs b e = ap (λ t. cond t (suc (run info (info c) cs)) 0) e
+pub left_behind : (text left : List ℕ) (n : ℕ) → IsUtf8 text → left ≡ drop (bytes_of n (chars text)) text → IsLeft text left n
+left_behind text left n u at =
+    let within = chars_within text n u in
+    let short = length-drop (bytes_of n (chars text)) text in
+    let long = ap length at in
+    record {
+      utf8 = subst IsUtf8 (sym at) (text_behind text n u);
+      chars_are = sym (ap chars at ∙ chars_behind text n u);
+      bytes = omega (arith, within, short, long);
+      fits = omega (arith, within, short, long);
+    }
 
-  -- one turn of a loop over the characters
-  pub turn : (entry last : CharInfo) (cs : List ℕ) (k n c : ℕ) → k < length cs → c ≡ get_or cs k c → n + run info last (drop k cs) ≡ run info entry cs → shares last (info c) ≡ true
-      → (n + 1) + run info (info c) (drop (k + 1) cs) ≡ run info entry cs
-  turn entry last cs k n c within is so_far shared =
-      let e = at_drop_more (run info last) cs k c within in
-      let f = ap (λ d. run info last (d ∷ drop (k + 1) cs)) (sym is) in
-      let g = run_on_by last c (drop (k + 1) cs) true shared in
-      omega (arith, so_far, e, f, g)
+-- one character more was taken
+pub record IsTaken (text rest : List ℕ) (n c : ℕ) : Type 0 where
+  pub chars_are : drop n (chars text) ≡ c ∷ drop (n + 1) (chars text)
+  pub at : rest ≡ drop (bytes_of (n + 1) (chars text)) text
 
-  pub stop : (entry last : CharInfo) (cs : List ℕ) (k n c : ℕ) → k < length cs → c ≡ get_or cs k c → n + run info last (drop k cs) ≡ run info entry cs → shares last (info c) ≡ false
-      → n ≡ run info entry cs
-  stop entry last cs k n c within is so_far not_shared =
-      let e = at_drop_more (run info last) cs k c within in
-      let f = ap (λ d. run info last (d ∷ drop (k + 1) cs)) (sym is) in
-      let g = run_on_by last c (drop (k + 1) cs) false not_shared in
-      omega (arith, so_far, e, f, g)
+pub taken : (text left rest : List ℕ) (n c : ℕ) → IsUtf8 text → left ≡ drop (bytes_of n (chars text)) text → left ≡ encode_utf8 c ++ rest → IsTaken text rest n c
+taken text left rest n c u at spelled =
+    let cs = chars text in
+    let before = left_behind text left n u at in
+    let one = length-encode c in
+    let behind : drop (len_utf8 c) left ≡ rest = ap (drop (len_utf8 c)) spelled ∙ drop_at (encode_utf8 c) rest (len_utf8 c) (omega (arith, one)) in
+    let split : drop n cs ≡ c ∷ chars rest = before.chars_are ∙ chars_past_char left rest c before.utf8 spelled in
+    let join = bytes_join n 1 cs in
+    let width = ap (bytes_of 1) split ∙ bytes_behind 0 c (chars rest) in
+    let bytes : bytes_of n cs + len_utf8 c ≡ bytes_of (n + 1) cs = omega (arith, join, width) in
+    let rest_at : rest ≡ drop (bytes_of (n + 1) cs) text =
+    sym behind ∙ ap (drop (len_utf8 c)) at ∙ drop-drop (len_utf8 c) (bytes_of n cs) text ∙ ap (λ (k : ℕ). drop k text) bytes in
+    record { chars_are = split ∙ ap (λ (ds : List ℕ). c ∷ ds) (ap chars rest_at ∙ chars_behind text (n + 1) u); at = rest_at }
 
-  pub end : (entry last : CharInfo) (cs : List ℕ) (k n : ℕ) → length cs ≤ k → n + run info last (drop k cs) ≡ run info entry cs → n ≡ run info entry cs
-  end entry last cs k n past so_far = let e = at_drop_all (run info last) cs k past in omega (arith, so_far, e)
+run_on_by : (n : ℕ) (b shared : Bool) → b ≡ shared → cond b (suc n) 0 ≡ cond shared (suc n) 0
+run_on_by n b shared e = ap (λ t. cond t (suc n) 0) e
 
-  front_by : (entry : CharInfo) (c : ℕ) (cs : List ℕ) (n : ℕ) (b : Bool) → run info (info c) (take n cs) ≡ min n (run info (info c) cs)
-      → cond b (suc (run info (info c) (take n cs))) 0 ≡ min (suc n) (cond b (suc (run info (info c) cs)) 0)
-  front_by entry c cs n true h = omega (arith, h)
-  front_by entry c cs n false h = omega arith
+-- a loop over the characters goes on, or ends at one that is not in the run, or at the end of the text
+pub turn : (info : ℕ → CharInfo) (entry last next : CharInfo) (cs ds : List ℕ) (n c : ℕ) → drop n cs ≡ c ∷ ds → n + run info last (drop n cs) ≡ run info entry cs → next ≡ info c → shares last next ≡ true
+    → (n + 1) + run info next ds ≡ run info entry cs
+turn info entry last next cs ds n c split so_far is shared =
+    let e = ap (run info last) split in
+    let f = run_on_by (run info (info c) ds) (shares last (info c)) true (ap (shares last) (sym is) ∙ shared) in
+    let g = ap (λ (i : CharInfo). run info i ds) is in
+    omega (arith, so_far, e, f, g)
 
-  -- the run among the first characters
-  pub run_of_front : (n : ℕ) (entry : CharInfo) (cs : List ℕ) → run info entry (take n cs) ≡ min n (run info entry cs)
-  run_of_front zero entry cs = omega arith
-  run_of_front (suc n) entry [] = omega arith
-  run_of_front (suc n) entry (c ∷ cs) = front_by entry c cs n (shares entry (info c)) (run_of_front n (info c) cs)
+pub stop : (info : ℕ → CharInfo) (entry last next : CharInfo) (cs ds : List ℕ) (n c : ℕ) → drop n cs ≡ c ∷ ds → n + run info last (drop n cs) ≡ run info entry cs → next ≡ info c → shares last next ≡ false
+    → n ≡ run info entry cs
+stop info entry last next cs ds n c split so_far is off =
+    let e = ap (run info last) split in
+    let f = run_on_by (run info (info c) ds) (shares last (info c)) false (ap (shares last) (sym is) ∙ off) in
+    omega (arith, so_far, e, f)
 
-  -- what a loop over the first characters counted
-  pub counted : (limit : ℕ) (entry : CharInfo) (cs : List ℕ) (n : ℕ) → n ≡ run info entry (take limit cs) → n ≡ min limit (run info entry cs)
-  counted limit entry cs n h = h ∙ run_of_front limit entry cs
-
-pub counted_bytes : (limit : ℕ) (cs : List ℕ) (n k bytes : ℕ) → n ≡ k → k ≤ length (take limit cs) → bytes ≡ bytes_of n (take limit cs) → bytes ≡ bytes_of n cs
-counted_bytes limit cs n k bytes e low h =
-    let len = length-take limit cs in
-    h ∙ bytes_of_front n limit cs (omega (arith, e, low, len))
+pub end : (info : ℕ → CharInfo) (entry last : CharInfo) (text left : List ℕ) (n : ℕ) → IsUtf8 text → left ≡ drop (bytes_of n (chars text)) text → length left ≡ 0 → n + run info last (drop n (chars text)) ≡ run info entry (chars text)
+    → n ≡ run info entry (chars text)
+end info entry last text left n u at empty so_far =
+    let e = ap (run info last) ((left_behind text left n u at).chars_are ∙ no_chars left left (left_behind text left n u at).utf8 refl empty) in
+    omega (arith, so_far, e)

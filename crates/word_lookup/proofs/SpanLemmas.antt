@@ -122,6 +122,43 @@ front_prefix p zero cs = omega arith
 front_prefix p (suc n) [] = omega arith
 front_prefix p (suc n) (c ∷ cs) = front_prefix_by p n c cs (p c) (front_prefix p n cs)
 
+-- the first one that follows in the run shares a category with the first of all
+second_by : (b : Bool) (n k : ℕ) → min 1 (cond b (suc n) 0) ≤ cond b (1 + k) 0
+second_by true n k = omega arith
+second_by false n k = omega arith
+
+second_alike : (info : ℕ → CharInfo) (entry : CharInfo) (cs : List ℕ) → min 1 (run info entry cs) ≤ prefix_len (λ c. shares entry (info c)) cs
+second_alike info entry [] = omega arith
+second_alike info entry (c ∷ cs) = second_by (shares entry (info c)) (run info (info c) cs) (prefix_len (λ d. shares entry (info d)) cs)
+
+few_by : (group : Bool) (len following all most known : ℕ) → min 1 following ≤ all → most ≡ longest group len len following → known ≡ cond group 2 1 → most ≤ known
+    → most ≡ longest group len (1 + min len all) following
+few_by true len following all most known second is is_known few = omega (arith, second, is, is_known, few)
+few_by false len following all most known second is is_known few = omega (arith, second, is, is_known, few)
+
+more_by : (group : Bool) (len following all most seen : ℕ) → most ≡ longest group len len following → seen ≡ min (most - 1) all → min most (1 + seen) ≡ longest group len (1 + min len all) following
+more_by true len following all most seen is is_seen = omega (arith, is, is_seen)
+more_by false len following all most seen is is_seen = omega (arith, is, is_seen)
+
+alike_are : (p : ℕ → Bool) (n : ℕ) (cs : List ℕ) → length (take_while p (take n cs)) ≡ min n (prefix_len p cs)
+alike_are p n cs = let a = length-prefix_len p (take n cs) in let e = front_prefix p n cs in omega (arith, a, e)
+
+-- the longest length without a look at those that are alike for sure
+pub few_alike_for_sure : (info : ℕ → CharInfo) (entry : CharInfo) (cs : List ℕ) (group : Bool) (len following most known : ℕ) → following ≤ run info entry cs
+    → most ≡ longest group len len following → known ≡ cond group 2 1 → most ≤ known
+    → most ≡ longest group len (1 + length (take_while (λ c. shares entry (info c)) (take len cs))) following
+few_alike_for_sure info entry cs group len following most known low is is_known few =
+    let second = second_alike info entry cs in
+    few_by group len following (prefix_len (λ c. shares entry (info c)) cs) most known (omega (arith, second, low)) is is_known few
+    ∙ ap (λ (n : ℕ). longest group len (1 + n) following) (sym (alike_are (λ c. shares entry (info c)) len cs))
+
+-- the longest length by a look at one character fewer than there are lengths
+pub alike_up_to_longest : (p : ℕ → Bool) (cs : List ℕ) (group : Bool) (len following most seen : ℕ) → most ≡ longest group len len following → seen ≡ length (take_while p (take (most - 1) cs))
+    → min most (1 + seen) ≡ longest group len (1 + length (take_while p (take len cs))) following
+alike_up_to_longest p cs group len following most seen is is_seen =
+    more_by group len following (prefix_len p cs) most seen is (is_seen ∙ alike_are p (most - 1) cs)
+    ∙ ap (λ (n : ℕ). longest group len (1 + n) following) (sym (alike_are p len cs))
+
 -- ---- what is found
 
 grouped_found_by : (b : Bool) (n bytes : ℕ) → grouped_spans (cond b (Some (record { characters = n; bytes = bytes })) None) ≡ cond b (n ∷ []) []

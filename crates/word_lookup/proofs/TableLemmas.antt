@@ -5,6 +5,7 @@ use Rattle.std.specs.List.{AllByRecursion}
 use Rattle.std.specs.Option.{option_map_or}
 use Rattle.std.proofs.lemmas.List.{drop_more, length-map}
 use Rattle.std.proofs.lemmas.Option.{same_Some, slice_get-get_or, slice_get-map}
+use Rattle.mj_model.specs.declared.category.CharInfo.{CharInfo}
 use Rattle.mj_model.specs.declared.matrix_sizes.MatrixSizes.{MatrixSizes}
 use Rattle.mj_model.specs.Tables.{Lexeme, Overlay, Tables, lexicons, lexicons_of}
 use Rattle.image_bytes.specs.ImageMeaning.{image_tables}
@@ -17,6 +18,8 @@ use Rattle.paths.specs.declared.entry_list.EntryList.TheVariants.{Lexicon}
 use Rattle.word_lookup.specs.Fitting.{IsUserOf}
 use Rattle.word_lookup.specs.Overlays.{overlay_of}
 use Rattle.word_lookup.specs.Surfaces.{all_tables, tokens_of}
+use Rattle.word_lookup.specs.declared.first_character.FirstCharacter.{FirstCharacter}
+use Rattle.word_lookup.proofs.DictionaryLaws.{is_system}
 use Rattle.word_lookup.proofs.UserLemmas.{laid_over}
 
 -- ---- one dictionary
@@ -64,6 +67,10 @@ pub fits_at : (ts : List Tables) (n : ℕ) (t : Tables) → AllByRecursion AreFi
 fits_at [] n t all h = absurd (cc)
 fits_at (u ∷ us) zero t all h = subst AreFitting (same_Some u t h) all.0
 fits_at (u ∷ us) (suc n) t all h = fits_at us n t all.1 h
+
+-- the first category of a character is one of the system's
+pub first_category : (d : Dictionaries) (f : FirstCharacter) → f.info ≡ (image_tables d.system.now).info f.character → f.info.head < length (image_tables d.system.now).categories
+first_category d f is = subst (λ (i : CharInfo). i.head < length (image_tables d.system.now).categories) (sym is) ((all_fit d).0.firsts (is_system d) f.character)
 
 -- ---- one dictionary after another
 

@@ -8,6 +8,7 @@ pub mod WordsHere
 pub mod Overlays
 pub mod BlankRuns
 pub mod CharacterRuns
+pub mod FirstCharacters
 pub mod TextRuns
 pub mod Props
 pub mod SameEntries

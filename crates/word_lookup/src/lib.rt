@@ -3,6 +3,7 @@
 
 mod blanks;
 mod dictionaries;
+mod first_character;
 mod known;
 mod overlay;
 mod run;

@@ -26,6 +26,7 @@ pub struct SeenRun {
 
 /// The run at the beginning of a text, from the categories `entry`; no more than `limit` characters
 /// are looked at. `range` is a guess at the range of their code points.
+#[inline(always)]
 pub fn run_up_to(
     system: &Dict,
     entry: CharInfo,
@@ -42,9 +43,16 @@ pub fn run_up_to(
         (drop result.characters (chars text.now)) }
 {
     let mut last = entry;
-    let mut characters = 0;
-    let mut bytes = 0;
-    for c in text.chars().take(limit) {
+    let mut left = text.chars();
+    for characters in 0..limit {
+        let bytes = text.len() - left.as_str().len();
+        let Some(c) = left.next() else {
+            return SeenRun {
+                characters,
+                bytes,
+                last,
+            };
+        };
         let next = system.info_near(c, range);
         if !last.shares(next) {
             return SeenRun {
@@ -53,13 +61,11 @@ pub fn run_up_to(
                 last,
             };
         }
-        characters += 1;
-        bytes += c.len_utf8();
         last = next;
     }
     SeenRun {
-        characters,
-        bytes,
+        characters: limit,
+        bytes: text.len() - left.as_str().len(),
         last,
     }
 }

@@ -1,6 +1,6 @@
 //! Runs of characters, for places of a text in turn.
 
-ghost use Rattle.std.specs.Prelude.{◌≡◌, ◌+◌, ◌<◌, ◌≤◌, ◌^◌, Some, min, length, chars, drop, IfSome, IsTrue};
+ghost use Rattle.std.specs.Prelude.{◌≡◌, ◌+◌, ◌<◌, ◌≤◌, ◌^◌, is_some, min, length, chars, drop, IfSome, IsTrue};
 ghost use Rattle.std.proofs.Props.{props};
 ghost use Rattle.std.specs.Char.{len_utf8};
 ghost use Rattle.image_bytes.specs.ImageMeaning.{image_tables};
@@ -13,6 +13,7 @@ use crate::run::{Run, run_up_to};
 use crate::unknown_start::UnknownStart;
 use crate::word_start::behind;
 use dict_image::Dict;
+use mj_model::CharInfo;
 use paths::{CharacterRun, LastRuns};
 
 impl UnknownStart<'_> {
@@ -40,21 +41,16 @@ impl UnknownStart<'_> {
             };
         }
         let at = self.at;
-        let begun = CharacterRun {
-            from: at.start,
-            to: at.start + self.first.len_utf8(),
-            following: 0,
-            last: self.info,
-            is_whole: false,
-        };
         let text = CategorizedText {
             system: self.system,
             text: at.text,
         };
-        let run = text.run_of_place(begun, at.start == at.place, limit, last);
+        let to = at.start + self.bytes;
+        let is_here = at.start == at.place;
+        let run = text.run_of_place(at.start, to, self.info, is_here, limit, last);
         Run {
-            characters: run.following.min(limit),
-            bytes: run.to - begun.to,
+            characters: run.characters.min(limit),
+            bytes: run.bytes,
         }
     }
 }
@@ -68,57 +64,76 @@ pub struct CategorizedText<'a> {
 }
 
 impl CategorizedText<'_> {
-    ghost use Rattle.word_lookup.specs.TextRuns.{AreRunsOf, IsRunOf};
+    ghost use Rattle.word_lookup.specs.TextRuns.{AreRunsOf, IsRunOf, LooksAt, TellsRun, run_begun};
 
-    /// The run of a place, from its first character on, looked at so far that it tells whether `limit` characters follow. `is_here` says
-    /// that its words begin at the place itself.
+    /// What follows in the run of a place behind its first character, which ends at `to` and has the categories `first`. It is looked at
+    /// so far that it tells whether `limit` characters follow. `is_here` says that the place's words begin at the place itself.
     #[inline(always)]
     fn run_of_place(
         self,
-        begun: CharacterRun,
+        from: usize,
+        to: usize,
+        first: CharInfo,
         is_here: bool,
         limit: usize,
         last: &mut LastRuns,
-    ) -> CharacterRun
+    ) -> Run
         requires system { (image_tables self.system.now).kind ≡ System }
-        requires begun { IsRunOf self begun }
+        requires begun { IsRunOf self (run_begun from to first) }
         requires last { AreRunsOf self last.old }
-        ensures run { IsRunOf self.entry result }
-        ensures from { result.from ≡ begun.from }
-        ensures tells { TellsUpTo limit result }
+        ensures run { TellsRun self.entry from to limit result }
         ensures last { AreRunsOf self.entry last.new }
         ensures blanks { last.new.blanks ≡ last.old.blanks }
     {
         if is_here {
-            self.run_in_turn(begun, limit, &mut last.here, &mut last.range)
+            self.run_in_turn(from, to, first, limit, &mut last.here, &mut last.range)
         } else {
-            self.run_in_turn(begun, limit, &mut last.behind_blanks, &mut last.range)
+            self.run_in_turn(
+                from,
+                to,
+                first,
+                limit,
+                &mut last.behind_blanks,
+                &mut last.range,
+            )
         }
     }
 
     /// The same, where `last` is the run that was looked at last for such places, if one was. `range` is a guess at the range of the code
     /// points there.
-    #[inline(always)]
+    #[inline(never)]
     fn run_in_turn(
         self,
-        begun: CharacterRun,
+        from: usize,
+        to: usize,
+        first: CharInfo,
         limit: usize,
         last: &mut Option<CharacterRun>,
         range: &mut usize,
-    ) -> CharacterRun
+    ) -> Run
         requires system { (image_tables self.system.now).kind ≡ System }
-        requires begun { IsRunOf self begun }
+        requires begun { IsRunOf self (run_begun from to first) }
         requires last { IfSome last.old (IsRunOf self) }
-        ensures run { IsRunOf self.entry result }
-        ensures from { result.from ≡ begun.from }
-        ensures tells { TellsUpTo limit result }
+        ensures run { TellsRun self.entry from to limit result }
+        ensures last { IfSome last.new (IsRunOf self.entry) }
         // So what was looked at is not looked at again for the places behind.
-        ensures kept { last.new ≡ Some result }
+        ensures kept { IfSome last.new (LooksAt from to result) }
+        ensures some { IsTrue (is_some last.new) }
     {
+        let begun = CharacterRun {
+            from,
+            to,
+            following: 0,
+            last: first,
+            is_whole: false,
+        };
         let seen = self.seen(begun, *last);
         let run = self.look_up_to(limit, seen, range);
         *last = Some(run);
-        run
+        Run {
+            characters: run.following,
+            bytes: run.to - to,
+        }
     }
 
     /// What is known of the run of a place: where the place lies in the run that was looked at last, the rest of that one.

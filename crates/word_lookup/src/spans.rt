@@ -1,11 +1,12 @@
 //! How many characters the unknown words of a place have. (MeCab, unk)
 
-ghost use Rattle.std.specs.Prelude.{◌≡◌, ◌+◌, ◌<◌, ◌≤◌, ◌||◌, ◌^◌, length, chars, drop, IfSome, max};
+ghost use Rattle.std.specs.Prelude.{◌≡◌, ◌+◌, ◌<◌, ◌≤◌, ◌||◌, ◌^◌, length, chars, drop, take, IfSome, max};
 ghost use Rattle.std.specs.Char.{len_utf8};
+ghost use Rattle.paths.specs.Run.{run, alike_with};
 ghost use Rattle.paths.specs.UnknownSpans.{spans_by, one_if_none};
 ghost use Rattle.image_bytes.specs.ImageMeaning.{image_tables};
 ghost use Rattle.word_lookup.specs.CharacterRuns.{AreCharacterRuns};
-ghost use Rattle.word_lookup.specs.Spans.{spans_in, grouped_with, longest_of, looked_ahead, HasBytes};
+ghost use Rattle.word_lookup.specs.Spans.{spans_in, grouped_with, longest_of, looked_ahead, surely_alike, HasBytes};
 
 use crate::run::{Run, alike_up_to};
 use crate::unknown_start::UnknownStart;
@@ -45,14 +46,29 @@ impl UnknownStart<'_> {
         }
         let ahead = look_ahead(category, grouping);
         let run = self.run_behind(ahead, last);
-        let following = behind(self.at.rest, self.first.len_utf8());
-        let most = usize::from(category.length);
-        let alike = 1 + alike_up_to(self.system, self.info, following, most);
         let spans = Spans {
-            grouped: grouped_run(category, grouping, self.first, run),
-            longest: longest_length(category, run.characters, alike),
+            grouped: grouped_run(category, grouping, self.bytes, run),
+            longest: self.longest_length(category, run.characters),
         };
         at_least_one(none_known, spans)
+    }
+
+    /// The longest of the lengths from 1 on, where so many characters follow in the run.
+    #[inline(always)]
+    fn longest_length(self, category: Category, following: usize) -> usize
+        requires { following ≤ run (image_tables self.system.now).info self.info
+            (chars (drop (len_utf8 self.first) self.at.rest.now)) }
+        ensures { result ≡ longest_of category following
+            (1 + alike_with self.entry.info (image_tables self.entry.system.now).info
+            (take category.length
+            (chars (drop (len_utf8 self.entry.first) self.entry.at.rest.now)))) }
+    {
+        let most = longest_in_run(category, following);
+        if most <= surely_alike(category) {
+            return most;
+        }
+        let behind_first = behind(self.at.rest, self.bytes);
+        most.min(1 + alike_up_to(self.system, self.info, behind_first, most - 1))
     }
 }
 
@@ -75,33 +91,41 @@ fn look_ahead(category: Category, grouping: u16) -> usize
     (usize::from(grouping) + 1).max(usize::from(category.length))
 }
 
-/// The whole run, where the category groups and no more characters than the grouping follow the first.
+/// The whole run, where the category groups and no more characters than the grouping follow the first, which takes `first` bytes.
 #[inline(always)]
-fn grouped_run(category: Category, grouping: u16, first: char, run: Run) -> Option<Run>
-    requires { len_utf8 first + run.bytes < 2 ^ 64 }
+fn grouped_run(category: Category, grouping: u16, first: usize, run: Run) -> Option<Run>
+    requires { first + run.bytes < 2 ^ 64 }
     ensures { result ≡ grouped_with category grouping first run }
 {
     if category.group && run.characters <= usize::from(grouping) {
         Some(Run {
             characters: 1 + run.characters,
-            bytes: first.len_utf8() + run.bytes,
+            bytes: first + run.bytes,
         })
     } else {
         None
     }
 }
 
-/// The longest of the lengths from 1 on.
+/// The longest of the lengths from 1 on, were all characters alike.
 #[inline(always)]
-fn longest_length(category: Category, following: usize, alike: usize) -> usize
-    ensures { result ≡ longest_of category following alike }
+fn longest_in_run(category: Category, following: usize) -> usize
+    ensures { result ≡ longest_of category following category.length }
 {
-    let longest = usize::from(category.length).min(alike);
+    let longest = usize::from(category.length);
     if category.group {
         longest.min(following)
     } else {
         longest
     }
+}
+
+/// How many characters are alike for sure, where so many are in the run: the first one, and in the run of a grouped category the second.
+#[inline(always)]
+fn surely_alike(category: Category) -> usize
+    ensures { result ≡ surely_alike category }
+{
+    if category.group { 2 } else { 1 }
 }
 
 /// One character, where nothing else is there.

@@ -17,9 +17,12 @@ pub struct UnknownStart<'a> {
     pub system: &'a Dict,
     pub at: WordStart<'a>,
     pub first: char,
+    /// How many bytes it takes.
+    pub bytes: usize,
     pub info: CharInfo,
     ghost is_system: { (image_tables system.now).kind ≡ System } by { Prim.hlevel props },
     ghost is_first: { IsFirst at.rest.now first (len_utf8 first) } by { Prim.hlevel props },
+    ghost bytes_are: { bytes ≡ len_utf8 first } by { Prim.hlevel props },
     ghost info_is: { info ≡ (image_tables system.now).info first } by { Prim.hlevel props },
     ghost has_category: { info.head < length (image_tables system.now).categories } by { Prim.hlevel props },
 }

@@ -1,49 +1,41 @@
-use Rattle.std.proofs.Common.{arith, rules, ◌≡◌, List, drop, refl, subst}
+use Rattle.std.proofs.Common.{arith, rules, ◌≡◌, List, drop, ap, refl, subst, ◌∙◌}
 use Rattle.std.specs.Prelude.{chars, OnOk}
 use Rattle.std.specs.Char.{len_utf8}
 use Rattle.mj_model.specs.declared.word.Word.{Word}
 use Rattle.word_lookup.specs.Overlays.{overlay_of}
 use Rattle.word_lookup.specs.Surfaces.{GrowsByWords}
 use Rattle.word_lookup.proofs.DictionaryLaws.{is_system}
-use Rattle.word_lookup.proofs.PlaceLemmas.{first_taken, none_there, unknown_are}
-use Rattle.word_lookup.proofs.SurfaceLemmas.{none_grown}
+use Rattle.word_lookup.proofs.FirstLemmas.{found}
+use Rattle.word_lookup.proofs.PlaceLemmas.{unknown_are}
+use Rattle.word_lookup.proofs.TableLemmas.{first_category}
 use Rattle.word_lookup.proofs.dictionaries.Dictionaries.append_unknown.Goals as goal
 
 pub invariant_of-start : goal.invariant_of-start
 unfolding overlay_of
-invariant_of-start c = record {
-  is_system = is_system c.args.self.now;
-  is_first = first_taken c.args.at.rest.now _ _ c.in-Some.first _ c.args.at.is_text c.chars.ensures.rest c.in-Some.ensures.steps.0 refl;
-  info_is = c.info_near-info.ensures.info;
-  has_category = c.info_near-info.ensures.first;
-}
+invariant_of-start c =
+    let d = c.args.self.now in
+    let f = found (overlay_of d).system.info c.args.at.rest.now c.args.first c.args.at.is_text c.requires.first in
+    record { is_system = is_system d; is_first = f.first; bytes_are = f.bytes; info_is = f.is; has_category = first_category d c.args.first f.is }
 
 pub returns-clause-appended : goal.returns-clause-appended
 unfolding overlay_of
 returns-clause-appended c =
     let o = overlay_of c.args.self.now in
-    let f = first_taken c.args.at.rest.now _ _ c.in-Some.first _ c.args.at.is_text c.chars.ensures.rest c.in-Some.ensures.steps.0 refl in
-    let head : c.from.result ≡ (o.system.info c.in-Some.first).head = search rules in
+    let first = c.args.first in
+    let f = found o.system.info c.args.at.rest.now first c.args.at.is_text c.requires.first in
+    let is_head : c.from.result ≡ first.info.head = search rules in
+    let head : c.from.result ≡ (o.system.info first.character).head = is_head ∙ ap (λ (i : _). i.head) f.is in
     let P : List Word → Type 0 = λ ws. OnOk c.append_spans.result (GrowsByWords o ws c.args.out.now.items c.append_spans.new.out.items) in
-    let are = unknown_are o c.args.none_known c.args.at.place c.args.at.start c.in-Some.first c.from.result (chars c.args.at.rest.now) (chars (drop (len_utf8 c.in-Some.first) c.args.at.rest.now)) _ _ f.split head refl c.spans-spans.ensures.spans in
+    let are = unknown_are o c.args.none_known c.args.at.place c.args.at.start first.character c.from.result (chars c.args.at.rest.now) (chars (drop (len_utf8 first.character) c.args.at.rest.now)) _ _ f.first.split head refl c.spans-spans.ensures.spans in
     subst P are c.append_spans.ensures.appended
-
-pub returns-in_default-clause-appended : goal.returns-in_default-clause-appended
-unfolding overlay_of
-returns-in_default-clause-appended c =
-    subst (λ (ws : List Word). GrowsByWords (overlay_of c.args.self.now) ws c.args.out.now.items c.args.out.now.items)
-    (none_there (overlay_of c.args.self.now) c.args.none_known c.args.at.place c.args.at.start c.args.at.rest.now _ c.args.at.is_text c.chars.ensures.rest c.in_default.ensures.steps.0.0)
-    (none_grown (overlay_of c.args.self.now) c.args.out.now.items)
-
-pub info_near-info-requires : goal.info_near-info-requires
-unfolding overlay_of
-info_near-info-requires c = is_system c.args.self.now
 
 pub invariant_of-entries : goal.invariant_of-entries
 unfolding overlay_of
 invariant_of-entries c =
-    let first = c.info_near-info.ensures.first in
-    let head : c.from.result ≡ c.info_near-info.result.head = search rules in
+    let d = c.args.self.now in
+    let f = found (overlay_of d).system.info c.args.at.rest.now c.args.first c.args.at.is_text c.requires.first in
+    let first = first_category d c.args.first f.is in
+    let head : c.from.result ≡ c.args.first.info.head = search rules in
     omega (arith, first, head)
 
 pub spans-spans-requires : goal.spans-spans-requires

@@ -1,12 +1,14 @@
 use Rattle.std.proofs.Common.{arith, List, length, take, ap, sym, ◌∙◌, subst}
-use Rattle.std.specs.Prelude.{OnOk}
+use Rattle.std.specs.Prelude.{OnOk, chars}
 use Rattle.mj_model.specs.declared.word.Word.{Word}
 use Rattle.paths.proofs.TextPaths.{words_there}
 use Rattle.word_lookup.specs.Overlays.{overlay_of}
 use Rattle.word_lookup.specs.Surfaces.{GrowsByWords}
 use Rattle.word_lookup.proofs.AppendLemmas.{on_err, on_err_of_ok, on_ok_of_err}
+use Rattle.word_lookup.proofs.BlankRunLemmas.{no_blanks_left}
 use Rattle.word_lookup.proofs.DictionaryLaws.{covers_all}
-use Rattle.word_lookup.proofs.PlaceLemmas.{no_words, place_within, text_there, skip_within, words_are}
+use Rattle.word_lookup.proofs.FirstLemmas.{none_found}
+use Rattle.word_lookup.proofs.PlaceLemmas.{ends_there, no_words, place_within, text_there, skip_within, words_are}
 use Rattle.word_lookup.proofs.SurfaceLemmas.{none_grown}
 use Rattle.word_lookup.proofs.dictionaries.Dictionaries.surfaces_in_turn.Goals as goal
 
@@ -52,3 +54,20 @@ returns-then-is_err-clause-kept c =
 pub returns-else-is_err-clause-kept : goal.returns-else-is_err-clause-kept
 unfolding overlay_of
 returns-else-is_err-clause-kept c = on_err_of_ok _ c.append_surfaces-appended.result c.is_err.result c.is_err.ensures.value c.if-is_err.false
+
+pub append_surfaces-appended-requires-clause-within : goal.append_surfaces-appended-requires-clause-within
+unfolding overlay_of
+append_surfaces-appended-requires-clause-within c =
+    let w = skip_within (overlay_of c.args.self.now) c.args.text.now c.args.place c.requires.place in
+    omega (arith, w, c.blanks_in_turn-start.ensures.behind, c.if-start-text.false)
+
+pub returns-in_default-clause-appended : goal.returns-in_default-clause-appended
+unfolding overlay_of
+returns-in_default-clause-appended c =
+    let o = overlay_of c.args.self.now in
+    let text = c.args.text.now in
+    let place = c.args.place in
+    let out = c.args.out.now.items in
+    let left = ap chars (sym c.behind.ensures) ∙ none_found o.system.info (chars c.behind.result.now) (sym c.in_default.is ∙ c.first_near.ensures) in
+    let none = no_words o text place place (no_blanks_left o text place left) (ends_there text place c.requires.place left) in
+    subst (λ (ws : List Word). GrowsByWords o ws out out) (sym none) (none_grown o out)
