@@ -118,6 +118,7 @@ impl CategorizedText<'_> {
         ensures last { IfSome last.new (IsRunOf self.entry) }
         // So what was looked at is not looked at again for the places behind.
         ensures kept { IfSome last.new (LooksAt from to result) }
+        ensures tells { IfSome last.new (TellsUpTo limit) }
         ensures some { IsTrue (is_some last.new) }
     {
         let begun = CharacterRun {
