@@ -1,6 +1,7 @@
 //! A text over dictionaries: its best path and its lattice.
 
-ghost use Rattle.std.specs.Prelude.{◌≡◌, ◌≤◌, length, slice_get, All, IfOk};
+ghost use Rattle.std.specs.Prelude.{◌≡◌, ◌≤◌, length, slice_get, All, IfOk, IsUtf8};
+ghost use Rattle.std.proofs.Props.{props};
 ghost use Rattle.mj_model.specs.declared.limits.TheConstants.{SENTENCE_MAX};
 ghost use Rattle.paths.specs.BestOver.{IsBestOver, cost_over};
 ghost use Rattle.word_lookup.specs.Overlays.{overlay_of};
@@ -17,9 +18,10 @@ use word_lookup::{CostsBefore, Dictionaries, SurfaceWords, have_same_entries};
 
 /// A text over dictionaries.
 #[derive(Drop)]
-pub(crate) struct DictionaryText<'a> {
-    pub(crate) dictionaries: &'a Dictionaries<'a>,
-    pub(crate) text: &'a str,
+pub struct DictionaryText<'a> {
+    pub dictionaries: &'a Dictionaries<'a>,
+    pub text: &'a str,
+    ghost is_text: { IsUtf8 text.now } by { Prim.hlevel props },
 }
 
 impl<'a> WordSource for DictionaryText<'a> {

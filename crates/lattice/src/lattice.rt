@@ -6,7 +6,7 @@ ghost use Rattle.paths.specs.BestOver.{IsBestOver, cost_over};
 ghost use Rattle.word_lookup.specs.Overlays.{overlay_of};
 
 use crate::dictionary_text::DictionaryText;
-use path_search::Search;
+use path_search::{BestPath, Search};
 use paths::Path;
 use std::alloc::{AllocError, Global};
 use word_lookup::Dictionaries;
@@ -26,6 +26,21 @@ impl Lattice {
             alloc,
             search: Search::new(alloc),
         }
+    }
+
+    /// The best path of a text of at most `SENTENCE_MAX` bytes, whose words are read from the lattice one after another. The lattice's
+    /// memory is used again.
+    pub fn find_best<'a>(
+        &'a mut self,
+        line: &'a DictionaryText<'a>,
+    ) -> Result<BestPath<'a, DictionaryText<'a>>, AllocError>
+        requires { length line.now.text.now ≤ SENTENCE_MAX }
+        ensures best { IfOk result (λ found.
+            IsBestOver (overlay_of line.now.dictionaries.now) line.now.text.now found.words) }
+        ensures total { IfOk result (λ found.
+            found.total ≡ cost_over (overlay_of line.now.dictionaries.now) found.words) }
+    {
+        self.search.find(line)
     }
 
     /// Makes `path` the best path of a text of at most `SENTENCE_MAX` bytes. Its memory and the lattice's are used again.

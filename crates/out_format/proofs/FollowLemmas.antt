@@ -1,8 +1,7 @@
 -- The words of a path may follow each other, and what the path costs up to each is far within 64 bits.
-use Rattle.std.proofs.Common.{◌≡◌, ℕ, ◌+◌, ◌*◌, ◌<◌, ◌≤◌, ◌^◌, List, [], ◌∷◌, length, drop, get_or, sym, ◌∙◌, ap, subst, arith, Contains}
+use Rattle.std.proofs.Common.{◌≡◌, ℕ, ◌*◌, ◌<◌, ◌≤◌, ◌^◌, List, [], ◌∷◌, length, subst, arith, Contains}
 use Rattle.std.specs.Prelude.{ℤ, pos, ◌+ℤ◌, IsTrue, IsUtf8}
 use Rattle.std.proofs.lemmas.Int.{ints}
-use Rattle.std.proofs.lemmas.List.{drop_more}
 use Rattle.mj_model.specs.declared.limits.TheConstants.{SENTENCE_MAX}
 use Rattle.mj_model.specs.declared.word.Word.{Word}
 use Rattle.mj_model.specs.Bounds.{IsWithin}
@@ -78,11 +77,10 @@ path_followable d text path u short (to, is) =
     let s = searchable d text u short in
     chain_followable o text (has_words d) s path 0 to 0 (pos 0) is.chain (λ p w h. (s.word_follows p w h).after_bos) s.places.begins (omega arith) none_low
 
--- the next word of a list
-pub next_followable : (o : Overlay) (line : List ℕ) (words : List Word) (w default : Word) (i right : ℕ) (cost : ℤ) → i < length words → w ≡ get_or words i default → AreFollowable o line right cost (drop i words)
-    → IsWordOf o line right w × IsLow cost × AreFollowable o line w.right ((cost +ℤ o.system.connection right w.left) +ℤ w.cost) (drop (i + 1) words)
-next_followable o line words w default i right cost in' here all =
-    subst (AreFollowable o line right cost) (drop_more words i default in' ∙ ap (λ (v : Word). v ∷ drop (i + 1) words) (sym here)) all
+-- the next word
+pub next_followable : (o : Overlay) (line : List ℕ) (rest ws : List Word) (w : Word) (right : ℕ) (cost : ℤ) → rest ≡ w ∷ ws → AreFollowable o line right cost rest
+    → IsWordOf o line right w × IsLow cost × AreFollowable o line w.right ((cost +ℤ o.system.connection right w.left) +ℤ w.cost) ws
+next_followable o line rest ws w right cost split all = subst (AreFollowable o line right cost) split all
 
 -- ---- the feature that a word has
 

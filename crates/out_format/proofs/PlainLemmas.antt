@@ -1,5 +1,5 @@
 -- Words that show nothing but their surfaces and their features, one after another: what the path costs up to them changes nothing.
-use Rattle.std.proofs.Common.{◌≡◌, ℕ, ◌+◌, ◌<◌, ◌≤◌, List, [], ◌∷◌, ◌++◌, append-nil, length, take, drop, get_or, refl, sym, ap, ◌∙◌, subst}
+use Rattle.std.proofs.Common.{◌≡◌, ℕ, ◌+◌, ◌<◌, List, [], ◌∷◌, ◌++◌, append-nil, length, take, get_or, refl, sym, ap, ◌∙◌, subst}
 use Rattle.std.specs.Prelude.{ℤ, pos, ◌+ℤ◌, All}
 use Rattle.std.proofs.lemmas.List.{take_more}
 use Rattle.std.proofs.lemmas.List.Concat.{flat_map-append}
@@ -49,37 +49,37 @@ plain_pieces : (f : Format) (origin : Origin) → HasPlainWords f → All IsPlai
 plain_pieces f (Known dict number) plain = plain.node
 plain_pieces f (Unknown number) plain = plain.unk
 
--- what the words so far show was appended, and those that are left may follow them
-pub record PlainSoFar (o : Overlay) (f : Format) (line : List ℕ) (words : List Word) (i : ℕ) (old mid : List ℕ) : Type 0 where
+-- what the words before the rest show was appended, and the rest may follow them
+pub record PlainSoFar (o : Overlay) (f : Format) (line : List ℕ) (words rest : List Word) (old mid : List ℕ) : Type 0 where
   pub right : ℕ
   pub cost : ℤ
-  pub follow : AreFollowable o line right cost (drop i words)
-  pub shown : WordsSoFar o f line words i right cost old mid
+  pub follow : AreFollowable o line right cost rest
+  pub shown : WordsSoFar o f line words rest right cost old mid
 
-pub no_plain_yet : (o : Overlay) (f : Format) (line : List ℕ) (words : List Word) (old : List ℕ) → AreFollowable o line 0 (pos 0) words → PlainSoFar o f line words 0 old old
+pub no_plain_yet : (o : Overlay) (f : Format) (line : List ℕ) (words : List Word) (old : List ℕ) → AreFollowable o line 0 (pos 0) words → PlainSoFar o f line words words old old
 no_plain_yet o f line words old follow = record { right = 0; cost = pos 0; follow = follow; shown = no_words_yet o f line words old }
 
 -- the next word's surface stands in the line
-pub next_surface : (o : Overlay) (f : Format) (line : List ℕ) (words : List Word) (w default : Word) (i : ℕ) (old mid : List ℕ) → i < length words → w ≡ get_or words i default → PlainSoFar o f line words i old mid → HasSurfaceIn line w
-next_surface o f line words w default i old mid in' here before =
-    let next = next_followable o line words w default i before.right before.cost in' here before.follow in
+pub next_surface : (o : Overlay) (f : Format) (line : List ℕ) (words rest ws : List Word) (w : Word) (old mid : List ℕ) → rest ≡ w ∷ ws → PlainSoFar o f line words rest old mid → HasSurfaceIn line w
+next_surface o f line words rest ws w old mid split before =
+    let next = next_followable o line rest ws w before.right before.cost split before.follow in
     record { forward = next.0.forward; within = next.0.within }
 
-pub plain_more : (o : Overlay) (f : Format) (line : List ℕ) (words : List Word) (w default : Word) (i : ℕ) (ps : List Piece) (old mid new : List ℕ) → HasPlainWords f → i < length words → w ≡ get_or words i default → ps ≡ word_pieces f w.origin
-    → PlainSoFar o f line words i old mid
+pub plain_more : (o : Overlay) (f : Format) (line : List ℕ) (words rest ws : List Word) (w : Word) (ps : List Piece) (old mid new : List ℕ) → HasPlainWords f → rest ≡ w ∷ ws → ps ≡ word_pieces f w.origin
+    → PlainSoFar o f line words rest old mid
     → (shown : List ℕ) × ShowsPieces (ShowsAnywhere o line w) ps shown × (new ≡ mid ++ shown)
-    → PlainSoFar o f line words (i + 1) old new
-plain_more o f line words w default i ps old mid new plain in' here pieces before (front, is, e) =
+    → PlainSoFar o f line words ws old new
+plain_more o f line words rest ws w ps old mid new plain split pieces before (front, is, e) =
     let now = (before.cost +ℤ o.system.connection before.right w.left) +ℤ w.cost in
-    let next = next_followable o line words w default i before.right before.cost in' here before.follow in
+    let next = next_followable o line rest ws w before.right before.cost split before.follow in
     let standing : Standing = record { word = w; right_before = before.right; cost_so_far = now } in
     let all : All IsPlain ps = subst (All IsPlain) (sym pieces) (plain_pieces f w.origin plain) in
     record {
       right = w.right;
       cost = now;
       follow = next.2;
-      shown = word_more o f line words w default i before.right before.cost now ps old mid new in' here refl pieces before.shown (front, shown_standing o line standing ps front all is, e);
+      shown = word_more o f line words rest ws w before.right before.cost now ps old mid new split refl pieces before.shown (front, shown_standing o line standing ps front all is, e);
     }
 
-pub all_plain : (o : Overlay) (f : Format) (line : List ℕ) (words : List Word) (i : ℕ) (old new : List ℕ) → length words ≤ i → PlainSoFar o f line words i old new → (shown : List ℕ) × ShowsWords o f line 0 (pos 0) words shown × (new ≡ old ++ shown)
-all_plain o f line words i old new past before = all_words o f line words i before.right before.cost old new past before.shown
+pub all_plain : (o : Overlay) (f : Format) (line : List ℕ) (words rest : List Word) (old new : List ℕ) → rest ≡ [] → PlainSoFar o f line words rest old new → (shown : List ℕ) × ShowsWords o f line 0 (pos 0) words shown × (new ≡ old ++ shown)
+all_plain o f line words rest old new none before = all_words o f line words rest before.right before.cost old new none before.shown

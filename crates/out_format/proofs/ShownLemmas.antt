@@ -1,7 +1,7 @@
 -- What pieces and words show, one after another.
-use Rattle.std.proofs.Common.{◌≡◌, ℕ, ◌+◌, ◌<◌, ◌≤◌, List, [], ◌∷◌, ◌++◌, length, take, drop, get_or, refl, sym, ◌∙◌, ap, subst, Result, Ok, Err, append_assoc, append-nil}
+use Rattle.std.proofs.Common.{◌≡◌, ℕ, ◌+◌, ◌<◌, List, [], ◌∷◌, ◌++◌, length, take, get_or, refl, sym, ◌∙◌, ap, subst, Result, Ok, Err, append_assoc, append-nil}
 use Rattle.std.specs.Prelude.{ℤ, pos, ◌+ℤ◌, OnOk}
-use Rattle.std.proofs.lemmas.List.{take_more, drop_more, drop_all}
+use Rattle.std.proofs.lemmas.List.{take_more}
 use Rattle.std.proofs.lemmas.List.Concat.{flat_map-append}
 use Rattle.mj_model.specs.declared.format_item.FormatItem.{FormatItem}
 use Rattle.mj_model.specs.declared.word.Word.{Word}
@@ -56,23 +56,22 @@ part_more ShowsOne parts i part old mid new in' here so_far (front, is, e) =
 abbrev pub no_word : Word
 no_word = record { place = 0; start = 0; end = 0; left = 0; right = 0; cost = pos 0; origin = Known 0 0 }
 
--- what the words so far show was appended: it and what the rest shows is what all show
-pub record WordsSoFar (o : Overlay) (f : Format) (line : List ℕ) (words : List Word) (i right : ℕ) (cost : ℤ) (old mid : List ℕ) : Type 0 where
+-- what the words before the rest show was appended: it and what the rest shows is what all show
+pub record WordsSoFar (o : Overlay) (f : Format) (line : List ℕ) (words rest : List Word) (right : ℕ) (cost : ℤ) (old mid : List ℕ) : Type 0 where
   pub so_far : List ℕ
   pub appended : mid ≡ old ++ so_far
-  pub with_rest : (more : List ℕ) → ShowsWords o f line right cost (drop i words) more → ShowsWords o f line 0 (pos 0) words (so_far ++ more)
+  pub with_rest : (more : List ℕ) → ShowsWords o f line right cost rest more → ShowsWords o f line 0 (pos 0) words (so_far ++ more)
 
-pub no_words_yet : (o : Overlay) (f : Format) (line : List ℕ) (words : List Word) (old : List ℕ) → WordsSoFar o f line words 0 0 (pos 0) old old
+pub no_words_yet : (o : Overlay) (f : Format) (line : List ℕ) (words : List Word) (old : List ℕ) → WordsSoFar o f line words words 0 (pos 0) old old
 no_words_yet o f line words old = record { so_far = []; appended = sym (append-nil old); with_rest = λ more h. h }
 
-pub word_more : (o : Overlay) (f : Format) (line : List ℕ) (words : List Word) (w default : Word) (i right : ℕ) (cost next : ℤ) (ps : List Piece) (old mid new : List ℕ) → i < length words → w ≡ get_or words i default
+pub word_more : (o : Overlay) (f : Format) (line : List ℕ) (words rest ws : List Word) (w : Word) (right : ℕ) (cost next : ℤ) (ps : List Piece) (old mid new : List ℕ) → rest ≡ w ∷ ws
     → next ≡ (cost +ℤ o.system.connection right w.left) +ℤ w.cost → ps ≡ word_pieces f w.origin
-    → WordsSoFar o f line words i right cost old mid
+    → WordsSoFar o f line words rest right cost old mid
     → (shown : List ℕ) × ShowsPieces (ShowsItem o line (record { word = w; right_before = right; cost_so_far = next })) ps shown × (new ≡ mid ++ shown)
-    → WordsSoFar o f line words (i + 1) w.right next old new
-word_more o f line words w default i right cost next ps old mid new in' here costs pieces before (front, is, e) =
+    → WordsSoFar o f line words ws w.right next old new
+word_more o f line words rest ws w right cost next ps old mid new split costs pieces before (front, is, e) =
     let now = (cost +ℤ o.system.connection right w.left) +ℤ w.cost in
-    let split : drop i words ≡ w ∷ drop (i + 1) words = drop_more words i default in' ∙ ap (λ (v : Word). v ∷ drop (i + 1) words) (sym here) in
     let shown : ShowsPieces (ShowsItem o line (record { word = w; right_before = right; cost_so_far = now })) (word_pieces f w.origin) front =
     subst (λ (z : ℤ). ShowsPieces (ShowsItem o line (record { word = w; right_before = right; cost_so_far = z })) (word_pieces f w.origin) front) costs
     (subst (λ (qs : List Piece). ShowsPieces (ShowsItem o line (record { word = w; right_before = right; cost_so_far = next })) qs front) pieces is) in
@@ -80,16 +79,16 @@ word_more o f line words w default i right cost next ps old mid new in' here cos
       so_far = before.so_far ++ front;
       appended = e ∙ ap (λ (xs : List ℕ). xs ++ front) before.appended ∙ append_assoc old before.so_far front;
       with_rest = λ more h.
-          let rest : ShowsWords o f line w.right now (drop (i + 1) words) more = subst (λ (z : ℤ). ShowsWords o f line w.right z (drop (i + 1) words) more) costs h in
-          let all : ShowsWords o f line right cost (drop i words) (front ++ more) = subst (λ (ws : List Word). ShowsWords o f line right cost ws (front ++ more)) (sym split) (front, more, shown, rest, refl) in
+          let behind : ShowsWords o f line w.right now ws more = subst (λ (z : ℤ). ShowsWords o f line w.right z ws more) costs h in
+          let all : ShowsWords o f line right cost rest (front ++ more) = subst (λ (vs : List Word). ShowsWords o f line right cost vs (front ++ more)) (sym split) (front, more, shown, behind, refl) in
           subst (ShowsWords o f line 0 (pos 0) words) (sym (append_assoc before.so_far front more)) (before.with_rest (front ++ more) all);
     }
 
-pub all_words : (o : Overlay) (f : Format) (line : List ℕ) (words : List Word) (i right : ℕ) (cost : ℤ) (old new : List ℕ) → length words ≤ i → WordsSoFar o f line words i right cost old new
+pub all_words : (o : Overlay) (f : Format) (line : List ℕ) (words rest : List Word) (right : ℕ) (cost : ℤ) (old new : List ℕ) → rest ≡ [] → WordsSoFar o f line words rest right cost old new
     → (shown : List ℕ) × ShowsWords o f line 0 (pos 0) words shown × (new ≡ old ++ shown)
-all_words o f line words i right cost old new past before =
-    let none : ShowsWords o f line right cost (drop i words) [] = subst (λ (ws : List Word). ShowsWords o f line right cost ws []) (sym (drop_all i words past)) refl in
-    (before.so_far, subst (ShowsWords o f line 0 (pos 0) words) (append-nil before.so_far) (before.with_rest [] none), before.appended)
+all_words o f line words rest right cost old new none before =
+    let nothing : ShowsWords o f line right cost rest [] = subst (λ (ws : List Word). ShowsWords o f line right cost ws []) (sym none) refl in
+    (before.so_far, subst (ShowsWords o f line 0 (pos 0) words) (append-nil before.so_far) (before.with_rest [] nothing), before.appended)
 
 -- ---- a path
 

@@ -22,4 +22,4 @@ mod word_in_path;
 
 pub use format::Format;
 pub use mj_model::{FormatFault, FormatKind, FormatPart};
-pub use printing::{cost_with, print};
+pub use printing::{cost_with, print, print_words};

@@ -13,13 +13,13 @@ use word_lookup::Dictionaries;
 
 /// A word of a line. Neither what the path costs up to it nor the fields of its feature are asked for.
 #[derive(Clone, Copy)]
-pub struct PlainWord<'a> {
+pub struct PlainWord<'a, 'w> {
     pub dictionaries: &'a Dictionaries<'a>,
     pub text: &'a str,
-    pub word: &'a Word,
+    pub word: &'w Word,
 }
 
-impl<'a> ShowsItems for PlainWord<'a> {
+impl<'a, 'w> ShowsItems for PlainWord<'a, 'w> {
     ghost use Rattle.out_format.specs.Plain.{HasSurfaceIn, ShowsAnywhere};
     ghost use Rattle.word_lookup.specs.Overlays.{overlay_of};
 

@@ -17,7 +17,7 @@ use crate::plain_word::PlainWord;
 use crate::shows_items::append_parts;
 use crate::word_in_path::WordInPath;
 use mj_model::Word;
-use paths::Path;
+use paths::{ListedWords, Path, WordsInTurn};
 use std::alloc::{AllocError, Global};
 use word_lookup::Dictionaries;
 
@@ -38,8 +38,28 @@ pub fn print(
         text.now path.now.words.items) out.old.items out.new.items) }
     ensures kept { OnErr result (out.new.items ≡ out.old.items) }
 {
+    let words = ListedWords { left: &path.words };
+    print_words(format, dictionaries, text, words, path.total, out)
+}
+
+/// The same of a path whose words are read one after another, and which costs `total`.
+pub fn print_words<W: WordsInTurn + Drop>(
+    format: &Format,
+    dictionaries: &Dictionaries<'_>,
+    text: &str,
+    words: W,
+    total: i64,
+    out: &mut Vec<u8>,
+) -> Result<(), AllocError>
+    requires short { length text.now ≤ SENTENCE_MAX }
+    requires path { IsPathOver (overlay_of dictionaries.now) text.now (W.left words) }
+    requires total { total ≡ cost_over (overlay_of dictionaries.now) (W.left words) }
+    ensures appended { OnOk result (GrowsBy (ShowsPath (overlay_of dictionaries.now) format.now
+        text.now (W.left words)) out.old.items out.new.items) }
+    ensures kept { OnErr result (out.new.items ≡ out.old.items) }
+{
     let count = out.len();
-    let appended = append_path(format, dictionaries, text, path, out);
+    let appended = append_path(format, dictionaries, text, words, total, out);
     if appended.is_err() {
         out.truncate(count);
     }
@@ -47,40 +67,37 @@ pub fn print(
 }
 
 /// Appends the parts before the first word, of the words, and behind the last one.
-fn append_path<'a>(
+fn append_path<'a, W: WordsInTurn + Drop>(
     format: &Format,
     dictionaries: &'a Dictionaries<'a>,
     text: &'a str,
-    path: &'a Path,
+    words: W,
+    total: i64,
     out: &mut Vec<u8>,
 ) -> Result<(), AllocError>
     requires words { AreFollowable (overlay_of dictionaries.now) text.now 0 (pos 0)
-        path.now.words.items }
-    requires total { path.now.total ≡ cost_over (overlay_of dictionaries.now) path.now.words.items }
+        (W.left words) }
+    requires total { total ≡ cost_over (overlay_of dictionaries.now) (W.left words) }
     ensures appended { OnOk result (GrowsBy (ShowsPath (overlay_of dictionaries.now) format.now
-        text.now path.now.words.items) out.old.items out.new.items) }
+        text.now (W.left words)) out.old.items out.new.items) }
     ensures kept { take (vec_len out.old) out.new.items ≡ out.old.items }
 {
     append_parts(&Line { text, cost: 0 }, format.bos_parts(), out)?;
-    append_all_words(format, dictionaries, text, &path.words, out)?;
-    let behind = Line {
-        text,
-        cost: path.total,
-    };
-    append_parts(&behind, format.eos_parts(), out)
+    append_all_words(format, dictionaries, text, words, out)?;
+    append_parts(&Line { text, cost: total }, format.eos_parts(), out)
 }
 
 /// Appends the parts of words, of which the first follows BOS. Where nothing but surfaces and features is shown, nothing else is asked for.
-fn append_all_words<'a>(
+fn append_all_words<'a, W: WordsInTurn + Drop>(
     format: &Format,
     dictionaries: &'a Dictionaries<'a>,
     text: &'a str,
-    words: &'a [Word],
+    words: W,
     out: &mut Vec<u8>,
 ) -> Result<(), AllocError>
-    requires { AreFollowable (overlay_of dictionaries.now) text.now 0 (pos 0) words.now }
+    requires { AreFollowable (overlay_of dictionaries.now) text.now 0 (pos 0) (W.left words) }
     ensures appended { OnOk result (GrowsBy (ShowsWords (overlay_of dictionaries.now) format.now
-        text.now 0 (pos 0) words.now) out.old.items out.new.items) }
+        text.now 0 (pos 0) (W.left words)) out.old.items out.new.items) }
     ensures kept { take (vec_len out.old) out.new.items ≡ out.old.items }
 {
     if format.has_plain_words() {
@@ -91,24 +108,25 @@ fn append_all_words<'a>(
 }
 
 /// The same in a format that shows nothing else of words.
-fn append_plain_words<'a>(
+fn append_plain_words<'a, W: WordsInTurn + Drop>(
     format: &Format,
     dictionaries: &'a Dictionaries<'a>,
     text: &'a str,
-    words: &'a [Word],
+    words: W,
     out: &mut Vec<u8>,
 ) -> Result<(), AllocError>
-    requires words { AreFollowable (overlay_of dictionaries.now) text.now 0 (pos 0) words.now }
+    requires words { AreFollowable (overlay_of dictionaries.now) text.now 0 (pos 0) (W.left words) }
     requires plain { HasPlainWords format.now }
     ensures appended { OnOk result (GrowsBy (ShowsWords (overlay_of dictionaries.now) format.now
-        text.now 0 (pos 0) words.now) out.old.items out.new.items) }
+        text.now 0 (pos 0) (W.left words)) out.old.items out.new.items) }
     ensures kept { take (vec_len out.old) out.new.items ≡ out.old.items }
 {
-    for word in words {
+    let mut words = words;
+    while let Some(word) = words.next_word() {
         let shown = PlainWord {
             dictionaries,
             text,
-            word,
+            word: &word,
         };
         append_parts(&shown, format.word_parts(word.origin), out)?;
     }
@@ -116,32 +134,33 @@ fn append_plain_words<'a>(
 }
 
 /// The same in any format.
-fn append_words<'a>(
+fn append_words<'a, W: WordsInTurn + Drop>(
     format: &Format,
     dictionaries: &'a Dictionaries<'a>,
     text: &'a str,
-    words: &'a [Word],
+    words: W,
     out: &mut Vec<u8>,
 ) -> Result<(), AllocError>
-    requires { AreFollowable (overlay_of dictionaries.now) text.now 0 (pos 0) words.now }
+    requires { AreFollowable (overlay_of dictionaries.now) text.now 0 (pos 0) (W.left words) }
     ensures appended { OnOk result (GrowsBy (ShowsWords (overlay_of dictionaries.now) format.now
-        text.now 0 (pos 0) words.now) out.old.items out.new.items) }
+        text.now 0 (pos 0) (W.left words)) out.old.items out.new.items) }
     ensures kept { take (vec_len out.old) out.new.items ≡ out.old.items }
 {
+    let mut words = words;
     let mut right_before: u16 = 0;
     let mut cost_so_far: i64 = 0;
     let mut last = LastToken::none();
-    for word in words {
-        cost_so_far = cost_with(dictionaries, right_before, cost_so_far, word);
+    while let Some(word) = words.next_word() {
+        cost_so_far = cost_with(dictionaries, right_before, cost_so_far, &word);
         let parts = format.word_parts(word.origin);
-        last.turn_to(dictionaries, word, parts);
+        last.turn_to(dictionaries, &word, parts);
         let standing = WordInPath {
             dictionaries,
             line: Line {
                 text,
                 cost: cost_so_far,
             },
-            word,
+            word: &word,
             right_before,
             fields: &last.fields,
         };

@@ -21,7 +21,7 @@ use word_lookup::Dictionaries;
 pub struct WordInPath<'a, 'f> {
     pub dictionaries: &'a Dictionaries<'a>,
     pub line: Line<'a>,
-    pub word: &'a Word,
+    pub word: &'f Word,
     pub right_before: u16,
     pub fields: &'f SoughtFields<'a>,
 }

@@ -114,10 +114,14 @@ module _ (f : Surface → List Word) where
       let y = length-append (bundle_words f r) (node_words f (take b rs)) in
       omega (arith, more, x, y)
 
-  -- before a node there is a bundle
-  pub some_bundle : (bundles : List Bundle) (behind node : ℕ) → node < start bundles behind → 0 < behind
-  some_bundle bundles zero node less = absurd (omega (arith, less))
-  some_bundle bundles (suc n) node less = omega arith
+  -- behind the bundles before a node there is one more
+  pub bundle_before : (bundles : List Bundle) (number node : ℕ) → start bundles number ≤ node → node < length (node_words f bundles) → number < length bundles
+  bundle_before bundles number node behind less = elim (cases_lt number (length bundles)) [
+    | inl within ↦ within
+    | inr past ↦
+        let all : start bundles number ≡ length (node_words f bundles) = ap (λ (rs : List Bundle). length (node_words f rs)) (take_all number bundles past) in
+        absurd (omega (arith, all, behind, less))
+  ]
 
   -- with one more bundle
   pub words_push : (bundles : List Bundle) (r : Bundle) → node_words f (bundles ++ r ∷ []) ≡ node_words f bundles ++ bundle_words f r

@@ -14,11 +14,11 @@ use Rattle.path_search.specs.Nodes.{AreLinked, AreBundles, IsLastHead, IsLatest,
 use Rattle.paths.specs.Best.{IsSource, IsBestPath}
 use Rattle.paths.specs.Cost.{path_cost}
 use Rattle.paths.specs.ChainsBack.{IsChainTo, cost_with_next}
-use Rattle.path_search.specs.Lattice.{Traces, IsBelow, IsLattice, IsJoin, LinksGoBack, IsLastEnd}
+use Rattle.path_search.specs.Lattice.{Traces, IsLattice, IsJoin, IsLastEnd}
 use Rattle.std.proofs.lemmas.List.{reverse-reverse}
 use Rattle.paths.proofs.ChainsBackLemmas.{best_path_from, cost_reversed}
 use Rattle.path_search.proofs.Choice.{some_bos, some_end}
-use Rattle.path_search.proofs.Links.{below_all, traced_same}
+use Rattle.path_search.proofs.Links.{traced_same}
 use Rattle.path_search.proofs.BundleNodes.{node_bundle, bundle_node}
 
 module _ (words : ℕ → List Word) (conn : ℕ → ℕ → ℤ) (len : ℕ) (source : IsSource words conn len) where
@@ -79,12 +79,6 @@ module _ (words : ℕ → List Word) (conn : ℕ → ℕ → ℤ) (len : ℕ) (s
         let b = is_last.each f.0 f.1 f.2 in
         let e : f.1.word.end ≡ w.end = ap (λ (u : Word). u.end) f.3 in
         omega (arith, b, e, c.0)
-
-    pub links_back : LinksGoBack nodes
-    links_back i n at = (l.best i n at).below
-
-    pub join_below : (j : Join) → IsJoin words conn nodes last 0 j → IsBelow (link_of j.before) (length nodes)
-    join_below j join = below_all nodes (link_of j.before) join.chain join.traced
 
     -- the words from the node before EOS, turned round, are the best path
     pub path_is_best : (j : Join) (ws vs : List Word) → IsJoin words conn nodes last 0 j → Traces nodes (link_of j.before) ws → vs ≡ reverse ws → IsBestPath words conn vs

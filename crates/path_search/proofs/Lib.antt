@@ -4,6 +4,7 @@ pub mod BundleNodes
 pub mod SlotLemmas
 pub mod JoinLemmas
 pub mod Noting
+pub mod NumbersBack
 pub mod EndsLemmas
 pub mod ThinnedLemmas
 pub mod Least

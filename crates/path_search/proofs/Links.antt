@@ -6,7 +6,7 @@ use Rattle.mj_model.specs.declared.word.Word.{Word}
 use Rattle.path_search.specs.declared.node.Bundle.{Bundle}
 use Rattle.path_search.specs.Nodes.{IsLatest, AreLinked, Node, link_of}
 use Rattle.path_search.specs.Lattice.{Traces, IsBelow}
-use Rattle.std.proofs.lemmas.List.{append_assoc, append-nil, length_push, length-set, get_or-set_same, get_or-set_other}
+use Rattle.std.proofs.lemmas.List.{length_push, length-set, get_or-set_same, get_or-set_other}
 use Rattle.path_search.proofs.EndsLemmas.{link_size}
 use Rattle.path_search.proofs.Pushed.{get_push_old, get_push_new, get_push_cases}
 
@@ -45,17 +45,6 @@ traced_same nodes (Some i) (v ∷ vs) (w ∷ ws) s t =
     let heads : v ≡ w = sym s.2 ∙ ap (λ (x : Node). x.word) same ∙ t.2 in
     let tails : vs ≡ ws = traced_same nodes t.0.before vs ws rest t.3 in
     cc
-
--- the words so far, with what the link leads to, are what the first link leads to
-abbrev pub TracesOn : List Node → Option ℕ → List Word → Option ℕ → Type 0
-TracesOn nodes from words link = (ws : List Word) → Traces nodes link ws → Traces nodes from (words ++ ws)
-
--- one step back
-pub traces_more : (nodes : List Node) (from : Option ℕ) (words : List Word) (i : ℕ) (n : Node) → slice_get nodes i ≡ Some n → TracesOn nodes from words (Some i) → TracesOn nodes from (words ++ n.word ∷ []) n.before
-traces_more nodes from words i n at h ws t = rw append_assoc (h (n.word ∷ ws) (n, at, refl, t))
-
-pub traces_all : (nodes : List Node) (from : Option ℕ) (words : List Word) → TracesOn nodes from words None → Traces nodes from words
-traces_all nodes from words h = rw append-nil at (h [] tt)
 
 -- ---- the latest bundle that ends at a place, with one more bundle
 

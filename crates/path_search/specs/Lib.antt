@@ -8,3 +8,4 @@ pub mod SearchedText
 pub mod Places
 pub mod Alike
 pub mod Connections
+pub mod BestNodes

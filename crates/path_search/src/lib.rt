@@ -2,6 +2,7 @@
 #![tactic(auto)]
 
 mod alike;
+mod best_words;
 mod building;
 mod ends;
 mod joining;
@@ -15,5 +16,6 @@ mod source;
 mod thinning;
 mod tracing;
 
-pub use search::Search;
+pub use best_words::BestWords;
+pub use search::{BestPath, Search};
 pub use source::WordSource;

@@ -1,14 +1,15 @@
-//! The search that is kept from text to text.
+//! The search for the best path.
 
-ghost use Rattle.std.specs.Prelude.{◌≡◌, OnOk, OnErr};
+ghost use Rattle.std.specs.Prelude.{◌≡◌, IfOk, OnOk, OnErr};
 ghost use Rattle.path_search.specs.SearchedText.{CanBeSearched, IsBestIn, cost_of};
 
+use crate::best_words::BestWords;
 use crate::building::{Room, build};
 use crate::nodes::Nodes;
 use crate::source::WordSource;
 use crate::tracing::trace_best;
 use mj_model::Word;
-use paths::Path;
+use paths::{Path, WordsInTurn};
 use std::alloc::{AllocError, Global};
 use std::mem;
 
@@ -21,8 +22,15 @@ use std::mem;
 pub struct Search {
     nodes: Nodes,
     room: Room,
-    /// The words of the best path.
+    /// The words of the best path, where they are asked for at once.
     best: Vec<Word>,
+}
+
+/// The best path of a text, whose words are read one after another, and what it costs.
+#[derive(Drop)]
+pub struct BestPath<'a, S: WordSource> {
+    pub words: BestWords<'a, S>,
+    pub total: i64,
 }
 
 impl Search {
@@ -33,6 +41,20 @@ impl Search {
             room: Room::new(alloc),
             best: Vec::new(alloc),
         }
+    }
+
+    /// The best path of a text. The search's memory is used again.
+    pub fn find<'a, S: WordSource>(
+        &'a mut self,
+        source: &'a S,
+    ) -> Result<BestPath<'a, S>, AllocError>
+        requires { CanBeSearched (S.says source.now) }
+        // It is before every other path.
+        ensures best { IfOk result (λ found. IsBestIn (S.says source.now) found.words) }
+        ensures total { IfOk result (λ found.
+            found.total ≡ cost_of (S.says source.now) found.words) }
+    {
+        find_in(source, &mut self.nodes, &mut self.room)
     }
 
     /// Makes `path` the best path of a text. Its memory and the search's are used again.
@@ -47,10 +69,41 @@ impl Search {
         ensures words_kept { OnErr result (path.new.words.items ≡ path.old.words.items) }
         ensures total_kept { OnErr result (path.new.total ≡ path.old.total) }
     {
-        build(source, &mut self.nodes, &mut self.room)?;
-        let total = trace_best(source, &self.nodes, &mut self.room.ends, &mut self.best)?;
+        let found = find_in(source, &mut self.nodes, &mut self.room)?;
+        let total = found.total;
+        read_all(found.words, &mut self.best)?;
         mem::swap(&mut path.words, &mut self.best);
         path.total = total;
         Ok(())
     }
+}
+
+/// The best path of a text, with its nodes here.
+fn find_in<'a, S: WordSource>(
+    source: &'a S,
+    nodes: &'a mut Nodes,
+    room: &mut Room,
+) -> Result<BestPath<'a, S>, AllocError>
+    requires { CanBeSearched (S.says source.now) }
+    ensures best { IfOk result (λ found. IsBestIn (S.says source.now) found.words) }
+    ensures total { IfOk result (λ found. found.total ≡ cost_of (S.says source.now) found.words) }
+{
+    build(source, nodes, room)?;
+    let total = trace_best(source, nodes, &mut room.ends)?;
+    Ok(BestPath {
+        words: BestWords::new(source, nodes),
+        total,
+    })
+}
+
+/// Fills `words` with those that are left.
+fn read_all<W: WordsInTurn + Drop>(left: W, words: &mut Vec<Word>) -> Result<(), AllocError>
+    ensures { OnOk result (words.new.items ≡ W.left left) }
+{
+    let mut left = left;
+    words.clear();
+    while let Some(word) = left.next_word() {
+        words.push(word)?;
+    }
+    Ok(())
 }

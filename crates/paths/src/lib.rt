@@ -8,6 +8,7 @@ mod last_runs;
 pub mod laws;
 mod path;
 mod surface;
+mod words_in_turn;
 
 pub use blank_run::BlankRun;
 pub use character_run::CharacterRun;
@@ -15,3 +16,4 @@ pub use entry_list::EntryList;
 pub use last_runs::LastRuns;
 pub use path::Path;
 pub use surface::Surface;
+pub use words_in_turn::{ListedWords, WordsInTurn};

@@ -1,8 +1,8 @@
 //! Lines are printed as the words of their best path.
 
-use lattice::LineMemory;
+use lattice::{DictionaryText, LineMemory};
 use line_stream::LinePrinter;
-use out_format::{Format, print};
+use out_format::{Format, print_words};
 use std::alloc::{AllocError, Global};
 use word_lookup::Dictionaries;
 
@@ -23,14 +23,17 @@ impl<'d, 'f> LinePrinter for WordsPrinter<'d, 'f> {
     ghost tells = { λ p. Tells (overlay_of p.dictionaries) p.format.now };
 
     fn show(&self, kept: &mut LineMemory, text: &str, out: &mut Vec<u8>) -> Result<(), AllocError> {
-        kept.lattice
-            .fill_best(&self.dictionaries, text, &mut kept.path)?;
-        print(
-            self.alloc,
+        let line = DictionaryText {
+            dictionaries: &self.dictionaries,
+            text,
+        };
+        let found = kept.lattice.find_best(&line)?;
+        print_words(
             self.format,
             &self.dictionaries,
             text,
-            &kept.path,
+            found.words,
+            found.total,
             out,
         )
     }

@@ -2,11 +2,13 @@
 
 mod asked;
 mod dictionaries;
+mod found;
 mod growths;
 mod starved;
 
 use super::all_match;
 use super::sample::{A, AB, B, C, WordRow, has_number, sample_of};
+use found::expect_found;
 use path_search::Search;
 use paths::Path;
 use std::alloc::{AllocError, Global};
@@ -50,7 +52,7 @@ fn expect_path(
     Ok(())
 }
 
-/// Asks a new search and this one for the best path of a text.
+/// Asks a new search and this one for the best path of a text, and this one once more for its words one after another.
 fn expect_best(
     rt: &(impl Abort + Alloc<A = Global>),
     search: &mut Search,
@@ -58,7 +60,8 @@ fn expect_best(
     row: BestRow<'_>,
 ) -> Result<(), AllocError> {
     expect_path(rt, &mut Search::new(rt.alloc()), what, row)?;
-    expect_path(rt, search, what, row)
+    expect_path(rt, search, what, row)?;
+    expect_found(rt, search, what, row)
 }
 
 const DEAR_AB: WordRow = (0, 2, 900);

@@ -7,10 +7,9 @@ use Rattle.out_format.proofs.ShownLemmas.{path_shown}
 use Rattle.out_format.proofs.printing.append_path.Goals as goal
 
 pub returns-clause-appended : goal.returns-clause-appended
-returns-clause-appended c =
-    let of_words = c.in_ok-append_all_words.ensures.appended in
-    let total = c.args.path.now.total in
+returns-clause-appended g c =
+    let total = c.args.total in
     let fits : SFits w64 total = search rules in
     let same : to_z w64 (of_z w64 total) ≡ total = to_z-of_z w64 total fits in
-    path_shown c.append_parts-2.result (overlay_of c.args.dictionaries.now) c.args.format.now c.args.text.now c.args.path.now.words.items (to_z w64 (of_z w64 total)) _ _ c.args.out.now.items _ _
-    c.append_parts-2.new.out.items c.bos_parts.ensures c.eos_parts.ensures (same ∙ c.requires.total) c.in_ok-append_parts.ensures.appended (rw c.deref.ensures.value at of_words) c.append_parts-2.ensures.appended
+    path_shown c.append_parts-2.result (overlay_of c.args.dictionaries.now) c.args.format.now c.args.text.now (g.W.WordsInTurn.left c.args.words) (to_z w64 (of_z w64 total)) _ _ c.args.out.now.items _ _
+    c.append_parts-2.new.out.items c.bos_parts.ensures c.eos_parts.ensures (same ∙ c.requires.total) c.in_ok-append_parts.ensures.appended c.in_ok-append_all_words.ensures.appended c.append_parts-2.ensures.appended

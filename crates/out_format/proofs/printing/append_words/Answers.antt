@@ -1,4 +1,4 @@
-use Rattle.std.proofs.Common.{◌≡◌, Option, Some, None, rules, refl, sym, ◌∙◌, subst, get_or, drop, ◌+◌}
+use Rattle.std.proofs.Common.{◌≡◌, Option, Some, None, rules, sym, ◌∙◌, subst}
 use Rattle.std.specs.Prelude.{ℤ, ◌+ℤ◌}
 use Rattle.std.proofs.lemmas.Int.{to_z-of_z}
 use mir.Val.{to_z, of_z, SFits}
@@ -8,52 +8,54 @@ use Rattle.word_lookup.proofs.AppendLemmas.{front_kept}
 use Rattle.word_lookup.specs.Overlays.{overlay_of}
 use Rattle.out_format.specs.Followable.{AreFollowable}
 use Rattle.out_format.proofs.FollowLemmas.{has_feature, next_followable}
-use Rattle.out_format.proofs.ShownLemmas.{no_word, no_words_yet, word_more, all_words}
+use Rattle.out_format.proofs.ShownLemmas.{no_words_yet, word_more, all_words}
 use Rattle.out_format.proofs.printing.append_words.Goals as goal
 
 pub loop-word-init : goal.loop-word-init
-loop-word-init c = record {
+loop-word-init g c = record {
   token = λ origin is. let clash : ◌≡◌ {A = Option Origin} None (Some origin) = sym c.none-last.ensures ∙ is in absurd (cc);
   follow = c.requires;
-  shown = no_words_yet (overlay_of c.args.dictionaries.now) c.args.format.now c.args.text.now c.args.words.now c.args.out.now.items;
+  shown = no_words_yet (overlay_of c.args.dictionaries.now) c.args.format.now c.args.text.now (g.W.WordsInTurn.left c.args.words) c.args.out.now.items;
 }
 
 pub cost_with-cost_so_far-requires-clause-low : goal.cost_with-cost_so_far-requires-clause-low
-cost_with-cost_so_far-requires-clause-low c =
-    (next_followable (overlay_of c.args.dictionaries.now) c.args.text.now c.args.words.now (get_or c.args.words.now c.loop-word.word-index no_word) no_word c.loop-word.word-index c.loop-word.right_before
-    (to_z w64 c.loop-word.cost_so_far-bits) c.loop-word-test.true refl c.loop-word.invariant.follow).1
+cost_with-cost_so_far-requires-clause-low g c =
+    (next_followable (overlay_of c.args.dictionaries.now) c.args.text.now (g.W.WordsInTurn.left c.loop-word.words) (g.W.WordsInTurn.left c.next_word.new.self) c.in-Some.word c.loop-word.right_before
+    (to_z w64 c.loop-word.cost_so_far-bits) c.in-Some.ensures c.loop-word.invariant.follow).1
 
 pub append_parts-requires : goal.append_parts-requires
-append_parts-requires c = record {
-  word = (next_followable (overlay_of c.args.dictionaries.now) c.args.text.now c.args.words.now (get_or c.args.words.now c.loop-word.word-index no_word) no_word c.loop-word.word-index c.loop-word.right_before
-      (to_z w64 c.loop-word.cost_so_far-bits) c.loop-word-test.true refl c.loop-word.invariant.follow).0;
+append_parts-requires g c = record {
+  word = (next_followable (overlay_of c.args.dictionaries.now) c.args.text.now (g.W.WordsInTurn.left c.loop-word.words) (g.W.WordsInTurn.left c.next_word.new.self) c.in-Some.word c.loop-word.right_before
+      (to_z w64 c.loop-word.cost_so_far-bits) c.in-Some.ensures c.loop-word.invariant.follow).0;
   feature = has_feature _ _ _ c.turn_to.ensures.feature;
 }
 
 pub returns-in_err-append_parts-clause-kept : goal.returns-in_err-append_parts-clause-kept
-returns-in_err-append_parts-clause-kept c = front_kept _ _ _ _ _ (search rules) (c.append_parts.ensures.kept ∙ c.loop-word.invariant.shown.appended)
+returns-in_err-append_parts-clause-kept g c = front_kept _ _ _ _ _ (search rules) (c.append_parts.ensures.kept ∙ c.loop-word.invariant.shown.appended)
 
 pub loop-word-preserved : goal.loop-word-preserved
-loop-word-preserved c =
+loop-word-preserved g c =
     let o = overlay_of c.args.dictionaries.now in
     let line = c.args.text.now in
-    let words = c.args.words.now in
-    let i = c.loop-word.word-index in
-    let w = get_or words i no_word in
+    let all = g.W.WordsInTurn.left c.args.words in
+    let rest = g.W.WordsInTurn.left c.loop-word.words in
+    let others = g.W.WordsInTurn.left c.next_word.new.self in
+    let w = c.in-Some.word in
     let right = c.loop-word.right_before in
     let cost = to_z w64 c.loop-word.cost_so_far-bits in
     let result = c.cost_with-cost_so_far.result in
     let next = to_z w64 (of_z w64 result) in
     let fits : SFits w64 result = search rules in
     let costs : next ≡ (cost +ℤ o.system.connection right w.left) +ℤ w.cost = to_z-of_z w64 result fits ∙ c.cost_with-cost_so_far.ensures in
-    let follow = next_followable o line words w no_word i right cost c.loop-word-test.true refl c.loop-word.invariant.follow in
+    let follow = next_followable o line rest others w right cost c.in-Some.ensures c.loop-word.invariant.follow in
     record {
       token = c.turn_to.ensures.token;
-      follow = subst (λ (z : ℤ). AreFollowable o line w.right z (drop (i + 1) words)) (sym costs) follow.2;
-      shown = word_more o c.args.format.now line words w no_word i right cost next _ c.args.out.now.items c.loop-word.out.items c.append_parts.new.out.items c.loop-word-test.true refl costs c.word_parts-parts.ensures
+      follow = subst (λ (z : ℤ). AreFollowable o line w.right z others) (sym costs) follow.2;
+      shown = word_more o c.args.format.now line all rest others w right cost next _ c.args.out.now.items c.loop-word.out.items c.append_parts.new.out.items c.in-Some.ensures costs c.word_parts-parts.ensures
           c.loop-word.invariant.shown c.in_ok-append_parts.ensures.appended;
     }
 
 pub returns-clause-appended : goal.returns-clause-appended
-returns-clause-appended c =
-    all_words (overlay_of c.args.dictionaries.now) c.args.format.now c.args.text.now c.args.words.now c.loop-word.word-index _ _ c.args.out.now.items c.loop-word.out.items c.loop-word-test.false c.loop-word.invariant.shown
+returns-clause-appended g c =
+    all_words (overlay_of c.args.dictionaries.now) c.args.format.now c.args.text.now (g.W.WordsInTurn.left c.args.words) (g.W.WordsInTurn.left c.loop-word.words) _ _ c.args.out.now.items c.loop-word.out.items c.in_default.ensures.0
+    c.loop-word.invariant.shown

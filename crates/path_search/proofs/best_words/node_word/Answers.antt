@@ -1,7 +1,7 @@
 use Rattle.std.proofs.Common.{◌≡◌, ◌-◌, ◌<◌, List, Some, get_or, length, slice_get, subst, sym}
 use Rattle.mj_model.specs.declared.word.Word.{Word}
 use Rattle.path_search.proofs.BundleNodes.{no_bundle, node_has_word, node_word_within}
-use Rattle.path_search.proofs.tracing.node_word.Goals as goal
+use Rattle.path_search.proofs.best_words.node_word.Goals as goal
 
 pub word-requires : goal.word-requires
 word-requires g c =
