@@ -10,6 +10,8 @@ pub mod RangeLemmas
 pub mod InfoLemmas
 pub mod InfoTableLemmas
 pub mod FormedLemmas
+pub mod RowLemmas
+pub mod NumberedIdLemmas
 pub mod CostTableLemmas
 pub mod CategoryLemmas
 pub mod ProgressLemmas

@@ -7,6 +7,7 @@ use Rattle.mj_model.specs.Tables.{Tables}
 use Rattle.image_bytes.specs.ImageSections.{AreCosts, stored_cost}
 use Rattle.dict_image.specs.declared.costs_before.CostRow.{CostRow}
 use Rattle.dict_image.specs.declared.costs_before.CostRow.TheVariants as row
+use Rattle.dict_image.specs.declared.costs_before.FarRow.{FarRow}
 use Rattle.dict_image.specs.declared.costs_before.SectionRow.{SectionRow}
 
 -- those in section 1: one for each right id of the table
@@ -15,8 +16,8 @@ costs_in_section s = map (λ right. stored_cost s.sizes s.costs.now right s.left
 
 -- those of a row
 abbrev pub costs_in_row : CostRow → List ℤ
-costs_in_row (row.InSection s) = costs_in_section s
 costs_in_row (row.InRow costs) = costs.now
+costs_in_row (row.Far r) = costs_in_section r.section
 
 -- the section has a table of these sizes, the left id lies within them, and right ids are of 32 bits
 pub record IsSectionRow (s : SectionRow) : Type 0 where
@@ -24,10 +25,19 @@ pub record IsSectionRow (s : SectionRow) : Type 0 where
   pub left : s.left < s.sizes.left
   pub rights : s.sizes.right < 2 ^ 32
 
+-- the cost of a right id in section 1
+abbrev pub stored_in : SectionRow → ℕ → ℤ
+stored_in s right = stored_cost s.sizes s.costs.now right s.left
+
+-- the section can be read, and what lies near is what it has
+pub record IsFarRow (r : FarRow) : Type 0 where
+  pub section : IsSectionRow r.section
+  pub near : (right number : ℕ) (cost : ℤ) → slice_get r.numbers.now right ≡ Some number → slice_get r.near.now number ≡ Some cost → cost ≡ stored_in r.section right
+
 -- a row can be read
 abbrev pub IsCostRow : CostRow → Type 0
-IsCostRow (row.InSection s) = IsSectionRow s
 IsCostRow (row.InRow costs) = Unit {0}
+IsCostRow (row.Far r) = IsFarRow r
 
 -- by right id, they are what is stored before this left id
 abbrev pub AreStoredBefore : MatrixSizes → List ℕ → ℕ → List ℤ → Type 0

@@ -1,22 +1,33 @@
 -- The table of connection costs.
-use Rattle.std.specs.Prelude.{◌≡◌, ℕ, ℤ, ◌+◌, ◌*◌, ◌<◌, Some, List, length, slice_get}
+use Rattle.std.specs.Prelude.{ℕ, ℤ, ◌*◌, ◌&&◌, Bool, List, nat_le, not}
 use Rattle.mj_model.specs.declared.matrix_sizes.MatrixSizes.{MatrixSizes}
+use Rattle.mj_model.specs.Overlays.{is_user}
+use Rattle.mj_model.specs.Tables.{Tables}
 use Rattle.image_bytes.specs.ImageSections.{stored_cost}
+use Rattle.dict_image.specs.declared.cost_table.TheConstants.{COPIED_MAX}
 use Rattle.dict_image.specs.declared.cost_table.CostTable.{CostTable}
 use Rattle.dict_image.specs.declared.cost_table.CostTable.TheVariants as table
+use Rattle.dict_image.specs.NearCosts.{AreNear}
+use Rattle.dict_image.specs.Rows.{AreRows}
+
+-- there are no more pairs of ids than are copied
+abbrev pub are_few_pairs : MatrixSizes → Bool
+are_few_pairs sizes = nat_le (sizes.left * sizes.right) COPIED_MAX
+
+-- a system dictionary has more of them
+abbrev pub has_far_costs : Tables → Bool
+has_far_costs t = not (is_user t.kind) && not (are_few_pairs t.sizes)
+
+-- the cost before a left id and after a right id
+abbrev pub cost_before : MatrixSizes → List ℕ → ℕ → ℕ → ℤ
+cost_before sizes costs left right = stored_cost sizes costs right left
 
 -- the rows of the left ids before this one: each has the costs after each right id
-pub record AreRows (sizes : MatrixSizes) (costs : List ℕ) (end : ℕ) (rows : List ℤ) : Type 0 where
-  pub many : length rows ≡ end * sizes.right
-  pub each : (left right : ℕ) → left < end → right < sizes.right → slice_get rows (left * sizes.right + right) ≡ Some (stored_cost sizes costs right left)
+abbrev pub AreRowsTo : MatrixSizes → List ℕ → ℕ → List ℤ → Type 0
+AreRowsTo sizes costs end rows = AreRows (cost_before sizes costs) sizes.right end rows
 
--- rows grew by so many costs before a left id
-pub record GrowsByRow (sizes : MatrixSizes) (costs : List ℕ) (left count : ℕ) (old new : List ℤ) : Type 0 where
-  pub many : length new ≡ length old + count
-  pub kept : (i : ℕ) → i < length old → slice_get new i ≡ slice_get old i
-  pub each : (right : ℕ) → right < count → slice_get new (length old + right) ≡ Some (stored_cost sizes costs right left)
-
--- a table of rows has all of them
+-- a table of rows has all of them, and what lies near is what the section says
 abbrev pub IsCostTable : MatrixSizes → List ℕ → CostTable → Type 0
 IsCostTable sizes costs table.InSection = Unit {0}
-IsCostTable sizes costs (table.InRows rows) = AreRows sizes costs sizes.left rows.items
+IsCostTable sizes costs (table.InRows rows) = AreRowsTo sizes costs sizes.left rows.items
+IsCostTable sizes costs (table.Near near) = AreNear sizes costs near

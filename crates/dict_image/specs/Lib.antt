@@ -4,6 +4,10 @@ pub mod Tokens
 pub mod Ranges
 pub mod Infos
 pub mod InfoTables
+pub mod Rows
+pub mod NumberedIds
+pub mod ContextIds
+pub mod NearCosts
 pub mod CostTables
 pub mod CostRows
 pub mod Categories

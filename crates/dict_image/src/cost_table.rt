@@ -3,15 +3,17 @@ ghost use Rattle.std.specs.Prelude.{◌≡◌, ◌*◌, ◌<◌, IfOk, OnOk};
 ghost use Rattle.image_bytes.specs.ImageBytes.{kind_of};
 ghost use Rattle.image_bytes.specs.ImageSections.{AreCosts};
 ghost use Rattle.mj_model.specs.Tables.{System};
-ghost use Rattle.dict_image.specs.CostTables.{AreRows, GrowsByRow, IsCostTable};
+ghost use Rattle.dict_image.specs.CostTables.{AreRowsTo, IsCostTable, are_few_pairs, cost_before};
+ghost use Rattle.dict_image.specs.Rows.{GrowsByRow};
 
 use crate::costs::cost_at;
+use crate::near_costs::NearCosts;
 use image_bytes::Header;
 use mj_model::MatrixSizes;
 use std::alloc::{AllocError, Global};
 
 /// A matrix of more pairs of ids is not copied.
-const COPIED_MAX: usize = 1 << 23;
+pub(crate) const COPIED_MAX: usize = 1 << 23;
 
 /// Where connection costs are looked up.
 #[derive(Drop)]
@@ -20,6 +22,8 @@ pub(crate) enum CostTable {
     InSection,
     /// In a row for each left id, by right id: the search asks for many right ids before one left id.
     InRows(Vec<i16>),
+    /// Those between some ids near one another, and the others in section 1.
+    Near(NearCosts),
 }
 
 /// Where the connection costs of a dictionary are looked up. Those of a system dictionary with at most `COPIED_MAX` pairs take memory: 2
@@ -33,10 +37,17 @@ pub(crate) fn cost_table_of(
     ensures { IfOk result (λ table. IsCostTable header.now.sizes costs.now table) }
 {
     let sizes = header.sizes;
-    if header.is_user() || pairs(sizes) > COPIED_MAX {
+    if header.is_user() || !are_few(sizes) {
         return Ok(CostTable::InSection);
     }
     Ok(CostTable::InRows(cost_rows(alloc, costs, sizes)?))
+}
+
+/// Whether there are no more pairs of ids than are copied.
+pub(crate) fn are_few(sizes: MatrixSizes) -> bool
+    ensures { result ≡ are_few_pairs sizes }
+{
+    pairs(sizes) <= COPIED_MAX
 }
 
 /// How many pairs of ids there are.
@@ -49,7 +60,7 @@ fn pairs(sizes: MatrixSizes) -> usize
 /// The costs of a matrix, row by left id.
 fn cost_rows(alloc: Global, costs: &[u8], sizes: MatrixSizes) -> Result<Vec<i16>, AllocError>
     requires { AreCosts sizes costs.now }
-    ensures { IfOk result (λ rows. AreRows sizes costs.now sizes.left rows.items) }
+    ensures { IfOk result (λ rows. AreRowsTo sizes costs.now sizes.left rows.items) }
 {
     let mut rows = Vec::with_capacity(alloc, pairs(sizes))?;
     for left in 0..sizes.left {
@@ -68,7 +79,7 @@ fn append_row(
     requires costs { AreCosts sizes costs.now }
     requires left { left < sizes.left }
     ensures { OnOk result
-        (GrowsByRow sizes costs.now left sizes.right rows.old.items rows.new.items) }
+        (GrowsByRow (cost_before sizes costs.now left) sizes.right rows.old.items rows.new.items) }
 {
     for right in 0..sizes.right {
         rows.push(cost_at(costs, sizes, right, left))?;

@@ -1,14 +1,15 @@
 //! The connection costs before words of one left id.
-ghost use Rattle.std.specs.Prelude.{◌≡◌, ◌+◌, ◌*◌, ◌<◌, ◌≤◌, Some, length, slice_get, slice_range};
+ghost use Rattle.std.specs.Prelude.{IfSome, ◌≡◌, ◌*◌, ◌<◌, Some, length, slice_get};
 ghost use Rattle.image_bytes.specs.ImageMeaning.{image_tables};
 ghost use Rattle.image_bytes.specs.ImageSections.{AreCosts};
 ghost use Rattle.mj_model.specs.Tables.{System};
-ghost use Rattle.dict_image.specs.CostRows.{AreCostsBefore, AreStoredBefore, IsCostRow, IsSectionRow, costs_in_row, costs_in_section};
+ghost use Rattle.dict_image.specs.CostRows.{AreCostsBefore, AreStoredBefore, IsCostRow, IsFarRow, IsSectionRow, costs_in_row, costs_in_section, stored_in};
 ghost use Rattle.dict_image.specs.CostTables.{IsCostTable};
 
 use crate::cost_table::CostTable;
 use crate::costs::cost_at;
 use crate::dict::Dict;
+use crate::rows::row_of;
 use image_bytes::Section::Costs;
 use mj_model::MatrixSizes;
 use std::marker::Model;
@@ -33,10 +34,10 @@ impl<'a> Model for CostsBefore<'a> {
 /// Where the costs before one left id lie.
 #[derive(Drop)]
 pub(crate) enum CostRow<'a> {
-    /// In section 1, far from one another.
-    InSection(SectionRow<'a>),
     /// In a row.
     InRow(&'a [i16]),
+    /// In section 1, far from one another, and some of them in a row too.
+    Far(FarRow<'a>),
 }
 
 /// Those in section 1, of a table of these sizes.
@@ -47,6 +48,14 @@ pub(crate) struct SectionRow<'a> {
     pub left: u32,
 }
 
+/// Those in section 1, with the row of those that lie near one another. A right id that has one there has its number in `numbers`.
+#[derive(Clone, Copy, Drop)]
+pub(crate) struct FarRow<'a> {
+    pub near: &'a [i16],
+    pub numbers: &'a [u16],
+    pub section: SectionRow<'a>,
+}
+
 impl<'a> CostsBefore<'a> {
     /// What it costs to set a word of the left id behind one of this right id.
     #[inline(always)]
@@ -55,8 +64,8 @@ impl<'a> CostsBefore<'a> {
         ensures { slice_get self.now right ≡ Some result }
     {
         match &self.row {
-            CostRow::InSection(row) => cost_in_section(*row, right),
             CostRow::InRow(costs) => cost_in_row(costs, right),
+            CostRow::Far(row) => far_cost(*row, right),
         }
     }
 }
@@ -68,6 +77,29 @@ fn cost_in_row(costs: &[i16], right: usize) -> i16
     ensures { slice_get costs.now right ≡ Some result }
 {
     costs[right]
+}
+
+/// The cost of a right id, near the others where it has one there.
+#[inline(always)]
+fn far_cost(row: FarRow<'_>, right: usize) -> i16
+    requires row { IsFarRow row }
+    requires there { right < length (costs_in_section row.section) }
+    ensures { slice_get (costs_in_section row.entry.section) right ≡ Some result }
+{
+    if let Some(cost) = near_cost(row, right) {
+        return cost;
+    }
+    cost_in_section(row.section, right)
+}
+
+/// That of a right id in the row of those that lie near one another, if it has one there.
+#[inline(always)]
+fn near_cost(row: FarRow<'_>, right: usize) -> Option<i16>
+    requires row { IsFarRow row }
+    ensures { IfSome result (λ cost. cost ≡ stored_in row.entry.section right) }
+{
+    let number = *row.numbers.get(right)?;
+    row.near.get(usize::from(number)).copied()
 }
 
 /// The cost of a right id, by section 1.
@@ -108,20 +140,20 @@ fn row_before<'a>(
     ensures row { IsCostRow result }
     ensures costs { AreStoredBefore sizes costs.now left (costs_in_row result) }
 {
-    let left = u32::from(left);
+    let section = SectionRow {
+        costs,
+        sizes,
+        left: u32::from(left),
+    };
     match table {
-        CostTable::InSection => CostRow::InSection(SectionRow { costs, sizes, left }),
-        CostTable::InRows(rows) => CostRow::InRow(row_of(rows, sizes.right, left)),
+        CostTable::InSection => CostRow::Far(FarRow {
+            near: &[],
+            numbers: &[],
+            section,
+        }),
+        CostTable::InRows(rows) => {
+            CostRow::InRow(row_of(rows, sizes.right as usize, usize::from(left)))
+        }
+        CostTable::Near(near) => near.row(section),
     }
-}
-
-/// A row of a table of rows, by its number; each has this many costs.
-#[inline(always)]
-fn row_of(rows: &[i16], width: u32, number: u32) -> &[i16]
-    requires { number * width + width ≤ length rows.now }
-    ensures { result.now ≡ slice_range rows.now (number * width) (number * width + width) }
-{
-    let width = width as usize;
-    let from = number as usize * width;
-    &rows[from..from + width]
 }

@@ -127,6 +127,14 @@ impl Dict {
         &self.tables.costs
     }
 
+    /// Looks connection costs up in another table from now on.
+    pub(crate) fn set_cost_table(&mut self, table: CostTable)
+        requires { IsCostTableIn self.old table }
+        ensures { self.new ≡ self.old }
+    {
+        self.tables.costs = table;
+    }
+
     /// Where the categories of code points are looked up.
     #[inline(always)]
     pub(crate) fn info_table(&self) -> &InfoTable

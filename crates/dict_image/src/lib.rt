@@ -2,6 +2,7 @@
 #![tactic(auto)]
 
 mod categories;
+mod context_ids;
 mod cost_table;
 mod costs;
 mod costs_before;
@@ -9,6 +10,7 @@ mod dict;
 mod entries;
 mod entry_ref;
 mod entry_row;
+mod far_costs;
 mod hits;
 mod ids_and_cost;
 mod info_table;
@@ -22,11 +24,15 @@ mod listed_range;
 mod loading;
 mod lookup;
 mod lookup_tables;
+mod near_costs;
 mod numbered;
+mod numbered_ids;
 mod ranges;
+mod rows;
 mod system;
 mod token_row;
 
+pub use context_ids::ContextIds;
 pub use costs_before::CostsBefore;
 pub use dict::Dict;
 pub use entries::Entries;
@@ -36,4 +42,5 @@ pub use hits::Prefixes;
 pub use ids_and_cost::IdsAndCost;
 pub use image_bytes::DigestTest;
 pub use loading::{load, load_by, load_without_digest, load_written};
+pub use numbered_ids::{NUMBERED_MAX, NumberedIds};
 pub use token_row::TokenRow;

@@ -1,0 +1,12 @@
+//! Costs in rows of one width.
+ghost use Rattle.std.specs.Prelude.{◌≡◌, ◌+◌, ◌*◌, ◌≤◌, length, slice_range};
+
+/// A row of a table of rows, by its number; each has this many costs.
+#[inline(always)]
+pub(crate) fn row_of(rows: &[i16], width: usize, number: usize) -> &[i16]
+    requires { number * width + width ≤ length rows.now }
+    ensures { result.now ≡ slice_range rows.now (number * width) (number * width + width) }
+{
+    let from = number * width;
+    &rows[from..from + width]
+}
