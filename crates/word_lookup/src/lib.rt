@@ -4,6 +4,7 @@
 mod blanks;
 mod dictionaries;
 mod first_character;
+mod ids_of_text;
 mod known;
 mod overlay;
 mod run;
