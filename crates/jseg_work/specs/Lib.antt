@@ -1,3 +1,4 @@
+pub mod Begun
 pub mod Directories
 pub mod Formatting
 pub mod Images

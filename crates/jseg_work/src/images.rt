@@ -5,10 +5,11 @@ ghost use Rattle.programs.specs.Faults.{Names};
 ghost use Rattle.programs.specs.declared.fault.Fault.TheVariants.{Overlay};
 ghost use Rattle.jseg_work.specs.Images.{path_at_fault, path_or};
 
+use crate::beginning::begin;
 use crate::cutting::Manner;
 use crate::printing::cut_over;
 use dict_image::DigestTest;
-use mj_model::{Counted, OverlayFault};
+use mj_model::{Counted, OverlayFault, RunFault};
 use programs::{Fault, Stage, dictionaries_at, dictionary_at};
 use std::alloc::Global;
 use std::io::Write;
@@ -22,10 +23,13 @@ pub fn cut_by_images(
     digest: DigestTest,
     manner: &Manner<'_>,
 ) -> Result<u64, Fault> {
-    let system = dictionary_at(rt, dic, digest)?;
+    let mut system = dictionary_at(rt, dic, digest)?;
     manner.narrator.say(Stage::Loaded { path: dic });
     let overlays = dictionaries_at(rt, users, digest)?;
-    let mut reader = Counted::new(rt.reader());
+    let text = begin(rt.alloc(), &mut system, &overlays, rt.reader()).map_err(|_refused| Fault::Run(
+        RunFault::Memory(0),
+    ))?;
+    let mut reader = Counted::new(text);
     let mut writer = Counted::new(rt.stdout());
     let cut = cut_over(
         rt.alloc(),

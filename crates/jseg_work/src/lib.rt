@@ -1,6 +1,8 @@
 //! What `jseg` does: the text on standard input is cut by the dictionary that its command line names, or images are listed.
 #![tactic(auto)]
 
+mod beginning;
+mod begun;
 mod cutting;
 mod formatting;
 mod images;

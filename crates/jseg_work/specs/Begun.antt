@@ -1,0 +1,16 @@
+-- A text whose first read was made before it is asked for.
+use Rattle.std.specs.Prelude.{ℕ, Bool, List, [], Option, Some, if◌then◌else◌, option_map}
+use Rattle.std.specs.Fmt.{option_append}
+use Rattle.std.specs.Io.Chain.{chain_remaining, chain_second}
+use Rattle.std.specs.Io.Cursor.{cursor_remaining}
+use Rattle.jseg_work.specs.declared.begun.Begun.{Begun}
+
+-- the bytes that come of a text of which some were read: none where the read said that nothing follows
+abbrev pub left_after : Bool → List ℕ → Option (List ℕ) → Option (List ℕ)
+left_after is_ended read rest = if is_ended then option_map (λ bytes. []) rest else option_append (Some read) rest
+
+-- the bytes that are still to come, where they are known
+abbrev pub left_of : {R : Type 0} → (R → Option (List ℕ)) → Begun R → Option (List ℕ)
+left_of rest begun = if begun.is_ended
+    then option_map (λ bytes. []) (rest (chain_second begun.text))
+    else chain_remaining (cursor_remaining (λ v. Some v.items)) rest begun.text
