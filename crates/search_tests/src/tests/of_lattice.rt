@@ -1,6 +1,6 @@
 //! The best paths of small texts.
 
-mod asked;
+pub(crate) mod asked;
 mod dictionaries;
 mod found;
 mod growths;

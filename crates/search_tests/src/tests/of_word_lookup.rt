@@ -4,6 +4,7 @@ mod characters;
 mod expected_words;
 mod in_turn;
 mod layouts;
+mod near_costs;
 mod overlays;
 mod starved;
 mod words;

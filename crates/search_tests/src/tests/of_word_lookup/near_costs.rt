@@ -1,0 +1,110 @@
+//! Connection costs between the ids of a text's words, which are looked up near one another.
+
+ghost use Rattle.std.specs.Prelude.{IfOk};
+ghost use Rattle.dict_image.specs.ContextIds.{AreOfSizes};
+
+use crate::tests::of_lattice::asked::{path_over, sums_of};
+use dict_image::{ContextIds, Dict, NUMBERED_MAX, NumberedIds};
+use mj_model::{MatrixSizes, Sources, sample};
+use std::alloc::Global;
+use std::test::Fail;
+use test_samples::{overlay, system_dict};
+
+/// A dictionary of two right ids and three left ids.
+fn asymmetric(alloc: Global) -> Result<Dict, Fail> {
+    let sources = Sources {
+        matrix: b"2 3\n0 2 100\n1 0 9\n",
+        lexicons: &["も,2,1,20,X\n".as_bytes()],
+        ..sample()
+    };
+    system_dict(alloc, &sources)
+}
+
+/// The ids of the words of a text, by a dictionary with these sizes.
+fn ids_of(alloc: Global, dict: &Dict, sizes: MatrixSizes, text: &str) -> Result<ContextIds, Fail>
+    ensures { IfOk result (AreOfSizes sizes) }
+{
+    let mut ids = ContextIds::new(alloc, sizes)?;
+    overlay(dict, &[])?.note_ids(alloc, text, &mut ids)?;
+    Ok(ids)
+}
+
+#[rattlefmt::skip]
+static TEXTS: [(&str, &[u16], &[u16]); 6] = [
+    // (text, the left ids of its words, their right ids)
+    ("",      &[],     &[]),
+    ("も",    &[2],    &[1]),
+    ("ア",    &[1],    &[1]),
+    ("アも",  &[1, 2], &[1]),
+    ("もア",  &[2, 1], &[1]),
+    ("も も", &[2],    &[1]),
+];
+
+#[test]
+fn ids_of_texts(rt: HostRuntime) -> Result<(), Fail> {
+    let dict = asymmetric(rt.alloc())?;
+    for (text, lefts, rights) in &TEXTS {
+        let ids = ids_of(rt.alloc(), &dict, dict.matrix_sizes(), text)?;
+        assert_eq!(rt; ids.lefts.ids(), *lefts, "{text}");
+        assert_eq!(rt; ids.rights.ids(), *rights, "{text}");
+    }
+    Ok(())
+}
+
+/// The total of the best path of `もも`, and how many words it has, where the costs between the ids of a text were brought near.
+fn sums_near(alloc: Global, text: &str) -> Result<Option<(i64, usize)>, Fail> {
+    let mut dict = asymmetric(alloc)?;
+    if dict.is_user() {
+        return Ok(None);
+    }
+    let sizes = dict.matrix_sizes();
+    let ids = ids_of(alloc, &dict, sizes, text)?;
+    dict.bring_near(alloc, ids)?;
+    let path = path_over(alloc, &overlay(&dict, &[])?, "もも")?;
+    Ok(sums_of(&path))
+}
+
+#[test]
+fn costs_stay(rt: HostRuntime) -> Result<(), Fail> {
+    for (text, _lefts, _rights) in &TEXTS {
+        assert!(rt; sums_near(rt.alloc(), text)? == Some((149, 2)), "{text}");
+    }
+    Ok(())
+}
+
+#[test]
+fn few_costs_are_not_far(rt: HostRuntime) -> Result<(), Fail> {
+    assert!(rt; !asymmetric(rt.alloc())?.has_far_costs());
+    Ok(())
+}
+
+#[rattlefmt::skip]
+static NOTED: [(&str, u32, &[u16], &[u16]); 4] = [
+    // (what, the size, what is noted, the ids in the order of their numbers)
+    ("none",          3, &[],              &[]),
+    ("each once",     3, &[2, 0, 2, 0],    &[2, 0]),
+    ("beyond a size", 3, &[3, 1, 65_535],  &[1]),
+    ("of no ids",     0, &[0],             &[]),
+];
+
+#[test]
+fn noted_ids(rt: HostRuntime) -> Result<(), Fail> {
+    for (what, size, noted, expected) in &NOTED {
+        let mut ids = NumberedIds::new(rt.alloc(), *size)?;
+        for id in *noted {
+            ids.note(*id)?;
+        }
+        assert_eq!(rt; ids.ids(), *expected, "{what}");
+    }
+    Ok(())
+}
+
+#[test]
+fn no_more_numbers_than_may_be(rt: HostRuntime) -> Result<(), Fail> {
+    let mut ids = NumberedIds::new(rt.alloc(), 3_000)?;
+    for id in 0..3_000 {
+        ids.note(id)?;
+    }
+    assert_eq!(rt; ids.ids().len(), NUMBERED_MAX);
+    Ok(())
+}
