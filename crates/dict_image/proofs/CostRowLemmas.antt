@@ -4,6 +4,7 @@ use Rattle.std.proofs.lemmas.Bool.{cond-true}
 use Rattle.std.proofs.lemmas.List.FromFn.{get_or-map-range_with_len, length-map-range_with_len}
 use Rattle.std.proofs.lemmas.Option.{slice_get-get_or}
 use Rattle.mj_model.specs.Connection.{is_pair}
+use Rattle.mj_model.specs.declared.matrix_sizes.MatrixSizes.{MatrixSizes}
 use Rattle.image_bytes.specs.ImageBytes.{header_of, section}
 use Rattle.image_bytes.specs.ImageMeaning.{image_tables}
 use Rattle.image_bytes.specs.ImageSections.{stored_cost}
@@ -29,3 +30,11 @@ of_image bytes left row are = λ right pair.
     let sizes = (header_of bytes).sizes in
     are right (pair_within sizes right left pair).0
     ∙ ap Some (sym (cond-true (is_pair sizes right left) (stored_cost sizes (section bytes 1) right left) (pos 0) pair))
+
+-- what the section of an image has before a left id is what the image stores there
+pub stored_here : (bytes : List ℕ) (left : ℕ) (s : SectionRow) → s.costs.now ≡ section bytes 1 → s.sizes ≡ (header_of bytes).sizes → s.left ≡ left → AreStoredBefore (header_of bytes).sizes (section bytes 1) left (costs_in_section s)
+stored_here bytes left s costs sizes is = λ right less.
+    in_section s right (subst (λ (m : MatrixSizes). right < m.right) (sym sizes) less)
+    ∙ ap (λ (m : MatrixSizes). Some (stored_cost m s.costs.now right s.left)) sizes
+    ∙ ap (λ (xs : List ℕ). Some (stored_cost (header_of bytes).sizes xs right s.left)) costs
+    ∙ ap (λ (l : ℕ). Some (stored_cost (header_of bytes).sizes (section bytes 1) right l)) is

@@ -1,10 +1,10 @@
 //! The connection costs before words of one left id.
 ghost use Rattle.std.specs.Prelude.{IfSome, ◌≡◌, ◌*◌, ◌<◌, Some, length, slice_get};
+ghost use Rattle.image_bytes.specs.ImageBytes.{header_of, section as section_of};
 ghost use Rattle.image_bytes.specs.ImageMeaning.{image_tables};
 ghost use Rattle.image_bytes.specs.ImageSections.{AreCosts};
 ghost use Rattle.mj_model.specs.Tables.{System};
 ghost use Rattle.dict_image.specs.CostRows.{AreCostsBefore, AreStoredBefore, IsCostRow, IsFarRow, IsSectionRow, costs_in_row, costs_in_section, stored_in};
-ghost use Rattle.dict_image.specs.CostTables.{IsCostTable};
 
 use crate::cost_table::CostTable;
 use crate::costs::cost_at;
@@ -54,6 +54,25 @@ pub(crate) struct FarRow<'a> {
     pub near: &'a [i16],
     pub numbers: &'a [u16],
     pub section: SectionRow<'a>,
+}
+
+impl<'a> SectionRow<'a> {
+    /// Those before a left id in a section that has a table of these sizes.
+    #[inline(always)]
+    fn new(costs: &'a [u8], sizes: MatrixSizes, left: u16) -> SectionRow<'a>
+        requires costs { AreCosts sizes costs.now }
+        requires left { left < sizes.left }
+        ensures row { IsSectionRow result }
+        ensures costs { result.costs.now ≡ costs.now }
+        ensures sizes { result.sizes ≡ sizes }
+        ensures left { result.left ≡ left }
+    {
+        SectionRow {
+            costs,
+            sizes,
+            left: u32::from(left),
+        }
+    }
 }
 
 impl<'a> CostsBefore<'a> {
@@ -120,40 +139,44 @@ impl Dict {
         requires left { left < (image_tables self.now).sizes.left }
         ensures { AreCostsBefore (image_tables self.now) left result }
     {
-        let sizes = self.header().sizes;
-        let row = row_before(self.cost_table(), self.section(Costs), sizes, left);
-        CostsBefore { row }
-    }
-}
-
-/// Where the costs before a left id lie, by the table and by section 1.
-#[inline(always)]
-fn row_before<'a>(
-    table: &'a CostTable,
-    costs: &'a [u8],
-    sizes: MatrixSizes,
-    left: u16,
-) -> CostRow<'a>
-    requires table { IsCostTable sizes costs.now table.now }
-    requires costs { AreCosts sizes costs.now }
-    requires left { left < sizes.left }
-    ensures row { IsCostRow result }
-    ensures costs { AreStoredBefore sizes costs.now left (costs_in_row result) }
-{
-    let section = SectionRow {
-        costs,
-        sizes,
-        left: u32::from(left),
-    };
-    match table {
-        CostTable::InSection => CostRow::Far(FarRow {
-            near: &[],
-            numbers: &[],
-            section,
-        }),
-        CostTable::InRows(rows) => {
-            CostRow::InRow(row_of(rows, sizes.right as usize, usize::from(left)))
+        CostsBefore {
+            row: self.row_before(left),
         }
-        CostTable::Near(near) => near.row(section),
+    }
+
+    /// Where the costs before a left id lie. Nothing of section 1 is looked at where they are in a row.
+    #[inline(always)]
+    fn row_before(&self, left: u16) -> CostRow<'_>
+        requires system { (image_tables self.now).kind ≡ System }
+        requires left { left < (image_tables self.now).sizes.left }
+        ensures row { IsCostRow result }
+        ensures costs { AreStoredBefore (header_of self.now).sizes (section_of self.now 1) left
+            (costs_in_row result) }
+    {
+        match self.cost_table() {
+            CostTable::InSection => CostRow::Far(FarRow {
+                near: &[],
+                numbers: &[],
+                section: self.section_row(left),
+            }),
+            CostTable::InRows(rows) => {
+                let width = self.header().sizes.right as usize;
+                CostRow::InRow(row_of(rows, width, usize::from(left)))
+            }
+            CostTable::Near(near) => near.row(self.section_row(left)),
+        }
+    }
+
+    /// Those before a left id in section 1.
+    #[inline(always)]
+    fn section_row(&self, left: u16) -> SectionRow<'_>
+        requires system { (image_tables self.now).kind ≡ System }
+        requires left { left < (image_tables self.now).sizes.left }
+        ensures row { IsSectionRow result }
+        ensures costs { result.costs.now ≡ section_of self.now 1 }
+        ensures sizes { result.sizes ≡ (header_of self.now).sizes }
+        ensures left { result.left ≡ left }
+    {
+        SectionRow::new(self.section(Costs), self.header().sizes, left)
     }
 }
