@@ -1,10 +1,10 @@
 //! Best paths over sources, with their totals.
 
 use super::asked::{expect_sums, path_in, path_over, sums_of};
-use crate::tests::dicts::{Changes, sample_with};
+use crate::tests::dicts::{Changes, asymmetric, sample_with};
 use dict_image::Dict;
 use lattice::{Lattice, Path};
-use mj_model::{SENTENCE_MAX, Sources, sample};
+use mj_model::{SENTENCE_MAX, sample};
 use std::alloc::Global;
 use std::process::Abort;
 use std::test::Fail;
@@ -120,16 +120,6 @@ fn grouping_limit(rt: HostRuntime) -> Result<(), Fail> {
     }
     // The greatest grouping makes 1,001 letters one word.
     expect_letters(&rt, &dict, 1000, (1001, 1015, 1))
-}
-
-/// A dictionary of two right ids and three left ids.
-fn asymmetric(alloc: Global) -> Result<Dict, Fail> {
-    let sources = Sources {
-        matrix: b"2 3\n0 2 100\n1 0 9\n",
-        lexicons: &["も,2,1,20,X\n".as_bytes()],
-        ..sample()
-    };
-    system_dict(alloc, &sources)
 }
 
 static ASYMMETRIC: GroupingRow<'static> = (24, "も", 129, &["も"]);

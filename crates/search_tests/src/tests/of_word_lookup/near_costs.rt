@@ -3,22 +3,13 @@
 ghost use Rattle.std.specs.Prelude.{IfOk};
 ghost use Rattle.dict_image.specs.ContextIds.{AreOfSizes};
 
+use crate::tests::dicts::asymmetric;
 use crate::tests::of_lattice::asked::{path_over, sums_of};
 use dict_image::{ContextIds, Dict, NUMBERED_MAX, NumberedIds};
-use mj_model::{MatrixSizes, Sources, sample};
+use mj_model::MatrixSizes;
 use std::alloc::Global;
 use std::test::Fail;
-use test_samples::{overlay, system_dict};
-
-/// A dictionary of two right ids and three left ids.
-fn asymmetric(alloc: Global) -> Result<Dict, Fail> {
-    let sources = Sources {
-        matrix: b"2 3\n0 2 100\n1 0 9\n",
-        lexicons: &["も,2,1,20,X\n".as_bytes()],
-        ..sample()
-    };
-    system_dict(alloc, &sources)
-}
+use test_samples::overlay;
 
 /// The ids of the words of a text, by a dictionary with these sizes.
 fn ids_of(alloc: Global, dict: &Dict, sizes: MatrixSizes, text: &str) -> Result<ContextIds, Fail>
