@@ -11,6 +11,8 @@ pub mod InfoLemmas
 pub mod InfoTableLemmas
 pub mod FormedLemmas
 pub mod RowLemmas
+pub mod SetLemmas
+pub mod ColumnLemmas
 pub mod NumberedIdLemmas
 pub mod CostTableLemmas
 pub mod CategoryLemmas

@@ -2,10 +2,10 @@
 use Rattle.std.proofs.Common.{◌≡◌, ℕ, zero, suc, ◌<◌, ◌≤◌, List, [], ◌∷◌, ◌++◌, set, length, Some, ◌⊎◌, inl, inr, refl, sym, ap, ◌∙◌, arith, subst, slice_get}
 use Rattle.std.proofs.Math.ListN.{length-append}
 use Rattle.std.proofs.lemmas.Bool.{cases_eq}
-use Rattle.std.proofs.lemmas.List.{length-set, get_or-set_same, get_or-set_other}
-use Rattle.std.proofs.lemmas.Option.{same_Some, slice_get_within, slice_get-get_or}
+use Rattle.std.proofs.lemmas.Option.{same_Some, slice_get_within}
 use Rattle.dict_image.specs.declared.numbered_ids.TheConstants.{NUMBERED_MAX}
 use Rattle.dict_image.specs.NumberedIds.{AreNumbered}
+use Rattle.dict_image.proofs.SetLemmas.{set_elsewhere, set_here}
 
 -- ---- one id more
 
@@ -27,15 +27,6 @@ earlier_or_last (y ∷ ids) id (suc i) x is = elim (earlier_or_last ids id i x i
 
 -- ---- and its number
 
-written : (numbers : List ℕ) (id number : ℕ) → id < length numbers → slice_get (set numbers id number) id ≡ Some number
-written numbers id number within = slice_get-get_or (set numbers id number) id 0 (omega (arith, within, length-set numbers id number)) ∙ ap Some (get_or-set_same numbers id number 0 within)
-
--- those of other ids stay
-others : (numbers : List ℕ) (id number other : ℕ) → (other ≡ id → ⊥) → other < length numbers → slice_get (set numbers id number) other ≡ slice_get numbers other
-others numbers id number other differs within =
-    slice_get-get_or (set numbers id number) other 0 (omega (arith, within, length-set numbers id number)) ∙ ap Some (get_or-set_other numbers id other number 0 differs)
-    ∙ sym (slice_get-get_or numbers other 0 within)
-
 -- an id whose number is not among those that are given gets the next one
 pub numbered_more : (ids numbers : List ℕ) (id number : ℕ) → AreNumbered ids numbers → length ids < NUMBERED_MAX → slice_get numbers id ≡ Some number → length ids ≤ number
     → AreNumbered (ids ++ id ∷ []) (set numbers id (length ids))
@@ -44,13 +35,12 @@ numbered_more ids numbers id number are room at past =
     let longer = length-append ids (id ∷ []) in
     record {
       given = λ other n is below.
-          let inside : other < length numbers = omega (arith, slice_get_within (set numbers id (length ids)) other n is, length-set numbers id (length ids)) in
           elim (cases_eq other id) [
             | inl same ↦
                 let first : slice_get (set numbers id (length ids)) id ≡ Some n = subst (λ (o : ℕ). slice_get (set numbers id (length ids)) o ≡ Some n) same is in
-                let next : length ids ≡ n = same_Some (length ids) n (sym (written numbers id (length ids) within) ∙ first) in
+                let next : length ids ≡ n = same_Some (length ids) n (sym (set_here numbers id (length ids) within) ∙ first) in
                 subst (λ (m : ℕ). slice_get (ids ++ id ∷ []) m ≡ Some other) next (last ids id ∙ ap Some (sym same))
-            | inr differs ↦ still ids id n other (are.given other n (sym (others numbers id (length ids) other differs inside) ∙ is) below)
+            | inr differs ↦ still ids id n other (are.given other n (sym (set_elsewhere numbers id other (length ids) differs) ∙ is) below)
           ];
       there = λ other n is. elim (earlier_or_last ids id n other is) [
         | inl earlier ↦
@@ -59,9 +49,9 @@ numbered_more ids numbers id number are room at past =
             let equal : n ≡ number = same_Some n number (sym had ∙ ap (slice_get numbers) same ∙ at) in
             let before = slice_get_within ids n other earlier in
             omega (arith, equal, before, past) in
-            others numbers id (length ids) other differs (slice_get_within numbers other n had) ∙ had
+            set_elsewhere numbers id other (length ids) differs ∙ had
         | inr new ↦
-            subst (λ (o : ℕ). slice_get (set numbers id (length ids)) o ≡ Some n) new.1 (written numbers id (length ids) within ∙ ap Some (sym new.0))
+            subst (λ (o : ℕ). slice_get (set numbers id (length ids)) o ≡ Some n) new.1 (set_here numbers id (length ids) within ∙ ap Some (sym new.0))
       ];
       most = omega (arith, longer, room);
     }

@@ -47,7 +47,7 @@ pub next_row : (row width : ℕ) → (row + 1) * width ≡ row * width + width
 next_row row width = add-mul row 1 width ∙ ap (λ (n : ℕ). row * width + n) (one-mul width)
 
 -- the costs of a row stand before those of a later one
-in_rows : (row end width column : ℕ) → row < end → column < width → row * width + column < end * width
+pub in_rows : (row end width column : ℕ) → row < end → column < width → row * width + column < end * width
 in_rows row end width column before within =
     let up = mul-le-mul_right {m = row + 1} {n = end} width (omega (arith, before)) in
     let next = next_row row width in

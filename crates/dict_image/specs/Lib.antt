@@ -5,6 +5,7 @@ pub mod Ranges
 pub mod Infos
 pub mod InfoTables
 pub mod Rows
+pub mod Columns
 pub mod NumberedIds
 pub mod ContextIds
 pub mod NearCosts

@@ -8,13 +8,13 @@ use Rattle.dict_image.specs.ContextIds.{AreOfSizes}
 use Rattle.dict_image.specs.CostRows.{stored_in}
 use Rattle.dict_image.specs.Rows.{AreRows}
 
--- the cost before a left id and after the right id with a number
-abbrev pub near_cost : MatrixSizes → List ℕ → List ℕ → ℕ → ℕ → ℤ
-near_cost sizes costs rights left number = stored_cost sizes costs (slice_index rights number) left
-
 -- the cost between the left id of a row and the right id of a column
 abbrev pub cost_between : MatrixSizes → List ℕ → List ℕ → List ℕ → ℕ → ℕ → ℤ
-cost_between sizes costs lefts rights row column = near_cost sizes costs rights (slice_index lefts row) column
+cost_between sizes costs lefts rights row column = stored_cost sizes costs (slice_index rights column) (slice_index lefts row)
+
+-- the cost after the right id of a column and before the left id of a row
+abbrev pub cost_after : MatrixSizes → List ℕ → List ℕ → List ℕ → ℕ → ℕ → ℤ
+cost_after sizes costs lefts rights column row = cost_between sizes costs lefts rights row column
 
 -- a row has no costs but those that are stored before a left id, in the order of the right ids' numbers
 pub record IsNearRow (near : NearCosts) (s : SectionRow) (row : List ℤ) : Type 0 where

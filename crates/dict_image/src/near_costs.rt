@@ -1,9 +1,10 @@
 //! Connection costs that lie near one another.
-ghost use Rattle.std.specs.Prelude.{◌≡◌, ◌<◌, IfOk, OnOk, length};
+ghost use Rattle.std.specs.Prelude.{◌≡◌, ◌*◌, ◌<◌, IfOk, length};
 ghost use Rattle.image_bytes.specs.ImageSections.{AreCosts};
 ghost use Rattle.dict_image.specs.CostRows.{IsCostRow, IsSectionRow, costs_in_row, costs_in_section};
-ghost use Rattle.dict_image.specs.Rows.{AreRows, GrowsByRow};
-ghost use Rattle.dict_image.specs.NearCosts.{AreNear, IsNearRow, cost_between, near_cost};
+ghost use Rattle.dict_image.specs.Columns.{IsColumnSet};
+ghost use Rattle.dict_image.specs.Rows.{AreRows};
+ghost use Rattle.dict_image.specs.NearCosts.{AreNear, IsNearRow, cost_after, cost_between};
 ghost use Rattle.dict_image.specs.NumberedIds.{AreBelow};
 ghost use Rattle.dict_image.specs.ContextIds.{AreOfSizes};
 
@@ -37,7 +38,8 @@ pub(crate) fn near_costs_of(
     Ok(NearCosts { ids, costs })
 }
 
-/// The costs before these left ids and after these right ids, row by row.
+/// The costs before these left ids and after these right ids, in a row for each left id. They are read right id by right id, as section 1 has
+/// them: those of one right id lie on a few pages of memory, and those of one left id lie on a page each.
 fn near_rows(
     alloc: Global,
     costs: &[u8],
@@ -51,31 +53,36 @@ fn near_rows(
     ensures { IfOk result (λ near. AreRows (cost_between sizes costs.now lefts.now rights.now)
         (length rights.now) (length lefts.now) near.items) }
 {
-    let mut near = Vec::new(alloc);
-    for row in 0..lefts.len() {
-        append_row(costs, sizes, lefts[row], rights, &mut near)?;
+    let count = lefts.len().checked_mul(rights.len()).ok_or(AllocError)?;
+    let mut near = vec![in alloc; 0; count]?;
+    for column in 0..rights.len() {
+        set_column(costs, sizes, lefts, rights, column, &mut near);
     }
     Ok(near)
 }
 
-/// Appends the costs before a left id and after these right ids.
-fn append_row(
+/// Sets in each row the cost after the right id of one column.
+fn set_column(
     costs: &[u8],
     sizes: MatrixSizes,
-    left: u16,
+    lefts: &[u16],
     rights: &[u16],
-    near: &mut Vec<i16>,
-) -> Result<(), AllocError>
+    column: usize,
+    near: &mut [i16],
+)
     requires costs { AreCosts sizes costs.now }
-    requires left { left < sizes.left }
+    requires lefts { AreBelow sizes.left lefts.now }
     requires rights { AreBelow sizes.right rights.now }
-    ensures { OnOk result (GrowsByRow (near_cost sizes costs.now rights.now left)
-        (length rights.now) near.old.items near.new.items) }
+    requires column { column < length rights.now }
+    requires many { length near.old ≡ length lefts.now * length rights.now }
+    ensures { IsColumnSet (cost_after sizes costs.now lefts.now rights.now column)
+        (length rights.now) (length lefts.now) column near.old near.new }
 {
-    for column in 0..rights.len() {
-        near.push(cost_at(costs, sizes, u32::from(rights[column]), u32::from(left)))?;
+    let right = u32::from(rights[column]);
+    for row in 0..lefts.len() {
+        let left = u32::from(lefts[row]);
+        near[row * rights.len() + column] = cost_at(costs, sizes, right, left);
     }
-    Ok(())
 }
 
 impl NearCosts {
