@@ -6,14 +6,16 @@ from .texts import MO, SUMOMO
 MATRIX = {"a/matrix.def": b"2900 2900\n0 0 0\n0 1 10\n1 0 5\n1 1 7\n"}
 COMPILED = "3 entries, 0 skipped\n"
 
-# A beginning of 4,096 bytes and more is looked at, and one read gives 65,536 bytes at most.
+# The beginning is looked at where the first read gives 65,536 bytes, which are 4,096 of these lines.
+LINE = "すもももも\n"
 TEXTS = [
     ("no text", "", ""),
     ("a short text", "も\n", MO),
-    ("a text that is looked at", "すもももも\n" * 400, SUMOMO * 400),
-    ("a text of two reads", "すもももも\n" * 9_000, SUMOMO * 9_000),
-    ("ids that its beginning has not", "x" * 9 + "\n" * 6_000 + "すもももも\n", "x" * 9 + "\t未知\n" + "EOS\n" * 6_000 + SUMOMO),
-    ("a text of blanks", " " * 60_000 + "\n", "EOS\n"),
+    ("a text that is too short by a line", LINE * 4_095, SUMOMO * 4_095),
+    ("a text that is just long enough", LINE * 4_096, SUMOMO * 4_096),
+    ("a text of three reads", LINE * 9_000, SUMOMO * 9_000),
+    ("ids that its beginning has not", "x" * 9 + "\n" * 70_000 + LINE, "x" * 9 + "\t未知\n" + "EOS\n" * 70_000 + SUMOMO),
+    ("a text of blanks", " " * 70_000 + "\n", "EOS\n"),
 ]
 
 
@@ -28,8 +30,8 @@ def told(fault):
 
 ROWS = [
     *(cut(*row) for row in TEXTS),
-    cut("what a path costs", "すもももも\n" * 400, "152\n" * 400, r"jseg -d new.img -F '' -E '%pc\n'"),
+    cut("what a path costs", LINE * 5_000, "152\n" * 5_000, r"jseg -d new.img -F '' -E '%pc\n'"),
     cut("a first read that fails", "", "", err=told("line 1: G1 Read"), status=3, under=Under(stdin="directory")),
     cut("a later read that fails", "も\nす", MO, err=told("line 2: G1 Read"), status=3, under=Under(stdin="failing")),
-    cut("a user that does not fit", "も\n" * 4_000, "", "jseg -d new.img -u user.img", err=told("user.img: O3 OtherSizes 0"), status=1),
+    cut("a user that does not fit", LINE * 5_000, "", "jseg -d new.img -u user.img", err=told("user.img: O3 OtherSizes 0"), status=1),
 ]

@@ -7,16 +7,15 @@ ghost use Rattle.jseg_work.specs.Begun.{left_of};
 
 use crate::begun::Begun;
 use dict_image::{ContextIds, Dict};
+use line_stream::BUFFER;
 use mj_model::MatrixSizes;
 use std::alloc::{AllocError, Global};
 use std::io::Read;
 use word_lookup::Dictionaries;
 
-/// So few bytes tell too little of the rest of a text.
-const TOO_FEW: usize = 1 << 12;
-
 /// Reads a text once, where connection costs of the dictionary lie far from one another, and brings those near that the words of its
-/// beginning ask for. What the dictionary says stays the same. Nothing is read where the dictionaries don't fit.
+/// beginning ask for. A text that does not fill the first read gains less than that takes. What the dictionary says stays the same. Nothing is
+/// read where the dictionaries don't fit.
 pub(crate) fn begin<R: Read + Drop>(
     alloc: Global,
     system: &mut Dict,
@@ -34,7 +33,7 @@ pub(crate) fn begin<R: Read + Drop>(
         return Ok(Begun::unread(alloc, reader));
     };
     let begun = Begun::read_once(alloc, reader)?;
-    if begun.beginning().len() < TOO_FEW {
+    if begun.beginning().len() < BUFFER {
         return Ok(begun);
     }
     let sizes = system.matrix_sizes();
