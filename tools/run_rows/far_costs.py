@@ -6,13 +6,13 @@ from .texts import MO, SUMOMO
 MATRIX = {"a/matrix.def": b"2900 2900\n0 0 0\n0 1 10\n1 0 5\n1 1 7\n"}
 COMPILED = "3 entries, 0 skipped\n"
 
-# The beginning is looked at where the first read gives 65,536 bytes, which are 4,096 of these lines.
+# The beginning is looked at where the first read gives 32,768 bytes, which are 2,048 of these lines.
 LINE = "すもももも\n"
 TEXTS = [
     ("no text", "", ""),
     ("a short text", "も\n", MO),
-    ("a text that is too short by a line", LINE * 4_095, SUMOMO * 4_095),
-    ("a text that is just long enough", LINE * 4_096, SUMOMO * 4_096),
+    ("a text that is too short by a line", LINE * 2_047, SUMOMO * 2_047),
+    ("a text that is just long enough", LINE * 2_048, SUMOMO * 2_048),
     ("a text of three reads", LINE * 9_000, SUMOMO * 9_000),
     ("ids that its beginning has not", "x" * 9 + "\n" * 70_000 + LINE, "x" * 9 + "\t未知\n" + "EOS\n" * 70_000 + SUMOMO),
     ("a text of blanks", " " * 70_000 + "\n", "EOS\n"),

@@ -13,9 +13,12 @@ use std::alloc::{AllocError, Global};
 use std::io::Read;
 use word_lookup::Dictionaries;
 
+/// A text of which one read gives fewer bytes gains less than a copy of costs takes. A pipe that is full gives more, whatever the lengths of
+/// the writes that filled it.
+const ENOUGH: usize = BUFFER / 2;
+
 /// Reads a text once, where connection costs of the dictionary lie far from one another, and brings those near that the words of its
-/// beginning ask for. A text that does not fill the first read gains less than that takes. What the dictionary says stays the same. Nothing is
-/// read where the dictionaries don't fit.
+/// beginning ask for, if it gives enough of them. What the dictionary says stays the same. Nothing is read where the dictionaries don't fit.
 pub(crate) fn begin<R: Read + Drop>(
     alloc: Global,
     system: &mut Dict,
@@ -33,7 +36,7 @@ pub(crate) fn begin<R: Read + Drop>(
         return Ok(Begun::unread(alloc, reader));
     };
     let begun = Begun::read_once(alloc, reader)?;
-    if begun.beginning().len() < BUFFER {
+    if begun.beginning().len() < ENOUGH {
         return Ok(begun);
     }
     let sizes = system.matrix_sizes();
