@@ -31,8 +31,11 @@ class Fed:
     def feed(self, text):
         """The seconds of the processor that it takes to work through a text of whole lines."""
         before = time.clock_gettime(self.clock)
-        while text:
-            text = text[self.started.stdin.write(text) :]
+        try:
+            while text:
+                text = text[self.started.stdin.write(text) :]
+        except BrokenPipeError:
+            self.fail()
         self.wait_for_its_read()
         return time.clock_gettime(self.clock) - before
 
@@ -41,12 +44,15 @@ class Fed:
         ends = time.monotonic() + SECONDS
         while not self.waits():
             if time.monotonic() > ends or self.started.poll() is not None:
-                sys.exit(f"{self.command[0]} does not read on")
+                self.fail()
             time.sleep(0.001)
 
     def waits(self):
         left = struct.unpack("i", fcntl.ioctl(self.started.stdin, termios.FIONREAD, bytes(4)))[0]
         return left == 0 and tuple(Path(f"/proc/{self.started.pid}/syscall").read_text().split()[:2]) in WAITS
+
+    def fail(self):
+        sys.exit(f"{self.command[0]} does not read on")
 
     def end(self):
         self.started.stdin.close()
