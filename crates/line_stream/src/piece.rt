@@ -13,8 +13,9 @@ use crate::steps::{stop, write_out};
 use memchr::memchr;
 use mj_model::{RunFault, TextOut};
 
-/// After a line behind which more bytes of output wait, they are written before the next line prints.
-pub const OUTPUT_MAX: usize = 1 << 20;
+/// After a line behind which more bytes of output wait, they are written before the next line prints. So few stay in a processor's caches beside
+/// what the search reads.
+pub const OUTPUT_MAX: usize = 1 << 16;
 
 /// The bytes before an LF, and those behind it.
 pub fn cut(bytes: &[u8], at: usize) -> (&[u8], &[u8])

@@ -18,7 +18,7 @@ use words_printer::{LineMemory, WordsPrinter};
 /// Cuts the text of a reader into words and writes them in a format; answers the number of lines.
 ///
 /// It works through the bytes of one read before it reads again, and flushes the writer once, at the end of the input; after a
-/// fault the caller flushes. Output of more than 1 MiB is written before the next line prints. Each count of reader and writer is
+/// fault the caller flushes. Output of more than 64 KiB is written before the next line prints. Each count of reader and writer is
 /// below 2^63 at entry.
 pub fn segment<R: TextIn, W: TextOut>(
     alloc: Global,

@@ -11,7 +11,7 @@ use test_samples::{letters, overlay, system_dict};
 use word_lookup::Dictionaries;
 
 /// Where more bytes than these wait behind a line, they are written.
-const OUTPUT_MAX: usize = 1 << 20;
+const OUTPUT_MAX: usize = 1 << 16;
 
 /// The format in which an empty line prints so many letters.
 fn letters_format(alloc: Global, count: usize) -> Result<Format, Fail> {
@@ -54,13 +54,14 @@ fn expect_pieces(
 }
 
 #[rattlefmt::skip]
-static PIECES: [(&str, Pieces); 5] = [
+static PIECES: [(&str, Pieces); 6] = [
     // (what, (empty lines, letters that each prints, bytes in all, bytes of the longest write))
     ("a few lines",             (5,     1_000,      5_005,      5_005)),
-    ("all that is held",        (1_047, 1_000,      1_048_047,  1_048_047)),
-    ("more than that",          (5_000, 1_000,      5_005_000,  1_049_048)),
-    ("longer lines",            (100,   131_000,    13_100_100, 1_179_009)),
-    ("each line more than that", (3,     OUTPUT_MAX, 3_145_731,  1_048_577)),
+    ("all that is held",        (65,    1_000,      65_065,     65_065)),
+    ("more than that",          (5_000, 1_000,      5_005_000,  66_066)),
+    ("longer lines",            (100,   8_180,      818_100,    73_629)),
+    ("each line more than that", (3,     OUTPUT_MAX, 196_611,    65_537)),
+    ("each line about twice that", (100, 131_000,    13_100_100, 131_001)),
 ];
 
 #[test]
