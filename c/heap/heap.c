@@ -1,5 +1,5 @@
 /* The toolchain's heap over C's, with huge pages for large blocks. An image is read at places far from each other, and with small pages most of these
-   reads wait for the translation of an address first. tools/build-library has the toolchain's heap call these two in place of malloc and realloc; free
+   reads wait for the translation of an address first. tools/build-heap has the toolchain's heap call these two in place of malloc and realloc; free
    serves the blocks of both. Nothing is kept of a block, so there is nothing to lock, and nothing that a fork could break. */
 #include <errno.h>
 #include <stddef.h>
