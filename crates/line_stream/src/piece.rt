@@ -13,8 +13,8 @@ use crate::steps::{stop, write_out};
 use memchr::memchr;
 use mj_model::{RunFault, TextOut};
 
-/// After a line behind which more bytes of output wait, they are written before the next line prints. So few stay in a processor's caches beside
-/// what the search reads.
+/// After a line behind which more bytes of output wait, they are written before the next line prints. More of them would drive what the search
+/// reads out of a processor's second-level cache. (This project's own choice)
 pub const OUTPUT_MAX: usize = 1 << 16;
 
 /// The bytes before an LF, and those behind it.

@@ -54,14 +54,16 @@ fn expect_pieces(
 }
 
 #[rattlefmt::skip]
-static PIECES: [(&str, Pieces); 6] = [
+static PIECES: [(&str, Pieces); 8] = [
     // (what, (empty lines, letters that each prints, bytes in all, bytes of the longest write))
     ("a few lines",             (5,     1_000,      5_005,      5_005)),
     ("all that is held",        (65,    1_000,      65_065,     65_065)),
+    ("1 MiB in short lines",    (1_047, 1_000,      1_048_047,  66_066)),
     ("more than that",          (5_000, 1_000,      5_005_000,  66_066)),
     ("longer lines",            (100,   8_180,      818_100,    73_629)),
     ("each line more than that", (3,     OUTPUT_MAX, 196_611,    65_537)),
     ("each line about twice that", (100, 131_000,    13_100_100, 131_001)),
+    ("each line more than 1 MiB", (3,    1_048_576,  3_145_731,  1_048_577)),
 ];
 
 #[test]
