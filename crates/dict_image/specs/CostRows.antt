@@ -1,5 +1,5 @@
 -- The connection costs before words of one left id, by right id.
-use Rattle.std.specs.Prelude.{◌≡◌, ℕ, ℤ, ◌<◌, ◌^◌, List, Some, map, slice_get, IsTrue}
+use Rattle.std.specs.Prelude.{◌≡◌, ℕ, ℤ, ◌<◌, ◌^◌, List, Some, length, map, slice_get, IsTrue}
 use Rattle.std.specs.List.{range_with_len}
 use Rattle.mj_model.specs.declared.matrix_sizes.MatrixSizes.{MatrixSizes}
 use Rattle.mj_model.specs.Connection.{is_pair}
@@ -29,9 +29,10 @@ pub record IsSectionRow (s : SectionRow) : Type 0 where
 abbrev pub stored_in : SectionRow → ℕ → ℤ
 stored_in s right = stored_cost s.sizes s.costs.now right s.left
 
--- the section can be read, and what lies near is what it has
+-- the section can be read, each right id of it has a number, and what lies near is what it has
 pub record IsFarRow (r : FarRow) : Type 0 where
   pub section : IsSectionRow r.section
+  pub numbers : length r.numbers.now ≡ r.section.sizes.right
   pub near : (right number : ℕ) (cost : ℤ) → slice_get r.numbers.now right ≡ Some number → slice_get r.near.now number ≡ Some cost → cost ≡ stored_in r.section right
 
 -- a row can be read

@@ -1,8 +1,8 @@
 -- The table of connection costs.
-use Rattle.std.specs.Prelude.{ℕ, ℤ, ◌*◌, ◌&&◌, Bool, List, nat_le, not}
+use Rattle.std.specs.Prelude.{◌≡◌, ℕ, ℤ, ◌*◌, ◌&&◌, Bool, List, nat_le, not}
 use Rattle.mj_model.specs.declared.matrix_sizes.MatrixSizes.{MatrixSizes}
 use Rattle.mj_model.specs.Overlays.{is_user}
-use Rattle.mj_model.specs.Tables.{Tables}
+use Rattle.mj_model.specs.Tables.{Kind, System, Tables}
 use Rattle.image_bytes.specs.ImageSections.{stored_cost}
 use Rattle.dict_image.specs.declared.cost_table.TheConstants.{COPIED_MAX}
 use Rattle.dict_image.specs.declared.cost_table.CostTable.{CostTable}
@@ -26,8 +26,8 @@ cost_before sizes costs left right = stored_cost sizes costs right left
 abbrev pub AreRowsTo : MatrixSizes → List ℕ → ℕ → List ℤ → Type 0
 AreRowsTo sizes costs end rows = AreRows (cost_before sizes costs) sizes.right end rows
 
--- a table of rows has all of them, and what lies near is what the section says
-abbrev pub IsCostTable : MatrixSizes → List ℕ → CostTable → Type 0
-IsCostTable sizes costs table.InSection = Unit {0}
-IsCostTable sizes costs (table.InRows rows) = AreRowsTo sizes costs sizes.left rows.items
-IsCostTable sizes costs (table.Near near) = AreNear sizes costs near
+-- a system dictionary has costs: a table of rows has all of them, and what lies near is what the section says
+abbrev pub IsCostTable : Kind → MatrixSizes → List ℕ → CostTable → Type 0
+IsCostTable kind sizes costs table.OfUser = kind ≡ System → ⊥
+IsCostTable kind sizes costs (table.InRows rows) = AreRowsTo sizes costs sizes.left rows.items
+IsCostTable kind sizes costs (table.Near near) = AreNear sizes costs near

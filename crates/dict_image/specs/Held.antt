@@ -12,7 +12,7 @@ use Rattle.image_bytes.specs.ImageSections.{HasFeature, stored_token}
 
 -- connection costs are looked up there
 abbrev pub IsCostTableIn : List ℕ → CostTable → Type 0
-IsCostTableIn bytes table = IsCostTable (header_of bytes).sizes (section bytes 1) table
+IsCostTableIn bytes table = IsCostTable (kind_of (header_of bytes)) (header_of bytes).sizes (section bytes 1) table
 
 -- so are the categories of code points
 abbrev pub IsInfoTableIn : List ℕ → InfoTable → Type 0

@@ -6,8 +6,9 @@ ghost use Rattle.mj_model.specs.Tables.{System};
 ghost use Rattle.dict_image.specs.CostTables.{AreRowsTo, IsCostTable, are_few_pairs, cost_before};
 ghost use Rattle.dict_image.specs.Rows.{GrowsByRow};
 
+use crate::context_ids::ContextIds;
 use crate::costs::cost_at;
-use crate::near_costs::NearCosts;
+use crate::near_costs::{NearCosts, near_costs_of};
 use image_bytes::Header;
 use mj_model::MatrixSizes;
 use std::alloc::{AllocError, Global};
@@ -18,29 +19,35 @@ pub(crate) const COPIED_MAX: usize = 1 << 23;
 /// Where connection costs are looked up.
 #[derive(Drop)]
 pub(crate) enum CostTable {
-    /// In section 1, where those of one left id stand far from one another. A user dictionary has none.
-    InSection,
+    /// Nowhere: a user dictionary has none.
+    OfUser,
     /// In a row for each left id, by right id: the search asks for many right ids before one left id.
     InRows(Vec<i16>),
-    /// Those between some ids near one another, and the others in section 1.
+    /// Those between some ids near one another, and the others in section 1, where those of one left id stand far from one another. There are
+    /// no such ids before a text was looked at.
     Near(NearCosts),
 }
 
 /// Where the connection costs of a dictionary are looked up. Those of a system dictionary with at most `COPIED_MAX` pairs take memory: 2
-/// bytes for each pair.
+/// bytes for each pair. Those of a larger one take 2 bytes for each id.
 pub(crate) fn cost_table_of(
     alloc: Global,
     header: &Header,
     costs: &[u8],
 ) -> Result<CostTable, AllocError>
     requires { kind_of header.now ≡ System → AreCosts header.now.sizes costs.now }
-    ensures { IfOk result (λ table. IsCostTable header.now.sizes costs.now table) }
+    ensures { IfOk result (λ table.
+        IsCostTable (kind_of header.now) header.now.sizes costs.now table) }
 {
-    let sizes = header.sizes;
-    if header.is_user() || !are_few(sizes) {
-        return Ok(CostTable::InSection);
+    if header.is_user() {
+        return Ok(CostTable::OfUser);
     }
-    Ok(CostTable::InRows(cost_rows(alloc, costs, sizes)?))
+    let sizes = header.sizes;
+    if are_few(sizes) {
+        return Ok(CostTable::InRows(cost_rows(alloc, costs, sizes)?));
+    }
+    let none = ContextIds::new(alloc, sizes)?;
+    Ok(CostTable::Near(near_costs_of(alloc, costs, sizes, none)?))
 }
 
 /// Whether there are no more pairs of ids than are copied.

@@ -48,7 +48,8 @@ pub(crate) struct SectionRow<'a> {
     pub left: u32,
 }
 
-/// Those in section 1, with the row of those that lie near one another. A right id that has one there has its number in `numbers`.
+/// Those in section 1, with the row of those that lie near one another. `numbers` has a number for each right id: its place in that row, or one
+/// behind the row's end.
 #[derive(Clone, Copy, Drop)]
 pub(crate) struct FarRow<'a> {
     pub near: &'a [i16],
@@ -115,10 +116,12 @@ fn far_cost(row: FarRow<'_>, right: usize) -> i16
 #[inline(always)]
 fn near_cost(row: FarRow<'_>, right: usize) -> Option<i16>
     requires row { IsFarRow row }
+    requires there { right < length (costs_in_section row.section) }
     ensures { IfSome result (λ cost. cost ≡ stored_in row.entry.section right) }
 {
-    let number = *row.numbers.get(right)?;
-    row.near.get(usize::from(number)).copied()
+    let number = row.numbers[right];
+    let cost = *row.near.get(usize::from(number))?;
+    Some(cost)
 }
 
 /// The cost of a right id, by section 1.
@@ -154,11 +157,7 @@ impl Dict {
             (costs_in_row result) }
     {
         match self.cost_table() {
-            CostTable::InSection => CostRow::Far(FarRow {
-                near: &[],
-                numbers: &[],
-                section: self.section_row(left),
-            }),
+            CostTable::OfUser => CostRow::InRow(&[]),
             CostTable::InRows(rows) => {
                 let width = self.header().sizes.right as usize;
                 CostRow::InRow(row_of(rows, width, usize::from(left)))

@@ -76,7 +76,8 @@ impl NumberedIds {
     /// The number of each id of the dictionary, or one that no id has.
     #[inline(always)]
     pub fn numbers(&self) -> &[u16]
-        ensures { AreNumbersOf self.now.ids result.now }
+        ensures numbers { AreNumbersOf self.now.ids result.now }
+        ensures count { length result.now ≡ self.now.size }
     {
         &self.numbers
     }

@@ -1,5 +1,5 @@
 use Rattle.std.proofs.Common.{◌≡◌, ℕ, ℤ, ◌+◌, ◌*◌, List, slice_get, slice_range, subst, sym, ap, ◌∙◌}
-use Rattle.image_bytes.specs.ImageBytes.{header_of, section}
+use Rattle.image_bytes.specs.ImageBytes.{header_of, kind_of, section}
 use Rattle.image_bytes.specs.declared.header.Header.{Header}
 use Rattle.dict_image.specs.CostRows.{AreStoredBefore}
 use Rattle.dict_image.specs.CostTables.{IsCostTable, cost_before}
@@ -12,11 +12,15 @@ row_of-requires c =
     let bytes = c.args.self.now in
     let sizes = (header_of bytes).sizes in
     let cost = cost_before sizes (section bytes 1) in
-    let are = subst (IsCostTable sizes (section bytes 1)) c.in-InRows.is c.cost_table.ensures.table in
+    let are = subst (IsCostTable (kind_of (header_of bytes)) sizes (section bytes 1)) c.in-InRows.is c.cost_table.ensures.table in
     rw (c.from.ensures, c.deref.ensures.value, c.header.ensures.numbers) (row_within cost sizes.right sizes.left c.in-InRows.rows.items c.args.left are c.requires.left)
 
-pub returns-in-InSection-clause-costs : goal.returns-in-InSection-clause-costs
-returns-in-InSection-clause-costs c = stored_here c.args.self.now c.args.left c.section_row.result c.section_row.ensures.costs c.section_row.ensures.sizes c.section_row.ensures.left
+-- a system dictionary has costs
+pub returns-in-OfUser-clause-costs : goal.returns-in-OfUser-clause-costs
+returns-in-OfUser-clause-costs c =
+    let bytes = c.args.self.now in
+    let none = subst (IsCostTable (kind_of (header_of bytes)) (header_of bytes).sizes (section bytes 1)) c.in-OfUser.is c.cost_table.ensures.table in
+    λ right less. absurd (none c.requires.system)
 
 pub returns-in-InRows-clause-costs : goal.returns-in-InRows-clause-costs
 returns-in-InRows-clause-costs c =
@@ -25,7 +29,7 @@ returns-in-InRows-clause-costs c =
     let width = sizes.right in
     let cost = cost_before sizes (section bytes 1) in
     let rows = c.in-InRows.rows.items in
-    let are = subst (IsCostTable sizes (section bytes 1)) c.in-InRows.is c.cost_table.ensures.table in
+    let are = subst (IsCostTable (kind_of (header_of bytes)) sizes (section bytes 1)) c.in-InRows.is c.cost_table.ensures.table in
     let row : c.row_of.result.now ≡ slice_range rows (c.args.left * width) (c.args.left * width + width) =
     c.row_of.ensures
     ∙ ap (λ (h : Header). slice_range c.deref.result.now (c.from.result * h.sizes.right) (c.from.result * h.sizes.right + h.sizes.right)) c.header.ensures.numbers
@@ -36,5 +40,5 @@ returns-in-InRows-clause-costs c =
 pub returns-in-Near-clause-costs : goal.returns-in-Near-clause-costs
 returns-in-Near-clause-costs c =
     let bytes = c.args.self.now in
-    let here = c.section_row-in-Near.ensures in
-    subst (AreStoredBefore (header_of bytes).sizes (section bytes 1) c.args.left) (sym c.row.ensures.costs) (stored_here bytes c.args.left c.section_row-in-Near.result here.costs here.sizes here.left)
+    let here = c.section_row.ensures in
+    subst (AreStoredBefore (header_of bytes).sizes (section bytes 1) c.args.left) (sym c.row.ensures.costs) (stored_here bytes c.args.left c.section_row.result here.costs here.sizes here.left)
