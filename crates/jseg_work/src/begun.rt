@@ -22,8 +22,10 @@ pub(crate) struct Begun<R> {
 impl<R: Read + Drop> Begun<R> {
     /// A reader of which these bytes were read. `failed` and `is_ended` say what else the read answered.
     fn new(failed: Option<io::Error>, is_ended: bool, bytes: Vec<u8>, reader: R) -> Begun<R>
-        ensures { left_of R.remaining result
+        ensures left { left_of R.remaining result
             ≡ left_after is_ended bytes.items (R.remaining reader) }
+        // So the fault is told, and no read is made in its place.
+        ensures failed { result.failed ≡ failed }
     {
         Begun {
             failed,
