@@ -24,7 +24,7 @@ impl<R: Read + Drop> Begun<R> {
     fn new(failed: Option<io::Error>, is_ended: bool, bytes: Vec<u8>, reader: R) -> Begun<R>
         ensures left { left_of R.remaining result
             ≡ left_after is_ended bytes.items (R.remaining reader) }
-        // So the fault is told, and no read is made in its place.
+        // The fault is kept.
         ensures failed { result.failed ≡ failed }
     {
         Begun {
