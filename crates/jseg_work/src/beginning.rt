@@ -1,16 +1,16 @@
 //! The beginning of a text, by which the connection costs that it asks for are brought near one another.
 
-ghost use Rattle.std.specs.Prelude.{◌≡◌, IfOk};
+ghost use Rattle.std.specs.Prelude.{◌≡◌, ◌+◌, ◌≤◌, IfOk};
 ghost use Rattle.std.specs.Io.KnownBytes.{Keeps};
 ghost use Rattle.dict_image.specs.ContextIds.{AreOfSizes};
-ghost use Rattle.jseg_work.specs.Begun.{left_of};
+ghost use Rattle.mj_model.specs.Counts.{CanRise};
+ghost use Rattle.jseg_work.specs.Begun.{left_of, kept_end, kept_fault, reader_of};
 
 use crate::begun::Begun;
 use dict_image::{ContextIds, Dict};
 use line_stream::BUFFER;
-use mj_model::MatrixSizes;
+use mj_model::{MatrixSizes, TextIn};
 use std::alloc::{AllocError, Global};
-use std::io::Read;
 use word_lookup::Dictionaries;
 
 /// A text of which one read gives fewer bytes gains less than a copy of costs takes. A pipe that is full gives more, whatever the lengths of
@@ -19,15 +19,25 @@ const ENOUGH: usize = BUFFER / 2;
 
 /// Reads a text once, where connection costs of the dictionary lie far from one another, and brings those near that the words of its
 /// beginning ask for, if it gives enough of them. What the dictionary says stays the same. Nothing is read where the dictionaries don't fit.
-pub(crate) fn begin<R: Read + Drop>(
+pub(crate) fn begin<R: TextIn + Drop>(
     alloc: Global,
     system: &mut Dict,
     users: &[Dict],
     reader: R,
 ) -> Result<Begun<R>, AllocError>
+    requires reads { CanRise (R.told reader).reads }
+    requires ends { CanRise (R.told reader).ends }
+    requires failures { CanRise (R.told reader).failures }
     ensures same { system.new ≡ system.old }
     ensures text { IfOk result
         (λ begun. Keeps (R.remaining reader) (left_of R.remaining begun)) }
+    // One read was made at most, and its end or its fault is kept.
+    ensures reads { IfOk result
+        (λ begun. (R.told (reader_of begun)).reads ≤ (R.told reader).reads + 1) }
+    ensures ends { IfOk result
+        (λ begun. (R.told (reader_of begun)).ends ≡ (R.told reader).ends + kept_end begun) }
+    ensures failures { IfOk result (λ begun. (R.told (reader_of begun)).failures
+        ≡ (R.told reader).failures + kept_fault begun) }
 {
     if !system.has_far_costs() {
         return Ok(Begun::unread(alloc, reader));

@@ -26,7 +26,8 @@ pub fn cut_by_images(
     let mut system = dictionary_at(rt, dic, digest)?;
     manner.narrator.say(Stage::Loaded { path: dic });
     let overlays = dictionaries_at(rt, users, digest)?;
-    let text = begin(rt.alloc(), &mut system, &overlays, rt.reader()).map_err(|_refused| Fault::Run(
+    let stdin = Counted::new(rt.reader());
+    let text = begin(rt.alloc(), &mut system, &overlays, stdin).map_err(|_refused| Fault::Run(
         RunFault::Memory(0),
     ))?;
     let mut reader = Counted::new(text);
