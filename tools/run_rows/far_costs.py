@@ -32,6 +32,7 @@ ROWS = [
     *(cut(*row) for row in TEXTS),
     cut("what a path costs", LINE * 5_000, "152\n" * 5_000, r"jseg -d new.img -F '' -E '%pc\n'"),
     cut("a first read that fails", "", "", err=told("line 1: G1 Read"), status=3, under=Under(stdin="directory")),
+    cut("a first read that fails, and a second that ends", "", "", err=told("line 1: G1 Read"), status=3, under=Under(stdin="reset")),
     cut("a later read that fails", "も\nす", MO, err=told("line 2: G1 Read"), status=3, under=Under(stdin="failing")),
     cut("a user that does not fit", LINE * 5_000, "", "jseg -d new.img -u user.img", err=told("user.img: O3 OtherSizes 0"), status=1),
 ]

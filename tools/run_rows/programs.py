@@ -52,6 +52,14 @@ def failing_input(text):
     return ours
 
 
+def reset_input():
+    """The end of a connection whose other end went away and had not read what was sent: the first read fails, and the next ones find the end."""
+    ours, theirs = socket.socketpair()
+    ours.send(b"unread")
+    theirs.close()
+    return ours.detach()
+
+
 def feed(writer, piece, count):
     """Writes a piece so often, as long as it is read."""
     with suppress(BrokenPipeError), open(writer, "wb", buffering=0) as pipe:
@@ -81,6 +89,8 @@ def fed_input(user, feeding, *given):
 def input_of(kind, text, folder, user):
     if kind == "failing":
         return failing_input(text)
+    if kind == "reset":
+        return reset_input()
     if kind in LONG:
         return fed_input(user, feed, *LONG[kind])
     if kind == "slow":

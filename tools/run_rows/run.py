@@ -39,8 +39,8 @@ class Exactly(Has):
 class Under(NamedTuple):
     """What a run meets beside its arguments, its files and its text."""
 
-    # directory, closed, failing after the text, slow: its second half comes after two seconds, entries: a lexicon of one more than a dictionary may
-    # have, or feature: a lexicon whose feature is too long
+    # directory, closed, failing after the text, reset: the first read alone fails, slow: its second half comes after two seconds, entries: a lexicon of
+    # one more than a dictionary may have, or feature: a lexicon whose feature is too long
     stdin: str = "text"
     stdout: str = "kept"  # full, closed, or unread: a pipe without a reader
     stderr: str = "kept"  # full, or terminal: what is written there is kept too

@@ -5,7 +5,7 @@ from .texts import MO, SUMOMO
 ALL = f"{SYSTEM} a/lexicon.csv"
 MADE = {"new.img": "sys.img"}
 LARGE = {"a/matrix.def": b"32767 32767\n"}
-FAILING = Under(stdin="failing")
+FAILING, RESET = Under(stdin="failing"), Under(stdin="reset")
 MEMORY = Under(memory=512 << 20)
 FULL, CLOSED, UNREAD = (Under(stdout=stdout) for stdout in ("full", "closed", "unread"))
 INTERRUPTED = Under(stdout="file", fails="interrupted write")
@@ -18,6 +18,7 @@ ROWS = [
     Run("input that is closed", "jseg --sample", err="line 1: G1 Read", status=3, under=Under(stdin="closed")),
     Run("input that fails", "jseg --sample", "も\nす", MO, "line 2: G1 Read", 3, under=FAILING),
     Run("input that fails, an image", "jseg -d sys.img", "も\nも\nす", MO + MO, "line 3: G1 Read", 3, under=FAILING),
+    *(Run(f"{words}, of input whose first read fails", words, err="line 1: G1 Read", status=3, under=RESET) for words in CUTS),
     *(Run(f"output {what}", "jseg --sample", "すもももも\n", err="G2 Write 0", status=3, under=under) for what, under in DEVICES),
     *(Run(f"output {what}, an image", "jseg -d sys.img", "すもももも\n", err="G2 Write 0", status=3, under=under) for what, under in DEVICES),
     Run("output of 5 bytes", "jseg --sample", "すもももも\n", b"\xe3\x81\x99\xe3\x82", "G2 Write 5", 3, under=Under(stdout="file", most=5)),
