@@ -1,4 +1,4 @@
-"""The search in slices: a program is started, and when it waits for its text it is given one slice after another."""
+"""A run in slices: a program is started, and when it waits for its text it is given one slice after another."""
 import fcntl
 import os
 import struct
@@ -27,6 +27,7 @@ class Fed:
         self.started = subprocess.Popen(self.command, stdin=subprocess.PIPE, stdout=subprocess.DEVNULL, bufsize=0)
         self.clock = ~self.started.pid << 3 | PROCESSOR_TIME
         self.wait_for_its_read()
+        self.load = time.clock_gettime(self.clock)
 
     def feed(self, text):
         """The seconds of the processor that it takes to work through a text of whole lines."""
@@ -55,24 +56,38 @@ class Fed:
         sys.exit(f"{self.command[0]} does not read on")
 
     def end(self):
+        """The seconds of the processor that it takes to end."""
+        before = time.clock_gettime(self.clock)
         self.started.stdin.close()
-        status = self.started.wait()
-        if status != 0:
-            sys.exit(f"{self.command[0]} ended with status {status}")
+        ended, used = os.wait4(self.started.pid, 0)[1:]
+        self.started.returncode = os.waitstatus_to_exitcode(ended)
+        if self.started.returncode != 0:
+            sys.exit(f"{self.command[0]} ended with status {self.started.returncode}")
+        return used.ru_utime + used.ru_stime - before
 
 
 class Seconds(NamedTuple):
-    """The seconds of the processor that a program took for each slice of the text, in each round."""
+    """The seconds of the processor that a program took in each round, for each of some parts of its run."""
 
     rounds: list
 
     def least(self, rounds=slice(None)):
-        """Those of the whole text, of each slice in the round that took the least for it."""
+        """Those of all parts, of each in the round that took the least for it."""
         return sum(map(min, zip(*self.rounds[rounds])))
 
     def beside(self, theirs):
         """What it takes beside another program, by all rounds, and by every other one from the first on and from the second on."""
         return [self.least(rounds) / theirs.least(rounds) for rounds in (slice(None), slice(0, None, 2), slice(1, None, 2))]
+
+
+class InSlices(NamedTuple):
+    """A whole run: the load, the slices of the text in their turn, and the end."""
+
+    run: Seconds
+
+    @property
+    def search(self):
+        return Seconds([parts[1:-1] for parts in self.run.rounds])
 
 
 def seconds_in_slices(commands, rounds, text):
@@ -83,14 +98,12 @@ def seconds_in_slices(commands, rounds, text):
         for number in range(len(commands)):
             turn = (first + number) % len(commands)
             taken[turn].append(seconds_of(commands[turn], slices))
-    return [Seconds(rounds) for rounds in taken]
+    return [InSlices(Seconds(rounds)) for rounds in taken]
 
 
 def seconds_of(command, slices):
     fed = Fed(command)
-    seconds = [fed.feed(piece) for piece in slices]
-    fed.end()
-    return seconds
+    return [fed.load, *(fed.feed(piece) for piece in slices), fed.end()]
 
 
 def slices_of(text, size=SIZE):
