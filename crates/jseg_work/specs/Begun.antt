@@ -1,8 +1,9 @@
 -- A text whose first read was made before it is asked for.
-use Rattle.std.specs.Prelude.{ℕ, Bool, List, [], Option, None, Some, if◌then◌else◌, option_map}
+use Rattle.std.specs.Prelude.{ℕ, ◌≡◌, ◌+◌, Bool, List, [], Option, None, Some, if◌then◌else◌, option_map}
 use Rattle.std.specs.Fmt.{option_append}
 use Rattle.std.specs.Io.Chain.{chain_remaining, chain_second}
 use Rattle.std.specs.Io.Cursor.{cursor_remaining}
+use Rattle.mj_model.specs.Counts.{ReaderTold}
 use Rattle.jseg_work.specs.declared.begun.Begun.{Begun}
 
 -- the bytes that come of a text of which some were read: none where the read said that nothing follows
@@ -31,3 +32,9 @@ kept_end begun = if begun.is_ended then 1 else 0
 -- 1 for a fault that is kept
 abbrev pub kept_fault : {R : Type 0} → Begun R → ℕ
 kept_fault begun = faults_in begun.failed
+
+-- what was counted since: an end, where that is kept, and a fault, where that is
+abbrev pub KeepsItsCounts : {R : Type 0} → (R → ReaderTold) → ReaderTold → Begun R → Type 0
+KeepsItsCounts told before begun =
+    ((told (reader_of begun)).ends ≡ before.ends + kept_end begun)
+    × ((told (reader_of begun)).failures ≡ before.failures + kept_fault begun)

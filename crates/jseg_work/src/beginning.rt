@@ -3,8 +3,8 @@
 ghost use Rattle.std.specs.Prelude.{◌≡◌, ◌+◌, ◌≤◌, IfOk};
 ghost use Rattle.std.specs.Io.KnownBytes.{Keeps};
 ghost use Rattle.dict_image.specs.ContextIds.{AreOfSizes};
-ghost use Rattle.mj_model.specs.Counts.{CanRise};
-ghost use Rattle.jseg_work.specs.Begun.{left_of, kept_end, kept_fault, reader_of};
+ghost use Rattle.mj_model.specs.Counts.{MayBeRead};
+ghost use Rattle.jseg_work.specs.Begun.{KeepsItsCounts, left_of, reader_of};
 
 use crate::begun::Begun;
 use dict_image::{ContextIds, Dict};
@@ -25,19 +25,14 @@ pub(crate) fn begin<R: TextIn + Drop>(
     users: &[Dict],
     reader: R,
 ) -> Result<Begun<R>, AllocError>
-    requires reads { CanRise (R.told reader).reads }
-    requires ends { CanRise (R.told reader).ends }
-    requires failures { CanRise (R.told reader).failures }
+    requires counts { MayBeRead (R.told reader) }
     ensures same { system.new ≡ system.old }
     ensures text { IfOk result
         (λ begun. Keeps (R.remaining reader) (left_of R.remaining begun)) }
     // One read was made at most, and its end or its fault is kept.
     ensures reads { IfOk result
         (λ begun. (R.told (reader_of begun)).reads ≤ (R.told reader).reads + 1) }
-    ensures ends { IfOk result
-        (λ begun. (R.told (reader_of begun)).ends ≡ (R.told reader).ends + kept_end begun) }
-    ensures failures { IfOk result (λ begun. (R.told (reader_of begun)).failures
-        ≡ (R.told reader).failures + kept_fault begun) }
+    ensures kept { IfOk result (KeepsItsCounts R.told (R.told reader)) }
 {
     if !system.has_far_costs() {
         return Ok(Begun::unread(alloc, reader));

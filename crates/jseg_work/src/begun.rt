@@ -2,8 +2,9 @@
 
 ghost use Rattle.std.specs.Prelude.{◌≡◌, ◌<◌, ◌+◌, length, IfOk};
 ghost use Rattle.std.specs.Io.KnownBytes.{Keeps};
-ghost use Rattle.mj_model.specs.Counts.{CanRise};
-ghost use Rattle.jseg_work.specs.Begun.{left_after, left_of, kept_end, kept_fault, reader_of};
+ghost use Rattle.mj_model.specs.Counts.{MayBeRead};
+ghost use Rattle.jseg_work.specs.Begun.{KeepsItsCounts, left_after, left_of};
+ghost use Rattle.jseg_work.specs.Begun.{kept_end, kept_fault, reader_of};
 
 use line_stream::BUFFER;
 use mj_model::TextIn;
@@ -56,17 +57,12 @@ impl<R: Read + Drop> Begun<R> {
 impl<R: TextIn + Drop> Begun<R> {
     /// A reader of which one read was made. Its answer is kept, as the reader's own counts tell it.
     pub fn read_once(alloc: Global, reader: R) -> Result<Begun<R>, AllocError>
-        requires reads { CanRise (R.told reader).reads }
-        requires ends { CanRise (R.told reader).ends }
-        requires failures { CanRise (R.told reader).failures }
+        requires counts { MayBeRead (R.told reader) }
         ensures text { IfOk result
             (λ begun. Keeps (R.remaining reader) (left_of R.remaining begun)) }
         ensures reads { IfOk result
             (λ begun. (R.told (reader_of begun)).reads ≡ (R.told reader).reads + 1) }
-        ensures ends { IfOk result
-            (λ begun. (R.told (reader_of begun)).ends ≡ (R.told reader).ends + kept_end begun) }
-        ensures failures { IfOk result (λ begun. (R.told (reader_of begun)).failures
-            ≡ (R.told reader).failures + kept_fault begun) }
+        ensures kept { IfOk result (KeepsItsCounts R.told (R.told reader)) }
     {
         let mut buffer = vec![in alloc; 0; BUFFER]?;
         Begun::read_by(alloc, reader, &mut buffer)
@@ -75,17 +71,12 @@ impl<R: TextIn + Drop> Begun<R> {
     /// The same by a buffer.
     fn read_by(alloc: Global, reader: R, buffer: &mut [u8]) -> Result<Begun<R>, AllocError>
         requires room { 0 < length buffer.old }
-        requires reads { CanRise (R.told reader).reads }
-        requires ends { CanRise (R.told reader).ends }
-        requires failures { CanRise (R.told reader).failures }
+        requires counts { MayBeRead (R.told reader) }
         ensures text { IfOk result
             (λ begun. Keeps (R.remaining reader) (left_of R.remaining begun)) }
         ensures reads { IfOk result
             (λ begun. (R.told (reader_of begun)).reads ≡ (R.told reader).reads + 1) }
-        ensures ends { IfOk result
-            (λ begun. (R.told (reader_of begun)).ends ≡ (R.told reader).ends + kept_end begun) }
-        ensures failures { IfOk result (λ begun. (R.told (reader_of begun)).failures
-            ≡ (R.told reader).failures + kept_fault begun) }
+        ensures kept { IfOk result (KeepsItsCounts R.told (R.told reader)) }
     {
         let mut reader = reader;
         let mut bytes = Vec::new(alloc);
