@@ -3,7 +3,7 @@ import struct
 
 from .codes import CODES_OF_CALLS, codes_of_programs
 from .images import LAYOUT_2, LAYOUT_3, UNTESTED, changed, with_digest
-from .run import ANY, LEXICON, MATRIX, SYSTEM, USER, Exactly, Has, Path, Run, Under
+from .run import ANY, ERASED, LEXICON, MATRIX, SYSTEM, USER, Erased, Exactly, Has, Path, Run, Under
 from .sources import FAULTS, TWO, told_faults
 from .texts import MO
 
@@ -92,24 +92,23 @@ WHY = [
 
 # What is printed on a terminal, and nowhere else: a byte order mark, and a file that takes longer than two seconds, whose line is erased after it.
 # (what, words, what is there, what is left, where standard error goes, what is told, under what)
-ERASED = "\x1b[K"
 NOTE = "dictc: mark.csv begins with a byte order mark, which counts as text\n"
-READING = f"\rreading /dev/stdin: {len(MATRIX)} bytes{ERASED}\r{ERASED}"
+READING = Erased(f"reading /dev/stdin: {len(MATRIX)} bytes{ERASED}")
 MARKED, ANY_IMAGE = {"mark.csv": MARK + LEXICON}, {"new.img": ANY}
 FROM_INPUT = f"{SYSTEM.replace('a/matrix.def', '/dev/stdin')} a/lexicon.csv"
 TOLD = [
-    ("a mark before a lexicon,", f"{SYSTEM} mark.csv", MARKED, ANY_IMAGE, "on a terminal", NOTE, Under(stderr="terminal")),
-    ("a mark before a user's lexicon,", f"{USER} mark.csv", MARKED, ANY_IMAGE, "on a terminal", NOTE, Under(stderr="terminal")),
-    ("a mark before a lexicon,", f"{SYSTEM} mark.csv", MARKED, ANY_IMAGE, "read by a program", "", Under()),
+    ("a mark before a lexicon,", f"{SYSTEM} mark.csv", MARKED, ANY_IMAGE, "on a terminal", Exactly(NOTE), Under(stderr="terminal")),
+    ("a mark before a user's lexicon,", f"{USER} mark.csv", MARKED, ANY_IMAGE, "on a terminal", Exactly(NOTE), Under(stderr="terminal")),
+    ("a mark before a lexicon,", f"{SYSTEM} mark.csv", MARKED, ANY_IMAGE, "read by a program", Exactly(""), Under()),
     ("a slow matrix.def", FROM_INPUT, {}, MADE, "on a terminal", READING, Under(stdin="slow", stderr="terminal")),
-    ("a slow matrix.def", FROM_INPUT, {}, MADE, "read by a program", "", Under(stdin="slow")),
+    ("a slow matrix.def", FROM_INPUT, {}, MADE, "read by a program", Exactly(""), Under(stdin="slow")),
 ]
 
 # Images that come slowly, and what the run ends with: none, or a fault whose code is explained on a terminal. The digest is taken meanwhile.
 # (what, words, how it is slow, the image on standard input, what else is there, the output, how the reading is told, the fault)
 LONG = with_digest(changed(LAYOUT_2, (96, struct.pack("<Q", 70_000))) + b"X" * 69_999)
-FROM_PIPE = f"\rreading /dev/stdin: {len(LAYOUT_3)} bytes{ERASED}\r{ERASED}"
-FROM_FILE = f"\rreading long.img: {len(LONG)} of {len(LONG)} bytes{ERASED}\r{ERASED}"
+FROM_PIPE = f"reading /dev/stdin: {len(LAYOUT_3)} bytes{ERASED}"
+FROM_FILE = f"reading long.img: {len(LONG)} of {len(LONG)} bytes{ERASED}"
 BY_PIPE, BY_FILE = {"stdin": "slow"}, {"fails": "slow read"}
 SLOW_LOADS = [
     ("an image", "jseg -d sys.img -u /dev/stdin", BY_PIPE, LAYOUT_3, {}, "", FROM_PIPE, ""),
@@ -124,7 +123,7 @@ SLOW_LOADS = [
 def slow_load(what, words, how, text, files, out, read, fault):
     """A slow load on a terminal, and read by a program."""
     end = f"{words.split()[0]}: {fault}\n{explained_by(words.split()[0], fault.split()[1])}" if fault else ""
-    for where, err, stderr in (("on a terminal", Exactly(read + end), "terminal"), ("read by a program", fault, "kept")):
+    for where, err, stderr in (("on a terminal", Erased(read, (end,)), "terminal"), ("read by a program", fault, "kept")):
         yield Run(f"{what} that comes slowly, {where}", words, text, out, err, 1 if fault else 0, files, under=Under(stderr=stderr, **how))
 
 # What is said beside a fault, on a terminal and with `-v` alone. (words, the lines before the fault's, that one, its code, the status)
@@ -192,7 +191,7 @@ ROWS = [
     *(Run(f"which option: {option}", f"jseg --sample -v {option} %q", err=Has("", (f"the text of {option}\n", "P2 BadItem 0\n")), status=2) for option in ("-F", "-U", "-B", "-E")),
     Run("a mark before matrix.def", "jseg --sources a -v", err=Has("", ("a/matrix.def begins with a byte order mark", "a/matrix.def:1: M1 BadHeader")), status=1, files={"a/matrix.def": MARK + MATRIX}),
     Run("a mark before a lexicon", f"{SYSTEM} -v mark.csv", out=LINE, err=Has("", ("mark.csv begins with a byte order mark",)), files={"mark.csv": MARK + LEXICON}, left={"new.img": ANY}),
-    *(Run(f"{what} {where}", words, MATRIX, out=LINE, err=Exactly(told), files=files, left=left, under=under) for what, words, files, left, where, told, under in TOLD),
+    *(Run(f"{what} {where}", words, MATRIX, out=LINE, err=told, files=files, left=left, under=under) for what, words, files, left, where, told, under in TOLD),
     *(run for row in SLOW_LOADS for run in slow_load(*row)),
     Run("nothing to know, on a terminal", f"{SYSTEM} a/lexicon.csv", out=LINE, left=MADE, under=Under(stderr="terminal")),
     Run("what dictc does", f"{SYSTEM} -v a/lexicon.csv", out=LINE, err=Has("dictc: ", ("read a/matrix.def: ", "compiling 1 lexicons", *STEPS, "sorted 3 entries", "compiled 3 entries", "wrote new.img: ", *SHARES)), left=MADE),

@@ -1,11 +1,15 @@
 """The programs in a process of their own, under what a row says."""
+import fcntl
 import os
 import resource
+import select
 import shlex
 import shutil
 import socket
 import subprocess
+import sys
 import tempfile
+import termios
 import threading
 import time
 import tty
@@ -69,12 +73,22 @@ def feed(writer, piece, count):
 
 
 def feed_slowly(writer, text):
-    """Writes the halves of a text, the second one so late that a reader loses patience."""
+    """Writes the halves of a text, the second one so long after the first was read that a reader loses patience."""
     half = len(text) // 2
     with suppress(BrokenPipeError), open(writer, "wb", buffering=0) as pipe:
         pipe.write(text[:half])
+        while is_unread(pipe):
+            time.sleep(0.01)
         time.sleep(2.2)
         pipe.write(text[half:])
+
+
+def is_unread(pipe):
+    """Whether a pipe has bytes that somebody may read yet."""
+    ends = select.poll()
+    ends.register(pipe, 0)
+    waiting = int.from_bytes(fcntl.ioctl(pipe, termios.FIONREAD, bytes(4)), sys.byteorder)
+    return waiting > 0 and not ends.poll(0)
 
 
 def fed_input(user, feeding, *given):

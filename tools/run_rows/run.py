@@ -1,4 +1,5 @@
 """A run of a program: what it finds, what it is asked, and what it must do."""
+import re
 from pathlib import Path
 from typing import NamedTuple
 
@@ -9,6 +10,9 @@ MATRIX, CHARS, UNK, LEXICON = ((SAMPLE / name).read_bytes() for name in ("matrix
 DEFINITIONS = "--matrix a/matrix.def --char a/char.def --unk a/unk.def"
 SYSTEM = f"dictc system {DEFINITIONS} --out new.img"
 USER = "dictc user --dic sys.img --out new.img"
+
+# What erases a terminal's line from the cursor to its end.
+ERASED = "\x1b[K"
 
 # A file whose bytes no row gives.
 ANY = object()
@@ -26,7 +30,7 @@ class Has(NamedTuple):
 
     def changed(self, change):
         """The same with another form of each text."""
-        return Has(change(self.begin), tuple(map(change, self.words)), tuple(map(change, self.lacks)))
+        return type(self)(change(self.begin), tuple(map(change, self.words)), tuple(map(change, self.lacks)))
 
 
 class Exactly(Has):
@@ -34,6 +38,21 @@ class Exactly(Has):
 
     def fits(self, text):
         return text == self.begin
+
+
+class Erased(Has):
+    """A line of how far a reading is, which is written, erased and followed by the words. On a slow host it is written more than once, and lines with
+    other numbers may come first: the text is what is left of that."""
+
+    def fits(self, text):
+        lines = text.split("\r")
+        told, last = lines[1:-1], lines[-1]
+        of_this = [line for line in told if without_numbers(line) == without_numbers(self.begin)]
+        return lines[0] == "" and told == of_this and told[-1:] == [self.begin] and last == ERASED + "".join(self.words)
+
+
+def without_numbers(line):
+    return re.sub("[0-9]+", "0", line)
 
 
 class Under(NamedTuple):
