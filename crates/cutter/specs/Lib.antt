@@ -4,3 +4,4 @@ pub mod Kept
 pub mod Reaching
 pub mod Faults
 pub mod TextLines
+pub mod Trusted

@@ -4,6 +4,8 @@ ghost use Rattle.std.specs.Prelude.{◌≡◌, ◌≤◌, [], None, IfOk, IfErr,
 ghost use Rattle.cutter.specs.Cutters.{IsLoaded, with_user};
 ghost use Rattle.cutter.specs.Faults.{IsFormatRefused, IsGroupingRefusal, IsImage, IsLoadRefusal, IsUserRefusal, PassesToKeys};
 ghost use Rattle.cutter.specs.declared.fault.CutFault.TheVariants.{Memory};
+ghost use Rattle.cutter.specs.Trusted.{IsTrusted};
+ghost use Rattle.image_bytes.specs.declared.digest_test.DigestTest.TheVariants.{Made};
 ghost use Rattle.mj_model.specs.declared.limits.TheConstants.{GROUPING_MAX as GroupingMax};
 ghost use Rattle.out_format.specs.Formats.{ReadsFormat};
 ghost use Rattle.out_format.specs.Texts.{texts_of};
@@ -13,6 +15,7 @@ use crate::fault::CutFault;
 use crate::last_cut::LastCut;
 use crate::owned_dictionaries::OwnedDictionaries;
 use dict_image::DigestTest;
+use lent::ImageBytes;
 use mj_model::{GROUPING_DEFAULT, GROUPING_MAX};
 use out_format::Format;
 use std::alloc::{AllocError, Global};
@@ -55,16 +58,35 @@ impl Model for Cutter {
 impl Cutter {
     /// The cutter of a system's image, with the grouping of 24 characters and the format that MeCab has by default.
     #[tactic(auto, using(crate::proofs::StarvedLemmas::passes))]
-    pub fn load(alloc: Global, image: Vec<u8>, digest: DigestTest) -> Result<Cutter, CutFault>
-        ensures loaded { IfOk result (IsLoaded image.items) }
-        ensures accepted { OnOk result (IsImage digest image.items) }
-        ensures fits { OnOk result (fault_of_images image.items [] ≡ None) }
-        ensures refused { IfErr result (IsLoadRefusal digest image.items) }
+    pub fn load(alloc: Global, image: ImageBytes, digest: DigestTest) -> Result<Cutter, CutFault>
+        ensures loaded { IfOk result (IsLoaded image) }
+        ensures accepted { OnOk result (IsImage digest image) }
+        ensures fits { OnOk result (fault_of_images image [] ≡ None) }
+        ensures refused { IfErr result (IsLoadRefusal digest image) }
         // Memory is taken only where the bytes pass the tests before those of the keys.
         ensures starved { IfErr result
-            (λ fault. fault ≡ Memory → PassesToKeys digest image.items) }
+            (λ fault. fault ≡ Memory → PassesToKeys digest image) }
     {
         let dictionaries = OwnedDictionaries::load(alloc, image, digest)?;
+        let format = Format::default_of(alloc)?;
+        Ok(Cutter {
+            alloc,
+            dictionaries: Arc::new(alloc, dictionaries)?,
+            grouping: GROUPING_DEFAULT,
+            format: Arc::new(alloc, format)?,
+            last: LastCut::none(alloc),
+        })
+    }
+
+    /// The same of an image that is known to be intact. None of its tests is made.
+    pub fn load_trusted(alloc: Global, image: ImageBytes) -> Result<Cutter, CutFault>
+        requires { IsTrusted image }
+        ensures loaded { IfOk result (IsLoaded image) }
+        ensures accepted { OnOk result (IsImage Made image) }
+        ensures fits { OnOk result (fault_of_images image [] ≡ None) }
+        ensures refused { IfErr result (IsLoadRefusal Made image) }
+    {
+        let dictionaries = OwnedDictionaries::load_trusted(alloc, image)?;
         let format = Format::default_of(alloc)?;
         Ok(Cutter {
             alloc,
@@ -89,17 +111,17 @@ impl Cutter {
     }
 
     /// Lays the dictionary of a user's image over the others, while no other cutter shares them.
-    pub fn add_user(&mut self, image: Vec<u8>, digest: DigestTest) -> Result<(), CutFault>
+    pub fn add_user(&mut self, image: ImageBytes, digest: DigestTest) -> Result<(), CutFault>
         ensures added { OnOk result (self.new ≡ record self.old {
-          images = with_user self.old.images image.items;
+          images = with_user self.old.images image;
           cut = None;
         }) }
-        ensures accepted { OnOk result (IsImage digest image.items) }
+        ensures accepted { OnOk result (IsImage digest image) }
         ensures fits { OnOk result (fault_of_images self.new.images.system self.new.images.users
             ≡ None) }
-        ensures refused { IfErr result (IsUserRefusal digest self.old.images image.items) }
+        ensures refused { IfErr result (IsUserRefusal digest self.old.images image) }
         ensures starved { IfErr result
-            (λ fault. fault ≡ Memory → PassesToKeys digest image.items) }
+            (λ fault. fault ≡ Memory → PassesToKeys digest image) }
         ensures kept { OnErr result (self.new ≡ self.old) }
     {
         let Some(dictionaries) = Arc::get_mut(&mut self.dictionaries) else {

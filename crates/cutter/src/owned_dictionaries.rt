@@ -4,11 +4,14 @@ ghost use Rattle.std.specs.Prelude.{◌≡◌, ◌≤◌, ◌∷◌, ◌++◌, [
 ghost use Rattle.cutter.specs.Cutters.{GoOver, overlay_in, with_user};
 ghost use Rattle.cutter.specs.Faults.{IsAddRefusal, IsImage, IsLayRefusal, IsLoadRefusal, PassesToKeys};
 ghost use Rattle.cutter.specs.declared.fault.CutFault.TheVariants.{Memory};
+ghost use Rattle.cutter.specs.Trusted.{IsTrusted};
+ghost use Rattle.image_bytes.specs.declared.digest_test.DigestTest.TheVariants.{Made};
 ghost use Rattle.mj_model.specs.declared.limits.TheConstants.{GROUPING_MAX};
 ghost use Rattle.word_lookup.specs.Overlays.{fault_of_images, overlay_of};
 
 use crate::fault::CutFault;
-use dict_image::{Dict, DigestTest, load_by};
+use dict_image::{Dict, DigestTest, load_bytes, load_trusted};
+use lent::ImageBytes;
 use std::alloc::Global;
 use std::marker::Model;
 use word_lookup::Dictionaries;
@@ -34,18 +37,32 @@ impl OwnedDictionaries {
     /// The dictionary of a system's image, and no user's.
     pub fn load(
         alloc: Global,
-        image: Vec<u8>,
+        image: ImageBytes,
         digest: DigestTest,
     ) -> Result<OwnedDictionaries, CutFault>
-        ensures loaded { IfOk result (λ d. d ≡ record { system = image.items; users = [] }) }
-        ensures accepted { OnOk result (IsImage digest image.items) }
-        ensures fits { OnOk result (fault_of_images image.items [] ≡ None) }
-        ensures refused { IfErr result (IsLoadRefusal digest image.items) }
+        ensures loaded { IfOk result (λ d. d ≡ record { system = image; users = [] }) }
+        ensures accepted { OnOk result (IsImage digest image) }
+        ensures fits { OnOk result (fault_of_images image [] ≡ None) }
+        ensures refused { IfErr result (IsLoadRefusal digest image) }
         // Memory is taken only where the bytes pass the tests before those of the keys.
         ensures starved { IfErr result
-            (λ fault. fault ≡ Memory → PassesToKeys digest image.items) }
+            (λ fault. fault ≡ Memory → PassesToKeys digest image) }
     {
-        let system = load_by(alloc, image, digest)?;
+        let system = load_bytes(alloc, image, digest)?;
+        let users = Vec::new(alloc);
+        Dictionaries::new(&system, &users)?;
+        Ok(OwnedDictionaries { system, users })
+    }
+
+    /// The dictionary of a system's image that is known to be intact, and no user's. Nothing is tested but how many ids it has.
+    pub fn load_trusted(alloc: Global, image: ImageBytes) -> Result<OwnedDictionaries, CutFault>
+        requires { IsTrusted image }
+        ensures loaded { IfOk result (λ d. d ≡ record { system = image; users = [] }) }
+        ensures accepted { OnOk result (IsImage Made image) }
+        ensures fits { OnOk result (fault_of_images image [] ≡ None) }
+        ensures refused { IfErr result (IsLoadRefusal Made image) }
+    {
+        let system = load_trusted(alloc, image)?;
         let users = Vec::new(alloc);
         Dictionaries::new(&system, &users)?;
         Ok(OwnedDictionaries { system, users })
@@ -60,17 +77,22 @@ impl OwnedDictionaries {
     }
 
     /// Lays the dictionary of a user's image over the others.
-    pub fn add(&mut self, alloc: Global, image: Vec<u8>, digest: DigestTest) -> Result<(), CutFault>
-        ensures added { OnOk result (self.new ≡ with_user self.old image.items) }
-        ensures accepted { OnOk result (IsImage digest image.items) }
+    pub fn add(
+        &mut self,
+        alloc: Global,
+        image: ImageBytes,
+        digest: DigestTest,
+    ) -> Result<(), CutFault>
+        ensures added { OnOk result (self.new ≡ with_user self.old image) }
+        ensures accepted { OnOk result (IsImage digest image) }
         ensures fits { OnOk result
-            (fault_of_images self.old.system (self.old.users ++ image.items ∷ []) ≡ None) }
-        ensures refused { IfErr result (IsLayRefusal digest self.old image.items) }
+            (fault_of_images self.old.system (self.old.users ++ image ∷ []) ≡ None) }
+        ensures refused { IfErr result (IsLayRefusal digest self.old image) }
         ensures starved { IfErr result
-            (λ fault. fault ≡ Memory → PassesToKeys digest image.items) }
+            (λ fault. fault ≡ Memory → PassesToKeys digest image) }
         ensures kept { OnErr result (self.new ≡ self.old) }
     {
-        let user = load_by(alloc, image, digest)?;
+        let user = load_bytes(alloc, image, digest)?;
         add_checked(&self.system, &mut self.users, user)
     }
 }

@@ -6,11 +6,14 @@ ghost use Rattle.cutter.specs.declared.fault.CutFault.TheVariants.{Memory};
 ghost use Rattle.cutter_c.specs.Calls.{IsLoadedFrom, IsShared};
 ghost use Rattle.cutter_c.specs.Handles.{Fills, FillsFrom, IsFillRefusal, IsShareRefusal, cutter_in};
 ghost use Rattle.cutter_c.specs.declared.fault.CallFault.TheVariants.{Cut};
+ghost use Rattle.cutter.specs.Trusted.{IsTrusted};
+ghost use Rattle.image_bytes.specs.declared.digest_test.DigestTest.TheVariants.{Made};
 
 use crate::fault::CallFault;
 use crate::handle::Handle;
 use crate::session::Session;
 use cutter::{CutFault, DigestTest};
+use lent::ImageBytes;
 use std::alloc::Global;
 
 /// Fills an empty handle with the cutter of a system's image, which is copied.
@@ -30,29 +33,45 @@ pub fn load(
         return Err(CallFault::FullCutter);
     }
     let image = Vec::from_slice(alloc, image).map_err(|_| CallFault::Cut(CutFault::Memory))?;
-    load_owned(alloc, cutter, image, digest)
+    load_owned(alloc, cutter, ImageBytes::own(image), digest)
 }
 
 /// The same, of an image whose bytes are taken and not copied.
 pub fn load_owned(
     alloc: Global,
     cutter: &mut Handle,
-    image: Vec<u8>,
+    image: ImageBytes,
     digest: DigestTest,
 ) -> Result<(), CallFault>
     ensures loaded { OnOk result (Fills (cutter_in cutter.old) (cutter_in cutter.new)
-        (IsLoadedFrom digest image.items)) }
+        (IsLoadedFrom digest image)) }
     ensures refused { IfErr result
-        (IsFillRefusal (cutter_in cutter.old) (IsLoadRefusal digest image.items)) }
+        (IsFillRefusal (cutter_in cutter.old) (IsLoadRefusal digest image)) }
     // Memory is taken only where the bytes pass the tests before those of the keys.
     ensures starved { IfErr result
-        (λ fault. fault ≡ Cut Memory → PassesToKeys digest image.items) }
+        (λ fault. fault ≡ Cut Memory → PassesToKeys digest image) }
     ensures kept { OnErr result (cutter_in cutter.new ≡ cutter_in cutter.old) }
 {
     if cutter.is_full() {
         return Err(CallFault::FullCutter);
     }
     cutter.put(Session::over(alloc, image, digest).map_err(CallFault::Cut)?);
+    Ok(())
+}
+
+/// The same, of an image that is known to be intact.
+pub fn load_trusted(alloc: Global, cutter: &mut Handle, image: ImageBytes) -> Result<(), CallFault>
+    requires { IsTrusted image }
+    ensures loaded { OnOk result (Fills (cutter_in cutter.old) (cutter_in cutter.new)
+        (IsLoadedFrom Made image)) }
+    ensures refused { IfErr result
+        (IsFillRefusal (cutter_in cutter.old) (IsLoadRefusal Made image)) }
+    ensures kept { OnErr result (cutter_in cutter.new ≡ cutter_in cutter.old) }
+{
+    if cutter.is_full() {
+        return Err(CallFault::FullCutter);
+    }
+    cutter.put(Session::over_trusted(alloc, image).map_err(CallFault::Cut)?);
     Ok(())
 }
 

@@ -6,6 +6,7 @@ ghost use Rattle.cutter_c.specs.Buffers.{IsVacant, gathered, room_in};
 ghost use Rattle.cutter_c.specs.Calls.{TellsLoad, TellsUser};
 ghost use Rattle.cutter_c.specs.Codes.{memory};
 ghost use Rattle.cutter_c.specs.Handles.{cutter_in};
+ghost use Rattle.cutter.specs.Trusted.{IsTrusted};
 ghost use Rattle.image_bytes.specs.DigestTests.{test_by};
 ghost use Rattle.image_bytes.specs.declared.digest_test.DigestTest.TheVariants.{Made};
 
@@ -14,6 +15,7 @@ use crate::codes::{MEMORY, OK, told};
 use crate::handle::Handle;
 use crate::loading;
 use cutter::DigestTest;
+use lent::{ImageBytes, LentBytes, Loan};
 use std::alloc::Global;
 
 /// Fills an empty handle with the cutter of a system's image. `number` is set where a fault has one.
@@ -121,7 +123,8 @@ pub extern "C" fn kumquatsieve_load_buffer(
         PassesToKeys (test_by skip_digest) (gathered buffer.old) }
     ensures spent { IsVacant buffer.new }
 {
-    let image = buffer.take_bytes(alloc);
+    let bytes = buffer.take_bytes(alloc);
+    let image = ImageBytes::own(bytes);
     let digest = DigestTest::skipped_if(skip_digest);
     told(loading::load_owned(alloc, cutter, image, digest), number)
 }
@@ -141,7 +144,8 @@ pub extern "C" fn kumquatsieve_add_user_buffer(
         PassesToKeys (test_by skip_digest) (gathered buffer.old) }
     ensures spent { IsVacant buffer.new }
 {
-    let image = buffer.take_bytes(alloc);
+    let bytes = buffer.take_bytes(alloc);
+    let image = ImageBytes::own(bytes);
     let digest = DigestTest::skipped_if(skip_digest);
     let answer = cutter.call(alloc, move |session| session.add_owned_user(image, digest));
     told(answer, number)
@@ -153,4 +157,56 @@ pub extern "C" fn kumquatsieve_buffer_free(alloc: Global, buffer: &mut BufferHan
     ensures { IsVacant buffer.new }
 {
     buffer.take(alloc);
+}
+
+/// Fills an empty handle with the cutter of a system's image that lies in memory of C's, which C gives up until no cutter has it. It is
+/// read where it lies. The digest is not tested where `skip_digest` says so. `number` is set where a fault has one.
+#[unsafe(no_mangle)]
+pub extern "C" fn kumquatsieve_load_lent(
+    alloc: Global,
+    cutter: &mut Handle,
+    image: Loan,
+    skip_digest: bool,
+    number: &mut u64,
+) -> u32
+    ensures { TellsLoad (test_by skip_digest) image.bytes
+        (cutter_in cutter.old) (cutter_in cutter.new) number.old number.new result }
+{
+    let image = ImageBytes::lent(LentBytes::of(image));
+    let digest = DigestTest::skipped_if(skip_digest);
+    told(loading::load_owned(alloc, cutter, image, digest), number)
+}
+
+/// Lays a user's image that lies in memory of C's over the dictionaries of a handle's cutter, in the same way.
+#[unsafe(no_mangle)]
+pub extern "C" fn kumquatsieve_add_user_lent(
+    alloc: Global,
+    cutter: &mut Handle,
+    image: Loan,
+    skip_digest: bool,
+    number: &mut u64,
+) -> u32
+    ensures { TellsUser (test_by skip_digest) image.bytes
+        (cutter_in cutter.old) (cutter_in cutter.new) number.old number.new result }
+{
+    let image = ImageBytes::lent(LentBytes::of(image));
+    let digest = DigestTest::skipped_if(skip_digest);
+    let answer = cutter.call(alloc, move |session| session.add_owned_user(image, digest));
+    told(answer, number)
+}
+
+/// Fills an empty handle with the cutter of a system's image that lies in memory of C's, and that C knows to be intact: no test is made.
+#[unsafe(no_mangle)]
+pub extern "C" fn kumquatsieve_load_trusted(
+    alloc: Global,
+    cutter: &mut Handle,
+    image: Loan,
+    number: &mut u64,
+) -> u32
+    requires { IsTrusted image.bytes }
+    ensures { TellsLoad Made image.bytes
+        (cutter_in cutter.old) (cutter_in cutter.new) number.old number.new result }
+{
+    let image = ImageBytes::lent(LentBytes::of(image));
+    told(loading::load_trusted(alloc, cutter, image), number)
 }

@@ -3,9 +3,12 @@
 ghost use Rattle.std.specs.Prelude.{◌≡◌, IfOk, IfErr, OnOk, OnErr};
 ghost use Rattle.cutter.specs.Faults.{IsLoadRefusal, PassesToKeys};
 ghost use Rattle.cutter.specs.declared.fault.CutFault.TheVariants.{Memory};
+ghost use Rattle.cutter.specs.Trusted.{IsTrusted};
+ghost use Rattle.image_bytes.specs.declared.digest_test.DigestTest.TheVariants.{Made};
 ghost use Rattle.cutter_c.specs.Calls.{IsExtended, IsLoadedFrom, IsShared, IsUserFault};
 
 use cutter::{CutFault, Cutter, DigestTest};
+use lent::ImageBytes;
 use std::alloc::Global;
 
 /// A cutter, and what was written last into its own buffer.
@@ -17,15 +20,29 @@ pub struct Session {
 
 impl Session {
     /// The session of a system's image.
-    pub fn over(alloc: Global, image: Vec<u8>, digest: DigestTest) -> Result<Box<Session>, CutFault>
+    pub fn over(
+        alloc: Global,
+        image: ImageBytes,
+        digest: DigestTest,
+    ) -> Result<Box<Session>, CutFault>
         ensures loaded { IfOk result
-            (λ session. IsLoadedFrom digest image.items session.value.cutter) }
-        ensures refused { IfErr result (IsLoadRefusal digest image.items) }
+            (λ session. IsLoadedFrom digest image session.value.cutter) }
+        ensures refused { IfErr result (IsLoadRefusal digest image) }
         // Memory is taken only where the bytes pass the tests before those of the keys.
         ensures starved { IfErr result
-            (λ fault. fault ≡ Memory → PassesToKeys digest image.items) }
+            (λ fault. fault ≡ Memory → PassesToKeys digest image) }
     {
         Session::of(alloc, Cutter::load(alloc, image, digest)?)
+    }
+
+    /// The session of a system's image that is known to be intact.
+    pub fn over_trusted(alloc: Global, image: ImageBytes) -> Result<Box<Session>, CutFault>
+        requires { IsTrusted image }
+        ensures loaded { IfOk result
+            (λ session. IsLoadedFrom Made image session.value.cutter) }
+        ensures refused { IfErr result (IsLoadRefusal Made image) }
+    {
+        Session::of(alloc, Cutter::load_trusted(alloc, image)?)
     }
 
     /// The session of a cutter.
@@ -57,16 +74,16 @@ impl Session {
         ensures refused { IfErr result (IsUserFault digest image.now self.old.cutter) }
         ensures kept { OnErr result (self.new.cutter ≡ self.old.cutter) }
     {
-        self.add_owned_user(Vec::from_slice(alloc, image)?, digest)
+        self.add_owned_user(ImageBytes::own(Vec::from_slice(alloc, image)?), digest)
     }
 
     /// Lays a user's image over the dictionaries.
-    pub fn add_owned_user(&mut self, image: Vec<u8>, digest: DigestTest) -> Result<(), CutFault>
+    pub fn add_owned_user(&mut self, image: ImageBytes, digest: DigestTest) -> Result<(), CutFault>
         ensures added { OnOk result
-            (IsExtended digest image.items self.old.cutter self.new.cutter) }
-        ensures refused { IfErr result (IsUserFault digest image.items self.old.cutter) }
+            (IsExtended digest image self.old.cutter self.new.cutter) }
+        ensures refused { IfErr result (IsUserFault digest image self.old.cutter) }
         ensures starved { IfErr result
-            (λ fault. fault ≡ Memory → PassesToKeys digest image.items) }
+            (λ fault. fault ≡ Memory → PassesToKeys digest image) }
         ensures kept { OnErr result (self.new.cutter ≡ self.old.cutter) }
     {
         self.cutter.add_user(image, digest)

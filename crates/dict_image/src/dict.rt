@@ -25,6 +25,7 @@ use cell_walk::{CellRead, get, prefixes};
 use image_bytes::Section::{Features, Groups, Tokens};
 use image_bytes::{DictKind, Header, ImageCells, Section, section_bytes};
 use image_check::{Keys, Outline};
+use lent::ImageBytes;
 use mj_model::{Category, MatrixSizes};
 use std::alloc::{AllocError, Global};
 use std::marker::Model;
@@ -32,7 +33,7 @@ use std::marker::Model;
 /// A dictionary, as the bytes of its image, which are read where they lie.
 #[derive(Drop)]
 pub struct Dict {
-    bytes: Vec<u8>,
+    bytes: ImageBytes,
     outline: Outline,
     tables: LookupTables,
 }
@@ -45,21 +46,25 @@ impl Model for Dict {
 
     ghost Value = { List ℕ };
 
-    ghost view = { λ d. d.bytes.items };
+    ghost view = { λ d. d.bytes };
 
     ghost invariant = { λ d. record {
-      outline : IsOutline d.bytes.items d.outline;
-      tables : AreLookupTables d.bytes.items d.tables;
+      outline : IsOutline d.bytes d.outline;
+      tables : AreLookupTables d.bytes d.tables;
     } };
 }
 
 impl Dict {
     /// The dictionary of a well-formed image with its outline. Its lookup tables take memory.
-    pub(crate) fn over(alloc: Global, bytes: Vec<u8>, outline: Outline) -> Result<Dict, AllocError>
-        requires { IsOutline bytes.items outline }
-        ensures { IfOk result (λ dict. dict ≡ bytes.items) }
+    pub(crate) fn over(
+        alloc: Global,
+        bytes: ImageBytes,
+        outline: Outline,
+    ) -> Result<Dict, AllocError>
+        requires { IsOutline bytes outline }
+        ensures { IfOk result (λ dict. dict ≡ bytes) }
     {
-        let tables = lookup_tables_of(alloc, &bytes, &outline)?;
+        let tables = lookup_tables_of(alloc, bytes.as_slice(), &outline)?;
         Ok(Dict {
             bytes,
             outline,
@@ -115,7 +120,7 @@ impl Dict {
         ensures section { result.now ≡ section_of self.now (number_of section) }
         ensures formed { IsImage self.now }
     {
-        section_bytes(&self.bytes, &self.outline.ends, section)
+        section_bytes(self.bytes.as_slice(), &self.outline.ends, section)
     }
 
     /// Where connection costs are looked up.

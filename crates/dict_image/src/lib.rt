@@ -41,6 +41,6 @@ pub use entry_row::EntryRow;
 pub use hits::Prefixes;
 pub use ids_and_cost::IdsAndCost;
 pub use image_bytes::DigestTest;
-pub use loading::{load, load_by, load_without_digest, load_written};
+pub use loading::{load, load_by, load_bytes, load_trusted, load_without_digest, load_written};
 pub use numbered_ids::{NUMBERED_MAX, NumberedIds};
 pub use token_row::TokenRow;

@@ -11,6 +11,7 @@ ghost use Rattle.dict_image.specs.Loading.{IsLoadFault};
 use crate::dict::Dict;
 use image_bytes::DigestTest;
 use image_check::{check_image, outline_of_written};
+use lent::ImageBytes;
 use mj_model::ImageFault;
 use std::alloc::{AllocError, Global};
 
@@ -45,7 +46,17 @@ pub fn load_by(alloc: Global, bytes: Vec<u8>, digest: DigestTest) -> Result<Dict
     ensures starved { IfErr result
         (λ fault. fault ≡ Memory → PassToKeys digest bytes.items) }
 {
-    let outline = check_image(alloc, &bytes, digest)?;
+    load_bytes(alloc, ImageBytes::own(bytes), digest)
+}
+
+/// The same, of bytes wherever they lie.
+pub fn load_bytes(alloc: Global, bytes: ImageBytes, digest: DigestTest) -> Result<Dict, ImageFault>
+    ensures dict { IfOk result (λ dict. dict ≡ bytes) }
+    ensures accepted { OnOk result (IsAccepted digest bytes) }
+    ensures refused { IfErr result (IsLoadFault digest bytes) }
+    ensures starved { IfErr result (λ fault. fault ≡ Memory → PassToKeys digest bytes) }
+{
+    let outline = check_image(alloc, bytes.as_slice(), digest)?;
     Ok(Dict::over(alloc, bytes, outline)?)
 }
 
@@ -55,6 +66,15 @@ pub fn load_written(alloc: Global, bytes: Vec<u8>) -> Result<Dict, AllocError>
     requires layout { (header_of bytes.items).layout ≡ Layout }
     ensures { IfOk result (λ dict. dict ≡ bytes.items) }
 {
-    let outline = outline_of_written(&bytes);
+    load_trusted(alloc, ImageBytes::own(bytes))
+}
+
+/// The same, of bytes wherever they lie.
+pub fn load_trusted(alloc: Global, bytes: ImageBytes) -> Result<Dict, AllocError>
+    requires intact { IsIntact bytes }
+    requires layout { (header_of bytes).layout ≡ Layout }
+    ensures { IfOk result (λ dict. dict ≡ bytes) }
+{
+    let outline = outline_of_written(bytes.as_slice());
     Dict::over(alloc, bytes, outline)
 }

@@ -1,15 +1,9 @@
-use Rattle.std.proofs.Common.{◌≡◌, List, ℕ, subst, sym}
-use Rattle.image_bytes.specs.ImageBytes.{header_of}
+use Rattle.std.proofs.Common.{◌≡◌, IfOk, List, ℕ, subst, sym}
 use Rattle.image_bytes.specs.ImageFaults.{IsIntact}
-use Rattle.image_bytes.specs.declared.layout.TheConstants.{LAYOUT}
-use Rattle.image_check.specs.Outlines.{IsOutline}
 use Rattle.dict_image.proofs.loading.load_written.Goals as goal
 
-pub outline_of_written-outline-requires-clause-intact : goal.outline_of_written-outline-requires-clause-intact
-outline_of_written-outline-requires-clause-intact c = subst IsIntact (sym c.deref.ensures.value) c.requires.intact
+pub load_trusted-requires-clause-intact : goal.load_trusted-requires-clause-intact
+load_trusted-requires-clause-intact c = subst IsIntact (sym c.own.ensures) c.requires.intact
 
-pub outline_of_written-outline-requires-clause-layout : goal.outline_of_written-outline-requires-clause-layout
-outline_of_written-outline-requires-clause-layout c = subst (λ (bytes : List ℕ). (header_of bytes).layout ≡ LAYOUT) (sym c.deref.ensures.value) c.requires.layout
-
-pub over-requires : goal.over-requires
-over-requires c = subst (λ (bytes : List ℕ). IsOutline bytes c.outline_of_written-outline.result) c.deref.ensures.value c.outline_of_written-outline.ensures
+pub returns : goal.returns
+returns c = subst (λ (bytes : List ℕ). IfOk c.load_trusted.result (λ dict. dict ≡ bytes)) c.own.ensures c.load_trusted.ensures

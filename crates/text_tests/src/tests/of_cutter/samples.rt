@@ -2,13 +2,18 @@
 
 use cutter::{Cutter, DigestTest};
 use dict_compile::compile;
+use lent::ImageBytes;
 use mj_model::sample;
 use std::alloc::{AllocError, Global};
 use std::test::Fail;
 
 /// A cutter over the sample's dictionary.
 pub fn sample_cutter(alloc: Global) -> Result<Cutter, Fail> {
-    Ok(Cutter::load(alloc, compile(alloc, &sample())?.image, DigestTest::Made)?)
+    Ok(Cutter::load(
+        alloc,
+        ImageBytes::own(compile(alloc, &sample())?.image),
+        DigestTest::Made,
+    )?)
 }
 
 /// What a cutter prints of what it cut last; nothing where it cut nothing.

@@ -11,12 +11,12 @@ use Rattle.cutter.proofs.owned_dictionaries.OwnedDictionaries.load.Goals as goal
 pub returns-in_err-system-clause-refused : goal.returns-in_err-system-clause-refused
 returns-in_err-system-clause-refused c =
     let p = err_from_is_err_and c.from_residual.result c.from_residual.ensures.1 in
-    rw (p.1, p.2) (load_refused c.args.digest c.args.image.items c.in_err-system.field-0.0 c.in_err-system.ensures.refused)
+    rw (p.1, p.2) (load_refused c.args.digest c.args.image c.in_err-system.field-0.0 c.in_err-system.ensures.refused)
 
 pub returns-in_err-system-clause-starved : goal.returns-in_err-system-clause-starved
 returns-in_err-system-clause-starved c =
     let p = err_from_is_err_and c.from_residual.result c.from_residual.ensures.1 in
-    rw (p.1, p.2) (load_starved c.args.digest c.args.image.items c.in_err-system.field-0.0 c.in_err-system.ensures.starved)
+    rw (p.1, p.2) (load_starved c.args.digest c.args.image c.in_err-system.field-0.0 c.in_err-system.ensures.starved)
 
 pub returns-in_err-new-clause-refused : goal.returns-in_err-new-clause-refused
 unfolding IsImage
@@ -24,7 +24,7 @@ returns-in_err-new-clause-refused c =
     let p = err_from_is_err_and c.from_residual-in_err-new.result c.from_residual-in_err-new.ensures.1 in
     rw (p.1, p.2) (
       c.in_ok-system.ensures.accepted,
-      same_fault c.in_ok-system.system c.args.image.items c.deref.result.now [] (Some c.in_err-new.field-0.0) c.in_ok-system.ensures.dict (c.deref.ensures.value ∙ c.new-users.ensures.items)
+      same_fault c.in_ok-system.system c.args.image c.deref.result.now [] (Some c.in_err-new.field-0.0) c.in_ok-system.ensures.dict (c.deref.ensures.value ∙ c.new-users.ensures.items)
           c.in_err-new.ensures.refused,
     )
 
@@ -46,4 +46,4 @@ returns-clause-accepted c = c.in_ok-system.ensures.accepted
 
 pub returns-clause-fits : goal.returns-clause-fits
 returns-clause-fits c =
-    same_fault c.in_ok-system.system c.args.image.items c.deref.result.now [] None c.in_ok-system.ensures.dict (c.deref.ensures.value ∙ c.new-users.ensures.items) c.in_ok-new.ensures.accepted
+    same_fault c.in_ok-system.system c.args.image c.deref.result.now [] None c.in_ok-system.ensures.dict (c.deref.ensures.value ∙ c.new-users.ensures.items) c.in_ok-new.ensures.accepted

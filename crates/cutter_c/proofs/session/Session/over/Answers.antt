@@ -8,5 +8,5 @@ use Rattle.cutter_c.proofs.session.Session.over.Goals as goal
 
 pub returns-clause-starved : goal.returns-clause-starved
 returns-clause-starved c =
-    let image = c.args.image.items in
+    let image = c.args.image in
     each_err c.of.result (λ (fault : CutFault). fault ≡ Memory) (PassesToKeys c.args.digest image) (passes c.args.digest image c.in_ok-load.ensures.accepted)

@@ -5,5 +5,5 @@ use Rattle.dict_image.proofs.dict.Dict.over.Goals as goal
 pub invariant_of-result : goal.invariant_of-result
 invariant_of-result c = record {
   outline = c.requires;
-  tables = subst (λ bytes. AreLookupTables bytes c.in_ok-tables.tables) c.deref.ensures.value c.in_ok-tables.ensures;
+  tables = subst (λ bytes. AreLookupTables bytes c.in_ok-tables.tables) c.as_slice.ensures c.in_ok-tables.ensures;
 }
