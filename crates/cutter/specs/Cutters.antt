@@ -72,12 +72,16 @@ pub record IsHeld (h : Held) : Type 0 where
   pub low : h.grouping ≤ GROUPING_MAX
   pub last : IsLastOver (overlay_held h) h.cut
 
--- a cutter that has not cut yet holds a system's image alone, the grouping and the format that are set where nothing else is
-pub record IsLoaded (image : List ℕ) (h : Held) : Type 0 where
-  pub images : h.images ≡ record { system = image; users = [] }
+-- a cutter over these images that has not cut yet, with the grouping and the format that are set where nothing else is
+pub record IsNew (over : Images) (h : Held) : Type 0 where
+  pub images : h.images ≡ over
   pub grouping : h.grouping ≡ GROUPING_DEFAULT
   pub format : ReadsFormat default_texts h.format
   pub cut : h.cut ≡ None
+
+-- such a cutter over a system's image alone
+abbrev pub IsLoaded : List ℕ → Held → Type 0
+IsLoaded image = IsNew (record { system = image; users = [] })
 
 -- something was cut, over the dictionaries that a cutter holds, and this is so of it
 abbrev pub OfCut : Held → (Cut → Type 0) → Type 0

@@ -51,6 +51,11 @@ IsLoadRefusal digest image (cut.Image fault) = IsFaultOf digest image fault
 IsLoadRefusal digest image (cut.Overlay fault) = IsImage digest image × (fault_of_images image [] ≡ Some fault)
 IsLoadRefusal digest image fault = ⊥
 
+-- the fault is the first one of dictionaries that are laid over one another
+abbrev pub IsOverlayFault : List ℕ → List (List ℕ) → CutFault → Type 0
+IsOverlayFault system users (cut.Overlay fault) = fault_of_images system users ≡ Some fault
+IsOverlayFault system users fault = ⊥
+
 -- why a user's image does not go over others: it is no image, or the first fault of them all
 abbrev pub IsLayRefusal : DigestTest → Images → List ℕ → CutFault → Type 0
 IsLayRefusal digest images user cut.Memory = Unit {0}

@@ -1,7 +1,7 @@
 //! A cutter: dictionaries, a format and the memory of the search.
 
 ghost use Rattle.std.specs.Prelude.{◌≡◌, ◌≤◌, [], None, IfOk, IfErr, OnOk, OnErr};
-ghost use Rattle.cutter.specs.Cutters.{IsLoaded, with_user};
+ghost use Rattle.cutter.specs.Cutters.{IsLoaded, IsNew, with_user};
 ghost use Rattle.cutter.specs.Faults.{IsFormatRefused, IsGroupingRefusal, IsImage, IsLoadRefusal, IsUserRefusal, PassesToKeys};
 ghost use Rattle.cutter.specs.declared.fault.CutFault.TheVariants.{Memory};
 ghost use Rattle.cutter.specs.Trusted.{IsTrusted};
@@ -67,18 +67,10 @@ impl Cutter {
         ensures starved { IfErr result
             (λ fault. fault ≡ Memory → PassesToKeys digest image) }
     {
-        let dictionaries = OwnedDictionaries::load(alloc, image, digest)?;
-        let format = Format::default_of(alloc)?;
-        Ok(Cutter {
-            alloc,
-            dictionaries: Arc::new(alloc, dictionaries)?,
-            grouping: GROUPING_DEFAULT,
-            format: Arc::new(alloc, format)?,
-            last: LastCut::none(alloc),
-        })
+        Ok(Cutter::over(alloc, OwnedDictionaries::load(alloc, image, digest)?)?)
     }
 
-    /// The same of an image that is known to be intact. None of its tests is made.
+    /// Returns the cutter of a system's image that is intact, as `load` does, without its tests.
     pub fn load_trusted(alloc: Global, image: ImageBytes) -> Result<Cutter, CutFault>
         requires { IsTrusted image }
         ensures loaded { IfOk result (IsLoaded image) }
@@ -86,7 +78,13 @@ impl Cutter {
         ensures fits { OnOk result (fault_of_images image [] ≡ None) }
         ensures refused { IfErr result (IsLoadRefusal Made image) }
     {
-        let dictionaries = OwnedDictionaries::load_trusted(alloc, image)?;
+        Ok(Cutter::over(alloc, OwnedDictionaries::load_trusted(alloc, image)?)?)
+    }
+
+    /// Returns a cutter over dictionaries, with the default grouping and format, that has cut nothing.
+    fn over(alloc: Global, dictionaries: OwnedDictionaries) -> Result<Cutter, AllocError>
+        ensures { IfOk result (IsNew dictionaries) }
+    {
         let format = Format::default_of(alloc)?;
         Ok(Cutter {
             alloc,
@@ -128,6 +126,27 @@ impl Cutter {
             return Err(CutFault::Shared);
         };
         dictionaries.add(self.alloc, image, digest)?;
+        self.last.forget();
+        Ok(())
+    }
+
+    /// Lays the dictionary of a user's image that is intact over the others, as `add_user` does, without the image's tests.
+    pub fn add_trusted_user(&mut self, image: ImageBytes) -> Result<(), CutFault>
+        requires { IsTrusted image }
+        ensures added { OnOk result (self.new ≡ record self.old {
+          images = with_user self.old.images image;
+          cut = None;
+        }) }
+        ensures accepted { OnOk result (IsImage Made image) }
+        ensures fits { OnOk result (fault_of_images self.new.images.system self.new.images.users
+            ≡ None) }
+        ensures refused { IfErr result (IsUserRefusal Made self.old.images image) }
+        ensures kept { OnErr result (self.new ≡ self.old) }
+    {
+        let Some(dictionaries) = Arc::get_mut(&mut self.dictionaries) else {
+            return Err(CutFault::Shared);
+        };
+        dictionaries.add_trusted(self.alloc, image)?;
         self.last.forget();
         Ok(())
     }

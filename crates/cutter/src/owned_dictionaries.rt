@@ -2,7 +2,7 @@
 
 ghost use Rattle.std.specs.Prelude.{◌≡◌, ◌≤◌, ◌∷◌, ◌++◌, [], None, take, vec_len, IfOk, IfErr, OnOk, OnErr};
 ghost use Rattle.cutter.specs.Cutters.{GoOver, overlay_in, with_user};
-ghost use Rattle.cutter.specs.Faults.{IsAddRefusal, IsImage, IsLayRefusal, IsLoadRefusal, PassesToKeys};
+ghost use Rattle.cutter.specs.Faults.{IsAddRefusal, IsImage, IsLayRefusal, IsLoadRefusal, IsOverlayFault, PassesToKeys};
 ghost use Rattle.cutter.specs.declared.fault.CutFault.TheVariants.{Memory};
 ghost use Rattle.cutter.specs.Trusted.{IsTrusted};
 ghost use Rattle.image_bytes.specs.declared.digest_test.DigestTest.TheVariants.{Made};
@@ -48,13 +48,10 @@ impl OwnedDictionaries {
         ensures starved { IfErr result
             (λ fault. fault ≡ Memory → PassesToKeys digest image) }
     {
-        let system = load_bytes(alloc, image, digest)?;
-        let users = Vec::new(alloc);
-        Dictionaries::new(&system, &users)?;
-        Ok(OwnedDictionaries { system, users })
+        OwnedDictionaries::alone(alloc, load_bytes(alloc, image, digest)?)
     }
 
-    /// The dictionary of a system's image that is known to be intact, and no user's. Nothing is tested but how many ids it has.
+    /// Returns the dictionary of a system's image that is intact, without users' dictionaries. Tests nothing but its kind and sizes.
     pub fn load_trusted(alloc: Global, image: ImageBytes) -> Result<OwnedDictionaries, CutFault>
         requires { IsTrusted image }
         ensures loaded { IfOk result (λ d. d ≡ record { system = image; users = [] }) }
@@ -62,7 +59,15 @@ impl OwnedDictionaries {
         ensures fits { OnOk result (fault_of_images image [] ≡ None) }
         ensures refused { IfErr result (IsLoadRefusal Made image) }
     {
-        let system = load_trusted(alloc, image)?;
+        OwnedDictionaries::alone(alloc, load_trusted(alloc, image)?)
+    }
+
+    /// Returns a system's dictionary without users' dictionaries, or an error if it is a user's.
+    fn alone(alloc: Global, system: Dict) -> Result<OwnedDictionaries, CutFault>
+        ensures alone { IfOk result (λ d. d ≡ record { system = system; users = [] }) }
+        ensures fits { OnOk result (fault_of_images system [] ≡ None) }
+        ensures refused { IfErr result (IsOverlayFault system []) }
+    {
         let users = Vec::new(alloc);
         Dictionaries::new(&system, &users)?;
         Ok(OwnedDictionaries { system, users })
@@ -93,6 +98,20 @@ impl OwnedDictionaries {
         ensures kept { OnErr result (self.new ≡ self.old) }
     {
         let user = load_bytes(alloc, image, digest)?;
+        add_checked(&self.system, &mut self.users, user)
+    }
+
+    /// Lays the dictionary of a user's image that is intact over the others. Tests only whether it goes over them.
+    pub fn add_trusted(&mut self, alloc: Global, image: ImageBytes) -> Result<(), CutFault>
+        requires { IsTrusted image }
+        ensures added { OnOk result (self.new ≡ with_user self.old image) }
+        ensures accepted { OnOk result (IsImage Made image) }
+        ensures fits { OnOk result
+            (fault_of_images self.old.system (self.old.users ++ image ∷ []) ≡ None) }
+        ensures refused { IfErr result (IsLayRefusal Made self.old image) }
+        ensures kept { OnErr result (self.new ≡ self.old) }
+    {
+        let user = load_trusted(alloc, image)?;
         add_checked(&self.system, &mut self.users, user)
     }
 }

@@ -1,49 +1,37 @@
 use Rattle.std.proofs.lemmas.Result.{err_from_is_err_and}
-use Rattle.std.proofs.Common.{[], subst, ◌∙◌}
-use Rattle.cutter.specs.Cutters.{GoOver}
-use Rattle.std.specs.Prelude.{None, Some}
-use Rattle.cutter.specs.Faults.{IsImage}
-use Rattle.cutter.proofs.FaultLemmas.{load_refused}
-use Rattle.cutter.proofs.OverlayLemmas.{same_fault}
-use Rattle.cutter.proofs.StarvedLemmas.{load_starved, no_overlay}
+use Rattle.std.proofs.Common.{◌≡◌, ℕ, List, [], subst}
+use Rattle.std.specs.Prelude.{IfOk}
+use Rattle.cutter.specs.Faults.{IsImage, PassesToKeys}
+use Rattle.cutter.proofs.FaultLemmas.{alone_refused, alone_takes_no_memory, load_refused}
+use Rattle.cutter.proofs.ResultLemmas.{on_ok}
+use Rattle.cutter.proofs.StarvedLemmas.{load_starved}
 use Rattle.cutter.proofs.owned_dictionaries.OwnedDictionaries.load.Goals as goal
 
-pub returns-in_err-system-clause-refused : goal.returns-in_err-system-clause-refused
-returns-in_err-system-clause-refused c =
+pub returns-in_err-load_bytes-clause-refused : goal.returns-in_err-load_bytes-clause-refused
+returns-in_err-load_bytes-clause-refused c =
     let p = err_from_is_err_and c.from_residual.result c.from_residual.ensures.1 in
-    rw (p.1, p.2) (load_refused c.args.digest c.args.image c.in_err-system.field-0.0 c.in_err-system.ensures.refused)
+    rw (p.1, p.2) (load_refused c.args.digest c.args.image c.in_err-load_bytes.field-0.0 c.in_err-load_bytes.ensures.refused)
 
-pub returns-in_err-system-clause-starved : goal.returns-in_err-system-clause-starved
-returns-in_err-system-clause-starved c =
+pub returns-in_err-load_bytes-clause-starved : goal.returns-in_err-load_bytes-clause-starved
+returns-in_err-load_bytes-clause-starved c =
     let p = err_from_is_err_and c.from_residual.result c.from_residual.ensures.1 in
-    rw (p.1, p.2) (load_starved c.args.digest c.args.image c.in_err-system.field-0.0 c.in_err-system.ensures.starved)
+    rw (p.1, p.2) (load_starved c.args.digest c.args.image c.in_err-load_bytes.field-0.0 c.in_err-load_bytes.ensures.starved)
 
-pub returns-in_err-new-clause-refused : goal.returns-in_err-new-clause-refused
+pub returns-clause-refused : goal.returns-clause-refused
 unfolding IsImage
-returns-in_err-new-clause-refused c =
-    let p = err_from_is_err_and c.from_residual-in_err-new.result c.from_residual-in_err-new.ensures.1 in
-    rw (p.1, p.2) (
-      c.in_ok-system.ensures.accepted,
-      same_fault c.in_ok-system.system c.args.image c.deref.result.now [] (Some c.in_err-new.field-0.0) c.in_ok-system.ensures.dict (c.deref.ensures.value ∙ c.new-users.ensures.items)
-          c.in_err-new.ensures.refused,
-    )
+returns-clause-refused c =
+    alone_refused c.args.digest c.alone.result c.in_ok-load_bytes.field-0 c.args.image c.in_ok-load_bytes.ensures.dict c.in_ok-load_bytes.ensures.accepted c.alone.ensures.refused
 
-pub returns-in_err-new-clause-starved : goal.returns-in_err-new-clause-starved
-returns-in_err-new-clause-starved c =
-    let p = err_from_is_err_and c.from_residual-in_err-new.result c.from_residual-in_err-new.ensures.1 in
-    rw (p.1, p.2) (λ told. absurd (no_overlay c.in_err-new.field-0.0 told))
-
-pub invariant_of-result : goal.invariant_of-result
-invariant_of-result c =
-    subst (GoOver c.in_ok-system.system) c.deref.ensures.value (record { no_fault = c.in_ok-new.ensures.accepted; fitting = c.in_ok-new.ensures.fitting })
+pub returns-clause-starved : goal.returns-clause-starved
+unfolding IsImage
+returns-clause-starved c =
+    alone_takes_no_memory c.args.digest c.alone.result c.in_ok-load_bytes.field-0 c.args.image (PassesToKeys c.args.digest c.args.image) c.in_ok-load_bytes.ensures.dict c.in_ok-load_bytes.ensures.accepted
+    c.alone.ensures.refused
 
 pub returns-clause-loaded : goal.returns-clause-loaded
-returns-clause-loaded c = λ i. record { system = c.in_ok-system.ensures.dict i; users = c.new-users.ensures.items i }
+returns-clause-loaded c =
+    subst (λ (bytes : List ℕ). IfOk c.alone.result (λ d. d ≡ record { system = bytes; users = [] })) c.in_ok-load_bytes.ensures.dict c.alone.ensures.alone
 
 pub returns-clause-accepted : goal.returns-clause-accepted
 unfolding IsImage
-returns-clause-accepted c = c.in_ok-system.ensures.accepted
-
-pub returns-clause-fits : goal.returns-clause-fits
-returns-clause-fits c =
-    same_fault c.in_ok-system.system c.args.image c.deref.result.now [] None c.in_ok-system.ensures.dict (c.deref.ensures.value ∙ c.new-users.ensures.items) c.in_ok-new.ensures.accepted
+returns-clause-accepted c = on_ok c.alone.result (IsImage c.args.digest c.args.image) c.in_ok-load_bytes.ensures.accepted

@@ -1,7 +1,0 @@
-use Rattle.std.proofs.lemmas.Result.{err_from_is_err_and}
-use Rattle.cutter.proofs.cutter.Cutter.load_trusted.Goals as goal
-
-pub returns-in_err-format-clause-refused : goal.returns-in_err-format-clause-refused
-returns-in_err-format-clause-refused c =
-    let p = err_from_is_err_and c.from_residual-in_err-format.result c.from_residual-in_err-format.ensures.1 in
-    rw (p.1, p.2) tt
