@@ -1,19 +1,24 @@
 #ifndef KUMQUATSIEVE_H
 #define KUMQUATSIEVE_H
-/* Kumquatsieve cuts Japanese text into words, in process. The calls are proved, except for those of a dictionary, which are in C over the proved
-   ones. docs/LIBRARY.md says what is proved of them, and what they ask of C.
+/* Kumquatsieve cuts Japanese text into words, in process. The calls are proved, except for these,
+   which are written in C over the proved ones: kumquatsieve_open, kumquatsieve_open_user,
+   kumquatsieve_share, kumquatsieve_free, kumquatsieve_fault, and the calls of a dictionary.
+   docs/LIBRARY.md says what is proved of them, and what they ask of C.
 
-   These are the caller's duties, and nothing checks them. No output overlaps another argument. What a call points to in a cutter's own buffer is not
-   handed back to that cutter as text. A full cutter is not copied. One call at a time is made for each cutter, which may go from thread to thread. No
-   call is made from a signal handler, and none in a forked child with a cutter that another thread was calling.
+   These are the caller's duties, and nothing checks them. No output overlaps another argument.
+   What a call points to in a cutter's own buffer is not handed back to that cutter as text. A full
+   cutter is not copied. A file that is mapped is not written to or truncated. One call at a time is
+   made for each cutter, which may go from thread to thread. No call is made from a signal handler,
+   and none in a forked child with a cutter that another thread was calling.
 
    NULL may stand for bytes whose length is 0, for an output that is not wanted, and for a cutter or a buffer that is given back. The end of this
    header sees to that. Whoever calls the library past the header, as from another language, gives an address for each.
 
    An output that a call's answer doesn't set is as it was. Each call says which answers set which outputs. Where it says nothing, 0 alone does.
 
-   Texts are bytes of UTF-8 with their length. Nothing here ends in a zero byte. Programs of libkumquatsieve.so.0 run with each later library of that
-   name: calls, codes and structures stay, and what is new is added. */
+   Texts are bytes of UTF-8 with their length. Only a path ends in a zero byte. Programs of
+   libkumquatsieve.so.0 run with each later library of that name: calls, codes and structures stay,
+   and what is new is added. */
 #include <stdbool.h>
 #include <stddef.h>
 #include <stdint.h>
@@ -26,14 +31,16 @@
 extern "C" {
 #endif
 
-/* A cutter: dictionaries, a format, the line that was cut last, and memory that is used again from line to line. Begin with KUMQUATSIEVE_EMPTY, or
-   what kumquatsieve_empty answers. The fields are the library's. */
+/* A cutter: dictionaries, a format, the line that was cut last, and memory that is used again from
+   line to line. Begin with KUMQUATSIEVE_EMPTY, or what kumquatsieve_empty answers. The fields are
+   the library's. An empty cutter is all zero, and may be copied. */
 typedef struct kumquatsieve_cutter {
     bool held;
     void *at;
+    struct kumquatsieve_mapped *mapped; /* the files that its dictionaries are mapped from */
 } kumquatsieve_cutter;
 
-#define KUMQUATSIEVE_EMPTY {false, NULL}
+#define KUMQUATSIEVE_EMPTY {false, NULL, NULL}
 
 static inline kumquatsieve_cutter kumquatsieve_empty(void) {
     kumquatsieve_cutter cutter = KUMQUATSIEVE_EMPTY;
@@ -103,6 +110,8 @@ enum {
     KUMQUATSIEVE_OK = 0,
     KUMQUATSIEVE_MEMORY = 1,
 
+    KUMQUATSIEVE_FILE = 0x4601,         /* F1: a file can't be opened, read or mapped, with errno */
+
     KUMQUATSIEVE_TRUNCATED = 0x4c01,    /* L1 */
     KUMQUATSIEVE_BAD_MAGIC = 0x4c02,    /* L2 */
     KUMQUATSIEVE_BAD_LAYOUT = 0x4c03,   /* L3, with the layout */
@@ -132,6 +141,42 @@ enum {
     KUMQUATSIEVE_SHORT_BUFFER = 0x4b07, /* K7: the buffer has less room than is needed */
     KUMQUATSIEVE_NO_WORD = 0x4b08       /* K8: the line has no word of this number */
 };
+
+/* How an image is loaded. An argument `how` is 0, or the sum of some of these. */
+#define KUMQUATSIEVE_SKIP_DIGEST 1u /* don't test the SHA-256; the calls that open a file never do */
+#define KUMQUATSIEVE_TEST_DIGEST 2u /* open: make all tests, the SHA-256 included; use no record */
+#define KUMQUATSIEVE_COPY 4u        /* open: read the file into memory, and don't map it */
+
+/* Fills an empty cutter with the system dictionary in the image file at `path`, the default format,
+   and a grouping of 24 characters.
+
+   A regular file is mapped, so all processes that open it share its memory, and a process maps a
+   file once. It stays mapped until the last cutter and the last dictionary over it are freed.
+   Meanwhile nobody may write to the file or truncate it. Nothing checks that: a read after the new
+   end of a truncated file stops the process with SIGBUS, and what other bytes do is undefined. A
+   file that is replaced by rename(2) stays mapped as it was, and the next open gets the new one.
+   What is not a regular file, such as a pipe, is read into memory, and so is a file on a file system
+   that maps none. The path is not kept.
+
+   The call makes the tests that kumquatsieve_load makes, except that of the SHA-256. It makes no
+   tests if a record beside the file, which kumquatsieve-import writes, says that the file passed all
+   of them, and only root and the effective user can have written both (docs/LIBRARY.md).
+
+   It returns the codes of kumquatsieve_load, and F1 if the file can't be opened, read or mapped.
+   *number is then the errno, which is EINVAL if `path` is NULL or `how` has another bit than those
+   above. Other codes set it as kumquatsieve_load does. `number` may be NULL. After an error the
+   cutter is as it was, and nothing stays open or mapped. Any number of threads may open files at a
+   time, also in a forked child. A thread that is cancelled in the call leaves its files open. */
+uint32_t kumquatsieve_open(
+    kumquatsieve_cutter *cutter, const char *path, unsigned how, uint64_t *number
+);
+
+/* Lays the user dictionary in an image file over the others, as kumquatsieve_add_user does, and
+   opens the file as kumquatsieve_open does. Returns the codes of kumquatsieve_add_user, and F1. What
+   was cut last is forgotten. */
+uint32_t kumquatsieve_open_user(
+    kumquatsieve_cutter *cutter, const char *path, unsigned how, uint64_t *number
+);
 
 /* Fills an empty cutter with the image of a system dictionary, which is copied, the default format, and a grouping of 24 characters. *number is set
    by L3 to L7, O2 and O3 alone, to what stands beside each code above. */
@@ -164,16 +209,12 @@ uint32_t kumquatsieve_share(kumquatsieve_cutter *cutter, kumquatsieve_cutter *ot
 
 /* Makes a dictionary of the image of a system dictionary, the first one, and of those of user dictionaries, which are laid over it in their order.
    All are copied. `how` is 0, or KUMQUATSIEVE_SKIP_DIGEST. *dictionary is set where all are accepted. Otherwise *image is the number of the image at
-   fault, from 0, and *number is set as by kumquatsieve_load. Without an image the answer is K5, and no output is set. This call and the four after it
-   are written in C over the proved ones. */
+   fault, from 0, and *number is set as by kumquatsieve_load. Without an image the answer is K5, and no output is set. */
 uint32_t kumquatsieve_dictionary_make(
     kumquatsieve_dictionary **dictionary, const kumquatsieve_image *images, size_t count, unsigned how, size_t *image, uint64_t *number
 );
 
-/* The digests are not tested, as by kumquatsieve_load_by. */
-#define KUMQUATSIEVE_SKIP_DIGEST 1u
-
-/* Makes a dictionary of those of a cutter, as of one that kumquatsieve_load_buffer filled. The cutter is empty then, and its format and its grouping
+/* Makes a dictionary of those of a cutter, as of one that kumquatsieve_open filled. The cutter is empty then, and its format and its grouping
    are forgotten. After another answer than 0 the cutter and *dictionary are as they were. The answer for an empty cutter is K5. */
 uint32_t kumquatsieve_dictionary_of(kumquatsieve_dictionary **dictionary, kumquatsieve_cutter *cutter);
 
@@ -189,7 +230,8 @@ void kumquatsieve_dictionary_release(const kumquatsieve_dictionary *dictionary);
 /* The version of the library that runs, as KUMQUATSIEVE_VERSION_NUMBER counts that of this header. */
 uint32_t kumquatsieve_version(void);
 
-/* Gives back all that a cutter holds, which is empty then. For an empty cutter nothing is done. */
+/* Gives back all that a cutter holds, which is empty then. For an empty cutter, and for NULL,
+   nothing is done. A file that no other cutter and no dictionary has is unmapped. */
 void kumquatsieve_free(kumquatsieve_cutter *cutter);
 
 /* Sets the texts for a known word, an unknown one, the beginning and the end of a line, in MeCab's items and escapes. *part, 0 to 3, and *at, a byte
@@ -318,10 +360,6 @@ static inline void kumquatsieve_guarded_buffer_free(kumquatsieve_buffer *buffer)
     if (buffer) (kumquatsieve_buffer_free)(buffer);
 }
 
-static inline void kumquatsieve_guarded_free(kumquatsieve_cutter *cutter) {
-    if (cutter) (kumquatsieve_free)(cutter);
-}
-
 static inline uint32_t kumquatsieve_guarded_set_format(
     kumquatsieve_cutter *cutter, const uint8_t *node, size_t node_length, const uint8_t *unk, size_t unk_length,
     const uint8_t *bos, size_t bos_length, const uint8_t *eos, size_t eos_length, uint32_t *part, size_t *at
@@ -440,7 +478,6 @@ static inline uint32_t kumquatsieve_guarded_fault(uint32_t code, uint8_t *out, s
 #define kumquatsieve_add_user_buffer(cutter, buffer, skip_digest, number) \
     kumquatsieve_guarded_add_user_buffer(cutter, buffer, skip_digest, number)
 #define kumquatsieve_buffer_free(buffer) kumquatsieve_guarded_buffer_free(buffer)
-#define kumquatsieve_free(cutter) kumquatsieve_guarded_free(cutter)
 #define kumquatsieve_set_format(cutter, node, node_length, unk, unk_length, bos, bos_length, eos, eos_length, part, at) \
     kumquatsieve_guarded_set_format(cutter, node, node_length, unk, unk_length, bos, bos_length, eos, eos_length, part, at)
 #define kumquatsieve_cut(cutter, line, length, count, total, at) kumquatsieve_guarded_cut(cutter, line, length, count, total, at)

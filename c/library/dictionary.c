@@ -26,8 +26,9 @@ static void unlock(void) {
 }
 
 /* A child has the forking thread alone: what another one had locked would stay so. What is noted first is locked last at a fork. So this is noted
-   before whatever else is linked in, whose locks may be held while this one is taken, as those of c/mecab are; no program may be earlier than 101. */
-__attribute__((constructor(101))) static void keep_over_forks(void) {
+   before whatever else is linked in, whose locks may be held while this one is taken, as those of c/mecab are. Only the lock of mapping.c, which is
+   taken under this one, is noted earlier; no program may be earlier than 101. */
+__attribute__((constructor(102))) static void keep_over_forks(void) {
     pthread_atfork(lock, unlock, unlock);
 }
 

@@ -1,0 +1,100 @@
+/* Images that are read: the header of each one, and the rest of those that can't be mapped. The
+   header is judged before the rest is read, so a wrong file of any length is rejected at once.
+   docs/FORMAT.md has its layout. */
+#include "library.h"
+#include <endian.h>
+#include <errno.h>
+#include <stdlib.h>
+#include <string.h>
+#include <unistd.h>
+
+static const char MAGIC[] = "MJDICT\r\n";
+
+enum {
+    BLOCK = 65536,
+    LAYOUT_AT = 8,
+    LENGTHS_AT = 40,
+    SECTIONS = 8,
+    AFTER_SECTIONS = 9,
+    LAYOUT_NEWEST = 3,
+    DIGEST_LENGTH = 32,
+};
+
+int read_header(int file, header *to) {
+    ssize_t got = 1;
+    *to = (header){.length = 0};
+    while (got > 0 && to->length < HEADER_LENGTH) {
+        got = read(file, to->bytes + to->length, HEADER_LENGTH - to->length);
+        if (got < 0) return errno;
+        to->length += (size_t)got;
+    }
+    return 0;
+}
+
+static uint64_t number_at(const uint8_t *bytes, size_t size) {
+    uint64_t number = 0;
+    memcpy(&number, bytes, size);
+    return le64toh(number);
+}
+
+/* Sums up the length of the whole image. Returns false if no image is so long. */
+static bool sum_lengths(header *of) {
+    of->told = HEADER_LENGTH + (of->layout == LAYOUT_NEWEST ? DIGEST_LENGTH : 0);
+    for (size_t section = 0; section < SECTIONS; section++) {
+        uint64_t length = number_at(of->bytes + LENGTHS_AT + 8 * section, 8);
+        if (__builtin_add_overflow(of->told, length, &of->told)) return false;
+    }
+    return true;
+}
+
+/* Returns how long a file is, or UINT64_MAX if that isn't known: some file systems report 0 for a
+   regular file that has bytes. */
+static uint64_t known_length(const struct stat *file) {
+    bool is_known = S_ISREG(file->st_mode) && file->st_size >= HEADER_LENGTH;
+    return is_known ? (uint64_t)file->st_size : UINT64_MAX;
+}
+
+uint32_t judge_header(header *of, const struct stat *file, uint64_t *number) {
+    uint64_t length = known_length(file);
+    if (of->length < HEADER_LENGTH) return KUMQUATSIEVE_OK;
+    of->layout = number_at(of->bytes + LAYOUT_AT, 4);
+    if (memcmp(of->bytes, MAGIC, sizeof MAGIC - 1) != 0) return KUMQUATSIEVE_BAD_MAGIC;
+    if (of->layout < 1 || of->layout > LAYOUT_NEWEST) {
+        *number = of->layout;
+        return KUMQUATSIEVE_BAD_LAYOUT;
+    }
+    if (!sum_lengths(of)) return KUMQUATSIEVE_TRUNCATED;
+    if (length == UINT64_MAX || length == of->told) return KUMQUATSIEVE_OK;
+    if (length < of->told) return KUMQUATSIEVE_TRUNCATED;
+    *number = AFTER_SECTIONS;
+    return KUMQUATSIEVE_BAD_SECTION;
+}
+
+/* Reads on until the file ends, or has more bytes than `most`; `length` is how many were read
+   before. Returns 0 or an errno. */
+static int read_past(int file, uint64_t length, uint64_t most, kumquatsieve_buffer *whole) {
+    ssize_t got = 1;
+    int error = 0;
+    uint8_t *block = malloc(BLOCK);
+    if (!block) return ENOMEM;
+    while (error == 0 && got > 0 && length <= most) {
+        got = read(file, block, BLOCK);
+        if (got < 0) error = errno;
+        if (got <= 0) break;
+        length += (uint64_t)got;
+        uint32_t code = kumquatsieve_buffer_append(whole, 0, block, (size_t)got);
+        if (code != KUMQUATSIEVE_OK) error = ENOMEM;
+    }
+    free(block);
+    return error;
+}
+
+/* Room for all bytes is asked for at once if the length is known, so that none is moved. */
+int read_rest(int file, const header *first, const struct stat *of, kumquatsieve_buffer *whole) {
+    bool is_short = first->length < HEADER_LENGTH;
+    bool is_known = !is_short && known_length(of) == first->told && first->told < SIZE_MAX;
+    size_t room = is_known ? (size_t)first->told : first->length;
+    uint32_t code = kumquatsieve_buffer_append(whole, room, first->bytes, first->length);
+    if (code != KUMQUATSIEVE_OK) return ENOMEM;
+    return is_short ? 0 : read_past(file, first->length, first->told, whole);
+}
