@@ -47,7 +47,7 @@ static void refused(file system) {
     kumquatsieve_buffer buffer = kumquatsieve_no_bytes();
     uint64_t number = BEFORE;
     CHECK(kumquatsieve_load_buffer(&cutter, &buffer, false, &number) == KUMQUATSIEVE_TRUNCATED && number == BEFORE);
-    buffer = gathered((file){system.bytes, system.length - 1}, 1000, 0);
+    buffer = gathered((file){system.bytes, system.length - 1, NULL}, 1000, 0);
     CHECK(kumquatsieve_load_buffer(&cutter, &buffer, false, &number) == KUMQUATSIEVE_TRUNCATED && number == BEFORE && !buffer.held);
     system.bytes[8] ^= 8;
     buffer = gathered(system, 1000, system.length);

@@ -156,11 +156,11 @@ static void users(kumquatsieve_cutter *cutter, file user) {
     kumquatsieve_cutter other = KUMQUATSIEVE_EMPTY;
     CHECK(kumquatsieve_share(&other, cutter) == KUMQUATSIEVE_OK && other.held);
     CHECK(kumquatsieve_share(&other, cutter) == KUMQUATSIEVE_FULL_CUTTER);
-    CHECK(kumquatsieve_add_user(cutter, user.bytes, user.length, &number) == KUMQUATSIEVE_SHARED);
+    CHECK(load_user(cutter, user, &number) == KUMQUATSIEVE_SHARED);
     CHECK(kumquatsieve_words(&other, 0, words, 8, &count) == KUMQUATSIEVE_NOTHING_CUT);
     CHECK(cut(&other, LINE) == KUMQUATSIEVE_OK && prints(&other, "すもも もも \n"));
     kumquatsieve_free(cutter);
-    CHECK(kumquatsieve_add_user(&other, user.bytes, user.length, &number) == KUMQUATSIEVE_OK);
+    CHECK(load_user(&other, user, &number) == KUMQUATSIEVE_OK);
     CHECK(cut(&other, LINE) == KUMQUATSIEVE_OK && prints(&other, "すもももも \n"));
     CHECK(kumquatsieve_words(&other, 0, words, 8, &count) == KUMQUATSIEVE_OK && count == 1 && words[0].dictionary == 1);
     kumquatsieve_free(&other);
@@ -180,7 +180,7 @@ int main(int given, char **paths) {
     file system = read_file(paths[1]), user = read_file(paths[2]);
     calls_of_an_empty_cutter(user);
     refused_images(system, user);
-    CHECK(kumquatsieve_load(&cutter, system.bytes, system.length, &number) == KUMQUATSIEVE_OK);
+    CHECK(load(&cutter, system, &number) == KUMQUATSIEVE_OK);
     memset(system.bytes, 0, system.length);
     lines(&cutter);
     text_lines(&cutter);

@@ -1,4 +1,5 @@
-/* What the C programs of tools/library share. */
+/* What the C programs of tools/library share. With HOW they open images by their paths, and HOW is
+   the argument `how`. Without it they load copies of the bytes. */
 #ifndef CHECK_H
 #define CHECK_H
 #include <kumquatsieve.h>
@@ -39,10 +40,11 @@
 typedef struct file {
     uint8_t *bytes;
     size_t length;
+    const char *path;
 } file;
 
 static inline file read_file(const char *path) {
-    file whole = {NULL, 0};
+    file whole = {NULL, 0, path};
     FILE *opened = fopen(path, "rb");
     CHECK(opened && fseek(opened, 0, SEEK_END) == 0);
     whole.length = (size_t)ftell(opened);
@@ -63,9 +65,26 @@ static inline uint32_t cut(kumquatsieve_cutter *cutter, const char *line) {
     return kumquatsieve_cut(cutter, BYTES(line), strlen(line), &count, &total, NULL);
 }
 
+/* Fills a cutter with an image, or adds a user's, which is as its file is. */
+static inline uint32_t load(kumquatsieve_cutter *cutter, file image, uint64_t *number) {
+#ifdef HOW
+    return kumquatsieve_open(cutter, image.path, HOW, number);
+#else
+    return kumquatsieve_load(cutter, image.bytes, image.length, number);
+#endif
+}
+
+static inline uint32_t load_user(kumquatsieve_cutter *cutter, file image, uint64_t *number) {
+#ifdef HOW
+    return kumquatsieve_open_user(cutter, image.path, HOW, number);
+#else
+    return kumquatsieve_add_user(cutter, image.bytes, image.length, number);
+#endif
+}
+
 static inline kumquatsieve_cutter loaded(file image) {
     kumquatsieve_cutter cutter = kumquatsieve_empty();
-    CHECK(kumquatsieve_load(&cutter, image.bytes, image.length, NULL) == KUMQUATSIEVE_OK);
+    CHECK(load(&cutter, image, NULL) == KUMQUATSIEVE_OK);
     return cutter;
 }
 

@@ -25,8 +25,8 @@ static kumquatsieve_image image_of(file whole) {
 }
 
 static void refused(file system, file user) {
-    file bad = {malloc(system.length), system.length};
-    file odd = {malloc(system.length), system.length};
+    file bad = {malloc(system.length), system.length, NULL};
+    file odd = {malloc(system.length), system.length, NULL};
     CHECK(bad.bytes && odd.bytes);
     memcpy(bad.bytes, system.bytes, system.length);
     memcpy(odd.bytes, system.bytes, system.length);
@@ -59,6 +59,18 @@ static void refused(file system, file user) {
     free(odd.bytes);
 }
 
+#ifdef HOW
+/* The same dictionaries, of a cutter that has opened their files. */
+static kumquatsieve_dictionary *made(file system, file user, unsigned how) {
+    kumquatsieve_dictionary *dictionary = NULL;
+    kumquatsieve_cutter cutter = loaded(system);
+    CHECK(how <= KUMQUATSIEVE_SKIP_DIGEST);
+    CHECK(!user.bytes || load_user(&cutter, user, NULL) == KUMQUATSIEVE_OK);
+    CHECK(kumquatsieve_dictionary_of(&dictionary, &cutter) == KUMQUATSIEVE_OK && dictionary);
+    CHECK(!cutter.held && !cutter.mapped);
+    return dictionary;
+}
+#else
 static kumquatsieve_dictionary *made(file system, file user, unsigned how) {
     kumquatsieve_dictionary *dictionary = NULL;
     size_t image = BEFORE;
@@ -68,6 +80,7 @@ static kumquatsieve_dictionary *made(file system, file user, unsigned how) {
     CHECK(dictionary && image == BEFORE && number == BEFORE);
     return dictionary;
 }
+#endif
 
 /* An image whose digest is another one says what it says, where its digest is skipped. */
 static void skipped_digests(file system, file user) {
@@ -90,7 +103,8 @@ static void skipped_digests(file system, file user) {
 /* A cutter begins with the default format, and keeps the dictionaries that their holders gave back. */
 static void cutters(file system, file user) {
     kumquatsieve_cutter first = KUMQUATSIEVE_EMPTY, second = KUMQUATSIEVE_EMPTY;
-    kumquatsieve_dictionary *dictionary = made(system, user, 0), *alone = made(system, (file){NULL, 0}, 0);
+    kumquatsieve_dictionary *dictionary = made(system, user, 0);
+    kumquatsieve_dictionary *alone = made(system, (file){NULL, 0, NULL}, 0);
     CHECK(kumquatsieve_cutter_over(&first, NULL) == KUMQUATSIEVE_EMPTY_CUTTER && !first.held);
     CHECK(kumquatsieve_cutter_over(&first, dictionary) == KUMQUATSIEVE_OK && kumquatsieve_cutter_over(&first, dictionary) == KUMQUATSIEVE_FULL_CUTTER);
     CHECK(set_texts(&first, "%m ", "%m ", "", "\\n") == KUMQUATSIEVE_OK);

@@ -14,7 +14,7 @@ static void print_fault(uint32_t code, uint64_t number) {
 static void as_the_system(file image) {
     kumquatsieve_cutter cutter = KUMQUATSIEVE_EMPTY;
     uint64_t number = UINT64_MAX;
-    uint32_t code = kumquatsieve_load(&cutter, image.bytes, image.length, &number);
+    uint32_t code = load(&cutter, image, &number);
     CHECK(code != KUMQUATSIEVE_OK && !cutter.held);
     print_fault(code, number);
 }
@@ -23,8 +23,8 @@ static void as_the_system(file image) {
 static void as_a_user(file system, file image) {
     kumquatsieve_cutter cutter = KUMQUATSIEVE_EMPTY;
     uint64_t number = UINT64_MAX;
-    CHECK(kumquatsieve_load(&cutter, system.bytes, system.length, &number) == KUMQUATSIEVE_OK && number == UINT64_MAX);
-    uint32_t code = kumquatsieve_add_user(&cutter, image.bytes, image.length, &number);
+    CHECK(load(&cutter, system, &number) == KUMQUATSIEVE_OK && number == UINT64_MAX);
+    uint32_t code = load_user(&cutter, image, &number);
     CHECK(code != KUMQUATSIEVE_OK && cutter.held);
     print_fault(code, number);
     CHECK(cut(&cutter, LINE) == KUMQUATSIEVE_OK && prints(&cutter, PRINTED));

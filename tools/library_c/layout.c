@@ -52,8 +52,8 @@ int main(int given, char **paths) {
     kumquatsieve_cutter cutter = KUMQUATSIEVE_EMPTY;
     file system = read_file(paths[1]), user = read_file(paths[2]);
     size_t count = 0;
-    CHECK(kumquatsieve_load(&cutter, system.bytes, system.length, NULL) == KUMQUATSIEVE_OK);
-    CHECK(kumquatsieve_add_user(&cutter, user.bytes, user.length, NULL) == KUMQUATSIEVE_OK);
+    CHECK(load(&cutter, system, NULL) == KUMQUATSIEVE_OK);
+    CHECK(load_user(&cutter, user, NULL) == KUMQUATSIEVE_OK);
     CHECK(cut(&cutter, LAYOUT_LINE) == KUMQUATSIEVE_OK);
     memset(words, BEFORE, sizeof words);
     CHECK(kumquatsieve_words(&cutter, 0, words, ROOM, &count) == KUMQUATSIEVE_OK && count == WRITTEN);

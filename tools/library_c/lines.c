@@ -165,6 +165,8 @@ static const struct {
     {"a byte more than the text", FAULT, 0x4b03, 10, KUMQUATSIEVE_OK, 9, "K3 Shared"},
     {"memory has a name alone", FAULT, 1, 32, KUMQUATSIEVE_OK, 6, "Memory"},
     {"a code of an image", FAULT, 0x4c04, 32, KUMQUATSIEVE_OK, 13, "L4 BadSection"},
+    {"a byte less than a file's code", FAULT, 0x4601, 6, KUMQUATSIEVE_SHORT_BUFFER, 7, ""},
+    {"a code of a file", FAULT, 0x4601, 7, KUMQUATSIEVE_OK, 7, "F1 File"},
     {"a code of a text", FAULT, 0x4703, 32, KUMQUATSIEVE_OK, 10, "G3 NotUtf8"},
     {"no fault's code", FAULT, 78, 0, KUMQUATSIEVE_OK, 0, ""},
 };

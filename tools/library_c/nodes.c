@@ -202,7 +202,7 @@ int main(int given, char **paths) {
     CHECK(given == 3);
     file system = read_file(paths[1]), user = read_file(paths[2]);
     kumquatsieve_cutter cutter = loaded(system);
-    CHECK(kumquatsieve_add_user(&cutter, user.bytes, user.length, NULL) == KUMQUATSIEVE_OK);
+    CHECK(load_user(&cutter, user, NULL) == KUMQUATSIEVE_OK);
     lattices(&cutter);
     nodes_from_a_number_on(&cutter);
     features_of_entries(&cutter);

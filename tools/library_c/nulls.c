@@ -39,6 +39,8 @@ static void no_outputs(file system, file user) {
     CHECK(kumquatsieve_cut_lines(&cutter, BYTES("\xff"), 1, NULL, NULL, NULL) == KUMQUATSIEVE_NOT_UTF8);
     CHECK(kumquatsieve_fault(KUMQUATSIEVE_NOT_UTF8, NULL, 0, &needed) == KUMQUATSIEVE_SHORT_BUFFER && needed == strlen("G3 NotUtf8"));
     CHECK(kumquatsieve_fault(KUMQUATSIEVE_NOT_UTF8, NULL, 0, NULL) == KUMQUATSIEVE_SHORT_BUFFER);
+    CHECK(kumquatsieve_fault(KUMQUATSIEVE_FILE, NULL, 0, NULL) == KUMQUATSIEVE_SHORT_BUFFER);
+    CHECK(kumquatsieve_open(&cutter, NULL, 0, NULL) == KUMQUATSIEVE_FILE);
     kumquatsieve_free(&cutter);
 }
 

@@ -36,12 +36,12 @@ static void numbers(file system, file user) {
         uint32_t code;
         uint64_t number;
     } rows[] = {
-        {"load: no bytes", kumquatsieve_load, &empty, {system.bytes, 0}, KUMQUATSIEVE_TRUNCATED, UNSET},
+        {"load: no bytes", kumquatsieve_load, &empty, {system.bytes, 0, NULL}, KUMQUATSIEVE_TRUNCATED, UNSET},
         {"load: no system's", kumquatsieve_load, &empty, user, KUMQUATSIEVE_NOT_SYSTEM, UNSET},
         {"load: a full cutter", kumquatsieve_load, &full, system, KUMQUATSIEVE_FULL_CUTTER, UNSET},
         {"load: done", kumquatsieve_load, &third, system, KUMQUATSIEVE_OK, UNSET},
         {"add_user: an empty cutter", kumquatsieve_add_user, &empty, user, KUMQUATSIEVE_EMPTY_CUTTER, UNSET},
-        {"add_user: no bytes", kumquatsieve_add_user, &full, {user.bytes, 0}, KUMQUATSIEVE_TRUNCATED, UNSET},
+        {"add_user: no bytes", kumquatsieve_add_user, &full, {user.bytes, 0, NULL}, KUMQUATSIEVE_TRUNCATED, UNSET},
         {"add_user: no user's, the first", kumquatsieve_add_user, &full, system, KUMQUATSIEVE_NOT_USER, 0},
         {"add_user: done", kumquatsieve_add_user, &full, user, KUMQUATSIEVE_OK, UNSET},
         {"add_user: no user's, the second", kumquatsieve_add_user, &full, system, KUMQUATSIEVE_NOT_USER, 1},
@@ -60,9 +60,9 @@ static void shared(file system, file user) {
     kumquatsieve_cutter one = loaded(system), other = kumquatsieve_empty();
     uint64_t number = UNSET;
     CHECK(kumquatsieve_share(&other, &one) == KUMQUATSIEVE_OK);
-    CHECK(kumquatsieve_add_user(&one, user.bytes, user.length, &number) == KUMQUATSIEVE_SHARED && number == UNSET);
+    CHECK(load_user(&one, user, &number) == KUMQUATSIEVE_SHARED && number == UNSET);
     kumquatsieve_free(&other);
-    CHECK(kumquatsieve_add_user(&one, user.bytes, user.length, &number) == KUMQUATSIEVE_OK && number == UNSET);
+    CHECK(load_user(&one, user, &number) == KUMQUATSIEVE_OK && number == UNSET);
     kumquatsieve_free(&one);
 }
 

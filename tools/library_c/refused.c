@@ -1,10 +1,16 @@
 /* Refuses each growth of a run in turn, and counts the blocks that are held: refused SYSTEM.img USER.img. The call whose growth was
-   refused answers out of memory, the cutter answers the next call as it would have, and no block is left. Linked with --wrap=malloc, --wrap=realloc and --wrap=free. */
+   refused answers out of memory, the cutter answers the next call as it would have, and no block is
+   left. A file that is mapped counts as a block. Linked with --wrap of malloc, realloc, free, mmap and
+   munmap. */
 #include "check.h"
+#include <errno.h>
+#include <sys/mman.h>
 
 void *__real_malloc(size_t size);
 void *__real_realloc(void *block, size_t size);
 void __real_free(void *block);
+void *__real_mmap(void *at, size_t length, int protection, int flags, int fd, off_t offset);
+int __real_munmap(void *at, size_t length);
 
 static long growths, refused_growth, held;
 
@@ -27,6 +33,19 @@ void *__wrap_realloc(void *block, size_t size) {
 void __wrap_free(void *block) {
     held -= block != NULL;
     __real_free(block);
+}
+
+void *__wrap_mmap(void *at, size_t length, int protection, int flags, int fd, off_t offset) {
+    errno = ENOMEM;
+    if (is_refused()) return MAP_FAILED;
+    void *mapped = __real_mmap(at, length, protection, flags, fd, offset);
+    held += mapped != MAP_FAILED;
+    return mapped;
+}
+
+int __wrap_munmap(void *at, size_t length) {
+    held--;
+    return __real_munmap(at, length);
 }
 
 /* Each call until it isn't refused; how often one was. Not one of them may answer another fault, and what it would have set is as it was. */
@@ -134,6 +153,32 @@ static void run_over_a_buffer(file system, file user) {
     kumquatsieve_dictionary_release(dictionary);
 }
 
+/* The same of files that are opened: first mapped, then read. */
+static void run_over_files(file system, file user) {
+    kumquatsieve_dictionary *dictionary = NULL;
+    kumquatsieve_cutter cutter = KUMQUATSIEVE_EMPTY, other = KUMQUATSIEVE_EMPTY;
+    uint64_t number = UNSET;
+    while (again(kumquatsieve_open(&cutter, system.path, 0, &number)))
+        CHECK(!cutter.held && !cutter.mapped && number == UNSET);
+    const void *before = cutter.mapped;
+    while (again(kumquatsieve_open_user(&cutter, user.path, 0, &number)))
+        CHECK(cutter.mapped == before && number == UNSET);
+    while (again(kumquatsieve_share(&other, &cutter))) CHECK(!other.held && !other.mapped);
+    kumquatsieve_free(&cutter);
+    while (again(kumquatsieve_dictionary_of(&dictionary, &other)))
+        CHECK(!dictionary && other.held && other.mapped);
+    while (again(kumquatsieve_cutter_over(&other, dictionary))) CHECK(!other.held && !other.mapped);
+    kumquatsieve_dictionary_release(dictionary);
+    while (again(cut(&other, LINE))) continue;
+    while (again(kumquatsieve_open(&cutter, system.path, KUMQUATSIEVE_COPY, &number)))
+        CHECK(!cutter.held && number == UNSET);
+    while (again(kumquatsieve_open_user(&cutter, user.path, KUMQUATSIEVE_COPY, &number)))
+        CHECK(!cutter.mapped && number == UNSET);
+    while (again(cut(&cutter, LINE))) continue;
+    kumquatsieve_free(&cutter);
+    kumquatsieve_free(&other);
+}
+
 static long growths_of(void (*runs)(file, file), file system, file user) {
     long before = held, first = growths;
     runs(system, user);
@@ -159,7 +204,7 @@ static long refuse_each(void (*runs)(file, file), file system, file user, long a
 int main(int given, char **paths) {
     CHECK(given == 3);
     file system = read_file(paths[1]), user = read_file(paths[2]);
-    void (*const all[])(file, file) = {run, run_over_a_dictionary, run_over_a_buffer};
+    void (*const all[])(file, file) = {run, run_over_a_dictionary, run_over_a_buffer, run_over_files};
     long counts[ROWS(all)], sum = 0;
     for (size_t i = 0; i < ROWS(all); i++) sum += counts[i] = growths_of(all[i], system, user);
     for (size_t i = 0; i < ROWS(all); i++) CHECK(refuse_each(all[i], system, user, counts[i]) == counts[i]);

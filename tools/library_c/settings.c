@@ -7,7 +7,7 @@
 
 /* A copy of an image with another byte at a place. */
 static file changed(file image, size_t at, uint8_t byte) {
-    file copy = {malloc(image.length), image.length};
+    file copy = {malloc(image.length), image.length, NULL};
     CHECK(copy.bytes && at < image.length);
     memcpy(copy.bytes, image.bytes, image.length);
     copy.bytes[at] = byte;
@@ -17,7 +17,7 @@ static file changed(file image, size_t at, uint8_t byte) {
 static void refused_systems(file system, file user) {
     size_t last = system.length - 1;
     file magic = changed(system, 0, 0), layout = changed(system, 8, 9), digest = changed(system, last, system.bytes[last] ^ 1);
-    file letters = {malloc(1000), 1000};
+    file letters = {malloc(1000), 1000, NULL};
     CHECK(letters.bytes);
     memset(letters.bytes, 'z', letters.length);
     const struct {
@@ -26,8 +26,8 @@ static void refused_systems(file system, file user) {
         uint32_t code;
         uint64_t number;
     } rows[] = {
-        {"no bytes", {system.bytes, 0}, KUMQUATSIEVE_TRUNCATED, UNSET},
-        {"one byte less", {system.bytes, last}, KUMQUATSIEVE_TRUNCATED, UNSET},
+        {"no bytes", {system.bytes, 0, NULL}, KUMQUATSIEVE_TRUNCATED, UNSET},
+        {"one byte less", {system.bytes, last, NULL}, KUMQUATSIEVE_TRUNCATED, UNSET},
         {"another magic", magic, KUMQUATSIEVE_BAD_MAGIC, UNSET},
         {"no magic", letters, KUMQUATSIEVE_BAD_MAGIC, UNSET},
         {"layout 9", layout, KUMQUATSIEVE_BAD_LAYOUT, 9},
@@ -61,7 +61,7 @@ static void refused_systems(file system, file user) {
 
 static uint32_t add_user(kumquatsieve_cutter *cutter, file user, uint64_t *number) {
     *number = UNSET;
-    return kumquatsieve_add_user(cutter, user.bytes, user.length, number);
+    return load_user(cutter, user, number);
 }
 
 static void users(file system, file user) {

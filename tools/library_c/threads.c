@@ -41,7 +41,7 @@ int main(int given, char **paths) {
     pthread_t threads[THREADS];
     uint64_t number = 0;
     for (int i = 0; i < THREADS; i++) all[i] = (work){KUMQUATSIEVE_EMPTY, lines, NULL, 0};
-    CHECK(kumquatsieve_load(&all[0].cutter, image.bytes, image.length, &number) == KUMQUATSIEVE_OK);
+    CHECK(load(&all[0].cutter, image, &number) == KUMQUATSIEVE_OK);
     for (int i = 1; i < THREADS; i++) CHECK(kumquatsieve_share(&all[i].cutter, &all[0].cutter) == KUMQUATSIEVE_OK);
     for (int i = 0; i < THREADS; i++) CHECK(pthread_create(&threads[i], NULL, cut_all, &all[i]) == 0);
     for (int i = 0; i < THREADS; i++) CHECK(pthread_join(threads[i], NULL) == 0);

@@ -1,0 +1,199 @@
+/* Files that change while they are opened, and calls of the system that fail: changing SYSTEM.img
+   USER.img FOLDER [stopped]. The folder is empty. With `stopped` a child is stopped by the file
+   that another one has truncated. Linked with --wrap of mmap, syscall and read. */
+#define _GNU_SOURCE
+#include "maps.h"
+#include <errno.h>
+#include <fcntl.h>
+#include <signal.h>
+#include <sys/mman.h>
+#include <sys/resource.h>
+#include <sys/syscall.h>
+#include <sys/wait.h>
+#include <unistd.h>
+
+enum { UNSET = 77, LENGTHS_AT = 40 };
+
+static const char SYSTEM[] = "system.img";
+static file sys;
+
+/* What happens before the next file is mapped, what fails, and the length that is told of each
+   file. */
+static void (*before_mmap)(void);
+static int mmap_error, fstat_error, read_error;
+static off_t told_length;
+
+void *__real_mmap(void *at, size_t length, int protection, int flags, int fd, off_t offset);
+long __real_syscall(long call, int fd, struct stat *of);
+ssize_t __real_read(int fd, void *to, size_t count);
+
+void *__wrap_mmap(void *at, size_t length, int protection, int flags, int fd, off_t offset) {
+    if (before_mmap) before_mmap();
+    if (mmap_error == 0) return __real_mmap(at, length, protection, flags, fd, offset);
+    errno = mmap_error;
+    return MAP_FAILED;
+}
+
+/* The library calls fstat so, and calls no other so. */
+long __wrap_syscall(long call, int fd, struct stat *of) {
+    CHECK(call == SYS_fstat);
+    if (fstat_error != 0) {
+        errno = fstat_error;
+        return -1;
+    }
+    long done = __real_syscall(call, fd, of);
+    if (done == 0 && told_length != 0) of->st_size = told_length;
+    return done;
+}
+
+ssize_t __wrap_read(int fd, void *to, size_t count) {
+    if (read_error == 0) return __real_read(fd, to, count);
+    errno = read_error;
+    return -1;
+}
+
+static void grow(void) {
+    CHECK(truncate(SYSTEM, (off_t)sys.length + 1) == 0);
+}
+
+static void shrink(void) {
+    CHECK(truncate(SYSTEM, (off_t)sys.length - 1) == 0);
+}
+
+static void empty(void) {
+    CHECK(truncate(SYSTEM, 0) == 0);
+}
+
+static void touch(void) {
+    const struct timespec times[] = {{1, 0}, {1, 0}};
+    CHECK(utimensat(AT_FDCWD, SYSTEM, times, 0) == 0);
+}
+
+static void fail_fstat(void) {
+    fstat_error = EIO;
+}
+
+/* What happens or fails, and what is returned then. A file that is accepted is read, not mapped. */
+typedef struct row {
+    const char *what;
+    void (*happens)(void);
+    int mmap_error, fstat_error, read_error;
+    uint32_t code;
+    uint64_t number;
+} row;
+
+static const row ROWS_OF[] = {
+    {"it grows", grow, 0, 0, 0, KUMQUATSIEVE_BAD_SECTION, 9},
+    {"it gets shorter", shrink, 0, 0, 0, KUMQUATSIEVE_TRUNCATED, UNSET},
+    {"it is emptied", empty, 0, 0, 0, KUMQUATSIEVE_TRUNCATED, UNSET},
+    {"its time changes", touch, 0, 0, 0, KUMQUATSIEVE_OK, UNSET},
+    {"its state is unknown then", fail_fstat, 0, 0, 0, KUMQUATSIEVE_OK, UNSET},
+    {"its file system maps nothing", NULL, ENODEV, 0, 0, KUMQUATSIEVE_OK, UNSET},
+    {"no memory to map it", NULL, ENOMEM, 0, 0, KUMQUATSIEVE_MEMORY, UNSET},
+    {"it must not be mapped", NULL, EPERM, 0, 0, KUMQUATSIEVE_FILE, EPERM},
+    {"its state is unknown", NULL, 0, EIO, 0, KUMQUATSIEVE_FILE, EIO},
+    {"it can't be read", NULL, 0, 0, EIO, KUMQUATSIEVE_FILE, EIO},
+    {"a signal comes", NULL, 0, 0, EINTR, KUMQUATSIEVE_FILE, EINTR},
+    {"no memory to read it", NULL, 0, 0, ENOMEM, KUMQUATSIEVE_MEMORY, UNSET},
+};
+
+static void check_row(const row *of) {
+    kumquatsieve_cutter cutter = KUMQUATSIEVE_EMPTY;
+    uint64_t number = UNSET;
+    write_file(SYSTEM, sys.bytes, sys.length);
+    size_t maps = mappings_of(NULL), files = open_files();
+    before_mmap = of->happens;
+    mmap_error = of->mmap_error;
+    fstat_error = of->fstat_error;
+    read_error = of->read_error;
+    uint32_t code = kumquatsieve_open(&cutter, SYSTEM, 0, &number);
+    before_mmap = NULL;
+    mmap_error = fstat_error = read_error = 0;
+    CHECK_ROW(of->what, code == of->code && number == of->number);
+    CHECK_ROW(of->what, cutter.held == (code == KUMQUATSIEVE_OK) && !cutter.mapped);
+    CHECK_ROW(of->what, mappings_of(NULL) == maps && open_files() == files);
+    CHECK_ROW(
+        of->what,
+        !cutter.held || (cut(&cutter, LINE) == KUMQUATSIEVE_OK && prints(&cutter, PRINTED))
+    );
+    kumquatsieve_free(&cutter);
+}
+
+/* A file of 2^62 bytes, as its header tells and as its file system does. */
+static void too_large(void) {
+    const uint64_t section = (uint64_t)1 << 62, length = section + sys.length;
+    kumquatsieve_cutter cutter = KUMQUATSIEVE_EMPTY;
+    uint64_t number = UNSET;
+    file image = {malloc(sys.length), sys.length, NULL};
+    CHECK(image.bytes);
+    memcpy(image.bytes, sys.bytes, sys.length);
+    image.bytes[LENGTHS_AT + 7] |= 0x40;
+    write_file(SYSTEM, image.bytes, image.length);
+    told_length = (off_t)length;
+    CHECK(
+        kumquatsieve_open(&cutter, SYSTEM, 0, &number) == KUMQUATSIEVE_MEMORY && number == UNSET &&
+        !cutter.held
+    );
+    CHECK(
+        kumquatsieve_open(&cutter, SYSTEM, KUMQUATSIEVE_COPY, &number) == KUMQUATSIEVE_MEMORY &&
+        number == UNSET && !cutter.held
+    );
+    told_length = 0;
+    free(image.bytes);
+}
+
+/* With one descriptor left a file is opened without its folder, and with none it is not. */
+static void few_descriptors(void) {
+    kumquatsieve_cutter cutter = KUMQUATSIEVE_EMPTY;
+    struct rlimit most;
+    uint64_t number = UNSET;
+    write_file(SYSTEM, sys.bytes, sys.length);
+    CHECK(getrlimit(RLIMIT_NOFILE, &most) == 0);
+    struct rlimit few = most;
+    int next = dup(STDOUT_FILENO);
+    CHECK(next > 0 && close(next) == 0);
+    few.rlim_cur = (rlim_t)next + 1;
+    CHECK(setrlimit(RLIMIT_NOFILE, &few) == 0);
+    CHECK(kumquatsieve_open(&cutter, SYSTEM, 0, &number) == KUMQUATSIEVE_OK && cutter.mapped);
+    kumquatsieve_free(&cutter);
+    few.rlim_cur = (rlim_t)next;
+    CHECK(setrlimit(RLIMIT_NOFILE, &few) == 0);
+    CHECK(
+        kumquatsieve_open(&cutter, SYSTEM, 0, &number) == KUMQUATSIEVE_FILE && number == EMFILE &&
+        !cutter.held
+    );
+    CHECK(setrlimit(RLIMIT_NOFILE, &most) == 0);
+}
+
+/* A file that is truncated while it is mapped stops whoever reads after its end, as the header
+   says. */
+static void stopped(void) {
+    int status = 0;
+    pid_t child = fork();
+    CHECK(child >= 0);
+    if (child == 0) {
+        kumquatsieve_cutter cutter = KUMQUATSIEVE_EMPTY;
+        const struct rlimit none = {0, 0};
+        CHECK(setrlimit(RLIMIT_CORE, &none) == 0);
+        CHECK(
+            kumquatsieve_open(&cutter, SYSTEM, 0, NULL) == KUMQUATSIEVE_OK &&
+            truncate(SYSTEM, 0) == 0
+        );
+        cut(&cutter, LINE);
+        _exit(0);
+    }
+    CHECK(waitpid(child, &status, 0) == child && WIFSIGNALED(status) && WTERMSIG(status) == SIGBUS);
+}
+
+int main(int given, char **paths) {
+    CHECK(given == 4 || given == 5);
+    sys = read_file(paths[1]);
+    CHECK(chdir(paths[3]) == 0);
+    for (size_t i = 0; i < ROWS(ROWS_OF); i++) check_row(&ROWS_OF[i]);
+    too_large();
+    few_descriptors();
+    if (given == 5) stopped();
+    free(sys.bytes);
+    printf("changing: %zu changes and failures while a file is opened\n", ROWS(ROWS_OF));
+    return 0;
+}

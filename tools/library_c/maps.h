@@ -1,0 +1,41 @@
+/* What is open or mapped in this process. */
+#ifndef MAPS_H
+#define MAPS_H
+#include "check.h"
+#include <dirent.h>
+#include <sys/stat.h>
+#include <sys/sysmacros.h>
+
+/* How often the file at a path is mapped; all mappings without a path. Only those of MAP_SHARED
+   count for a path. */
+static inline size_t mappings_of(const char *path) {
+    char line[8192], flags[8];
+    size_t count = 0;
+    unsigned first, second;
+    unsigned long inode;
+    struct stat of = {0};
+    FILE *maps = fopen("/proc/self/maps", "r");
+    CHECK(maps && (!path || stat(path, &of) == 0));
+    while (fgets(line, sizeof line, maps)) {
+        CHECK(sscanf(line, "%*x-%*x %7s %*x %x:%x %lu", flags, &first, &second, &inode) == 4);
+        bool is_of = inode == of.st_ino && first == major(of.st_dev) && second == minor(of.st_dev);
+        count += !path || (is_of && flags[3] == 's');
+    }
+    fclose(maps);
+    return count;
+}
+
+static inline size_t open_files(void) {
+    size_t count = 0;
+    DIR *all = opendir("/proc/self/fd");
+    CHECK(all);
+    while (readdir(all)) count++;
+    closedir(all);
+    return count;
+}
+
+static inline void write_file(const char *path, const void *bytes, size_t length) {
+    FILE *opened = fopen(path, "wb");
+    CHECK_ROW(path, opened && fwrite(bytes, 1, length, opened) == length && fclose(opened) == 0);
+}
+#endif

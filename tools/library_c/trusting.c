@@ -1,0 +1,41 @@
+/* Opens an image and frees it, and prints the code: trusting HOW IMG [SYSTEM.img]. With a system's
+   image IMG is a user's. Nothing is cut, since an image that is accepted by its record may break
+   every rule. SWAP names two folders, of which the second takes the first one's name once a file
+   was opened in that. Linked with --wrap=openat. */
+#define _GNU_SOURCE
+#include "check.h"
+#include <fcntl.h>
+#include <stdarg.h>
+
+int __real_openat(int folder, const char *name, int flags, ...);
+
+static void swap_folders(void) {
+    static int done;
+    char *names = getenv("SWAP"), away[4096];
+    if (!names || done++) return;
+    char *second = strchr(names, ':');
+    CHECK(second);
+    *second++ = 0;
+    CHECK(snprintf(away, sizeof away, "%s.away", names) < (int)sizeof away);
+    CHECK(rename(names, away) == 0 && rename(second, names) == 0);
+}
+
+int __wrap_openat(int folder, const char *name, int flags, ...) {
+    int opened = __real_openat(folder, name, flags);
+    swap_folders();
+    return opened;
+}
+
+int main(int given, char **words) {
+    kumquatsieve_cutter cutter = KUMQUATSIEVE_EMPTY;
+    uint64_t number = 0;
+    CHECK(given == 3 || given == 4);
+    unsigned how = (unsigned)strtoul(words[1], NULL, 0);
+    if (given == 4)
+        CHECK(kumquatsieve_open(&cutter, words[3], KUMQUATSIEVE_COPY, NULL) == KUMQUATSIEVE_OK);
+    uint32_t code = given == 4 ? kumquatsieve_open_user(&cutter, words[2], how, &number)
+                               : kumquatsieve_open(&cutter, words[2], how, &number);
+    kumquatsieve_free(&cutter);
+    printf("%#x %llu\n", code, (unsigned long long)number);
+    return 0;
+}

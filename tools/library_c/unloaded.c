@@ -1,0 +1,42 @@
+/* The shared library is loaded, opens a file, and is unloaded, again and again, with a fork in
+   between: unloaded LIBRARY.so SYSTEM.img. */
+#include "maps.h"
+#include <dlfcn.h>
+#include <sys/wait.h>
+#include <unistd.h>
+
+enum { OFTEN = 20 };
+
+static void open_once(const char *library, const char *image) {
+    kumquatsieve_cutter cutter = KUMQUATSIEVE_EMPTY;
+    uint32_t (*opens)(kumquatsieve_cutter *, const char *, unsigned, uint64_t *);
+    void (*frees)(kumquatsieve_cutter *);
+    void *loaded_library = dlopen(library, RTLD_NOW | RTLD_LOCAL);
+    CHECK(loaded_library);
+    *(void **)&opens = dlsym(loaded_library, "kumquatsieve_open");
+    *(void **)&frees = dlsym(loaded_library, "kumquatsieve_free");
+    CHECK(
+        opens && frees && opens(&cutter, image, 0, NULL) == KUMQUATSIEVE_OK &&
+        mappings_of(image) == 1
+    );
+    frees(&cutter);
+    CHECK(mappings_of(image) == 0 && dlclose(loaded_library) == 0);
+}
+
+int main(int given, char **paths) {
+    int status = 0;
+    CHECK(given == 3);
+    for (int i = 0; i < OFTEN; i++) {
+        open_once(paths[1], paths[2]);
+        CHECK(!dlopen(paths[1], RTLD_NOW | RTLD_NOLOAD));
+        pid_t child = fork();
+        CHECK(child >= 0);
+        if (child == 0) _exit(0);
+        CHECK(waitpid(child, &status, 0) == child && status == 0);
+    }
+    printf(
+        "unloaded: the shared library was loaded and unloaded %d times, with a fork after each\n",
+        OFTEN
+    );
+    return 0;
+}
