@@ -26,9 +26,10 @@ typedef struct loan {
    - `at` is not null, and `length` bytes lie there, at most PTRDIFF_MAX of them.
    - Nobody writes, unmaps or truncates the bytes, in this process or in another one.
 
-   After an error the core has no pointer to the bytes any more. proved_load_trusted makes no tests:
-   the bytes are the image of a system dictionary that passes all tests of kumquatsieve_load. With
-   other bytes the behaviour is undefined. So it needs a record that record.c accepts. */
+   After an error the core has no pointer to the bytes any more. proved_load_trusted and
+   proved_add_user_trusted make no tests: the bytes are an image of layout 3 that passes all tests of
+   kumquatsieve_load, the digest included. With other bytes the behaviour is undefined. So they need
+   a record that record.c accepts. */
 uint32_t proved_load_lent(
     kumquatsieve_cutter *cutter, loan image, bool skip_digest, uint64_t *number
 );
@@ -36,6 +37,7 @@ uint32_t proved_add_user_lent(
     kumquatsieve_cutter *cutter, loan image, bool skip_digest, uint64_t *number
 );
 uint32_t proved_load_trusted(kumquatsieve_cutter *cutter, loan image, uint64_t *number);
+uint32_t proved_add_user_trusted(kumquatsieve_cutter *cutter, loan image, uint64_t *number);
 
 /* mapping.c. A cutter has a list of the files that its dictionaries are mapped from, the last one
    first. Lists are counted: cutters that share dictionaries have the same list. Any number of

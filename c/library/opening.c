@@ -70,18 +70,12 @@ static int open_file(const char *path, bool wants_record, opened *to) {
     return to->file >= 0 ? 0 : errno;
 }
 
-/* Adds a user's image that has a record. Until the proved core has a call for it, which makes no
-   tests, the tests are made. */
-static uint32_t add_recorded_user(kumquatsieve_cutter *cutter, loan image, uint64_t *number) {
-    return proved_add_user_lent(cutter, image, true, number);
-}
-
 /* Loads an image that is mapped. */
 static uint32_t load_mapped(const opened *from, const request *to, loan image) {
     bool skip = !(to->how & KUMQUATSIEVE_TEST_DIGEST);
     bool is_tested =
         has_record(from->directory, from->name, from->file, &from->of, from->first.layout);
-    if (to->is_user && is_tested) return add_recorded_user(to->cutter, image, to->number);
+    if (to->is_user && is_tested) return proved_add_user_trusted(to->cutter, image, to->number);
     if (to->is_user) return proved_add_user_lent(to->cutter, image, skip, to->number);
     if (is_tested) return proved_load_trusted(to->cutter, image, to->number);
     return proved_load_lent(to->cutter, image, skip, to->number);
