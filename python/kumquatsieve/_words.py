@@ -10,6 +10,9 @@ from ._shown import html_of, table_of
 # What a table shows for a reading: the first of these names of fields that a dictionary has. UniDic's `kana` is that of the word as it stands.
 READINGS = ("kana", "reading", "pron")
 
+# What a field of a feature has in MeCab's dictionaries where there is nothing to say.
+NOTHING = "*"
+
 
 class Line:
     """What the words of a line have in common: its text in UTF-8, the library's records, and the names of the dictionary's fields."""
@@ -46,8 +49,9 @@ def of_record(number: int, what: str) -> Any:
 
 
 class Word:
-    """A word of a line. What isn't its surface or its feature is looked up where it is asked for; a field of the feature that has a name is
-    an attribute too, None where the feature of this word is shorter."""
+    """A word of a line. What isn't its surface or its feature is looked up where it is asked for. A
+    field of the feature that has a name is an attribute too. The attribute is None if the field is
+    `*`, or if the feature of this word is shorter."""
 
     __slots__ = ("surface", "feature", "_line", "_number", "_features")
 
@@ -98,7 +102,8 @@ class Word:
             named = ", ".join(names) or "none"
             raise AttributeError(f"{name}: no attribute of a word, and no name of a field of the dictionary; it names {named}")
         features, number = self.features, names[name]
-        return features[number] if number < len(features) else None
+        field = features[number] if number < len(features) else NOTHING
+        return None if field == NOTHING else field
 
     def __dir__(self) -> List[str]:
         return [*object.__dir__(self), *self._line.names]

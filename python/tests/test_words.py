@@ -6,6 +6,7 @@ import sys
 from pathlib import Path
 
 import pytest
+from conftest import with_feature
 
 from kumquatsieve import Cutter, Word
 from kumquatsieve._fields import split
@@ -123,6 +124,25 @@ def test_fields_by_their_names(named, name):
     for one in (cutter, cutter.share(), pickle.loads(pickle.dumps(cutter))):
         assert [getattr(word, name) for word in one.cut(LINE)] == NAMED[name]
     assert name in dir(cutter.cut(LINE)[0])
+
+
+# Another feature of もも, of 13 bytes; what `base_form` and `reading` are, its second and third field.
+NO_FIELD = [
+    ("名詞,*,abcd", None, "abcd"),
+    ('名詞,"*",ab', None, "ab"),
+    ("名詞,ab,*,c", "ab", None),
+    ("名詞,**,+,c", "**", "+"),
+    ("名詞,,abcde", "", "abcde"),
+    ("名詞,abcdef", "abcdef", None),
+]
+
+
+@pytest.mark.parametrize("feature, base_form, reading", NO_FIELD)
+def test_a_field_that_is_not_there_is_none(system, tmp_path, feature, base_form, reading):
+    """Also where the dictionary has an asterisk for it, as those of MeCab do."""
+    image = with_feature(system, feature, tmp_path / "image.img")
+    word, = Cutter(image, fields=["pos", "base_form", "reading"]).cut("もも")
+    assert (word.feature, word.base_form, word.reading) == (feature, base_form, reading)
 
 
 @pytest.mark.parametrize("text", ["\nreading\n", "\ufeff\r\nreading\r\n", "\nreading"])
