@@ -44,11 +44,13 @@ def folders() -> List[Path]:
 
 
 def dictionaries() -> Dict[str, str]:
-    """The paths of the system dictionaries that are installed, by their names: of a name that stands in two folders, the one that is found."""
+    """The paths of the system dictionaries that are installed, by their names: of a name that stands in
+    two folders, the one that is found. What is no regular file is no image there: a pipe without a
+    writer would be read for ever."""
     found: Dict[str, Path] = {}
     for folder in folders():
         for path in sorted(folder.glob("?*" + ENDING)):
-            if is_file(str(path)):
+            if os.path.isfile(path):
                 found.setdefault(path.stem, path)
     return {name: str(path) for name, path in found.items() if is_system(path)}
 
@@ -70,13 +72,13 @@ def path_of(image: Union[str, "os.PathLike[str]"]) -> str:
         return name
     for folder in folders():
         path = str(folder / (name + ENDING))
-        if is_file(path):
+        if os.path.isfile(path):
             return path
     raise FileNotFoundError(f"{name}: no file, and no image of this name is installed; {told_installed(dictionaries())}")
 
 
 def is_file(path: str) -> bool:
-    """Whether there is something at a path, and no directory."""
+    """Whether there is something at a path that a caller named, and no directory. It may be a pipe."""
     return os.path.exists(path) and not os.path.isdir(path)
 
 

@@ -4,6 +4,7 @@ import mmap
 import os
 import pickle
 import shutil
+import signal
 import sys
 from pathlib import Path
 
@@ -14,6 +15,7 @@ from kumquatsieve import Cutter, Fault
 
 LINE = "すもももも"
 WORDS = ["すもも", "もも"]
+WAIT = 60
 
 
 def mapped(path, access):
@@ -176,6 +178,37 @@ def test_a_name_that_is_not_installed_lists_those_that_are(system, user, install
     with pytest.raises(FileNotFoundError, match="ipadic: .*installed are: sample, unidic$"):
         Cutter("ipadic")
     assert kumquatsieve.dictionaries() == {name: str(installed / f"{name}.img") for name in ("sample", "unidic")}
+
+
+class TooLong(BaseException):
+    """A call that waits for ever."""
+
+
+@pytest.fixture
+def not_for_ever():
+    """Ends a test that waits for ever."""
+
+    def stop(*_):
+        raise TooLong
+
+    before = signal.signal(signal.SIGALRM, stop)
+    signal.alarm(WAIT)
+    yield
+    signal.alarm(0)
+    signal.signal(signal.SIGALRM, before)
+
+
+def test_only_regular_files_are_images_that_are_installed(system, installed, not_for_ever):
+    """And links to them. A pipe to which nobody writes is not waited for."""
+    shutil.copy(system, installed / "kept")
+    (installed / "sample.img").symlink_to("kept")
+    os.mkfifo(installed / "pipe.img")
+    (installed / "zero.img").symlink_to("/dev/zero")
+    assert kumquatsieve.dictionaries() == {"sample": str(installed / "sample.img")}
+    assert Cutter().wakati(LINE) == WORDS
+    for name in ("pipe", "zero"):
+        with pytest.raises(FileNotFoundError, match=f"{name}: .*installed are: sample$"):
+            Cutter(name)
 
 
 def test_without_a_name_the_only_one_is_taken(system, user, installed):
