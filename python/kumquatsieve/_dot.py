@@ -4,9 +4,11 @@ from typing import TYPE_CHECKING, Dict, Iterable, Tuple
 if TYPE_CHECKING:
     from ._lattice import Node
 
-# What a label has in place of a character: Graphviz reads escapes and the entities of HTML. A control character is its picture, U+2400 to U+2421.
-ESCAPES: Dict[int, str] = {number: chr(0x2400 + number) for number in range(32)}
-ESCAPES.update({0x7F: "\u2421", ord('"'): '\\"', ord("\\"): "\\\\", ord("&"): "&amp;"})
+# What a label has in place of a character. Graphviz reads escapes and the entities of HTML. Control
+# characters, and those that no XML may have, are shown by their code points, as \u{1b}.
+UNSHOWN = (*range(0x20), *range(0x7F, 0xA0), 0xFFFE, 0xFFFF)
+ESCAPES: Dict[int, str] = {number: f"\\\\u{{{number:x}}}" for number in UNSHOWN}
+ESCAPES.update({ord('"'): '\\"', ord("\\"): "\\\\", ord("&"): "&amp;"})
 BEST = "color=red, penwidth=2"
 
 

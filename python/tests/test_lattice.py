@@ -4,6 +4,7 @@ import shutil
 import subprocess
 import sys
 from pathlib import Path
+from xml.etree import ElementTree
 
 import pytest
 
@@ -264,7 +265,24 @@ def test_a_graph_of_what_no_path_has(dead):
 
 
 # A character of a line, and how a label has it.
-ESCAPES = [('"', '\\"'), ("\\", "\\\\"), ("&", "&amp;"), ("<", "<"), ("\t", "␉"), ("\0", "␀"), ("\x7f", "␡"), ("\u3000", "\u3000"), ("𠮷", "𠮷")]
+ESCAPES = [
+    ('"', '\\"'),
+    ("\\", "\\\\"),
+    ("&", "&amp;"),
+    ("<", "<"),
+    ("\0", "\\\\u{0}"),
+    ("\t", "\\\\u{9}"),
+    ("\x1b", "\\\\u{1b}"),
+    ("\x7f", "\\\\u{7f}"),
+    ("\x80", "\\\\u{80}"),
+    ("\x9f", "\\\\u{9f}"),
+    ("\xa0", "\xa0"),
+    ("\ufffd", "\ufffd"),
+    ("\ufffe", "\\\\u{fffe}"),
+    ("\uffff", "\\\\u{ffff}"),
+    ("\u3000", "\u3000"),
+    ("𠮷", "𠮷"),
+]
 
 
 @pytest.mark.parametrize("sign, escaped", ESCAPES)
@@ -276,9 +294,24 @@ def test_escapes_of_a_graph(system, sign, escaped):
 def test_graphviz_reads_each_escape(system):
     if not shutil.which("dot"):
         pytest.skip("Graphviz's dot is not there")
-    texts = [f">{text}</text>" for text in ("&quot;", "\\", "&amp;", "&lt;", "␉", "␀", "␡", "\u3000", "𠮷")]
+    texts = [f">{text}</text>" for text in ("&quot;", "\\", "&amp;", "&lt;", "\\u{9}", "\\u{1b}", "\u3000", "𠮷")]
     svg = "".join(Cutter(system).lattice(sign)._repr_svg_() for sign, _ in ESCAPES)
     assert svg.count("<svg") == len(ESCAPES) and [text for text in texts if text not in svg] == []
+
+
+# All control characters but the line feed, and the characters that no XML may have.
+UNSHOWN = [*range(10), *range(11, 32), *range(0x7F, 0xA0), 0xFFFE, 0xFFFF]
+CONTROLS = "".join(map(chr, UNSHOWN))
+CODES = "".join(f"\\u{{{number:x}}}" for number in UNSHOWN)
+
+
+def test_what_is_drawn_is_well_formed_xml(system, marked):
+    """Whatever characters a line or a feature has."""
+    if not shutil.which("dot"):
+        pytest.skip("Graphviz's dot is not there")
+    for image, line, shown in ((system, CONTROLS, CODES), (marked, "もも", "\\u{ffff}詞")):
+        drawn = ElementTree.fromstring(Cutter(image).lattice(line)._repr_svg_())
+        assert shown in [text.text for text in drawn.iter("{http://www.w3.org/2000/svg}text")]
 
 
 def test_a_notebook_shows_a_drawing_or_a_table(system, monkeypatch, tmp_path):
