@@ -44,9 +44,9 @@ def folders() -> List[Path]:
 
 
 def dictionaries() -> Dict[str, str]:
-    """The paths of the system dictionaries that are installed, by their names: of a name that stands in
-    two folders, the one that is found. What is no regular file is no image there: a pipe without a
-    writer would be read for ever."""
+    """The paths of the system dictionaries that are installed, by their names: of a name that stands
+    in two folders, the one that is found. What is no regular file is no image there: a pipe without
+    a writer would be read for ever."""
     found: Dict[str, Path] = {}
     for folder in folders():
         for path in sorted(folder.glob("?*" + ENDING)):
@@ -78,7 +78,7 @@ def path_of(image: Union[str, "os.PathLike[str]"]) -> str:
 
 
 def is_file(path: str) -> bool:
-    """Whether there is something at a path that a caller named, and no directory. It may be a pipe."""
+    """Whether a path that a caller named has something, and no directory. It may be a pipe."""
     return os.path.exists(path) and not os.path.isdir(path)
 
 
@@ -131,13 +131,15 @@ def hand(image: Image, take: Callable[[Any, int, bool], None], take_file: Callab
 
 
 def lent(image: Any) -> Tuple[Any, int]:
-    """Bytes in memory, as the library takes them, and their length. What may not be written has no address for ctypes, so it is copied."""
-    if isinstance(image, bytes):
+    """Bytes in memory, as the library takes them, and their length. What may not be written has no
+    address for ctypes, so it is copied. Of a class of a caller's own the buffer counts, whatever
+    its methods say."""
+    if type(image) is bytes:
         return image, len(image)
     try:
-        with memoryview(image) as view:
-            if view.readonly or not view.c_contiguous or view.nbytes == 0:
-                return view.tobytes(), view.nbytes
-            return (c_char * view.nbytes).from_buffer(image), view.nbytes
+        view = memoryview(image)
     except TypeError:
         raise TypeError(f"an image is a path, a name or bytes, not {type(image).__name__}") from None
+    if view.readonly or not view.c_contiguous or view.nbytes == 0:
+        return view.tobytes(), view.nbytes
+    return (c_char * view.nbytes).from_buffer(view), view.nbytes

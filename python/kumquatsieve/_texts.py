@@ -1,6 +1,6 @@
 """Texts and lines in UTF-8, as the library takes them."""
 import re
-from typing import List
+from typing import Any, List
 
 SURROGATE = re.compile("[\ud800-\udfff]")
 ERRORS = ("strict", "replace")
@@ -27,6 +27,12 @@ def line_of(line: str) -> bytes:
     except (UnicodeEncodeError, TypeError):
         text = encoded(line)
     return without_end(text) if LINE_FEED in text else text
+
+
+def bytes_of(data: Any) -> bytes:
+    """The bytes of a buffer. Those of a class of a caller's own are copied, since its methods may
+    say another length than the bytes have."""
+    return data if type(data) is bytes else memoryview(data).tobytes()
 
 
 def without_end(line: bytes) -> bytes:
@@ -73,5 +79,5 @@ class Encoder:
         if isinstance(line, str):
             return without_end(self.of_text(line))
         if isinstance(line, (bytes, bytearray, memoryview)):
-            return without_end(self.of_bytes(bytes(line)))
+            return without_end(self.of_bytes(bytes_of(line)))
         raise TypeError(f"a line is a str or bytes, not {type(line).__name__}")

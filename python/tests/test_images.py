@@ -12,6 +12,7 @@ import pytest
 
 import kumquatsieve
 from kumquatsieve import Cutter, Fault
+from kumquatsieve._images import lent
 
 LINE = "すもももも"
 WORDS = ["すもも", "もも"]
@@ -27,6 +28,31 @@ def read(path):
     return Path(path).read_bytes()
 
 
+class LongBytes(bytes):
+    """Bytes whose methods lie."""
+
+    def __len__(self):
+        return 1 << 40
+
+    def __bytes__(self):
+        return self
+
+    def __getitem__(self, _):
+        return self
+
+
+class LongArray(bytearray):
+    """A bytearray whose methods lie."""
+
+    __len__, __getitem__ = LongBytes.__len__, LongBytes.__getitem__
+
+
+class LongNumbers(array.array):
+    """Numbers whose methods lie."""
+
+    __len__, __getitem__ = LongBytes.__len__, LongBytes.__getitem__
+
+
 # What is made of a path.
 FORMS = {
     "str": str,
@@ -37,6 +63,10 @@ FORMS = {
     "memoryview of a bytearray": lambda path: memoryview(bytearray(read(path))),
     "every second byte": lambda path: memoryview(bytes(twice for byte in read(path) for twice in (byte, 0)))[::2],
     "array": lambda path: array.array("B", read(path)),
+    "bytes with another length": lambda path: LongBytes(read(path)),
+    "bytearray with another length": lambda path: LongArray(read(path)),
+    "array with another length": lambda path: LongNumbers("B", read(path)),
+    "rows of one byte": lambda path: memoryview(read(path)).cast("B", [len(read(path)), 1]),
     "mmap to read": lambda path: mapped(path, mmap.ACCESS_READ),
     "mmap to copy": lambda path: mapped(path, mmap.ACCESS_COPY),
 }
@@ -79,6 +109,33 @@ def test_a_mapping_may_be_closed_after_the_load(system):
     cutter = Cutter(image)
     image.close()
     assert cutter.wakati(LINE) == WORDS
+
+
+def test_an_image_keeps_its_size_as_long_as_it_is_lent(system):
+    """Another thread may change it meanwhile."""
+    image = bytearray(read(system))
+    held = lent(image)
+    with pytest.raises(BufferError):
+        image.clear()
+    assert held[1] == len(image)
+    del held
+    image.clear()
+
+
+@pytest.mark.parametrize("cut_off", [1, -1])
+def test_a_buffer_may_have_another_size_each_time(system, cut_off):
+    if sys.version_info < (3, 12):
+        pytest.skip("no class has a buffer of its own before Python 3.12")
+
+    class Buffer:
+        given = 0
+
+        def __buffer__(self, _):
+            self.given += 1
+            return memoryview(bytearray(read(system) + bytes(9 + cut_off * self.given)))
+
+    with pytest.raises(Fault, match="L"):
+        Cutter(Buffer())
 
 
 @pytest.mark.parametrize("image", [1.5, 7, ["a"], object()])

@@ -1,14 +1,17 @@
 """Many lines: of texts, of files, of iterables; cut at once, or as they come."""
+import array
 import io
 import mmap
 import os
 import pickle
 import re
+import time
 from pathlib import Path
 
 import pytest
 
 from kumquatsieve import Cutter, Fault, Format, _sources
+from kumquatsieve._texts import Encoder
 
 LINES = ["すもももも", "", " すもももも  zz", "もも"]
 TEXT = "".join(line + "\n" for line in LINES)
@@ -130,6 +133,143 @@ def test_what_is_no_line_is_named(cutter, way, bad):
 def test_what_is_no_source_is_named_at_once(cutter, way, source):
     with pytest.raises(TypeError, match=f"a source is a text, an open file or lines, not {type(source).__name__}"):
         BEGIN[way](cutter, source)
+
+
+class Reads:
+    """A file of which each read gives the next of some things, and then nothing."""
+
+    def __init__(self, *things):
+        self.things = list(things)
+
+    def read(self, _):
+        return self.things.pop(0) if self.things else b""
+
+
+class LongBytes(bytes):
+    """Bytes whose methods lie."""
+
+    def __len__(self):
+        return 1 << 40
+
+    def __bytes__(self):
+        return self
+
+    def __getitem__(self, _):
+        return self
+
+    split = replace = endswith = decode = None
+
+
+class LongArray(bytearray):
+    """A bytearray whose methods lie."""
+
+    __len__, __getitem__ = LongBytes.__len__, LongBytes.__getitem__
+    split = replace = endswith = decode = None
+
+
+class LongText(str):
+    """A text whose methods lie."""
+
+    __len__, __getitem__, __str__ = LongBytes.__len__, LongBytes.__getitem__, LongBytes.__bytes__
+    split = replace = endswith = encode = None
+
+
+class LongNumbers(array.array):
+    """Numbers whose methods lie."""
+
+    __len__, __getitem__ = LongBytes.__len__, LongBytes.__getitem__
+
+
+LYING = {
+    "bytes": LongBytes(TEXT.encode()),
+    "bytearray": LongArray(TEXT.encode()),
+    "str": LongText(TEXT),
+    "lines of bytes": [LongBytes(line.encode()) for line in LINES],
+    "lines of bytearrays": [LongArray(line.encode() + b"\n") for line in LINES],
+    "lines of str": [LongText(line + "\n") for line in LINES],
+    "nine times five bytes": memoryview(TEXT.encode()).cast("B", [9, 5]),
+    "every second byte": memoryview(b"".join(b"%c\n" % byte for byte in TEXT.encode()))[::2],
+}
+READ = [
+    LongBytes,
+    LongArray,
+    lambda data: LongText(data.decode()),
+    memoryview,
+    lambda data: LongNumbers("B", data),
+]
+
+
+@pytest.mark.parametrize("piece", [6, 1_000_000])
+@pytest.mark.parametrize("what", LYING)
+@pytest.mark.parametrize("way", WAYS)
+def test_a_source_is_what_it_has_and_not_what_it_says(cutter, monkeypatch, way, what, piece):
+    """What an object says of its length is nothing that C may read."""
+    monkeypatch.setattr(_sources, "PIECE", piece)
+    call, wanted = WAYS[way]
+    for how in ({}, {"errors": "replace"}):
+        assert call(cutter, LYING[what], **how) == wanted
+
+
+@pytest.mark.parametrize("kind", READ)
+@pytest.mark.parametrize("way", WAYS)
+def test_what_is_read_is_what_it_has_and_not_what_it_says(cutter, way, kind):
+    call, wanted = WAYS[way]
+    assert call(cutter, Reads(*(kind(line.encode() + b"\n") for line in LINES))) == wanted
+
+
+@pytest.mark.parametrize("bad", [5, 0, 10**12, True, 1.5, [b"a"], object()])
+@pytest.mark.parametrize("way", WAYS)
+def test_what_a_read_may_not_give_is_named(cutter, way, bad):
+    """A number is no bytes, which `bytes` makes of it."""
+    answers = BEGIN[way](cutter, Reads(b"ab\n", bad))
+    next(answers)
+    with pytest.raises(TypeError, match=f"gives a str or bytes, not {type(bad).__name__}"):
+        next(answers)
+
+
+@pytest.mark.parametrize("first, second, last", [("ab\n", b"ab\n", b""), (b"ab\n", "ab\n", "")])
+@pytest.mark.parametrize("way", WAYS)
+def test_a_file_is_of_text_or_of_bytes(cutter, way, first, second, last):
+    answers = BEGIN[way](cutter, Reads(first, second))
+    next(answers)
+    kinds = f"gave {type(first).__name__}, and then {type(second).__name__}"
+    with pytest.raises(TypeError, match=kinds):
+        next(answers)
+    assert len(list(BEGIN[way](cutter, Reads(first, last, first)))) == 1
+
+
+@pytest.mark.parametrize("line", [b"ab", None, 5, bytearray(b"ab")])
+@pytest.mark.parametrize("call", ["cut", "wakati", "parse", "format", "lattice"])
+def test_a_line_is_a_text(cutter, call, line):
+    with pytest.raises(TypeError, match=f"a line is a str, not {type(line).__name__}"):
+        getattr(cutter, call)(line)
+
+
+class ByteByByte(io.BytesIO):
+    """A file of which each read gives a byte."""
+
+    def read(self, _):
+        return super().read(1)
+
+
+class SignBySign(io.StringIO):
+    """A file of which each read gives a character."""
+
+    def read(self, _):
+        return super().read(1)
+
+
+def time_of(file):
+    """The processor's time that it takes to read a file."""
+    before = time.process_time()
+    assert sum(map(len, _sources.pieces(file, Encoder("strict"))))
+    return time.process_time() - before
+
+
+@pytest.mark.parametrize("file, sign, end", [(ByteByByte, b"z", b"\n"), (SignBySign, "z", "\n")])
+def test_a_file_may_give_a_byte_at_a_time(file, sign, end):
+    """A byte of a long line takes about as long as one of short lines."""
+    assert time_of(file(sign * 500_000)) < 10 * time_of(file((sign * 99 + end) * 5000))
 
 
 @pytest.mark.parametrize("way", WAYS)
