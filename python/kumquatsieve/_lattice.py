@@ -3,6 +3,7 @@ import shutil
 import subprocess
 from bisect import bisect_left
 from itertools import count
+from operator import itemgetter
 from typing import Any, Dict, Iterator, List, NamedTuple, Optional, Tuple
 
 from ._buffers import NODE_FIELDS
@@ -109,13 +110,17 @@ class Lattice:
         return words
 
     def rivals(self) -> List[Rival]:
-        """For each word of the best path the best of the paths that have no word with its boundaries."""
+        """For each word of the best path the best of the paths that have no word with its
+        boundaries. The nodes are sorted once, so n nodes take time in n log n."""
         rivals = [Rival(node, None, None) for node in self.nodes if node.best]
         places = [rival.word.byte_place for rival in rivals]
-        for node in self.nodes:
-            if node.lost is not None and not node.best:
-                for number in taken(node, rivals, places):
-                    rivals[number] = nearer(rivals[number], node)
+        boundaries = {(rival.word.byte_place, rival.word.byte_end) for rival in rivals}
+        free = Free(len(rivals))
+        for lost, node in by_lost(self.nodes):
+            begin, end = node.byte_place, node.byte_end
+            if (begin, end) not in boundaries:
+                for number in free.taken(bisect_left(places, begin), bisect_left(places, end)):
+                    rivals[number] = Rival(rivals[number].word, node, lost)
         return rivals
 
     def to_dot(self, within: Optional[int] = None) -> str:
@@ -147,21 +152,41 @@ def is_near(node: Node, within: Optional[int]) -> bool:
     return within is None or (node.lost is not None and node.lost <= within)
 
 
-def taken(node: Node, rivals: List[Rival], places: List[int]) -> Iterator[int]:
-    """The numbers of the words whose place a node takes: it covers where they begin, and has other boundaries. A word begins with the blanks before
-    it."""
-    begin, end = node.byte_place, node.byte_end
-    for number in range(bisect_left(places, begin), bisect_left(places, end)):
-        if (places[number], rivals[number].word.byte_end) != (begin, end):
+def by_lost(nodes: List[Node]) -> List[Tuple[int, Node]]:
+    """Returns the nodes that some path has, each with what it lost by, sorted by that. Nodes that
+    lost by as much keep their order."""
+    each = ((node.lost, node) for node in nodes)
+    return sorted(((lost, node) for lost, node in each if lost is not None), key=itemgetter(0))
+
+
+class Free:
+    """The words of the best path that have no rival yet, by their numbers.
+
+    A node takes the place of each word whose beginning it covers, unless it has the boundaries of
+    that word. A word begins with the blanks before it, so each word ends where the next one begins.
+    A node with the boundaries of a word covers the beginning of no other word. Any other node takes
+    the place of a run of words. The nodes come in the order of what they lost by, so a node is the
+    rival of those words of its run that are still free. Words that are not free are skipped by
+    union-find.
+    """
+
+    def __init__(self, count: int) -> None:
+        self._next = list(range(count + 1))
+
+    def taken(self, first: int, end: int) -> Iterator[int]:
+        """Yields the free words from `first` up to `end`. They are not free any more."""
+        number = self._from(first)
+        while number < end:
             yield number
+            self._next[number] = number + 1
+            number = self._from(number)
 
-
-def nearer(rival: Rival, node: Node) -> Rival:
-    """A word's rival that lost by less, the one that is known or the node. Of as much it is the first."""
-    lost = node.lost
-    if lost is None or (rival.lost is not None and rival.lost <= lost):
-        return rival
-    return Rival(rival.word, node, lost)
+    def _from(self, number: int) -> int:
+        """Returns the first free word from this one on, or the count of words."""
+        following = self._next
+        while following[number] != number:
+            following[number] = number = following[following[number]]
+        return number
 
 
 def told(value: Any) -> str:

@@ -1,5 +1,6 @@
 """Lattices: their nodes worked by hand, and beside a list of all paths; rivals; and what is shown of them."""
 import pickle
+import random
 import shutil
 import subprocess
 import sys
@@ -8,7 +9,7 @@ from xml.etree import ElementTree
 
 import pytest
 
-from kumquatsieve import Cutter, Node, _handle, _lattice
+from kumquatsieve import Cutter, Lattice, Node, _handle, _lattice
 
 JSEG = Path(__file__).resolve().parent.parent.parent / "crates" / "jseg" / "out" / "jseg"
 LINE = "すもももも"
@@ -157,6 +158,59 @@ def test_rivals_worked_by_hand(system, line):
     assert rivals(Cutter(system).lattice(line)) == RIVALS[line]
 
 
+class MadeUp:
+    """A node that counts how often it is asked for an attribute."""
+
+    asked = 0
+
+    def __init__(self, place, end, lost):
+        self.all = {"byte_place": place, "byte_end": end, "lost": lost, "best": lost == 0}
+
+    def __getattr__(self, name):
+        MadeUp.asked += 1
+        return self.all[name]
+
+
+def rival_of(word, nodes):
+    """The first node that lost by least of those that cover where a word begins, and end or begin
+    elsewhere."""
+    place, end = word.byte_place, word.byte_end
+    on_paths = [node for node in nodes if node.lost is not None]
+    covering = [node for node in on_paths if node.byte_place <= place < node.byte_end]
+    others = [node for node in covering if (node.byte_place, node.byte_end) != (place, end)]
+    return min(others, key=lambda node: node.lost, default=None)
+
+
+def test_rivals_of_nodes_that_are_made_up():
+    """Many nodes that lost by as much, or that no path has, over words of any length."""
+    choose = random.Random(1)
+    for _ in range(300):
+        ends = sorted({*choose.choices(range(1, 12), k=5), 12})
+        nodes = [MadeUp(place, end, 0) for place, end in zip([0, *ends], ends)]
+        for _ in range(choose.randrange(40)):
+            place = choose.randrange(12)
+            end = choose.randrange(place, 12) + 1
+            nodes.append(MadeUp(place, end, choose.choice([None, 1, 2, 3])))
+        nodes.sort(key=lambda node: node.byte_place)
+        found = Lattice(nodes, 0, "").rivals()
+        assert [rival.word for rival in found] == [node for node in nodes if node.best]
+        for word, node, lost in found:
+            assert node is rival_of(word, nodes) and lost == (node.lost if node else None)
+
+
+def test_rivals_of_many_nodes_take_few_steps():
+    """All words of a line of 150 characters, of which each cut is possible; the best path cuts it
+    into characters."""
+    ends = range(1, 151)
+    spans = [(place, end) for place in range(150) for end in ends if end > place]
+    nodes = [MadeUp(place, end, end - place - 1) for place, end in spans]
+    MadeUp.asked = 0
+    rivals = Lattice(nodes, 0, "").rivals()
+    assert MadeUp.asked < 6 * len(nodes)
+    found = [(rival.word.byte_place, rival.node.byte_place, rival.lost) for rival in rivals]
+    assert found == [(0, 0, 1), *((at, at - 1, 1) for at in ends[:-1])]
+
+
 @pytest.mark.parametrize("line", NODES)
 def test_the_best_nodes_are_the_words_of_the_line(system, line):
     cutter = Cutter(system)
@@ -294,7 +348,8 @@ def test_escapes_of_a_graph(system, sign, escaped):
 def test_graphviz_reads_each_escape(system):
     if not shutil.which("dot"):
         pytest.skip("Graphviz's dot is not there")
-    texts = [f">{text}</text>" for text in ("&quot;", "\\", "&amp;", "&lt;", "\\u{9}", "\\u{1b}", "\u3000", "𠮷")]
+    signs = ["&quot;", "\\", "&amp;", "&lt;", "\\u{9}", "\\u{1b}", "\u3000", "𠮷"]
+    texts = [f">{sign}</text>" for sign in signs]
     svg = "".join(Cutter(system).lattice(sign)._repr_svg_() for sign, _ in ESCAPES)
     assert svg.count("<svg") == len(ESCAPES) and [text for text in texts if text not in svg] == []
 
