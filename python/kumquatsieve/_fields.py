@@ -8,6 +8,10 @@ from ._images import ENDING
 # A field with the blanks before it: in quotes, which are doubled within, or as it stands. What is behind a closing quote is no part of it.
 FIELD = re.compile(r'[ \t]*(?:"((?:[^"]|"")*)"?[^,]*|([^,]*))')
 NOT_PLAIN = re.compile(r'["\t ]')
+# The first line of a file of names that belongs to one image has this and the image's checksum,
+# which is the last bytes of the image.
+CHECKSUM = "; image-sha256 "
+CHECKSUM_BYTES = 32
 # Names that a field may be asked for by in each dictionary, and what it is called where it has another name.
 COMMON = {
     "conjugation_type": "cType",
@@ -34,18 +38,37 @@ def split(feature: str) -> List[str]:
 
 
 def names_beside(image: Union[str, "os.PathLike[str]"], taken: Iterable[str]) -> Dict[str, int]:
-    """The names of fields in the file NAME.fields beside the image NAME.img, as `numbered` has them; none where there is no file. Where the image is
-    a link it stands beside what that leads to, as `kumquatsieve-import` writes it. The file has a name on each line; an empty line is a field
-    without one."""
-    path = os.path.realpath(image).removesuffix(ENDING) + ".fields"
+    """Returns the names of fields in the file NAME.fields beside the image NAME.img, as `numbered`
+    has them. There are none if there is no file, or if it belongs to another image. If the image is
+    a link, the file is beside its target, as `kumquatsieve-import` writes it. The first line may
+    name the image. Each line after it has a name. An empty line is a field without one."""
+    target = os.path.realpath(image)
+    path = target.removesuffix(ENDING) + ".fields"
     try:
         with open(path, encoding="utf-8-sig") as file:
             names = file.read().splitlines()
     except (FileNotFoundError, NotADirectoryError):
         return {}
+    if names and names[0].startswith(CHECKSUM):
+        if names.pop(0) != CHECKSUM + checksum_of(target):
+            return {}
     if not any(names):
         raise ValueError(f"{path}: it names no field")
     return numbered(names, taken, path)
+
+
+def checksum_of(image: str) -> str:
+    """Returns the checksum of an image, its last bytes, in hex; an empty text if the file has fewer
+    bytes or is not there. What is no regular file, such as a pipe, is not read: its bytes come
+    once."""
+    try:
+        if os.path.isfile(image):
+            with open(image, "rb") as file:
+                file.seek(-CHECKSUM_BYTES, os.SEEK_END)
+                return file.read(CHECKSUM_BYTES).hex()
+    except OSError:
+        pass
+    return ""
 
 
 def numbered(names: Iterable[Optional[str]], taken: Iterable[str], place: str) -> Dict[str, int]:

@@ -1,5 +1,7 @@
 """Words by their attributes, and what is shown of them."""
 import copy
+import hashlib
+import os
 import pickle
 import shutil
 import sys
@@ -8,8 +10,8 @@ from pathlib import Path
 import pytest
 from conftest import with_feature
 
-from kumquatsieve import Cutter, Word
-from kumquatsieve._fields import split
+from kumquatsieve import Cutter, Fault, Word
+from kumquatsieve._fields import names_beside, split
 
 LINE = " すもももも  zz𠮷"
 # The words of that line over the sample's sources, which are small enough to add the costs by hand.
@@ -126,7 +128,7 @@ def test_fields_by_their_names(named, name):
     assert name in dir(cutter.cut(LINE)[0])
 
 
-# Another feature of もも, of 13 bytes; what `base_form` and `reading` are, its second and third field.
+# Another feature of もも, of 13 bytes; its second and third field by `base_form` and `reading`.
 NO_FIELD = [
     ("名詞,*,abcd", None, "abcd"),
     ('名詞,"*",ab', None, "ab"),
@@ -162,6 +164,63 @@ def test_the_file_of_names_is_that_of_the_import(system, tmp_path, image, link, 
     for name, text in files.items():
         (tmp_path / name).write_text(f"{text}\n")
     assert Cutter(tmp_path / (link or image)).fields == fields
+
+
+def checksum_of(image):
+    """The SHA-256 of all of an image but its last 32 bytes, which are the same."""
+    return hashlib.sha256(Path(image).read_bytes()[:-32]).hexdigest()
+
+
+# The first line of a file of names, made of the image's checksum, and what the fields are called.
+FIRST = [
+    (lambda checksum: f"; image-sha256 {checksum}\n", ("pos", "reading")),
+    (lambda checksum: f"; image-sha256 {checksum}\r\n", ("pos", "reading")),
+    (lambda checksum: f"; image-sha256 {checksum[1:]}{checksum[0]}\n", ()),
+    (lambda checksum: f"; image-sha256 {checksum[:-1]}\n", ()),
+    (lambda checksum: f"; image-sha256 {checksum.upper()}\n", ()),
+    (lambda checksum: f"; image-sha256 {checksum} \n", ()),
+    (lambda checksum: "; image-sha256 \n", ()),
+    (lambda checksum: "", ("pos", "reading")),
+]
+
+
+@pytest.mark.parametrize("first, fields", FIRST)
+def test_names_of_another_image_are_ignored(system, tmp_path, first, fields):
+    image = Path(shutil.copy(system, tmp_path / "kept.img"))
+    (tmp_path / "link.img").symlink_to("kept.img")
+    text = first(checksum_of(system)) + "pos\nreading\n"
+    image.with_suffix(".fields").write_bytes(text.encode())
+    for path in (image, tmp_path / "link.img"):
+        cutter = Cutter(path)
+        assert cutter.fields == fields
+        assert pickle.loads(pickle.dumps(cutter)).fields == fields
+    word, = Cutter(image).cut("もも")
+    assert [getattr(word, name) for name in fields] == ["名詞", "もも"][: len(fields)]
+
+
+def test_names_go_with_the_image(system, images, tmp_path):
+    """An image that takes the place of another one has no names until it has a file of its own."""
+    image = Path(shutil.copy(system, tmp_path / "sample.img"))
+    names = image.with_suffix(".fields")
+    names.write_text(f"; image-sha256 {checksum_of(image)}\npos\n")
+    assert Cutter(image).fields == ("pos",)
+    os.replace(shutil.copy(images / "quoted.img", tmp_path / "new"), image)
+    assert Cutter(image).fields == ()
+    names.write_text(f"; image-sha256 {checksum_of(image)}\nkind\n")
+    assert Cutter(image).fields == ("kind",)
+
+
+def test_names_beside_what_has_no_checksum(system, tmp_path):
+    """A file of fewer bytes is no image, which is reported; a pipe is not read for its names."""
+    text = f"; image-sha256 {checksum_of(system)}\npos\n"
+    for name in ("short.fields", "pipe.fields"):
+        (tmp_path / name).write_text(text)
+    (tmp_path / "short.img").write_bytes(b"MJDICT")
+    with pytest.raises(Fault, match="L1 Truncated"):
+        Cutter(tmp_path / "short.img")
+    os.mkfifo(tmp_path / "pipe.img")
+    assert names_beside(tmp_path / "pipe.img", ()) == {}
+    assert names_beside(tmp_path / "gone.img", ()) == {}
 
 
 def test_names_by_hand(named, system):
