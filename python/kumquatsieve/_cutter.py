@@ -32,9 +32,13 @@ class Cutter:
 
     `parse` and `parse_lines` print in the cutter's format: `"wakati"`, a `Format`, or else a line for each word, with its feature, and EOS.
 
-    With `skip_digest` the images are loaded without the test of their digest, which takes most of the time. All other tests are made.
+    The file of an image is mapped, so processes share its memory. Nobody may write to the file while
+    a cutter has it, but another file may take its place. A file that `kumquatsieve-import` has
+    tested is loaded without tests. Other files, and bytes, get each test except that of the digest.
+    With `test_digest` each image gets each test. The digest takes most of the time of a load.
 
-    A cutter pickles as what it was made of, the paths or names of its images, whether their digests are skipped, its grouping and its format.
+    A cutter pickles as what it was made of, the paths or names of its images, whether their digests
+    are tested, its grouping and its format.
     A process loads the images once for all cutters that it gets so, and not at all where it has a cutter of them, as after a fork.
     """
 
@@ -46,17 +50,17 @@ class Cutter:
         format: Union[None, str, Format] = None,
         fields: Optional[Sequence[Optional[str]]] = None,
         *,
-        skip_digest: bool = False,
+        test_digest: bool = False,
     ) -> None:
         if isinstance(users, (*TEXTS, os.PathLike)):
             raise TypeError("users are several images, in a list")
         if isinstance(fields, (str, bytes)):
             raise TypeError("fields are several names, in a list")
         image, users = default() if image is None else image, tuple(users)
-        self._origin = origin_of(image, users, skip_digest)
+        self._origin = origin_of(image, users, test_digest)
         self._fields = names_of(image, fields)
         self._names = with_common(self._fields)
-        self._handles = LOADED.new(self._origin, image, users, skip_digest)
+        self._handles = LOADED.new(self._origin, image, users, test_digest)
         self._texts = texts_of(format)
         self._handles.call(PRINTED, b"", self._texts)
         self.set_grouping(grouping)

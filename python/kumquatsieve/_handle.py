@@ -1,14 +1,14 @@
 """One cutter of the library's."""
 import os
 from contextvars import Context
-from ctypes import addressof, byref, c_char, c_size_t, c_uint32, c_uint64
+from ctypes import addressof, byref, c_size_t, c_uint32, c_uint64
+from errno import EINTR
 from functools import partial
-from io import FileIO
 from typing import Any, Dict, Iterator, List, Optional, Tuple
 
 from ._buffers import FIELDS, NODE_FIELDS, Buffers
 from ._fault import Fault, fault_of, raise_fault
-from ._library import LIBRARY, OK, PARTS, Pieces, Slot, ready_size
+from ._library import FILE, LIBRARY, OK, PARTS, TEST_DIGEST, Slot, ready_size
 from ._texts import LINE_FEED, lines_of, without_end
 
 Texts = Tuple[bytes, bytes, bytes, bytes]
@@ -20,9 +20,6 @@ Told = Tuple[int, bytes, List[str]]
 Answers = Tuple[List[str], Optional[Exception]]
 
 GROUPING = 24
-
-# How many bytes of a file are read at a time.
-PIECE = 1 << 20
 
 # How many nodes of a lattice are guessed for each byte of the line. Where they are more, the lattice is made twice.
 NODES = 3
@@ -53,16 +50,10 @@ def feature(number: Any, cutter: Any, *room: Any) -> int:
     return int(FEATURE(cutter, number, *room))
 
 
-def pieces_of(file: FileIO) -> Pieces:
-    """The bytes of a file, which is read piece by piece, so that they stand in memory once."""
-    length = os.fstat(file.fileno()).st_size
-    pieces, piece = Pieces(), bytearray(PIECE)
-    at = (c_char * PIECE).from_buffer(piece)
-    for count in iter(lambda: file.readinto(piece), 0):
-        code = LIBRARY.buffer_append(byref(pieces), length, at, count)
-        if code != OK:
-            raise_fault(code)
-    return pieces
+def check_image(code: int, number: int) -> None:
+    """Raises why an image was refused, with the number that the library set, where it was."""
+    if code != OK:
+        raise_fault(code, number if code in NUMBERED else None)
 
 
 class Handle:
@@ -90,6 +81,7 @@ class Handle:
     def forget(self) -> None:
         """Makes it empty, and gives back nothing."""
         self._slot.held = False
+        self._slot.mapped = None
 
     def runs(self) -> bool:
         """Whether a call has it now: a context that is entered can't be entered."""
@@ -99,27 +91,38 @@ class Handle:
             return True
         return False
 
-    def load(self, image: Any, length: int, skip_digest: bool) -> None:
-        """Fills an empty handle with a system dictionary."""
-        self._take(LIBRARY.load_by, image, length, skip_digest)
+    def load(self, image: Any, length: int, test_digest: bool) -> None:
+        """Fills an empty handle with a system dictionary in memory."""
+        self._load(LIBRARY.load_by, image, length, test_digest)
 
-    def load_file(self, file: FileIO, skip_digest: bool) -> None:
-        """The same of a file."""
-        self._take(LIBRARY.load_buffer, byref(pieces_of(file)), skip_digest)
+    def open(self, path: str, test_digest: bool) -> None:
+        """Fills an empty handle with the system dictionary in a file."""
+        self._open(LIBRARY.open, path, test_digest)
 
-    def add_user(self, image: Any, length: int, skip_digest: bool) -> None:
-        """Lays a user dictionary over the others, before they are shared."""
-        self._take(LIBRARY.add_user_by, image, length, skip_digest)
+    def add_user(self, image: Any, length: int, test_digest: bool) -> None:
+        """Lays a user dictionary in memory over the others, before they are shared."""
+        self._load(LIBRARY.add_user_by, image, length, test_digest)
 
-    def add_user_file(self, file: FileIO, skip_digest: bool) -> None:
-        """The same of a file."""
-        self._take(LIBRARY.add_user_buffer, byref(pieces_of(file)), skip_digest)
+    def open_user(self, path: str, test_digest: bool) -> None:
+        """Lays the user dictionary in a file over the others."""
+        self._open(LIBRARY.open_user, path, test_digest)
 
-    def _take(self, call: Any, *image: Any) -> None:
+    def _load(self, call: Any, image: Any, length: int, test_digest: bool) -> None:
         number = c_uint64()
-        code = call(self._at, *image, addressof(number))
-        if code != OK:
-            raise_fault(code, number.value if code in NUMBERED else None)
+        check_image(call(self._at, image, length, not test_digest, addressof(number)), number.value)
+
+    def _open(self, call: Any, path: str, test_digest: bool) -> None:
+        """Opens a file. If a signal interrupted that, as of a pipe, it is tried again, after the
+        signal's handler has run."""
+        name, how = os.fsencode(path), TEST_DIGEST if test_digest else 0
+        if b"\0" in name:
+            raise ValueError(f"the path of an image has a null character: {path!r}")
+        code, number = FILE, c_uint64(EINTR)
+        while (code, number.value) == (FILE, EINTR):
+            code = call(self._at, name, how, addressof(number))
+        if code == FILE:
+            raise OSError(number.value, os.strerror(number.value), path)
+        check_image(code, number.value)
 
     def share(self) -> "Handle":
         """Another handle over the same dictionaries, with the same format and grouping."""

@@ -4,7 +4,6 @@ import os
 import shutil
 import sys
 from ctypes import c_char
-from io import FileIO
 from pathlib import Path
 from typing import Any, Callable, Dict, List, NamedTuple, Optional, Sequence, Tuple, Union
 
@@ -99,20 +98,20 @@ def default() -> str:
 
 class Origin(NamedTuple):
     """What a cutter was made of: each image by a path, or by the bare name of an installed one, which another machine may have elsewhere; and
-    whether their digests were skipped."""
+    whether their digests were tested."""
 
     image: str
     users: Tuple[str, ...]
-    skip_digest: bool
+    test_digest: bool
 
     def paths(self) -> Tuple[str, ...]:
         return tuple(map(path_of, (self.image, *self.users)))
 
 
-def origin_of(image: Image, users: Sequence[Image], skip_digest: bool) -> Optional[Origin]:
+def origin_of(image: Image, users: Sequence[Image], test_digest: bool) -> Optional[Origin]:
     """What a cutter of these images is made of; None where one is in memory."""
     names = [name_of(one) for one in (image, *users) if isinstance(one, (str, os.PathLike))]
-    return Origin(names[0], tuple(names[1:]), skip_digest) if len(names) == 1 + len(users) else None
+    return Origin(names[0], tuple(names[1:]), test_digest) if len(names) == 1 + len(users) else None
 
 
 def name_of(image: Union[str, "os.PathLike[str]"]) -> str:
@@ -121,13 +120,18 @@ def name_of(image: Union[str, "os.PathLike[str]"]) -> str:
     return os.path.abspath(name) if "/" in name or is_file(name) else name
 
 
-def hand(image: Image, take: Callable[[Any, int, bool], None], take_file: Callable[[FileIO, bool], None], skip_digest: bool) -> None:
-    """Hands an image to a call of the library, with whether its digest is skipped: a file, or bytes in memory and their length."""
+def hand(
+    image: Image,
+    take: Callable[[Any, int, bool], None],
+    take_file: Callable[[str, bool], None],
+    test_digest: bool,
+) -> None:
+    """Hands an image to a call of the library, with whether its digest is tested: the path of a
+    file, or bytes in memory and their length."""
     if isinstance(image, (str, os.PathLike)):
-        with open(path_of(image), "rb", buffering=0) as file:
-            take_file(file, skip_digest)
+        take_file(path_of(image), test_digest)
     else:
-        take(*lent(image), skip_digest)
+        take(*lent(image), test_digest)
 
 
 def lent(image: Any) -> Tuple[Any, int]:

@@ -11,12 +11,16 @@ VARIABLE = "KUMQUATSIEVE_LIBRARY"
 
 OK = 0
 MEMORY = 1
+FILE = 0x4601
 LINE_FEED = 0x4B01
 SHORT_BUFFER = 0x4B07
 PARTS = ("node", "unk", "bos", "eos")
 
+# How an image file is opened for which each test is made, the SHA-256 included.
+TEST_DIGEST = 2
+
 # The calls that may take long, during which other threads run. During the others none does, so no fork of another thread's falls into one.
-LONG = ("load_by", "load_buffer", "add_user_by", "add_user_buffer", "cut", "cut_lines", "copy_print", "nodes")
+LONG = ("load_by", "open", "add_user_by", "open_user", "cut", "cut_lines", "copy_print", "nodes")
 
 # The calls that are made for each line. To convert an argument takes ctypes longer than many a call, so these are given nothing that it would
 # convert: bytes, what `byref` makes of an output, which is made once, and what `ready_size` makes of a number.
@@ -29,14 +33,7 @@ ready_size: Callable[[int], Any] = ctypes.c_void_p.from_param
 class Slot(ctypes.Structure):
     """What the library keeps of a cutter. Where nobody has it any more it is given back, by `free` as `__del__`."""
 
-    _fields_ = [("held", ctypes.c_bool), ("at", ctypes.c_void_p)]
-
-
-class Pieces(ctypes.Structure):
-    """The bytes of an image that the library has, as far as they came. Where nobody has it any more they are given back, by `buffer_free` as
-    `__del__`."""
-
-    _fields_ = [("held", ctypes.c_bool), ("at", ctypes.c_void_p)]
+    _fields_ = [("held", ctypes.c_bool), ("at", ctypes.c_void_p), ("mapped", ctypes.c_void_p)]
 
 
 class Record(ctypes.Structure):
@@ -77,10 +74,8 @@ def arguments() -> Dict[str, Optional[List[Any]]]:
     return {
         "load_by": [address, address, size, ctypes.c_bool, address],
         "add_user_by": [address, address, size, ctypes.c_bool, address],
-        "buffer_append": [address, size, address, size],
-        "load_buffer": [address, address, ctypes.c_bool, address],
-        "add_user_buffer": [address, address, ctypes.c_bool, address],
-        "buffer_free": [ctypes.POINTER(Pieces)],
+        "open": [address, ctypes.c_char_p, ctypes.c_uint, address],
+        "open_user": [address, ctypes.c_char_p, ctypes.c_uint, address],
         "share": [address, address],
         "free": [ctypes.POINTER(Slot)],
         "set_format": [address, *text * 4, address, address],
@@ -109,7 +104,7 @@ def load() -> SimpleNamespace:
     for name, types in arguments().items():
         call = call_of(beside_others if name in LONG else alone, f"kumquatsieve_{name}")
         call.argtypes = types
-        call.restype = None if name in ("free", "buffer_free") else ctypes.c_uint32
+        call.restype = None if name == "free" else ctypes.c_uint32
         calls[name] = call
     return SimpleNamespace(**calls)
 
@@ -135,4 +130,3 @@ def method_of(call: Any) -> Any:
 
 LIBRARY = load()
 setattr(Slot, "__del__", method_of(LIBRARY.free))
-setattr(Pieces, "__del__", method_of(LIBRARY.buffer_free))

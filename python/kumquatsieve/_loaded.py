@@ -13,20 +13,26 @@ class Key(NamedTuple):
     """The files of an origin as they are now: another file of the same path is another image."""
 
     origin: Origin
-    files: Tuple[Tuple[int, int, int, int], ...]
+    files: Tuple[Tuple[int, ...], ...]
 
 
 def key_of(origin: Origin) -> Key:
     stats = map(os.stat, origin.paths())
-    return Key(origin, tuple((stat.st_dev, stat.st_ino, stat.st_size, stat.st_mtime_ns) for stat in stats))
+    return Key(origin, tuple(map(identity_of, stats)))
 
 
-def load(image: Image, users: Sequence[Image], skip_digest: bool) -> Handle:
+def identity_of(stat: os.stat_result) -> Tuple[int, ...]:
+    """What tells a file from others, and from what it was before a change. The library tells the
+    files that it has mapped by the same."""
+    return stat.st_dev, stat.st_ino, stat.st_size, stat.st_mtime_ns, stat.st_ctime_ns
+
+
+def load(image: Image, users: Sequence[Image], test_digest: bool) -> Handle:
     """A handle of a system dictionary with users' laid over it."""
     handle = Handle()
-    hand(image, handle.load, handle.load_file, skip_digest)
+    hand(image, handle.load, handle.open, test_digest)
     for user in users:
-        hand(user, handle.add_user, handle.add_user_file, skip_digest)
+        hand(user, handle.add_user, handle.open_user, test_digest)
     return handle
 
 
@@ -46,10 +52,12 @@ class Loaded:
         """Also in the child of a fork, where the thread that had the lock may be none of its own."""
         self._lock = threading.RLock()
 
-    def new(self, origin: Optional[Origin], image: Image, users: Sequence[Image], skip_digest: bool) -> Handles:
+    def new(
+        self, origin: Optional[Origin], image: Image, users: Sequence[Image], test_digest: bool
+    ) -> Handles:
         """Loads images for a cutter."""
         key = key_of(origin) if origin else None
-        handles = Handles(load(image, users, skip_digest))
+        handles = Handles(load(image, users, test_digest))
         if key:
             self._know(key, handles)
         return handles

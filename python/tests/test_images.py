@@ -164,17 +164,22 @@ def test_an_empty_file_is_refused(tmp_path):
 
 @pytest.mark.parametrize("form", [str, read])
 @pytest.mark.parametrize("names", [("damaged", "user"), ("system", "damaged_user")])
-def test_another_digest_is_refused_where_it_is_not_skipped(request, names, form):
+def test_another_digest_is_refused_where_it_is_tested(request, names, form):
     image, user = (form(request.getfixturevalue(name)) for name in names)
     with pytest.raises(Fault, match="L8 Digest"):
-        Cutter(image, [user])
-    assert Cutter(image, [user], skip_digest=True).wakati(LINE) == [LINE]
+        Cutter(image, [user], test_digest=True)
+    assert Cutter(image, [user]).wakati(LINE) == [LINE]
 
 
-def test_all_else_is_tested_where_the_digest_is_skipped(system, user):
-    for image, fault in ((read(system)[:-1], "L1"), (b"x" + read(system)[1:], "L2"), (user, "O1")):
-        with pytest.raises(Fault, match=fault):
-            Cutter(image, skip_digest=True)
+@pytest.mark.parametrize("test_digest", [False, True])
+def test_all_else_is_tested_in_each_case(system, user, tmp_path, test_digest):
+    path = tmp_path / "image.img"
+    whole = read(system)
+    for image, fault in ((whole[:-1], "L1"), (b"x" + whole[1:], "L2"), (read(user), "O1")):
+        path.write_bytes(image)
+        for form in (image, path):
+            with pytest.raises(Fault, match=fault):
+                Cutter(form, test_digest=test_digest)
 
 
 def test_a_pipe_is_read(system):
@@ -188,13 +193,6 @@ def test_a_pipe_is_read(system):
     assert Cutter(f"/dev/fd/{out}").wakati(LINE) == WORDS
     os.close(out)
     os.wait()
-
-
-def test_a_file_that_is_not_there(tmp_path):
-    with pytest.raises(FileNotFoundError, match="there.img"):
-        Cutter(tmp_path / "there.img")
-    with pytest.raises(IsADirectoryError):
-        Cutter(tmp_path)
 
 
 def test_a_bare_name_is_that_of_an_installed_image(system, user, installed):

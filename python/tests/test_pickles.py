@@ -4,7 +4,6 @@ import multiprocessing
 import os
 import pickle
 import shutil
-from pathlib import Path
 
 import pytest
 
@@ -18,14 +17,14 @@ loads = 0
 
 def count_loads():
     """What a worker begins with."""
-    whole = Handle.load_file
+    whole = Handle.open
 
     def load(*given):
         global loads
         loads += 1
         whole(*given)
 
-    Handle.load_file = load
+    Handle.open = load
 
 
 def cut(cutter):
@@ -63,27 +62,22 @@ def test_a_pickled_cutter_is_what_it_was_made_of(system, user):
     assert second.wakati("abcdefgh") == Cutter(system, grouping=3).wakati("abcdefgh")
 
 
-def test_what_is_made_of_a_cutter_skips_the_digest_as_that_did(damaged, damaged_user):
-    cutter = Cutter(damaged, [damaged_user], skip_digest=True)
-    pickled = [pickle.dumps(one) for one in (cutter, copy.copy(cutter), cutter.share())]
-    with multiprocessing.get_context("spawn").Pool(1) as pool:
-        assert pool.map_async(cut, [cutter, cutter.share()]).get(WAIT)[0][0] == [LINE]
-    cutter.close()
-    for one in pickled:
-        assert pickle.loads(one).wakati(LINE) == [LINE]
-
-
-def test_who_has_digests_tested_gets_nothing_that_was_loaded_without(system, damaged, tmp_path):
-    """Of a file that is damaged and seems to be the same."""
+def test_what_is_made_of_a_cutter_tests_as_that_did(system, damaged, damaged_user, tmp_path):
+    """A file that is damaged in the meantime is found by those that test."""
     path = shutil.copy(system, tmp_path / "image.img")
-    before = os.stat(path)
-    pickled = pickle.dumps(Cutter(path))
-    path.write_bytes(Path(damaged).read_bytes())
-    os.utime(path, ns=(before.st_atime_ns, before.st_mtime_ns))
-    untested = Cutter(path, skip_digest=True)
-    assert pickle.loads(pickle.dumps(untested)).wakati(LINE) == ["すもも", "もも"]
-    with pytest.raises(Exception, match="L8 Digest"):
-        pickle.loads(pickled)
+    tested, untested = Cutter(path, test_digest=True), Cutter(damaged, [damaged_user])
+    pickled = [pickle.dumps(one) for one in (tested, copy.copy(tested), tested.share())]
+    with multiprocessing.get_context("spawn").Pool(1) as pool:
+        assert pool.map_async(cut, [untested, untested.share()]).get(WAIT)[0][0] == [LINE]
+    again = pickle.dumps(untested)
+    untested.close()
+    assert pickle.loads(again).wakati(LINE) == [LINE]
+    tested.close()
+    os.replace(shutil.copy(damaged, tmp_path / "new.img"), path)
+    assert pickle.loads(pickle.dumps(Cutter(path))).wakati(LINE) == ["すもも", "もも"]
+    for one in pickled:
+        with pytest.raises(Exception, match="L8 Digest"):
+            pickle.loads(one)
 
 
 def test_a_path_is_the_same_from_another_folder(system, tmp_path, monkeypatch):
