@@ -17,35 +17,6 @@ struct bytes {
     size_t length, room;
 };
 
-/* A whole file, or NULL. */
-static uint8_t *read_file(const char *path, size_t *length) {
-    FILE *file = fopen(path, "rb");
-    if (!file) return NULL;
-    uint8_t *bytes = NULL;
-    if (fseek(file, 0, SEEK_END) == 0) {
-        long size = ftell(file);
-        rewind(file);
-        bytes = size > 0 ? malloc((size_t)size) : NULL;
-        if (bytes && fread(bytes, 1, (size_t)size, file) != (size_t)size) {
-            free(bytes);
-            bytes = NULL;
-        }
-        *length = (size_t)size;
-    }
-    fclose(file);
-    return bytes;
-}
-
-static uint32_t load(kumquatsieve_cutter *cutter, const char *path) {
-    size_t length = 0;
-    uint64_t number = 0;
-    uint8_t *image = read_file(path, &length);
-    if (!image) return KUMQUATSIEVE_TRUNCATED;
-    uint32_t code = kumquatsieve_load(cutter, image, length, &number);
-    free(image);
-    return code;
-}
-
 static uint32_t set_wakati(kumquatsieve_cutter *cutter) {
     const uint8_t *word = (const uint8_t *)"%m ", *end = (const uint8_t *)"\\n";
     uint32_t part = 0;
@@ -116,24 +87,31 @@ static uint32_t print_text(kumquatsieve_cutter *cutter) {
     return code;
 }
 
-static int report(uint32_t code) {
-    uint8_t text[64];
-    size_t length = 0;
+/* Prints why a call failed. Returns the status of the program. */
+static int report(uint32_t code, uint64_t number) {
+    char text[64] = "out of memory";
+    size_t length = strlen(text);
     if (code == KUMQUATSIEVE_OK) return 0;
-    kumquatsieve_fault(code, text, sizeof text, &length);
-    fprintf(stderr, "cut: %.*s\n", (int)length, (const char *)text);
+    if (code != KUMQUATSIEVE_MEMORY) {
+        kumquatsieve_fault(code, (uint8_t *)text, sizeof text, &length);
+    }
+    fprintf(stderr, "cut: %.*s", (int)length, text);
+    if (code == KUMQUATSIEVE_FILE) fprintf(stderr, ": %s", strerror((int)number));
+    fprintf(stderr, "\n");
     return 1;
 }
 
 int main(int count, char **words) {
     kumquatsieve_cutter cutter = KUMQUATSIEVE_EMPTY;
-    if (count < 2) {
-        fprintf(stderr, "usage: cut IMG [wakati] < text\n");
+    bool is_wakati = count == 3 && strcmp(words[2], "wakati") == 0;
+    uint64_t number = 0;
+    if (count != 2 && !is_wakati) {
+        fprintf(stderr, "usage: cut IMAGE [wakati] < text\n");
         return 2;
     }
-    uint32_t code = load(&cutter, words[1]);
-    if (code == KUMQUATSIEVE_OK && count > 2 && strcmp(words[2], "wakati") == 0) code = set_wakati(&cutter);
+    uint32_t code = kumquatsieve_open(&cutter, words[1], 0, &number);
+    if (code == KUMQUATSIEVE_OK && is_wakati) code = set_wakati(&cutter);
     if (code == KUMQUATSIEVE_OK) code = print_text(&cutter);
     kumquatsieve_free(&cutter);
-    return report(code);
+    return report(code, number);
 }

@@ -1,6 +1,7 @@
 """Cuts a file of many lines on the workers of dask.distributed, and writes what `jseg` would:
 
-    python3 cut.py [--scheduler ADDRESS | --workers N] [--format wakati] [--part BYTES] TEXT WORDS [DICTIONARY]
+    python3 cut.py IMAGE [--scheduler ADDRESS | --workers N] [--format wakati] [--part BYTES] \\
+        TEXT WORDS
 
 Each worker reads its parts of TEXT by itself, so the path leads to the file on each of their machines, and the dictionary
 is installed there. A line that can't be cut ends the run with its number in the file, after the lines before it were
@@ -82,19 +83,22 @@ def write_first(waiting: Deque[Tuple[Part, Future]], out: TextIO) -> None:
 
 def main() -> None:
     options = argparse.ArgumentParser(description=__doc__, formatter_class=argparse.RawDescriptionHelpFormatter)
+    options.add_argument("image", metavar="IMAGE", help="an image, by its path or its name")
     options.add_argument("--scheduler", help="of a cluster that runs; without it one of this machine is made")
     options.add_argument("--workers", type=int, default=4, help="of the cluster that is made")
     options.add_argument("--format", choices=["wakati"])
     options.add_argument("--part", type=int, default=10_000_000, help="how many bytes a worker gets at once")
-    options.add_argument("text")
-    options.add_argument("words")
-    options.add_argument("dictionary", nargs="?")
+    options.add_argument("text", metavar="TEXT", help="the file to cut")
+    options.add_argument("words", metavar="WORDS", help="the file to write")
     given = options.parse_args()
     here = {"n_workers": given.workers, "threads_per_worker": 1, "dashboard_address": None}
-    cutter = Cutter(given.dictionary, format=given.format)
+    cutter = Cutter(given.image, format=given.format)
     with Client(**({"address": given.scheduler} if given.scheduler else here)) as client:
         cut_all(client, cutter, parts_of(given.text, given.part), given.words)
 
 
 if __name__ == "__main__":
-    main()
+    try:
+        main()
+    except (OSError, Fault) as error:
+        sys.exit(f"cut.py: {error}")

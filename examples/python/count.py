@@ -1,13 +1,20 @@
-"""Counts the nouns of a text, and prints those that it has most often: python3 count.py TEXT [DICTIONARY]"""
+"""Counts the nouns of a text, and prints those that it has most often."""
+import argparse
 import sys
 from collections import Counter
 
-from kumquatsieve import Cutter
+from kumquatsieve import Cutter, Fault
 
-path, *dictionary = sys.argv[1:]
+options = argparse.ArgumentParser(description=__doc__)
+options.add_argument("image", metavar="IMAGE", help="an image, by its path or its name")
+options.add_argument("text", metavar="TEXT", help="a file in UTF-8")
+given = options.parse_args()
 counts = Counter()
-with Cutter(*dictionary) as cutter, open(path, encoding="utf-8") as text:
-    for words in cutter.lines(text):
-        counts.update(word.surface for word in words if word.features[0] == "名詞")
+try:
+    with Cutter(given.image) as cutter, open(given.text, "rb") as text:
+        for words in cutter.lines(text):
+            counts.update(word.surface for word in words if word.features[0] == "名詞")
+except (OSError, Fault) as error:
+    sys.exit(f"count.py: {error}")
 for surface, count in counts.most_common(10):
     print(count, surface)

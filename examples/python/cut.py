@@ -1,14 +1,22 @@
-"""Cuts each line of standard input, and prints its words as jseg does: python3 cut.py IMG [wakati] < text"""
+"""Cuts each line of standard input, and prints its words as jseg does."""
+import argparse
 import sys
 
-from kumquatsieve import Cutter
+from kumquatsieve import Cutter, Fault
+
+options = argparse.ArgumentParser(description=__doc__)
+options.add_argument("image", metavar="IMAGE", help="an image, by its path or its name")
+options.add_argument("format", nargs="?", choices=["wakati"], help="words with a blank between two")
 
 
 def main() -> None:
-    image, *kind = sys.argv[1:]
-    cutter = Cutter(image, format=kind[0] if kind else None)
+    given = options.parse_args()
+    cutter = Cutter(given.image, format=given.format)
     sys.stdout.reconfigure(encoding="utf-8", newline="\n")
     sys.stdout.writelines(cutter.parse_lines(sys.stdin.buffer))
 
 
-main()
+try:
+    main()
+except (OSError, Fault) as error:
+    sys.exit(f"cut.py: {error}")

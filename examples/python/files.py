@@ -1,10 +1,14 @@
-"""Cuts texts into words, four at once, and writes those of TEXT to TEXT.words: python3 files.py DICTIONARY TEXT.."""
+"""Cuts texts into words, four at once, and writes those of TEXT to TEXT.words."""
+import argparse
 import sys
 from concurrent.futures import ThreadPoolExecutor
 
-from kumquatsieve import Cutter
+from kumquatsieve import Cutter, Fault
 
-dictionary, *texts = sys.argv[1:]
+options = argparse.ArgumentParser(description=__doc__)
+options.add_argument("image", metavar="IMAGE", help="an image, by its path or its name")
+options.add_argument("texts", metavar="TEXT", nargs="+", help="a file")
+given = options.parse_args()
 
 
 def cut(path):
@@ -14,6 +18,9 @@ def cut(path):
     return path, answers.replaced
 
 
-with Cutter(dictionary) as cutter, ThreadPoolExecutor(4) as threads:
-    for path, replaced in threads.map(cut, texts):
-        print(path, "was cut,", replaced, "characters were replaced")
+try:
+    with Cutter(given.image) as cutter, ThreadPoolExecutor(4) as threads:
+        for path, replaced in threads.map(cut, given.texts):
+            print(path, "was cut,", replaced, "characters were replaced")
+except (OSError, Fault) as error:
+    sys.exit(f"files.py: {error}")

@@ -1,8 +1,15 @@
-"""Cuts a line by a dictionary's image, and prints each word with its feature: python3 words.py IMG LINE"""
+"""Cuts a line by a dictionary, and prints each word with its feature."""
+import argparse
 import sys
 
-from kumquatsieve import Cutter
+from kumquatsieve import Cutter, Fault
 
-image, line = sys.argv[1:]
-for word in Cutter(image).cut(line):
-    print(word.surface, word.feature, sep="\t")
+options = argparse.ArgumentParser(description=__doc__)
+options.add_argument("image", metavar="IMAGE", help="an image, by its path or its name")
+options.add_argument("line", metavar="LINE")
+given = options.parse_args()
+try:
+    for word in Cutter(given.image).cut(given.line):
+        print(word.surface, word.feature, sep="\t")
+except (OSError, Fault) as error:
+    sys.exit(f"words.py: {error}")
