@@ -1,6 +1,7 @@
 """The fields of a feature, and the names that a dictionary gives them."""
 import os
 import re
+from errno import ENAMETOOLONG, ENOENT, ENOTDIR
 from typing import Dict, Iterable, List, Optional, Union
 
 from ._images import ENDING
@@ -12,6 +13,8 @@ NOT_PLAIN = re.compile(r'["\t ]')
 # which is the last bytes of the image.
 CHECKSUM = "; image-sha256 "
 CHECKSUM_BYTES = 32
+# Where there is no file of names. The name of an image may be too long for another ending.
+NO_FILE = (ENOENT, ENOTDIR, ENAMETOOLONG)
 # Names that a field may be asked for by in each dictionary, and what it is called where it has another name.
 COMMON = {
     "conjugation_type": "cType",
@@ -47,8 +50,10 @@ def names_beside(image: Union[str, "os.PathLike[str]"], taken: Iterable[str]) ->
     try:
         with open(path, encoding="utf-8-sig") as file:
             names = file.read().splitlines()
-    except (FileNotFoundError, NotADirectoryError):
-        return {}
+    except OSError as error:
+        if error.errno in NO_FILE:
+            return {}
+        raise
     if names and names[0].startswith(CHECKSUM):
         if names.pop(0) != CHECKSUM + checksum_of(target):
             return {}

@@ -68,6 +68,8 @@ BESIDE = [
     ("unidic.v2.img", None, {"unidic.fields": "first", "unidic.v2.fields": "second"}, ("second",)),
     ("a.img.old", None, {"a.fields": "first", "a.img.old.fields": "second"}, ("second",)),
     (".img", None, {".fields": "names"}, ("names",)),
+    # The longest name of a file, with which no file of names can be.
+    ("a" * 251 + ".img", None, {}, ()),
 ]
 
 
