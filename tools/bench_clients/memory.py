@@ -20,7 +20,7 @@ def forked(path):
 
 HOWS = {
     "path": Cutter,
-    "path, skip_digest": lambda path: Cutter(path, skip_digest=True),
+    "path, test_digest": lambda path: Cutter(path, test_digest=True),
     "bytes": lambda path: Cutter(read(path)),
     "forked": forked,
     "nothing": lambda path: None,

@@ -71,11 +71,10 @@ def faults_of_images():
     for image, fault in REFUSED:
         code, _, *number = fault.split()
         number = int(number[0]) if number else None
-        yield code, number, None, None, lambda image=image: Cutter(image)
-        yield code, number, None, None, lambda image=image: Cutter(SYSTEM, [image])
-        if code != "L8":
-            yield code, number, None, None, lambda image=image: Cutter(image, skip_digest=True)
-            yield code, number, None, None, lambda image=image: Cutter(SYSTEM, [image], skip_digest=True)
+        # The SHA-256 is tested if that is asked for.
+        for how in [True] if code == "L8" else [False, True]:
+            yield code, number, None, None, lambda image=image, how=how: Cutter(image, test_digest=how)
+            yield code, number, None, None, lambda image=image, how=how: Cutter(SYSTEM, [image], test_digest=how)
     for image in OTHER_SIZES.values():
         yield "O3", 0, None, None, lambda image=image: Cutter(SYSTEM, [image])
 
@@ -91,9 +90,9 @@ def check_faults():
 
 
 def check_digests():
-    """What is cut with images that are intact but for their digest, where that is skipped."""
+    """What is cut with images that are intact but for their digest, which is not tested by default."""
     for name, feature in (("digest.img", "X"), ("feature.img", "Y")):
-        cutter = Cutter(SYSTEM, [UNTESTED[name]], skip_digest=True)
+        cutter = Cutter(SYSTEM, [UNTESTED[name]])
         for one in (cutter, cutter.share()):
             same(name, [("a", feature)], [(word.surface, word.feature) for word in one.cut("a")])
 
