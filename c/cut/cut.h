@@ -100,8 +100,16 @@ bool set_format(const options *asked, kumquatsieve_cutter *cutter, fault *why);
 /* dictionary.c. Fills an empty cutter with the images, the format and the grouping that are asked for; else a fault. */
 bool make_cutter(const options *asked, kumquatsieve_cutter *cutter, fault *why);
 
-/* pieces.c. The text on standard input, a piece of whole lines after another. */
-enum { PIECE_ROOM = 1048576 + 65536 };
+/* pieces.c. The text on standard input, a piece of whole lines after another. In bytes, as jseg has
+   them: what is read at once, and the length of a line at most. A piece that the text goes on after
+   has PIECE_MOST bytes or more, unless less is asked for: so there is room for a line without its
+   end and for one more read. */
+enum {
+    READ_MOST = 65536,
+    LINE_MOST = 1048576,
+    PIECE_MOST = LINE_MOST,
+    PIECE_ROOM = PIECE_MOST + READ_MOST,
+};
 
 typedef enum ending { GOES_ON, AT_END, READ_FAILED, LINE_TOO_LONG, COMES_TO_NO_END } ending;
 
@@ -120,7 +128,55 @@ typedef struct input {
 
 bool make_input(input *in);
 void free_input(input *in);
-void read_piece(input *in, piece *next);
+
+/* Reads the next piece, of at least `least` bytes if the text has them. `least` is at most PIECE_MOST. */
+void read_piece(input *in, piece *next, size_t least);
+
+/* groups.c. A piece that is segmented group by group, and the output that waits to be written.
+
+   The output of the last group lies in the cutter's own buffer: `out`, with the group's `lines` or,
+   if `code` is an error, the number of the invalid line. The output of the groups before it is
+   copied to `kept`. Both come from the text between `written_to` and `cut_to`. `printed` is the
+   output of the whole piece so far, in bytes. */
+typedef struct place {
+    piece text;
+    uint64_t number;
+    kumquatsieve_cutter cutter;
+    size_t group, written_to, cut_to;
+    uint8_t *kept;
+    size_t kept_length, kept_room;
+    uint64_t kept_lines;
+    const uint8_t *out;
+    size_t out_length;
+    uint64_t lines;
+    uint32_t code;
+    uint64_t printed;
+    bool is_cut;
+} place;
+
+/* How many bytes of output a place keeps at most. */
+enum { KEPT_MOST = 16777216 };
+
+bool make_place(place *own, kumquatsieve_cutter *cutter);
+void free_place(place *own);
+
+/* Prepares a place for the piece that was read into it. */
+void begin_piece(place *own);
+
+/* Segments the next group. Returns whether another one follows: false at the end of the piece, and
+   after an error. */
+bool cut_group(place *own);
+
+/* Copies the output of the last group to what is kept. Returns false, and changes nothing, if it
+   does not fit, or if no memory can be allocated for it. */
+bool keep_group(place *own);
+
+/* Notes that all output that waited was written. */
+void note_written(place *own);
+
+/* Returns how many bytes the next piece should have so that its output can be kept, if it prints as
+   this one did. */
+size_t fitting_length(const place *own);
 
 /* writing.c. Writes all bytes to standard output, and counts those that it takes; false where a write fails or takes none. */
 bool write_out(const uint8_t *at, size_t length, uint64_t *taken);

@@ -1,29 +1,26 @@
-/* The queue of pieces. Each thread takes the next piece of the text, cuts it by the cutter of its place in the queue, and writes what is cut and
-   next in order, where no other thread does. One thread reads at a time and one writes; none holds the lock while it reads, cuts or writes. The
-   queue has as many places as there are threads; with one no other thread is made. */
+/* The queue of pieces. Each thread takes the next piece of the text and segments it with the cutter
+   of its place in the queue. If the piece is next in order, the thread writes the output of each
+   group of lines at once. If not, it keeps the output as far as it may, and then waits until the
+   piece is next. A piece that was segmented before it is next is written by the thread that writes
+   the piece before it. One thread reads at a time and one writes; none holds the lock while it
+   reads, segments or writes. The queue has as many places as there are threads; with one no other
+   thread is made.
+
+   No thread waits for ever: a thread waits for pieces before its own alone, and the thread that
+   segments the piece that is next in order does not wait. */
 #include "cut.h"
 #include <pthread.h>
 #include <stdlib.h>
 #include <unistd.h>
 
-/* A piece with what its lines print, in the cutter's own buffer, and how many they are, or the number of the one at fault. */
-typedef struct place {
-    piece text;
-    kumquatsieve_cutter cutter;
-    const uint8_t *out;
-    size_t out_length;
-    uint64_t lines;
-    uint32_t code;
-    bool is_cut;
-} place;
-
-/* `taken` and `written` are counts of pieces. The input is the reader's, and `lines` and `sent`, the lines and bytes that were written, are
-   the writer's; all else is under the lock. */
+/* `taken` and `written` are counts of pieces: the piece with number `written` is next in order.
+   `least` is how many bytes the next piece has at least. The input is the reader's. The lines and the
+   bytes that were written (`lines`, `sent`) are the writer's. All else is under the lock. */
 typedef struct queue {
     pthread_mutex_t lock;
     pthread_cond_t changed;
     place *places;
-    size_t room;
+    size_t room, least;
     uint64_t taken, written;
     bool is_reading, is_writing, is_ended;
     input in;
@@ -38,14 +35,20 @@ static _Noreturn void end_early(uint32_t code, uint64_t number) {
     _exit(status);
 }
 
-static void cut_place(place *own) {
-    own->code = kumquatsieve_cut_lines(&own->cutter, own->text.bytes, own->text.length, &own->out, &own->out_length, &own->lines);
+/* Writes all output of a place that waits. An error of the text is reported after it. */
+static void write_waiting(queue *of, place *next) {
+    uint64_t lines = next->kept_lines + next->lines;
+    bool is_fault = next->code != KUMQUATSIEVE_OK;
+    bool is_written = write_out(next->kept, next->kept_length, &of->sent) &&
+                      write_out(next->out, next->out_length, &of->sent);
+    if (!is_written) end_early(FAULT_WRITE, of->sent);
+    if (is_fault) end_early(next->code, of->lines + lines);
+    of->lines += lines;
+    note_written(next);
 }
 
-static void write_place(queue *of, const place *next) {
-    if (!write_out(next->out, next->out_length, &of->sent)) end_early(FAULT_WRITE, of->sent);
-    if (next->code != KUMQUATSIEVE_OK) end_early(next->code, of->lines + next->lines);
-    of->lines += next->lines;
+static void write_piece(queue *of, place *next) {
+    write_waiting(of, next);
     switch (next->text.ending) {
     case READ_FAILED: end_early(FAULT_READ, of->lines + 1);
     case LINE_TOO_LONG: end_early(KUMQUATSIEVE_TOO_LONG, of->lines + 1);
@@ -58,23 +61,54 @@ static place *place_of(queue *of, uint64_t number) {
     return &of->places[number % of->room];
 }
 
+/* Reads the next piece into its place. The lock is held before and after, and not meanwhile. */
+static place *read_next(queue *of) {
+    place *next = place_of(of, of->taken);
+    size_t least = of->least;
+    next->number = of->taken++;
+    of->is_reading = true;
+    pthread_mutex_unlock(&of->lock);
+    read_piece(&of->in, &next->text, least);
+    begin_piece(next);
+    pthread_mutex_lock(&of->lock);
+    of->is_reading = false;
+    of->is_ended = next->text.ending != GOES_ON;
+    pthread_cond_broadcast(&of->changed);
+    return next;
+}
+
 /* The next piece of the text, or NULL where there is none. */
 static place *take(queue *of) {
     place *next = NULL;
     pthread_mutex_lock(&of->lock);
     while (!of->is_ended && (of->is_reading || of->taken - of->written == of->room)) pthread_cond_wait(&of->changed, &of->lock);
-    if (!of->is_ended) {
-        next = place_of(of, of->taken++);
-        of->is_reading = true;
-        pthread_mutex_unlock(&of->lock);
-        read_piece(&of->in, &next->text);
-        pthread_mutex_lock(&of->lock);
-        of->is_reading = false;
-        of->is_ended = next->text.ending != GOES_ON;
-        pthread_cond_broadcast(&of->changed);
-    }
+    if (!of->is_ended) next = read_next(of);
     pthread_mutex_unlock(&of->lock);
     return next;
+}
+
+/* Returns whether the piece is next in order. It stays so until its own thread gives it, so that
+   thread may write without the lock. */
+static bool has_turn(queue *of, const place *own) {
+    pthread_mutex_lock(&of->lock);
+    bool is_next = of->written == own->number;
+    pthread_mutex_unlock(&of->lock);
+    return is_next;
+}
+
+static void wait_for_turn(queue *of, const place *own) {
+    pthread_mutex_lock(&of->lock);
+    while (of->written != own->number) pthread_cond_wait(&of->changed, &of->lock);
+    pthread_mutex_unlock(&of->lock);
+}
+
+/* Writes or keeps the output of a group that another one follows. */
+static void pass_on(queue *of, place *own) {
+    if (!has_turn(of, own)) {
+        if (keep_group(own)) return;
+        wait_for_turn(of, own);
+    }
+    write_waiting(of, own);
 }
 
 /* Says that a piece is cut, and writes those that are next in order. */
@@ -85,9 +119,10 @@ static void give(queue *of, place *own) {
         place *next = place_of(of, of->written);
         of->is_writing = true;
         pthread_mutex_unlock(&of->lock);
-        write_place(of, next);
+        write_piece(of, next);
         pthread_mutex_lock(&of->lock);
         next->is_cut = false;
+        of->least = fitting_length(next);
         of->written++;
         of->is_writing = false;
         pthread_cond_broadcast(&of->changed);
@@ -99,7 +134,7 @@ static void *serve(void *given) {
     queue *of = given;
     place *own;
     while ((own = take(of))) {
-        cut_place(own);
+        while (cut_group(own)) pass_on(of, own);
         give(of, own);
     }
     return NULL;
@@ -109,17 +144,13 @@ static bool make_places(queue *of, kumquatsieve_cutter *cutter) {
     of->places = calloc(of->room, sizeof *of->places);
     if (!of->places || !make_input(&of->in)) return false;
     for (size_t i = 0; i < of->room; i++) {
-        of->places[i].text.bytes = malloc(PIECE_ROOM);
-        if (!of->places[i].text.bytes || kumquatsieve_share(&of->places[i].cutter, cutter) != KUMQUATSIEVE_OK) return false;
+        if (!make_place(&of->places[i], cutter)) return false;
     }
     return true;
 }
 
 static void free_places(queue *of) {
-    for (size_t i = 0; of->places && i < of->room; i++) {
-        kumquatsieve_free(&of->places[i].cutter);
-        free(of->places[i].text.bytes);
-    }
+    for (size_t i = 0; of->places && i < of->room; i++) free_place(&of->places[i]);
     free(of->places);
     free_input(&of->in);
 }
@@ -134,7 +165,12 @@ static void serve_by(queue *of, pthread_t *others, uint32_t wanted) {
 }
 
 bool cut_input(kumquatsieve_cutter *cutter, uint32_t threads, uint64_t *lines) {
-    queue own = {.lock = PTHREAD_MUTEX_INITIALIZER, .changed = PTHREAD_COND_INITIALIZER, .room = threads};
+    queue own = {
+        .lock = PTHREAD_MUTEX_INITIALIZER,
+        .changed = PTHREAD_COND_INITIALIZER,
+        .room = threads,
+        .least = PIECE_MOST,
+    };
     pthread_t *others = calloc(threads, sizeof *others);
     bool is_made = others && make_places(&own, cutter);
     if (is_made) serve_by(&own, others, threads - 1);

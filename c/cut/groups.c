@@ -1,0 +1,98 @@
+/* A piece is segmented in groups of whole lines, so that the output that waits to be written is
+   bounded whatever the lines print: by KEPT_MOST and the output of one group. A group is small, and
+   smaller after one that printed much. A line that is longer is a group by itself. */
+#include "cut.h"
+#include <stdlib.h>
+#include <string.h>
+
+/* In bytes. What a group of GROUP_MOST prints, most often ten times as much, fits in a processor's
+   cache, from where it is copied or written. */
+enum {
+    GROUP_LEAST = 256,
+    GROUP_FIRST = 1024,
+    GROUP_MOST = 16384,
+    PRINTED_MOST = 1048576,
+    KEPT_LEAST = 262144,
+};
+
+bool make_place(place *own, kumquatsieve_cutter *cutter) {
+    own->group = GROUP_FIRST;
+    own->text.bytes = malloc(PIECE_ROOM);
+    return own->text.bytes && kumquatsieve_share(&own->cutter, cutter) == KUMQUATSIEVE_OK;
+}
+
+void free_place(place *own) {
+    kumquatsieve_free(&own->cutter);
+    free(own->text.bytes);
+    free(own->kept);
+}
+
+void begin_piece(place *own) {
+    own->written_to = own->cut_to = 0;
+    own->printed = 0;
+}
+
+/* The offset in the text at which the next group ends. */
+static size_t group_end(const place *own) {
+    const uint8_t *text = own->text.bytes;
+    size_t length = own->text.length, most = own->cut_to + own->group;
+    if (most >= length) return length;
+    const uint8_t *feed = memrchr(text + own->cut_to, '\n', own->group);
+    if (!feed) feed = memchr(text + most, '\n', length - most);
+    return feed ? (size_t)(feed + 1 - text) : length;
+}
+
+/* The length of the next group: so that it prints PRINTED_MOST if it prints as the last one did. */
+static size_t next_group(size_t group, size_t printed) {
+    if (printed > PRINTED_MOST) {
+        uint64_t less = (uint64_t)group * PRINTED_MOST / printed;
+        return less < GROUP_LEAST ? GROUP_LEAST : (size_t)less;
+    }
+    return printed <= PRINTED_MOST / 2 && group <= GROUP_MOST / 2 ? 2 * group : group;
+}
+
+bool cut_group(place *own) {
+    size_t end = group_end(own);
+    const uint8_t *from = own->text.bytes + own->cut_to;
+    own->code = kumquatsieve_cut_lines(
+        &own->cutter, from, end - own->cut_to, &own->out, &own->out_length, &own->lines
+    );
+    own->cut_to = end;
+    own->group = next_group(own->group, own->out_length);
+    own->printed += own->out_length;
+    return own->code == KUMQUATSIEVE_OK && end < own->text.length;
+}
+
+/* Grows the memory for what is kept, to at least `needed` bytes, which are at most KEPT_MOST. */
+static bool grow_kept(place *own, size_t needed) {
+    size_t room = own->kept_room < KEPT_LEAST ? KEPT_LEAST : own->kept_room;
+    while (room < needed) room *= 2;
+    uint8_t *kept = realloc(own->kept, room);
+    if (!kept) return false;
+    own->kept = kept;
+    own->kept_room = room;
+    return true;
+}
+
+bool keep_group(place *own) {
+    if (own->out_length > KEPT_MOST - own->kept_length) return false;
+    size_t needed = own->kept_length + own->out_length;
+    if (needed > own->kept_room && !grow_kept(own, needed)) return false;
+    if (own->out_length > 0) memcpy(own->kept + own->kept_length, own->out, own->out_length);
+    own->kept_length = needed;
+    own->kept_lines += own->lines;
+    return true;
+}
+
+void note_written(place *own) {
+    own->kept_length = 0;
+    own->kept_lines = 0;
+    own->written_to = own->cut_to;
+}
+
+size_t fitting_length(const place *own) {
+    uint64_t printed = own->printed, length = own->text.length;
+    if (printed <= KEPT_MOST / 2) return PIECE_MOST;
+    uint64_t fitting = length * (KEPT_MOST / 2) / printed;
+    return fitting < PIECE_MOST ? (size_t)fitting : PIECE_MOST;
+}
