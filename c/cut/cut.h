@@ -60,7 +60,8 @@ const char *instead_of_word(const char *word);
 const char *instead_of_output(const char *name);
 extern const char HELP[], VERSION[];
 
-/* telling.c. Each line is one write, where there is memory for it; one that fails is ignored. */
+/* telling.c. Each line is one write, where there is memory for it; one that fails is ignored. Progress
+   is erased before it. */
 void tell(const char *format, ...) __attribute__((format(printf, 1, 2)));
 void tell_wrong(const char *format, ...) __attribute__((format(printf, 1, 2)));
 int tell_fault(const fault *why);
@@ -177,6 +178,12 @@ void note_written(place *own);
 /* Returns how many bytes the next piece should have so that its output can be kept, if it prints as
    this one did. */
 size_t fitting_length(const place *own);
+
+/* progress.c. How much of the text was segmented and written, on a terminal. One thread at a time
+   calls print_progress. */
+void begin_progress(void);
+void print_progress(uint64_t bytes);
+void erase_progress(void);
 
 /* writing.c. Writes all bytes to standard output, and counts those that it takes; false where a write fails or takes none. */
 bool write_out(const uint8_t *at, size_t length, uint64_t *taken);

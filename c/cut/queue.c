@@ -14,8 +14,9 @@
 #include <unistd.h>
 
 /* `taken` and `written` are counts of pieces: the piece with number `written` is next in order.
-   `least` is how many bytes the next piece has at least. The input is the reader's. The lines and the
-   bytes that were written (`lines`, `sent`) are the writer's. All else is under the lock. */
+   `least` is how many bytes the next piece has at least. The input is the reader's. The lines, the
+   bytes of output and the bytes of text that were written (`lines`, `sent`, `passed`) are the
+   writer's. All else is under the lock. */
 typedef struct queue {
     pthread_mutex_t lock;
     pthread_cond_t changed;
@@ -24,7 +25,7 @@ typedef struct queue {
     uint64_t taken, written;
     bool is_reading, is_writing, is_ended;
     input in;
-    uint64_t lines, sent;
+    uint64_t lines, sent, passed;
 } queue;
 
 /* A fault ends the program from any thread: another one may be waiting in a read that never ends. */
@@ -37,6 +38,7 @@ static _Noreturn void end_early(uint32_t code, uint64_t number) {
 
 /* Writes all output of a place that waits. An error of the text is reported after it. */
 static void write_waiting(queue *of, place *next) {
+    size_t length = next->cut_to - next->written_to;
     uint64_t lines = next->kept_lines + next->lines;
     bool is_fault = next->code != KUMQUATSIEVE_OK;
     bool is_written = write_out(next->kept, next->kept_length, &of->sent) &&
@@ -44,7 +46,9 @@ static void write_waiting(queue *of, place *next) {
     if (!is_written) end_early(FAULT_WRITE, of->sent);
     if (is_fault) end_early(next->code, of->lines + lines);
     of->lines += lines;
+    of->passed += length;
     note_written(next);
+    print_progress(of->passed);
 }
 
 static void write_piece(queue *of, place *next) {
@@ -173,7 +177,9 @@ bool cut_input(kumquatsieve_cutter *cutter, uint32_t threads, uint64_t *lines) {
     };
     pthread_t *others = calloc(threads, sizeof *others);
     bool is_made = others && make_places(&own, cutter);
+    begin_progress();
     if (is_made) serve_by(&own, others, threads - 1);
+    erase_progress();
     *lines = own.lines;
     free_places(&own);
     free(others);

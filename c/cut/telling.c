@@ -9,6 +9,7 @@
 static const char *const OPTION_OF_PART[] = {"-F", "-U", "-B", "-E"};
 
 static void write_once(const char *text) {
+    erase_progress();
     ssize_t taken = write(STDERR_FILENO, text, strlen(text));
     (void)taken;
 }

@@ -1,0 +1,67 @@
+/* How much of the text was written, in one line of a terminal that is written anew. */
+#include "cut.h"
+#include <stdatomic.h>
+#include <stdio.h>
+#include <string.h>
+#include <sys/stat.h>
+#include <time.h>
+#include <unistd.h>
+
+/* In milliseconds, as jseg: how long a run lasts before a line is printed, and how long the line
+   stays before it is printed again. */
+enum { PATIENCE = 2000, PAUSE = 250 };
+
+static const char ERASE[] = "\r\x1b[K";
+
+/* The bytes of the text, or 0 if no line is printed; the milliseconds of the start and of the next
+   line. They change before the first thread is made, and in print_progress. */
+static uint64_t all, begun, next;
+static atomic_bool is_shown;
+
+/* The time in milliseconds, or 0 if there is no clock. */
+static uint64_t now(void) {
+    struct timespec found;
+    if (clock_gettime(CLOCK_MONOTONIC, &found) != 0) return 0;
+    return (uint64_t)found.tv_sec * 1000 + (uint64_t)found.tv_nsec / 1000000;
+}
+
+/* How many bytes of a regular file are left on standard input; 0 if it is something else. */
+static uint64_t bytes_left(void) {
+    struct stat found;
+    if (fstat(STDIN_FILENO, &found) != 0 || !S_ISREG(found.st_mode)) return 0;
+    off_t at = lseek(STDIN_FILENO, 0, SEEK_CUR);
+    return at >= 0 && at < found.st_size ? (uint64_t)(found.st_size - at) : 0;
+}
+
+void begin_progress(void) {
+    if (!isatty(STDERR_FILENO) || isatty(STDOUT_FILENO)) return;
+    all = bytes_left();
+    begun = now();
+    next = begun + PATIENCE;
+}
+
+static void print_line(const char *line) {
+    ssize_t taken = write(STDERR_FILENO, line, strlen(line));
+    (void)taken;
+}
+
+/* A file that grows meanwhile is not more than read. */
+void print_progress(uint64_t bytes) {
+    uint64_t time = all > 0 ? now() : 0;
+    char line[128];
+    if (all == 0 || time < next) return;
+    uint64_t most = bytes < all ? all : bytes;
+    unsigned percent = (unsigned)(100.0 * (double)bytes / (double)most);
+    double rate = (double)bytes / 1000 / (double)(time - begun);
+    next = time + PAUSE;
+    snprintf(
+        line, sizeof line, "\rsegmented %llu of %llu bytes, %u %%, %.1f MB/s\x1b[K",
+        (unsigned long long)bytes, (unsigned long long)most, percent, rate
+    );
+    atomic_store(&is_shown, true);
+    print_line(line);
+}
+
+void erase_progress(void) {
+    if (atomic_exchange(&is_shown, false)) print_line(ERASE);
+}
