@@ -179,6 +179,18 @@ void note_written(place *own);
    this one did. */
 size_t fitting_length(const place *own);
 
+/* warnings.c. The warnings about the text that may still be printed. */
+typedef struct warnings {
+    bool of_mark, of_return;
+} warnings;
+
+/* Returns the warnings that a person gets: all of them on a terminal and with -v, and else none. */
+warnings wanted_warnings(void);
+
+/* Prints the warnings about the first `lines` lines of a part of the text, which begins at a line's
+   start and follows `before` lines. Each warning is printed once. */
+void warn_of(warnings *left, const uint8_t *text, size_t length, uint64_t before, uint64_t lines);
+
 /* progress.c. How much of the text was segmented and written, on a terminal. One thread at a time
    calls print_progress. */
 void begin_progress(void);

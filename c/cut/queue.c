@@ -15,8 +15,8 @@
 
 /* `taken` and `written` are counts of pieces: the piece with number `written` is next in order.
    `least` is how many bytes the next piece has at least. The input is the reader's. The lines, the
-   bytes of output and the bytes of text that were written (`lines`, `sent`, `passed`) are the
-   writer's. All else is under the lock. */
+   bytes of output and the bytes of text that were written (`lines`, `sent`, `passed`) and the
+   warnings are the writer's. All else is under the lock. */
 typedef struct queue {
     pthread_mutex_t lock;
     pthread_cond_t changed;
@@ -26,6 +26,7 @@ typedef struct queue {
     bool is_reading, is_writing, is_ended;
     input in;
     uint64_t lines, sent, passed;
+    warnings warnings;
 } queue;
 
 /* A fault ends the program from any thread: another one may be waiting in a read that never ends. */
@@ -38,9 +39,11 @@ static _Noreturn void end_early(uint32_t code, uint64_t number) {
 
 /* Writes all output of a place that waits. An error of the text is reported after it. */
 static void write_waiting(queue *of, place *next) {
+    const uint8_t *text = next->text.bytes + next->written_to;
     size_t length = next->cut_to - next->written_to;
     uint64_t lines = next->kept_lines + next->lines;
     bool is_fault = next->code != KUMQUATSIEVE_OK;
+    warn_of(&of->warnings, text, length, of->lines, is_fault ? lines - 1 : lines);
     bool is_written = write_out(next->kept, next->kept_length, &of->sent) &&
                       write_out(next->out, next->out_length, &of->sent);
     if (!is_written) end_early(FAULT_WRITE, of->sent);
@@ -174,6 +177,7 @@ bool cut_input(kumquatsieve_cutter *cutter, uint32_t threads, uint64_t *lines) {
         .changed = PTHREAD_COND_INITIALIZER,
         .room = threads,
         .least = PIECE_MOST,
+        .warnings = wanted_warnings(),
     };
     pthread_t *others = calloc(threads, sizeof *others);
     bool is_made = others && make_places(&own, cutter);

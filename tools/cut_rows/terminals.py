@@ -1,4 +1,4 @@
-"""What kumquatsieve-cut prints on a terminal: its progress."""
+"""What kumquatsieve-cut prints on a terminal: warnings about the text, and its progress."""
 
 import os
 import re
@@ -12,12 +12,41 @@ from pathlib import Path
 from typing import IO, Iterator, NamedTuple, Sequence
 
 NAME = "kumquatsieve-cut"
+MARK = b"\xef\xbb\xbf"
 ERASED = "\x1b[K"
 LINE = "すもも\n".encode()
 MANY = LINE * 250_000  # several pieces
+MARKED = (
+    f"{NAME}: warning: the text begins with a byte order mark (U+FEFF); it is segmented as text\n"
+)
 EXPLAINED = f"{NAME}: 'jseg --explain G3' prints what that means and what to do\n"
 FAULT = f"{NAME}: line 2: G3 NotUtf8\n{EXPLAINED}"
 SECONDS = 300
+
+
+def returned(line: int) -> str:
+    return f"{NAME}: warning: line {line} ends with a carriage return; it is segmented as text\n"
+
+
+# (what, text, what is printed on a terminal)
+WARNINGS = [
+    ("a text", LINE * 2, ""),
+    ("an empty text", b"", ""),
+    ("a byte order mark", MARK + LINE, MARKED),
+    ("a byte order mark alone", MARK, MARKED),
+    ("a byte order mark in line 2", LINE + MARK + LINE, ""),
+    ("a byte order mark of an invalid line", MARK + b"\xff\n", FAULT.replace("line 2", "line 1")),
+    ("a carriage return", b"\r\n", returned(1)),
+    ("carriage returns", b"a\nb\r\nc\r\n", returned(2)),
+    ("carriage returns in lines", b"a\rb\n\rc\n", ""),
+    ("a carriage return in a line, then at its end", b"a\rb\r\n", returned(1)),
+    ("a carriage return without a line feed", b"a\nb\r", returned(2)),
+    ("both", MARK + b"a\r\n", MARKED + returned(1)),
+    ("carriage returns in a later piece", MANY + b"a\r\n" * 2 + MANY, returned(250_001)),
+    ("a carriage return before an error", b"a\r\n\xff\n", returned(1) + FAULT),
+    ("a carriage return of an invalid line", b"a\n\xff\r\n", FAULT),
+    ("a carriage return after an error", b"a\n\xff\na\r\n", FAULT),
+]
 
 
 class Shown(NamedTuple):
@@ -94,6 +123,26 @@ def read_by_program(words: Sequence[object], text: Path, is_late: bool = False) 
     process.stderr.close()
     process.wait(SECONDS)
     return told
+
+
+def warnings_in(told: str) -> list[str]:
+    return [line for line in told.splitlines() if "warning" in line]
+
+
+def faults_of_warnings(words: Sequence[object], path: Path) -> Iterator[str]:
+    """What is warned of otherwise than the table says, on a terminal, to a program, and with -v."""
+    for what, text, wanted in WARNINGS:
+        path.write_bytes(text)
+        for job in ("1", "4"):
+            asked = [*words, "-j", job]
+            shown = on_terminal(asked, path)
+            if shown != (int("NotUtf8" in wanted), wanted):
+                yield f"{what}, {job} threads, on a terminal: {shown}, and not {wanted!r}"
+            told = read_by_program([*asked, "-v"], path)
+            if warnings_in(told) != warnings_in(wanted):
+                yield f"{what}, {job} threads, -v: {told[:300]!r}, and not {wanted!r}"
+        if warnings_in(read_by_program(words, path)):
+            yield f"{what}: warned of where nobody asked"
 
 
 def is_progress(told: str, size: int, end: str) -> bool:
