@@ -19,9 +19,9 @@ enum {
 /* The statuses that are not those of a fault. */
 enum { STATUS_DONE = 0, STATUS_WRONG = 2 };
 
-/* Faults that the library has not, by their letters and numbers as it numbers its own. */
+/* Faults that the library has not, by their letters and numbers as it numbers its own. F1, with the
+   path and errno, is KUMQUATSIEVE_FILE. */
 enum {
-    FAULT_FILE = 0x4601,           /* F1, with the path */
     FAULT_OUTPUT = 0x4602,         /* F2 */
     FAULT_READ = 0x4701,           /* G1, with the line */
     FAULT_WRITE = 0x4702,          /* G2, with the bytes that were written */
@@ -36,13 +36,13 @@ typedef struct fault {
     uint32_t part;
 } fault;
 
-/* What a command line asks for. A format that was not given is NULL; `dic` and `users` are main's to free. `skip_digest` is that of the library's
-   kumquatsieve_load_by. */
+/* What a command line asks for. A format that was not given is NULL; `dic` and `users` are main's to
+   free. `how` is the argument of kumquatsieve_open. */
 typedef struct options {
     char *dic;
     char **users;
     size_t user_count;
-    bool skip_digest;
+    unsigned how;
     const char *node, *unk, *bos, *eos;
     bool is_wakati;
     uint32_t grouping;
@@ -79,20 +79,15 @@ void say(const char *format, ...) __attribute__((format(printf, 1, 2)));
 bool is_utf8(const char *text);
 char *one_line(const char *text);
 
-/* paths.c. The path of the image that -d or -u names, which the caller frees: NULL for want of memory. The homes of this program's images. What is
-   wrong with a path. */
+/* paths.c. The path of the image that -d or -u names, which the caller frees: NULL for want of
+   memory. The homes of this program's images. Whether a directory has a dictionary of MeCab. */
 struct homes;
 char *find_image(const char *name);
 bool find_own_homes(struct homes *found);
 bool is_mecab_directory(const char *path);
-const char *trouble_with(const char *path);
 
 /* missing.c. Where an image was looked for, as a person is told. */
 void tell_homes(const fault *why);
-
-/* images.c. An image's bytes in a buffer of the library's, which is empty after a fault. One whose header or length is at fault is not read
-   further. */
-bool read_image(const char *path, kumquatsieve_buffer *whole, fault *why);
 
 /* formats.c. Whether the format that is asked for is one; sets it to a cutter that has a dictionary. */
 bool check_format(const options *asked, fault *why);

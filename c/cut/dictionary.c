@@ -13,29 +13,24 @@ static bool is_of_overlay(uint32_t code) {
     return code >> 8 == 'O';
 }
 
-static bool load_system(const char *path, kumquatsieve_cutter *cutter, bool skip_digest, fault *why) {
-    kumquatsieve_buffer image;
+static bool load_system(const char *path, kumquatsieve_cutter *cutter, unsigned how, fault *why) {
     uint64_t number = 0;
-    if (!read_image(path, &image, why)) return false;
-    uint32_t code = kumquatsieve_load_buffer(cutter, &image, skip_digest, &number);
+    uint32_t code = kumquatsieve_open(cutter, path, how, &number);
     return !fails(why, code, path, number);
 }
 
 /* What is wrong with an image by itself. That it is no system dictionary's is nothing wrong with it. */
-static uint32_t look_at(kumquatsieve_buffer *image, bool skip_digest, uint64_t *number) {
+static uint32_t look_at(const char *path, unsigned how, uint64_t *number) {
     kumquatsieve_cutter alone = KUMQUATSIEVE_EMPTY;
-    uint32_t code = kumquatsieve_load_buffer(&alone, image, skip_digest, number);
+    uint32_t code = kumquatsieve_open(&alone, path, how, number);
     kumquatsieve_free(&alone);
     return is_of_overlay(code) ? KUMQUATSIEVE_OK : code;
 }
 
 /* Lays a user dictionary over the others, or only looks at its image where these don't belong together. */
-static bool add_user(const char *path, kumquatsieve_cutter *cutter, bool skip_digest, bool only_look, fault *why) {
-    kumquatsieve_buffer image;
+static bool add_user(const char *path, kumquatsieve_cutter *cutter, unsigned how, bool only_look, fault *why) {
     uint64_t number = 0;
-    if (!read_image(path, &image, why)) return false;
-    uint32_t code = only_look ? look_at(&image, skip_digest, &number)
-                              : kumquatsieve_add_user_buffer(cutter, &image, skip_digest, &number);
+    uint32_t code = only_look ? look_at(path, how, &number) : kumquatsieve_open_user(cutter, path, how, &number);
     return !fails(why, code, path, number);
 }
 
@@ -45,17 +40,17 @@ static void say_loaded(const char *path) {
     free(line);
 }
 
-/* The images are read and loaded one after the other, as jseg does. A dictionary of the library's is made of all at once, and its first fault may be
-   of an overlay, where a later image is at fault by itself. */
+/* The images are opened one after the other, as jseg does. A dictionary of the library's is made of all at once, and its first fault may be of an
+   overlay, where a later image is at fault by itself. */
 static bool load_images(const options *asked, kumquatsieve_cutter *cutter, fault *why) {
     fault overlay = {0};
-    if (!load_system(asked->dic, cutter, asked->skip_digest, why)) {
+    if (!load_system(asked->dic, cutter, asked->how, why)) {
         if (!is_of_overlay(why->code)) return false;
         overlay = *why;
     }
     say_loaded(asked->dic);
     for (size_t i = 0; i < asked->user_count; i++) {
-        if (add_user(asked->users[i], cutter, asked->skip_digest, overlay.code != 0, why)) continue;
+        if (add_user(asked->users[i], cutter, asked->how, overlay.code != 0, why)) continue;
         if (!is_of_overlay(why->code)) return false;
         overlay = *why;
     }

@@ -105,7 +105,7 @@ void tell_homes(const fault *why) {
     homes of;
     names there = {0};
     bool has_memory = true;
-    if (!is_heard() || why->code != FAULT_FILE || !is_looked_for(why->path) || !find_own_homes(&of)) return;
+    if (!is_heard() || why->code != KUMQUATSIEVE_FILE || !is_looked_for(why->path) || !find_own_homes(&of)) return;
     for (size_t i = 0; i < of.count; i++) {
         tell_folder(of.folders[i]);
         has_memory = has_memory && add_names(&there, of.folders[i]);

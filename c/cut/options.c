@@ -156,17 +156,39 @@ static step read_letters(reading *of, const char *word) {
     return NEXT;
 }
 
-static step read_skip_digest(reading *of, const char *word) {
-    if (of->asked->skip_digest) return given_twice(word, NULL);
-    of->asked->skip_digest = true;
-    return NEXT;
+/* The options that are long alone, each with what it adds to how images are opened. */
+static const struct {
+    const char *word;
+    unsigned how;
+} OPENINGS[] = {
+    {"--skip-digest", KUMQUATSIEVE_SKIP_DIGEST},
+    {"--test-digest", KUMQUATSIEVE_TEST_DIGEST},
+    {"--copy", KUMQUATSIEVE_COPY},
+};
+
+/* What a word adds to how images are opened; 0 if it is no such option. */
+static unsigned opening_of(const char *word) {
+    for (size_t i = 0; i < sizeof OPENINGS / sizeof *OPENINGS; i++) {
+        if (strcmp(word, OPENINGS[i].word) == 0) return OPENINGS[i].how;
+    }
+    return 0;
+}
+
+static step read_opening(reading *of, const char *word, unsigned how) {
+    const unsigned either = KUMQUATSIEVE_SKIP_DIGEST | KUMQUATSIEVE_TEST_DIGEST;
+    if (of->asked->how & how) return given_twice(word, NULL);
+    of->asked->how |= how;
+    if ((of->asked->how & either) != either) return NEXT;
+    tell_wrong("the argument '--test-digest' cannot be used with '--skip-digest'");
+    return WRONG;
 }
 
 static step read_word(reading *of) {
     const char *word = of->words[of->at++];
+    unsigned how = opening_of(word);
+    if (how) return read_opening(of, word, how);
     if (strcmp(word, "--help") == 0) return answer(of, HELP);
     if (strcmp(word, "--version") == 0) return answer(of, VERSION);
-    if (strcmp(word, "--skip-digest") == 0) return read_skip_digest(of, word);
     if (strcmp(word, "--") == 0) return of->at == of->count ? NEXT : wrong_word(of, of->words[of->at]);
     if (word[0] != '-' || word[1] == '\0' || word[1] == '-') return wrong_word(of, word);
     return read_letters(of, word);

@@ -1,8 +1,6 @@
-/* Paths: that of an image by its name, and what stands at one. */
+/* Paths: that of an image by its name, and whether one is that of a dictionary of MeCab. */
 #include "cut.h"
 #include "homes.h"
-#include <errno.h>
-#include <fcntl.h>
 #include <limits.h>
 #include <stdio.h>
 #include <stdlib.h>
@@ -48,25 +46,4 @@ static bool has(const char *directory, const char *name) {
 /* Whether a directory has a dictionary of MeCab: a compiled one, or sources. */
 bool is_mecab_directory(const char *path) {
     return has(path, "sys.dic") || has(path, "matrix.def");
-}
-
-static const char *of_error(void) {
-    switch (errno) {
-    case ENOENT: return "it is not there";
-    case EACCES:
-    case EPERM: return "permission to read it is missing";
-    default: return "a read of it failed";
-    }
-}
-
-/* Why the file at a path can't be read, as it looks after that failed. Only a file is opened: a pipe could wait. */
-const char *trouble_with(const char *path) {
-    struct stat found;
-    if (stat(path, &found) != 0) return of_error();
-    if (S_ISDIR(found.st_mode)) return access(path, R_OK) == 0 ? "it is a directory" : of_error();
-    if (!S_ISREG(found.st_mode)) return "a read of it failed";
-    int file = open(path, O_RDONLY | O_CLOEXEC);
-    if (file < 0) return of_error();
-    close(file);
-    return "a read of it failed";
 }

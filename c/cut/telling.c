@@ -1,5 +1,6 @@
 /* What is told: lines on standard error, faults among them, and texts on standard output. */
 #include "cut.h"
+#include <errno.h>
 #include <stdarg.h>
 #include <stdio.h>
 #include <stdlib.h>
@@ -55,7 +56,7 @@ static void name_of(uint32_t code, char *name, size_t room) {
         uint32_t code;
         const char *name;
     } OTHERS[] = {
-        {FAULT_FILE, "F1 File"}, {FAULT_OUTPUT, "F2 Output"},
+        {KUMQUATSIEVE_FILE, "F1 File"}, {FAULT_OUTPUT, "F2 Output"},
         {FAULT_READ, "G1 Read"}, {FAULT_WRITE, "G2 Write"},
         {FAULT_INPUT_TOO_LONG, "G5 InputTooLong"},
     };
@@ -72,7 +73,7 @@ static bool has_number(uint32_t code) {
     case KUMQUATSIEVE_BAD_MAGIC:
     case KUMQUATSIEVE_DIGEST:
     case KUMQUATSIEVE_NOT_SYSTEM:
-    case FAULT_FILE: return false;
+    case KUMQUATSIEVE_FILE: return false;
     default: return true;
     }
 }
@@ -143,17 +144,28 @@ static void tell_format(const options *asked, const fault *why) {
     if (texts[why->part % 4]) tell_mark(texts[why->part % 4], why->number);
 }
 
-static void tell_trouble(const char *of) {
-    const char *trouble = trouble_with(of);
+/* Why a file can't be opened, read or mapped, by its errno. */
+static const char *reason_of(uint64_t error) {
+    switch (error) {
+    case ENOENT: return "it is not there";
+    case EISDIR: return "it is a directory";
+    case EACCES:
+    case EPERM: return "permission to read it is missing";
+    case EIO: return "a read of it failed";
+    default: return strerror((int)error);
+    }
+}
+
+static void tell_reason(const char *of, uint64_t error) {
     char *path = one_line(of);
-    if (path) tell("%s: %s", path, trouble);
+    if (path) tell("%s: %s", path, reason_of(error));
     free(path);
 }
 
 /* Why a file can't be read, and which option has the text of a format that is refused, and where. */
 void tell_why(const options *asked, const fault *why) {
     if (!is_heard()) return;
-    if (why->code == FAULT_FILE) tell_trouble(why->path);
+    if (why->code == KUMQUATSIEVE_FILE) tell_reason(why->path, why->number);
     if (why->code >> 8 == 'P') tell_format(asked, why);
 }
 

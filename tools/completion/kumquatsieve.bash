@@ -116,7 +116,7 @@ _kumquatsieve_cut() {
     -d | -u) _kumquatsieve_image ;;
     -O) _kumquatsieve_of wakati ;;
     -j | -M | -F | -U | -B | -E) ;;
-    *) _kumquatsieve_of "-d -u --skip-digest -j -M -O -F -U -B -E -v -h --help -V --version" ;;
+    *) _kumquatsieve_of "-d -u --test-digest --skip-digest --copy -j -M -O -F -U -B -E -v -h --help -V --version" ;;
     esac
 }
 

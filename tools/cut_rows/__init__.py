@@ -55,6 +55,8 @@ class Row(NamedTuple):
     most: int = 0  # how many bytes the file of the output may have. 0: any number
     closed: tuple = ()  # the streams that are closed
     is_directory: bool = False  # whether standard input is a directory
+    cut: tuple = ()  # options of kumquatsieve-cut alone
+    jseg: tuple = ()  # options of jseg alone
 
     def begin(self):
         """What is done in the process before the program begins. A file that is too long is a write that fails."""
@@ -78,14 +80,22 @@ FORMATS = [
     Row("a user dictionary", ("-u", "USER")),
 ]
 
-# The last byte of a damaged image is another one.
+# The last byte of a damaged image is another one. kumquatsieve-cut tests it if it is asked to, and jseg unless it is asked not to.
+TESTED = ("--test-digest",)
+UNTESTED = ("--skip-digest",)
 IMAGES = [
-    Row("another digest", image="DAMAGED", status=1, told="L8 Digest"),
-    Row("another digest, a user's", ("-u", "DAMAGED USER"), status=1, told="L8 Digest"),
+    Row("another digest", image="DAMAGED", cut=TESTED, status=1, told="L8 Digest"),
+    Row("another digest, a user's", ("-u", "DAMAGED USER"), cut=TESTED, status=1, told="L8 Digest"),
+    Row("other digests", ("-u", "DAMAGED USER"), image="DAMAGED", jseg=UNTESTED),
     Row("other digests, without their test", ("--skip-digest", "-u", "DAMAGED USER"), image="DAMAGED"),
+    Row("the digests", ("-u", "USER"), cut=TESTED),
     Row("the digests, without their test", ("-u", "USER", "--skip-digest")),
-    Row("another digest behind what is no user's", ("-u", "SYSTEM", "-u", "DAMAGED USER"), status=1, told="L8 Digest"),
+    Row("images that are copied", ("-u", "USER"), cut=("--copy",)),
+    Row("another digest that is copied", image="DAMAGED", cut=("--copy", "--test-digest"), status=1, told="L8 Digest"),
+    Row("another digest that is copied, without the test", image="DAMAGED", cut=("--copy",), jseg=UNTESTED),
+    Row("another digest behind what is no user's", ("-u", "SYSTEM", "-u", "DAMAGED USER"), cut=TESTED, status=1, told="L8 Digest"),
     Row("the same, without the test", ("-u", "SYSTEM", "-u", "DAMAGED USER", "--skip-digest"), status=1, told="O2 NotUser 0"),
+    Row("the same, with neither", ("-u", "SYSTEM", "-u", "DAMAGED USER"), jseg=UNTESTED, status=1, told="O2 NotUser 0"),
 ]
 
 TEXT = made_up(4_000_000)
