@@ -62,6 +62,9 @@ BEGUN = "sources: dic\nencoding: UTF-8\n"
 NO_NUMBERS = "もも,,,,名詞,ユーザ\n\"a,b\",1,1,,記号\nん,1,1,5,助詞\n\nす,1, ,5,X\n".encode()
 EMPTY = "its ids or its cost are empty"
 NUMBERS_LEFT_OUT = [f"user.csv:{line}: {EMPTY}" for line in (1, 2, 5)]
+QUOTED_COMMAS = b' "a,,c",1,1,5,X\n\t"a"",,",1,1,5,X\n"a"b,1,1,5,X\na,"1" x, 1,5,X\n'
+QUOTED_EMPTY = b'"a,b" ,1,1,,X\n "a","",1,5,X\na,"1",1," "x,X\n'
+QUOTED_LEFT_OUT = [f"user.csv:{line}: {EMPTY}" for line in (1, 2, 3)]
 BAD_LINES = b"\x80\xff,1,1,5,X\n" + FILES["lexicon.csv"]
 SETTINGS = {"dicrc": b"bos-feature = X\n", "pos-id.def": "名詞 1\n".encode()}
 MISNUMBERED = b"a,,,,X\n\n\xff\na,1,1,5,X\nb,1,1,x,X\n" + "ん,1,1,5,X\n".encode() * 4
@@ -81,7 +84,11 @@ ROWS = [
     Row("settings", {**FILES, **SETTINGS}, imported(kept="new.dicrc new.pos-id.def", fields=OTHER_DICRC)),
     Row("no numbers", {**FILES, "user.csv": NO_NUMBERS}, imported(entries=4, left_out=NUMBERS_LEFT_OUT)),
     Row("a bad line", {**FILES, "lexicon.csv": BAD_LINES}, imported(left_out=["lexicon.csv:1: it is not UTF-8"])),
+    # What MeCab's csv rule takes for a field: blanks before quotes are skipped, and what follows the quotes is dropped.
+    Row("no numbers between quotes", {**FILES, "user.csv": QUOTED_COMMAS}, imported(entries=7)),
+    Row("no numbers after quotes", {**FILES, "user.csv": QUOTED_EMPTY}, imported(left_out=QUOTED_LEFT_OUT)),
     Row("an empty surface", {**FILES, "user.csv": b",1,1,5,X\n"}, imported(skipped=1)),
+    Row("an empty surface and no numbers", {**FILES, "user.csv": b',,,,X\n "" ,,,,X\n'}, imported(skipped=2)),
     Row("a hidden lexicon", {**FILES, ".csv": "ん,1,1,5,X\n".encode()}, imported(entries=4)),
     Row("a name of any bytes", {**FILES, b"\xff\n.csv": "ん,1,1,5,X\n".encode()}, imported(entries=4)),
     Row("other names of any bytes", {**FILES, b"\xff\x1b": b""}, imported(others=r"\xff\u{1b}")),

@@ -6,10 +6,16 @@ from .encodings import UTF_8
 from .faults import naming, shown
 
 MARK = b"\xef\xbb\xbf"
+# A field of a line with the comma after it, as MeCab and dictc find it: blanks before it are skipped,
+# and of a field in quotes what follows the quotes is dropped.
+FIELD = rb'[ \t]*(?:"(?:[^"\n]|"")*"(?!")[^,\n]*|(?![ \t"])[^,\n]*),'
+# A line whose surface is empty is not one of these: dictc skips and counts it.
+SURFACE = rb'[ \t]*(?:"(?:[^"\n]|"")+"(?!")[^,\n]*|(?![ \t",])[^,\n]+),'
+EMPTY = rb'[ \t]*(?:"[ \t]*"(?!")[^,\n]*)?,'
 # A line of a lexicon of which an id or the cost is empty.
-UNNUMBERED = re.compile(rb'(?m)^(?:"(?:[^"\n]|"")*"|[^",\n][^,\n]*|),(?:[ \t]*,|[^,\n]*,[ \t]*,|[^,\n]*,[^,\n]*,[ \t]*,)')
+UNNUMBERED = re.compile(rb"(?m)^" + SURFACE + rb"(?:" + FIELD + rb"){0,2}?" + EMPTY)
 # One of these is in each such line.
-EMPTY_FIELDS = (b",,", b", ", b",\t")
+EMPTY_FIELDS = (b",,", b", ", b",\t", b',"')
 NO_NUMBER = "its ids or its cost are empty"
 
 
