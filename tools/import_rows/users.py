@@ -63,6 +63,7 @@ ROWS = [
     refused("the image is the system's", ONE, "link.img is a file that is read: sys.img", 2, "--user", "sys.img", "--out", "link.img"),
     refused("the system's by its name", ONE, "sys.img is a file that is read: HOME/kumquatsieve/here.img", 2, "--user", "here", "--out", "sys.img"),
     refused("the image is a folder", ONE, "folder: it is a folder", 3, "--user", "sys.img", "--out", "folder"),
+    refused("a slash after the image", ONE, "new/ is no file name", 3, "--user", "sys.img", "--out", "new/"),
     refused("no file", {}, "none.csv: No such file or directory", 3, words=("none.csv",)),
     refused("no image", ONE, "text: L2 BadMagic", 1, "--user", "text", "--out", "new.img"),
     refused("no image of a name of any bytes", ONE, "an argument is not UTF-8", 2, "--user", b"none\xff.img", "--out", "new.img"),

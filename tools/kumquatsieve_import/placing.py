@@ -30,11 +30,16 @@ class Place:
         path = self.stem + b"." + name
         return path if len(os.path.basename(path)) <= NAME_MAX else None
 
+    def check_file(self) -> None:
+        """Rejects a place that is a folder, and a path that ends as only a folder's does."""
+        if os.path.isdir(self.image):
+            raise Fault(FILE, f"{shown(self.named)}: it is a folder")
+        if os.path.basename(self.named) in (b"", b".", b".."):
+            raise Fault(FILE, f"{shown(self.named)} is no file name")
+
     def check(self, folder, settings):
         """Refuses a place that is a file of the folder, by whichever name, or that can't be one."""
-        with naming(self.named):
-            if os.path.isdir(self.image):
-                raise Fault(FILE, f"{shown(self.named)}: it is a folder")
+        self.check_file()
         targets = [self.named] if self.is_device() else [self.named, *filter(None, map(self.beside, settings))]
         for target in targets:
             if os.path.isdir(target):
@@ -46,8 +51,7 @@ class Place:
 
     def check_alone(self, paths):
         """Refuses a place that is one of these files, which are read, or a folder."""
-        if os.path.isdir(self.image):
-            raise Fault(FILE, f"{shown(self.named)}: it is a folder")
+        self.check_file()
         for path in paths:
             if is_same(path, self.named):
                 raise Fault(WRONG_WORDS, f"{shown(self.named)} is a file that is read: {shown(path)}")
