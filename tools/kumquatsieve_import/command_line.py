@@ -1,9 +1,10 @@
 """The words of the command line."""
 import os
-from typing import NamedTuple, Optional
+import sys
+from typing import List, NamedTuple, Optional
 
 from .encodings import CHOICES, Encoding, encoding_named
-from .faults import WRONG_WORDS, Fault, shown
+from .faults import WRONG_WORDS, Fault, as_bytes, shown
 
 USAGE = (
     "usage: kumquatsieve-import [-v] [--encoding NAME] [--] DIR|ipadic|juman|naist|unidic [IMG], "
@@ -34,6 +35,33 @@ def usage_fault(why):
     return Fault(WRONG_WORDS, f"{why}; {USAGE}")
 
 
+def word_bytes(words: List[str]) -> List[bytes]:
+    """The bytes of the last words of this process, of which Python made these words by the locale."""
+    try:
+        with open("/proc/self/cmdline", "rb") as file:
+            found = file.read().split(b"\0")[:-1]
+    except OSError:
+        found = []
+    if len(found) > len(words):
+        return found[len(found) - len(words):]
+    try:
+        return list(map(os.fsencode, words))
+    except UnicodeEncodeError as error:
+        why = "an argument can't be read in this locale: set LC_ALL to C.UTF-8"
+        raise Fault(WRONG_WORDS, why) from error
+
+
+def given_words(words: List[str]) -> List[str]:
+    """The words of the command line as UTF-8, in which each other byte is a surrogate.
+
+    Python decodes them by the locale. In ja_JP.EUC-JP, for one, it can't encode again what it made of
+    a path in UTF-8.
+    """
+    if sys.getfilesystemencoding() == "utf-8":
+        return words
+    return [word.decode("utf-8", "surrogateescape") for word in word_bytes(words)]
+
+
 def encoding_given(name):
     found = encoding_named(name)
     if found is None:
@@ -61,7 +89,7 @@ def read_words(words):
         else:
             raise usage_fault(f"{shown(word)} is no option, or lacks its value; a name that begins with - stands after --")
     encoding = encoding_given(given["--encoding"]) if "--encoding" in given else None
-    names = list(map(os.fsencode, names))
+    names = list(map(as_bytes, names))
     if "--user" in given or "--out" in given:
         return choices_of_user(given.get("--user", ""), given.get("--out", ""), names, encoding, is_verbose)
     return choices_of(names, encoding, is_verbose)
@@ -70,7 +98,7 @@ def read_words(words):
 def choices_of_user(dictionary, image, lexicons, encoding, is_verbose):
     if not dictionary or not image or not lexicons or b"" in lexicons:
         raise usage_fault("a user's dictionary wants --user, --out and a lexicon")
-    return Choices(os.fsencode(dictionary), os.fsencode(image), encoding, is_verbose, False, tuple(lexicons))
+    return Choices(as_bytes(dictionary), as_bytes(image), encoding, is_verbose, False, tuple(lexicons))
 
 
 def choices_of(names, encoding, is_verbose):

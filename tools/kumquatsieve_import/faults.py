@@ -1,6 +1,7 @@
 """What ends an import early, with its status."""
 import os
 from contextlib import contextmanager
+from typing import Union
 
 REFUSED, WRONG_WORDS, FILE, MEMORY = 1, 2, 3, 4
 
@@ -11,9 +12,14 @@ def escaped(character):
     return named.get(character, f"\\u{{{ord(character):x}}}")
 
 
+def as_bytes(path: Union[str, bytes]) -> bytes:
+    """The bytes of a path or a word. In a text each byte that is no UTF-8 is a surrogate."""
+    return path if isinstance(path, bytes) else path.encode("utf-8", "surrogateescape")
+
+
 def shown(path):
     """A path or a word in one line of UTF-8: control characters are escaped, and so are bytes that are no UTF-8."""
-    text = os.fsencode(path).decode("utf-8", "backslashreplace")
+    text = as_bytes(path).decode("utf-8", "backslashreplace")
     return "".join(escaped(one) if ord(one) < 32 or 127 <= ord(one) < 160 else one for one in text)
 
 

@@ -3,7 +3,7 @@ import os
 import signal
 import sys
 
-from .command_line import NAMES, USAGE, read_words
+from .command_line import NAMES, USAGE, given_words, read_words
 from .compiling import NEW, Compilation, dictc_beside, place_for_new
 from .converting import make_utf_8, write_converted
 from .encodings import missing_converter
@@ -114,7 +114,7 @@ class Import:
 def imported(words, own, workshop, teller):
     """The status of an import."""
     try:
-        choices = read_words(words)
+        choices = read_words(given_words(words))
         if choices.is_verbose:
             teller.ask()
         if choices.wants_help:

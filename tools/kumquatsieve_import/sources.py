@@ -2,7 +2,6 @@
 import os
 import re
 import stat
-from pathlib import Path
 from typing import NamedTuple
 
 from .encodings import encoding_named
@@ -108,8 +107,8 @@ def encoding_told(folder):
     """The encoding that dicrc names, that of the lexicons before that of the definitions; None where it names none that is known."""
     for source in folder.settings:
         if source.name == DICRC:
-            with naming(source.path):
-                text = Path(os.fsdecode(source.path)).read_bytes()
+            with naming(source.path), open(source.path, "rb") as file:
+                text = file.read()
             for key in (rb"dictionary-charset", rb"config-charset"):
                 found = re.search(rb"(?m)^[ \t]*" + key + rb"[ \t]*=[ \t]*([A-Za-z0-9_-]+)", text)
                 if found and encoding_named(found[1].decode()):
