@@ -3,17 +3,25 @@ import os
 import re
 import selectors
 import shutil
+import stat
+from typing import Callable, Iterator, Optional
 
-from .faults import FILE, MEMORY, Fault, naming, shown
+from .faults import FILE, MEMORY, Fault, as_bytes, naming, of_file, shown
 from .telling import SECONDS
+from .workshop import Workshop
 
 # A line of `dictc -v` that says how far it is.
 STEP = re.compile(r"dictc: \d+\.\d+ s: (.*)")
 SAID = re.compile(r"dictc: (.*)")
 # What dictc says after a fault to a caller that asked for steps.
 EXPLAINED = re.compile(r"dictc: 'dictc --explain .*")
-# Where dictc writes the image, beside the place that it takes at the end.
+# A file that dictc can't read or write.
+NO_FILE = re.compile(r"dictc: (.*): F1 File")
+# The pipe through which dictc gives the image. This program writes the file, so it knows why a
+# write fails.
 NEW = b"image"
+# How much is read at once.
+CHUNK = 1 << 20
 
 
 def dictc_beside(own):
@@ -25,21 +33,28 @@ def dictc_beside(own):
     return os.path.abspath(found)
 
 
-def place_for_new(work, beside):
-    """What the new image is called in the folder in which dictc runs."""
+def place_for_new(work):
+    """Makes the pipe for the new image, and returns its name in the folder."""
     with naming(work):
-        os.symlink(beside, os.path.join(work, b"new"))
-    return b"new/" + NEW
+        os.mkfifo(os.path.join(work, NEW))
+    return NEW
 
 
-def lines_of(pipe, wait):
-    """The lines of a pipe, and meanwhile a call for each while without one."""
+def lines_of(pipe, wait, take: Callable[[], bool], others: tuple = ()) -> Iterator[bytes]:
+    """The lines of a pipe, and a call of `wait` for each while without one. Where one of the other
+    files has bytes, `take` reads them, and returns whether there may be more."""
     with selectors.DefaultSelector() as selector:
-        selector.register(pipe, selectors.EVENT_READ)
+        for descriptor in (pipe, *others):
+            selector.register(descriptor, selectors.EVENT_READ)
         rest = b""
         while True:
-            if not selector.select(SECONDS):
+            ready = {key.fileobj for key, _ in selector.select(SECONDS)}
+            for other in ready.intersection(others):
+                if not take():
+                    selector.unregister(other)
+            if not ready:
                 wait()
+            if pipe not in ready:
                 continue
             data = os.read(pipe.fileno(), 1 << 16)
             *lines, rest = (rest + data).split(b"\n")
@@ -63,6 +78,57 @@ def places_of(process, paths):
         return
 
 
+def fault_of_reading(path: bytes) -> Optional[OSError]:
+    """The error of reading a file or folder to its end; None where there is none or it is not there."""
+    if not os.path.lexists(path):
+        return None
+    try:
+        if stat.S_IFMT(os.stat(path).st_mode) in (stat.S_IFREG, stat.S_IFDIR):
+            with open(path, "rb", buffering=0) as file:
+                while file.read(CHUNK):
+                    pass
+    except OSError as error:
+        return error
+    return None
+
+
+def open_now(path: bytes, flags: int) -> int:
+    """Opens the reading end of a pipe without waiting for its writer."""
+    return os.open(path, flags | os.O_NONBLOCK)
+
+
+class ImageFile:
+    """The file of the new image in a folder, filled from the pipe in dictc's folder."""
+
+    def __init__(self, folder: bytes, work: bytes, named: bytes, workshop: Workshop):
+        self.named = named
+        with naming(named):
+            self.file = workshop.keep(open(os.path.join(folder, NEW), "xb", buffering=0))
+        with naming(work):
+            pipe = os.path.join(work, NEW)
+            self.pipe = workshop.keep(open(pipe, "rb", buffering=0, opener=open_now))
+
+    def take(self) -> bool:
+        """Writes what is in the pipe. Returns whether there may be more."""
+        try:
+            rest = memoryview(os.read(self.pipe.fileno(), 1 << 16))
+        except BlockingIOError:
+            return True
+        is_more = len(rest) > 0
+        with naming(self.named):
+            while rest:
+                rest = rest[self.file.write(rest):]
+        return is_more
+
+    def store(self) -> None:
+        """Writes what is left in the pipe after its writer's end, and waits until all is stored."""
+        while self.take():
+            pass
+        with naming(self.named):
+            os.fsync(self.file)
+            self.file.close()
+
+
 class Compilation:
     """A run of dictc in a folder that has the sources by names of its own. A name that is no UTF-8 is none of these: dictc refuses its words then."""
 
@@ -80,26 +146,36 @@ class Compilation:
         for path, at in places_of(process, self.sizes) if self.teller.tells_steps else ():
             self.teller.say_progress(f"dictc reads {shown(path)}", at, self.sizes[path])
 
-    def watch(self, child):
+    def watch(self, child, image, folder):
         """Tells the steps, and gives the other lines, which say a fault and why."""
         others = []
-        for line in lines_of(child.stderr, lambda: self.say_place(child.pid)):
+        wait = lambda: self.say_place(child.pid)  # noqa: E731
+        for line in lines_of(child.stderr, wait, image.take, (image.pipe,)):
             text = line.decode("utf-8", "backslashreplace")
             step = STEP.fullmatch(text)
             if step:
                 self.teller.say_step(self.with_paths(step[1]))
             elif self.teller.tells_steps or not EXPLAINED.fullmatch(text):
+                self.check_read(text, folder)
                 said = SAID.fullmatch(text)
                 others.append(self.with_paths(said[1] if said else text))
         return others
 
-    def run(self, words, folder, workshop):
+    def check_read(self, text: str, folder: bytes) -> None:
+        """Raises the system's error in place of dictc's, where a read of that file fails here too."""
+        found = NO_FILE.fullmatch(text)
+        if found and found[1] in self.names:
+            error = fault_of_reading(os.path.join(folder, as_bytes(found[1])))
+            if error is not None:
+                raise of_file(as_bytes(self.names[found[1]]), error) from error
+
+    def run(self, words, folder, workshop, image):
         """What dictc counted. Its fault is a fault of the import, with its status."""
         try:
             child = workshop.start(words, folder)
         except OSError as error:
             raise Fault(FILE, f"{shown(words[0])}: {os.strerror(error.errno)}") from error
-        others = self.watch(child)
+        others = self.watch(child, image, folder)
         counted = child.stdout.read().decode().rstrip("\n")
         status = child.wait()
         if status < 0:
@@ -108,4 +184,5 @@ class Compilation:
             for line in others[:-1]:
                 self.teller.say(line)
             raise Fault(status, others[-1] if others else f"dictc ended with status {status}")
+        image.store()
         return counted

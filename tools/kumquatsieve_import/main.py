@@ -4,10 +4,10 @@ import signal
 import sys
 
 from .command_line import NAMES, USAGE, given_words, read_words
-from .compiling import NEW, Compilation, dictc_beside, place_for_new
+from .compiling import NEW, Compilation, ImageFile, dictc_beside, place_for_new
 from .converting import make_utf_8, write_converted
 from .encodings import missing_converter
-from .faults import FILE, MEMORY, Ended, Fault, naming, shown
+from .faults import FILE, MEMORY, Ended, Fault, shown
 from .fields import FIELDS, find_names, write_names
 from .finding import find_encoding
 from .homes import home_for, let_all_read
@@ -91,11 +91,13 @@ class Import:
         return self.place.beside(name) is not None
 
     def compile(self, names, work, beside):
-        new = place_for_new(work, beside)
+        new = place_for_new(work)
+        image = ImageFile(beside, work, self.place.named, self.workshop)
         files = [b"matrix.def", b"--char", b"char.def", b"--unk", b"unk.def", b"--out", new]
         lexicons = [name for name in names if name.endswith(b".csv")]
         compilation = Compilation({**names, new: self.place.named}, self.teller)
-        return compilation.run([self.dictc, b"system", b"-v", b"--matrix", *files, *lexicons], work, self.workshop)
+        words = [self.dictc, b"system", b"-v", b"--matrix", *files, *lexicons]
+        return compilation.run(words, work, self.workshop, image)
 
     def tell_end(self, counted, size, settings, removed):
         self.teller.report(counted)

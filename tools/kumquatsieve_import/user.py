@@ -1,7 +1,7 @@
 """Lexicons of a user, which dictc compiles for a system dictionary. They are read strictly: no line is left out."""
 import os
 
-from .compiling import NEW, Compilation, dictc_beside, place_for_new
+from .compiling import NEW, Compilation, ImageFile, dictc_beside, place_for_new
 from .converting import make_utf_8
 from .faults import REFUSED, Fault, naming, shown
 from .finding import find_encoding
@@ -57,9 +57,11 @@ class UserImport:
 
     def compile(self, names, work, beside):
         """What dictc counted. It finds a system dictionary that is nowhere no more than this does, and says so by its name."""
-        new, system = ABOVE + place_for_new(work, beside), self.system_for_dictc(work)
+        new, system = ABOVE + place_for_new(work), self.system_for_dictc(work)
+        image = ImageFile(beside, work, self.place.named, self.workshop)
         compilation = Compilation({**names, new: self.place.named, system: self.choices.name}, self.teller)
-        return compilation.run([self.dictc, b"user", b"-v", b"--dic=" + system, b"--out", new, *names], os.path.join(work, EMPTY), self.workshop)
+        words = [self.dictc, b"user", b"-v", b"--dic=" + system, b"--out", new, *names]
+        return compilation.run(words, os.path.join(work, EMPTY), self.workshop, image)
 
     def system_for_dictc(self, work):
         """What dictc is to call the system dictionary. A bare name that is nowhere stays as it is, since dictc says where it looked for it."""

@@ -5,6 +5,7 @@ import signal
 import subprocess
 import tempfile
 from contextlib import contextmanager
+from typing import IO
 
 from .faults import FILE, Ended, Fault, naming
 
@@ -61,6 +62,12 @@ class Workshop:
         self.folders = []
         self.made = []
         self.child = None
+        self.files = []
+
+    def keep(self, file: IO[bytes]) -> IO[bytes]:
+        """Closes the file at the end, so that there is a descriptor for the removal of folders."""
+        self.files.append(file)
+        return file
 
     def new_folder(self, beside=None):
         """A folder of its own in another one, else in the one for temporary files."""
@@ -98,6 +105,8 @@ class Workshop:
         if self.child is not None and self.child.poll() is None:
             self.child.kill()
             self.child.wait()
+        for file in self.files:
+            file.close()
         for folder in self.folders:
             shutil.rmtree(folder, ignore_errors=True)
         for path in reversed(self.made):
