@@ -2,7 +2,7 @@
 import subprocess
 from typing import NamedTuple, Optional
 
-from .running import in_code, lay
+from .running import headed, in_code, lay
 
 # The fields in the documents of each dictionary.
 IPADIC = "pos1 pos2 pos3 pos4 conjugation_type conjugation_form base_form reading pronunciation"
@@ -85,6 +85,7 @@ def wrong(row, programs, work):
     said = [line for line in ran.stdout.splitlines() if line.startswith(("fields: ", "written beside it: "))]
     if ran.returncode != 0 or said != [f"fields: {row.said}", *(["written beside it: new.fields"] if row.names else [])]:
         yield f"prints {ran.stdout!r} and tells {ran.stderr!r} with status {ran.returncode}, not {row.said!r}"
-    written = names.read_text() if names.exists() else None
-    if written != ("".join(f"{name}\n" for name in row.names.split()) if row.names else None):
+    written = names.read_bytes() if names.exists() else None
+    listed = "".join(f"{name}\n" for name in (row.names or "").split()).encode()
+    if written != (headed((work / "new.img").read_bytes(), listed) if row.names else None):
         yield f"writes {written!r}, not {row.names!r}"

@@ -18,10 +18,10 @@ import time
 from concurrent.futures import ThreadPoolExecutor
 from typing import NamedTuple, Optional
 
-from .running import FILES, compiled, in_code, lay
+from .running import FILES, compiled, headed, in_code, lay
 
 SIGNALS = (signal.SIGHUP, signal.SIGINT, signal.SIGQUIT, signal.SIGTERM)
-MAKING = ("mkdir", "mkdirat", "symlink", "symlinkat", "link", "linkat", "rename", "renameat", "renameat2", "chmod", "fchmodat", "write", "fsync")
+MAKING = ("mkdir", "mkdirat", "mknod", "mknodat", "symlink", "symlinkat", "link", "linkat", "rename", "renameat", "renameat2", "chmod", "fchmodat", "write", "fsync")
 OTHERS = ("unlink", "unlinkat", "rmdir", "pipe2", "vfork", "clone", "clone3", "close", "openat")
 DICRC = b"; f[0]: pos\n; f[1]: reading\n"
 SOURCES = in_code("euc_jp", a_csv="ん,1,1,5,X,ん\n".encode("euc_jp") * 2 + b"\xa4,1,1,5,X,X\n", dicrc=DICRC)
@@ -99,7 +99,8 @@ def stands(kind, work):
     image = rest.pop("old.img", None)
     if rest == kind.old and image == b"old":
         return "old"
-    return "new" if rest == kind.new and is_image(image) else f"{sorted(found)}, {rest}, an image of {len(image or b'')} bytes"
+    new = {name: headed(image or b"", text) for name, text in kind.new.items()}
+    return "new" if rest == new and is_image(image) else f"{sorted(found)}, {rest}, an image of {len(image or b'')} bytes"
 
 
 def wrong_after(kind, status, work):

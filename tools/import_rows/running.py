@@ -29,6 +29,11 @@ def install(folder):
     return folder / "bin"
 
 
+def headed(image: bytes, text: bytes) -> bytes:
+    """What a settings file has beside an image: first the image's checksum, its last 32 bytes."""
+    return b"; image-sha256 " + image[-32:].hex().encode() + b"\n" + text
+
+
 def lay(folder, files):
     """Makes a folder of files, whose names are text or bytes. What is no bytes makes what stands at its path itself."""
     os.makedirs(folder)

@@ -50,8 +50,7 @@ class Import:
             settings[FIELDS] = self.name_fields(names, settings[DICRC], work, beside)
         counted = self.compile(names, work, beside)
         size = os.path.getsize(os.path.join(beside, NEW))
-        removed = [path for path in map(self.place.beside, (name for name in settings if not settings[name])) if path and os.path.lexists(path)]
-        self.place.put(os.path.join(beside, NEW), settings, self.workshop)
+        removed = self.place.put(os.path.join(beside, NEW), settings, self.workshop, teller)
         self.tell_end(counted, size, settings, removed)
 
     def convert(self, encoding, work):

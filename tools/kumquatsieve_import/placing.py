@@ -1,11 +1,23 @@
-"""Where the image goes, and the settings beside it: all of them take their places at the end, or none does."""
+"""Where the image goes, and the settings beside it.
+
+All of them take their places at the end, while a lock keeps other imports out of the folder, or an
+error undoes what was done. Each settings file begins with the checksum of its image, so that it is
+used with no other one, whatever ends the import in between.
+"""
 import os
 import shutil
 import stat
+from typing import Dict, List, Optional
 
 from .faults import FILE, WRONG_WORDS, Fault, naming, shown
+from .locking import locked
+from .telling import Teller
+from .workshop import Workshop
 
 ENDING = b".img"
+# The beginning of the first line of a settings file, and how many bytes of checksum an image ends with.
+CHECKSUM_LINE = b"; image-sha256 "
+CHECKSUM = 32
 # The longest name of a file.
 NAME_MAX = 255
 # How much a device is handed at once.
@@ -56,15 +68,46 @@ class Place:
             if is_same(path, self.named):
                 raise Fault(WRONG_WORDS, f"{shown(self.named)} is a file that is read: {shown(path)}")
 
-    def put(self, new, settings, workshop):
-        """Gives the new image and the new settings their names: `settings` has a path or None for each name of a file of settings."""
+    def put(
+        self,
+        new: bytes,
+        settings: Dict[bytes, Optional[bytes]],
+        workshop: Workshop,
+        teller: Teller,
+    ) -> List[bytes]:
+        """Gives the new image and the new settings their names, and returns the old settings that were
+        removed. `settings` has a path or None for each name of a settings file.
+
+        The image comes last: settings without a checksum, as an older version wrote them, are gone by
+        then, so that they are never those of the new image.
+        """
         if self.is_device():
             with naming(self.image), open(new, "rb") as file, open(self.image, "wb", buffering=0) as device:
                 hand_all(file, device.fileno())
-            return
+            return []
         moves = [(path, self.beside(name)) for name, path in settings.items() if self.beside(name)]
-        with workshop.signals.held():
-            replace_all([*moves, (new, self.image)], workshop.folders[0])
+        write_checksums(new, [path for path, _ in moves if path])
+        with locked(self.folder, teller), workshop.signals.held():
+            removed = [target for path, target in moves if path is None and os.path.lexists(target)]
+            replace_all(moves, (new, self.image), workshop.folders[0])
+        return removed
+
+
+def write_checksums(image: bytes, paths: List[bytes]) -> None:
+    """Writes the image's checksum before what each of the settings files has, and stores them."""
+    with naming(image), open(image, "rb") as file:
+        file.seek(-CHECKSUM, os.SEEK_END)
+        line = CHECKSUM_LINE + file.read().hex().encode() + b"\n"
+    for path in paths:
+        with naming(path), open(path, "r+b") as file:
+            text = file.read()
+            if text.startswith(CHECKSUM_LINE):
+                text = text.partition(b"\n")[2]
+            file.seek(0)
+            file.truncate()
+            file.write(line + text)
+            file.flush()
+            os.fsync(file)
 
 
 def hand_all(file, device):
@@ -83,8 +126,9 @@ def is_same(path, other):
         return False
 
 
-def replace_all(moves, folder):
-    """Each new file takes the place of the old one with its mode, and an old one without a new one goes. Where one fails all are undone."""
+def replace_all(moves, last, folder):
+    """Each new file takes the place of the old one with its mode, and an old one without a new one goes. Where one fails all are undone. The old
+    file of the last move gets no second name, which would change its ctime: after that move nothing can fail."""
     done = []
     try:
         for number, (new, target) in enumerate(moves):
@@ -94,6 +138,8 @@ def replace_all(moves, folder):
                     continue
                 done.append((target, old))
                 replace(new, target)
+        with naming(last[1]):
+            replace(*last)
     except Fault:
         for target, old in reversed(done):
             replace(old, target)

@@ -51,7 +51,7 @@ class UserImport:
         counted = self.compile(names, work, beside)
         new = os.path.join(beside, NEW)
         size = os.path.getsize(new)
-        self.place.put(new, {}, self.workshop)
+        self.place.put(new, {}, self.workshop, self.teller)
         self.teller.report(counted)
         self.teller.report(f"image: {shown(self.place.named)}, {size} bytes, {self.teller.seconds():.0f} s")
 
