@@ -18,6 +18,7 @@ import time
 from concurrent.futures import ThreadPoolExecutor
 from typing import NamedTuple, Optional
 
+from .records import text_of
 from .running import FILES, compiled, headed, in_code, lay
 
 SIGNALS = (signal.SIGHUP, signal.SIGINT, signal.SIGQUIT, signal.SIGTERM)
@@ -75,7 +76,7 @@ class Injection(NamedTuple):
 def prepare(kind, work):
     lay(work / "dic", kind.sources)
     (work / "tmp").mkdir()
-    for name, data in {**kind.old, "old.img": b"old"}.items():
+    for name, data in {**kind.old, "old.img": b"old", "old.tested": b"old"}.items():
         (work / name).write_bytes(data)
 
 
@@ -96,11 +97,12 @@ def stands(kind, work):
     """What stands where the import wrote: a name, or what is wrong."""
     found = {path.name: path.read_bytes() if path.is_file() else None for path in [*work.iterdir(), *(work / "tmp").iterdir()]}
     rest = {name: data for name, data in found.items() if name not in ("dic", "tmp")}
-    image = rest.pop("old.img", None)
-    if rest == kind.old and image == b"old":
+    image, record = rest.pop("old.img", None), rest.pop("old.tested", None)
+    if rest == kind.old and image == b"old" and record == b"old":
         return "old"
     new = {name: headed(image or b"", text) for name, text in kind.new.items()}
-    return "new" if rest == new and is_image(image) else f"{sorted(found)}, {rest}, an image of {len(image or b'')} bytes"
+    is_true = record is None or record.decode() == text_of(work / "old.img")
+    return "new" if rest == new and is_image(image) and is_true else f"{sorted(found)}, {rest}, an image of {len(image or b'')} bytes"
 
 
 def wrong_after(kind, status, work):

@@ -32,14 +32,15 @@ NO_DICRC = "fields: not named: there is no dicrc"
 OTHER_DICRC = "fields: not named: dicrc is that of no dictionary whose fields are known"
 
 
-def imported(encoding="UTF-8", entries=3, others="", left_out=(), skipped=0, kept="", removed="", image="new.img", fields=NO_DICRC):
+def imported(encoding="UTF-8", entries=3, others="", left_out=(), skipped=0, kept="", removed="", image="new.img", fields=NO_DICRC,
+             tested="tested: {image}\n"):
     """What is printed of an import."""
     beside = [*([f"kept beside it: {kept}"] if kept else []), *([f"removed beside it: {removed}"] if removed else [])]
     unread = [f"not read: {others}"] if others else []
     named = [fields] if fields else []
     lines = ["sources: dic", f"encoding: {encoding}", *unread, *(f"left out: dic/{one}" for one in left_out), *named]
     end = [f"{entries} entries, {skipped} skipped", f"image: {image}, 0 bytes, 0 s", *beside]
-    return "\n".join([*lines, *end, f"{len(left_out)} lines left out", ""])
+    return "\n".join([*lines, *end, f"{tested.format(image=image)}{len(left_out)} lines left out", ""])
 
 
 def refused(files, err, status, *words):
@@ -95,8 +96,9 @@ ROWS = [
     Row("no line feed", {**FILES, "user.csv": "ん,1,1,5,X".encode()}, imported(entries=4)),
     Row("a fault's line", {**FILES, "user.csv": MISNUMBERED}, f"{BEGUN}{MISNUMBERED_LEFT_OUT}{NO_DICRC}\n", "dic/user.csv:5: S3 BadNumber", 1),
     Row("an image of any bytes", FILES, imported(image=r"\xff.img"), words=("dic", b"\xff.img")),
-    Row("a device", FILES, imported(image="/dev/null", fields=""), words=("dic", "/dev/null")),
-    Row("a long name", {**FILES, "dicrc": b"\n"}, imported(image=LONG, fields=f"not kept: dicrc, {TOO_LONG}\nnot kept: fields, {TOO_LONG}"),
+    Row("a device", FILES, imported(image="/dev/null", fields="", tested=""), words=("dic", "/dev/null")),
+    Row("a long name", {**FILES, "dicrc": b"\n"}, imported(image=LONG, fields=f"not kept: dicrc, {TOO_LONG}\nnot kept: fields, {TOO_LONG}",
+                 tested="tested, not recorded: {image}: File name too long\n"),
         words=("dic", LONG)),
     Row("old settings", {**FILES, "dicrc": b"\n"},
         imported(kept="old.dicrc", removed="old.pos-id.def old.fields", image="old.img", fields=OTHER_DICRC), words=("dic", "old.img")),

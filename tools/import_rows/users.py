@@ -8,7 +8,8 @@ from .running import FILES, MARK, compiled, lay
 
 USAGE = (
     "usage: kumquatsieve-import [-v] [--encoding NAME] [--] DIR|ipadic|juman|naist|unidic [IMG], "
-    "or kumquatsieve-import [-v] [--encoding NAME] --user DIC --out IMG [--] LEX.."
+    "or kumquatsieve-import [-v] [--encoding NAME] --user DIC --out IMG [--] LEX.., "
+    "or kumquatsieve-import [-v] --test [--] IMG.."
 )
 WANTED = f"a user's dictionary wants --user, --out and a lexicon; {USAGE}"
 WORD = "ん,1,1,5,助詞\n"
@@ -100,12 +101,12 @@ def wrong(row, programs, work):
     if (ran.stderr, ran.returncode) != (err, row.status):
         yield f"tells {ran.stderr!r} with status {ran.returncode}, not {err!r} with {row.status}"
     left = {path.name for path in work.iterdir()} - there
-    if left != (set() if row.status else {"new.img"}):
+    if left != (set() if row.status else {"new.img", "new.tested"}):
         yield f"leaves {sorted(left)}"
     if row.status or "new.img" not in left:
         return
     out = re.sub(r"\d+ (bytes|s)\b", r"0 \1", ran.stdout)
-    if out != f"encoding: {row.encoding}\n{len(row.utf_8)} entries, 0 skipped\nimage: new.img, 0 bytes, 0 s\n":
+    if out != f"encoding: {row.encoding}\n{len(row.utf_8)} entries, 0 skipped\nimage: new.img, 0 bytes, 0 s\ntested: new.img\n":
         yield f"prints {ran.stdout!r}"
     if (work / "new.img").read_bytes() != image_of(programs, work, row.utf_8):
         yield "makes another image than dictc of the lexicons in UTF-8"

@@ -8,7 +8,8 @@ from .faults import WRONG_WORDS, Fault, as_bytes, shown
 
 USAGE = (
     "usage: kumquatsieve-import [-v] [--encoding NAME] [--] DIR|ipadic|juman|naist|unidic [IMG], "
-    "or kumquatsieve-import [-v] [--encoding NAME] --user DIC --out IMG [--] LEX.."
+    "or kumquatsieve-import [-v] [--encoding NAME] --user DIC --out IMG [--] LEX.., "
+    "or kumquatsieve-import [-v] --test [--] IMG.."
 )
 # The options with a value.
 VALUED = ("--encoding", "--user", "--out")
@@ -18,7 +19,7 @@ NAMES = {b"ipadic": b"ipadic", b"juman": b"juman", b"naist": b"naist-jdic", b"un
 
 class Choices(NamedTuple):
     """What was asked for. Without an image's path it is installed by the name of the folder. Of a user's dictionary `lexicons` has the files, and
-    `name` that of the system's."""
+    `name` that of the system's. `images` are those to test."""
 
     name: bytes
     image: Optional[bytes]
@@ -26,6 +27,7 @@ class Choices(NamedTuple):
     is_verbose: bool
     wants_help: bool
     lexicons: tuple = ()
+    images: tuple = ()
 
     def is_debian(self):
         return self.name in NAMES
@@ -71,7 +73,7 @@ def encoding_given(name):
 
 def read_words(words):
     """The choices of a command line. Options stand anywhere before `--`."""
-    rest, names, given, is_verbose = list(words), [], {}, False
+    rest, names, given, is_verbose, is_test = list(words), [], {}, False, False
     while rest:
         word = rest.pop(0)
         name, equals, value = word.partition("=")
@@ -84,12 +86,16 @@ def read_words(words):
             return Choices(b"", None, None, False, True)
         elif word in ("-v", "--verbose"):
             is_verbose = True
+        elif word == "--test":
+            is_test = True
         elif name in VALUED and (equals or rest):
             given[name] = value if equals else rest.pop(0)
         else:
             raise usage_fault(f"{shown(word)} is no option, or lacks its value; a name that begins with - stands after --")
     encoding = encoding_given(given["--encoding"]) if "--encoding" in given else None
     names = list(map(as_bytes, names))
+    if is_test:
+        return choices_of_test(names, given, is_verbose)
     if "--user" in given or "--out" in given:
         return choices_of_user(given.get("--user", ""), given.get("--out", ""), names, encoding, is_verbose)
     return choices_of(names, encoding, is_verbose)
@@ -99,6 +105,12 @@ def choices_of_user(dictionary, image, lexicons, encoding, is_verbose):
     if not dictionary or not image or not lexicons or b"" in lexicons:
         raise usage_fault("a user's dictionary wants --user, --out and a lexicon")
     return Choices(as_bytes(dictionary), as_bytes(image), encoding, is_verbose, False, tuple(lexicons))
+
+
+def choices_of_test(images, given, is_verbose):
+    if not images or b"" in images or given:
+        raise usage_fault("--test wants images, and no other option but -v")
+    return Choices(b"", None, None, is_verbose, False, images=tuple(images))
 
 
 def choices_of(names, encoding, is_verbose):

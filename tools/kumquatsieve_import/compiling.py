@@ -24,13 +24,17 @@ NEW = b"image"
 CHUNK = 1 << 20
 
 
-def dictc_beside(own):
-    """The dictc that stands beside this program, else the one of the path."""
-    beside = os.path.join(own, b"dictc")
-    found = beside if os.access(beside, os.X_OK) else shutil.which(b"dictc")
+def program_beside(own: bytes, name: bytes) -> bytes:
+    """The program that is beside this one, else the one of the path."""
+    beside = os.path.join(own, name)
+    found = beside if os.access(beside, os.X_OK) else shutil.which(name)
     if found is None:
-        raise Fault(FILE, f"dictc is neither in {shown(own)} nor on the path")
+        raise Fault(FILE, f"{shown(name)} is neither in {shown(own)} nor on the path")
     return os.path.abspath(found)
+
+
+def dictc_beside(own):
+    return program_beside(own, b"dictc")
 
 
 def place_for_new(work):
@@ -40,7 +44,7 @@ def place_for_new(work):
     return NEW
 
 
-def lines_of(pipe, wait, take: Callable[[], bool], others: tuple = ()) -> Iterator[bytes]:
+def lines_of(pipe, wait, take: Callable[[], bool] = bool, others: tuple = ()) -> Iterator[bytes]:
     """The lines of a pipe, and a call of `wait` for each while without one. Where one of the other
     files has bytes, `take` reads them, and returns whether there may be more."""
     with selectors.DefaultSelector() as selector:
@@ -129,6 +133,14 @@ class ImageFile:
             self.file.close()
 
 
+def end_of(child, program: str) -> int:
+    """The status of a process. That a signal ended it is a fault."""
+    status = child.wait()
+    if status < 0:
+        raise Fault(MEMORY if status == -9 else FILE, f"{program} was ended by signal {-status}")
+    return status
+
+
 class Compilation:
     """A run of dictc in a folder that has the sources by names of its own. A name that is no UTF-8 is none of these: dictc refuses its words then."""
 
@@ -177,9 +189,7 @@ class Compilation:
             raise Fault(FILE, f"{shown(words[0])}: {os.strerror(error.errno)}") from error
         others = self.watch(child, image, folder)
         counted = child.stdout.read().decode().rstrip("\n")
-        status = child.wait()
-        if status < 0:
-            raise Fault(MEMORY if status == -9 else FILE, f"dictc was ended by signal {-status}")
+        status = end_of(child, "dictc")
         if status:
             for line in others[:-1]:
                 self.teller.say(line)

@@ -32,7 +32,8 @@ def opened(folder: bytes, teller: Teller) -> Optional[int]:
     try:
         return os.open(folder, os.O_RDONLY | os.O_DIRECTORY)
     except OSError as error:
-        return report_missing(folder, error, teller)
+        report_missing(folder, error, teller)
+    return None
 
 
 def wait_for_lock(descriptor: int, folder: bytes, teller: Teller) -> None:
@@ -40,14 +41,16 @@ def wait_for_lock(descriptor: int, folder: bytes, teller: Teller) -> None:
     began, is_told = time.monotonic(), False
     while True:
         try:
-            return fcntl.flock(descriptor, fcntl.LOCK_EX | fcntl.LOCK_NB)
+            fcntl.flock(descriptor, fcntl.LOCK_EX | fcntl.LOCK_NB)
+            return
         except BlockingIOError:
             if not is_told and time.monotonic() - began >= SECONDS:
                 teller.say_step(f"waiting for another import to {shown(folder)}")
                 is_told = True
             time.sleep(PAUSE)
         except OSError as error:
-            return report_missing(folder, error, teller)
+            report_missing(folder, error, teller)
+            return
 
 
 def report_missing(folder: bytes, error: OSError, teller: Teller) -> None:

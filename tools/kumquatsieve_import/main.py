@@ -11,7 +11,8 @@ from .faults import FILE, MEMORY, Ended, Fault, shown
 from .fields import FIELDS, find_names, write_names
 from .finding import find_encoding
 from .homes import home_for, let_all_read
-from .placing import Place
+from .placing import TESTED, Place
+from .records import test_all, test_new
 from .sources import DICRC, SETTINGS, Source, debian_folder, encoding_told, read_folder
 from .telling import Teller
 from .user import UserImport
@@ -29,7 +30,7 @@ class Import:
         self.prefix = os.path.dirname(own)
         self.home = home_for(self.prefix) if choices.image is None else None
         self.place = Place(choices.image if self.home is None else os.path.join(self.home.path, choices.name + b".img"))
-        self.place.check(self.folder, [*SETTINGS, FIELDS])
+        self.place.check(self.folder, [*SETTINGS, FIELDS, TESTED])
 
     def run(self):
         let_all_read(self.place.image, self.prefix)
@@ -109,6 +110,7 @@ class Import:
         for done, paths in (("kept", kept), ("written", made), ("removed", removed)):
             if paths:
                 self.teller.report(f"{done} beside it: {' '.join(shown(os.path.basename(path)) for path in paths)}")
+        test_new(self.place, self.own, self.workshop, self.teller)
         self.teller.report(f"{self.teller.left_out_lines} lines left out")
 
 
@@ -124,6 +126,8 @@ def imported(words, own, workshop, teller):
         missing = missing_converter()
         if missing:
             raise Fault(FILE, f"this Python has no converter of {missing}: it lacks a part of its library (Debian: apt install python3)")
+        if choices.images:
+            return test_all(choices.images, own, workshop, teller)
         (UserImport if choices.lexicons else Import)(choices, own, workshop, teller).run()
         return 0
     except Fault as fault:

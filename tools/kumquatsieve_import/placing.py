@@ -18,10 +18,22 @@ ENDING = b".img"
 # The beginning of the first line of a settings file, and how many bytes of checksum an image ends with.
 CHECKSUM_LINE = b"; image-sha256 "
 CHECKSUM = 32
+# The ending of the record that an image passed its tests.
+TESTED = b"tested"
 # The longest name of a file.
 NAME_MAX = 255
 # How much a device is handed at once.
 CHUNK = 1 << 16
+
+
+def stem_of(image: bytes) -> bytes:
+    """The path of an image without its ending, to which those of the files beside it are added."""
+    return image[:-len(ENDING)] if image.endswith(ENDING) else image
+
+
+def record_of(image: bytes) -> bytes:
+    """The path of the record that an image passed its tests."""
+    return stem_of(image) + b"." + TESTED
 
 
 class Place:
@@ -31,8 +43,7 @@ class Place:
         self.named = image
         self.image = os.path.realpath(image) if os.path.exists(image) else os.path.abspath(image)
         self.folder = os.path.dirname(self.image)
-        stem = self.image[:-len(ENDING)] if self.image.endswith(ENDING) else self.image
-        self.stem = stem
+        self.stem = stem_of(self.image)
 
     def is_device(self):
         return os.path.exists(self.image) and not os.path.isfile(self.image)
@@ -64,6 +75,9 @@ class Place:
     def check_alone(self, paths):
         """Refuses a place that is one of these files, which are read, or a folder."""
         self.check_file()
+        record = self.beside(TESTED)
+        if record and os.path.isdir(record):
+            raise Fault(FILE, f"{shown(record)}: it is a folder")
         for path in paths:
             if is_same(path, self.named):
                 raise Fault(WRONG_WORDS, f"{shown(self.named)} is a file that is read: {shown(path)}")
@@ -87,8 +101,10 @@ class Place:
             return []
         moves = [(path, self.beside(name)) for name, path in settings.items() if self.beside(name)]
         write_checksums(new, [path for path, _ in moves if path])
+        record = self.beside(TESTED)
         with locked(self.folder, teller), workshop.signals.held():
             removed = [target for path, target in moves if path is None and os.path.lexists(target)]
+            moves += [(None, record)] if record else []
             replace_all(moves, (new, self.image), workshop.folders[0])
         return removed
 

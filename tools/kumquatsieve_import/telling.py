@@ -53,6 +53,9 @@ class Teller:
         if self.tells_steps:
             self.say(f"{self.seconds():.2f} s: {text}")
 
+    def tick(self) -> None:
+        """Is called while something else works, at least once in SECONDS."""
+
     def say_progress(self, step, done, whole):
         """As often as SECONDS says, and with `-v` at a step's end."""
         is_due = self.seconds() - self.last >= SECONDS or (self.is_asked and done >= whole)

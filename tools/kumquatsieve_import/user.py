@@ -7,6 +7,7 @@ from .faults import REFUSED, Fault, naming, shown
 from .finding import find_encoding
 from .homes import image_named, let_all_read
 from .placing import Place
+from .records import test_new
 from .sources import Source, source_at
 
 # What the system dictionary is called beside the lexicons.
@@ -30,7 +31,7 @@ class UserImport:
     def __init__(self, choices, own, workshop, teller):
         self.choices, self.workshop, self.teller = choices, workshop, teller
         self.lexicons = list(map(lexicon_at, choices.lexicons))
-        self.dictc = dictc_beside(own)
+        self.own, self.dictc = own, dictc_beside(own)
         self.prefix = os.path.dirname(own)
         self.system = image_named(choices.name, self.prefix)
         self.place = Place(choices.image)
@@ -54,6 +55,7 @@ class UserImport:
         self.place.put(new, {}, self.workshop, self.teller)
         self.teller.report(counted)
         self.teller.report(f"image: {shown(self.place.named)}, {size} bytes, {self.teller.seconds():.0f} s")
+        test_new(self.place, self.own, self.workshop, self.teller)
 
     def compile(self, names, work, beside):
         """What dictc counted. It finds a system dictionary that is nowhere no more than this does, and says so by its name."""

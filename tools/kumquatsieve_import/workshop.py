@@ -91,11 +91,19 @@ class Workshop:
                 if path == missing[0]:
                     os.chmod(path, 0o755)
 
-    def start(self, words, folder):
-        """A process whose output and errors are read. It ignores what this one does, so that a full file is a failed write to it."""
+    def start(self, words, folder, files=()):
+        """A process whose output and errors are read, and that has these files. It ignores what this one does, so that a full file is a failed write
+        to it."""
+        pipe = subprocess.PIPE
         with self.signals.held():
             self.child = subprocess.Popen(
-                words, cwd=folder, stdin=subprocess.DEVNULL, stdout=subprocess.PIPE, stderr=subprocess.PIPE, restore_signals=False
+                words,
+                cwd=folder,
+                stdin=subprocess.DEVNULL,
+                stdout=pipe,
+                stderr=pipe,
+                restore_signals=False,
+                pass_fds=files,
             )
         return self.child
 
