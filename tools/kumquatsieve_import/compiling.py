@@ -7,7 +7,6 @@ import stat
 from typing import Callable, Iterator, Optional
 
 from .faults import FILE, MEMORY, Fault, as_bytes, naming, of_file, shown
-from .telling import SECONDS
 from .workshop import Workshop
 
 # A line of `dictc -v` that says how far it is.
@@ -20,8 +19,11 @@ NO_FILE = re.compile(r"dictc: (.*): F1 File")
 # The pipe through which dictc gives the image. This program writes the file, so it knows why a
 # write fails.
 NEW = b"image"
-# How much is read at once.
+# How much is read at once, and how much is written before it is stored: at once that could take long.
 CHUNK = 1 << 20
+STORED = 8 << 20
+# How long nothing may come from a process before something is shown, in seconds.
+WHILE = 1.0
 
 
 def program_beside(own: bytes, name: bytes) -> bytes:
@@ -52,7 +54,7 @@ def lines_of(pipe, wait, take: Callable[[], bool] = bool, others: tuple = ()) ->
             selector.register(descriptor, selectors.EVENT_READ)
         rest = b""
         while True:
-            ready = {key.fileobj for key, _ in selector.select(SECONDS)}
+            ready = {key.fileobj for key, _ in selector.select(WHILE)}
             for other in ready.intersection(others):
                 if not take():
                     selector.unregister(other)
@@ -108,6 +110,7 @@ class ImageFile:
         self.named = named
         with naming(named):
             self.file = workshop.keep(open(os.path.join(folder, NEW), "xb", buffering=0))
+        self.written = 0
         with naming(work):
             pipe = os.path.join(work, NEW)
             self.pipe = workshop.keep(open(pipe, "rb", buffering=0, opener=open_now))
@@ -121,7 +124,11 @@ class ImageFile:
         is_more = len(rest) > 0
         with naming(self.named):
             while rest:
-                rest = rest[self.file.write(rest):]
+                count = self.file.write(rest)
+                rest, self.written = rest[count:], self.written + count
+            if self.written >= STORED:
+                os.fsync(self.file)
+                self.written = 0
         return is_more
 
     def store(self) -> None:
@@ -154,15 +161,21 @@ class Compilation:
         return self.pattern.sub(lambda found: self.names[found[1]], text)
 
     def say_place(self, process):
-        """Says how far dictc is in what it reads, as in a matrix.def of gigabytes."""
+        """Says how far dictc is in what it reads, as in a matrix.def of gigabytes, or that it works."""
         for path, at in places_of(process, self.sizes) if self.teller.tells_steps else ():
             self.teller.say_progress(f"dictc reads {shown(path)}", at, self.sizes[path])
+        self.teller.tick()
 
     def watch(self, child, image, folder):
         """Tells the steps, and gives the other lines, which say a fault and why."""
         others = []
+
+        def take() -> bool:
+            self.teller.tick()
+            return image.take()
+
         wait = lambda: self.say_place(child.pid)  # noqa: E731
-        for line in lines_of(child.stderr, wait, image.take, (image.pipe,)):
+        for line in lines_of(child.stderr, wait, take, (image.pipe,)):
             text = line.decode("utf-8", "backslashreplace")
             step = STEP.fullmatch(text)
             if step:
@@ -187,6 +200,7 @@ class Compilation:
             child = workshop.start(words, folder)
         except OSError as error:
             raise Fault(FILE, f"{shown(words[0])}: {os.strerror(error.errno)}") from error
+        self.teller.begin("dictc begins")
         others = self.watch(child, image, folder)
         counted = child.stdout.read().decode().rstrip("\n")
         status = end_of(child, "dictc")

@@ -112,6 +112,7 @@ class Import:
                 self.teller.report(f"{done} beside it: {' '.join(shown(os.path.basename(path)) for path in paths)}")
         test_new(self.place, self.own, self.workshop, self.teller)
         self.teller.report(f"{self.teller.left_out_lines} lines left out")
+        self.teller.sum_up(f"{shown(self.place.named)}: {counted}, {size} bytes")
 
 
 def imported(words, own, workshop, teller):
@@ -154,15 +155,17 @@ def run(words, own):
     """Runs an import, and leaves nothing of it but the image; a signal ends it as it would without this."""
     fill_streams()
     signals = Signals()
-    workshop = Workshop(signals)
+    workshop, teller = Workshop(signals), Teller()
     signals.listen()
     try:
         try:
-            status = imported(words, own, workshop, Teller())
+            status = imported(words, own, workshop, teller)
         finally:
             workshop.clean()
+            teller.erase()
     except Ended as ended:
         workshop.clean()
+        teller.erase()
         signal.signal(ended.number, signal.SIG_DFL)
         os.kill(os.getpid(), ended.number)
     sys.exit(status)

@@ -237,6 +237,7 @@ def test_image(path: bytes, tools: Tools) -> Optional[Unrecorded]:
         opened = open(path, "rb", buffering=0)
     with opened as file:
         image = Image(path, file.fileno(), tools)
+        tools.teller.begin(f"testing {shown(path)}")
         try:
             why = tested(image)
         except Fault as fault:

@@ -56,6 +56,7 @@ class UserImport:
         self.teller.report(counted)
         self.teller.report(f"image: {shown(self.place.named)}, {size} bytes, {self.teller.seconds():.0f} s")
         test_new(self.place, self.own, self.workshop, self.teller)
+        self.teller.sum_up(f"{shown(self.place.named)}: {counted}, {size} bytes")
 
     def compile(self, names, work, beside):
         """What dictc counted. It finds a system dictionary that is nowhere no more than this does, and says so by its name."""
