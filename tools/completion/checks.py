@@ -54,6 +54,7 @@ ROWS = [
     ("kumquatsieve-import -v ipadic ", FILES),
     ("kumquatsieve-import --encoding ", ENCODINGS),
     ("kumquatsieve-import --user a --out ", FILES),
+    *((f"PREFIX/bin/kumquatsieve-import --test {words}", NAMES | FILES) for words in ("", "a-file ")),
     ("kumquatsieve-import --user a --out b ", FILES),
 ]
 

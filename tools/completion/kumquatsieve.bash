@@ -169,7 +169,9 @@ _kumquatsieve_import() {
     elif [[ $prev = --out ]]; then
         _kumquatsieve_files
     elif [[ $cur = -* ]] && ! _kumquatsieve_has --; then
-        _kumquatsieve_of "--encoding --user --out -v --verbose -h --help"
+        _kumquatsieve_of "--encoding --user --out --test -v --verbose -h --help"
+    elif _kumquatsieve_has --test; then
+        _kumquatsieve_image
     elif [[ $(_kumquatsieve_count) = 0 ]] && ! _kumquatsieve_has --user; then
         _kumquatsieve_of "ipadic juman naist unidic"
         compopt -o plusdirs

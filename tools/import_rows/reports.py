@@ -12,6 +12,30 @@ NAMES = "utf-8, euc-jp, euc-jis-2004, cp932 or iso-2022-jp"
 WANTED = f"a folder is wanted, and the image to write; {USAGE}"
 
 
+HELP = """\
+Compiles a directory of MeCab's sources, or lexicons of your own, to an image for jseg
+
+Usage: kumquatsieve-import [OPTIONS] DIR|ipadic|juman|naist|unidic [IMG]
+       kumquatsieve-import [OPTIONS] --user <DIC> --out <IMG> LEX..
+       kumquatsieve-import [-v] --test IMG..
+
+Arguments:
+  DIR                A directory of MeCab's sources
+  ipadic|..|unidic   The sources of this dictionary that a Debian package installed
+  IMG                The image to write, else it is installed by its name; the images to test
+  LEX                A lexicon of a user dictionary
+
+Options:
+  --encoding <NAME>  The encoding of the sources, else it is found from them: utf-8, euc-jp,
+                     euc-jis-2004, cp932 or iso-2022-jp
+  --user <DIC>       Compile lexicons for a system dictionary, the path or name of an image
+  --out <IMG>        The image of the lexicons
+  --test             Test images whole, and record in NAME.tested which passed
+  -v, --verbose      Print each step on standard error
+  -h, --help         Print help
+"""
+
+
 def no_option(word):
     return f"{word} is no option, or lacks its value; a name that begins with - stands after --; {USAGE}"
 
@@ -129,7 +153,8 @@ ROWS = [
     Row("an option of control characters", *refused({}, no_option(r"--\u{1b}\n"), 2, "--\x1b\n", "new.img")),
     Row("no value", *refused({}, no_option("--encoding"), 2, "dic", "--encoding")),
     Row("no encoding", *refused({}, f"--encoding latin-1 is not known; it takes {NAMES}", 2, "--encoding", "latin-1", "dic", "new.img")),
-    Row("help", {}, USAGE + "\n", words=("--help",)),
+    Row("help", {}, HELP, words=("--help",)),
+    Row("help before others", {}, HELP, words=("dic", "-h", "--test")),
 ]
 
 

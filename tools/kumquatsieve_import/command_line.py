@@ -11,6 +11,28 @@ USAGE = (
     "or kumquatsieve-import [-v] [--encoding NAME] --user DIC --out IMG [--] LEX.., "
     "or kumquatsieve-import [-v] --test [--] IMG.."
 )
+HELP = """\
+Compiles a directory of MeCab's sources, or lexicons of your own, to an image for jseg
+
+Usage: kumquatsieve-import [OPTIONS] DIR|ipadic|juman|naist|unidic [IMG]
+       kumquatsieve-import [OPTIONS] --user <DIC> --out <IMG> LEX..
+       kumquatsieve-import [-v] --test IMG..
+
+Arguments:
+  DIR                A directory of MeCab's sources
+  ipadic|..|unidic   The sources of this dictionary that a Debian package installed
+  IMG                The image to write, else it is installed by its name; the images to test
+  LEX                A lexicon of a user dictionary
+
+Options:
+  --encoding <NAME>  The encoding of the sources, else it is found from them: utf-8, euc-jp,
+                     euc-jis-2004, cp932 or iso-2022-jp
+  --user <DIC>       Compile lexicons for a system dictionary, the path or name of an image
+  --out <IMG>        The image of the lexicons
+  --test             Test images whole, and record in NAME.tested which passed
+  -v, --verbose      Print each step on standard error
+  -h, --help         Print help
+"""
 # The options with a value.
 VALUED = ("--encoding", "--user", "--out")
 # What a name is in Debian's folder.

@@ -3,7 +3,7 @@ import os
 import signal
 import sys
 
-from .command_line import NAMES, USAGE, given_words, read_words
+from .command_line import HELP, NAMES, given_words, read_words
 from .compiling import NEW, Compilation, ImageFile, dictc_beside, place_for_new
 from .converting import make_utf_8, write_converted
 from .encodings import missing_converter
@@ -122,7 +122,7 @@ def imported(words, own, workshop, teller):
         if choices.is_verbose:
             teller.ask()
         if choices.wants_help:
-            teller.report(USAGE)
+            teller.report(HELP.rstrip("\n"))
             return 0
         missing = missing_converter()
         if missing:
