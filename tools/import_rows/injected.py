@@ -22,7 +22,8 @@ from .records import text_of
 from .running import FILES, compiled, headed, in_code, lay
 
 SIGNALS = (signal.SIGHUP, signal.SIGINT, signal.SIGQUIT, signal.SIGTERM)
-MAKING = ("mkdir", "mkdirat", "mknod", "mknodat", "symlink", "symlinkat", "link", "linkat", "rename", "renameat", "renameat2", "chmod", "fchmodat", "write", "fsync")
+MAKING = ("mkdir", "mkdirat", "mknod", "mknodat", "symlink", "symlinkat", "link", "linkat")
+MAKING += ("rename", "renameat", "renameat2", "chmod", "fchmod", "fchmodat", "write", "fsync")
 OTHERS = ("unlink", "unlinkat", "rmdir", "pipe2", "vfork", "clone", "clone3", "close", "openat")
 DICRC = b"; f[0]: pos\n; f[1]: reading\n"
 SOURCES = in_code("euc_jp", a_csv="ん,1,1,5,X,ん\n".encode("euc_jp") * 2 + b"\xa4,1,1,5,X,X\n", dicrc=DICRC)
@@ -102,7 +103,9 @@ def stands(kind, work):
         return "old"
     new = {name: headed(image or b"", text) for name, text in kind.new.items()}
     is_true = record is None or record.decode() == text_of(work / "old.img")
-    return "new" if rest == new and is_image(image) and is_true else f"{sorted(found)}, {rest}, an image of {len(image or b'')} bytes"
+    if rest == new and is_image(image) and is_true:
+        return "new"
+    return f"{sorted(found)}, {rest}, an image of {len(image or b'')} bytes"
 
 
 def wrong_after(kind, status, work):

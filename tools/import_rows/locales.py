@@ -1,4 +1,4 @@
-"""Paths in UTF-8 and of any bytes in locales of other encodings: the bytes are those that were given."""
+"""Paths in UTF-8 and of any bytes in locales of other encodings: the bytes are those given."""
 import os
 import subprocess
 from typing import NamedTuple
@@ -11,6 +11,9 @@ LOCALES = (("ja_JP.EUC-JP", "ja_JP", "EUC-JP"), ("en_US.ISO-8859-1", "en_US", "I
 NAME = "日本語の辞書".encode()
 WORD = "ん,1,1,5,X\n".encode()
 NO_OPTION = "is no option, or lacks its value; a name that begins with - stands after --"
+REFUSED = b"--" + NAME + f" {NO_OPTION}; {USAGE}".encode()
+CHOICES = b" is not known; it takes utf-8, euc-jp, euc-jis-2004, cp932 or iso-2022-jp"
+PLAIN = {"LC_ALL": "C", "PYTHONUTF8": "0", "PYTHONCOERCECLOCALE": "0"}
 
 
 class Row(NamedTuple):
@@ -28,9 +31,8 @@ ROWS = [
     Row("any bytes", (NAME, b"\xff\xa4.img"), b"\xff\xa4.img"),
     Row("an option's value", ("--encoding=utf-8", NAME, b"new.img"), b"new.img"),
     Row("no folder", (NAME + b"s", b"new.img"), err=NAME + b"s is no folder", status=3),
-    Row("an option", (b"--" + NAME,), err=b"--" + NAME + f" {NO_OPTION}; {USAGE}".encode(), status=2),
-    Row("no encoding", (b"--encoding", NAME, b"dic"), status=2, err=b"--encoding " + NAME
-        + b" is not known; it takes utf-8, euc-jp, euc-jis-2004, cp932 or iso-2022-jp"),
+    Row("an option", (b"--" + NAME,), err=REFUSED, status=2),
+    Row("no encoding", (b"--encoding", NAME), err=b"--encoding " + NAME + CHOICES, status=2),
 ]
 
 
@@ -52,7 +54,7 @@ def wrong(row, programs, work):
     for locale in LOCALES:
         if (locales / locale[0]).exists() or made(locale, locales):
             yield from wrong_in({"LC_ALL": locale[0], "LOCPATH": str(locales)}, row, programs, work)
-    yield from wrong_in({"LC_ALL": "C", "PYTHONUTF8": "0", "PYTHONCOERCECLOCALE": "0"}, row, programs, work)
+    yield from wrong_in(PLAIN, row, programs, work)
 
 
 def wrong_in(place, row, programs, work):

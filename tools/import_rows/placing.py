@@ -1,4 +1,5 @@
-"""Imports that are killed while they put files in place, and two at once to one name: settings are only those of the image beside them."""
+"""Imports that are killed while they put files in place, and two at once to one name: a reader uses
+only the settings of the image beside them."""
 import fcntl
 import os
 import signal
@@ -27,6 +28,7 @@ os.replace, os.unlink = counted(os.replace), counted(os.unlink)
 del sys.argv[:3]
 runpy.run_path(sys.argv[0], run_name="__main__")
 """
+ENDINGS = ("dicrc", "pos-id.def", "fields")
 ROUNDS = 4
 # A killed import is killed before each of so many moves.
 MOVES = 6
@@ -56,9 +58,13 @@ def prepare(programs, work):
         lay(work / name, {**FILES, "own.csv": f"{name},1,1,5,X,X\n".encode(), **settings})
         subprocess.run(command(programs, name), cwd=work, capture_output=True, check=True)
         images[name] = (work / "new.img").read_bytes()
-        for ending in ("img", "dicrc", "pos-id.def", "fields", "tested"):
-            (work / f"new.{ending}").unlink(missing_ok=True)
+        remove(work)
     return images
+
+
+def remove(work):
+    for ending in ("img", "tested", *ENDINGS):
+        (work / f"new.{ending}").unlink(missing_ok=True)
 
 
 def made(images, name):
@@ -68,9 +74,9 @@ def made(images, name):
 
 
 def used(work):
-    """The image, and the settings that a reader uses with it: those with its checksum, or with none."""
+    """The image, and the settings that a reader uses: those with its checksum, or with none."""
     image = (work / "new.img").read_bytes()
-    found = {ending: work / f"new.{ending}" for ending in ("dicrc", "pos-id.def", "fields")}
+    found = {ending: work / f"new.{ending}" for ending in ENDINGS}
     texts = {ending: path.read_bytes() for ending, path in found.items() if path.exists()}
     line = headed(image, b"")
     return image, {ending: text for ending, text in texts.items()
@@ -82,7 +88,7 @@ def check_killed(programs, work, old, new):
     images = prepare(programs, work)
     for before in range(MOVES):
         (work / "new.img").write_bytes(images[old])
-        olds = made(images, old) if old != "bare" else {ending: b"old" for ending in made(images, "a")}
+        olds = made(images, old) or dict.fromkeys(ENDINGS, b"old")
         for ending, text in olds.items():
             (work / f"new.{ending}").write_bytes(text)
         words = [sys.executable, "-c", KILLED, str(before), "new.", *command(programs, new)]
@@ -90,7 +96,8 @@ def check_killed(programs, work, old, new):
         image, settings = used(work)
         wanted = olds if image == images[old] else made(images, new)
         if image not in (images[old], images[new]) or not settings.items() <= wanted.items():
-            yield f"killed before move {before}: {settings} beside the image of {old if image == images[old] else new}"
+            beside = old if image == images[old] else new
+            yield f"killed before move {before}: {settings} beside the image of {beside}"
         if ran.returncode not in (0, -signal.SIGKILL):
             yield f"killed before move {before}: status {ran.returncode}, {ran.stderr!r}"
         yield from after_it(programs, work, images, new)
@@ -101,15 +108,15 @@ def after_it(programs, work, images, name):
     subprocess.run(command(programs, name), cwd=work, capture_output=True, check=True)
     if used(work) != (images[name], made(images, name)):
         yield f"the import after it leaves {used(work)[1]}"
-    for ending in ("dicrc", "pos-id.def", "fields"):
-        (work / f"new.{ending}").unlink(missing_ok=True)
+    remove(work)
 
 
 def check_two(programs, work):
     """Runs two imports to one name at once. All that stands there in the end is of one of them."""
     images = prepare(programs, work)
     for turn in range(ROUNDS):
-        children = [subprocess.Popen(command(programs, name), cwd=work, stdout=subprocess.DEVNULL) for name in "ab"]
+        runs = [command(programs, name) for name in "ab"]
+        children = [subprocess.Popen(run, cwd=work, stdout=subprocess.DEVNULL) for run in runs]
         statuses = [child.wait() for child in children]
         image, settings = used(work)
         name = "a" if image == images["a"] else "b"
@@ -118,15 +125,16 @@ def check_two(programs, work):
 
 
 def check_waiting(programs, work):
-    """An import waits while another process holds the lock, and says so. A signal ends the waiting."""
+    """An import waits while another process holds the lock, and says so. A signal ends that."""
     images = prepare(programs, work)
     folder = os.open(work, os.O_RDONLY)
     fcntl.flock(folder, fcntl.LOCK_EX)
     for number in (None, signal.SIGTERM):
-        child = subprocess.Popen(command(programs, "a", "-v"), cwd=work, stdout=subprocess.DEVNULL, stderr=subprocess.PIPE)
-        said = next((line for line in child.stderr if b" s: waiting for another import" in line), None)
+        words, nowhere = command(programs, "a", "-v"), subprocess.DEVNULL
+        child = subprocess.Popen(words, cwd=work, stdout=nowhere, stderr=subprocess.PIPE)
+        said = next((line for line in child.stderr if b" s: waiting for another" in line), None)
         if said is None or (work / "new.img").exists():
-            yield f"says {said!r}, and {'has' if (work / 'new.img').exists() else 'has not'} put its image in place"
+            yield f"says {said!r}, or has put its image in place before"
         if number is None:
             fcntl.flock(folder, fcntl.LOCK_UN)
         else:
@@ -137,18 +145,21 @@ def check_waiting(programs, work):
         if number is None and used(work) != (images["a"], made(images, "a")):
             yield f"leaves {used(work)[1]}"
         fcntl.flock(folder, fcntl.LOCK_EX)
-        for ending in ("img", "dicrc", "pos-id.def", "fields", "tested"):
-            (work / f"new.{ending}").unlink(missing_ok=True)
+        remove(work)
     os.close(folder)
     left = sorted(path.name for path in work.iterdir())
     if left != sorted(SETTINGS):
         yield f"leaves {left}"
 
 
+def killed(old, new):
+    return lambda programs, work: check_killed(programs, work, old, new)
+
+
 ROWS = [
-    Row("killed over another import's", lambda programs, work: check_killed(programs, work, "a", "b")),
-    Row("killed over settings of an older version", lambda programs, work: check_killed(programs, work, "bare", "a")),
-    Row("killed while it removes settings", lambda programs, work: check_killed(programs, work, "a", "bare")),
+    Row("killed over another import's", killed("a", "b")),
+    Row("killed over settings of an older version", killed("bare", "a")),
+    Row("killed while it removes settings", killed("a", "bare")),
     Row("two at once", check_two),
     Row("waiting", check_waiting),
 ]

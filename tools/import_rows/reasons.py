@@ -1,4 +1,5 @@
-"""The system's reason for a file that can't be read or written is always printed, also for one that dictc reads, and nothing is left."""
+"""The system's reason for a file that can't be read or written is always printed, also for one that
+dictc reads, and nothing is left."""
 import os
 import resource
 import subprocess
@@ -20,7 +21,8 @@ MANY = "Too many open files"
 
 
 class Row(NamedTuple):
-    """A run that fails: its words, what is told, the words before it, its limits, and whether another user runs it."""
+    """A run that fails: its words, what is told, the words before it, its limits, and whether
+    another user runs it."""
 
     name: str
     words: tuple
@@ -35,23 +37,28 @@ def of_user(name, system, err, **others):
     return Row(name, words, err, **others)
 
 
+def of_many(number):
+    limits = ((resource.RLIMIT_NOFILE, number),)
+    return Row(f"{number} open files", ("dic", "new.img"), MANY, limits=limits)
+
+
 FILE_SIZE = ((resource.RLIMIT_FSIZE, 4096),)
+DENIED = "Permission denied"
 ROWS = [
     Row("a full file system", ("dic", "small/i.img"), f"small/i.img: {NO_ROOM}", FULL_TMPFS),
     Row("a full file system, and --", ("--", "dic", "small/-"), f"small/-: {NO_ROOM}", FULL_TMPFS),
     Row("a limit on files", ("dic", "new.img"), "new.img: File too large", limits=FILE_SIZE),
     of_user("a limit on files, of a user", "sys.img", "new.img: File too large", limits=FILE_SIZE),
     Row("a full device", ("dic", "/dev/full"), f"/dev/full: {NO_ROOM}"),
-    Row("no permission to write", ("dic", "closed/i.img"), "{work}/closed: Permission denied", is_other=True),
-    of_user("no permission to read", "closed/sys.img", "closed/sys.img: Permission denied", is_other=True),
+    Row("no permission to write", ("dic", "closed/i.img"), f"HERE/closed: {DENIED}", is_other=True),
+    of_user("none to read", "closed/sys.img", f"closed/sys.img: {DENIED}", is_other=True),
     of_user("a folder", "./closed", "./closed: Is a directory"),
-    *(Row(f"{number} open files", ("dic", "new.img"), MANY, limits=((resource.RLIMIT_NOFILE, number),))
-      for number in range(5, 12)),
+    *map(of_many, range(5, 12)),
 ]
 
 
 def can_run(row):
-    """Whether the machine lets this process run the words before a row's, or run as another user."""
+    """Whether this process may run the words before a row's, or as another user."""
     if row.is_other and os.geteuid() != 0:
         return False
     if not row.before:
@@ -86,20 +93,28 @@ def run(row, programs, work):
     words = [*row.before, programs / "kumquatsieve-import", *row.words]
     groups = [] if row.is_other else None
     return subprocess.run(
-        words, cwd=work, capture_output=True, text=True, preexec_fn=bound, user=user, group=user, extra_groups=groups
+        words,
+        cwd=work,
+        capture_output=True,
+        text=True,
+        preexec_fn=bound,
+        user=user,
+        group=user,
+        extra_groups=groups,
     )
 
 
 def wrong(row, programs, work):
-    """What a run does other than its row says. Python itself may need more files than it may open."""
+    """What a run does other than its row says. Python itself may need more files than that."""
     prepare(work, programs)
     if not can_run(row):
         return
     before = {path.name for path in work.iterdir()}
     ran = run(row, programs, work)
-    err = f"kumquatsieve-import: {row.err}\n".replace("{work}", str(work))
+    err = f"kumquatsieve-import: {row.err}\n".replace("HERE", str(work))
     if row.err == MANY:
-        is_told = ran.returncode == 0 or MANY in ran.stderr or not ran.stderr.startswith("kumquatsieve-import: ")
+        is_own = ran.stderr.startswith("kumquatsieve-import: ")
+        is_told = ran.returncode == 0 or MANY in ran.stderr or not is_own
     else:
         is_told = (ran.stderr, ran.returncode) == (err, 3)
     if not is_told:

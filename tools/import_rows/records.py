@@ -1,4 +1,4 @@
-"""Tests of whole images, and the records that they passed: what is printed, and what NAME.tested has."""
+"""Tests of whole images, and records that they passed: what is printed and written."""
 import hashlib
 import os
 import shutil
@@ -21,26 +21,27 @@ status=$?
 {change}
 exit $status
 """
+CHANGED = "it was changed or replaced during the tests"
 LONG = "x" * 251 + ".img"
-# File systems in a name space of their own: one with room for the image alone, and no /proc.
-FULL = """mount -t tmpfs -o size=12k tmpfs small && cp a.img small || exit 77
-exec "$@"
-"""
-NO_PROC = """mount -t tmpfs tmpfs /proc || exit 77
-exec "$@"
-"""
+HOME = "home/kumquatsieve"
 
 
 def in_space(script):
-    return ("unshare", "-m", "sh", "-c", script, "sh")
+    """Runs the program in a name space of its own after a script."""
+    return ("unshare", "-m", "sh", "-c", f'{script} || exit 77\nexec "$@"', "sh")
+
+
+# A file system with room for the image alone, and none of processes.
+FULL = in_space("mount -t tmpfs -o size=12k tmpfs small && cp a.img small")
+NO_PROC = in_space("mount -t tmpfs tmpfs /proc")
 
 
 class Row(NamedTuple):
     """A run of `kumquatsieve-import --test` over images, or of the words.
 
-    The images are files of the folder by their names. `out` and `err` are what is printed, and `recorded`
-    has the images with a record after it. `change` prepares the folder, `late` is run after the tests,
-    and `before` stands before the program.
+    The images are files of the folder by their names. `out` and `err` are what is printed, and
+    `recorded` has the images with a record after it. `change` prepares the folder, `late` is run
+    after the tests, and `before` stands before the program.
     """
 
     name: str
@@ -57,28 +58,63 @@ class Row(NamedTuple):
 
 
 def passed(name, *images, **others):
-    return Row(name, images, tuple(f"tested: {image}" for image in images), recorded=images, **others)
+    return Row(name, images, tuple(f"tested: {one}" for one in images), recorded=images, **others)
 
 
-def unrecorded(name, image, why, change=None, status=0, **others):
-    return Row(name, (image,), (f"tested, not recorded: {image}: {why}",), status=status, change=change, **others)
+def unrecorded(name, image, why, change=None, **others):
+    return Row(name, (image,), (f"tested, not recorded: {image}: {why}",), change=change, **others)
 
 
-def refused(name, image, fault, change=None, **others):
-    return Row(name, (image,), err=(f"{image}: {fault}",), status=1, change=change, **others)
+def refused(name, image, fault, change=None):
+    return Row(name, (image,), err=(f"{image}: {fault}",), status=1, change=change)
 
 
 def imported(name, said, words=("dic", "new.img"), **others):
     """An import, of which the lines on the tests are looked at."""
-    return Row(name, words=words, out=(said,) if said else (), **others)
+    return Row(name, words=words, out=said, **others)
 
 
-def damage(work):
-    """Changes a byte of a feature, which only the checksum shows."""
-    (work / "a.img").write_bytes(changed(WELL_FORMED, (len(WELL_FORMED) - 33, b"Y")))
+def moded(path, mode):
+    """Gives a file of the folder a mode, or the folder itself."""
+    return lambda work: (work / path).chmod(mode)
 
 
-WELL_FORMED = LAYOUT_3
+def written(name, data):
+    return lambda work: (work / name).write_bytes(data)
+
+
+def copied(name):
+    def copy(work):
+        (work / name).parent.mkdir(exist_ok=True)
+        shutil.copy(work / "a.img", work / name)
+
+    return copy
+
+
+def dated(work):
+    """In 2096."""
+    os.utime(work / "a.img", (4e9, 4e9))
+
+
+def open_to_all(work):
+    (work / "dir").mkdir()
+    (work / "dir").chmod(0o777)
+
+
+def damaged(work):
+    """The image of another feature under the same checksum, and a record of what it was."""
+    (work / "a.img").write_bytes(changed(LAYOUT_3, (len(LAYOUT_3) - 33, b"Y")))
+    (work / "a.tested").write_text("old")
+
+
+BY_ALL = f"{OTHERS} it (chmod go-w)"
+IN_FOLDER = f"{OTHERS} in its folder (chmod go-w)"
+NO_FD = "/proc/self/fd: No such file or directory"
+NONE = "none: No such file or directory"
+BAD_ID = "L6 BadToken 0"
+BAD_1, BAD_3 = changed(LAYOUT_1, (120, b"\2")), with_digest(changed(LAYOUT_2, (914, b"\2")))
+OLD = written("new.tested", b"old")
+OF_USER = ("--user", "a.img", "--out", "new.img", "dic/lexicon.csv")
 ROWS = [
     # what passes
     passed("a system image", "a.img"),
@@ -86,77 +122,77 @@ ROWS = [
     passed("an image without the ending", "plain"),
     passed("three", "a.img", "user.img", "plain"),
     passed("twice", "a.img", "a.img"),
-    passed("an old record", "a.img", change=lambda work: (work / "a.tested").write_text("old")),
-    passed("a path", "dir/a.img", change=lambda work: lay(work / "dir", {"a.img": (work / "a.img").read_bytes()})),
-    Row("a bare name", ("mine",), ("tested: HOME/mine.img",), recorded=("home/kumquatsieve/mine.img",)),
+    passed("an old record", "a.img", change=written("a.tested", b"old")),
+    passed("a path", "dir/a.img", change=copied("dir/a.img")),
+    Row("a bare name", ("mine",), ("tested: HOME/mine.img",), recorded=(f"{HOME}/mine.img",)),
     # what has no record
     unrecorded("a link", "link.img", "it is a link to a.img"),
-    unrecorded("all may write it", "a.img", f"{OTHERS} it (chmod go-w)", lambda work: (work / "a.img").chmod(0o666)),
-    unrecorded("its group may write it", "a.img", f"{OTHERS} it (chmod go-w)", lambda work: (work / "a.img").chmod(0o664)),
-    unrecorded("all may write its folder", "a.img", f"{OTHERS} in its folder (chmod go-w)", lambda work: work.chmod(0o777)),
+    unrecorded("all may write it", "a.img", BY_ALL, moded("a.img", 0o666)),
+    unrecorded("its group may write it", "a.img", BY_ALL, moded("a.img", 0o664)),
+    unrecorded("all may write its folder", "a.img", IN_FOLDER, moded(".", 0o777)),
     unrecorded("layout 1", "1.img", "its layout 1 has no checksum"),
     unrecorded("layout 2", "2.img", "its layout 2 has no checksum"),
-    unrecorded("the future", "a.img", "its time of change lies in the future",
-               lambda work: os.utime(work / "a.img", (4e9, 4e9))),
-    unrecorded("a long name", LONG, "File name too long", lambda work: shutil.copy(work / "a.img", work / LONG)),
+    unrecorded("the future", "a.img", "its time of change lies in the future", dated),
+    unrecorded("a long name", LONG, "File name too long", copied(LONG)),
     unrecorded("another user's", "a.img", "Permission denied", is_other=True),
-    unrecorded("no room", "small/a.img", "No space left on device", status=3, before=in_space(FULL)),
-    unrecorded("written meanwhile", "a.img", "it was changed or replaced during the tests", late="touch a.img"),
-    unrecorded("replaced meanwhile", "a.img", "it was changed or replaced during the tests",
-               late="cp a.img b.img; mv b.img a.img"),
+    unrecorded("no room", "small/a.img", "No space left on device", status=3, before=FULL),
+    unrecorded("written meanwhile", "a.img", CHANGED, late="touch a.img"),
+    unrecorded("replaced meanwhile", "a.img", CHANGED, late="cp a.img b.img; mv b.img a.img"),
     # what fails a test
-    refused("a changed byte", "a.img", "L8 Digest", damage),
-    refused("an old record of a changed byte", "a.img", "L8 Digest",
-            lambda work: (damage(work), (work / "a.tested").write_text("old"))),
-    refused("layout 1, an id", "1.img", "L6 BadToken 0",
-            lambda work: (work / "1.img").write_bytes(changed(LAYOUT_1, (120, b"\2")))),
-    refused("layout 3, an id", "user.img", "L6 BadToken 0",
-            lambda work: (work / "user.img").write_bytes(with_digest(changed(LAYOUT_2, (914, b"\2"))))),
+    refused("a changed byte", "a.img", "L8 Digest", damaged),
+    refused("layout 1, an id", "1.img", BAD_ID, written("1.img", BAD_1)),
+    refused("layout 3, an id", "user.img", BAD_ID, written("user.img", BAD_3)),
     refused("no image", "text", "L1 Truncated"),
     refused("a device", "/dev/null", "L1 Truncated"),
-    Row("two fail", ("text", "none", "a.img"), ("tested: a.img",), ("text: L1 Truncated", "none: No such file or directory"),
-        1, ("a.img",)),
+    Row("two fail", ("text", "none", "a.img"), ("tested: a.img",), ("text: L1 Truncated", NONE), 1,
+        ("a.img",)),
     Row("a folder", ("dic",), err=("dic: Is a directory",), status=3),
-    Row("no /proc", err=("/proc/self/fd: No such file or directory",), status=3, before=in_space(NO_PROC)),
+    Row("no /proc", err=(NO_FD,), status=3, before=NO_PROC),
     Row("no images", (), err=(WANTED,), status=2),
     Row("another option", ("a.img", "--encoding", "utf-8"), err=(WANTED,), status=2),
     # imports
-    imported("an import", "tested: new.img", recorded=("new.img",)),
-    imported("an import over an old record", "tested: new.img", recorded=("new.img",),
-             change=lambda work: (work / "new.tested").write_text("old")),
-    imported("an import by a link", "tested: link.img", words=("dic", "link.img"), recorded=("a.img",)),
-    imported("a user's import", "tested: new.img", words=("--user", "a.img", "--out", "new.img", "dic/lexicon.csv"),
-             recorded=("new.img",)),
-    imported("an import to a device", "", words=("dic", "/dev/null")),
-    imported("an import to a folder that all may write", "", words=("dic", "dir/new.img"),
-             change=lambda work: ((work / "dir").mkdir(), (work / "dir").chmod(0o777)))._replace(
-        out=(f"tested, not recorded: dir/new.img: {OTHERS} in its folder (chmod go-w)",)),
-    imported("an import without /proc", "not tested: new.img: /proc/self/fd: No such file or directory",
-             before=in_space(NO_PROC)),
+    imported("an import", ("tested: new.img",), recorded=("new.img",)),
+    imported("over an old record", ("tested: new.img",), recorded=("new.img",), change=OLD),
+    imported("by a link", ("tested: link.img",), ("dic", "link.img"), recorded=("a.img",)),
+    imported("a user's import", ("tested: new.img",), OF_USER, recorded=("new.img",)),
+    imported("to a device", (), ("dic", "/dev/null")),
+    imported("to an open folder", (f"tested, not recorded: dir/new.img: {IN_FOLDER}",),
+             ("dic", "dir/new.img"), change=open_to_all),
+    imported("without /proc", (f"not tested: new.img: {NO_FD}",), before=NO_PROC),
 ]
+
+
+def seconds(nanoseconds):
+    return f"{nanoseconds // 10**9}.{nanoseconds % 10**9:09d}"
 
 
 def text_of(path):
     """The record that a file should have, by the words of the documents."""
-    of, whole = os.stat(path), path.read_bytes()
-    nanoseconds = 10**9
-    times = [f"{name} {at // nanoseconds}.{at % nanoseconds:09d}" for name, at in (("mtime", of.st_mtime_ns), ("ctime", of.st_ctime_ns))]
-    numbers = [f"device {os.major(of.st_dev)}:{os.minor(of.st_dev)}", f"inode {of.st_ino}", f"size {of.st_size}"]
-    digest = hashlib.sha256(whole).hexdigest()
-    return "\n".join(["kumquatsieve-tested 1", *numbers, *times, f"sha256 {digest}", ""])
+    of = os.stat(path)
+    return "\n".join([
+        "kumquatsieve-tested 1",
+        f"device {os.major(of.st_dev)}:{os.minor(of.st_dev)}",
+        f"inode {of.st_ino}",
+        f"size {of.st_size}",
+        f"mtime {seconds(of.st_mtime_ns)}",
+        f"ctime {seconds(of.st_ctime_ns)}",
+        f"sha256 {hashlib.sha256(path.read_bytes()).hexdigest()}",
+        "",
+    ])
 
 
 def prepare(row, programs, work):
     image = compiled(programs, work / "system", FILES, ["lexicon.csv"])
     shutil.rmtree(work / "system")
     lay(work / "dic", FILES)
-    files = {"a.img": image, "plain": image, "user.img": LAYOUT_3, "1.img": LAYOUT_1, "2.img": LAYOUT_2, "text": b"text"}
+    files = {"a.img": image, "plain": image, "text": b"text"}
+    files.update({"1.img": LAYOUT_1, "2.img": LAYOUT_2, "user.img": LAYOUT_3})
     for name, data in files.items():
         (work / name).write_bytes(data)
     (work / "link.img").symlink_to("a.img")
     (work / "small").mkdir()
-    (work / "home" / "kumquatsieve").mkdir(parents=True)
-    shutil.copy(work / "a.img", work / "home" / "kumquatsieve" / "mine.img")
+    (work / HOME).mkdir(parents=True)
+    shutil.copy(work / "a.img", work / HOME / "mine.img")
     if row.change:
         row.change(work)
     work.parent.chmod(0o755)
@@ -185,8 +221,17 @@ def wrong(row, programs, work):
     place = {**os.environ, "XDG_DATA_HOME": str(work / "home"), "JSEG": str(programs / "jseg")}
     words = [*row.before, program(row, programs, work), *(row.words or ("--test", *row.images))]
     user = NOBODY if row.is_other else None
-    ran = subprocess.run(words, cwd=work, env=place, capture_output=True, text=True, user=user, group=user,
-                         extra_groups=[] if row.is_other else None)
+    groups = [] if row.is_other else None
+    ran = subprocess.run(
+        words,
+        cwd=work,
+        env=place,
+        capture_output=True,
+        text=True,
+        user=user,
+        group=user,
+        extra_groups=groups,
+    )
     yield from differs(row, ran, work)
     records = {path: path.read_text() for path in work.rglob("*.tested")}
     wanted = {record_path(work / image): text_of(work / image) for image in row.recorded}
@@ -202,7 +247,7 @@ def wrong(row, programs, work):
 
 def differs(row, ran, work):
     out = tuple(line for line in ran.stdout.splitlines() if "tested" in line.split(":")[0])
-    wanted = tuple(line.replace("HOME", str(work / "home" / "kumquatsieve")) for line in row.out)
     err = tuple(line.removeprefix("kumquatsieve-import: ") for line in ran.stderr.splitlines())
-    if (out, err, ran.returncode) != (wanted, row.err, row.status):
-        yield f"prints {out} and tells {err} with status {ran.returncode}, not {wanted} and {row.err} with {row.status}"
+    wanted = tuple(line.replace("HOME", str(work / HOME)) for line in row.out), row.err, row.status
+    if (out, err, ran.returncode) != wanted:
+        yield f"prints {out}, tells {err} and ends with {ran.returncode}, not {wanted}"

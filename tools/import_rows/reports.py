@@ -56,15 +56,26 @@ NO_DICRC = "fields: not named: there is no dicrc"
 OTHER_DICRC = "fields: not named: dicrc is that of no dictionary whose fields are known"
 
 
-def imported(encoding="UTF-8", entries=3, others="", left_out=(), skipped=0, kept="", removed="", image="new.img", fields=NO_DICRC,
-             tested="tested: {image}\n"):
+def imported(
+    encoding="UTF-8",
+    entries=3,
+    others="",
+    left_out=(),
+    skipped=0,
+    kept="",
+    removed="",
+    image="new.img",
+    fields=NO_DICRC,
+    tested="tested: {image}\n",
+):
     """What is printed of an import."""
     beside = [*([f"kept beside it: {kept}"] if kept else []), *([f"removed beside it: {removed}"] if removed else [])]
     unread = [f"not read: {others}"] if others else []
     named = [fields] if fields else []
     lines = ["sources: dic", f"encoding: {encoding}", *unread, *(f"left out: dic/{one}" for one in left_out), *named]
     end = [f"{entries} entries, {skipped} skipped", f"image: {image}, 0 bytes, 0 s", *beside]
-    return "\n".join([*lines, *end, f"{tested.format(image=image)}{len(left_out)} lines left out", ""])
+    last = f"{tested.format(image=image)}{len(left_out)} lines left out"
+    return "\n".join([*lines, *end, last, ""])
 
 
 def refused(files, err, status, *words):
@@ -87,9 +98,10 @@ BEGUN = "sources: dic\nencoding: UTF-8\n"
 NO_NUMBERS = "もも,,,,名詞,ユーザ\n\"a,b\",1,1,,記号\nん,1,1,5,助詞\n\nす,1, ,5,X\n".encode()
 EMPTY = "its ids or its cost are empty"
 NUMBERS_LEFT_OUT = [f"user.csv:{line}: {EMPTY}" for line in (1, 2, 5)]
+NOTHING = b',,,,X\n "" ,,,,X\n'
 QUOTED_COMMAS = b' "a,,c",1,1,5,X\n\t"a"",,",1,1,5,X\n"a"b,1,1,5,X\na,"1" x, 1,5,X\n'
 QUOTED_EMPTY = b'"a,b" ,1,1,,X\n "a","",1,5,X\na,"1",1," "x,X\n'
-QUOTED_LEFT_OUT = [f"user.csv:{line}: {EMPTY}" for line in (1, 2, 3)]
+QUOTED_LEFT = [f"user.csv:{line}: {EMPTY}" for line in (1, 2, 3)]
 BAD_LINES = b"\x80\xff,1,1,5,X\n" + FILES["lexicon.csv"]
 SETTINGS = {"dicrc": b"bos-feature = X\n", "pos-id.def": "名詞 1\n".encode()}
 MISNUMBERED = b"a,,,,X\n\n\xff\na,1,1,5,X\nb,1,1,x,X\n" + "ん,1,1,5,X\n".encode() * 4
@@ -97,6 +109,8 @@ MISNUMBERED_LEFT_OUT = f"left out: dic/user.csv:1: {EMPTY}\nleft out: dic/user.c
 NO_CONVERTER = "this Python has no converter of euc_jp: it lacks a part of its library (Debian: apt install python3)"
 LONG = "x" * 251 + ".img"
 TOO_LONG = "whose name beside the image would be too long"
+UNKEPT = f"not kept: dicrc, {TOO_LONG}\nnot kept: fields, {TOO_LONG}"
+UNRECORDED = "tested, not recorded: {image}: File name too long\n"
 ONLY_FOLDER = "so it is no folder of sources"
 ROWS = [
     Row("UTF-8", FILES, imported()),
@@ -109,21 +123,22 @@ ROWS = [
     Row("settings", {**FILES, **SETTINGS}, imported(kept="new.dicrc new.pos-id.def", fields=OTHER_DICRC)),
     Row("no numbers", {**FILES, "user.csv": NO_NUMBERS}, imported(entries=4, left_out=NUMBERS_LEFT_OUT)),
     Row("a bad line", {**FILES, "lexicon.csv": BAD_LINES}, imported(left_out=["lexicon.csv:1: it is not UTF-8"])),
-    # What MeCab's csv rule takes for a field: blanks before quotes are skipped, and what follows the quotes is dropped.
-    Row("no numbers between quotes", {**FILES, "user.csv": QUOTED_COMMAS}, imported(entries=7)),
-    Row("no numbers after quotes", {**FILES, "user.csv": QUOTED_EMPTY}, imported(left_out=QUOTED_LEFT_OUT)),
+    # What MeCab's csv rule takes for a field: blanks before quotes are skipped, and what follows
+    # the quotes is dropped.
+    Row("empty between quotes", {**FILES, "user.csv": QUOTED_COMMAS}, imported(entries=7)),
+    Row("empty after quotes", {**FILES, "user.csv": QUOTED_EMPTY}, imported(left_out=QUOTED_LEFT)),
     Row("an empty surface", {**FILES, "user.csv": b",1,1,5,X\n"}, imported(skipped=1)),
-    Row("an empty surface and no numbers", {**FILES, "user.csv": b',,,,X\n "" ,,,,X\n'}, imported(skipped=2)),
+    Row("an empty surface and numbers", {**FILES, "user.csv": NOTHING}, imported(skipped=2)),
     Row("a hidden lexicon", {**FILES, ".csv": "ん,1,1,5,X\n".encode()}, imported(entries=4)),
     Row("a name of any bytes", {**FILES, b"\xff\n.csv": "ん,1,1,5,X\n".encode()}, imported(entries=4)),
     Row("other names of any bytes", {**FILES, b"\xff\x1b": b""}, imported(others=r"\xff\u{1b}")),
     Row("no line feed", {**FILES, "user.csv": "ん,1,1,5,X".encode()}, imported(entries=4)),
     Row("a fault's line", {**FILES, "user.csv": MISNUMBERED}, f"{BEGUN}{MISNUMBERED_LEFT_OUT}{NO_DICRC}\n", "dic/user.csv:5: S3 BadNumber", 1),
     Row("an image of any bytes", FILES, imported(image=r"\xff.img"), words=("dic", b"\xff.img")),
-    Row("a device", FILES, imported(image="/dev/null", fields="", tested=""), words=("dic", "/dev/null")),
-    Row("a long name", {**FILES, "dicrc": b"\n"}, imported(image=LONG, fields=f"not kept: dicrc, {TOO_LONG}\nnot kept: fields, {TOO_LONG}",
-                 tested="tested, not recorded: {image}: File name too long\n"),
-        words=("dic", LONG)),
+    Row("a device", FILES, imported(image="/dev/null", fields="", tested=""),
+        words=("dic", "/dev/null")),
+    Row("a long name", {**FILES, "dicrc": b"\n"},
+        imported(image=LONG, fields=UNKEPT, tested=UNRECORDED), words=("dic", LONG)),
     Row("old settings", {**FILES, "dicrc": b"\n"},
         imported(kept="old.dicrc", removed="old.pos-id.def old.fields", image="old.img", fields=OTHER_DICRC), words=("dic", "old.img")),
     Row("fields are a folder", *refused(FILES, "{work}/held.fields: it is a folder", 3, "dic", "held.img")),
@@ -136,9 +151,9 @@ ROWS = [
     Row("a link to nothing", *refused(link_to_nothing("x.csv"), "dic/x.csv: it is a link to nothing, which is not there", 3)),
     Row("an image's folder", *refused(FILES, "{work}/none: No such file or directory", 3, "dic", "none/new.img")),
     Row("the image is a folder", *refused(FILES, "dic: it is a folder", 3, "dic", "dic")),
-    Row("the image is a folder with a slash", *refused(FILES, "dic/: it is a folder", 3, "dic", "dic/")),
+    Row("a slash after a folder", *refused(FILES, "dic/: it is a folder", 3, "dic", "dic/")),
     Row("a slash after the image", *refused(FILES, "new/ is no file name", 3, "dic", "new/")),
-    Row("a slash after an old image", *refused(FILES, "hard.img/ is no file name", 3, "dic", "hard.img/")),
+    Row("a slash after a file", *refused(FILES, "a.img/ is no file name", 3, "dic", "a.img/")),
     Row("a dot after the image", *refused(FILES, "new/. is no file name", 3, "dic", "new/.")),
     Row("no image", *refused(FILES, "give the image to write: kumquatsieve-import ./dic IMG", 2, "./dic")),
     Row("the image is a source", *refused(FILES, "dic/unk.def is a file of the folder that is read: dic/unk.def", 2, "dic", "dic/unk.def")),
@@ -173,6 +188,7 @@ def wrong(row, programs, work):
     if "unk.def" in row.files:
         (work / "link.img").symlink_to("dic/unk.def")
         os.link(work / "dic" / "unk.def", work / "hard.img")
+        (work / "a.img").write_bytes(b"")
     for name in ("old.dicrc", "old.pos-id.def", "old.fields"):
         (work / name).write_text("old")
     (work / "held.fields").mkdir()

@@ -1,4 +1,5 @@
-"""What stands on a terminal while an import runs: one line that goes on each second, and at the end the report, or a line that sums it up."""
+"""What stands on a terminal while an import runs: one line that goes on each second, and at the end
+the report, or a line that sums it up."""
 import fcntl
 import os
 import pty
@@ -36,7 +37,7 @@ SUM = ("kumquatsieve-import: 0 s: new.img: 3 entries, 0 skipped, 0 bytes",)
 
 
 class Row(NamedTuple):
-    """A run with standard error on a terminal, and what stands there at the end, seconds and sizes as 0."""
+    """A run with standard error on a terminal, and what stands there at the end, numbers as 0."""
 
     name: str
     words: tuple
@@ -53,7 +54,8 @@ ROWS = [
 
 
 def screen(text):
-    """The lines that stand on a terminal after it was written this, which has no other control characters than these."""
+    """The lines that stand on a terminal after it was written this, which has no other control
+    characters than these."""
     lines = [""]
     for part in re.findall(r"\x1b\[K|\r\n|\r|\n|[^\r\n\x1b]+", text):
         if part == "\r":
@@ -89,7 +91,8 @@ def read_more(terminal):
 
 
 def watched(row, child, terminal, pipe):
-    """All that the terminal was written. dictc goes on after the line was there with three numbers of seconds."""
+    """All that the terminal was written. dictc goes on after the line was there with three numbers
+    of seconds."""
     written, released = b"", not row.has_line
     if released:
         pipe.write_text("go\n")

@@ -64,7 +64,7 @@ ROWS = [
     refused("the image is the system's", ONE, "link.img is a file that is read: sys.img", 2, "--user", "sys.img", "--out", "link.img"),
     refused("the system's by its name", ONE, "sys.img is a file that is read: HOME/kumquatsieve/here.img", 2, "--user", "here", "--out", "sys.img"),
     refused("the image is a folder", ONE, "folder: it is a folder", 3, "--user", "sys.img", "--out", "folder"),
-    refused("a slash after the image", ONE, "new/ is no file name", 3, "--user", "sys.img", "--out", "new/"),
+    refused("a slash", ONE, "new/ is no file name", 3, "--user", "sys.img", "--out", "new/"),
     refused("no file", {}, "none.csv: No such file or directory", 3, words=("none.csv",)),
     refused("no image", ONE, "text: L2 BadMagic", 1, "--user", "text", "--out", "new.img"),
     refused("no image of a name of any bytes", ONE, "an argument is not UTF-8", 2, "--user", b"none\xff.img", "--out", "new.img"),
@@ -106,7 +106,8 @@ def wrong(row, programs, work):
     if row.status or "new.img" not in left:
         return
     out = re.sub(r"\d+ (bytes|s)\b", r"0 \1", ran.stdout)
-    if out != f"encoding: {row.encoding}\n{len(row.utf_8)} entries, 0 skipped\nimage: new.img, 0 bytes, 0 s\ntested: new.img\n":
+    counted = f"encoding: {row.encoding}\n{len(row.utf_8)} entries, 0 skipped\n"
+    if out != f"{counted}image: new.img, 0 bytes, 0 s\ntested: new.img\n":
         yield f"prints {ran.stdout!r}"
     if (work / "new.img").read_bytes() != image_of(programs, work, row.utf_8):
         yield "makes another image than dictc of the lexicons in UTF-8"

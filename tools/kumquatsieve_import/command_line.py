@@ -60,7 +60,7 @@ def usage_fault(why):
 
 
 def word_bytes(words: List[str]) -> List[bytes]:
-    """The bytes of the last words of this process, of which Python made these words by the locale."""
+    """The bytes of the last words of this process, of which Python made these words."""
     try:
         with open("/proc/self/cmdline", "rb") as file:
             found = file.read().split(b"\0")[:-1]
@@ -78,8 +78,8 @@ def word_bytes(words: List[str]) -> List[bytes]:
 def given_words(words: List[str]) -> List[str]:
     """The words of the command line as UTF-8, in which each other byte is a surrogate.
 
-    Python decodes them by the locale. In ja_JP.EUC-JP, for one, it can't encode again what it made of
-    a path in UTF-8.
+    Python decodes them by the locale. In ja_JP.EUC-JP, for one, it can't encode again what it made
+    of a path in UTF-8.
     """
     if sys.getfilesystemencoding() == "utf-8":
         return words
@@ -126,7 +126,8 @@ def read_words(words):
 def choices_of_user(dictionary, image, lexicons, encoding, is_verbose):
     if not dictionary or not image or not lexicons or b"" in lexicons:
         raise usage_fault("a user's dictionary wants --user, --out and a lexicon")
-    return Choices(as_bytes(dictionary), as_bytes(image), encoding, is_verbose, False, tuple(lexicons))
+    name, image = as_bytes(dictionary), as_bytes(image)
+    return Choices(name, image, encoding, is_verbose, False, tuple(lexicons))
 
 
 def choices_of_test(images, given, is_verbose):

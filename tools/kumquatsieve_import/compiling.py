@@ -19,7 +19,8 @@ NO_FILE = re.compile(r"dictc: (.*): F1 File")
 # The pipe through which dictc gives the image. This program writes the file, so it knows why a
 # write fails.
 NEW = b"image"
-# How much is read at once, and how much is written before it is stored: at once that could take long.
+# How much is read at once, and how much is written before it is stored: all at once it could take
+# long.
 CHUNK = 1 << 20
 STORED = 8 << 20
 # How long nothing may come from a process before something is shown, in seconds.
@@ -85,7 +86,7 @@ def places_of(process, paths):
 
 
 def fault_of_reading(path: bytes) -> Optional[OSError]:
-    """The error of reading a file or folder to its end; None where there is none or it is not there."""
+    """The error of reading a file or folder to its end; None where there is none, or no file."""
     if not os.path.lexists(path):
         return None
     try:
@@ -161,7 +162,7 @@ class Compilation:
         return self.pattern.sub(lambda found: self.names[found[1]], text)
 
     def say_place(self, process):
-        """Says how far dictc is in what it reads, as in a matrix.def of gigabytes, or that it works."""
+        """Says how far dictc is in what it reads, as in a large matrix.def, or that it works."""
         for path, at in places_of(process, self.sizes) if self.teller.tells_steps else ():
             self.teller.say_progress(f"dictc reads {shown(path)}", at, self.sizes[path])
         self.teller.tick()
@@ -187,7 +188,7 @@ class Compilation:
         return others
 
     def check_read(self, text: str, folder: bytes) -> None:
-        """Raises the system's error in place of dictc's, where a read of that file fails here too."""
+        """Raises the system's error in place of dictc's, if a read of that file fails here too."""
         found = NO_FILE.fullmatch(text)
         if found and found[1] in self.names:
             error = fault_of_reading(os.path.join(folder, as_bytes(found[1])))

@@ -6,8 +6,8 @@ from .encodings import UTF_8
 from .faults import naming, shown
 
 MARK = b"\xef\xbb\xbf"
-# A field of a line with the comma after it, as MeCab and dictc find it: blanks before it are skipped,
-# and of a field in quotes what follows the quotes is dropped.
+# A field of a line with the comma after it, as MeCab and dictc find it: blanks before it are
+# skipped, and of a field in quotes what follows the quotes is dropped.
 FIELD = rb'[ \t]*(?:"(?:[^"\n]|"")*"(?!")[^,\n]*|(?![ \t"])[^,\n]*),'
 # A line whose surface is empty is not one of these: dictc skips and counts it.
 SURFACE = rb'[ \t]*(?:"(?:[^"\n]|"")+"(?!")[^,\n]*|(?![ \t",])[^,\n]+),'

@@ -15,7 +15,7 @@ from .telling import Teller
 from .workshop import Workshop
 
 ENDING = b".img"
-# The beginning of the first line of a settings file, and how many bytes of checksum an image ends with.
+# The beginning of the first line of a settings file, and how many bytes of checksum end an image.
 CHECKSUM_LINE = b"; image-sha256 "
 CHECKSUM = 32
 # The ending of the record that an image passed its tests.
@@ -89,11 +89,11 @@ class Place:
         workshop: Workshop,
         teller: Teller,
     ) -> List[bytes]:
-        """Gives the new image and the new settings their names, and returns the old settings that were
-        removed. `settings` has a path or None for each name of a settings file.
+        """Gives the new image and the new settings their names, and returns the old settings that
+        were removed. `settings` has a path or None for each name of a settings file.
 
-        The image comes last: settings without a checksum, as an older version wrote them, are gone by
-        then, so that they are never those of the new image.
+        The image comes last: settings without a checksum, as an older version wrote them, are gone
+        by then, so that they are never those of the new image.
         """
         if self.is_device():
             with naming(self.image), open(new, "rb") as file, open(self.image, "wb", buffering=0) as device:
@@ -143,8 +143,9 @@ def is_same(path, other):
 
 
 def replace_all(moves, last, folder):
-    """Each new file takes the place of the old one with its mode, and an old one without a new one goes. Where one fails all are undone. The old
-    file of the last move gets no second name, which would change its ctime: after that move nothing can fail."""
+    """Each new file takes the place of the old one with its mode, and an old one without a new one
+    goes. Where one fails all are undone. The old file of the last move gets no second name, which
+    would change its ctime: after that move nothing can fail."""
     done = []
     try:
         for number, (new, target) in enumerate(moves):

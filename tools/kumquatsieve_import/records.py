@@ -1,7 +1,7 @@
 """Tests of whole images, and the record of one that passed them: NAME.tested beside NAME.img.
 
-The record names one file by its device, inode, size and times. The C library loads that file without
-the tests. Whatever writes to the file later gives it another ctime, and so the record is stale.
+The record names one file by its device, inode, size and times. The C library loads that file
+without the tests. Whatever writes to the file later gives it another ctime, so the record is stale.
 """
 import errno
 import hashlib
@@ -132,7 +132,8 @@ class Image:
     def __init__(self, path: bytes, file: int, tools: Tools):
         self.path, self.file, self.tools = path, file, tools
         self.before = os.fstat(file)
-        self.folder, self.name = Folder(os.path.dirname(path) or b".", tools), os.path.basename(path)
+        self.folder = Folder(os.path.dirname(path) or b".", tools)
+        self.name = os.path.basename(path)
 
     def obstacle(self) -> Optional[str]:
         """Why no record may be written of such an image. Otherwise opens the folder."""
@@ -151,7 +152,7 @@ class Image:
         return None
 
     def wait_for_clock(self) -> Optional[str]:
-        """Waits until a write to the image would give it a later ctime. Returns why that can't be had.
+        """Waits until a write to the image would give it a later ctime. Returns why that fails.
 
         A file system may keep times in whole seconds; then two of them have to pass.
         """
@@ -179,7 +180,7 @@ class Image:
         return found.hexdigest()
 
     def check(self, is_hashed: bool) -> str:
-        """Makes all tests, by a run of jseg that loads this very file, and returns the file's SHA-256.
+        """Makes all tests, by a run of jseg that loads this very file, and returns its SHA-256.
 
         jseg reports O1 for the image of a user dictionary after it passed all tests of its own.
         """
@@ -194,8 +195,8 @@ class Image:
         status, last = end_of(child, "jseg"), said[-1] if said else ""
         if status and not OF_USER.fullmatch(last):
             found = SAID.fullmatch(last)
-            text = found[1].replace(name, shown(self.path), 1) if found else f"jseg: status {status}"
-            raise Fault(status, text)
+            text = found[1] if found else f"jseg: status {status}"
+            raise Fault(status, text.replace(name, shown(self.path), 1))
         return digest
 
     def is_as_before(self, there: os.stat_result) -> bool:
@@ -211,8 +212,8 @@ class Image:
         return None
 
     def remove_record(self) -> None:
-        """Removes the record of an image that gets none now. Where another import has put its image in
-        place meanwhile the record is that import's. Who may not remove a record may not write it."""
+        """Removes the record of an image that gets none now. Where another import has put its image
+        in place meanwhile the record is that import's. Who may not remove one may not write one."""
         try:
             with locked(self.folder.path, self.tools.teller):
                 if self.is_as_before(os.lstat(self.path)):
@@ -231,8 +232,8 @@ def attempted(step: Callable[[], Optional[str]]) -> Optional[Unrecorded]:
 
 
 def test_image(path: bytes, tools: Tools) -> Optional[Unrecorded]:
-    """Makes all tests of the image at a path, and records that it passed them. Returns why there is no
-    record. A failed test is a fault. An old record goes where no new one is written."""
+    """Makes all tests of the image at a path, and records that it passed them. Returns why there is
+    no record. A failed test is a fault. An old record goes where no new one is written."""
     with naming(path):
         opened = open(path, "rb", buffering=0)
     with opened as file:

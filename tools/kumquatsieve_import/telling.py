@@ -1,7 +1,8 @@
-"""What an import prints: its report on standard output, how far it is and its fault on standard error.
+"""What an import prints: its report on standard output, how far it is and its fault on standard
+error.
 
-With -v each step is a line. On a terminal without -v one line is written anew for each step, and the
-seconds in it go on; it is erased before anything else is printed and at the end.
+With -v each step is a line. On a terminal without -v one line is written anew for each step, and
+the seconds in it go on; it is erased before anything else is printed and at the end.
 """
 import os
 import time
@@ -79,7 +80,8 @@ class Teller:
             self.say(f"{self.seconds():.2f} s: {text}")
 
     def say_progress(self, step, done, whole):
-        """As often as SECONDS says, and with `-v` at a step's end; on a terminal's line as often as PAUSE says."""
+        """As often as SECONDS says, and with `-v` at a step's end; on a terminal's line as often as
+        PAUSE says."""
         text = f"{step}: {done} of {whole} bytes"
         if self.has_line:
             if self.is_due():
@@ -139,7 +141,8 @@ def columns() -> int:
 
 
 def fitting(text: str, width: int) -> str:
-    """The beginning of a text that a line of the terminal has room for. Kana and kanji take two columns."""
+    """The beginning of a text that a line of the terminal has room for. Kana and kanji take two
+    columns."""
     for at, character in enumerate(text):
         width -= 2 if unicodedata.east_asian_width(character) in "WF" else 1
         if width < 1:

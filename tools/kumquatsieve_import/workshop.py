@@ -92,8 +92,8 @@ class Workshop:
                     os.chmod(path, 0o755)
 
     def start(self, words, folder, files=()):
-        """A process whose output and errors are read, and that has these files. It ignores what this one does, so that a full file is a failed write
-        to it."""
+        """A process whose output and errors are read, and that has these files. It ignores what
+        this one does, so that a full file is a failed write to it."""
         pipe = subprocess.PIPE
         with self.signals.held():
             self.child = subprocess.Popen(
