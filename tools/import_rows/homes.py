@@ -25,6 +25,7 @@ class Row(NamedTuple):
     said: str = ""
     err: str = ""
     is_there: bool = True
+    umask: int = 0o077
 
 
 DATA, HOME = {"XDG_DATA_HOME": "HERE/data"}, {"HOME": "HERE/home"}
@@ -34,6 +35,7 @@ ROWS = [
     Row("the system's, of who has no home", {}, True, SYSTEM, ALL),
     Row("the user's data", {**DATA, **HOME}, False, "HERE/data/kumquatsieve", OWN),
     Row("the user's home", HOME, False, "HERE/home/.local/share/kumquatsieve", OWN),
+    Row("the user's data, of a group", DATA, False, "HERE/data/kumquatsieve", OWN, umask=0o002),
     Row("relative data", {"XDG_DATA_HOME": "data", **HOME}, False, "HERE/home/.local/share/kumquatsieve", OWN),
     Row("no home", {"HOME": "home"}, False, "", err=f"{SYSTEM}: Permission denied"),
 ]
@@ -49,7 +51,16 @@ def run(programs, work, row, words, text=""):
     place = {"PATH": os.environ["PATH"], **{name: in_place(value, programs, work) for name, value in row.variables.items()}}
     groups = None if user is None else []
     return subprocess.run(
-        words, cwd=work, env=place, input=text, capture_output=True, text=True, user=user, group=user, extra_groups=groups, umask=0o077
+        words,
+        cwd=work,
+        env=place,
+        input=text,
+        capture_output=True,
+        text=True,
+        user=user,
+        group=user,
+        extra_groups=groups,
+        umask=row.umask,
     )
 
 
@@ -84,8 +95,10 @@ def differs(row, programs, work, ran):
         yield f"prints {ran.stdout!r} and tells {ran.stderr!r} with status {ran.returncode}, not that it is in {home}"
         return
     modes = [stat.S_IMODE(os.stat(path).st_mode) for path in (home, f"{home}/dic.img")]
-    if modes != [0o755, 0o644 if row.is_open else 0o600]:
+    if modes != [0o755, 0o644 if row.is_open or row.umask == 0o002 else 0o600]:
         yield f"makes {home} and its image with modes {' and '.join(f'{mode:o}' for mode in modes)}"
+    if f"tested: {home}/dic.img\n" not in ran.stdout or not os.path.exists(f"{home}/dic.tested"):
+        yield f"prints {ran.stdout!r}, and leaves {os.listdir(home)}"
     cut = run(programs, work, row, [programs / "jseg", "-d", "dic", "-O", "wakati"], (SAMPLE / "text.txt").read_text())
     if cut.stdout != WORDS:
         yield f"jseg -d dic prints {cut.stdout!r} and tells {cut.stderr!r}"

@@ -34,6 +34,11 @@ def let_all_read(image, prefix):
         os.umask(0o022)
 
 
+def let_none_write() -> None:
+    """What is named by its dictionary alone, only this user may write: else it gets no record."""
+    os.umask(os.umask(0o077) | 0o022)
+
+
 def image_named(name, prefix):
     """The image that an option of the programs names: a bare name that no file has is looked for in the homes. None where it is nowhere."""
     if b"/" in name or is_file(name):

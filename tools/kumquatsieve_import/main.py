@@ -10,7 +10,7 @@ from .encodings import missing_converter
 from .faults import FILE, MEMORY, Ended, Fault, shown
 from .fields import FIELDS, find_names, write_names
 from .finding import find_encoding
-from .homes import home_for, let_all_read
+from .homes import home_for, let_all_read, let_none_write
 from .placing import TESTED, Place
 from .records import test_all, test_new
 from .sources import DICRC, SETTINGS, Source, debian_folder, encoding_told, read_folder
@@ -35,6 +35,7 @@ class Import:
     def run(self):
         let_all_read(self.place.image, self.prefix)
         if self.home is not None:
+            let_none_write()
             self.workshop.make_parents(self.home.path)
         beside = self.workshop.new_folder(None if self.place.is_device() else self.place.folder)
         work = self.workshop.new_folder()
@@ -124,11 +125,11 @@ def imported(words, own, workshop, teller):
         if choices.wants_help:
             teller.report(HELP.rstrip("\n"))
             return 0
+        if choices.images:
+            return test_all(choices.images, own, workshop, teller)
         missing = missing_converter()
         if missing:
             raise Fault(FILE, f"this Python has no converter of {missing}: it lacks a part of its library (Debian: apt install python3)")
-        if choices.images:
-            return test_all(choices.images, own, workshop, teller)
         (UserImport if choices.lexicons else Import)(choices, own, workshop, teller).run()
         return 0
     except Fault as fault:

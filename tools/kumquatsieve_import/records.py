@@ -188,10 +188,11 @@ class Image:
         name = f"/proc/self/fd/{self.file}"
         with naming(os.path.dirname(name).encode()):
             os.stat(name)
-        child = workshop.start([self.tools.jseg, b"-d", name.encode()], b"/", (self.file,))
+        with naming(self.tools.jseg):
+            child = workshop.start([self.tools.jseg, b"-d", name.encode()], b"/", (self.file,))
         with naming(self.path):
             digest = self.digest() if is_hashed else ""
-        said = [line.decode("utf-8", "replace") for line in lines_of(child.stderr, teller.tick)]
+            said = [line.decode("utf-8", "replace") for line in lines_of(child.stderr, teller.tick)]
         status, last = end_of(child, "jseg"), said[-1] if said else ""
         if status and not OF_USER.fullmatch(last):
             found = SAID.fullmatch(last)

@@ -95,6 +95,7 @@ class Workshop:
         """A process whose output and errors are read, and that has these files. It ignores what
         this one does, so that a full file is a failed write to it."""
         pipe = subprocess.PIPE
+        self.stop()
         with self.signals.held():
             self.child = subprocess.Popen(
                 words,
@@ -107,12 +108,16 @@ class Workshop:
             )
         return self.child
 
-    def clean(self):
-        """May be called again where a signal cut it short."""
-        self.signals.hold()
+    def stop(self) -> None:
+        """Ends the process, if it is still there."""
         if self.child is not None and self.child.poll() is None:
             self.child.kill()
             self.child.wait()
+
+    def clean(self):
+        """May be called again where a signal cut it short."""
+        self.signals.hold()
+        self.stop()
         for file in self.files:
             file.close()
         for folder in self.folders:
