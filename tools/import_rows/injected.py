@@ -205,6 +205,20 @@ def wrong_by_output(name, target, kind, programs, folder):
         yield f"leaves {stands(kind, work)}"
 
 
+def wrong_without_error(kind, programs, folder):
+    """Standard input and error are closed: no file that is made gets their numbers."""
+    work = folder / "without-error"
+    prepare(kind, work)
+    closing = lambda: (os.close(0), os.close(2))  # noqa: E731
+    nowhere = subprocess.DEVNULL
+    words = command(kind, programs)
+    ran = subprocess.run(
+        words, cwd=work, env=environment(work), stdout=nowhere, stderr=nowhere, preexec_fn=closing
+    )
+    if ran.returncode != 0 or stands(kind, work) != "new":
+        yield f"ends with status {ran.returncode}, and leaves {stands(kind, work)}"
+
+
 def wrong_by_memory(megabytes, kind, programs, folder):
     """No more memory than this: Python, the import or dictc is refused it, or the image is made."""
     work = folder / f"memory-{megabytes}"

@@ -92,7 +92,9 @@ def check_killed(programs, work, old, new):
         for ending, text in olds.items():
             (work / f"new.{ending}").write_bytes(text)
         words = [sys.executable, "-c", KILLED, str(before), "new.", *command(programs, new)]
-        ran = subprocess.run(words, cwd=work, capture_output=True)
+        # A killed import leaves its folder for temporary files.
+        place = {**os.environ, "TMPDIR": str(work.parent)}
+        ran = subprocess.run(words, cwd=work, env=place, capture_output=True)
         image, settings = used(work)
         wanted = olds if image == images[old] else made(images, new)
         if image not in (images[old], images[new]) or not settings.items() <= wanted.items():

@@ -32,7 +32,7 @@ def in_space(script):
 
 
 # A file system with room for the image alone, and none of processes.
-FULL = in_space("mount -t tmpfs -o size=12k tmpfs small && cp a.img small")
+FULL = in_space("mount -t tmpfs -o size=12k,mode=755 tmpfs small && cp a.img small")
 NO_PROC = in_space("mount -t tmpfs tmpfs /proc")
 
 

@@ -82,15 +82,14 @@ class Teller:
     def say_progress(self, step, done, whole):
         """As often as SECONDS says, and with `-v` at a step's end; on a terminal's line as often as
         PAUSE says."""
-        text = f"{step}: {done} of {whole} bytes"
         if self.has_line:
             if self.is_due():
-                self.show(text)
+                self.show(f"{done * 100 // whole} %: {step}" if whole else step)
             return
         is_due = self.seconds() - self.last >= SECONDS or (self.is_asked and done >= whole)
         if self.tells_steps and is_due:
             self.last = self.seconds()
-            self.say_step(text)
+            self.say_step(f"{step}: {done} of {whole} bytes")
 
     def tick(self) -> None:
         """Lets the seconds go on in the terminal's line, while something else works."""
