@@ -4,7 +4,6 @@ The record names one file by its device, inode, size and times. The C library lo
 without the tests. Whatever writes to the file later gives it another ctime, so the record is stale.
 """
 import errno
-import hashlib
 import os
 import re
 import stat
@@ -33,7 +32,7 @@ EXPECTED = (errno.EACCES, errno.EPERM, errno.EROFS, errno.ENAMETOOLONG)
 SECOND = 1_000_000_000
 # How far behind the image's times the clock may be, in nanoseconds, for it to be waited for.
 PATIENCE = 5 * SECOND
-PAUSE = 0.005
+PAUSE = 0.02
 CHUNK = 1 << 20
 CHANGED = "it was changed or replaced during the tests"
 
@@ -158,6 +157,8 @@ class Image:
         """
         latest = max(self.before.st_mtime_ns, self.before.st_ctime_ns)
         while True:
+            # Long enough that the system's clock for times of files goes on.
+            time.sleep(PAUSE)
             now = self.folder.time()
             wanted = latest + (2 * SECOND if now % SECOND == 0 else 1)
             if now >= wanted:
@@ -165,13 +166,15 @@ class Image:
             if wanted - now > PATIENCE:
                 return "its time of change lies in the future"
             self.tools.teller.tick()
-            time.sleep(PAUSE)
 
     def unrecordable(self) -> Optional[str]:
         return self.obstacle() or self.wait_for_clock()
 
     def digest(self) -> str:
         """The SHA-256 of the whole file."""
+        # It takes megabytes, which an import needs before that.
+        import hashlib
+
         done, found, step = 0, hashlib.sha256(), f"testing {shown(self.path)}"
         while chunk := os.pread(self.file, CHUNK, done):
             found.update(chunk)

@@ -6,7 +6,6 @@ the seconds in it go on; it is erased before anything else is printed and at the
 """
 import os
 import time
-import unicodedata
 
 from .faults import of_file, shown
 
@@ -142,6 +141,9 @@ def columns() -> int:
 def fitting(text: str, width: int) -> str:
     """The beginning of a text that a line of the terminal has room for. Kana and kanji take two
     columns."""
+    # Only a terminal needs the table of widths.
+    import unicodedata
+
     for at, character in enumerate(text):
         width -= 2 if unicodedata.east_asian_width(character) in "WF" else 1
         if width < 1:
