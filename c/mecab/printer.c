@@ -3,15 +3,14 @@
 #include <stdlib.h>
 #include <string.h>
 
-enum { FIELD_MAX = 64, NUMBER_MAX = 64 };
+enum { NUMBER_MAX = 64 };
 
-/* A node that is printed, and the fields of its feature once they were asked for. */
+/* A node that is printed, and the fields of its feature once a format needs them. */
 typedef struct printing {
     const mecab_lattice_t *lattice;
     const mecab_node_t *node;
     bytes *to;
-    char *copy;
-    const char *fields[FIELD_MAX];
+    const char **fields;
     size_t field_count;
 } printing;
 
@@ -36,15 +35,25 @@ static bool put_field(printing *of, size_t number, char separator, bool *is_firs
     return (!follows || put(of, &separator, 1, error)) && put(of, field, strlen(field), error);
 }
 
+/* Finds all fields of the node's feature, which has at most one more of them than commas. They lie
+   in a copy of the feature, which follows the list in the same block. */
+static bool find_fields(printing *of, fault *error) {
+    const char *feature = feature_of(of->node);
+    size_t size = strlen(feature) + 1, most = 1;
+    for (size_t i = 0; i < size; i++) most += feature[i] == ',';
+    of->fields = malloc(most * sizeof *of->fields + size);
+    if (!of->fields) return fail_memory(error);
+    char *copy = (char *)(of->fields + most);
+    memcpy(copy, feature, size);
+    of->field_count = cut_fields(copy, of->fields, most);
+    return true;
+}
+
 /* Fields that begin with `*` are left out, and so is the separator behind one. (MeCab) Those that are missing are left out too. */
 static bool put_fields(printing *of, const item **at, const item *end, fault *error) {
     char separator = (*at)->separator;
     bool is_first = true;
-    if (!of->copy) {
-        of->copy = strdup(feature_of(of->node));
-        if (!of->copy) return fail_memory(error);
-        of->field_count = cut_fields(of->copy, of->fields, FIELD_MAX);
-    }
+    if (!of->fields && !find_fields(of, error)) return false;
     for (++*at; *at < end && (*at)->kind == FIELD; ++*at) {
         if (!put_field(of, (*at)->number, separator, &is_first, error)) return false;
     }
@@ -115,7 +124,7 @@ bool print_node(const items *format, const mecab_lattice_t *lattice, const mecab
         else if (is_number(at->kind)) is_put = put_number(&of, number_in(&of, at->kind), error);
         else is_put = put_text_item(&of, format, at, error);
     }
-    free(of.copy);
+    free(of.fields);
     return is_put;
 }
 
