@@ -77,7 +77,8 @@ struct mecab_t {
    format of its model, or the default one where it has none, and the nodes of the whole lattice: those that are not on the path are `others`. The
    cutter is over the tables of the tagger that parsed it last; `chosen` is the number of the cutter's format, 0 where none was chosen. A sentence is
    odd where it was not cut as it is, placed where the nodes of the lattice stand at their places, chained where all of them are linked in place of
-   the path, and told where its best path was given as the first of several. */
+   the path, and told where its best path was given as the first of several. It has a long word if
+   one was found that no node has room for. */
 struct mecab_lattice_t {
     mecab_model_t *model;
     tables *tables;
@@ -106,6 +107,7 @@ struct mecab_lattice_t {
     bytes listed;
     bool is_cut;
     bool is_odd;
+    bool has_long_word;
     bool is_printed;
     bool is_placed;
     bool is_chained;
@@ -196,6 +198,8 @@ typedef struct part {
 } part;
 
 /* nodes.c */
+void add_cost(part *of);
+bool fit_in_node(kumquatsieve_word *word);
 bool add_nodes(mecab_lattice_t *lattice, part *of, fault *error);
 bool make_nodes(mecab_lattice_t *lattice, fault *error);
 bool make_others(mecab_lattice_t *lattice, fault *error);

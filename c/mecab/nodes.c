@@ -27,6 +27,11 @@ static bool has_room(mecab_lattice_t *lattice, size_t count, fault *error) {
     return wanted <= lattice->nodes_room || grow_nodes(lattice, wanted, error);
 }
 
+/* Adds the cost of a part to that of the parts before it. A part that is only blanks adds none. */
+void add_cost(part *of) {
+    if (of->word_count > 0) of->cost += (long)of->total;
+}
+
 /* A word's places are those of the text that was cut; here they become those of the sentence, and the costs those from its beginning on. A word
    begins where the one before ended. */
 static void move_words(kumquatsieve_word *words, size_t count, part *of) {
@@ -36,15 +41,22 @@ static void move_words(kumquatsieve_word *words, size_t count, part *of) {
         words[i].end = of->place = given_at(of->text, of->at + words[i].end);
         words[i].total += of->cost;
     }
-    of->cost += (long)of->total;
+    add_cost(of);
 }
 
-/* MeCab's nodes have 16 bits for a length. */
-static bool are_short(const kumquatsieve_word *words, size_t count) {
-    for (size_t i = 0; i < count; i++) {
-        if (words[i].end - words[i].place > UINT16_MAX) return false;
-    }
+/* Makes a word fit in MeCab's nodes, which have 16 bits for its length with its blanks: of more
+   blanks the word keeps the last ones. False if the surface alone is longer, as one in surrogate
+   pairs may be. */
+bool fit_in_node(kumquatsieve_word *word) {
+    if (word->end - word->start > UINT16_MAX) return false;
+    if (word->end - word->place > UINT16_MAX) word->place = word->end - UINT16_MAX;
     return true;
+}
+
+static bool fit_all(kumquatsieve_word *words, size_t count) {
+    size_t fitting = 0;
+    while (fitting < count && fit_in_node(&words[fitting])) fitting++;
+    return fitting == count;
 }
 
 /* Sets a node of a word, which has no neighbors then. False, and nothing is set, where the word's token has no node yet, or is past those of its
@@ -101,8 +113,9 @@ bool add_nodes(mecab_lattice_t *lattice, part *of, fault *error) {
     uint32_t code = kumquatsieve_words(&lattice->cutter, 0, lattice->words, count, &count);
     if (code != KUMQUATSIEVE_OK) return fail_code(error, "words", code);
     if (of->text) move_words(lattice->words, count, of);
-    if (lattice->size > UINT16_MAX && !are_short(lattice->words, count)) {
-        return fail(error, "a word with its blanks has more than %d bytes", UINT16_MAX);
+    if (lattice->size > UINT16_MAX && !fit_all(lattice->words, count)) {
+        lattice->has_long_word = true;
+        return false;
     }
     if (!set_all(lattice, &lattice->nodes[lattice->count], count, error)) return false;
     lattice->count += count;
@@ -138,12 +151,18 @@ static void link_nodes(mecab_lattice_t *lattice) {
     }
 }
 
-/* The nodes of a sentence that was cut. */
+static bool add_words(mecab_lattice_t *lattice, long *cost, fault *error) {
+    lattice->count = 1;
+    return lattice->is_odd ? add_odd(lattice, cost, error) : add_whole(lattice, cost, error);
+}
+
+/* Makes the nodes of a sentence that was cut. If a word of an odd one is too long for a node, the
+   sentence is cut anew, in parts that have no such word. */
 bool make_nodes(mecab_lattice_t *lattice, fault *error) {
     long cost = 0;
     if (lattice->count > 0) return true;
-    lattice->count = 1;
-    bool is_added = lattice->is_odd ? add_odd(lattice, &cost, error) : add_whole(lattice, &cost, error);
+    bool is_added = add_words(lattice, &cost, error);
+    if (!is_added && lattice->has_long_word) is_added = add_words(lattice, &cost, error);
     if (!is_added) {
         lattice->count = 0;
         return false;
@@ -166,7 +185,6 @@ static bool has_others_room(mecab_lattice_t *lattice, fault *error) {
 
 static bool make_other(mecab_lattice_t *lattice, mecab_node_t *node, const kumquatsieve_word *word, fault *error) {
     const tokens *of = lattice->tables->tokens;
-    if (!are_short(word, 1)) return fail(error, "a word with its blanks has more than %d bytes", UINT16_MAX);
     while (!set_node(of, node, word, lattice->sentence)) {
         if (!keep_token(of, &lattice->cutter, word, error)) return false;
     }

@@ -2,8 +2,9 @@
 #include "layer.h"
 #include <string.h>
 
-/* A sentence of the library has at most so many bytes. */
-enum { PART_MAX = 1048576 };
+/* How many bytes a part has at most: what the library takes, and what has no word of more than
+   65,535 given bytes. A pair of surrogates in six bytes is cut as a character of four. */
+enum { PART_MAX = 1048576, SHORT_PART_MAX = UINT16_MAX / 6 * 4 };
 
 /* What is taken of each part, once it was cut. */
 typedef bool take(mecab_lattice_t *lattice, part *of, fault *error);
@@ -16,8 +17,9 @@ static bool cut_part(mecab_lattice_t *lattice, part *of, size_t length, take *fr
 
 static bool cut_parts(mecab_lattice_t *lattice, part *of, take *from, fault *error) {
     const bytes *text = &of->text->text;
+    size_t most = lattice->has_long_word ? SHORT_PART_MAX : PART_MAX;
     while (of->at < text->length) {
-        size_t length = part_of(text->at + of->at, text->length - of->at, PART_MAX);
+        size_t length = part_of(text->at + of->at, text->length - of->at, most);
         if (!cut_part(lattice, of, length, from, error)) return false;
         of->at += length;
     }
@@ -36,7 +38,7 @@ bool add_odd(mecab_lattice_t *lattice, long *cost, fault *error) {
     is_cut = is_cut && cut_parts(lattice, &one, add_nodes, error);
     lattice->bad_bytes = text.bad;
     if (is_cut && text.bad > 0) fail(error, "%zu bytes that are not UTF-8 were cut as U+FFFD", text.bad);
-    *cost = one.cost;
+    *cost = lattice->count > 1 ? one.cost : (long)one.total;
     free_repaired(&text);
     return is_cut;
 }

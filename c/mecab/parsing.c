@@ -30,7 +30,8 @@ static bool is_had(const mecab_lattice_t *lattice, bool nodes, fault *error) {
 
 void forget_path(mecab_lattice_t *lattice) {
     lattice->count = lattice->word_count = lattice->bad_bytes = 0;
-    lattice->is_cut = lattice->is_odd = lattice->is_printed = lattice->is_placed = lattice->is_chained = lattice->is_told = false;
+    lattice->is_cut = lattice->is_odd = lattice->has_long_word = lattice->is_printed = false;
+    lattice->is_placed = lattice->is_chained = lattice->is_told = false;
 }
 
 bool parse(mecab_model_t *model, mecab_lattice_t *lattice, bool nodes, fault *error) {

@@ -37,14 +37,24 @@ static void move_found(kumquatsieve_node *found, size_t count, part *of) {
         word->total += of->cost;
         if (found[i].on_best) of->place = word->end;
     }
-    of->cost += (long)of->total;
+    add_cost(of);
+}
+
+/* Keeps the words that fit in nodes. Those of the path do, since their nodes were made before. */
+static size_t keep_fitting(kumquatsieve_node *found, size_t count) {
+    size_t kept = 0;
+    for (size_t i = 0; i < count; i++) {
+        if (fit_in_node(&found[i].word)) found[kept++] = found[i];
+    }
+    return kept;
 }
 
 bool add_found(mecab_lattice_t *lattice, part *of, fault *error) {
     size_t count = 0;
     if (!write_found(lattice, of->word_count + 1, &count, error)) return false;
-    if (of->text) move_found(lattice->found + lattice->found_count, count, of);
-    lattice->found_count += count;
+    kumquatsieve_node *found = lattice->found + lattice->found_count;
+    if (of->text) move_found(found, count, of);
+    lattice->found_count += lattice->size > UINT16_MAX ? keep_fitting(found, count) : count;
     return true;
 }
 
