@@ -77,7 +77,8 @@ static int read_option(settings *to, int i, int count, char *const *words, fault
     return set(to, name, words[i + 1], error) ? 2 : 0;
 }
 
-/* The first word is the program's name. Options may stand behind other words, and after `--` nothing is one. (MeCab) */
+/* The first word is the program's name. Options may follow other words, and what follows `--` is
+   ignored. (MeCab) */
 bool read_options(settings *to, int count, char *const *words, fault *error) {
     int i = 1;
     to->others = malloc((size_t)(count > 0 ? count : 1) * sizeof *to->others);
@@ -89,7 +90,6 @@ bool read_options(settings *to, int count, char *const *words, fault *error) {
         if (!is_option) to->others[to->other_count++] = words[i];
         i += taken;
     }
-    for (i++; i < count; i++) to->others[to->other_count++] = words[i];
     return true;
 }
 
