@@ -36,7 +36,9 @@ static images *open_all(char *image, const char *users, fault *error) {
 static bool read_grouping(tables *to, const char *text, fault *error) {
     char *end = NULL;
     unsigned long grouping = text ? strtoul(text, &end, 10) : GROUPING;
-    if (text && (end == text || *end || grouping > UINT32_MAX)) return fail(error, "max-grouping-size %s: no number", text);
+    if (text && (end == text || !is_only_blanks(end) || grouping > UINT32_MAX)) {
+        return fail(error, "max-grouping-size %s: no number", text);
+    }
     to->grouping = grouping > 0 ? (uint32_t)grouping : GROUPING;
     return true;
 }

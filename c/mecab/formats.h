@@ -56,6 +56,7 @@ typedef struct settings {
 const char *setting_of(const settings *of, const char *name);
 long number_of(const settings *of, const char *name, long otherwise);
 bool is_set(const settings *of, const char *name);
+bool is_only_blanks(const char *text);
 bool set(settings *to, const char *name, const char *value, fault *error);
 bool read_settings(settings *to, const char *path, fault *error);
 void free_settings(settings *of);

@@ -11,12 +11,12 @@ static bool are_had(const settings *from, fault *error) {
     return number_of(from, "nbest", 1) <= 1 || fail_left_out(error, "N-best");
 }
 
-/* Where the whole text is a number, that one, and else 0. (MeCab) */
+/* Returns the number that the text is, also with blanks around it; 0 for another text. (MeCab) */
 static double theta_of(const settings *from) {
     const char *text = setting_of(from, "theta");
     char *end = NULL;
     double theta = text ? strtod(text, &end) : THETA;
-    return text && (end == text || *end) ? 0 : theta;
+    return text && (end == text || !is_only_blanks(end)) ? 0 : theta;
 }
 
 /* What taggers ask of their own sentences. (MeCab) */

@@ -1,6 +1,7 @@
 /* Settings by their names: what a caller's options and MeCab's files of settings say. */
 #include "formats.h"
 #include <errno.h>
+#include <limits.h>
 #include <stdlib.h>
 #include <string.h>
 
@@ -22,13 +23,24 @@ const char *setting_of(const settings *of, const char *name) {
     return found ? found->value : NULL;
 }
 
-/* Where the whole text is a number, that one, and else 0. (MeCab) */
+static bool is_blank(char byte) {
+    return byte == ' ' || (byte >= '\t' && byte <= '\r');
+}
+
+bool is_only_blanks(const char *text) {
+    while (is_blank(*text)) text++;
+    return *text == '\0';
+}
+
+/* Returns the number that the text is, also with blanks around it, such as a carriage return; 0 for
+   another text, and for a number that is no int. (MeCab) */
 long number_of(const settings *of, const char *name, long otherwise) {
     const char *text = setting_of(of, name);
     char *end = NULL;
     if (!text) return otherwise;
     long number = strtol(text, &end, 10);
-    return end != text && *end == '\0' ? number : 0;
+    bool is_int = number >= INT_MIN && number <= INT_MAX;
+    return end != text && is_int && is_only_blanks(end) ? number : 0;
 }
 
 bool is_set(const settings *of, const char *name) {
@@ -67,10 +79,6 @@ static bool is_in_files(const char *name, size_t length) {
         if (strncmp(NOT_IN_FILES[i], name, length) == 0 && NOT_IN_FILES[i][length] == '\0') return false;
     }
     return true;
-}
-
-static bool is_blank(char byte) {
-    return byte == ' ' || (byte >= '\t' && byte <= '\r');
 }
 
 /* A name, `=` and a value. Empty lines say nothing, nor does what begins with `;` or `#`. (MeCab) */

@@ -12,6 +12,7 @@ from mecab_clients.common import CLIENTS, INDEX, IPADIC, PYTHON, TOP, compiled, 
 from mecab_clients.dictionaries import over_dictionaries
 from mecab_clients.examples import printed_by_examples
 from mecab_clients.own_formats import printed_in_own_formats
+from mecab_clients.rc_lines import printed_by_lines_of_settings
 from mecab_clients.unidic import printed_over_unidic
 
 JAR = Path("/usr/share/java/MeCab-0.996.jar")
@@ -140,6 +141,7 @@ def clients():
         ("mecab with all morphs", INDEX.exists() and IPADIC.exists() and works("mecab", "--version"), printed_with_all_morphs),
         *over_dictionaries(),
         ("mecab with options and formats", works("mecab", "--version"), printed_by_options),
+        ("lines of a mecabrc", INDEX.exists() and IPADIC.exists(), printed_by_lines_of_settings),
         ("formats of a dicrc of no dictionary", works("mecab", "--version"), printed_in_own_formats),
         ("UniDic's formats", INDEX.exists() and works("mecab", "--version"), printed_over_unidic),
         ("C and C++ as in MeCab's documents", True, printed_by_examples),
