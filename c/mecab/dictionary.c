@@ -68,7 +68,8 @@ static void free_tables(tables *of) {
 static bool fill_tables(tables *to, char *path, const settings *from, fault *error) {
     const char *bos = setting_of(from, "bos-feature"), *unk = setting_of(from, "unk-feature");
     if (!read_grouping(to, setting_of(from, "max-grouping-size"), error)) return false;
-    if (!copy_feature(&to->bos_feature, bos && *bos ? bos : BOS_FEATURE, error)) return false;
+    if (bos && !*bos) return fail(error, "bos-feature is undefined in dicrc");
+    if (!copy_feature(&to->bos_feature, bos ? bos : BOS_FEATURE, error)) return false;
     if (unk && *unk && !copy_feature(&to->unk_feature, unk, error)) return false;
     to->boundary = (mecab_node_t){.feature = to->bos_feature, .isbest = 1};
     to->images = open_all(path, setting_of(from, "userdic"), error);
