@@ -7,9 +7,14 @@
 #include <sys/stat.h>
 
 /* Whether there is something at a path, and no directory. */
-static bool is_file(const char *path) {
+static bool is_there(const char *path) {
     struct stat found;
     return stat(path, &found) == 0 && !S_ISDIR(found.st_mode);
+}
+
+bool is_regular_file(const char *path) {
+    struct stat found;
+    return stat(path, &found) == 0 && S_ISREG(found.st_mode);
 }
 
 /* A text and another one behind it, NULL for want of memory. */
@@ -69,7 +74,7 @@ bool find_in_homes(const char *name, const char *prefix, char **path) {
     *path = NULL;
     for (size_t i = 0; has_memory && !*path && i < of.count; i++) {
         has_memory = asprintf(path, "%s/%s.img", of.folders[i], name) >= 0;
-        if (has_memory && is_file(*path)) continue;
+        if (has_memory && is_regular_file(*path)) continue;
         if (has_memory) free(*path);
         *path = NULL;
     }
@@ -78,7 +83,7 @@ bool find_in_homes(const char *name, const char *prefix, char **path) {
 }
 
 bool is_looked_for(const char *name) {
-    return *name && !strchr(name, '/') && !is_file(name);
+    return *name && !strchr(name, '/') && !is_there(name);
 }
 
 char *image_path(const char *name, const char *prefix) {

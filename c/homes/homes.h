@@ -21,6 +21,10 @@ void free_homes(homes *of);
 /* The folder of what is made on the system, which the caller frees; NULL for want of memory. */
 char *run_time_home(const char *prefix);
 
+/* Whether a path leads to a regular file, as each image in a home is. A pipe would let its reader
+   wait. */
+bool is_regular_file(const char *path);
+
 /* The path of an image in the first home that has it, which the caller frees, and NULL where none has it; false for want of memory. */
 bool find_in_homes(const char *name, const char *prefix, char **path);
 
@@ -30,5 +34,17 @@ bool is_looked_for(const char *name);
 /* The path of an image that is named, which the caller frees: where the name is looked for and no home has it, the name itself. NULL for want of
    memory. */
 char *image_path(const char *name, const char *prefix);
+
+/* Names of images, in byte order, each once. */
+typedef struct image_names {
+    char **all;
+    size_t count;
+    size_t room;
+} image_names;
+
+/* Finds the names that the images in the folders have. A folder that can't be read has none. The
+   names are to be freed; false if memory runs out, and then there are none. (names.c) */
+bool find_image_names(const homes *of, image_names *found);
+void free_image_names(image_names *of);
 
 #endif

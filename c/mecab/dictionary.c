@@ -7,26 +7,29 @@ static const char BOS_FEATURE[] = "BOS/EOS";
 
 enum { GROUPING = 24 };
 
-/* The paths of the system's image and of the users', whose list has commas; those of the users are to be freed. 0 for want of memory. */
-static size_t find_paths(char **paths, char *image, char *users) {
-    size_t count = 0;
-    char *rest = NULL;
-    paths[count++] = image;
-    for (char *name = strtok_r(users, ",", &rest); name; name = strtok_r(NULL, ",", &rest)) {
-        paths[count] = find_user_image(name);
-        if (!paths[count++]) return 0;
-    }
-    return count;
+/* Opens the system's image and the users', whose names are fields as those of a feature. (MeCab) */
+static images *open_named(char **paths, const char **names, size_t count, fault *error) {
+    size_t found = 0;
+    images *opened = NULL;
+    while (found < count && (paths[1 + found] = find_user_image(names[found], error))) found++;
+    if (found == count) opened = open_images(paths, 1 + count, error);
+    for (size_t i = 0; i < found; i++) free(paths[1 + i]);
+    return opened;
 }
 
 static images *open_all(char *image, const char *users, fault *error) {
     char *list = strdup(users ? users : "");
-    char **paths = list ? calloc(strlen(list) + 2, sizeof *paths) : NULL;
-    size_t count = paths ? find_paths(paths, image, list) : 0;
+    size_t most = list ? strlen(list) + 1 : 1;
+    char **paths = calloc(most + 1, sizeof *paths);
+    const char **names = calloc(most, sizeof *names);
     images *opened = NULL;
-    if (count > 0) opened = open_images(paths, count, error);
-    else fail_memory(error);
-    for (size_t i = 1; paths && paths[i]; i++) free(paths[i]);
+    if (list && paths && names) {
+        paths[0] = image;
+        opened = open_named(paths, names, cut_fields(list, names, most), error);
+    } else {
+        fail_memory(error);
+    }
+    free(names);
     free(paths);
     free(list);
     return opened;

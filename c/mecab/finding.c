@@ -27,11 +27,6 @@ static bool is_folder(const char *path) {
     return stat(path, &of) == 0 && S_ISDIR(of.st_mode);
 }
 
-static bool is_file(const char *path) {
-    struct stat of;
-    return stat(path, &of) == 0 && S_ISREG(of.st_mode);
-}
-
 /* A folder's file, NULL where there is no memory. */
 static char *in_folder(const char *folder, const char *name) {
     size_t length = strlen(folder) + strlen(name) + 2;
@@ -42,7 +37,7 @@ static char *in_folder(const char *folder, const char *name) {
 
 static bool is_in_folder(const char *folder, const char *name) {
     char *path = in_folder(folder, name);
-    bool is_there = path && is_file(path);
+    bool is_there = path && is_regular_file(path);
     free(path);
     return is_there;
 }
@@ -96,10 +91,26 @@ static char *imported(const char *folder, fault *error) {
     return image;
 }
 
+/* The path of a file, or of the image of a bare name in a home. NULL if no image has the name, or
+   memory runs out. */
+static char *path_of(const char *name, fault *error) {
+    char *path = NULL;
+    if (!is_looked_for(name)) {
+        path = strdup(name);
+        if (!path) fail_memory(error);
+    } else if (!find_in_homes(name, PREFIX, &path)) {
+        fail_memory(error);
+    } else if (!path) {
+        fail_missing(error, name, PREFIX);
+    }
+    return path;
+}
+
 /* The image that is named: a file, or that of a folder, or one in a home by its name. */
 static char *image_of(const char *name, fault *error) {
-    if (is_folder(name) && !is_in_folder(name, IMAGE) && is_of_mecab(name)) return imported(name, error);
-    char *path = is_folder(name) ? in_folder(name, IMAGE) : image_path(name, PREFIX);
+    if (!is_folder(name)) return path_of(name, error);
+    if (!is_in_folder(name, IMAGE) && is_of_mecab(name)) return imported(name, error);
+    char *path = in_folder(name, IMAGE);
     if (!path) fail_memory(error);
     return path;
 }
@@ -209,7 +220,7 @@ char *find_image(settings *to, fault *error) {
     return NULL;
 }
 
-/* The path of a user's image, NULL for want of memory. */
-char *find_user_image(const char *name) {
-    return image_path(name, PREFIX);
+/* The path of a user's image; NULL if no image has the name, or memory runs out. */
+char *find_user_image(const char *name, fault *error) {
+    return path_of(name, error);
 }

@@ -7,7 +7,7 @@
 #include <stdint.h>
 #include <stdio.h>
 
-enum { ERROR_MAX = 512 };
+enum { ERROR_MAX = 2048 };
 
 /* What went wrong last, as mecab_strerror answers it. */
 typedef struct fault {

@@ -128,8 +128,11 @@ bool read_options_of(settings *to, const char *line, fault *error);
 
 /* finding.c */
 char *find_image(settings *to, fault *error);
-char *find_user_image(const char *name);
+char *find_user_image(const char *name, fault *error);
 char *beside(const char *image, const char *ending);
+
+/* missing.c */
+bool fail_missing(fault *error, const char *name, const char *prefix);
 
 /* lock.c. The one is held over a load of images. The other one is for all that models and lattices share; it is held for a few steps, never
    over a sentence, and not for each. Both are free in a child that was forked while another thread had them. */
