@@ -5,7 +5,8 @@ import shutil
 import subprocess
 import sys
 
-from mecab_clients.common import CLIENTS, HEADER, PYTHON, TOP, VALGRIND, compiled, first_lines, refusing, run, with_layer
+from mecab_clients.common import CLIENTS, HEADER, MORE_ENTRIES, PYTHON, TOP, VALGRIND
+from mecab_clients.common import compiled, first_lines, refusing, run, with_layer
 
 # The programs that are run over the sample's dictionary.
 OVER_THE_SAMPLE = ("calls.c", "classes.cc", "sharing.c", "odd_texts.c")
@@ -43,7 +44,8 @@ def check_made():
 def check_calls(folder, library):
     """Each call of the C interface, each function of the classes, and odd texts, with no error and no block left under valgrind."""
     lexicon = (TOP / "examples" / "sample" / "lexicon.csv").read_text()
-    image = write_image(folder, "sample", lexicon + "空,1,1,-1000,名詞,\0空\n")
+    entries = [f"{surface},1,1,{cost},{feature}\n" for surface, cost, feature in MORE_ENTRIES]
+    image = write_image(folder, "sample", lexicon + "".join(entries))
     ours = dict(os.environ, LD_LIBRARY_PATH=str(library.parent))
     check_made()
     for source in OVER_THE_SAMPLE:

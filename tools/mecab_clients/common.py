@@ -13,6 +13,18 @@ HEADER = Path("/usr/include/mecab.h")
 VALGRIND = ["valgrind", "-q", "--leak-check=full", "--error-exitcode=9"]
 IPADIC, INDEX = Path("/usr/share/mecab/dic/ipadic"), Path("/usr/lib/mecab/mecab-dict-index")
 
+# What the sample's image has beside its lexicon: a word with U+0000, one whose feature has so many
+# fields, and two of 12,000 characters past U+FFFF, of which the second one costs more than its
+# halves. In surrogate pairs of six bytes these are longer than a node's length can say. (odd_texts.c)
+LONG_WORD, HALF, FIELDS = "𩸽" + "𠮷" * 11_999, "𩹉" + "𠮷" * 5_999, 70
+MORE_ENTRIES = (
+    ("空", -1000, "名詞,\0空"),
+    ("広", 0, ",".join(f"f{i}" for i in range(FIELDS))),
+    (LONG_WORD, 1, "名詞,長い"),
+    (HALF, -20_000, "名詞,深い"),
+    (2 * HALF, 100, "名詞,深い"),
+)
+
 
 def works(*command):
     return shutil.which(command[0]) is not None and subprocess.run(command, stdout=subprocess.DEVNULL, stderr=subprocess.DEVNULL).returncode == 0

@@ -5,11 +5,27 @@ import subprocess
 import sys
 from dataclasses import dataclass, field
 
-from mecab_clients.common import CLIENTS, VALGRIND, compiled, refusing, run
+from mecab_clients.common import CLIENTS, FIELDS, VALGRIND, compiled, refusing, run
 
 MOMO, SUMOMO = "もも\t名詞,もも\nEOS\n".encode(), "すもも\t名詞,すもも\nもも\t名詞,もも\nEOS\n".encode()
 LONG, LONG_CUT = ("もも" * 2_000 + "\n").encode(), ("もも " * 2_000 + "\n").encode()
 NOT_UTF8 = "もも".encode() + b"\xff\n" + "もも\n".encode() + b"\xff\xff\n"
+# Blanks that no node has room for, and blanks that are more than a sentence of the library.
+BLANKS, MORE_BLANKS = b" " * 66_000, b" " * 1_100_000
+NEXT, NEXT_CUT = "もも\n".encode(), "もも \n".encode()
+# A word in surrogate pairs, for which no node has room, and its parts of 10,922 characters at most:
+# 25 unknown characters are a group at the end of each.
+FIRST, PAIR, GROUP, PART = b"\xed\xa1\xa7\xed\xb8\xbd", b"\xed\xa1\x82\xed\xbe\xb7", 25, 10_922
+LONG_WORD = FIRST + PAIR * 11_999
+LONG_WORD_CUT = (PAIR + b" ") * (PART - GROUP) + PAIR * GROUP + b" "
+LONG_WORD_CUT += (PAIR + b" ") * (12_000 - PART - GROUP) + PAIR * GROUP + b" "
+LONG_WORD_CUT = LONG_WORD_CUT.replace(PAIR, FIRST, 1)
+ONE_ODD = ("mecab: 1 bytes in 1 lines are not UTF-8",)
+LAST = FIELDS - 1
+LAST_FIELDS = ["-F", rf"%m %f[62] %f[63] %f[64] %f[{LAST}]|%f[{FIELDS}]|\n", "-U", r"%m\n"]
+LAST_PRINTED = f"広 f62 f63 f64 f{LAST}||\n".encode()
+ALL_MORPHS = "すもも もも も も \n".encode()
+EMPTY_BOS = ("mecab: bos-feature is undefined in dicrc\n",)
 
 
 @dataclass
@@ -52,6 +68,42 @@ ROWS = [
     Row("bytes that are not UTF-8 are told once", ["-Owakati", "HERE/a", "HERE/b"], {"a": NOT_UTF8, "b": NOT_UTF8},
         printed=("もも ".encode() + b"\xff \n" + "もも \n".encode() + b"\xff\xff \n") * 2,
         said=("mecab: 6 bytes in 4 lines are not UTF-8, and were cut as U+FFFD\n",)),
+    Row("66,000 blanks before a byte that is not UTF-8", ["-Owakati"],
+        input=BLANKS + b"a\xff\n" + NEXT, printed=b"a \xff \n" + NEXT_CUT, said=ONE_ODD),
+    Row("66,000 blanks before a word that is printed of its node", ["-Owakati", "-x", "u"],
+        input=BLANKS + NEXT + NEXT, printed=NEXT_CUT + NEXT_CUT),
+    Row("66,000 blanks, and where a node begins", ["-xu", "-F", r"%ps %pl %pL\n"],
+        input=BLANKS + NEXT, printed=b"66000 6 65535\nEOS\n"),
+    Row("66,000 blanks with -a", ["-a", "-Owakati"], input=BLANKS + "すもももも\n".encode() + NEXT,
+        printed=ALL_MORPHS + "もも も も \n".encode()),
+    Row("1.1 MB of blanks", ["-Owakati"], input=MORE_BLANKS + b"\n" + NEXT,
+        printed=b"\n" + NEXT_CUT),
+    Row("1.1 MB of blanks before a word", ["-Owakati"], input=MORE_BLANKS + NEXT + NEXT,
+        printed=NEXT_CUT + NEXT_CUT),
+    Row("the cost after 1.1 MB of blanks", ["-F", r"%pc\n", "-E", r"%pc\n"],
+        input=MORE_BLANKS + NEXT, printed=b"40\n45\n"),
+    Row("a word of 72,000 bytes", ["-Owakati"], input=LONG_WORD + b"\n" + NEXT,
+        printed=LONG_WORD_CUT + b"\n" + NEXT_CUT),
+    Row("each field of a long feature", LAST_FIELDS, input="広\n広".encode() + b"\xff\n",
+        printed=LAST_PRINTED + b"EOS\n" + LAST_PRINTED + b"\xff\nEOS\n", said=ONE_ODD),
+    Row("what follows `--` doesn't count", ["HERE/a", "--", "HERE/b", "-Owakati"],
+        {"a": "もも\n", "b": "すもも\n"}, printed=MOMO),
+    Row("a file after `--` is not opened", ["--", "HERE/nosuch"], input=NEXT, printed=MOMO),
+    Row("a number that ends in a blank", ["-rHERE/rc", "-Owakati"], {"rc": "all-morphs = 1 \n"},
+        "すもももも\n".encode(), ALL_MORPHS),
+    Row("a number that ends in CR", ["-rHERE/rc", "-Owakati"], {"rc": "all-morphs = 1\r\n"},
+        "すもももも\n".encode(), ALL_MORPHS),
+    Row("a number that ends in a letter", ["-rHERE/rc", "-Owakati"], {"rc": "all-morphs = 1x\n"},
+        NEXT, NEXT_CUT),
+    Row("a type that ends in CR", ["-rHERE/rc"], {"rc": "output-format-type = wakati\r\n"},
+        said=("mecab: unknown format type [wakati\r]\n",), status=1),
+    Row("a line of CR", ["-rHERE/rc"], {"rc": "\r\n"},
+        said=("mecab: HERE/rc: line 1: no `=` in \r\n",), status=1),
+    Row("a feature that ends in a blank", ["-rHERE/rc", "-B[%H]", "-E\\n"],
+        {"rc": "bos-feature = B \n"}, b"\n", b"[B ]\n"),
+    Row("an empty bos-feature", ["-rHERE/rc"], {"rc": "bos-feature =\n"}, said=EMPTY_BOS, status=1),
+    Row("a bos-feature of blanks", ["-rHERE/rc"], {"rc": "bos-feature = \r\n"},
+        said=EMPTY_BOS, status=1),
 ]
 
 
@@ -101,4 +153,3 @@ def check_refused_memory(folder, library):
         if wanted not in said:
             sys.exit(f"mecab-clients: mecab, a refused growth: nothing says {wanted}")
     print(f"mecab-clients: {number - 1} growths of the program mecab, each refused in turn: told with the line's number, or done without", flush=True)
-
