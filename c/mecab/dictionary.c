@@ -79,22 +79,47 @@ static bool fill_tables(tables *to, char *path, const settings *from, fault *err
     return to->images && take_tokens(to, path, from, error);
 }
 
-tables *load_tables(settings *from, fault *error) {
+static tables *make_tables(char *path, const settings *from, fault *error) {
     static atomic_ulong last;
-    char *path = find_image(from, error);
-    tables *made = path ? calloc(1, sizeof *made) : NULL;
+    tables *made = calloc(1, sizeof *made);
     if (!made) {
-        if (path) fail_memory(error);
-        free(path);
+        fail_memory(error);
         return NULL;
     }
     made->number = ++last;
     made->holders = 1;
-    bool filled = fill_tables(made, path, from, error);
-    free(path);
-    if (filled) return made;
+    if (fill_tables(made, path, from, error)) return made;
     free_tables(made);
     return NULL;
+}
+
+/* Reads the settings beside an image, and opens it. If another image took its place between, the
+   settings may not be its own: sets *is_other then, and returns NULL. */
+static tables *load_beside(char *path, settings *from, bool *is_other, fault *error) {
+    heading of;
+    if (!read_heading(&of, path, error)) return NULL;
+    if (!read_beside(from, path, of.checksum, error)) return NULL;
+    tables *made = make_tables(path, from, error);
+    *is_other = made && !is_first_file(made->images, &of.which);
+    if (!*is_other) return made;
+    release_tables(made);
+    fail(error, "%s: was changed while it was opened", path);
+    return NULL;
+}
+
+/* Starts over while the image is replaced, but not for ever. */
+tables *load_tables(settings *from, fault *error) {
+    char *path = find_image(from, error);
+    size_t count = from->count;
+    tables *made = NULL;
+    bool is_other = path != NULL;
+    for (int i = 0; is_other && i < TRIES; i++) {
+        forget_settings(from, count);
+        is_other = false;
+        made = load_beside(path, from, &is_other, error);
+    }
+    free(path);
+    return made;
 }
 
 tables *hold_tables(mecab_model_t *model) {

@@ -184,10 +184,14 @@ static bool is_missing(const char *path) {
     return lstat(path, &of) != 0 && (errno == ENOENT || errno == ENOTDIR || errno == ENAMETOOLONG);
 }
 
-static bool read_beside(settings *to, const char *image, fault *error) {
+/* Reads the settings beside an image with this checksum. Those of another one count as missing. */
+bool read_beside(settings *to, const char *image, const unsigned char *checksum, fault *error) {
     char *path = beside(image, ".dicrc");
+    bool is_other = false;
     if (!path) return fail_memory(error);
-    bool is_read = is_missing(path) || (read_settings(to, path, error) && set(to, HAS_DICRC, "1", error));
+    bool is_there = !is_missing(path);
+    bool is_read = !is_there || read_settings(to, path, checksum, &is_other, error);
+    if (is_read && is_there && !is_other) is_read = set(to, HAS_DICRC, "1", error);
     free(path);
     return is_read;
 }
@@ -195,7 +199,7 @@ static bool read_beside(settings *to, const char *image, fault *error) {
 static char *find_named(settings *to, const char *option, fault *error) {
     char *file = NULL, *setting = NULL, *image = NULL;
     source from = read_sources(to, &file, error);
-    bool is_read = file && (from == NO_SOURCE || read_settings(to, file, error));
+    bool is_read = file && (from == NO_SOURCE || read_settings(to, file, NULL, NULL, error));
     const char *dictionary = setting_of(to, "dicdir");
     if (is_read && dictionary) setting = with_rc_path(dictionary, file);
     char *name = is_read && (!dictionary || setting) ? chosen_name(option, setting, from) : NULL;
@@ -207,7 +211,7 @@ static char *find_named(settings *to, const char *option, fault *error) {
     return image;
 }
 
-/* The path of the image; the settings have then what MeCab's files and the image's own say. */
+/* The path of the image; the settings have then what MeCab's files say. */
 char *find_image(settings *to, fault *error) {
     const char *given = setting_of(to, "dicdir");
     char *option = given && *given ? strdup(given) : NULL;
@@ -215,9 +219,7 @@ char *find_image(settings *to, fault *error) {
     if (given && *given && !option) fail_memory(error);
     else image = find_named(to, option, error);
     free(option);
-    if (image && read_beside(to, image, error)) return image;
-    free(image);
-    return NULL;
+    return image;
 }
 
 /* The path of a user's image; NULL if no image has the name, or memory runs out. */

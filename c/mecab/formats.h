@@ -58,8 +58,21 @@ long number_of(const settings *of, const char *name, long otherwise);
 bool is_set(const settings *of, const char *name);
 bool is_only_blanks(const char *text);
 bool set(settings *to, const char *name, const char *value, fault *error);
-bool read_settings(settings *to, const char *path, fault *error);
+void forget_settings(settings *of, size_t count);
 void free_settings(settings *of);
+
+/* The length of the SHA-256 that ends an image. The first line of a file of settings beside an
+   image may have the checksum of the image that they were made for. */
+enum { CHECKSUM = 32 };
+typedef enum stamp { NO_STAMP, OWN_STAMP, OTHER_STAMP } stamp;
+
+/* settings.c. stamp_in judges a first line by the checksum of the image. read_settings takes a
+   checksum for settings beside an image, and NULL for others. If the settings are for another image
+   it reads none and sets *is_other. */
+stamp stamp_in(const char *line, const unsigned char *checksum);
+bool read_settings(
+    settings *to, const char *path, const unsigned char *checksum, bool *is_other, fault *error
+);
 
 /* Bytes that were read from a file, of which `told` were told as lines and `seen` have no line's end behind those. `number` is that of the
    line that was told last, from 1. */

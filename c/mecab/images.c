@@ -1,17 +1,13 @@
-/* Images that the process has: each is loaded once, and handed to all models that want it. What the last model has given back stays until other
-   images are wanted, so that who makes one tagger after the other loads once. */
+/* Images that the process has: each is opened once, and handed to all models that want it. What the
+   last model has given back stays until other images are wanted, so that who makes one tagger after
+   the other opens once. */
 #include "layer.h"
-#include <errno.h>
-#include <fcntl.h>
 #include <stdlib.h>
 #include <string.h>
-#include <sys/mman.h>
-#include <unistd.h>
 
-/* Where an image's header says its sizes: right ids, left ids, tokens of the lexicon, unknown tokens behind those. (docs/FORMAT.md) */
-enum { RIGHT_AT = 16, LEFT_AT = 20, TOKENS_AT = 32, UNKNOWN_AT = 36, HEADER = 104, VERSION = 102 };
-
-static const unsigned OF_MECAB = 0xef718f77U;
+/* Where an image's header has its sizes: right ids, left ids, tokens of the lexicon, unknown tokens
+   after those. (docs/FORMAT.md) */
+enum { RIGHT_AT = 16, LEFT_AT = 20, TOKENS_AT = 32, UNKNOWN_AT = 36, VERSION = 102 };
 
 /* A system's image and those of users that are laid over it, with what nodes take of their tokens, by each rules for ids that were asked for. Tokens
    are counted through all images: those of one stand from its start on, and end where the next one's start. The holders and the list of all are under
@@ -20,7 +16,7 @@ struct images {
     images *next;
     unsigned long holders;
     size_t count;
-    identity *files;
+    heading *files;
     size_t *starts;
     kumquatsieve_dictionary *dictionary;
     tokens *tokens;
@@ -31,15 +27,11 @@ struct images {
 static images *loaded;
 static images *kept;
 
-static bool is_file(const struct stat *of, const char *path, fault *error) {
-    return S_ISREG(of->st_mode) || fail(error, "%s: is no file", path);
-}
-
 /* The images of these files, held, where the process has them. The lock is the caller's. */
 static images *find(const identity *files, size_t count) {
     for (images *one = loaded; one; one = one->next) {
         bool same = one->count == count;
-        for (size_t i = 0; same && i < count; i++) same = are_same(&one->files[i], &files[i]);
+        for (size_t i = 0; same && i < count; i++) same = are_same(&one->files[i].which, &files[i]);
         if (!same) continue;
         one->holders++;
         if (one == kept) kept = NULL;
@@ -48,7 +40,7 @@ static images *find(const identity *files, size_t count) {
     return NULL;
 }
 
-/* Where a file can't be told apart, it is loaded, which says what is wrong with it. */
+/* Where a file can't be told apart, it is opened, which says what is wrong with it. */
 static images *find_at(char *const *paths, size_t count) {
     identity *files = calloc(count, sizeof *files);
     images *found = NULL;
@@ -64,35 +56,11 @@ static images *find_at(char *const *paths, size_t count) {
     return found;
 }
 
-/* Maps a file that was opened. Of an empty one nothing can be mapped, and the library says what is wrong with it. */
-static bool map_opened(int file, const char *path, kumquatsieve_image *mapped, identity *which, fault *error) {
-    struct stat of;
-    if (fstat(file, &of) != 0) return fail(error, "%s: can't be read", path);
-    if (!is_file(&of, path, error)) return false;
-    *which = identity_of(&of);
-    if (of.st_size == 0) return true;
-    void *at = mmap(NULL, (size_t)of.st_size, PROT_READ, MAP_PRIVATE, file, 0);
-    if (at == MAP_FAILED) return errno == ENOMEM ? fail_memory(error) : fail(error, "%s: can't be read", path);
-    *mapped = (kumquatsieve_image){at, (size_t)of.st_size};
-    return true;
-}
-
-static bool map_file(const char *path, kumquatsieve_image *mapped, identity *which, fault *error) {
-    int file = open(path, O_RDONLY | O_CLOEXEC);
-    if (file < 0) return fail(error, "%s: can't be opened; kumquatsieve-import makes an image", path);
-    bool is_mapped = map_opened(file, path, mapped, which, error);
-    close(file);
-    return is_mapped;
-}
-
-static unsigned number_at(const kumquatsieve_image *image, size_t at) {
-    const unsigned char *of = image->bytes + at;
-    return of[0] | (unsigned)of[1] << 8 | (unsigned)of[2] << 16 | (unsigned)of[3] << 24;
-}
-
-/* MeCab's dictionaries begin with their size, exclusive or a number of MeCab's. */
-static bool fail_image(fault *error, const char *path, const kumquatsieve_image *image, uint32_t code) {
-    if (image->length < HEADER || (number_at(image, 0) ^ OF_MECAB) != image->length) return fail_code(error, path, code);
+static bool fail_image(
+    fault *error, const char *path, const heading *of, uint32_t code, uint64_t number
+) {
+    if (code == KUMQUATSIEVE_FILE) return fail(error, "%s: %s", path, strerror((int)number));
+    if (!is_compiled_by_mecab(of)) return fail_code(error, path, code);
     return fail(
         error,
         "%s is a dictionary of MeCab's: `dictc user --dic IMG --out USER.img USER.csv` makes one of a user's source, kumquatsieve-import a system's",
@@ -100,7 +68,9 @@ static bool fail_image(fault *error, const char *path, const kumquatsieve_image 
     );
 }
 
-static bool add_info(mecab_dictionary_info_t **last, const char *path, const kumquatsieve_image *image, int type) {
+static bool add_info(
+    mecab_dictionary_info_t **last, const char *path, const heading *of, int type
+) {
     mecab_dictionary_info_t *info = calloc(1, sizeof *info);
     char *name = strdup(path);
     if (!info || !name) {
@@ -109,45 +79,74 @@ static bool add_info(mecab_dictionary_info_t **last, const char *path, const kum
         return false;
     }
     *info = (mecab_dictionary_info_t){
-        .filename = name, .charset = "UTF-8", .size = number_at(image, TOKENS_AT), .type = type, .lsize = number_at(image, LEFT_AT),
-        .rsize = number_at(image, RIGHT_AT), .version = VERSION, .next = NULL,
+        .filename = name, .charset = "UTF-8", .size = number_at(of, TOKENS_AT), .type = type,
+        .lsize = number_at(of, LEFT_AT), .rsize = number_at(of, RIGHT_AT), .version = VERSION,
     };
     *last = info;
     return true;
 }
 
-/* Keeps what an image's header says. The library has looked at the image before. */
-static bool keep_header(images *to, const char *path, const kumquatsieve_image *image, size_t number) {
+/* Keeps what the headers say of images that were opened. */
+static bool keep_headers(images *to, char *const *paths) {
     mecab_dictionary_info_t **last = &to->infos;
-    while (*last) last = &(*last)->next;
-    to->starts[number + 1] = to->starts[number] + number_at(image, TOKENS_AT) + number_at(image, UNKNOWN_AT);
-    return add_info(last, path, image, number == 0 ? MECAB_SYS_DIC : MECAB_USR_DIC);
-}
-
-/* Maps the images, and makes a dictionary of copies of them, the first one the system's. As MeCab it tests no digest. */
-static bool load(images *to, char *const *paths, kumquatsieve_image *mapped, fault *error) {
-    size_t image = 0;
     for (size_t i = 0; i < to->count; i++) {
-        if (!map_file(paths[i], &mapped[i], &to->files[i], error)) return false;
-    }
-    uint32_t code = kumquatsieve_dictionary_make(&to->dictionary, mapped, to->count, KUMQUATSIEVE_SKIP_DIGEST, &image, NULL);
-    if (code != KUMQUATSIEVE_OK) return fail_image(error, paths[image], &mapped[image], code);
-    for (size_t i = 0; i < to->count; i++) {
-        if (!keep_header(to, paths[i], &mapped[i], i)) return fail_memory(error);
+        const heading *of = &to->files[i];
+        to->starts[i + 1] = to->starts[i] + number_at(of, TOKENS_AT) + number_at(of, UNKNOWN_AT);
+        if (!add_info(last, paths[i], of, i == 0 ? MECAB_SYS_DIC : MECAB_USR_DIC)) return false;
+        last = &(*last)->next;
     }
     return true;
 }
 
-/* The same, with the mappings, which nothing needs behind it. */
-static bool load_mapped(images *to, char *const *paths, fault *error) {
-    kumquatsieve_image *mapped = calloc(to->count, sizeof *mapped);
-    if (!mapped) return fail_memory(error);
-    bool is_loaded = load(to, paths, mapped, error);
-    for (size_t i = 0; i < to->count; i++) {
-        if (mapped[i].bytes) munmap((void *)mapped[i].bytes, mapped[i].length);
+static bool has_changed(const char *path, const heading *before) {
+    struct stat of;
+    if (stat(path, &of) != 0) return true;
+    identity now = identity_of(&of);
+    return !are_same(&before->which, &now);
+}
+
+/* Images that are being opened. */
+typedef struct opening {
+    images *to;
+    char *const *paths;
+    kumquatsieve_cutter cutter;
+    bool is_changed;
+} opening;
+
+/* Opens an image over those before it. If the file was replaced or changed since its heading was
+   read, that may be the heading of another file. */
+static bool open_image(opening *of, size_t number, fault *error) {
+    heading *first = &of->to->files[number];
+    const char *path = of->paths[number];
+    uint64_t why = 0;
+    if (!read_heading(first, path, error)) return false;
+    uint32_t code = number == 0 ? kumquatsieve_open(&of->cutter, path, 0, &why)
+                                : kumquatsieve_open_user(&of->cutter, path, 0, &why);
+    of->is_changed = has_changed(path, first);
+    if (of->is_changed) return fail(error, "%s: was changed while it was opened", path);
+    return code == KUMQUATSIEVE_OK || fail_image(error, path, first, code, why);
+}
+
+/* Opens the images as one dictionary, the first one the system's. As MeCab it tests no digest. */
+static bool open_all(opening *of, fault *error) {
+    uint32_t code = KUMQUATSIEVE_OK;
+    bool is_open = true;
+    for (size_t i = 0; is_open && i < of->to->count; i++) is_open = open_image(of, i, error);
+    if (is_open) code = kumquatsieve_dictionary_of(&of->to->dictionary, &of->cutter);
+    kumquatsieve_free(&of->cutter);
+    if (code != KUMQUATSIEVE_OK) return fail_code(error, "dictionaries", code);
+    return is_open && (keep_headers(of->to, of->paths) || fail_memory(error));
+}
+
+/* Starts over while files are changed, but not for ever. */
+static bool open_unchanged(images *to, char *const *paths, fault *error) {
+    opening of = {to, paths, KUMQUATSIEVE_EMPTY, true};
+    bool is_open = false;
+    for (int i = 0; of.is_changed && i < TRIES; i++) {
+        of.is_changed = false;
+        is_open = open_all(&of, error);
     }
-    free(mapped);
-    return is_loaded;
+    return is_open;
 }
 
 static void free_images(images *of) {
@@ -174,8 +173,8 @@ static images *load_all(char *const *paths, size_t count, fault *error) {
     made->holders = 1;
     made->files = calloc(count, sizeof *made->files);
     made->starts = calloc(count + 1, sizeof *made->starts);
-    bool is_loaded = made->files && made->starts ? load_mapped(made, paths, error) : fail_memory(error);
-    if (is_loaded) return made;
+    bool has_room = (made->files && made->starts) || fail_memory(error);
+    if (has_room && open_unchanged(made, paths, error)) return made;
     free_images(made);
     return NULL;
 }
@@ -225,9 +224,14 @@ void release_images(images *of) {
 
 tokens *tokens_over(images *of, const char *rules, fault *error) {
     lock_loads();
-    tokens *found = tokens_in(&of->tokens, of->starts, of->starts[of->count], rules, error);
+    size_t count = of->starts[of->count];
+    tokens *found = tokens_in(&of->tokens, of->starts, count, rules, of->files->checksum, error);
     unlock_loads();
     return found;
+}
+
+bool is_first_file(const images *of, const identity *which) {
+    return are_same(&of->files->which, which);
 }
 
 const mecab_dictionary_info_t *infos_of(const images *of) {

@@ -24,6 +24,17 @@ typedef struct identity {
     struct timespec changed;
 } identity;
 
+/* The length of an image's header (docs/FORMAT.md), and how often at most images are opened if
+   files are replaced in the meantime. */
+enum { HEADER = 104, TRIES = 8 };
+
+/* What is read of a file before it is opened as an image. */
+typedef struct heading {
+    identity which;
+    unsigned char header[HEADER];
+    unsigned char checksum[CHECKSUM];
+} heading;
+
 /* Rules for ids of parts of speech. (posids.c) */
 typedef struct posids posids;
 
@@ -128,6 +139,7 @@ bool read_options_of(settings *to, const char *line, fault *error);
 
 /* finding.c */
 char *find_image(settings *to, fault *error);
+bool read_beside(settings *to, const char *image, const unsigned char *checksum, fault *error);
 char *find_user_image(const char *name, fault *error);
 char *beside(const char *image, const char *ending);
 
@@ -145,20 +157,30 @@ void unlock_shared(void);
 identity identity_of(const struct stat *of);
 bool are_same(const identity *one, const identity *other);
 
+/* headings.c. number_at reads four bytes of the header. */
+bool read_heading(heading *to, const char *path, fault *error);
+uint32_t number_at(const heading *of, size_t at);
+bool is_compiled_by_mecab(const heading *of);
+
 /* images.c. What nodes take of tokens stays as long as its images; the rules are those of a file, or none. */
 images *open_images(char *const *paths, size_t count, fault *error);
 void release_images(images *of);
+bool is_first_file(const images *of, const identity *which);
 const mecab_dictionary_info_t *infos_of(const images *of);
 tokens *tokens_over(images *of, const char *rules, fault *error);
 bool cutter_over_images(kumquatsieve_cutter *to, const images *from, fault *error);
 
 /* tokens.c */
-tokens *tokens_in(tokens **list, const size_t *starts, size_t count, const char *rules, fault *error);
+tokens *tokens_in(
+    tokens **list, const size_t *starts, size_t count, const char *rules,
+    const unsigned char *checksum, fault *error
+);
 bool keep_token(const tokens *of, kumquatsieve_cutter *cutter, const kumquatsieve_word *word, fault *error);
 void free_tokens(tokens *list);
 
-/* posids.c. Where there is no file each id is that of MeCab's compiler then. */
-posids *read_posids(FILE *file, const char *path, fault *error);
+/* posids.c. Without a file, or with one that is for another image than the one with the checksum,
+   each id is that of MeCab's compiler then. */
+posids *read_posids(FILE *file, const char *path, const unsigned char *checksum, fault *error);
 uint16_t posid_of(const posids *of, char *feature);
 void free_posids(posids *of);
 

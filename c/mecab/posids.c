@@ -69,20 +69,42 @@ static bool read_rule(posids *to, const char *line, fault *error) {
     return add_rule(to, pattern, length, id, error);
 }
 
-static bool read_rules(posids *to, FILE *file, const char *path, fault *error) {
+/* A file of rules, and the checksum of the image beside it. */
+typedef struct source {
+    FILE *file;
+    const char *path;
+    const unsigned char *checksum;
+} source;
+
+/* A first line that names the image is no rule. *is_other is set by one that names another image:
+   no rules are read then. */
+static bool read_lines(posids *to, const source *from, bool *is_other, fault *error) {
     char *line = NULL;
     size_t room = 0, number = 0;
     ssize_t length = 0;
     bool is_read = true;
-    while (is_read && (length = getline(&line, &room, file)) >= 0) {
+    while (is_read && !*is_other && (length = getline(&line, &room, from->file)) >= 0) {
         fault wrong;
         if (length > 0 && line[length - 1] == '\n') line[length - 1] = '\0';
-        number++;
-        is_read = read_rule(to, line, &wrong) || fail(error, "%s: line %zu: %.200s", path, number, wrong.text);
+        stamp found = number++ == 0 ? stamp_in(line, from->checksum) : NO_STAMP;
+        *is_other = found == OTHER_STAMP;
+        if (found == NO_STAMP && !read_rule(to, line, &wrong)) {
+            is_read = fail(error, "%s: line %zu: %.200s", from->path, number, wrong.text);
+        }
     }
-    if (is_read && !feof(file)) is_read = fail(error, "%s: line %zu: %s", path, number + 1, strerror(errno));
+    if (is_read && !*is_other && !feof(from->file)) {
+        is_read = fail(error, "%s: line %zu: %s", from->path, number + 1, strerror(errno));
+    }
     free(line);
     return is_read;
+}
+
+/* Without a file each id is that of MeCab's compiler, which has one rule for all features then.
+   Rules for another image count as missing. */
+static bool read_rules(posids *to, const source *from, fault *error) {
+    bool is_missing = from->file == NULL;
+    if (!is_missing && !read_lines(to, from, &is_missing, error)) return false;
+    return !is_missing || add_rule(to, "*", 1, 1, error);
 }
 
 static void link_others(posids *of) {
@@ -93,14 +115,14 @@ static void link_others(posids *of) {
     }
 }
 
-/* Without the file each id is that of MeCab's compiler, which has one rule for all features then. */
-posids *read_posids(FILE *file, const char *path, fault *error) {
+posids *read_posids(FILE *file, const char *path, const unsigned char *checksum, fault *error) {
+    source from = {file, path, checksum};
     posids *made = calloc(1, sizeof *made);
     if (!made) {
         fail_memory(error);
         return NULL;
     }
-    if (file ? read_rules(made, file, path, error) : add_rule(made, "*", 1, 1, error)) {
+    if (read_rules(made, &from, error)) {
         link_others(made);
         return made;
     }

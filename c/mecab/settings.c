@@ -93,38 +93,79 @@ static bool read_line(settings *to, const char *line, fault *error) {
     return find(to, line, length) || !is_in_files(line, length) || add(to, line, length, value, error);
 }
 
-static bool read_lines(settings *to, FILE *file, const char *path, fault *error) {
+/* Such a line has the checksum in lowercase digits and nothing else. */
+stamp stamp_in(const char *line, const unsigned char *checksum) {
+    static const char START[] = "; image-sha256 ", DIGITS[] = "0123456789abcdef";
+    const char *digits = line + strlen(START);
+    if (strncmp(line, START, strlen(START)) != 0) return NO_STAMP;
+    if (strspn(digits, DIGITS) != 2 * CHECKSUM || digits[2 * CHECKSUM]) return NO_STAMP;
+    for (size_t i = 0; i < CHECKSUM; i++) {
+        bool is_high = digits[2 * i] == DIGITS[checksum[i] >> 4];
+        if (!is_high || digits[2 * i + 1] != DIGITS[checksum[i] & 15]) return OTHER_STAMP;
+    }
+    return OWN_STAMP;
+}
+
+/* A file of settings that is read, and the checksum of the image beside it, or NULL. */
+typedef struct reading {
+    FILE *file;
+    const char *path;
+    const unsigned char *checksum;
+    size_t number;
+    bool is_other;
+} reading;
+
+/* Reads a line, of which the first one may name another image. */
+static bool take_line(reading *from, const char *line, settings *to, fault *error) {
+    fault wrong;
+    bool is_stamped = from->number == 1 && from->checksum;
+    from->is_other = is_stamped && stamp_in(line, from->checksum) == OTHER_STAMP;
+    if (from->is_other || read_line(to, line, &wrong)) return true;
+    return fail(error, "%s: line %zu: %.200s", from->path, from->number, wrong.text);
+}
+
+static bool read_lines(reading *from, settings *to, fault *error) {
     char *line = NULL;
-    size_t room = 0, number = 0;
+    size_t room = 0;
     ssize_t length = 0;
     bool is_read = true;
     errno = 0;
-    while (is_read && (length = getline(&line, &room, file)) >= 0) {
-        fault wrong;
+    while (is_read && !from->is_other && (length = getline(&line, &room, from->file)) >= 0) {
         if (length > 0 && line[length - 1] == '\n') line[length - 1] = '\0';
-        number++;
-        is_read = read_line(to, line, &wrong);
-        if (!is_read) fail(error, "%s: line %zu: %.200s", path, number, wrong.text);
+        from->number++;
+        is_read = take_line(from, line, to, error);
     }
-    if (is_read && !feof(file)) is_read = fail(error, "%s: line %zu: %s", path, number + 1, strerror(errno));
+    bool is_whole = from->is_other || feof(from->file);
+    if (is_read && !is_whole) {
+        is_read = fail(error, "%s: line %zu: %s", from->path, from->number + 1, strerror(errno));
+    }
     free(line);
     return is_read;
 }
 
 /* What is set already stays as it is. */
-bool read_settings(settings *to, const char *path, fault *error) {
-    FILE *file = fopen(path, "re");
-    if (!file) return fail(error, "%s: %s", path, strerror(errno));
-    bool is_read = read_lines(to, file, path, error);
-    fclose(file);
+bool read_settings(
+    settings *to, const char *path, const unsigned char *checksum, bool *is_other, fault *error
+) {
+    reading from = {.file = fopen(path, "re"), .path = path, .checksum = checksum};
+    if (!from.file) return fail(error, "%s: %s", path, strerror(errno));
+    bool is_read = read_lines(&from, to, error);
+    if (is_other) *is_other = from.is_other;
+    fclose(from.file);
     return is_read;
 }
 
-void free_settings(settings *of) {
-    for (size_t i = 0; i < of->count; i++) {
-        free(of->all[i].name);
-        free(of->all[i].value);
+/* Keeps the first settings alone. */
+void forget_settings(settings *of, size_t count) {
+    while (of->count > count) {
+        of->count--;
+        free(of->all[of->count].name);
+        free(of->all[of->count].value);
     }
+}
+
+void free_settings(settings *of) {
+    forget_settings(of, 0);
     free(of->all);
     free(of->others);
     *of = (settings){0};

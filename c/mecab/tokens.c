@@ -24,12 +24,13 @@ static tokens *find(tokens *list, bool has_rules, const identity *rules) {
     return list;
 }
 
-static tokens *make(const size_t *starts, size_t count, fault *error) {
+static tokens *make(const size_t *starts, size_t count, const identity *rules, fault *error) {
     tokens *made = calloc(1, sizeof *made);
     if (made) made->nodes = calloc(count + 1, sizeof *made->nodes);
     if (made && made->nodes) {
         made->starts = starts;
         made->count = count;
+        made->rules = *rules;
         return made;
     }
     free(made);
@@ -38,10 +39,12 @@ static tokens *make(const size_t *starts, size_t count, fault *error) {
 }
 
 /* New ones before the others. */
-static tokens *add(tokens **list, tokens *new, FILE *file, const char *path, const identity *rules, fault *error) {
+static tokens *add(
+    tokens **list, tokens *new, FILE *file, const char *path, const unsigned char *checksum,
+    fault *error
+) {
     if (!new) return NULL;
-    new->rules = *rules;
-    if (path && !(new->posids = read_posids(file, path, error))) {
+    if (path && !(new->posids = read_posids(file, path, checksum, error))) {
         free_tokens(new);
         return NULL;
     }
@@ -51,12 +54,15 @@ static tokens *add(tokens **list, tokens *new, FILE *file, const char *path, con
 }
 
 /* Those by the rules of a file, which are made where they aren't there yet. */
-tokens *tokens_in(tokens **list, const size_t *starts, size_t count, const char *path, fault *error) {
+tokens *tokens_in(
+    tokens **list, const size_t *starts, size_t count, const char *path,
+    const unsigned char *checksum, fault *error
+) {
     FILE *file = NULL;
     identity rules = {0};
     if (path && !open_rules(path, &file, &rules, error)) return NULL;
     tokens *found = find(*list, path != NULL, &rules);
-    if (!found) found = add(list, make(starts, count, error), file, path, &rules, error);
+    if (!found) found = add(list, make(starts, count, &rules, error), file, path, checksum, error);
     if (file) fclose(file);
     return found;
 }

@@ -92,14 +92,20 @@ def check_forks(folder, library):
     print(f"mecab-clients: forks while images are loaded by turns: {told}", end="", flush=True)
 
 
-def check_rewritten(folder, library):
-    """An image that is written over while it is loaded: gcc's AddressSanitizer finds no word past what was made room for."""
-    image = folder / "rewritten.img"
-    shutil.copyfile(folder / "sample.img", image)
-    image.with_suffix(".dicrc").write_text("bos-feature = B\n")
-    image.with_suffix(".pos-id.def").write_text("* 1\n")
-    program = with_layer(folder, library, CLIENTS / "rewritten.c", "-fsanitize=address", "-Wl,--wrap=kumquatsieve_dictionary_make")
-    print(run([program, image], os.environ).decode(), end="", flush=True)
+def stamp_of(image):
+    """The first line of settings that are for an image."""
+    return f"; image-sha256 {image.read_bytes()[-32:].hex()}\n"
+
+
+def check_changing(folder, library):
+    """An image that another one takes the place of while it is opened, which has the settings."""
+    lexicon = (TOP / "examples" / "sample" / "lexicon.csv").read_text()
+    image = write_image(folder, "changing", lexicon)
+    other = write_image(folder, "changing-other", lexicon + "空,1,1,-1000,記号,空\n")
+    flags = ["-fsanitize=address", "-Wl,--wrap=kumquatsieve_open"]
+    program = with_layer(folder, library, CLIENTS / "changing.c", *flags)
+    image.with_suffix(".dicrc").write_text(stamp_of(other) + "bos-feature = OTHER\n")
+    print(run([program, image, other], os.environ).decode(), end="", flush=True)
 
 
 def check_threads(folder, library, lines, dictionary):

@@ -1,6 +1,7 @@
-/* A file that takes the place of an image is another image, and so is one that is written anew in its place: replaced IMG OTHER, two images of one
-   system but for a feature of もも. OTHER takes the place of IMG. Other rules for ids of parts of speech give other ids of one image. Under valgrind a
-   read of what is freed is an error. */
+/* A file that takes the place of an image is another image: replaced IMG OTHER, two images of one
+   system but for a feature of もも. OTHER takes the place of IMG. Other rules for ids of parts of
+   speech give other ids of one image, and rules that name another image give those of no rules.
+   Under valgrind a read of what is freed is an error. */
 #include "check.h"
 #include <stdbool.h>
 #include <unistd.h>
@@ -43,6 +44,19 @@ static bool has_id(mecab_t *tagger, unsigned id) {
     return node && node->next->posid == id && node->next->next->posid == id && strcmp(node->next->feature, "名詞,すもも") == 0;
 }
 
+/* Writes a rule after a first line that names an image by its checksum: this one or another one. */
+static void write_stamped(bool is_other) {
+    char rules[128], *to = rules + sprintf(rules, "; image-sha256 ");
+    size_t length = 0;
+    char *image = whole_of(path, &length);
+    const unsigned char *sum = (const unsigned char *)image + length - 32;
+    for (size_t i = 0; i < 32; i++) to += sprintf(to, "%02x", sum[i]);
+    if (is_other) to[-1] = to[-1] == '0' ? '1' : '0';
+    to += sprintf(to, "\n名詞 3\n");
+    write_whole(beside(".pos-id.def"), rules, (size_t)(to - rules));
+    free(image);
+}
+
 /* Taggers of one image by other rules, and by none, each with its own ids as long as it is there. */
 static void rules(void) {
     mecab_t *none = opened();
@@ -52,11 +66,18 @@ static void rules(void) {
     mecab_t *one = opened(), *same = opened();
     write_whole(beside(".pos-id.def"), "記号 3\n名詞 40\n", strlen("記号 3\n名詞 40\n"));
     mecab_t *other = opened();
+    write_stamped(false);
+    mecab_t *stamped = opened();
+    write_stamped(true);
+    mecab_t *foreign = opened();
+    CHECK(has_id(stamped, 3) && has_id(foreign, 1));
     CHECK(mecab_dictionary_info(none) == mecab_dictionary_info(other) && mecab_dictionary_info(one) == mecab_dictionary_info(other));
     CHECK(has_id(none, 0) && has_id(missing, 1) && has_id(one, 3) && has_id(other, 40));
     mecab_destroy(one);
     CHECK(has_id(none, 0) && has_id(missing, 1) && has_id(same, 3) && has_id(other, 40));
     CHECK(unlink(beside(".dicrc")) == 0 && unlink(beside(".pos-id.def")) == 0);
+    mecab_destroy(stamped);
+    mecab_destroy(foreign);
     mecab_destroy(none);
     mecab_destroy(missing);
     mecab_destroy(same);
@@ -76,7 +97,8 @@ int main(int given, char **paths) {
     CHECK(strcmp(mecab_sparse_tostr(before, LINE), PRINTED) == 0 && strcmp(mecab_sparse_tostr(same, LINE), PRINTED) == 0);
     mecab_destroy(same);
     mecab_destroy(before);
-    write_whole(path, first, length);
+    write_whole(paths[2], first, length);
+    CHECK(rename(paths[2], path) == 0);
     mecab_t *rewritten = opened();
     CHECK(mecab_dictionary_info(rewritten) != mecab_dictionary_info(renamed) && strcmp(mecab_sparse_tostr(rewritten, LINE), PRINTED) == 0);
     CHECK(strcmp(mecab_sparse_tostr(renamed, LINE), OTHERS) == 0 && strcmp(mecab_sparse_tonode(renamed, LINE)->next->next->feature, "記号,もも") == 0);

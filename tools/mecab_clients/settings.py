@@ -14,7 +14,8 @@ from mecab_clients.common import TOP, run
 
 @dataclass
 class Row:
-    """What is named, also by links and by images in homes; and the images that are taken, the system's first, or what standard error says."""
+    """What is named, also by links, by pipes and by images in homes; and the images that are taken,
+    the system's first, or what standard error says. In a file SUM is the checksum of the images."""
     what: str
     options: list = field(default_factory=list)
     files: dict = field(default_factory=dict)
@@ -24,11 +25,16 @@ class Row:
     users: tuple = ()
     links: dict = field(default_factory=dict)
     homes: tuple = ()
+    pipes: tuple = ()
 
 
 IPADIC, INDEX = "/usr/share/mecab/dic/ipadic", "/usr/lib/mecab/mecab-dict-index"
 A, B = {"KUMQUATSIEVE_DICTIONARY": "HERE/a.img"}, {"MECABRC": "HERE/rc"}
 LONGEST = f"{'x' * 250}.img"
+SEARCHED, HINT = "looked for in OWN/, MADE/, SHARED/", "kumquatsieve-import makes an image"
+OWN_STAMP, OTHER_STAMP = "; image-sha256 SUM\n", f"; image-sha256 {'0' * 64}\n"
+# Who waits for a pipe is ended.
+SECONDS = 60
 OF_C = {"home/.mecabrc": "dicdir = HERE/c.img\n"}
 DATA, RELATIVE = {"XDG_DATA_HOME": "HERE/data"}, {"XDG_DATA_HOME": "data"}
 ROWS = [
@@ -62,6 +68,43 @@ ROWS = [
         said="d.img: can't be opened"),
     Row("an image by its name", ["-d", "own"], homes=("SHARED/own.img",), image="SHARED/own.img"),
     Row("a name of no image", ["-d", "own"], said="own: can't be opened"),
+    Row("where a name was looked for", ["-d", "own"],
+        homes=("MADE/b.img", "SHARED/b.img", "OWN/a.img"),
+        said=f"own: can't be opened: {SEARCHED}; images there: a, b; {HINT}\n"),
+    Row("a user dictionary of a name that no image has", ["-d", "HERE/a.img", "-u", "own"],
+        said=f"own: can't be opened: {SEARCHED}; images there: none; {HINT}\n"),
+    Row("a pipe is no image", ["-d", "own"], homes=("SHARED/x.img",),
+        pipes=("MADE/own.img", "OWN/y.img"),
+        said=f"own: can't be opened: {SEARCHED}; images there: x; {HINT}\n"),
+    Row("an image behind a pipe of its name", ["-d", "own"], homes=("SHARED/own.img",),
+        pipes=("MADE/own.img",), image="SHARED/own.img"),
+    Row("a pipe by its path", ["-d", "HERE/pipe.img"], pipes=("HERE/pipe.img",),
+        said="pipe.img: is no file"),
+    Row("settings that are for the image", ["-d", "HERE/a.img"], {"a.dicrc": OWN_STAMP + "x\n"},
+        said="a.dicrc: line 2: no `=` in x"),
+    Row("settings for another image", ["-d", "HERE/a.img"], {"a.dicrc": OTHER_STAMP + "x\n"},
+        image="a.img"),
+    Row("nor are rules read then", ["-d", "HERE/a.img"],
+        {"a.dicrc": OTHER_STAMP, "a.pos-id.def": "x\n"}, image="a.img"),
+    Row("a second line names no image", ["-d", "HERE/a.img"],
+        {"a.dicrc": f";\n{OTHER_STAMP}x\n"}, said="a.dicrc: line 3: no `=`"),
+    Row("more than a checksum names no image", ["-d", "HERE/a.img"],
+        {"a.dicrc": OTHER_STAMP.replace("0\n", "00\nx\n")}, said="a.dicrc: line 2: no `=`"),
+    Row("a file of MeCab's is for any image", ["-r", "HERE/rc"],
+        {"rc": OTHER_STAMP + "dicdir = HERE/b.img\n"}, image="b.img"),
+    Row("rules that are for the image", ["-d", "HERE/a.img"],
+        {"a.dicrc": "", "a.pos-id.def": OWN_STAMP + "* 1\n名詞 x\n"},
+        said="a.pos-id.def: line 3: "),
+    Row("rules for another image", ["-d", "HERE/a.img"],
+        {"a.dicrc": "", "a.pos-id.def": OTHER_STAMP + "名詞 x\n"}, image="a.img"),
+    Row("blanks in a list of users' dictionaries", ["-r", "HERE/rc"],
+        {"rc": 'dicdir = HERE/b.img\nuserdic = HERE/user.img, "HERE/more.img",\n'},
+        image="b.img", users=("user.img", "more.img")),
+    Row("a blank behind a user dictionary", ["-r", "HERE/rc"],
+        {"rc": "dicdir = HERE/b.img\nuserdic = HERE/user.img \n"},
+        said="user.img : can't be opened"),
+    Row("CR behind a dictionary", ["-r", "HERE/rc"], {"rc": "dicdir = HERE/b.img\r\n"},
+        said="b.img\r: can't be opened"),
     Row("an image in the user's data", ["-d", "x"], {}, DATA, homes=("HERE/data/kumquatsieve/x.img", "OWN/x.img", "MADE/x.img"),
         image="data/kumquatsieve/x.img"),
     Row("an image in the user's home", ["-d", "x"], {}, RELATIVE, homes=("OWN/x.img", "MADE/x.img", "SHARED/x.img"), image="OWN/x.img"),
@@ -106,12 +149,13 @@ def compile_users_image(sample):
 
 
 def write_files(row, folder, sample, here):
+    checksum = sample.read_bytes()[-32:].hex()
     for path, image in images_of(sample).items():
         (folder / path).parent.mkdir(parents=True, exist_ok=True)
         (folder / path).write_bytes(image)
     for path, text in row.files.items():
         (folder / path).parent.mkdir(parents=True, exist_ok=True)
-        (folder / path).write_text(here(text))
+        (folder / path).write_bytes(here(text).replace("SUM", checksum).encode())
     for path, to in row.links.items():
         (folder / path).symlink_to(to)
 
@@ -121,20 +165,26 @@ def told(row, folder, sample, library, here):
     environment = {name: value for name, value in os.environ.items() if name not in ("MECABRC", "KUMQUATSIEVE_DICTIONARY", "XDG_DATA_HOME")}
     environment |= {"HOME": str(folder / "home"), "LD_LIBRARY_PATH": str(library.parent)}
     environment |= {name: here(value) for name, value in row.environment.items()}
-    homes = [Path(here(name)) for name in row.homes]
-    for path in homes:
+    homes, pipes = (list(map(Path, map(here, names))) for names in (row.homes, row.pipes))
+    for path in homes + pipes:
         path.parent.mkdir(parents=True, exist_ok=True)
-        shutil.copyfile(sample, path)
-    done = subprocess.run(["mecab", "-D", *map(here, row.options)], capture_output=True, text=True, env=environment)
     for path in homes:
+        shutil.copyfile(sample, path)
+    for path in pipes:
+        os.mkfifo(path)
+    words = ["mecab", "-D", *map(here, row.options)]
+    done = subprocess.run(words, capture_output=True, env=environment, timeout=SECONDS)
+    for path in homes + pipes:
         path.unlink()
-    return done.returncode, done.stdout, done.stderr
+    return done.returncode, done.stdout.decode(), done.stderr.decode()
 
 
 def in_place(text, own, prefix):
     """A row's text with the paths of this place."""
     homes = {"OWN": own / "home" / ".local" / "share", "MADE": prefix / "var" / "lib", "SHARED": prefix / "share"}
     for name, home in homes.items():
+        for end in ",;":
+            text = text.replace(f"{name}/{end}", f"{home}/kumquatsieve{end}")
         text = text.replace(f"{name}/", f"{home}/kumquatsieve/")
     return text.replace("HERE", str(own)).replace("USER", str(own.parent / "user.dic"))
 

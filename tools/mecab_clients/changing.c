@@ -1,0 +1,60 @@
+/* An image that another one takes the place of while it is opened: changing IMG OTHER. What was
+   read of IMG before, its sizes and its settings, doesn't go with OTHER. And an image that is
+   changed again and again is rejected after some tries. Linked with
+   -Wl,--wrap=kumquatsieve_open. */
+#include "check.h"
+#include <fcntl.h>
+#include <kumquatsieve.h>
+#include <sys/stat.h>
+
+enum { ALWAYS = 1000 };
+
+static const char *path, *other;
+static int changes, opens;
+
+uint32_t __real_kumquatsieve_open(
+    kumquatsieve_cutter *cutter, const char *name, unsigned how, uint64_t *number
+);
+uint32_t __wrap_kumquatsieve_open(
+    kumquatsieve_cutter *cutter, const char *name, unsigned how, uint64_t *number
+);
+
+/* Gives the image a time of writing that it never had. */
+static void touch(void) {
+    static time_t last;
+    struct timespec times[2] = {{.tv_nsec = UTIME_OMIT}, {.tv_sec = ++last}};
+    CHECK(utimensat(AT_FDCWD, path, times, 0) == 0);
+}
+
+/* Each open comes just after a change, as long as there are changes left. The first one is a
+   rename, and the others set the time of writing. */
+uint32_t __wrap_kumquatsieve_open(
+    kumquatsieve_cutter *cutter, const char *name, unsigned how, uint64_t *number
+) {
+    opens++;
+    if (changes > 0 && other) CHECK(rename(other, path) == 0);
+    else if (changes > 0) touch();
+    changes -= changes > 0;
+    other = NULL;
+    return __real_kumquatsieve_open(cutter, name, how, number);
+}
+
+int main(int given, char **words) {
+    CHECK(given == 3);
+    path = words[1];
+    other = words[2];
+    changes = 1;
+    mecab_t *tagger = mecab_new2(words_of(path, ""));
+    CHECK(tagger && opens == 2 && mecab_dictionary_info(tagger)->size == 4);
+    CHECK(strcmp(mecab_sparse_tostr(tagger, "空"), "空\t記号,空\nEOS\n") == 0);
+    const mecab_node_t *node = mecab_sparse_tonode(tagger, "空");
+    CHECK(strcmp(node->feature, "OTHER") == 0 && strcmp(node->next->feature, "記号,空") == 0);
+    mecab_destroy(tagger);
+    touch();
+    changes = ALWAYS;
+    opens = 0;
+    CHECK(!mecab_new2(words_of(path, "")) && opens > 1 && opens < ALWAYS);
+    CHECK(strstr(mecab_strerror(NULL), "was changed while it was opened"));
+    puts("changing: an image that is changed while it is opened is opened anew, with its settings");
+    return 0;
+}
