@@ -34,9 +34,9 @@ pub use exports::{
 pub use handle::Handle;
 pub use loading_exports::{
     kumquatsieve_add_user, kumquatsieve_add_user_buffer, kumquatsieve_add_user_by,
-    kumquatsieve_add_user_lent, kumquatsieve_buffer_append, kumquatsieve_buffer_free,
-    kumquatsieve_load, kumquatsieve_load_buffer, kumquatsieve_load_by, kumquatsieve_load_lent,
-    kumquatsieve_load_trusted,
+    kumquatsieve_add_user_lent, kumquatsieve_add_user_trusted, kumquatsieve_buffer_append,
+    kumquatsieve_buffer_free, kumquatsieve_load, kumquatsieve_load_buffer, kumquatsieve_load_by,
+    kumquatsieve_load_lent, kumquatsieve_load_trusted,
 };
 pub use nodes::kumquatsieve_nodes;
 pub use tellers::{

@@ -3,8 +3,8 @@
 ghost use Rattle.std.specs.Prelude.{◌≡◌, IfErr, OnOk, OnErr};
 ghost use Rattle.cutter.specs.Faults.{IsLoadRefusal, PassesToKeys};
 ghost use Rattle.cutter.specs.declared.fault.CutFault.TheVariants.{Memory};
-ghost use Rattle.cutter_c.specs.Calls.{IsLoadedFrom, IsShared};
-ghost use Rattle.cutter_c.specs.Handles.{Fills, FillsFrom, IsFillRefusal, IsShareRefusal, cutter_in};
+ghost use Rattle.cutter_c.specs.Calls.{IsExtended, IsLoadedFrom, IsShared, IsUserFault};
+ghost use Rattle.cutter_c.specs.Handles.{Fills, FillsFrom, IsFillRefusal, IsRefusal, IsShareRefusal, Moves, cutter_in};
 ghost use Rattle.cutter_c.specs.declared.fault.CallFault.TheVariants.{Cut};
 ghost use Rattle.cutter.specs.Trusted.{IsTrusted};
 ghost use Rattle.image_bytes.specs.declared.digest_test.DigestTest.TheVariants.{Made};
@@ -73,6 +73,21 @@ pub fn load_trusted(alloc: Global, cutter: &mut Handle, image: ImageBytes) -> Re
     }
     cutter.put(Session::over_trusted(alloc, image).map_err(CallFault::Cut)?);
     Ok(())
+}
+
+/// Lays a user's image that is intact over the dictionaries of a handle's cutter, without its tests.
+pub fn add_trusted(alloc: Global, cutter: &mut Handle, image: ImageBytes) -> Result<(), CallFault>
+    requires { IsTrusted image }
+    ensures added { OnOk result
+        (Moves (cutter_in cutter.old) (cutter_in cutter.new) (IsExtended Made image)) }
+    ensures refused { IfErr result
+        (IsRefusal (cutter_in cutter.old) (IsUserFault Made image)) }
+    ensures kept { OnErr result (cutter_in cutter.new ≡ cutter_in cutter.old) }
+{
+    let mut session = cutter.take(alloc).ok_or(CallFault::EmptyCutter)?;
+    let answer = session.add_trusted_user(image);
+    cutter.put(session);
+    answer.map_err(CallFault::Cut)
 }
 
 /// Fills an empty handle with a cutter over the dictionaries of another handle's.

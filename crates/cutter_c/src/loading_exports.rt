@@ -210,3 +210,20 @@ pub extern "C" fn kumquatsieve_load_trusted(
     let image = ImageBytes::lent(LentBytes::of(image));
     told(loading::load_trusted(alloc, cutter, image), number)
 }
+
+/// Lays a user's image that lies in memory of C's, and that C knows to be intact, over the dictionaries of a handle's cutter: no test of
+/// the image is made.
+#[unsafe(no_mangle)]
+pub extern "C" fn kumquatsieve_add_user_trusted(
+    alloc: Global,
+    cutter: &mut Handle,
+    image: Loan,
+    number: &mut u64,
+) -> u32
+    requires { IsTrusted image.bytes }
+    ensures { TellsUser Made image.bytes
+        (cutter_in cutter.old) (cutter_in cutter.new) number.old number.new result }
+{
+    let image = ImageBytes::lent(LentBytes::of(image));
+    told(loading::add_trusted(alloc, cutter, image), number)
+}

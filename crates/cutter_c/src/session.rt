@@ -88,4 +88,14 @@ impl Session {
     {
         self.cutter.add_user(image, digest)
     }
+
+    /// Lays a user's image that is intact over the dictionaries, without its tests.
+    pub fn add_trusted_user(&mut self, image: ImageBytes) -> Result<(), CutFault>
+        requires { IsTrusted image }
+        ensures added { OnOk result (IsExtended Made image self.old.cutter self.new.cutter) }
+        ensures refused { IfErr result (IsUserFault Made image self.old.cutter) }
+        ensures kept { OnErr result (self.new.cutter ≡ self.old.cutter) }
+    {
+        self.cutter.add_trusted_user(image)
+    }
 }
