@@ -1,6 +1,7 @@
 /* Files that change while they are opened, and calls of the system that fail: changing SYSTEM.img
-   USER.img FOLDER [stopped]. The folder is empty. With `stopped` a child is stopped by the file
-   that another one has truncated. Linked with --wrap of mmap, syscall and read. */
+   USER.img FOLDER [plain]. The folder is empty. `plain` adds what valgrind can't do: a file of 2^62
+   bytes, and a child that is stopped by a file that was truncated. Linked with --wrap of mmap,
+   syscall and read. */
 #define _GNU_SOURCE
 #include "maps.h"
 #include <errno.h>
@@ -190,9 +191,11 @@ int main(int given, char **paths) {
     sys = read_file(paths[1]);
     CHECK(chdir(paths[3]) == 0);
     for (size_t i = 0; i < ROWS(ROWS_OF); i++) check_row(&ROWS_OF[i]);
-    too_large();
     few_descriptors();
-    if (given == 5) stopped();
+    if (given == 5) {
+        stopped();
+        too_large();
+    }
     free(sys.bytes);
     printf("changing: %zu changes and failures while a file is opened\n", ROWS(ROWS_OF));
     return 0;

@@ -6,8 +6,8 @@
 #include <sys/stat.h>
 #include <sys/sysmacros.h>
 
-/* How often the file at a path is mapped; all mappings without a path. Only those of MAP_SHARED
-   count for a path. */
+/* How often the file at a path is mapped shared, as the library maps files; without a path, how
+   often any file is. */
 static inline size_t mappings_of(const char *path) {
     char line[8192], flags[8];
     size_t count = 0;
@@ -18,8 +18,8 @@ static inline size_t mappings_of(const char *path) {
     CHECK(maps && (!path || stat(path, &of) == 0));
     while (fgets(line, sizeof line, maps)) {
         CHECK(sscanf(line, "%*x-%*x %7s %*x %x:%x %lu", flags, &first, &second, &inode) == 4);
-        bool is_of = inode == of.st_ino && first == major(of.st_dev) && second == minor(of.st_dev);
-        count += !path || (is_of && flags[3] == 's');
+        bool is_device = first == major(of.st_dev) && second == minor(of.st_dev);
+        count += flags[3] == 's' && (!path || (is_device && inode == of.st_ino));
     }
     fclose(maps);
     return count;

@@ -29,7 +29,7 @@ def check_rows(library, system, user):
         program = library.compiled(C / f"{name}.c", *flags)
         in_folders([*VALGRIND, program, system, user], where)
     with tempfile.TemporaryDirectory(dir=library.folder) as own:
-        show([library.folder / "changing", system, user, own, "stopped"])
+        show([library.folder / "changing", system, user, own, "plain"])
 
 
 def check_threads(library, system, user):

@@ -15,6 +15,7 @@ import subprocess
 import sys
 import tempfile
 from pathlib import Path
+from typing import List, Tuple
 
 sys.dont_write_bytecode = True
 sys.path.insert(0, str(Path(__file__).resolve().parent.parent))
@@ -23,8 +24,6 @@ from library_rows.places import BAD_USER, BAD_USER_1, BAD_USER_2, Place  # noqa:
 from library_rows.places import bad_system, bad_system_2  # noqa: E402
 from library_rows.trust_cases import OF_ANYONE, OF_ROOT, Case  # noqa: E402
 
-# Whether the record of a user's image is believed too.
-USERS_ARE_BELIEVED = False
 ACCEPTED, BAD_TEXT, BAD_SECTION = 0, 0x4C07, 0x4C04
 LOCAL = "ext2 ext3 ext4 xfs btrfs tmpfs overlay f2fs zfs squashfs erofs".split()
 IN_NAMESPACE = "TRUST_IN_NAMESPACE"
@@ -64,9 +63,9 @@ def run_case(case: Case, place: Place, trusting: Path) -> None:
 def run_others(system: Path, folder: Path, trusting: Path) -> int:
     """Images of users and of older layouts, each with a valid record."""
     older = bad_system_2(system.read_bytes())
-    rows = [
+    rows: List[Tuple[str, bytes, List[Path], int]] = [
         # (what, the image, the system's that it is laid over, the code)
-        ("a user's", BAD_USER, [system], ACCEPTED if USERS_ARE_BELIEVED else BAD_TEXT),
+        ("a user's", BAD_USER, [system], ACCEPTED),
         ("a user's of layout 1", BAD_USER_1, [system], BAD_TEXT),
         ("a user's of layout 2", BAD_USER_2, [system], BAD_TEXT),
         ("a system's of layout 2", older, [], BAD_SECTION),

@@ -7,7 +7,6 @@ use Rattle.std_alloc.specs.contracts.boxed.Box.from_raw as from_raw
 use Rattle.std_alloc.specs.contracts.boxed.Box.into_raw as into_raw
 use seplogic.Ra.Ura.{Ura}
 use mir.Val.{Val}
-use base.Fml.{flft, ftrue}
 use base.Fraction.{full_share}
 use base.Logic.{SProp, ent, emp, guard}
 use contract.BorrowLft.{◌⊑◌}
