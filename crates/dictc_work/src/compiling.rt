@@ -19,8 +19,8 @@ use dict_image::{Dict, DigestTest};
 use matrix_def::Matrix;
 use mj_model::{OverlayFault, SourceFault};
 use programs::{
-    Fault, Narrator, Progress, SourceFiles, Stage, WholeFile, dictionary_at, lexicon_path,
-    read_files, texts, write_file,
+    Fault, Narrator, Progress, SourceFiles, Stage, WholeFile, dictionary_at, digest_left,
+    lexicon_path, read_files, texts, write_file,
 };
 use std::string::String;
 
@@ -74,7 +74,8 @@ fn compile_files(
         }
         Base::System { dic, skip_digest } => {
             let dic = dic.as_str();
-            let system = dictionary_at(rt, dic, DigestTest::skipped_if(*skip_digest))?;
+            let digest = digest_left(rt, dic, DigestTest::skipped_if(*skip_digest));
+            let system = dictionary_at(rt, dic, digest)?;
             narrator.say(Stage::Loaded { path: dic });
             compile_user_files(rt, (dic, &system), options, narrator)
         }

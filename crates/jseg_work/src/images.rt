@@ -10,7 +10,7 @@ use crate::cutting::Manner;
 use crate::printing::cut_over;
 use dict_image::DigestTest;
 use mj_model::{Counted, OverlayFault, RunFault};
-use programs::{Fault, Stage, dictionaries_at, dictionary_at};
+use programs::{Fault, Stage, dictionaries_at, dictionary_at, digest_left, digest_left_of_all};
 use std::alloc::Global;
 use std::io::Write;
 use std::string::String;
@@ -23,9 +23,9 @@ pub fn cut_by_images(
     digest: DigestTest,
     manner: &Manner<'_>,
 ) -> Result<u64, Fault> {
-    let mut system = dictionary_at(rt, dic, digest)?;
+    let mut system = dictionary_at(rt, dic, digest_left(rt, dic, digest))?;
     manner.narrator.say(Stage::Loaded { path: dic });
-    let overlays = dictionaries_at(rt, users, digest)?;
+    let overlays = dictionaries_at(rt, users, digest_left_of_all(rt, users, digest))?;
     let stdin = Counted::new(rt.reader());
     let text = begin(rt.alloc(), &mut system, &overlays, stdin).map_err(|_refused| Fault::Run(
         RunFault::Memory(0),

@@ -24,6 +24,7 @@ mod row_of_image;
 mod source_files;
 mod stage;
 mod surroundings;
+mod test_record;
 mod whole_file;
 mod writing;
 
@@ -48,5 +49,6 @@ pub use row_of_image::image_row;
 pub use source_files::{SourceFiles, lexicon_path};
 pub use stage::Stage;
 pub use surroundings::{Surroundings, prefix_of};
+pub use test_record::{digest_left, digest_left_of_all};
 pub use whole_file::{WholeFile, read_files, texts};
 pub use writing::{write_as, write_file};

@@ -7,7 +7,7 @@ use super::template::Template;
 use command_lines::dictc::IdsOptions;
 use dict_image::{Dict, DigestTest};
 use mj_model::OverlayFault;
-use programs::{Fault, Narrator, Stage, dictionary_at, write_whole};
+use programs::{Fault, Narrator, Stage, dictionary_at, digest_left, write_whole};
 use std::alloc::{AllocError, Global};
 use std::io::{self, Write};
 use std::slice;
@@ -100,7 +100,7 @@ fn loaded_at(
     digest: DigestTest,
     narrator: &Narrator<'_>,
 ) -> Result<Dict, Fault> {
-    let dict = dictionary_at(rt, path, digest)?;
+    let dict = dictionary_at(rt, path, digest_left(rt, path, digest))?;
     narrator.say(Stage::Loaded { path });
     Ok(dict)
 }
