@@ -81,6 +81,9 @@ THIRD = word(2, 9, 15, r"もも\n名詞\ncost 30\ntotal 147\nlost 0")
 FOURTH = word(3, 12, 15, r"も\n助詞\ncost 20\ntotal 164\nlost 17", False)
 UNKNOWN = r"\n未知\ncost 1000\ntotal 1010\nlost 0"
 QUOTED = word(0, 0, 3, r"も\n名詞 \"も\"\ncost 20\ntotal 30\nlost 0")
+CONTROLS, C1, NONE = r"\\u{0}\\u{1f}\\u{7f}", "\\\\u{80}\\\\u{9f}\xa0", "\\\\u{fffe}\\\\u{ffff}\ufffd"
+ODD = {LEXICON: "も,1,1,20,\ufffe\x1b\uffff\u0085\uffe6¢\n".encode()}
+IN_FEATURE = word(0, 0, 3, "も\\n\\\\u{fffe}\\\\u{1b}\\\\u{ffff}\\\\u{85}\uffe6¢\\ncost 20\\ntotal 30\\nlost 0")
 GRAPHS = [
     # (what, words, line, graph, what else is there)
     ("all nodes", "--sample", "すもももも", graph("すもももも", FIRST, SECOND, THIRD, FOURTH), {}),
@@ -89,7 +92,10 @@ GRAPHS = [
     ("what lost by 16 at most", "--sample --within 16", "すもももも", graph("すもももも", FIRST, THIRD), {}),
     ("no word", "--sample", "", graph(""), {}),
     ("a quote, an ampersand and a backslash", "--sample", '"&\\', graph(r"\"&amp;\\", word(0, 0, 3, r"\"&amp;\\" + UNKNOWN)), {}),
-    ("control characters", "--sample", "\0\x1f\x7f", graph("␀␟␡", word(0, 0, 3, f"␀␟␡{UNKNOWN}")), {}),
+    ("control characters", "--sample", "\0\x1f\x7f", graph(CONTROLS, word(0, 0, 3, CONTROLS + UNKNOWN)), {}),
+    ("controls of two bytes", "--sample", "\x80\x9f\xa0", graph(C1, word(0, 0, 6, C1 + UNKNOWN)), {}),
+    ("no characters", "--sample", "\ufffe\uffff\ufffd", graph(NONE, word(0, 0, 9, NONE + UNKNOWN)), {}),
+    ("no character in a feature", "--sources a", "も", graph("も", IN_FEATURE), ODD),
     ("a field with quotes", "--sources a", "も", graph("も", QUOTED), FIELDS),
 ]
 

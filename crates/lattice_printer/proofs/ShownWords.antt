@@ -1,6 +1,6 @@
 -- What was appended of one word, and of a lattice as a whole.
 use Rattle.std.proofs.Common.{◌≡◌, ℕ, List, [], ◌++◌, Bool, Result, Ok, Err, ap, ◌∙◌, refl, subst, append_assoc, slice_get}
-use Rattle.std.specs.Prelude.{ℤ, OnOk, flat_map, unwrap_or}
+use Rattle.std.specs.Prelude.{ℤ, OnOk, unwrap_or}
 use Rattle.mj_model.specs.Fields.{AreFields}
 use Rattle.mj_model.specs.Lists.{GrowsBy}
 use Rattle.mj_model.specs.Printed.{feature_of}
@@ -8,7 +8,7 @@ use Rattle.mj_model.specs.Tables.{Overlay}
 use Rattle.lex_source.specs.Answers.{GrowsByField}
 use Rattle.lattice_nodes.specs.declared.lattice_node.LatticeNode.{LatticeNode}
 use Rattle.lattice_printer.specs.Dot.{ShowsWord, box_costs, box_front, dot_word}
-use Rattle.lattice_printer.specs.Escapes.{in_label}
+use Rattle.lattice_printer.specs.Escapes.{label_text}
 use Rattle.lattice_printer.specs.LatticesOfLines.{IsMarkedAt, overlay_of_lattice}
 use Rattle.lattice_printer.specs.MarkedNodes.{Marked}
 use Rattle.lattice_printer.specs.NodesInLine.{marked_of, overlay_in}
@@ -23,14 +23,14 @@ three old first second new a b c one two more =
 
 pub word_shown : {E : Type 0} (r : Result (Unit {0}) E) (o : Overlay) (line : List ℕ) (best : ℤ) (m : Marked) (feature none field held old first second new : List ℕ) (found : Bool)
     → none ≡ [] → feature ≡ feature_of o m.node.word.origin → GrowsByField feature 0 found none field → held ≡ field
-    → first ≡ old ++ box_front line m → second ≡ first ++ flat_map in_label held → OnOk r (new ≡ second ++ box_costs best m) → OnOk r (GrowsBy (ShowsWord o line best m) old new)
+    → first ≡ old ++ box_front line m → second ≡ first ++ label_text held → OnOk r (new ≡ second ++ box_costs best m) → OnOk r (GrowsBy (ShowsWord o line best m) old new)
 word_shown (Err e) o line best m feature none field held old first second new found none_is feature_is grown held_is a b c = tt
 word_shown (Ok x) o line best m feature none field held old first second new found none_is feature_is (fields, are, there, grown) held_is a b c =
     let f = unwrap_or (slice_get fields 0) [] in
     let is : held ≡ f = held_is ∙ grown ∙ ap (λ (text : List ℕ). text ++ f) none_is in (
       dot_word line best m f,
       (fields, subst (λ (text : List ℕ). AreFields text fields) feature_is are, refl),
-      three old first second new (box_front line m) (flat_map in_label held) (box_costs best m) a b c ∙ ap (λ (text : List ℕ). old ++ dot_word line best m text) is,
+      three old first second new (box_front line m) (label_text held) (box_costs best m) a b c ∙ ap (λ (text : List ℕ). old ++ dot_word line best m text) is,
     )
 
 pub shown_there : (f : LatticeFormat) (l : LineLattice) (number : ℕ) (m : MarkedNode) (old new : List ℕ) → IsMarkedAt l number m → GrowsBy (ShowsNear f (overlay_in m) m.text.now m.best (marked_of m)) old new

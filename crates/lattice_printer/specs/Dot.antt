@@ -6,7 +6,7 @@ use Rattle.mj_model.specs.Fields.{AreFields}
 use Rattle.mj_model.specs.Printed.{feature_of}
 use Rattle.mj_model.specs.Tables.{Overlay}
 use Rattle.paths.specs.Laws.{between}
-use Rattle.lattice_printer.specs.Escapes.{in_label}
+use Rattle.lattice_printer.specs.Escapes.{label_text}
 use Rattle.lattice_printer.specs.MarkedNodes.{Marked, lost}
 use Rattle.lattice_printer.specs.Tsv.{cost_cell}
 
@@ -16,7 +16,7 @@ joined = flat_map (λ (text : List ℕ). text)
 
 -- the graph goes from left to right, and has the line as its label
 abbrev pub dot_head : List ℕ → List ℕ
-dot_head line = joined (codes "digraph {\n  rankdir=LR;\n  label=\"" ∷ flat_map in_label line ∷ codes "\";\n  node [shape=circle];\n" ∷ [])
+dot_head line = joined (codes "digraph {\n  rankdir=LR;\n  label=\"" ∷ label_text line ∷ codes "\";\n  node [shape=circle];\n" ∷ [])
 
 -- what the box of a word on the best path has besides
 abbrev pub box_style : Bool → List ℕ
@@ -37,7 +37,7 @@ lost_word (Some by) = codes "lost "
 abbrev pub box_front : List ℕ → Marked → List ℕ
 box_front line m =
     let w = m.node.word in
-    joined (codes "  w" ∷ decimal m.number ∷ codes " [shape=box" ∷ box_style m.is_best ∷ codes ", label=\"" ∷ flat_map in_label (between line w.start w.end) ∷ codes "\\n" ∷ [])
+    joined (codes "  w" ∷ decimal m.number ∷ codes " [shape=box" ∷ box_style m.is_best ∷ codes ", label=\"" ∷ label_text (between line w.start w.end) ∷ codes "\\n" ∷ [])
 
 -- its word cost, the least cost up to and with it, and by how much it lost; then the edges from its place to the box and on to where it ends
 abbrev pub box_costs : ℤ → Marked → List ℕ
@@ -50,7 +50,7 @@ box_costs best m =
 
 -- a word of a line whose best path costs so much, with a field
 abbrev pub dot_word : List ℕ → ℤ → Marked → List ℕ → List ℕ
-dot_word line best m field = box_front line m ++ (flat_map in_label field ++ box_costs best m)
+dot_word line best m field = box_front line m ++ (label_text field ++ box_costs best m)
 
 -- the same with the first field of its feature
 abbrev pub ShowsWord : Overlay → List ℕ → ℤ → Marked → List ℕ → Type 0

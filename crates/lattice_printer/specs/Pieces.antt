@@ -1,5 +1,5 @@
 -- The texts of the pieces of rows.
-use Rattle.std.specs.Prelude.{ℕ, List, flat_map}
+use Rattle.std.specs.Prelude.{ℕ, List}
 use Rattle.std.specs.Fmt.{decimal, signed_decimal}
 use Rattle.lattice_printer.specs.declared.piece.Piece.{Piece}
 use Rattle.lattice_printer.specs.declared.piece.Piece.TheVariants as piece
@@ -9,4 +9,4 @@ abbrev pub piece_text : Piece → List ℕ
 piece_text (piece.Bytes bytes) = bytes.now
 piece_text (piece.Count count) = decimal count
 piece_text (piece.Cost cost) = signed_decimal cost
-piece_text (piece.Escaped escape bytes) = flat_map (escaped escape) bytes.now
+piece_text (piece.Escaped escape bytes) = escaped escape bytes.now
