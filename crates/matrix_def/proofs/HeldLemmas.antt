@@ -6,10 +6,11 @@ use Rattle.std.proofs.lemmas.Bool.{both_ways, cases_Bool, lt-ltb, or_from, or_pa
 use Rattle.std.proofs.lemmas.List.{length-append, take_all, take_more}
 use Rattle.std.proofs.lemmas.List.Folds.{list_any-append, list_any_at}
 use Rattle.mj_model.specs.Bytes.{carriage_return, is_line_feed}
-use Rattle.mj_model.specs.Lines.{without_return}
-use Rattle.matrix_def.specs.Held.{GoesOnAs, IsHeldAs, IsSameLine, SaysTheSame}
+use Rattle.mj_model.specs.Connection.{sizes_from, words_of}
+use Rattle.mj_model.specs.Lines.{is_blank_line, without_return}
+use Rattle.matrix_def.specs.Held.{EndsTooFar, GoesOnAs, IsHeldAs, IsNoHeader, IsSameLine, SaysTheSame}
 use Rattle.matrix_def.specs.Reading.{HasNoFeed}
-use Rattle.matrix_def.proofs.LastWords.{says_same}
+use Rattle.matrix_def.proofs.LastWords.{says_same, too_far_no_sizes}
 
 -- ---- lines that say the same
 
@@ -93,3 +94,19 @@ feed_next begun part old i in' none before =
       | inr other ↦ other
     ] in
     feed_append old (get_or part i 0 ∷ []) before (or_from (is_line_feed (get_or part i 0)) false here refl)
+
+-- ---- what is no header
+
+-- the last byte is not judged
+pub no_header : (begun front : List ℕ) (last : ℕ) → begun ≡ front ++ last ∷ [] → EndsTooFar front → IsNoHeader begun
+no_header begun front last is ends = λ more.
+    let rest : List ℕ = without_return (last ∷ more) in
+    let line : without_return (begun ++ more) ≡ front ++ rest =
+    ap without_return (ap (λ (bs : List ℕ). bs ++ more) is ∙ append_assoc front (last ∷ []) more) ∙ return_behind front last more in
+    let p = too_far_no_sizes front rest ends in
+    (ap is_blank_line line ∙ p.0, ap (λ (bs : List ℕ). sizes_from (words_of bs)) line ∙ p.1)
+
+pub no_header_came : (came begun : List ℕ) → IsHeldAs came begun → IsNoHeader begun → IsNoHeader came
+no_header_came came begun held none = λ more.
+    let same = held more in
+    (same.blank ∙ (none more).0, same.sizes ∙ (none more).1)

@@ -1,7 +1,7 @@
 -- The last word of a line that began, and what follows in it.
-use Rattle.std.proofs.Common.{◌≡◌, ℕ, ◌+◌, ◌-◌, ◌<◌, ◌≤◌, suc, Bool, true, false, cond, ◌&&◌, List, [], ◌∷◌, ◌++◌, length, take, drop, get_or, refl, sym, ◌∙◌, ap, subst, arith, Option, None, inl, inr, append_assoc, length-take, length-drop}
+use Rattle.std.proofs.Common.{◌≡◌, ℕ, ◌+◌, ◌-◌, ◌<◌, ◌≤◌, suc, Bool, true, false, cond, ◌&&◌, List, [], ◌∷◌, ◌++◌, length, take, drop, get_or, refl, sym, ◌∙◌, ap, subst, arith, Option, None, Some, inl, inr, append_assoc, length-take, length-drop}
 use Rattle.std.proofs.Math.Seq.{take-append-add, drop-append-add}
-use Rattle.std.specs.Prelude.{filter, not, nat_lt, option_map, option_and_then}
+use Rattle.std.specs.Prelude.{pos, filter, not, nat_lt, option_map, option_and_then}
 use Rattle.std.specs.List.{list_any, list_all, slice_split, onto_first, position_or_len, prefix_len, before_first}
 use Rattle.std.proofs.lemmas.Bool.{cases_Bool, cases_lt, or_parts, and_left, and_right}
 use Rattle.std.proofs.lemmas.List.{append-nil, get_or-drop, get_or-take, get_or_default, take-append-drop, take_more}
@@ -14,7 +14,7 @@ use Rattle.mj_model.specs.Connection.{cell_from, sizes_from, words_of, size as s
 use Rattle.mj_model.specs.Lines.{is_blank_line}
 use Rattle.mj_model.specs.Numbers.{context_id, cost}
 use Rattle.lex_source.proofs.WordLemmas.{a_word}
-use Rattle.matrix_def.specs.Held.{GoesOnAs, HasNoBlank, HasThree, IsClosed, IsLastWord, IsSettled, SaysTheSame, near_number}
+use Rattle.matrix_def.specs.Held.{EndsTooFar, GoesOnAs, HasNoBlank, HasThree, IsClosed, IsLastWord, IsSettled, IsTooFar, SaysTheSame, near_number}
 use Rattle.matrix_def.proofs.NearNumbers.{same_context_id, same_cost, same_size}
 
 -- ---- words before a blank, and behind it
@@ -113,6 +113,22 @@ same_cells (w ∷ x ∷ []) [] u v same =
 same_cells (w ∷ x ∷ []) (y ∷ behind) u v same = refl
 same_cells (w ∷ x ∷ y ∷ []) behind u v same = refl
 same_cells (w ∷ x ∷ y ∷ z ∷ words) behind u v same = refl
+
+-- a word that is no size
+no_left : {X : Type 0} (f : ℕ → ℕ → X) (o : Option ℕ) → option_and_then (λ right. option_map (f right) None) o ≡ None
+no_left f None = refl
+no_left f (Some right) = refl
+
+no_size : (words behind : List (List ℕ)) (u : List ℕ) → size_of u ≡ None → sizes_from (words ++ u ∷ behind) ≡ None
+no_size [] [] u none = refl
+no_size [] (x ∷ []) u none = ap (option_and_then (λ right. option_map (λ left. record { right = right; left = left }) (size_of x))) none
+no_size [] (x ∷ y ∷ behind) u none = refl
+no_size (w ∷ []) [] u none =
+    ap (λ (o : Option ℕ). option_and_then (λ right. option_map (λ left. record { right = right; left = left }) o) (size_of w)) none
+    ∙ no_left (λ right left. record { right = right; left = left }) (size_of w)
+no_size (w ∷ []) (x ∷ behind) u none = refl
+no_size (w ∷ x ∷ []) behind u none = refl
+no_size (w ∷ x ∷ y ∷ words) behind u none = refl
 
 -- four words say nothing
 no_sizes : (words behind : List (List ℕ)) (u : List ℕ) → HasThree words → sizes_from (words ++ u ∷ behind) ≡ None
@@ -239,3 +255,18 @@ drops_settled begun front [] byte cut some other settled = absurd (omega (arith,
 drops_settled begun front (c ∷ cs) byte cut some other settled = λ more.
     alike _ _ (front ++ ((c ∷ cs) ++ byte ∷ more)) (front ++ ((c ∷ cs) ++ more)) (joined begun front (c ∷ cs) byte more cut.parts) (kept begun front (c ∷ cs) more cut.parts)
     (in_settled front c byte cs more cut.closed cut.plain other settled)
+
+-- a line whose last word is no number, whatever follows in it, is no header
+no_sizes_by : (front more : List ℕ) (word : List ℕ) → IsClosed front → HasNoBlank word → IsTooFar word
+    → (is_blank_line (front ++ (word ++ more)) ≡ false) × (sizes_from (words_of (front ++ (word ++ more))) ≡ None)
+no_sizes_by front more [] closed plain far = let zero : Some (pos 0) ≡ None = far (0x30 ∷ []) refl in absurd (cc)
+no_sizes_by front more (c ∷ cs) closed plain far =
+    let u : List ℕ = (c ∷ cs) ++ in_word more in
+    let none : size_of u ≡ None = same_size u [] (far (in_word more) (in_word_plain more)) in
+    (filled front more c cs plain, ap sizes_from (line_words front more c cs closed plain) ∙ no_size (words_of front) (words_of (behind_word more)) u none)
+
+pub too_far_no_sizes : (line more : List ℕ) → EndsTooFar line → (is_blank_line (line ++ more) ≡ false) × (sizes_from (words_of (line ++ more)) ≡ None)
+too_far_no_sizes line more ends =
+    let is : line ++ more ≡ ends.front ++ (ends.word ++ more) = ap (λ (bs : List ℕ). bs ++ more) ends.is_cut.parts ∙ append_assoc ends.front ends.word more in
+    let p = no_sizes_by ends.front more ends.word ends.is_cut.closed ends.is_cut.plain ends.far in
+    (ap is_blank_line is ∙ p.0, ap (λ (bs : List ℕ). sizes_from (words_of bs)) is ∙ p.1)

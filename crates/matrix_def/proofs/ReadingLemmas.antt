@@ -1,8 +1,8 @@
 -- `matrix.def` line by line: each line that ends goes on from where reading stood.
-use Rattle.std.proofs.Common.{◌≡◌, ℕ, ◌+◌, ◌*◌, Bool, true, false, cond, List, [], ◌∷◌, ◌++◌, length, refl, sym, ◌∙◌, ap, subst, arith, Option, Some, inl, inr, append_assoc, get_or}
-use Rattle.std.proofs.Math.Seq.{take-append_seam, drop-append-add}
+use Rattle.std.proofs.Common.{◌≡◌, ℕ, ◌+◌, ◌*◌, ◌<◌, Bool, true, false, cond, List, [], ◌∷◌, ◌++◌, length, refl, sym, ◌∙◌, ap, subst, arith, Option, Some, inl, inr, append_assoc, get_or}
+use Rattle.std.proofs.Math.Seq.{take-append-add, take-append_seam, drop-append-add}
 use Rattle.std.specs.Prelude.{map, not, ◌||◌, take, drop, nat_le, slice_set, Err}
-use Rattle.std.specs.List.{enumerate_from, list_any, position_or_len}
+use Rattle.std.specs.List.{after_first, before_first, enumerate_from, list_any, position_or_len}
 use Rattle.std.proofs.lemmas.Bool.{cases_Bool, cond-true, or_parts}
 use Rattle.std.proofs.lemmas.List.{append-nil, length-append, map-append}
 use Rattle.std.proofs.lemmas.List.Elements.{filter-append}
@@ -11,6 +11,7 @@ use Rattle.mj_model.specs.declared.limits.TheConstants.{MATRIX_CELLS_MAX}
 use Rattle.mj_model.specs.declared.matrix_sizes.MatrixSizes.{MatrixSizes}
 use Rattle.mj_model.specs.declared.source_fault.SourceFault.{SourceFault}
 use Rattle.mj_model.specs.declared.source_fault.SourceKind.{SourceKind}
+use Rattle.mj_model.specs.declared.source_fault.SourceKind.TheVariants.{BadHeader}
 use Rattle.mj_model.specs.Bytes.{is_line_feed, line_feed}
 use Rattle.mj_model.specs.Connection.{Cell, connection_from, connection_under, connection_unless, cell_fault, row_fault}
 use Rattle.mj_model.specs.FirstFault.{first_fault}
@@ -20,10 +21,11 @@ use Rattle.lex_source.specs.Filled.{nonblank_lines}
 use Rattle.lex_source.proofs.LineLemmas.{cut_lines, last_line}
 use Rattle.matrix_def.specs.Costs.{CostTable, IsMatrix, cell_at}
 use Rattle.matrix_def.specs.declared.standing.Standing.{Standing}
-use Rattle.matrix_def.specs.Held.{IsHeldAs, IsSameLine, SaysTheSame}
-use Rattle.matrix_def.specs.Reading.{Fill, HasNoFeed, HasRead, ReaderSeen, StandsAfter, row_of, told_lines, told_number}
+use Rattle.matrix_def.specs.declared.standing.Standing.TheVariants.{Header}
+use Rattle.matrix_def.specs.Held.{IsHeldAs, IsNoHeader, IsSameLine, SaysTheSame}
+use Rattle.matrix_def.specs.Reading.{Fill, HasNoFeed, HasRead, ReaderSeen, StandsAfter, row_of, told_connection, told_lines, told_number}
 use Rattle.matrix_def.specs.Rows.{IsRow}
-use Rattle.matrix_def.proofs.HeldLemmas.{feed_append, held_with, same_line}
+use Rattle.matrix_def.proofs.HeldLemmas.{feed_append, held_with, no_header_came, same_line}
 use Rattle.matrix_def.proofs.NumberLemmas.{told_line}
 use Rattle.matrix_def.proofs.RowLemmas.{row_bad, row_filled}
 
@@ -228,3 +230,59 @@ piece_cut piece done rest part behind whole cut =
 pub parts_joined : (bytes done part : List ℕ) → ((bytes ++ done) ++ part) ++ line_feed ∷ [] ≡ bytes ++ ((done ++ part) ++ line_feed ∷ [])
 parts_joined bytes done part =
     ap (λ (bs : List ℕ). bs ++ line_feed ∷ []) (append_assoc bytes done part) ∙ append_assoc bytes (done ++ part) (line_feed ∷ [])
+
+-- ---- a header that is none
+
+feed_behind : (came more : List ℕ) → HasNoFeed came → position_or_len is_line_feed (came ++ more) ≡ length came + position_or_len is_line_feed more
+feed_behind [] more none = omega arith
+feed_behind (c ∷ cs) more none =
+    let p = or_parts (is_line_feed c) (list_any is_line_feed cs) none in
+    ap (λ (b : Bool). cond (not b) (1 + position_or_len is_line_feed (cs ++ more)) 0) p.0 ∙ omega (arith, feed_behind cs more p.1)
+
+-- the first line goes on from the bytes that came of it
+pub record FirstLine (came more : List ℕ) : Type 0 where
+  pub part : List ℕ
+  pub rest : List (List ℕ)
+  pub lines : source_lines (came ++ more) ≡ without_return (came ++ part) ∷ rest
+
+first_line : (came more : List ℕ) → HasNoFeed came → 0 < length came → FirstLine came more
+first_line came more none some =
+    let all : List ℕ = came ++ more in
+    let long : 0 < length all = omega (arith, some, length-append came more) in
+    let n : ℕ = position_or_len is_line_feed more in
+    elim (cases_Bool (list_any is_line_feed all)) [
+      | inl feed ↦
+          let before : before_first is_line_feed all ≡ came ++ take n more = ap (λ (k : ℕ). take k all) (feed_behind came more none) ∙ take-append-add came more n in
+          record {
+            part = take n more;
+            rest = source_lines (after_first is_line_feed all);
+            lines = cut_lines all (came ++ take n more) (after_first is_line_feed all) (without_return (came ++ take n more)) (record { found = feed; before_is = sym before; behind_is = refl }) refl;
+          }
+      | inr none_at_all ↦ record { part = more; rest = []; lines = last_line all (without_return all) [] long none_at_all refl refl }
+    ]
+
+came_some : (came : List ℕ) → IsNoHeader came → 0 < length came
+came_some [] none = let no : true ≡ false = (none []).0 in absurd (cc)
+came_some (c ∷ cs) none = omega arith
+
+-- the line that began is no header: whatever follows, the file is refused for it
+pub header_refused : (bytes : List ℕ) (number : ℕ) (r : ReaderSeen) → HasRead bytes r → r.standing ≡ Header → number ≡ told_number (r.ended + 1) → IsNoHeader r.begun
+    → (more : List ℕ) → told_connection (bytes ++ more) ≡ Err (record { file = 0; line = number; kind = BadHeader })
+header_refused bytes number r h standing number_is none more =
+    let no = no_header_came h.came r.begun h.held none in
+    let first = first_line h.came more h.unended (came_some h.came no) in
+    let w : List ℕ = without_return (h.came ++ first.part) in
+    let n : ℕ = 1 + length h.lines in
+    let told : told_number n ≡ number = omega (arith, number_is, h.counted) in
+    let nothing : nonblank_lines (told_lines 1 h.lines) ≡ [] = subst (StandsAfter (nonblank_lines (told_lines 1 h.lines))) standing h.stands in
+    let rows : List (ℕ × List ℕ) = nonblank_lines (told_lines (n + 1) first.rest) in
+    let all : source_lines (bytes ++ more) ≡ h.lines ++ w ∷ first.rest =
+    ap (λ (bs : List ℕ). source_lines (bs ++ more)) h.parts ∙ ap source_lines (append_assoc h.closed h.came more) ∙ h.cut (h.came ++ more) ∙ ap (λ (ls : List (List ℕ)). h.lines ++ ls) first.lines in
+    let header : nonblank_lines (told_lines n (w ∷ first.rest)) ≡ (told_number n, w) ∷ rows =
+    ap (λ (b : Bool). cond (not b) ((told_number n, w) ∷ rows) rows) (no first.part).0 in
+    let filled : nonblank_lines (told_lines 1 (source_lines (bytes ++ more))) ≡ (told_number n, w) ∷ rows =
+    ap (λ (ls : List (List ℕ)). nonblank_lines (told_lines 1 ls)) all ∙ filled-append 1 n h.lines (w ∷ first.rest) refl
+    ∙ ap (λ (ls : List (ℕ × List ℕ)). ls ++ nonblank_lines (told_lines n (w ∷ first.rest))) nothing ∙ header in
+    ap connection_from filled
+    ∙ ap (λ (sizes : Option MatrixSizes). connection_under (told_number n) sizes rows) (no first.part).1
+    ∙ ap (λ (line : ℕ). Err (record { file = 0; line = line; kind = BadHeader })) told

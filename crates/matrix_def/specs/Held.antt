@@ -65,3 +65,14 @@ IsAgain word byte = (byte ≡ 0x30) × ((word ≡ 0x30 ∷ []) ⊎ ((word ≡ 0x
 -- a word is no such number, whatever follows in it
 abbrev pub IsTooFar : List ℕ → Type 0
 IsTooFar word = (more : List ℕ) → HasNoBlank more → near_number (word ++ more) ≡ None
+
+-- the last word of a line is no number of a line, whatever follows in it
+pub record EndsTooFar (line : List ℕ) : Type 0 where
+  pub front : List ℕ
+  pub word : List ℕ
+  pub is_cut : IsLastWord line front word
+  pub far : IsTooFar word
+
+-- whatever follows, a line that began is not blank and has no sizes
+abbrev pub IsNoHeader : List ℕ → Type 0
+IsNoHeader begun = (more : List ℕ) → (is_blank_line (without_return (begun ++ more)) ≡ false) × (sizes_from (words_of (without_return (begun ++ more))) ≡ None)

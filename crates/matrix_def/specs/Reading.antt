@@ -49,9 +49,17 @@ StandsAfter lines Header = lines ≡ []
 StandsAfter lines (Rows m) = Fill lines m
 StandsAfter lines (Refused fault) = (more : List (ℕ × List ℕ)) → connection_from (lines ++ more) ≡ Err fault
 
+-- whatever follows, bytes are refused for this fault
+abbrev pub AreRefusedFor : SourceFault → List ℕ → Type 0
+AreRefusedFor fault bytes = (more : List ℕ) → told_connection (bytes ++ more) ≡ Err fault
+
 -- the table is what lines that are not blank say
 abbrev pub IsTableFrom : List (ℕ × List ℕ) → CostTable → Type 0
 IsTableFrom lines m = (c : Connection) × (connection_from lines ≡ Ok c) × IsTableOf c m
+
+-- the table is what bytes say, by the numbers that are told of their lines
+abbrev pub IsToldTable : List ℕ → CostTable → Type 0
+IsToldTable bytes m = (c : Connection) × (told_connection bytes ≡ Ok c) × IsTableOf c m
 
 -- how many lines ended, bytes that say what the line that began behind them says, and where reading stands
 pub record ReaderSeen : Type 0 where

@@ -5,7 +5,7 @@ ghost use Rattle.mj_model.specs.Bytes.{is_blank as is_blank_byte};
 ghost use Rattle.mj_model.specs.Connection.{words_of};
 ghost use Rattle.matrix_def.specs.Brief.{IsBrief, IsHeldBriefly, MayBeNear, MayGoOn};
 ghost use Rattle.matrix_def.specs.Reading.{HasNoFeed};
-ghost use Rattle.matrix_def.specs.Held.{GoesOnAs, HasNoBlank, HasThree, IsAgain, IsHeldAs, IsLastWord, IsSettled, IsTooFar};
+ghost use Rattle.matrix_def.specs.Held.{EndsTooFar, GoesOnAs, HasNoBlank, HasThree, IsAgain, IsHeldAs, IsLastWord, IsNoHeader, IsSettled, IsTooFar};
 
 use lex_source::{Words, number};
 use std::alloc::AllocError;
@@ -44,6 +44,25 @@ fn append_byte(begun: &mut Vec<u8>, byte: u8) -> Result<(), AllocError>
     }
     begun.push(byte)?;
     Ok(())
+}
+
+/// Whether a line that began so is no header, whatever follows, since its last word is no number. The line's last byte is not judged: a CR
+/// says nothing at the line's end.
+pub(crate) fn is_no_header(begun: &[u8]) -> bool
+    ensures { OnTrue result (IsNoHeader begun.now) }
+{
+    match begun.split_last() {
+        Some((_last, front)) => ends_too_far(front),
+        None => false,
+    }
+}
+
+/// Whether the last word of a line is no number that the line may have, and stays none, whatever follows.
+fn ends_too_far(line: &[u8]) -> bool
+    ensures { OnTrue result (EndsTooFar line.now) }
+{
+    let (_, word) = split_last_word(line);
+    is_too_far(word)
 }
 
 /// Whether a further byte of a line changes nothing of what the line says, whatever follows: a blank behind a blank, a zero

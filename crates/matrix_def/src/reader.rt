@@ -1,16 +1,16 @@
 //! `matrix.def`, read piece by piece.
-ghost use Rattle.std.specs.Prelude.{◌≡◌, ◌≤◌, ℕ, length, List, [], ◌∷◌, ◌++◌, Err, IfOk, IfErr};
+ghost use Rattle.std.specs.Prelude.{◌≡◌, ◌≤◌, ℕ, length, List, [], ◌∷◌, ◌++◌, Err, IfOk, IfErr, IfSome};
 ghost use Rattle.mj_model.specs.Bytes.{line_feed};
 ghost use Rattle.mj_model.specs.FirstFault.{IsRefusal};
 ghost use Rattle.matrix_def.specs.Brief.{held_most};
 ghost use Rattle.matrix_def.specs.Costs.{IsTableIn};
-ghost use Rattle.matrix_def.specs.Reading.{HasNoFeed, HasRead, told_connection};
+ghost use Rattle.matrix_def.specs.Reading.{AreRefusedFor, HasNoFeed, HasRead, IsToldTable, told_connection};
 
-use crate::begun::append_bytes;
+use crate::begun::{append_bytes, is_no_header};
 use crate::matrix::Matrix;
 use crate::standing::Standing;
 use lex_source::split_first;
-use mj_model::SourceFault;
+use mj_model::{MATRIX_FILE, SourceFault, SourceKind};
 use std::alloc::{AllocError, Global};
 use std::marker::Model;
 
@@ -92,11 +92,26 @@ impl MatrixReader {
         Ok(self)
     }
 
+    /// Returns the fault of the header, if the bytes of its line so far are those of no header, whatever follows. Then no further bytes need
+    /// be read.
+    pub fn header_fault(&self) -> Option<SourceFault>
+        ensures { (bytes : List ℕ) → HasRead bytes self.now
+            → IfSome result (λ fault. AreRefusedFor fault bytes) }
+    {
+        if self.standing.is_header() && is_no_header(&self.begun) {
+            Some(SourceKind::BadHeader.at(MATRIX_FILE, self.ended.saturating_add(1)))
+        } else {
+            None
+        }
+    }
+
     /// What the bytes say: what `read_matrix` reads of them as one slice. Of a fault behind 2^64 lines the line is told as the last that
     /// 64 bits count.
     pub fn finish(self) -> Result<Matrix, SourceFault>
         ensures accepted { (bytes : List ℕ) → HasRead bytes self
             → IfOk result (IsTableIn bytes) }
+        ensures told { (bytes : List ℕ) → HasRead bytes self
+            → IfOk result (IsToldTable bytes) }
         ensures refused { (bytes : List ℕ) → HasRead bytes self
             → IfErr result (λ fault. IsRefusal fault (told_connection bytes ≡ Err fault)) }
     {

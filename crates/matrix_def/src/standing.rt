@@ -1,8 +1,10 @@
 //! Where the reading of `matrix.def` stands.
 ghost use Rattle.std.specs.Prelude.{◌≡◌, ℕ, List, [], ◌∷◌, ◌++◌, Err, IfOk, IfErr};
+ghost use Rattle.std.specs.Bool.{OnTrue};
 ghost use Rattle.mj_model.specs.Connection.{connection_from};
 ghost use Rattle.matrix_def.specs.Held.{IsSameLine, SaysTheSame};
 ghost use Rattle.matrix_def.specs.Reading.{Fill, HasNoFeed, IsTableFrom, StandsAfter, row_of};
+ghost use Rattle.matrix_def.specs.declared.standing.Standing.TheVariants.{Header};
 
 use crate::matrix::Matrix;
 use crate::rows::{read_row, read_sizes};
@@ -51,6 +53,13 @@ impl Standing {
             Standing::Rows(matrix) => Ok(after_row(matrix, number, line)),
             Standing::Refused(fault) => Ok(Standing::Refused(fault)),
         }
+    }
+
+    /// Whether no line that is not blank came.
+    pub(crate) fn is_header(&self) -> bool
+        ensures { OnTrue result (self.now ≡ Header) }
+    {
+        matches!(self, Standing::Header)
     }
 
     /// What the lines say, where no further one follows.

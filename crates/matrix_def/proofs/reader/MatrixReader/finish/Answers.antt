@@ -25,3 +25,6 @@ pub returns-clause-refused : goal.returns-clause-refused
 returns-clause-refused c = λ bytes given.
     IfErr-weaker c.matrix.result (λ fault. told_connection bytes ≡ Err fault) (λ fault. IsRefusal fault (told_connection bytes ≡ Err fault)) (λ fault is. inr is)
     (c.matrix.ensures.refused (nonblank_lines (told_lines 1 (source_lines bytes))) (stands c bytes given))
+
+pub returns-clause-told : goal.returns-clause-told
+returns-clause-told c = λ bytes given. c.matrix.ensures.accepted (nonblank_lines (told_lines 1 (source_lines bytes))) (stands c bytes given)
