@@ -56,15 +56,21 @@ NEAR = [
     ("jseg --explian L4", "'--explain'"),
 ]
 
+# What prints what MeCab prints with -Ochasen, as docs/FROM_MECAB.md has it.
+CHASEN = (
+    "for IPADIC write -F '%m\\t%f[7]\\t%f[6]\\t%f[0]-%f[1]-%f[2]-%f[3]\\t%f[4]\\t%f[5]\\n'"
+    " -U '%m\\t%m\\t%m\\t%f[0]-%f[1]-%f[2]-%f[3]\\t\\t\\n'\n"
+)
+
 # What MeCab's users type first, and what to do instead. (words, in the line)
 HABITS = [
     ("jseg sys.img text.txt", "jseg -d IMG < FILE"),
     ("jseg -d sys.img text.txt", "jseg -d IMG < FILE"),
     ("jseg --sample text.txt", "jseg -d IMG < FILE"),
-    ("jseg -Ochasen", "-F '%m\\t%f[7]\\t%f[6]\\t%f[0]-%f[1]-%f[2]-%f[3]\\t%f[4]\\t%f[5]\\n'"),
+    ("jseg -Ochasen", CHASEN),
     ("jseg -d sys.img -O yomi", "-F '%pS%f[7]' -U '%M' -E '\\n'"),
     ("jseg -d sys.img -O simple", "-F '%m\\t%f[0]-%f[1]-%f[2]-%f[3]\\n'"),
-    ("jseg -d sys.img -O chasen", "run 'mecab -d IMG -Ochasen'"),
+    ("jseg -d sys.img -O chasen", "-O chasen is not known: "),
     ("jseg -d sys.img -O dump", "dicrc"),
     ("jseg -d sys.img -O dump", "run 'mecab -d IMG -O NAME'"),
     ("jseg -N 2", "-N is not known"),

@@ -1,7 +1,7 @@
 //! What a command takes, as rows of a table.
 
 use clap::builder::ValueParser;
-use clap::{Arg, ArgAction, Command};
+use clap::{Arg, ArgAction, ArgMatches, Command};
 use std::alloc::{AllocError, Global};
 
 /// An option, or the words that are none.
@@ -98,6 +98,39 @@ pub(crate) const REFUSED: Row = Row {
     is_hidden: true,
     ..VALUES
 };
+
+/// Returns the help of the first row that was given, as the parser found it.
+pub(crate) fn help_of_given(rows: &[Row], matches: &ArgMatches<'_>) -> Option<&'static str> {
+    for row in rows {
+        if matches.contains_id(row.id) {
+            return Some(row.help);
+        }
+    }
+    None
+}
+
+/// Returns the help of the first row whose name is a word before `--`, for a command line that the parser rejects.
+pub(crate) fn help_of_word(rows: &[Row], words: &[String]) -> Option<&'static str> {
+    for row in rows {
+        if is_among(row.name, words) {
+            return Some(row.help);
+        }
+    }
+    None
+}
+
+/// Whether a word before `--` is an option of this name.
+fn is_among(name: Name, words: &[String]) -> bool {
+    for word in words {
+        if word.as_str() == "--" {
+            return false;
+        }
+        if name.is_word(word.as_str()) {
+            return true;
+        }
+    }
+    false
+}
 
 /// A command that takes the rows of a table too, in their order.
 pub(crate) fn with_rows<'a>(

@@ -1,7 +1,7 @@
 //! What MeCab's users type first and `jseg` doesn't take, each with what to do instead.
 
 use crate::row::Name::{Both, Long, Words};
-use crate::row::{REFUSED, Row};
+use crate::row::{REFUSED, Row, help_of_given};
 use clap::ArgMatches;
 
 /// What is taken only to be refused: words that are no options, then MeCab's options. Help says what to do instead.
@@ -11,7 +11,7 @@ pub(super) fn habits() -> &'static [Row] {
 
 #[rattlefmt::skip]
 static HABITS: [Row; 24] = [
-    Row { id: "words", name: Words, most: usize::MAX, help: "jseg reads the text on standard input: jseg -d IMG < FILE", ..REFUSED },
+    Row { id: "words", name: Words, most: usize::MAX, help: "the text is read from standard input: jseg -d IMG < FILE", ..REFUSED },
     Row { id: "nbest", name: Both('N', "nbest"), help: "-N is not known: jseg writes the one best path, so leave it out", ..REFUSED },
     Row { id: "all-morphs", name: Both('a', "all-morphs"), help: "-a is not known: jseg writes the one best path, so leave it out", ..REFUSED },
     Row { id: "lattice-level", name: Both('l', "lattice-level"), help: "-l is not known: jseg writes the one best path, so leave it out", ..REFUSED },
@@ -44,7 +44,7 @@ const WAKATI: &str = "wakati";
 static OUTPUTS: [(&str, &str); 3] = [
     (
         "chasen",
-        "-O chasen is not known: run 'mecab -d IMG -Ochasen', or for IPADIC write -F '%m\\t%f[7]\\t%f[6]\\t%f[0]-%f[1]-%f[2]-%f[3]\\t%f[4]\\t%f[5]\\n'",
+        "-O chasen is not known: for IPADIC write -F '%m\\t%f[7]\\t%f[6]\\t%f[0]-%f[1]-%f[2]-%f[3]\\t%f[4]\\t%f[5]\\n' -U '%m\\t%m\\t%m\\t%f[0]-%f[1]-%f[2]-%f[3]\\t\\t\\n'",
     ),
     (
         "yomi",
@@ -63,16 +63,6 @@ const OTHER_OUTPUT: &str =
 /// What to do instead, where one of these was given, or an output format of another name.
 pub(super) fn habit_in(matches: &ArgMatches<'_>) -> Option<&'static str> {
     help_of_given(habits(), matches).or(matches.get_str("output").and_then(instead_of_output))
-}
-
-/// The help of the first row that was given.
-fn help_of_given(rows: &[Row], matches: &ArgMatches<'_>) -> Option<&'static str> {
-    for row in rows {
-        if matches.contains_id(row.id) {
-            return Some(row.help);
-        }
-    }
-    None
 }
 
 /// What to do in place of an output format by a name; None where it has one.
