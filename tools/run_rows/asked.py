@@ -82,6 +82,23 @@ HABITS = [
     ("jseg --nbest=2 -d sys.img", "-N is not known"),
     ("jseg --dicdir=sys", "write -d IMG"),
 ]
+# What users of mecab-dict-index type first, and what to type instead. (words, in the line)
+OF_INDEX = [
+    ("dictc -d dic -u user.dic user.csv", "write 'dictc user --dic IMG --out USERIMG LEX..'"),
+    ("dictc -d dic -u user.dic -f euc-jp -t utf-8 user.csv", "-u is not known: "),
+    ("dictc --userdic=user.dic user.csv", "-u is not known: "),
+    ("dictc -d dic -o out -f euc-jp -t utf-8", "write 'kumquatsieve-import DIR IMG'"),
+    ("dictc --dicdir=dic", "-d is not known: "),
+    ("dictc -o out", "write --out IMG"),
+    ("dictc -f euc-jp -t utf-8", "kumquatsieve-import --encoding NAME DIR IMG"),
+    ("dictc -t utf-8", "-t is not known: an image is in UTF-8"),
+    ("dictc user -d sys.img --out new.img user.csv", "-d is not known: write --dic IMG"),
+    ("dictc user --dic sys.img -o new.img user.csv", "-o is not known: write --out IMG"),
+    ("dictc user --dic sys.img -u new.img user.csv", "-u is not known: write --out IMG"),
+    ("dictc user -f euc-jp --dic sys.img --out new.img user.csv", "-f is not known: sources are read as UTF-8"),
+    ("dictc system -d dic --out new.img", "--matrix FILE --char FILE --unk FILE"),
+    ("dictc ids -d sys.img X", "-d is not known: write --dic IMG"),
+]
 COMPILED, SOURCES = {"dic": {}, "dic/sys.dic": b"x"}, {"dic": {}, "dic/matrix.def": MATRIX}
 
 # Why a file can't be read. (words, path, what stands there, why)
@@ -188,6 +205,8 @@ ROWS = [
     *(Run(words, words, err=Has(f"{words.split()[0]}: no fault has the code or name 'X9'"), status=2) for words in ("jseg --explain X9", "dictc --explain X9")),
     *(Run(words, words, err=Has(f"{words.split()[0]}: ", (near,)), status=2) for words, near in NEAR),
     *(Run(words, words, "も\n", err=Has("jseg: ", (told,)), status=2) for words, told in HABITS),
+    Run("the program's name is told once", "jseg sys.img text.txt", "も\n", err=Has("jseg: the text is read from standard input: ", (), ("jseg: jseg",)), status=2),
+    *(Run(words, words, err=Has("dictc: ", (told,)), status=2) for words, told in OF_INDEX),
     Run("an option of none", "jseg -q", err=Has("jseg: unexpected argument '-q' found\n\nUsage: "), status=2),
     *(Run(f"MeCab's, {files}", "jseg -d dic", err=Has("jseg: dic is a dictionary of MeCab"), status=2, files=files) for files in (COMPILED, SOURCES)),
     *(Run(f"{words}: {why}", words, err=Has("", (f": {path}: {why}\n", f": {path}: F1 File\n")), status=3, files={path: there}) for words, path, there, why in WHY),

@@ -2,6 +2,7 @@
 
 mod choices;
 mod command;
+mod mecab_habits;
 mod rows;
 
 pub use choices::{Asked, Base, IdsOptions, Options};

@@ -71,6 +71,14 @@ impl OptionsFault {
         }
     }
 
+    /// The same with what to type instead in place of what the parser says of a wrong command line.
+    pub(crate) fn or_instead(self, alloc: Global, program: &str, instead: &str) -> OptionsFault {
+        match self {
+            OptionsFault::Bad(_) => OptionsFault::wrong(alloc, program, instead),
+            other => other,
+        }
+    }
+
     /// The fault that the parser tells with this text, which begins with the program's name in place of the parser's word.
     fn begun(alloc: Global, program: &str, text: &str) -> OptionsFault {
         let told = text.strip_prefix("error: ").unwrap_or(text);

@@ -3,6 +3,7 @@
 use clap::builder::ValueParser;
 use clap::{Arg, ArgAction, ArgMatches, Command};
 use std::alloc::{AllocError, Global};
+use std::string::String;
 
 /// An option, or the words that are none.
 #[derive(Clone, Copy)]
@@ -160,6 +161,16 @@ impl Row {
 }
 
 impl Name {
+    /// Whether a word is an option of this name, alone or as `--long=VALUE`.
+    fn is_word(self, word: &str) -> bool {
+        match self {
+            Name::Letter(letter) => is_short(letter, word),
+            Name::Long(long) => is_long(long, word),
+            Name::Both(letter, long) => is_short(letter, word) || is_long(long, word),
+            Name::Words => false,
+        }
+    }
+
     /// An argument that is called so.
     fn given_to<'a>(self, arg: Arg<'a>) -> Arg<'a> {
         match self {
@@ -168,5 +179,24 @@ impl Name {
             Name::Both(letter, word) => arg.short(letter).long(word),
             Name::Words => arg,
         }
+    }
+}
+
+/// Whether a word is `-` and a letter.
+fn is_short(letter: char, word: &str) -> bool {
+    let mut characters = word.chars();
+    characters.next() == Some('-')
+        && characters.next() == Some(letter)
+        && characters.next().is_none()
+}
+
+/// Whether a word is `--`, a long name, and perhaps `=` and a value.
+fn is_long(long: &str, word: &str) -> bool {
+    let Some(given) = word.strip_prefix("--") else {
+        return false;
+    };
+    match given.split_once('=') {
+        Some((name, _value)) => name == long,
+        None => given == long,
     }
 }

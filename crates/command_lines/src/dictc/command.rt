@@ -1,6 +1,7 @@
 //! What is asked for by a command line of `dictc`.
 
 use super::choices::{Asked, Base, IdsOptions, Options};
+use super::mecab_habits::habit_in;
 use super::rows::{compiling_rows, ids_rows, rows, system_rows, user_rows};
 use crate::about::VERSION;
 use crate::options_fault::OptionsFault;
@@ -31,12 +32,17 @@ const NO_SUBCOMMAND: &str = "one of 'dictc system', 'dictc user' and 'dictc ids'
 /// Reads the words that follow the program's name.
 pub fn options(alloc: Global, words: Vec<String>) -> Result<Asked, OptionsFault> {
     let told = without_feeds(alloc, &words)?;
-    check(alloc, NAME, command(alloc)?, &told).map_err(|fault| fault.with_file_tip(
-        alloc,
-        meant_file(&words),
-    ))?;
+    check(alloc, NAME, command(alloc)?, &told).map_err(|fault| refused(alloc, fault, &words))?;
     let matches = found(alloc, NAME, command(alloc)?, &words)?;
     asked(alloc, &matches)
+}
+
+/// The parser's fault, as it is told of these words: what to type instead of an option of mecab-dict-index, or of a file's name.
+fn refused(alloc: Global, fault: OptionsFault, words: &[String]) -> OptionsFault {
+    match (file_behind(words, &FILES), habit_in(words)) {
+        (None, Some(instead)) => fault.or_instead(alloc, NAME, instead),
+        _ => fault.with_file_tip(alloc, meant_file(words)),
+    }
 }
 
 /// What the program takes.

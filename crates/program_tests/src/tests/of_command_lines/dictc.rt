@@ -1,5 +1,7 @@
 //! Command lines of `dictc`.
 
+mod index_habits;
+
 use Asked::{AllFaults, System, Told, Trusting, User};
 use command_lines::dictc::{Asked as AskedFor, Base, IdsOptions, Options, options};
 use std::alloc::{AllocError, Global};
