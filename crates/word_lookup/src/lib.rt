@@ -20,6 +20,7 @@ mod words;
 
 pub use dict_image::CostsBefore;
 pub use dictionaries::Dictionaries;
+pub use ids_of_text::NOTED_MAX;
 pub use mj_model::{Origin, Word};
 pub use paths::{EntryList, LastRuns, Surface};
 pub use same_entries::have_same_entries;

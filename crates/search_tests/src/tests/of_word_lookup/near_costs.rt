@@ -9,7 +9,7 @@ use dict_image::{ContextIds, Dict, NUMBERED_MAX, NumberedIds};
 use mj_model::MatrixSizes;
 use std::alloc::Global;
 use std::test::Fail;
-use test_samples::overlay;
+use test_samples::{overlay, system};
 
 /// The ids of the words of a text, by a dictionary with these sizes.
 fn ids_of(alloc: Global, dict: &Dict, sizes: MatrixSizes, text: &str) -> Result<ContextIds, Fail>
@@ -38,6 +38,35 @@ fn ids_of_texts(rt: HostRuntime) -> Result<(), Fail> {
         let ids = ids_of(rt.alloc(), &dict, dict.matrix_sizes(), text)?;
         assert_eq!(rt; ids.lefts.ids(), *lefts, "{text}");
         assert_eq!(rt; ids.rights.ids(), *rights, "{text}");
+    }
+    Ok(())
+}
+
+/// Returns how many words of a text are noted, where the lexicon has a word so many times.
+fn noted_of(alloc: Global, count: usize, text: &str) -> Result<usize, Fail> {
+    let mut lexicon = Vec::new(alloc);
+    for _line in 0..count {
+        lexicon.extend_from_slice("も,1,1,20,X\n".as_bytes())?;
+    }
+    let dict = system(alloc, "", &[lexicon.as_slice()])?;
+    let mut ids = ContextIds::new(alloc, dict.matrix_sizes())?;
+    Ok(overlay(&dict, &[])?.note_ids(alloc, text, &mut ids)?)
+}
+
+#[rattlefmt::skip]
+static NOTED_WORDS: [(&str, usize, &str, usize); 5] = [
+    // (what, how often the lexicon has a word, text, how many words are noted)
+    ("no text",                    3,    "",       0),
+    ("all at each place",          3,    "ももも", 9),
+    ("as many as may be",          128,  "もも",   256),
+    ("one more",                   129,  "もも",   256),
+    ("many more",                  2000, "もも",   256),
+];
+
+#[test]
+fn noted_words(rt: HostRuntime) -> Result<(), Fail> {
+    for (what, count, text, noted) in &NOTED_WORDS {
+        assert_eq!(rt; noted_of(rt.alloc(), *count, text)?, *noted, "{what}");
     }
     Ok(())
 }
