@@ -63,7 +63,7 @@ static const struct {
     {0, "eos-format", "--eos-format is not known: write -E FORMAT"},
 };
 
-static const char WORDS[] = PROGRAM " reads the text on standard input: " PROGRAM " -d IMG < FILE";
+static const char WORDS[] = "the text is read from standard input: " PROGRAM " -d IMG < FILE";
 
 const char *instead_of_letter(char letter) {
     for (size_t i = 0; i < sizeof HABITS / sizeof *HABITS; i++) {
@@ -94,8 +94,9 @@ const char *instead_of_output(const char *name) {
         const char *name, *instead;
     } KNOWN[] = {
         {"wakati", NULL},
-        {"chasen", "-O chasen is not known: run 'mecab -d IMG -Ochasen', "
-                   "or for IPADIC write -F '%m\\t%f[7]\\t%f[6]\\t%f[0]-%f[1]-%f[2]-%f[3]\\t%f[4]\\t%f[5]\\n'"},
+        {"chasen", "-O chasen is not known: for IPADIC write "
+                   "-F '%m\\t%f[7]\\t%f[6]\\t%f[0]-%f[1]-%f[2]-%f[3]\\t%f[4]\\t%f[5]\\n' "
+                   "-U '%m\\t%m\\t%m\\t%f[0]-%f[1]-%f[2]-%f[3]\\t\\t\\n'"},
         {"yomi", "-O yomi is not known: run 'mecab -d IMG -Oyomi', or for IPADIC write -F '%pS%f[7]' -U '%M' -E '\\n'"},
         {"simple", "-O simple is not known: run 'mecab -d IMG -Osimple', or for IPADIC write -F '%m\\t%f[0]-%f[1]-%f[2]-%f[3]\\n'"},
     };

@@ -52,8 +52,8 @@ WRONG = [
     ("-d -x.img", "a value is required for '-d <IMG>' but none was supplied\n\n  tip: for the file '-x.img' write './-x.img'"),
     ("-u '-\x07'", r"a value is required for '-u <IMG>' but none was supplied" "\n\n" r"  tip: for the file '-\u{7}' write './-\u{7}'"),
     ("-M -x.img", "a value is required for '-M <N>' but none was supplied\n\nFor more"),
-    ("-d none text.txt", f"{NAME} reads the text on standard input"),
-    ("-d none -- text.txt", f"{NAME} reads the text on standard input"),
+    ("-d none text.txt", "the text is read from standard input"),
+    ("-d none -- text.txt", "the text is read from standard input"),
 ]
 
 
