@@ -1,10 +1,8 @@
 """Images by their paths, by their names, and in memory."""
 import mmap
 import os
-import shutil
 import sys
 from ctypes import c_char
-from pathlib import Path
 from typing import Any, Callable, Dict, List, NamedTuple, Optional, Sequence, Tuple, Union
 
 Image = Union[str, "os.PathLike[str]", bytes, bytearray, memoryview, mmap.mmap]
@@ -19,25 +17,28 @@ KIND = slice(12, 16)
 SYSTEM = bytes(4)
 
 
-def own_home() -> Optional[Path]:
+def own_home() -> Optional[str]:
     """The user's own folder of images. A variable that is not absolute counts for nothing. (XDG Base Directory Specification)"""
     share, home = os.environ.get("XDG_DATA_HOME", ""), os.environ.get("HOME", "")
     if os.path.isabs(share):
-        return Path(share, "kumquatsieve")
-    return Path(home, ".local", "share", "kumquatsieve") if os.path.isabs(home) else None
+        return os.path.join(share, "kumquatsieve")
+    return os.path.join(home, ".local/share/kumquatsieve") if os.path.isabs(home) else None
 
 
-def homes_of(prefix: Path) -> List[Path]:
+def homes_of(prefix: str) -> List[str]:
     """Where what is installed to a prefix has images: those that are made on the system, in /var under /usr, and those that came with it."""
-    root = Path("/") if prefix == Path("/usr") else prefix
-    return [root / "var" / "lib" / "kumquatsieve", prefix / "share" / "kumquatsieve"]
+    root = "/" if prefix == "/usr" else prefix
+    return [os.path.join(root, "var/lib/kumquatsieve"), os.path.join(prefix, "share/kumquatsieve")]
 
 
-def folders() -> List[Path]:
+def folders() -> List[str]:
     """Where images live: the user's own, then beside the `jseg` that a shell runs, as that has it, of this Python, of /usr/local and of /usr."""
-    jseg, own = shutil.which("jseg"), own_home()
-    prefixes = [Path(jseg).resolve().parent.parent] if jseg else []
-    prefixes += map(Path, (sys.prefix, "/usr/local", "/usr"))
+    # It is imported here, since a program that names a path needs none of it.
+    from shutil import which
+
+    jseg, own = which("jseg"), own_home()
+    prefixes = [os.path.dirname(os.path.dirname(os.path.realpath(jseg)))] if jseg else []
+    prefixes += [sys.prefix, "/usr/local", "/usr"]
     found = [own] if own else []
     return list(dict.fromkeys(found + [home for prefix in prefixes for home in homes_of(prefix)]))
 
@@ -46,15 +47,25 @@ def dictionaries() -> Dict[str, str]:
     """The paths of the system dictionaries that are installed, by their names: of a name that stands
     in two folders, the one that is found. What is no regular file is no image there: a pipe without
     a writer would be read for ever."""
-    found: Dict[str, Path] = {}
+    found: Dict[str, str] = {}
     for folder in folders():
-        for path in sorted(folder.glob("?*" + ENDING)):
+        for name in image_names(folder):
+            path = os.path.join(folder, name + ENDING)
             if os.path.isfile(path):
-                found.setdefault(path.stem, path)
-    return {name: str(path) for name, path in found.items() if is_system(path)}
+                found.setdefault(name, path)
+    return {name: path for name, path in found.items() if is_system(path)}
 
 
-def is_system(path: Path) -> bool:
+def image_names(folder: str) -> List[str]:
+    """The names in a folder that end as those of images do, in their order, without that ending. A folder that can't be read has none."""
+    try:
+        names = os.listdir(folder)
+    except OSError:
+        return []
+    return sorted(name[: -len(ENDING)] for name in names if name.endswith(ENDING) and name != ENDING)
+
+
+def is_system(path: str) -> bool:
     """Whether a file begins as a system dictionary does. One that can't be read is none."""
     try:
         with open(path, "rb") as file:
@@ -70,7 +81,7 @@ def path_of(image: Union[str, "os.PathLike[str]"]) -> str:
     if "/" in name or is_file(name):
         return name
     for folder in folders():
-        path = str(folder / (name + ENDING))
+        path = os.path.join(folder, name + ENDING)
         if os.path.isfile(path):
             return path
     raise FileNotFoundError(f"{name}: no file, and no image of this name is installed; {told_installed(dictionaries())}")

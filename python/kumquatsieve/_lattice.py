@@ -1,6 +1,4 @@
 """The lattice of a line: each word that some chain of words from its beginning reaches, on the best path or not."""
-import shutil
-import subprocess
 from bisect import bisect_left
 from itertools import count
 from operator import itemgetter
@@ -196,6 +194,10 @@ def told(value: Any) -> str:
 
 def drawn(graph: str) -> Optional[str]:
     """A graph as Graphviz draws it, as SVG without what stands before its element; None where `dot` is not there, or takes too long."""
+    # Most programs draw nothing, and an import of these takes as long as a load.
+    import shutil
+    import subprocess
+
     try:
         done = subprocess.run([shutil.which(DOT) or "", "-Tsvg"], input=graph.encode(), capture_output=True, timeout=DRAWING)
     except (OSError, subprocess.TimeoutExpired):

@@ -2,7 +2,6 @@
 import ctypes
 import os
 import sys
-from pathlib import Path
 from types import SimpleNamespace
 from typing import Any, Callable, Dict, List, Optional
 
@@ -63,8 +62,8 @@ class NodeRecord(ctypes.Structure):
 
 def place() -> str:
     """Where the library is: what the variable names, else beside this module, else where the loader looks."""
-    beside = Path(__file__).resolve().parent / NAME
-    return os.environ.get(VARIABLE) or (str(beside) if beside.exists() else NAME)
+    beside = os.path.join(os.path.dirname(os.path.realpath(__file__)), NAME)
+    return os.environ.get(VARIABLE) or (beside if os.path.exists(beside) else NAME)
 
 
 def arguments() -> Dict[str, Optional[List[Any]]]:

@@ -1,5 +1,4 @@
 """Tables of words, for terminals and for notebooks."""
-from html import escape
 from typing import List
 from unicodedata import combining, east_asian_width
 
@@ -28,4 +27,7 @@ def html_of(head: List[str], rows: List[List[str]]) -> str:
 
 
 def tr(tag: str, texts: List[str]) -> str:
+    # It is imported here, since only a notebook needs it.
+    from html import escape
+
     return "<tr>" + "".join(f"<{tag}>{escape(text)}</{tag}>" for text in texts) + "</tr>"

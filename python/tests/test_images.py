@@ -322,4 +322,5 @@ def test_the_folders_are_of_the_user_of_jseg_and_of_this_python(installed, monke
         else:
             monkeypatch.setenv(name, value)
     prefixes = dict.fromkeys([str(installed.parents[2]), sys.prefix, "/usr/local", "/usr"])
-    assert whole() == [*([Path(own)] if own else []), *(home for prefix in prefixes for home in systems(prefix))]
+    wanted = [*([Path(own)] if own else []), *(home for prefix in prefixes for home in systems(prefix))]
+    assert whole() == [str(path) for path in wanted]
