@@ -2,7 +2,7 @@
 import struct
 
 from .images import LAYOUT_1, LAYOUT_2, LAYOUT_3, UNTESTED, changed
-from .run import Has, Run, Under
+from .run import Has, RecordOf, Run, Under
 from .streams import DEVICES
 from .texts import MO
 
@@ -111,7 +111,37 @@ LISTED = [
     Run("a list of nothing, full", "bare-jseg --dictionaries", under=DEVICES[0][1]),
 ]
 
+IMAGE, RECORD = "data/kumquatsieve/digest.img", "data/kumquatsieve/digest.tested"
+NOT_HASHED, HASHED = ("a\tX\nEOS\n", "", 0), ("", f"HERE/{IMAGE}: L8 Digest", 1)
+
+# A user's image with another digest, named so, with a record. (what, its name, the record, variables, output with error and status)
+RECORDS = [
+    ("with a record", "digest", RecordOf(IMAGE), {}, NOT_HASHED),
+    ("without one", "digest", b"", {}, HASHED),
+    ("with records distrusted", "digest", RecordOf(IMAGE), {"KUMQUATSIEVE_TRUST": "never"}, HASHED),
+    ("with that of a later version", "digest", RecordOf(IMAGE, "tested 1", "tested 2"), {}, HASHED),
+    ("with that of another device", "digest", RecordOf(IMAGE, "device ", "device 9"), {}, HASHED),
+    ("with that of another inode", "digest", RecordOf(IMAGE, "inode ", "inode 9"), {}, HASHED),
+    ("with that of another length", "digest", RecordOf(IMAGE, "size ", "size 9"), {}, HASHED),
+    ("with that of another mtime", "digest", RecordOf(IMAGE, "mtime ", "mtime 9"), {}, HASHED),
+    ("with that of another ctime", "digest", RecordOf(IMAGE, "ctime ", "ctime 9"), {}, HASHED),
+    ("with one without its checksum", "digest", RecordOf(IMAGE, "0" * 64, ""), {}, HASHED),
+    ("with one that goes on", "digest", RecordOf(IMAGE, "0\n", "0\n\n"), {}, HASHED),
+    ("with a record of CR LF", "digest", RecordOf(IMAGE, "1\n", "1\r\n"), {}, HASHED),
+    ("by its path", f"HERE/{IMAGE}", RecordOf(IMAGE), {}, NOT_HASHED),
+    ("by another path", IMAGE, RecordOf(IMAGE), {}, ("", f"{IMAGE}: L8 Digest", 1)),
+]
+
+
+def recorded(what, name, record, variables, ends):
+    out, err, status = ends
+    files = {**own(digest=UNTESTED["digest.img"]), RECORD: record}
+    words = f"jseg -d made -u {name}"
+    return Run(f"a wrong digest {what}", words, "a\n", out, err, status, files, under=Under(variables={**DATA, **variables}))
+
+
 ROWS = [
+    *(recorded(*row) for row in RECORDS),
     *(Run(what, words, text, out, files=files, under=Under(variables=variables)) for what, words, text, out, variables, files in FOUND),
     *(Run(what, words, err=err, status=status, files=files, under=Under(variables=variables)) for what, words, err, status, variables, files in OTHERS),
     Run("a user dictionary for an image by its name", "dictc user --dic made --out new.img user.csv", out="1 entries, 0 skipped\n", left={"new.img": "user.img"}),

@@ -1,4 +1,5 @@
 """A run of a program: what it finds, what it is asked, and what it must do."""
+import os
 import re
 from pathlib import Path
 from typing import NamedTuple
@@ -16,6 +17,29 @@ ERASED = "\x1b[K"
 
 # A file whose bytes no row gives.
 ANY = object()
+
+
+class RecordOf(NamedTuple):
+    """The record of the tests of an image of the run, as kumquatsieve-import writes it, with one text
+    in the place of another."""
+
+    image: str
+    old: str = ""
+    new: str = ""
+
+    def text(self, folder):
+        of = (folder / self.image).stat()
+        seconds = 1_000_000_000
+        lines = (
+            "kumquatsieve-tested 1",
+            f"device {os.major(of.st_dev)}:{os.minor(of.st_dev)}",
+            f"inode {of.st_ino}",
+            f"size {of.st_size}",
+            f"mtime {of.st_mtime_ns // seconds}.{of.st_mtime_ns % seconds:09}",
+            f"ctime {of.st_ctime_ns // seconds}.{of.st_ctime_ns % seconds:09}",
+            f"sha256 {'0' * 64}",
+        )
+        return "".join(f"{line}\n" for line in lines).replace(self.old, self.new, 1)
 
 
 class Has(NamedTuple):
@@ -87,7 +111,7 @@ class Run(NamedTuple):
     out: str = ""  # on standard output
     err: str = ""  # on standard error: one line, after the program's name and `: `
     status: int = 0
-    files: dict = {}  # what else is there: bytes, or the number of bytes of 0, None for what isn't, a Path for a link, {} for a folder
+    files: dict = {}  # what else is there: bytes, or the number of bytes of 0, None for what isn't, a Path for a link, {} for a folder, a RecordOf
     left: dict = {}  # what is changed: bytes, the name of a file that it is equal to, ANY, or None
     modes: dict = {}  # who may read and write a file, before the run and after it
     then: str = ""  # a second command: it gets the text, and its output follows
