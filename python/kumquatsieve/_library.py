@@ -98,7 +98,7 @@ def load() -> SimpleNamespace:
     try:
         alone, beside_others = ctypes.PyDLL(place()), ctypes.CDLL(place())
     except OSError as error:
-        raise ImportError(f"{error}: build the library by tools/build-library, and name it in {VARIABLE}") from error
+        raise ImportError(f"{error}: build the library by packaging/build-library, and name it in {VARIABLE}") from error
     calls = {}
     for name, types in arguments().items():
         call = call_of(beside_others if name in LONG else alone, f"kumquatsieve_{name}")
