@@ -107,7 +107,9 @@ class Measures(NamedTuple):
 
 def measure(command, text):
     """One run over a text in a file, its output into nothing. `time` says its memory."""
-    with tempfile.NamedTemporaryFile() as told, open(os.devnull, "wb") as nothing, open(text, "rb") as reading:
+    with tempfile.NamedTemporaryFile() as told, open(os.devnull, "wb") as nothing, open(
+        text, "rb"
+    ) as reading:
         words = [TIME, "-f", "%M", "-o", told.name, *map(str, command)]
         began = time.monotonic()
         started = subprocess.Popen(words, stdin=reading, stdout=nothing)
@@ -115,7 +117,9 @@ def measure(command, text):
         passed = time.monotonic() - began
         if status != 0:
             sys.exit(f"{command[0]} ended with status {os.waitstatus_to_exitcode(status)}")
-        return Measure(passed, used.ru_utime + used.ru_stime, used.ru_utime, int(told.read()) * 1024)
+        return Measure(
+            passed, used.ru_utime + used.ru_stime, used.ru_utime, int(told.read()) * 1024
+        )
 
 
 def in_turn(commands, rounds, text=os.devnull):
@@ -125,7 +129,9 @@ def in_turn(commands, rounds, text=os.devnull):
 
 def with_loads(commands, rounds, text):
     """The loads and the runs over a text, all in turn, so that a load is taken off a run that was made beside it."""
-    both = runs_in_turn([(command, given) for given in (os.devnull, text) for command in commands], rounds)
+    both = runs_in_turn(
+        [(command, given) for given in (os.devnull, text) for command in commands], rounds
+    )
     return both[: len(commands)], both[len(commands) :]
 
 
@@ -154,18 +160,30 @@ def print_times(what, ours, theirs):
 
 def in_each_round(ours, theirs):
     """The median of the ratios of the processor's seconds of each round."""
-    return statistics.median([our / their for our, their in zip(ours.each_processor, theirs.each_processor) if their > 0] or [math.inf])
+    return statistics.median(
+        [our / their for our, their in zip(ours.each_processor, theirs.each_processor) if their > 0]
+        or [math.inf]
+    )
 
 
 def print_memory(what, ours, theirs, unit):
-    print(f"{what:26} {ours.memory / MB:9.1f} {'':19} {theirs.memory / MB:9.1f} {'MB':>19} {ours.memory / theirs.memory:6.2f} {unit}")
+    print(
+        f"{what:26} {ours.memory / MB:9.1f} {'':19} {theirs.memory / MB:9.1f} {'MB':>19} {ours.memory / theirs.memory:6.2f} {unit}"
+    )
 
 
 def without(run, load):
     """What a run took beside the load, of each run that of the load beside it."""
     each = [passed - loaded for passed, loaded in zip(run.each, load.each)]
-    each_processor = [used - loaded for used, loaded in zip(run.each_processor, load.each_processor)]
-    rest = run.least - load.least, run.median - load.median, run.processor - load.processor, run.user - load.user
+    each_processor = [
+        used - loaded for used, loaded in zip(run.each_processor, load.each_processor)
+    ]
+    rest = (
+        run.least - load.least,
+        run.median - load.median,
+        run.processor - load.processor,
+        run.user - load.user,
+    )
     return Measures(*rest, run.memory, each, each_processor)
 
 
@@ -201,7 +219,9 @@ def bench_dictionary(name, source, options, folder):
     if options.library:
         bench_library(options, folder, sources, written(folder, "text", japanese(options.bytes)))
         return
-    print(f"\n{name}: seconds, least, median and of the processor; ours, then MeCab's; ratios, and in each round; spread")
+    print(
+        f"\n{name}: seconds, least, median and of the processor; ours, then MeCab's; ratios, and in each round; spread"
+    )
     compiled = in_turn(sources.compilers(options), options.compilations or options.rounds)
     print_times("compilation", *compiled)
     print_memory("  its memory", *compiled, "")
@@ -216,17 +236,28 @@ def bench_dictionary(name, source, options, folder):
         print_times(f"whole run, {what}", tested, mecabs)
         print_times("  with --skip-digest", untested, mecabs)
         print_times(f"search alone, {what}", without(untested, loads[1]), without(mecabs, loads[2]))
-        print_memory(f"memory, {what}", tested, mecabs, f"{tested.memory / sources.image.stat().st_size:.2f} of the image")
+        print_memory(
+            f"memory, {what}",
+            tested,
+            mecabs,
+            f"{tested.memory / sources.image.stat().st_size:.2f} of the image",
+        )
     bench_library(options, folder, sources, text)
 
 
 def print_instructions(name, options, folder, sources, text):
-    print(f"\n{name}: millions of instructions, misses of a simulated cache and mispredicted branches; ours, MeCab's, and their ratio")
-    load, untested, mecabs = (instructions(command, os.devnull) / 1e6 for command in load_commands(sources, options))
+    print(
+        f"\n{name}: millions of instructions, misses of a simulated cache and mispredicted branches; ours, MeCab's, and their ratio"
+    )
+    load, untested, mecabs = (
+        instructions(command, os.devnull) / 1e6 for command in load_commands(sources, options)
+    )
     print_counts("load", load, mecabs)
     print_counts("load, --skip-digest", untested, mecabs)
     for what, chosen in (("wakati", compared.WAKATI), ("default", [])):
-        ours, theirs = (counts_of_the_text(command, text) for command in sources.segmenters(options, chosen))
+        ours, theirs = (
+            counts_of_the_text(command, text) for command in sources.segmenters(options, chosen)
+        )
         print_counts(f"search over 1 MB, {what}", ours.instructions, theirs.instructions)
         print_counts("  first-level misses", ours.missed_first, theirs.missed_first)
         print_counts("  second-level misses", ours.missed_second, theirs.missed_second)
@@ -241,11 +272,17 @@ def print_library_instructions(name, options, folder, sources, text):
     if not can_bench_library(options):
         return
     commands = library_commands(options, folder, sources)
-    print(f"\n{name}: millions of instructions in process over 1 MB, without the load; ours, then jseg's or MeCab's, and their ratio")
+    print(
+        f"\n{name}: millions of instructions in process over 1 MB, without the load; ours, then jseg's or MeCab's, and their ratio"
+    )
     check_nodes(options, commands, text)
     for ours, theirs in ways(options):
         counts = [of_the_text(commands(way), text) for way in (ours, theirs)]
-        print(f"{ours:26} " + " ".join(f"{count:9.1f}" for count in counts) + f" {counts[0] / counts[1]:6.3f}")
+        print(
+            f"{ours:26} "
+            + " ".join(f"{count:9.1f}" for count in counts)
+            + f" {counts[0] / counts[1]:6.3f}"
+        )
 
 
 def load_commands(sources, options):
@@ -258,13 +295,17 @@ def bench_lengths(options, folder, image):
     """Lines and texts that grow: the time a byte stays as it is where the search is linear."""
     command = [options.jseg, "-d", image, *compared.WAKATI]
     run_on = japanese(8 * MB).replace(b"\n", b"").decode()
-    print("\nours alone: nanoseconds a byte without the load, memory, and spread, of texts of 4 MB in lines of so many bytes")
+    print(
+        "\nours alone: nanoseconds a byte without the load, memory, and spread, of texts of 4 MB in lines of so many bytes"
+    )
     for kilobytes in (1, 16, 256, 1000):
         lines = cut_to(run_on, 1024 * kilobytes)
         print_growth(f"{kilobytes} KiB", command, options, written(folder, "lines", lines))
     print("of texts of so many bytes")
     for megabytes in (1, 4, 16, 64):
-        print_growth(f"{megabytes} MB", command, options, written(folder, "text", japanese(megabytes * MB)))
+        print_growth(
+            f"{megabytes} MB", command, options, written(folder, "text", japanese(megabytes * MB))
+        )
 
 
 def cut_to(text, size):
@@ -276,7 +317,9 @@ def cut_to(text, size):
 def print_growth(what, command, options, text):
     (load,), (run,) = with_loads([command], options.rounds, text)
     alone = without(run, load)
-    print(f"{what:>26} {alone.least / text.stat().st_size * 1e9:9.1f} {run.memory / MB:9.1f} MB {alone.how_sure()}")
+    print(
+        f"{what:>26} {alone.least / text.stat().st_size * 1e9:9.1f} {run.memory / MB:9.1f} MB {alone.how_sure()}"
+    )
 
 
 def bench_library(options, folder, sources, text):
@@ -300,7 +343,9 @@ def bench_cuts(name, options, sources, text):
         loads, runs = with_loads(list(commands.values()), options.rounds, text)
         print(f"\n{name}, {what}:", COLUMNS.format(theirs="MeCab's"))
         for called, load, run in zip(list(commands)[:-1], loads, runs):
-            print(f"{'load, ' + called:26} {load.least:9.3f} {load.median:9.3f} {load.processor:9.3f} {load.user:9.3f}")
+            print(
+                f"{'load, ' + called:26} {load.least:9.3f} {load.median:9.3f} {load.processor:9.3f} {load.user:9.3f}"
+            )
             print_way(f"search, {called}", without(run, load), without(runs[-1], loads[-1]))
 
 
@@ -321,11 +366,18 @@ def bench_slices(name, options, sources, text):
 def print_slices(what, ours, theirs):
     ratios = ours.beside(theirs)
     sure = "" if max(ratios[1:]) <= min(ratios[1:]) * (1 + SLICES_SURE) else " uncertain"
-    print(f"{what:26} {ours.least():9.3f} {theirs.least():9.3f}", *(f"{ratio:6.3f}" for ratio in ratios), sure)
+    print(
+        f"{what:26} {ours.least():9.3f} {theirs.least():9.3f}",
+        *(f"{ratio:6.3f}" for ratio in ratios),
+        sure,
+    )
 
 
 def print_way(what, ours, theirs):
-    numbers = " ".join(f"{run.least:9.3f} {run.median:9.3f} {run.processor:9.3f} {run.user:9.3f}" for run in (ours, theirs))
+    numbers = " ".join(
+        f"{run.least:9.3f} {run.median:9.3f} {run.processor:9.3f} {run.user:9.3f}"
+        for run in (ours, theirs)
+    )
     pairs = (ours.least, theirs.least), (ours.processor, theirs.processor), (ours.user, theirs.user)
     ratios = " ".join(f"{one / other:6.2f}" for one, other in pairs)
     print(f"{what:26} {numbers} {ratios} {in_each_round(ours, theirs):6.2f} {theirs.how_sure()}")
@@ -338,13 +390,22 @@ def bench_hard(options, folder):
     rows = [
         ("1 MiB of z", "", b"z" * 2**20),
         ("65,600 entries of a", "a,1,1,10,X\n" * 65_600, b"aaa\n"),
-        ("a to a 1,024 times", "".join("a" * n + ",1,1,10,X\n" for n in range(1, 1025)), b"a" * 4096),
+        (
+            "a to a 1,024 times",
+            "".join("a" * n + ",1,1,10,X\n" for n in range(1, 1025)),
+            b"a" * 4096,
+        ),
     ]
     for what, lexicon, text in rows:
         image = compile_sample(options, folder, sample / "matrix.def", lexicon)
         print_run(what, [options.jseg, "-d", image], options, written(folder, "text", text))
     matrix = written(folder, "large.def", b"32768 32768\n0 0 1\n")
-    print_run("a matrix of 32,768", compiler(options, matrix, folder / "large.img", folder / "a.csv"), options, os.devnull)
+    print_run(
+        "a matrix of 32,768",
+        compiler(options, matrix, folder / "large.img", folder / "a.csv"),
+        options,
+        os.devnull,
+    )
 
 
 def compiler(options, matrix, image, lexicon):
@@ -356,43 +417,96 @@ def compiler(options, matrix, image, lexicon):
 def compile_sample(options, folder, matrix, lexicon):
     image = folder / "hard.img"
     path = written(folder, "a.csv", lexicon.encode())
-    subprocess.run([str(word) for word in compiler(options, matrix, image, path)], check=True, stdout=subprocess.DEVNULL)
+    subprocess.run(
+        [str(word) for word in compiler(options, matrix, image, path)],
+        check=True,
+        stdout=subprocess.DEVNULL,
+    )
     return image
 
 
 def print_run(what, command, options, text):
     run = in_turn([command], options.rounds, text)[0]
-    print(f"{what:26} {run.least:9.3f} {run.median:9.3f} {run.processor:9.3f} {run.memory / MB:9.1f} MB {run.how_sure()}")
+    print(
+        f"{what:26} {run.least:9.3f} {run.median:9.3f} {run.processor:9.3f} {run.memory / MB:9.1f} MB {run.how_sure()}"
+    )
 
 
 def chosen():
-    options = argparse.ArgumentParser(description=__doc__, formatter_class=argparse.RawDescriptionHelpFormatter)
-    options.add_argument("--rounds", type=int, default=5, metavar="N", help="how often each command is run")
-    options.add_argument("--compilations", type=int, metavar="N", help="how often the dictionaries are compiled (as often as --rounds)")
-    options.add_argument("--bytes", type=int, default=5 * MB, metavar="N", help="the length of the text")
-    options.add_argument("--dictionaries", action="store_true", help="measure the dictionaries alone, and not what grows or what is hard")
+    options = argparse.ArgumentParser(
+        description=__doc__, formatter_class=argparse.RawDescriptionHelpFormatter
+    )
+    options.add_argument(
+        "--rounds", type=int, default=5, metavar="N", help="how often each command is run"
+    )
+    options.add_argument(
+        "--compilations",
+        type=int,
+        metavar="N",
+        help="how often the dictionaries are compiled (as often as --rounds)",
+    )
+    options.add_argument(
+        "--bytes", type=int, default=5 * MB, metavar="N", help="the length of the text"
+    )
+    options.add_argument(
+        "--dictionaries",
+        action="store_true",
+        help="measure the dictionaries alone, and not what grows or what is hard",
+    )
     options.add_argument("--library", action="store_true", help="measure the library alone")
-    options.add_argument("--nodes", action="store_true", help="measure the nodes of libmecab alone, as --library measures the library")
-    options.add_argument("--cut", action="append", default=[], type=Path, metavar="PROGRAM", help="measure this kumquatsieve-cut, on one thread")
-    options.add_argument("--slices", action="store_true", help="measure searches and whole runs alone, in slices of the text in turn with MeCab")
-    options.add_argument("--instructions", action="store_true", help="count the instructions of the loads and the search, and measure nothing else")
+    options.add_argument(
+        "--nodes",
+        action="store_true",
+        help="measure the nodes of libmecab alone, as --library measures the library",
+    )
+    options.add_argument(
+        "--cut",
+        action="append",
+        default=[],
+        type=Path,
+        metavar="PROGRAM",
+        help="measure this kumquatsieve-cut, on one thread",
+    )
+    options.add_argument(
+        "--slices",
+        action="store_true",
+        help="measure searches and whole runs alone, in slices of the text in turn with MeCab",
+    )
+    options.add_argument(
+        "--instructions",
+        action="store_true",
+        help="count the instructions of the loads and the search, and measure nothing else",
+    )
     options.add_argument("--dictc", type=Path, default=compared.CRATES / "dictc" / "out" / "dictc")
     options.add_argument("--jseg", type=Path, default=compared.CRATES / "jseg" / "out" / "jseg")
     options.add_argument("--mecab", default="mecab")
     options.add_argument("--mecab-dict-index", default="/usr/lib/mecab/mecab-dict-index")
-    options.add_argument("names", nargs="*", default=compared.NAMES, help=f"folders of sources, or Debian's: {', '.join(compared.NAMES)}")
+    options.add_argument(
+        "names",
+        nargs="*",
+        default=compared.NAMES,
+        help=f"folders of sources, or Debian's: {', '.join(compared.NAMES)}",
+    )
     found = options.parse_args()
     found.library |= found.nodes
     if found.slices and found.rounds < 2:
         options.error("--slices needs two rounds at least")
     if found.slices and any(map(threads, found.cut)):
-        options.error("--slices is for builds of jseg, whose names begin so: kumquatsieve-cut may wait for more text before it cuts")
+        options.error(
+            "--slices is for builds of jseg, whose names begin so: kumquatsieve-cut may wait for more text before it cuts"
+        )
     return found
 
 
 def main():
     options = chosen()
-    alone = options.dictionaries or options.library or options.instructions or options.cut or options.slices
+    alone = (
+        options.dictionaries
+        or options.library
+        or options.instructions
+        or options.cut
+        or options.slices
+    )
     for name in options.names:
         source = compared.folder_of(name)
         if source is None:

@@ -34,7 +34,9 @@ ALONE = ["nothing", "bytes", "path", "path, test_digest"]
 def number_of(pid, name, field):
     """Bytes of memory, as a file of the process tells them; 0 where it has ended, or has none yet."""
     try:
-        found = re.search(rf"^{field}:\s+(\d+) kB$", Path("/proc", str(pid), name).read_text(), re.M)
+        found = re.search(
+            rf"^{field}:\s+(\d+) kB$", Path("/proc", str(pid), name).read_text(), re.M
+        )
     except OSError:
         return 0
     return int(found[1]) * 1024 if found else 0
@@ -45,7 +47,9 @@ class Process:
 
     def __init__(self, how, image):
         words = [sys.executable, CLIENT, how, image]
-        self.process = subprocess.Popen(list(map(str, words)), stdin=subprocess.PIPE, stdout=subprocess.PIPE)
+        self.process = subprocess.Popen(
+            list(map(str, words)), stdin=subprocess.PIPE, stdout=subprocess.PIPE
+        )
         self.own = 0
         os.set_blocking(self.process.stdout.fileno(), False)
         self.pids = []
@@ -71,7 +75,9 @@ class Process:
 
 def shared_of(*processes):
     """What processes have together, a page that several have once."""
-    return sum(number_of(pid, "smaps_rollup", "Pss") for process in processes for pid in process.pids)
+    return sum(
+        number_of(pid, "smaps_rollup", "Pss") for process in processes for pid in process.pids
+    )
 
 
 def alone(how, image):
@@ -85,19 +91,25 @@ def two(image):
 
 
 def main():
-    options = argparse.ArgumentParser(description=__doc__, formatter_class=argparse.RawDescriptionHelpFormatter)
+    options = argparse.ArgumentParser(
+        description=__doc__, formatter_class=argparse.RawDescriptionHelpFormatter
+    )
     options.add_argument("--rounds", type=int, default=3, metavar="N")
     options.add_argument("image", type=Path, metavar="IMG")
     chosen = options.parse_args()
     with tempfile.TemporaryDirectory() as folder:
         build("bench-memory", Path(folder))
-        print(f"the image has {chosen.image.stat().st_size / MB:.1f} MB\n| image given as | peak | its own | after the load |\n|---|---|---|---|")
+        print(
+            f"the image has {chosen.image.stat().st_size / MB:.1f} MB\n| image given as | peak | its own | after the load |\n|---|---|---|---|"
+        )
         for how in ALONE:
             most = map(max, zip(*(alone(how, chosen.image) for _ in range(chosen.rounds))))
             print(f"| {how} | " + " | ".join(f"{number / MB:.1f}" for number in most) + " |")
         print(f"two processes that load it by its path: {two(chosen.image) / MB:.1f} MB in all")
         with Process("forked", chosen.image) as process:
-            print(f"one that loads it, and a child of its own: {shared_of(process) / MB:.1f} MB in all")
+            print(
+                f"one that loads it, and a child of its own: {shared_of(process) / MB:.1f} MB in all"
+            )
 
 
 if __name__ == "__main__":

@@ -50,7 +50,9 @@ SURE, QUIET = 0.1, 0.05
 
 def compared():
     """tests/compare_with_mecab/run.py as a module."""
-    loader = importlib.machinery.SourceFileLoader("compare_with_mecab", str(TOP / "tests/compare_with_mecab/run.py"))
+    loader = importlib.machinery.SourceFileLoader(
+        "compare_with_mecab", str(TOP / "tests/compare_with_mecab/run.py")
+    )
     made = importlib.util.module_from_spec(importlib.util.spec_from_loader(loader.name, loader))
     loader.exec_module(made)
     return made
@@ -59,7 +61,11 @@ def compared():
 def corpus(texts, size):
     """The lines of the texts that are UTF-8, over and over."""
     pages = compared()
-    lines = b"".join(path.read_bytes() for path in texts) or pages.manual_pages() or (SAMPLE / "text.txt").read_bytes()
+    lines = (
+        b"".join(path.read_bytes() for path in texts)
+        or pages.manual_pages()
+        or (SAMPLE / "text.txt").read_bytes()
+    )
     lines = pages.common_ground(lines).rstrip(b"\n") + b"\n"
     return lines * max(1, round(size / len(lines)))
 
@@ -78,7 +84,9 @@ def parts_of(text, count):
 def sample_image(folder):
     if not DICTC.exists():
         leave_out(NAME, DICTC)
-    sources = [word for name in ("matrix", "char", "unk") for word in (f"--{name}", SAMPLE / f"{name}.def")]
+    sources = [
+        word for name in ("matrix", "char", "unk") for word in (f"--{name}", SAMPLE / f"{name}.def")
+    ]
     words = [DICTC, "system", *sources, "--out", folder / "sample.img", SAMPLE / "lexicon.csv"]
     subprocess.run(words, check=True, stdout=subprocess.DEVNULL)
     return folder / "sample.img"
@@ -105,7 +113,9 @@ def spread_of(seconds):
 
 def print_rows(seconds, size):
     """A row for each number of threads; answers the ratio of the most threads to one."""
-    print("| threads | least | median | processors | MB/s | to one | spread |\n|---|---|---|---|---|---|---|")
+    print(
+        "| threads | least | median | processors | MB/s | to one | spread |\n|---|---|---|---|---|---|---|"
+    )
     one = min(passed for passed, _ in seconds[1])
     for count, each in seconds.items():
         passed, used = zip(*each)
@@ -141,21 +151,41 @@ def count(image, text, threads, folder):
     path.write_bytes(text)
     command = [sys.executable, TOP / "bench/clients" / "lines.py", "wakati_lines", image]
     library = Path(os.environ["KUMQUATSIEVE_LIBRARY"]).name
-    whole, own = (of - load for of, load in zip(*(instructions_in(command, read, library) for read in (path, os.devnull))))
+    whole, own = (
+        of - load
+        for of, load in zip(
+            *(instructions_in(command, read, library) for read in (path, os.devnull))
+        )
+    )
     alone = 1 - own / whole
-    print(f"{len(text) / MB:.1f} MB of text: {whole / 1e6:.1f} million instructions without the load, of which the library's are {own / 1e6:.1f}")
-    print(f"Python's own are {alone:.3f} of all: by this count {threads} threads take at least {max(alone, 1 / threads):.3f} of the time of one")
+    print(
+        f"{len(text) / MB:.1f} MB of text: {whole / 1e6:.1f} million instructions without the load, of which the library's are {own / 1e6:.1f}"
+    )
+    print(
+        f"Python's own are {alone:.3f} of all: by this count {threads} threads take at least {max(alone, 1 / threads):.3f} of the time of one"
+    )
     return 0
 
 
 def chosen():
-    options = argparse.ArgumentParser(description=__doc__, formatter_class=argparse.RawDescriptionHelpFormatter)
+    options = argparse.ArgumentParser(
+        description=__doc__, formatter_class=argparse.RawDescriptionHelpFormatter
+    )
     options.add_argument("--image", type=Path)
     options.add_argument("--threads", type=int, default=4, metavar="N")
     options.add_argument("--megabytes", type=int, default=20, metavar="N")
     options.add_argument("--rounds", type=int, default=5, metavar="N")
-    options.add_argument("--most", type=float, metavar="RATIO", help="the most that several threads may take, in parts of the seconds of one")
-    options.add_argument("--instructions", action="store_true", help="count the instructions of one thread, and measure nothing else")
+    options.add_argument(
+        "--most",
+        type=float,
+        metavar="RATIO",
+        help="the most that several threads may take, in parts of the seconds of one",
+    )
+    options.add_argument(
+        "--instructions",
+        action="store_true",
+        help="count the instructions of one thread, and measure nothing else",
+    )
     options.add_argument("texts", nargs="*", type=Path)
     return options.parse_args()
 

@@ -31,7 +31,9 @@ def counts_of_the_text(command, text):
 def counts(command, text):
     """The counts of one run."""
     said = run_counted(command, text, os.devnull, CACHES)
-    names, numbers = (re.findall(rb"%s *: (.*)" % word, said)[-1].split() for word in (b"Events", b"Collected"))
+    names, numbers = (
+        re.findall(rb"%s *: (.*)" % word, said)[-1].split() for word in (b"Events", b"Collected")
+    )
     of = {name.decode(): int(number) for name, number in zip(names, numbers)}
     return of["Ir"], of["D1mr"] + of["D1mw"], of["DLmr"] + of["DLmw"], of["Bcm"] + of["Bim"]
 
@@ -52,16 +54,29 @@ def instructions_in(command, text, library):
     with tempfile.NamedTemporaryFile() as counts:
         said = run_counted(command, text, counts.name)
         words = ["callgrind_annotate", "--threshold=100", counts.name]
-        rows = subprocess.run(words, stdout=subprocess.PIPE, check=True, text=True).stdout.splitlines()
+        rows = subprocess.run(
+            words, stdout=subprocess.PIPE, check=True, text=True
+        ).stdout.splitlines()
     own = [row.split(maxsplit=1)[0] for row in rows if row.endswith(f"{library}]")]
-    return int(re.findall(rb"Collected : (\d+)", said)[-1]), sum(int(number.replace(",", "")) for number in own)
+    return int(re.findall(rb"Collected : (\d+)", said)[-1]), sum(
+        int(number.replace(",", "")) for number in own
+    )
 
 
 def run_counted(command, text, out, simulated=()):
     """What valgrind says of a run."""
     with open(text, "rb") as reading:
-        words = ["valgrind", "--tool=callgrind", "--trace-children=yes", f"--callgrind-out-file={out}", *simulated, *map(str, command)]
-        done = subprocess.run(words, stdin=reading, stdout=subprocess.DEVNULL, stderr=subprocess.PIPE)
+        words = [
+            "valgrind",
+            "--tool=callgrind",
+            "--trace-children=yes",
+            f"--callgrind-out-file={out}",
+            *simulated,
+            *map(str, command),
+        ]
+        done = subprocess.run(
+            words, stdin=reading, stdout=subprocess.DEVNULL, stderr=subprocess.PIPE
+        )
     if done.returncode != 0 or b"Collected : " not in done.stderr:
         sys.exit(f"valgrind {command[0]} ended with status {done.returncode}")
     return done.stderr

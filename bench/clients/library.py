@@ -21,7 +21,11 @@ def build(script, folder):
     if LIBRARY not in os.environ:
         if not (shutil.which("gcc") and ARCHIVE.exists()):
             leave_out(script, f"gcc or {ARCHIVE}")
-        subprocess.run([TOP / "packaging/build-library", "--built", folder / "prefix"], check=True, stderr=subprocess.DEVNULL)
+        subprocess.run(
+            [TOP / "packaging/build-library", "--built", folder / "prefix"],
+            check=True,
+            stderr=subprocess.DEVNULL,
+        )
         os.environ[LIBRARY] = str(folder / "prefix" / "lib" / "libkumquatsieve.so.0")
     os.environ["PYTHONPATH"] = str(TOP / "python")
     os.environ["PYTHONDONTWRITEBYTECODE"] = "1"

@@ -69,9 +69,15 @@ WAYS = {
     "wakati_lines": lambda dictionary: all_of(ours().Cutter(dictionary).wakati_lines),
     "cut": lambda dictionary: each(over_words(ours().Cutter(dictionary))),
     "MeCab: parse": lambda dictionary: each(mecabs(f"-r /dev/null -d {dictionary}").parse),
-    "MeCab: parse, wakati": lambda dictionary: each(mecabs(f"-r /dev/null -d {dictionary} -O wakati").parse),
-    "MeCab: wakati": lambda dictionary: each(split(mecabs(f"-r /dev/null -d {dictionary} -O wakati"))),
-    "MeCab: parseToNode": lambda dictionary: each(over_nodes(mecabs(f"-r /dev/null -d {dictionary}"))),
+    "MeCab: parse, wakati": lambda dictionary: each(
+        mecabs(f"-r /dev/null -d {dictionary} -O wakati").parse
+    ),
+    "MeCab: wakati": lambda dictionary: each(
+        split(mecabs(f"-r /dev/null -d {dictionary} -O wakati"))
+    ),
+    "MeCab: parseToNode": lambda dictionary: each(
+        over_nodes(mecabs(f"-r /dev/null -d {dictionary}"))
+    ),
 }
 
 

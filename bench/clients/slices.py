@@ -24,7 +24,9 @@ class Fed:
 
     def __init__(self, command):
         self.command = list(map(str, command))
-        self.started = subprocess.Popen(self.command, stdin=subprocess.PIPE, stdout=subprocess.DEVNULL, bufsize=0)
+        self.started = subprocess.Popen(
+            self.command, stdin=subprocess.PIPE, stdout=subprocess.DEVNULL, bufsize=0
+        )
         self.clock = ~self.started.pid << 3 | PROCESSOR_TIME
         self.wait_for_its_read()
         self.load = time.clock_gettime(self.clock)
@@ -50,7 +52,10 @@ class Fed:
 
     def waits(self):
         left = struct.unpack("i", fcntl.ioctl(self.started.stdin, termios.FIONREAD, bytes(4)))[0]
-        return left == 0 and tuple(Path(f"/proc/{self.started.pid}/syscall").read_text().split()[:2]) in WAITS
+        return (
+            left == 0
+            and tuple(Path(f"/proc/{self.started.pid}/syscall").read_text().split()[:2]) in WAITS
+        )
 
     def fail(self):
         sys.exit(f"{self.command[0]} does not read on")
@@ -77,7 +82,10 @@ class Seconds(NamedTuple):
 
     def beside(self, theirs):
         """What it takes beside another program, by all rounds, and by every other one from the first on and from the second on."""
-        return [self.least(rounds) / theirs.least(rounds) for rounds in (slice(None), slice(0, None, 2), slice(1, None, 2))]
+        return [
+            self.least(rounds) / theirs.least(rounds)
+            for rounds in (slice(None), slice(0, None, 2), slice(1, None, 2))
+        ]
 
 
 class InSlices(NamedTuple):

@@ -27,7 +27,9 @@ NODE_WAYS = [("nodes, lattice", "MeCab: nodes, lattice"), ("nodes, tonode", "MeC
 def can_bench_library(options):
     if ARCHIVE.exists() and shutil.which("gcc") and (options.nodes or has_mecabs_module()):
         return True
-    print("\nlibrary: left out, for want of crates/cutter_c/out/libcutter_c.a, gcc or python3-mecab")
+    print(
+        "\nlibrary: left out, for want of crates/cutter_c/out/libcutter_c.a, gcc or python3-mecab"
+    )
     return False
 
 
@@ -56,12 +58,17 @@ def check_nodes(options, commands, text):
 
 def printed_of(command, text):
     with open(text, "rb") as reading:
-        return subprocess.run(list(map(str, command)), stdin=reading, stdout=subprocess.PIPE, check=True).stdout
+        return subprocess.run(
+            list(map(str, command)), stdin=reading, stdout=subprocess.PIPE, check=True
+        ).stdout
 
 
 def build_nodes(folder, sources):
     """The program that reads nodes, and MeCab's settings beside our image, so that both know the ids of the parts of speech."""
-    subprocess.run(["gcc", "-std=gnu11", "-O2", CLIENTS / "nodes.c", "-lmecab", "-o", folder / "nodes"], check=True)
+    subprocess.run(
+        ["gcc", "-std=gnu11", "-O2", CLIENTS / "nodes.c", "-lmecab", "-o", folder / "nodes"],
+        check=True,
+    )
     for name in ("dicrc", "pos-id.def"):
         if (sources.theirs / name).exists():
             shutil.copy(sources.theirs / name, sources.image.with_suffix(f".{name}"))
@@ -70,24 +77,55 @@ def build_nodes(folder, sources):
 def library_commands(options, folder, sources):
     """Builds the libraries, the example in C and the program that reads nodes, and answers a function that gives the command of a way."""
     prefix, cut, nodes = folder / "prefix", folder / "cut", ["--mecab"] if can_bench_nodes() else []
-    subprocess.run([TOP / "packaging/build-library", "--built", *nodes, prefix], check=True, stderr=subprocess.DEVNULL)
+    subprocess.run(
+        [TOP / "packaging/build-library", "--built", *nodes, prefix],
+        check=True,
+        stderr=subprocess.DEVNULL,
+    )
     archive = prefix / "lib" / "libkumquatsieve.a"
-    subprocess.run(["gcc", "-O2", f"-I{prefix / 'include'}", TOP / "examples" / "c" / "cut.c", archive, "-o", cut], check=True)
+    subprocess.run(
+        [
+            "gcc",
+            "-O2",
+            f"-I{prefix / 'include'}",
+            TOP / "examples" / "c" / "cut.c",
+            archive,
+            "-o",
+            cut,
+        ],
+        check=True,
+    )
     if nodes:
         build_nodes(folder, sources)
-    place = ["env", f"PYTHONPATH={TOP / 'python'}", f"KUMQUATSIEVE_LIBRARY={prefix / 'lib' / 'libkumquatsieve.so.0'}", "PYTHONDONTWRITEBYTECODE=1"]
+    place = [
+        "env",
+        f"PYTHONPATH={TOP / 'python'}",
+        f"KUMQUATSIEVE_LIBRARY={prefix / 'lib' / 'libkumquatsieve.so.0'}",
+        "PYTHONDONTWRITEBYTECODE=1",
+    ]
 
     def command(way):
         program, _, kind = way.partition(", ")
         if program == "jseg":
-            return [options.jseg, "-d", sources.image, *(["-O", "wakati"] if kind == "wakati" else [])]
+            return [
+                options.jseg,
+                "-d",
+                sources.image,
+                *(["-O", "wakati"] if kind == "wakati" else []),
+            ]
         if program == "C":
             return [cut, sources.image, *([kind] if kind == "wakati" else [])]
         dictionary = sources.mecab if "MeCab" in way else sources.image
         if program == "MeCab: nodes":
             return [folder / "nodes", kind, dictionary]
         if program == "nodes":
-            return ["env", f"LD_LIBRARY_PATH={prefix / 'lib' / 'kumquatsieve' / 'mecab'}", folder / "nodes", kind, dictionary]
+            return [
+                "env",
+                f"LD_LIBRARY_PATH={prefix / 'lib' / 'kumquatsieve' / 'mecab'}",
+                folder / "nodes",
+                kind,
+                dictionary,
+            ]
         return [*place, PYTHON, CLIENTS / "lines.py", way, dictionary]
 
     return command

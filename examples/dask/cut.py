@@ -82,12 +82,18 @@ def write_first(waiting: Deque[Tuple[Part, Future]], out: TextIO) -> None:
 
 
 def main() -> None:
-    options = argparse.ArgumentParser(description=__doc__, formatter_class=argparse.RawDescriptionHelpFormatter)
+    options = argparse.ArgumentParser(
+        description=__doc__, formatter_class=argparse.RawDescriptionHelpFormatter
+    )
     options.add_argument("image", metavar="IMAGE", help="an image, by its path or its name")
-    options.add_argument("--scheduler", help="of a cluster that runs; without it one of this machine is made")
+    options.add_argument(
+        "--scheduler", help="of a cluster that runs; without it one of this machine is made"
+    )
     options.add_argument("--workers", type=int, default=4, help="of the cluster that is made")
     options.add_argument("--format", choices=["wakati"])
-    options.add_argument("--part", type=int, default=10_000_000, help="how many bytes a worker gets at once")
+    options.add_argument(
+        "--part", type=int, default=10_000_000, help="how many bytes a worker gets at once"
+    )
     options.add_argument("text", metavar="TEXT", help="the file to cut")
     options.add_argument("words", metavar="WORDS", help="the file to write")
     given = options.parse_args()

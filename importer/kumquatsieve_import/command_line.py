@@ -67,7 +67,7 @@ def word_bytes(words: List[str]) -> List[bytes]:
     except OSError:
         found = []
     if len(found) > len(words):
-        return found[len(found) - len(words):]
+        return found[len(found) - len(words) :]
     try:
         return list(map(os.fsencode, words))
     except UnicodeEncodeError as error:
@@ -113,13 +113,17 @@ def read_words(words):
         elif name in VALUED and (equals or rest):
             given[name] = value if equals else rest.pop(0)
         else:
-            raise usage_fault(f"{shown(word)} is no option, or lacks its value; a name that begins with - stands after --")
+            raise usage_fault(
+                f"{shown(word)} is no option, or lacks its value; a name that begins with - stands after --"
+            )
     encoding = encoding_given(given["--encoding"]) if "--encoding" in given else None
     names = list(map(as_bytes, names))
     if is_test:
         return choices_of_test(names, given, is_verbose)
     if "--user" in given or "--out" in given:
-        return choices_of_user(given.get("--user", ""), given.get("--out", ""), names, encoding, is_verbose)
+        return choices_of_user(
+            given.get("--user", ""), given.get("--out", ""), names, encoding, is_verbose
+        )
     return choices_of(names, encoding, is_verbose)
 
 
@@ -141,5 +145,7 @@ def choices_of(names, encoding, is_verbose):
         raise usage_fault("a folder is wanted, and the image to write")
     choices = Choices(names[0], names[1] if len(names) == 2 else None, encoding, is_verbose, False)
     if choices.image is None and (b"/" in choices.name or choices.name.startswith(b".")):
-        raise Fault(WRONG_WORDS, f"give the image to write: kumquatsieve-import {shown(choices.name)} IMG")
+        raise Fault(
+            WRONG_WORDS, f"give the image to write: kumquatsieve-import {shown(choices.name)} IMG"
+        )
     return choices

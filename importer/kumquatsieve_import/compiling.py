@@ -153,8 +153,14 @@ class Compilation:
     """A run of dictc in a folder that has the sources by names of its own. A name that is no UTF-8 is none of these: dictc refuses its words then."""
 
     def __init__(self, names, teller):
-        self.names = {name.decode("utf-8", "backslashreplace"): shown(path) for name, path in names.items()}
-        self.sizes = {os.path.realpath(path): os.path.getsize(path) for path in names.values() if os.path.isfile(path)}
+        self.names = {
+            name.decode("utf-8", "backslashreplace"): shown(path) for name, path in names.items()
+        }
+        self.sizes = {
+            os.path.realpath(path): os.path.getsize(path)
+            for path in names.values()
+            if os.path.isfile(path)
+        }
         self.pattern = re.compile("(?<![^ ])(" + "|".join(map(re.escape, self.names)) + ")(?=:|$)")
         self.teller = teller
 

@@ -41,7 +41,7 @@ def numbered(chunk, first, left_out):
         return chunk
     kept, at, number = [], 0, first
     for found in UNNUMBERED.finditer(chunk):
-        kept.append(chunk[at:found.start()])
+        kept.append(chunk[at : found.start()])
         number += chunk.count(b"\n", at, found.start())
         left_out.append((number, NO_NUMBER))
         end = chunk.find(b"\n", found.end())
@@ -55,8 +55,12 @@ def converted(source, encoding):
     are the same in each encoding."""
     for number, chunk in source.chunks():
         text, lines = chunk, []
-        if number == 1 and chunk.startswith(MARK) and (encoding is UTF_8 or source.name == b"matrix.def"):
-            text = chunk[len(MARK):]
+        if (
+            number == 1
+            and chunk.startswith(MARK)
+            and (encoding is UTF_8 or source.name == b"matrix.def")
+        ):
+            text = chunk[len(MARK) :]
         if source.name != b"matrix.def":
             text = decoded(text, number, encoding, lines)
         yield chunk, numbered(text, number, lines) if source.is_lexicon() else text, sorted(lines)
@@ -85,7 +89,7 @@ def write_converted(source, encoding, target, teller, leave_out):
                 leave_out(source.path, line, why)
             rest = memoryview(text)
             while rest:
-                rest = rest[file.write(rest):]
+                rest = rest[file.write(rest) :]
             done += len(chunk)
             teller.say_progress(f"making {shown(source.path)} UTF-8", done, source.size)
 

@@ -20,7 +20,7 @@ NEC_LEAD = 0xAD
 
 def nec_character(error):
     """NEC's characters in row 13, as CIRCLED DIGIT ONE, which vendors' EUC-JP has and JIS X 0208 has not: CP932 has them in its own place."""
-    pair = error.object[error.start:error.start + 2]
+    pair = error.object[error.start : error.start + 2]
     if len(pair) < 2 or pair[0] != NEC_LEAD or pair[1] < 0xA1:
         raise error
     return bytes([0x87, pair[1] - 0x61 + (pair[1] >= 0xE0)]).decode("cp932"), error.start + 2

@@ -20,14 +20,19 @@ QUOTED = re.compile(rb'(?<![^,])[ \t]*"(?:[^"]|"")*"?[^,]*')
 BEFORE_FEATURE = 4
 
 # 品詞, 品詞細分類1 to 3, 活用型, 活用形, 原形, 読み, 発音
-IPADIC = "pos1 pos2 pos3 pos4 conjugation_type conjugation_form base_form reading pronunciation".split()
+IPADIC = (
+    "pos1 pos2 pos3 pos4 conjugation_type conjugation_form base_form reading pronunciation".split()
+)
 # and 表記ゆれ, 複合語
 NAIST = [*IPADIC, "spelling_variants", "compound"]
 # 品詞, 品詞細分類, 活用型, 活用形, 原形, 読み, 意味情報
 JUMAN = "pos1 pos2 conjugation_type conjugation_form base_form reading semantic_information".split()
 # UniDic 2.1.2, and what it has with kana and accents
 UNIDIC = "pos1 pos2 pos3 pos4 cType cForm lForm lemma orth pron orthBase pronBase goshu iType iForm fType fForm".split()
-UNIDIC_ACCENTS = [*UNIDIC, *"kana kanaBase form formBase iConType fConType aType aConType aModType".split()]
+UNIDIC_ACCENTS = [
+    *UNIDIC,
+    *"kana kanaBase form formBase iConType fConType aType aConType aModType".split(),
+]
 
 
 class Known(NamedTuple):
@@ -61,7 +66,11 @@ def not_named(why):
 
 def settings_of(dicrc):
     """What a dicrc sets."""
-    pairs = [line.split("=", 1) for line in dicrc.splitlines() if "=" in line and not line.startswith((";", "#"))]
+    pairs = [
+        line.split("=", 1)
+        for line in dicrc.splitlines()
+        if "=" in line and not line.startswith((";", "#"))
+    ]
     return {key.strip(): value.strip() for key, value in pairs}
 
 
@@ -70,7 +79,9 @@ def listed(dicrc):
     on."""
     found = [match.groups() for match in map(LISTED.fullmatch, dicrc.splitlines()) if match]
     names = [name for _, name in found]
-    is_list = [int(number) for number, _ in found] == list(range(len(found))) and len(set(names)) == len(names)
+    is_list = [int(number) for number, _ in found] == list(range(len(found))) and len(
+        set(names)
+    ) == len(names)
     return (names if is_list and all(map(is_name, names)) else []) if found else None
 
 
@@ -87,7 +98,11 @@ def known_by(dicrc):
     settings = settings_of(dicrc)
     bos = len(settings["bos-feature"].split(",")) if "bos-feature" in settings else 0
     printed = [int(number) for number in PRINTED.findall(settings.get("node-format-yomi", ""))]
-    return [one for one in KNOWN if bos == one.bos and printed == ([] if one.reading is None else [one.reading])]
+    return [
+        one
+        for one in KNOWN
+        if bos == one.bos and printed == ([] if one.reading is None else [one.reading])
+    ]
 
 
 def count_of(line):
@@ -123,8 +138,11 @@ def find_names(dicrc, lexicons, teller):
         return not_named("dicrc is that of no dictionary whose fields are known")
     places = counted(lexicons, teller)
     if len(places) != 1:
-        return not_named(", and ".join(f"{place} has {count}" for count, place in places.items()) or "there is no entry")
-    count, = places
+        return not_named(
+            ", and ".join(f"{place} has {count}" for count, place in places.items())
+            or "there is no entry"
+        )
+    (count,) = places
     for one in known:
         if len(one.names) == count:
             return Found(one.names, f"{count}, with the names {one.whose}")

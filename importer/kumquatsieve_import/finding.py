@@ -88,19 +88,36 @@ class Finding:
 
     def look_at(self, source, number, chunk):
         lines = chunk.split(b"\n")
-        telling = [(at, line) for at, line in enumerate(lines) if not line.isascii() or ESCAPE in line]
+        telling = [
+            (at, line) for at, line in enumerate(lines) if not line.isascii() or ESCAPE in line
+        ]
         self.lines[source.path] = self.lines.get(source.path, 0) + len(telling)
         if self.escape is None and ISO_2022_ESCAPE.search(chunk):
-            self.escape = next(((source.path, number + at) for at, line in telling if ISO_2022_ESCAPE.search(line)), None)
+            self.escape = next(
+                (
+                    (source.path, number + at)
+                    for at, line in telling
+                    if ISO_2022_ESCAPE.search(line)
+                ),
+                None,
+            )
         seen = sum(self.lines.values())
         for standing in self.standings:
             standing.look(source, number, chunk, telling)
-            if len(self.standings) > 1 and standing.count() > ENOUGH and standing.count() * 2 > seen:
+            if (
+                len(self.standings) > 1
+                and standing.count() > ENOUGH
+                and standing.count() * 2 > seen
+            ):
                 standing.is_out = True
 
     def decided(self, told):
         """The standing of the encoding that is taken; None where that can't be decided."""
-        fitting = [one for one in self.standings if one.fits() and (one.encoding is not EUC_JIS_2004 or told is EUC_JIS_2004)]
+        fitting = [
+            one
+            for one in self.standings
+            if one.fits() and (one.encoding is not EUC_JIS_2004 or told is EUC_JIS_2004)
+        ]
         long = [one for one in fitting if one.encoding is UTF_8 and one.has_long]
         named = [one for one in fitting if one.encoding is told]
         if long or named:
@@ -113,7 +130,11 @@ class Finding:
     def nearest(self, told):
         """The standing of the encoding in which by far most lines are, where there is one."""
         seen = sum(self.lines.values())
-        few = [one for one in self.standings if one.is_likely() and not one.is_out and one.count() * 2 < seen]
+        few = [
+            one
+            for one in self.standings
+            if one.is_likely() and not one.is_out and one.count() * 2 < seen
+        ]
         named = [one for one in few if one.encoding is told]
         if named:
             return named[0]
@@ -137,7 +158,11 @@ class Finding:
 
 def find_encoding(sources, given, told, folder, teller):
     """The encoding that is given, or found."""
-    encodings = [given] if given else [UTF_8, EUC_JP, EUC_JIS_2004, CP932, *([ISO_2022_JP] if told is ISO_2022_JP else [])]
+    encodings = (
+        [given]
+        if given
+        else [UTF_8, EUC_JP, EUC_JIS_2004, CP932, *([ISO_2022_JP] if told is ISO_2022_JP else [])]
+    )
     finding = Finding(encodings)
     whole, done = sum(source.size for source in sources), 0
     for source in sources:
@@ -152,7 +177,10 @@ def find_encoding(sources, given, told, folder, teller):
 def chosen_of(finding, told, folder):
     if finding.escape and told is not ISO_2022_JP:
         path, line = finding.escape
-        raise Fault(REFUSED, f"{shown(path)}:{line} has an escape sequence, as ISO-2022-JP has: give --encoding iso-2022-jp, or another one")
+        raise Fault(
+            REFUSED,
+            f"{shown(path)}:{line} has an escape sequence, as ISO-2022-JP has: give --encoding iso-2022-jp, or another one",
+        )
     if not finding.lines:
         return finding.standings[0]
     if finding.escape:

@@ -43,8 +43,13 @@ def image_named(name, prefix):
     """The image that an option of the programs names: a bare name that no file has is looked for in the homes. None where it is nowhere."""
     if b"/" in name or is_file(name):
         return name if os.path.lexists(name) else None
-    homes = filter(None, (own_home(), run_time_home(prefix), os.path.join(prefix, b"share", FOLDER)))
-    return next((path for path in (os.path.join(home, name + b".img") for home in homes) if is_file(path)), None)
+    homes = filter(
+        None, (own_home(), run_time_home(prefix), os.path.join(prefix, b"share", FOLDER))
+    )
+    return next(
+        (path for path in (os.path.join(home, name + b".img") for home in homes) if is_file(path)),
+        None,
+    )
 
 
 def is_file(path):

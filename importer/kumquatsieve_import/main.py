@@ -24,12 +24,20 @@ class Import:
 
     def __init__(self, choices, own, workshop, teller):
         self.choices, self.own, self.workshop, self.teller = choices, own, workshop, teller
-        path = debian_folder(NAMES[choices.name]) if choices.is_debian() else choices.name.rstrip(b"/") or b"/"
+        path = (
+            debian_folder(NAMES[choices.name])
+            if choices.is_debian()
+            else choices.name.rstrip(b"/") or b"/"
+        )
         self.folder = read_folder(path)
         self.dictc = dictc_beside(own)
         self.prefix = os.path.dirname(own)
         self.home = home_for(self.prefix) if choices.image is None else None
-        self.place = Place(choices.image if self.home is None else os.path.join(self.home.path, choices.name + b".img"))
+        self.place = Place(
+            choices.image
+            if self.home is None
+            else os.path.join(self.home.path, choices.name + b".img")
+        )
         self.place.check(self.folder, [*SETTINGS, FIELDS, TESTED])
 
     def run(self):
@@ -42,7 +50,9 @@ class Import:
         folder, teller = self.folder, self.teller
         teller.report(f"sources: {shown(folder.path)}")
         read = [*folder.definitions[1:], *folder.lexicons, *folder.settings]
-        encoding = find_encoding(read, self.choices.encoding, encoding_told(folder), folder.path, teller)
+        encoding = find_encoding(
+            read, self.choices.encoding, encoding_told(folder), folder.path, teller
+        )
         teller.report(f"encoding: {encoding.name}")
         if folder.others:
             teller.report(f"not read: {' '.join(map(shown, folder.others))}")
@@ -58,9 +68,13 @@ class Import:
     def convert(self, encoding, work):
         """Makes the sources UTF-8 by names of their own, which are UTF-8 whatever the sources' are."""
         names = {source.name: source for source in self.folder.definitions}
-        names.update({b"%06d.csv" % number: source for number, source in enumerate(self.folder.lexicons)})
+        names.update(
+            {b"%06d.csv" % number: source for number, source in enumerate(self.folder.lexicons)}
+        )
         for name, source in names.items():
-            make_utf_8(source, encoding, os.path.join(work, name), self.teller, self.teller.left_out)
+            make_utf_8(
+                source, encoding, os.path.join(work, name), self.teller, self.teller.left_out
+            )
         return {name: source.path for name, source in names.items()}
 
     def convert_settings(self, encoding, beside):
@@ -69,15 +83,21 @@ class Import:
         for source in [] if self.place.is_device() else self.folder.settings:
             if self.is_kept(source.name):
                 found[source.name] = os.path.join(beside, source.name)
-                write_converted(source, encoding, found[source.name], self.teller, self.teller.left_out)
+                write_converted(
+                    source, encoding, found[source.name], self.teller, self.teller.left_out
+                )
         return found
 
     def name_fields(self, names, dicrc, work, beside):
         """The new file of the fields' names, or None where they are not known or can't be kept. Their source is UTF-8 by now."""
         if not self.is_kept(FIELDS):
             return None
-        paths = {path: os.path.join(work, name) for name, path in names.items() if name.endswith(b".csv")}
-        lexicons = [(path, Source(made, made, os.path.getsize(made))) for path, made in paths.items()]
+        paths = {
+            path: os.path.join(work, name) for name, path in names.items() if name.endswith(b".csv")
+        }
+        lexicons = [
+            (path, Source(made, made, os.path.getsize(made))) for path, made in paths.items()
+        ]
         found = find_names(dicrc, lexicons, self.teller)
         self.teller.report(f"fields: {found.said}")
         if not found.names:
@@ -88,7 +108,9 @@ class Import:
     def is_kept(self, name):
         """Whether a file of this name can stand beside the image."""
         if self.place.beside(name) is None:
-            self.teller.report(f"not kept: {shown(name)}, whose name beside the image would be too long")
+            self.teller.report(
+                f"not kept: {shown(name)}, whose name beside the image would be too long"
+            )
         return self.place.beside(name) is not None
 
     def compile(self, names, work, beside):
@@ -102,15 +124,21 @@ class Import:
 
     def tell_end(self, counted, size, settings, removed):
         self.teller.report(counted)
-        self.teller.report(f"image: {shown(self.place.named)}, {size} bytes, {self.teller.seconds():.0f} s")
+        self.teller.report(
+            f"image: {shown(self.place.named)}, {size} bytes, {self.teller.seconds():.0f} s"
+        )
         if self.home is not None:
             self.teller.report(self.home.said)
-        beside = [(self.place.beside(name), name == FIELDS) for name, path in settings.items() if path]
+        beside = [
+            (self.place.beside(name), name == FIELDS) for name, path in settings.items() if path
+        ]
         kept = [path for path, is_made in beside if not is_made]
         made = [path for path, is_made in beside if is_made]
         for done, paths in (("kept", kept), ("written", made), ("removed", removed)):
             if paths:
-                self.teller.report(f"{done} beside it: {' '.join(shown(os.path.basename(path)) for path in paths)}")
+                self.teller.report(
+                    f"{done} beside it: {' '.join(shown(os.path.basename(path)) for path in paths)}"
+                )
         test_new(self.place, self.own, self.workshop, self.teller)
         self.teller.report(f"{self.teller.left_out_lines} lines left out")
         self.teller.sum_up(f"{shown(self.place.named)}: {counted}, {size} bytes")
@@ -129,14 +157,19 @@ def imported(words, own, workshop, teller):
             return test_all(choices.images, own, workshop, teller)
         missing = missing_converter()
         if missing:
-            raise Fault(FILE, f"this Python has no converter of {missing}: it lacks a part of its library (Debian: apt install python3)")
+            raise Fault(
+                FILE,
+                f"this Python has no converter of {missing}: it lacks a part of its library (Debian: apt install python3)",
+            )
         (UserImport if choices.lexicons else Import)(choices, own, workshop, teller).run()
         return 0
     except Fault as fault:
         teller.say(str(fault))
         return fault.status
     except OSError as error:
-        teller.say(f"{shown(error.filename or 'a file')}: {os.strerror(error.errno) if error.errno else error}")
+        teller.say(
+            f"{shown(error.filename or 'a file')}: {os.strerror(error.errno) if error.errno else error}"
+        )
         return FILE
     except MemoryError:
         teller.say("out of memory")

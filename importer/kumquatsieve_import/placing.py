@@ -28,7 +28,7 @@ CHUNK = 1 << 16
 
 def stem_of(image: bytes) -> bytes:
     """The path of an image without its ending, to which those of the files beside it are added."""
-    return image[:-len(ENDING)] if image.endswith(ENDING) else image
+    return image[: -len(ENDING)] if image.endswith(ENDING) else image
 
 
 def record_of(image: bytes) -> bytes:
@@ -63,14 +63,21 @@ class Place:
     def check(self, folder, settings):
         """Refuses a place that is a file of the folder, by whichever name, or that can't be one."""
         self.check_file()
-        targets = [self.named] if self.is_device() else [self.named, *filter(None, map(self.beside, settings))]
+        targets = (
+            [self.named]
+            if self.is_device()
+            else [self.named, *filter(None, map(self.beside, settings))]
+        )
         for target in targets:
             if os.path.isdir(target):
                 raise Fault(FILE, f"{shown(target)}: it is a folder")
             for name in folder.all_names():
                 path = os.path.join(folder.path, name)
                 if is_same(path, target):
-                    raise Fault(WRONG_WORDS, f"{shown(target)} is a file of the folder that is read: {shown(path)}")
+                    raise Fault(
+                        WRONG_WORDS,
+                        f"{shown(target)} is a file of the folder that is read: {shown(path)}",
+                    )
 
     def check_alone(self, paths):
         """Refuses a place that is one of these files, which are read, or a folder."""
@@ -80,7 +87,9 @@ class Place:
             raise Fault(FILE, f"{shown(record)}: it is a folder")
         for path in paths:
             if is_same(path, self.named):
-                raise Fault(WRONG_WORDS, f"{shown(self.named)} is a file that is read: {shown(path)}")
+                raise Fault(
+                    WRONG_WORDS, f"{shown(self.named)} is a file that is read: {shown(path)}"
+                )
 
     def put(
         self,
@@ -96,7 +105,9 @@ class Place:
         by then, so that they are never those of the new image.
         """
         if self.is_device():
-            with naming(self.image), open(new, "rb") as file, open(self.image, "wb", buffering=0) as device:
+            with naming(self.image), open(new, "rb") as file, open(
+                self.image, "wb", buffering=0
+            ) as device:
                 hand_all(file, device.fileno())
             return []
         moves = [(path, self.beside(name)) for name, path in settings.items() if self.beside(name)]
@@ -131,7 +142,7 @@ def hand_all(file, device):
     while chunk := file.read(CHUNK):
         rest = memoryview(chunk)
         while rest:
-            rest = rest[os.write(device, rest):]
+            rest = rest[os.write(device, rest) :]
 
 
 def is_same(path, other):

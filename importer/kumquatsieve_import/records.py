@@ -114,7 +114,7 @@ class Folder:
         """Puts a file that all may read in the place of one with this name."""
         with self.new_file() as (new, file):
             while text:
-                text = text[os.write(file, text):]
+                text = text[os.write(file, text) :]
             os.fchmod(file, 0o644)
             os.fsync(file)
             os.rename(new, name, src_dir_fd=self.descriptor, dst_dir_fd=self.descriptor)

@@ -68,7 +68,9 @@ def debian_folder(name):
     for found in [name, *(one for one in names if one.startswith(name + b"-"))]:
         if os.path.isfile(os.path.join(DEBIAN, found, b"matrix.def")):
             return os.path.join(DEBIAN, found)
-    raise Fault(FILE, f"no sources of {shown(name)} in {shown(DEBIAN)}: apt install {PACKAGES[name]}")
+    raise Fault(
+        FILE, f"no sources of {shown(name)} in {shown(DEBIAN)}: apt install {PACKAGES[name]}"
+    )
 
 
 def source_at(folder, name):
@@ -76,10 +78,16 @@ def source_at(folder, name):
     path = os.path.join(folder, name)
     with naming(path):
         if os.path.islink(path) and not os.path.exists(path):
-            raise Fault(FILE, f"{shown(path)}: it is a link to {shown(os.readlink(path))}, which is not there")
+            raise Fault(
+                FILE,
+                f"{shown(path)}: it is a link to {shown(os.readlink(path))}, which is not there",
+            )
         of = os.stat(path)
     if not stat.S_ISREG(of.st_mode):
-        raise Fault(FILE, f"{shown(path)}: it is {'a folder' if stat.S_ISDIR(of.st_mode) else 'no file, but a pipe or a device'}")
+        raise Fault(
+            FILE,
+            f"{shown(path)}: it is {'a folder' if stat.S_ISDIR(of.st_mode) else 'no file, but a pipe or a device'}",
+        )
     if not os.access(path, os.R_OK):
         raise Fault(FILE, f"{shown(path)}: permission to read it is missing")
     return Source(path, name, of.st_size)
@@ -93,7 +101,9 @@ def read_folder(path):
         names = sorted(os.listdir(path))
     for name in DEFINITIONS:
         if name not in names:
-            raise Fault(FILE, f"{shown(path)} has no {name.decode()}, so it is no folder of sources")
+            raise Fault(
+                FILE, f"{shown(path)} has no {name.decode()}, so it is no folder of sources"
+            )
     lexicons = [name for name in names if name.endswith(b".csv")]
     if not lexicons:
         raise Fault(FILE, f"{shown(path)} has no file that ends with .csv")

@@ -24,7 +24,7 @@ def write_all(descriptor, line):
 def write_text(descriptor: int, text: str) -> None:
     data = text.encode()
     while data:
-        data = data[os.write(descriptor, data):]
+        data = data[os.write(descriptor, data) :]
 
 
 class Teller:

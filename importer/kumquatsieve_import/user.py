@@ -41,9 +41,14 @@ class UserImport:
         let_all_read(self.place.image, self.prefix)
         beside = self.workshop.new_folder(None if self.place.is_device() else self.place.folder)
         work = self.workshop.new_folder()
-        encoding = find_encoding(self.lexicons, self.choices.encoding, None, self.choices.lexicons[0], self.teller)
+        encoding = find_encoding(
+            self.lexicons, self.choices.encoding, None, self.choices.lexicons[0], self.teller
+        )
         self.teller.report(f"encoding: {encoding.name}")
-        names = {ABOVE + b"%06d.csv" % number: lexicon.path for number, lexicon in enumerate(self.lexicons)}
+        names = {
+            ABOVE + b"%06d.csv" % number: lexicon.path
+            for number, lexicon in enumerate(self.lexicons)
+        }
         empty = os.path.join(work, EMPTY)
         with naming(work):
             os.mkdir(empty)
@@ -54,7 +59,9 @@ class UserImport:
         size = os.path.getsize(new)
         self.place.put(new, {}, self.workshop, self.teller)
         self.teller.report(counted)
-        self.teller.report(f"image: {shown(self.place.named)}, {size} bytes, {self.teller.seconds():.0f} s")
+        self.teller.report(
+            f"image: {shown(self.place.named)}, {size} bytes, {self.teller.seconds():.0f} s"
+        )
         test_new(self.place, self.own, self.workshop, self.teller)
         self.teller.sum_up(f"{shown(self.place.named)}: {counted}, {size} bytes")
 
@@ -62,7 +69,9 @@ class UserImport:
         """What dictc counted. It finds a system dictionary that is nowhere no more than this does, and says so by its name."""
         new, system = ABOVE + place_for_new(work), self.system_for_dictc(work)
         image = ImageFile(beside, work, self.place.named, self.workshop)
-        compilation = Compilation({**names, new: self.place.named, system: self.choices.name}, self.teller)
+        compilation = Compilation(
+            {**names, new: self.place.named, system: self.choices.name}, self.teller
+        )
         words = [self.dictc, b"user", b"-v", b"--dic=" + system, b"--out", new, *names]
         return compilation.run(words, os.path.join(work, EMPTY), self.workshop, image)
 
@@ -72,4 +81,6 @@ class UserImport:
             with naming(work):
                 os.symlink(os.path.abspath(self.system), os.path.join(work, SYSTEM))
             return ABOVE + SYSTEM
-        return os.path.abspath(self.choices.name) if b"/" in self.choices.name else self.choices.name
+        return (
+            os.path.abspath(self.choices.name) if b"/" in self.choices.name else self.choices.name
+        )

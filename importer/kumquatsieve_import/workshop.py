@@ -51,7 +51,9 @@ def temporary_folder():
     try:
         return os.fsencode(tempfile.gettempdir())
     except FileNotFoundError as error:
-        raise Fault(FILE, "no folder for temporary files can be written: TMPDIR names one") from error
+        raise Fault(
+            FILE, "no folder for temporary files can be written: TMPDIR names one"
+        ) from error
 
 
 class Workshop:

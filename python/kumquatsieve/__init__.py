@@ -16,5 +16,16 @@ from ._lattice import Lattice, Node, Rival
 from ._lines import Lines
 from ._words import Word, Words
 
-__all__ = ["Cutter", "Fault", "Format", "Lattice", "Lines", "Node", "Rival", "Word", "Words", "dictionaries"]
+__all__ = [
+    "Cutter",
+    "Fault",
+    "Format",
+    "Lattice",
+    "Lines",
+    "Node",
+    "Rival",
+    "Word",
+    "Words",
+    "dictionaries",
+]
 __version__ = "0.1.0"

@@ -40,8 +40,16 @@ class Buffers:
     def __init__(self) -> None:
         self.total, self.place, self.lines = c_int64(), c_size_t(), c_uint64()
         self._count, self.length, self.out = c_size_t(), c_size_t(), c_void_p()
-        self.total_at, self.place_at, self.lines_at = byref(self.total), byref(self.place), byref(self.lines)
-        self.count_at, self.length_at, self.out_at = byref(self._count), byref(self.length), byref(self.out)
+        self.total_at, self.place_at, self.lines_at = (
+            byref(self.total),
+            byref(self.place),
+            byref(self.lines),
+        )
+        self.count_at, self.length_at, self.out_at = (
+            byref(self._count),
+            byref(self.length),
+            byref(self.out),
+        )
         self._text, self._records = buffer_of(1, 4096), buffer_of(RECORD, 64)
         self._lent: Tuple[Optional[int], Any] = None, ALL.from_address(0)
 
@@ -51,7 +59,8 @@ class Buffers:
 
     def text_lent(self) -> str:
         """The text of these bytes, where they are few: a copy of them takes less time than a view. They are lent from one place as long as the
-        library's buffer has room. That place and what leads there are kept as one value, which is set by one step."""
+        library's buffer has room. That place and what leads there are kept as one value, which is set by one step.
+        """
         place, lent = self.out.value, self._lent
         if place != lent[0]:
             lent = self._lent = place, ALL.from_address(place or 0)

@@ -81,9 +81,15 @@ class Cutter:
 
     def __reduce__(self) -> Tuple[Any, ...]:
         if self._origin is None:
-            raise TypeError("a cutter of an image's bytes can't be pickled: make it of the image's path or name")
+            raise TypeError(
+                "a cutter of an image's bytes can't be pickled: make it of the image's path or name"
+            )
         self._handles.look()
-        state = {name: value for name, value in self.__dict__.items() if name not in ("_origin", "_handles")}
+        state = {
+            name: value
+            for name, value in self.__dict__.items()
+            if name not in ("_origin", "_handles")
+        }
         return again, (type(self), self._origin, self._handles.grouping, state)
 
     def __deepcopy__(self, _: Any) -> "Cutter":
@@ -127,10 +133,19 @@ class Cutter:
         """The text of a line in the cutter's format."""
         return self._handles.call(PRINTED, encoded(line), self._texts)
 
-    def format(self, line: str, node: Optional[str] = None, unk: Optional[str] = None, bos: str = "", eos: str = "EOS\\n") -> str:
+    def format(
+        self,
+        line: str,
+        node: Optional[str] = None,
+        unk: Optional[str] = None,
+        bos: str = "",
+        eos: str = "EOS\\n",
+    ) -> str:
         """The text of a line in another format than the cutter's, whose parts are those of `Format`. Without `node` a line for each word,
         with its feature."""
-        return self._handles.call(PRINTED, encoded(line), texts_of(Format(NODE if node is None else node, unk, bos, eos)))
+        return self._handles.call(
+            PRINTED, encoded(line), texts_of(Format(NODE if node is None else node, unk, bos, eos))
+        )
 
     def lines(self, source: Source, errors: str = "strict") -> Lines[Words]:
         """The words of each line of a text, of a file or of an iterable of lines, as soon as the line is there.

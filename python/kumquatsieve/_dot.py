@@ -22,7 +22,15 @@ def box_of(number: int, node: "Node") -> str:
     """A node's box, and its edges."""
     box, edge = (f", {BEST}", f" [{BEST}]") if node.best else ("", "")
     lost = "no path" if node.lost is None else f"lost {node.lost}"
-    label = "\\n".join([escaped(node.surface), escaped(node.features[0]), f"cost {node.cost}", f"total {node.total}", lost])
+    label = "\\n".join(
+        [
+            escaped(node.surface),
+            escaped(node.features[0]),
+            f"cost {node.cost}",
+            f"total {node.total}",
+            lost,
+        ]
+    )
     return f'  w{number} [shape=box{box}, label="{label}"];\n  {node.byte_place} -> w{number} -> {node.byte_end}{edge};\n'
 
 

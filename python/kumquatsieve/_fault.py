@@ -35,7 +35,9 @@ class Fault(Exception):
         self.at = at
 
     def __str__(self) -> str:
-        what = " ".join(str(word) for word in (self.code, self.name, self.part, self.number) if word is not None)
+        what = " ".join(
+            str(word) for word in (self.code, self.name, self.part, self.number) if word is not None
+        )
         what = what if self.at is None else f"{what} at byte {self.at}"
         what = f"{what}: {ADVICE[self.code]}" if self.code in ADVICE else what
         return what if self.place is None else f"line {self.place}: {what}"
@@ -63,6 +65,8 @@ def fault_of(
     return Fault(letters, name, number, part, place, at)
 
 
-def raise_fault(code: int, number: Optional[int] = None, part: Optional[str] = None, at: Optional[int] = None) -> None:
+def raise_fault(
+    code: int, number: Optional[int] = None, part: Optional[str] = None, at: Optional[int] = None
+) -> None:
     """Raises what a code means."""
     raise fault_of(code, number, part, at=at)

@@ -84,7 +84,9 @@ def numbered(names: Iterable[Optional[str]], taken: Iterable[str], place: str) -
         if not name:
             continue
         if not isinstance(name, str):
-            raise TypeError(f"{place}: the name of field {number} is a str, not {type(name).__name__}")
+            raise TypeError(
+                f"{place}: the name of field {number} is a str, not {type(name).__name__}"
+            )
         if name in found or name in taken or name.startswith("_") or not name.isidentifier():
             raise ValueError(f"{place}: {name!r} can't be the name of field {number}")
         found[name] = number
@@ -93,5 +95,7 @@ def numbered(names: Iterable[Optional[str]], taken: Iterable[str], place: str) -
 
 def with_common(names: Dict[str, int]) -> Dict[str, int]:
     """The names, and those that are common to dictionaries, each where no field has it and a field has the other name."""
-    common = {name: names[other] for name, other in COMMON.items() if name not in names and other in names}
+    common = {
+        name: names[other] for name, other in COMMON.items() if name not in names and other in names
+    }
     return {**names, **common}

@@ -30,5 +30,7 @@ def texts_of(format: Union[None, str, Format]) -> Texts:
         node, unk, bos, eos = format
     except (TypeError, ValueError):
         raise ValueError(f"{format!r} is no format: it is 'wakati' or a Format") from None
-    known, unknown, before, after = (encoded(text, "a format's text") for text in (node, node if unk is None else unk, bos, eos))
+    known, unknown, before, after = (
+        encoded(text, "a format's text") for text in (node, node if unk is None else unk, bos, eos)
+    )
     return known, unknown, before, after

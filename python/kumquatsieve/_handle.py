@@ -42,7 +42,12 @@ MARK = "\uffff"
 # The context of handles that no call has. It is that of no call, and keeps none of a caller's variables.
 IDLE = Context()
 
-CUT, CUT_LINES, PRINT, FEATURE = LIBRARY.cut, LIBRARY.cut_lines, LIBRARY.copy_print, LIBRARY.copy_feature
+CUT, CUT_LINES, PRINT, FEATURE = (
+    LIBRARY.cut,
+    LIBRARY.cut_lines,
+    LIBRARY.copy_print,
+    LIBRARY.copy_feature,
+)
 
 
 def feature(number: Any, cutter: Any, *room: Any) -> int:
@@ -168,7 +173,9 @@ class Handle:
         records = self._buffers.nodes_of(self._at, NODES * len(line) + 1)
         texts: List[str] = []
         features: Dict[Tuple[int, int, int], str] = {}
-        for _, start, end, dictionary, token, _, _, _, known, *_ in NODE_FIELDS.iter_unpack(records):
+        for _, start, end, dictionary, token, _, _, _, known, *_ in NODE_FIELDS.iter_unpack(
+            records
+        ):
             entry = known, dictionary, token
             if entry not in features:
                 features[entry] = self._entry_feature(*entry)
@@ -178,7 +185,9 @@ class Handle:
     def _entry_feature(self, known: int, dictionary: int, token: int) -> str:
         """The feature of an entry of the dictionaries."""
         buffers = self._buffers
-        code = LIBRARY.entry_feature(self._at, known, dictionary, token, buffers.out_at, buffers.length_at)
+        code = LIBRARY.entry_feature(
+            self._at, known, dictionary, token, buffers.out_at, buffers.length_at
+        )
         if code != OK:
             raise_fault(code)
         return buffers.text_lent()
@@ -196,7 +205,14 @@ class Handle:
         if LINE_FEED in line:
             line = self._one_line(line)
         buffers, text = self._buffers, line or b"\n"
-        code = CUT_LINES(self._at, text, ready_size(len(text)), buffers.out_at, buffers.length_at, buffers.lines_at)
+        code = CUT_LINES(
+            self._at,
+            text,
+            ready_size(len(text)),
+            buffers.out_at,
+            buffers.length_at,
+            buffers.lines_at,
+        )
         if code != OK:
             self._refuse(line, code)
         return buffers.text_lent()
@@ -244,7 +260,14 @@ class Handle:
         one is refused. The library cuts all of them in one call."""
         self.set_format(texts)
         buffers = self._buffers
-        code = CUT_LINES(self._at, text, ready_size(len(text)), buffers.out_at, buffers.length_at, buffers.lines_at)
+        code = CUT_LINES(
+            self._at,
+            text,
+            ready_size(len(text)),
+            buffers.out_at,
+            buffers.length_at,
+            buffers.lines_at,
+        )
         printed = str(buffers.lent(), "utf-8")
         if code != OK:
             return printed, buffers.lines.value - 1, fault_of(code)
@@ -262,7 +285,14 @@ class Handle:
 
     def _cut(self, line: bytes) -> None:
         buffers = self._buffers
-        code = CUT(self._at, line, ready_size(len(line)), buffers.count_at, buffers.total_at, buffers.place_at)
+        code = CUT(
+            self._at,
+            line,
+            ready_size(len(line)),
+            buffers.count_at,
+            buffers.total_at,
+            buffers.place_at,
+        )
         if code != OK:
             raise_fault(code, at=buffers.place.value if code in IN_LINE else None)
 

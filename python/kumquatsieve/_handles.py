@@ -113,7 +113,9 @@ class Handles:
             self._made.discard(weakref.ref(handle))
 
 
-def within(handles: Handles, what: Callable[[Handle, A, B], T], handle: Handle, first: A, second: B) -> T:
+def within(
+    handles: Handles, what: Callable[[Handle, A, B], T], handle: Handle, first: A, second: B
+) -> T:
     """A call itself, in the handle's context. `close` says that it closes, and then looks for contexts that are entered. So it finds this one, or
     this call finds that it closes. It is no method, which Python would make anew for each call."""
     if handles.closed or handle.grouping != handles.grouping:

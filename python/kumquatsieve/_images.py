@@ -62,7 +62,9 @@ def image_names(folder: str) -> List[str]:
         names = os.listdir(folder)
     except OSError:
         return []
-    return sorted(name[: -len(ENDING)] for name in names if name.endswith(ENDING) and name != ENDING)
+    return sorted(
+        name[: -len(ENDING)] for name in names if name.endswith(ENDING) and name != ENDING
+    )
 
 
 def is_system(path: str) -> bool:
@@ -84,7 +86,9 @@ def path_of(image: Union[str, "os.PathLike[str]"]) -> str:
         path = os.path.join(folder, name + ENDING)
         if os.path.isfile(path):
             return path
-    raise FileNotFoundError(f"{name}: no file, and no image of this name is installed; {told_installed(dictionaries())}")
+    raise FileNotFoundError(
+        f"{name}: no file, and no image of this name is installed; {told_installed(dictionaries())}"
+    )
 
 
 def is_file(path: str) -> bool:
@@ -93,7 +97,11 @@ def is_file(path: str) -> bool:
 
 
 def told_installed(installed: Dict[str, str]) -> str:
-    return f"installed are: {', '.join(installed)}" if installed else "none is installed, and kumquatsieve-import makes one"
+    return (
+        f"installed are: {', '.join(installed)}"
+        if installed
+        else "none is installed, and kumquatsieve-import makes one"
+    )
 
 
 def default() -> str:
@@ -104,7 +112,9 @@ def default() -> str:
     installed = dictionaries()
     if len(installed) == 1:
         return next(iter(installed))
-    raise FileNotFoundError(f"no dictionary is named, by the call or by {VARIABLE}; {told_installed(installed)}")
+    raise FileNotFoundError(
+        f"no dictionary is named, by the call or by {VARIABLE}; {told_installed(installed)}"
+    )
 
 
 class Origin(NamedTuple):
@@ -154,7 +164,9 @@ def lent(image: Any) -> Tuple[Any, int]:
     try:
         view = memoryview(image)
     except TypeError:
-        raise TypeError(f"an image is a path, a name or bytes, not {type(image).__name__}") from None
+        raise TypeError(
+            f"an image is a path, a name or bytes, not {type(image).__name__}"
+        ) from None
     if view.readonly or not view.c_contiguous or view.nbytes == 0:
         return view.tobytes(), view.nbytes
     return (c_char * view.nbytes).from_buffer(view), view.nbytes

@@ -54,7 +54,9 @@ class Node(Word):
     _line: NodesLine
 
     byte_place = of_record(0, "Where the blanks before it begin in the line, in bytes of UTF-8.")
-    total = of_record(10, "The least cost of the chains from the line's beginning up to and with it.")
+    total = of_record(
+        10, "The least cost of the chains from the line's beginning up to and with it."
+    )
 
     @property
     def through(self) -> Optional[int]:
@@ -74,7 +76,13 @@ class Node(Word):
         return bool(self._line.record(self._number)[14])
 
     def __repr__(self) -> str:
-        lost = "no path has it" if self.lost is None else "best" if self.best else f"lost by {self.lost}"
+        lost = (
+            "no path has it"
+            if self.lost is None
+            else "best"
+            if self.best
+            else f"lost by {self.lost}"
+        )
         return f"<Node {self.surface} {self.feature} {self.start}:{self.end} cost {self.cost}{'' if self.known else ' unknown'} {lost}>"
 
 
@@ -125,7 +133,10 @@ class Lattice:
         """The lattice as a graph for Graphviz, as `jseg --lattice dot` prints it: places from left to right, and between two places the words there,
         with the first field of their feature, their costs and what they lost by. The best path is red. With `within` only nodes that lost by at most
         so much."""
-        return dot_of(self._text, [(number, node) for number, node in enumerate(self.nodes) if is_near(node, within)])
+        return dot_of(
+            self._text,
+            [(number, node) for number, node in enumerate(self.nodes) if is_near(node, within)],
+        )
 
     def _columns(self) -> Tuple[List[str], List[List[str]]]:
         return HEAD, [[told(getattr(node, name)) for name in HEAD] for node in self.nodes]
@@ -199,7 +210,12 @@ def drawn(graph: str) -> Optional[str]:
     import subprocess
 
     try:
-        done = subprocess.run([shutil.which(DOT) or "", "-Tsvg"], input=graph.encode(), capture_output=True, timeout=DRAWING)
+        done = subprocess.run(
+            [shutil.which(DOT) or "", "-Tsvg"],
+            input=graph.encode(),
+            capture_output=True,
+            timeout=DRAWING,
+        )
     except (OSError, subprocess.TimeoutExpired):
         return None
     svg = done.stdout.decode("utf-8", "replace")

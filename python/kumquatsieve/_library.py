@@ -57,7 +57,12 @@ class Record(ctypes.Structure):
 class NodeRecord(ctypes.Structure):
     """A node of a lattice, as the library writes it."""
 
-    _fields_ = [("word", Record), ("through", ctypes.c_int64), ("reaches_end", ctypes.c_uint8), ("on_best", ctypes.c_uint8)]
+    _fields_ = [
+        ("word", Record),
+        ("through", ctypes.c_int64),
+        ("reaches_end", ctypes.c_uint8),
+        ("on_best", ctypes.c_uint8),
+    ]
 
 
 def place() -> str:
@@ -89,7 +94,9 @@ def check_lock() -> None:
     """Without Python's own lock two threads would make calls that are not `LONG` with one handle at once."""
     has_lock = getattr(sys, "_is_gil_enabled", None)
     if has_lock is not None and not has_lock():
-        raise ImportError("this Python runs threads without its lock (GIL), and kumquatsieve needs it: PYTHON_GIL=1 or -X gil=1 turns it on")
+        raise ImportError(
+            "this Python runs threads without its lock (GIL), and kumquatsieve needs it: PYTHON_GIL=1 or -X gil=1 turns it on"
+        )
 
 
 def load() -> SimpleNamespace:
@@ -98,7 +105,9 @@ def load() -> SimpleNamespace:
     try:
         alone, beside_others = ctypes.PyDLL(place()), ctypes.CDLL(place())
     except OSError as error:
-        raise ImportError(f"{error}: build the library by packaging/build-library, and name it in {VARIABLE}") from error
+        raise ImportError(
+            f"{error}: build the library by packaging/build-library, and name it in {VARIABLE}"
+        ) from error
     calls = {}
     for name, types in arguments().items():
         call = call_of(beside_others if name in LONG else alone, f"kumquatsieve_{name}")
@@ -112,7 +121,9 @@ def call_of(library: ctypes.CDLL, name: str) -> Any:
     try:
         return getattr(library, name)
     except AttributeError:
-        raise ImportError(f"{place()}: it has no {name}, so it is older than this module, or another library") from None
+        raise ImportError(
+            f"{place()}: it has no {name}, so it is older than this module, or another library"
+        ) from None
 
 
 def method_of(call: Any) -> Any:

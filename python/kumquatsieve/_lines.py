@@ -43,7 +43,9 @@ def one_by_one(source: Source, answer: Callable[[bytes], T]) -> Callable[[Encode
     return begin
 
 
-def many_at_once(source: Source, answer: Callable[[bytes], Answers]) -> Callable[[Encoder], Iterator[str]]:
+def many_at_once(
+    source: Source, answer: Callable[[bytes], Answers]
+) -> Callable[[Encoder], Iterator[str]]:
     """The answers to about a megabyte of lines at once. Those before a fault come before it."""
 
     def batches(encoder: Encoder) -> Iterator[List[str]]:
@@ -60,4 +62,8 @@ def many_at_once(source: Source, answer: Callable[[bytes], Answers]) -> Callable
 
 def placed(fault: Exception, number: int) -> Exception:
     """A fault that says which line was refused."""
-    return Fault(fault.code, fault.name, fault.number, fault.part, number, fault.at) if isinstance(fault, Fault) else fault
+    return (
+        Fault(fault.code, fault.name, fault.number, fault.part, number, fault.at)
+        if isinstance(fault, Fault)
+        else fault
+    )

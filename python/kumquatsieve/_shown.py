@@ -5,12 +5,16 @@ from unicodedata import combining, east_asian_width
 
 def width_of(text: str) -> int:
     """How many columns of a terminal a text takes."""
-    return sum(0 if combining(sign) else 2 if east_asian_width(sign) in "WF" else 1 for sign in text)
+    return sum(
+        0 if combining(sign) else 2 if east_asian_width(sign) in "WF" else 1 for sign in text
+    )
 
 
 def table_of(head: List[str], rows: List[List[str]], numbers: int = 2) -> str:
     """A table in columns of a terminal: numbers, which are the last columns, to the right."""
-    texts = [[text if text.isprintable() else repr(text)[1:-1] for text in row] for row in [head, *rows]]
+    texts = [
+        [text if text.isprintable() else repr(text)[1:-1] for text in row] for row in [head, *rows]
+    ]
     widths = [max(map(width_of, column)) for column in zip(*texts)]
     return "\n".join("  ".join(padded(row, widths, len(head) - numbers)).rstrip() for row in texts)
 
@@ -18,7 +22,10 @@ def table_of(head: List[str], rows: List[List[str]], numbers: int = 2) -> str:
 def padded(row: List[str], widths: List[int], left: int) -> List[str]:
     """A row's columns, so many of them to the left and the others to the right."""
     blanks = [" " * (width - width_of(text)) for text, width in zip(row, widths)]
-    return [text + blank if number < left else blank + text for number, (text, blank) in enumerate(zip(row, blanks))]
+    return [
+        text + blank if number < left else blank + text
+        for number, (text, blank) in enumerate(zip(row, blanks))
+    ]
 
 
 def html_of(head: List[str], rows: List[List[str]]) -> str:

@@ -63,11 +63,15 @@ class Word:
     byte_start = of_record(1, "Where it begins in the line, in bytes of UTF-8.")
     byte_end = of_record(2, "Where it ends in the line, in bytes of UTF-8.")
     dictionary = of_record(3, "0 for the system's, 1 and more for the users' in their order.")
-    token = of_record(4, "The number of its entry in that dictionary; unknown words come behind the lexicon.")
+    token = of_record(
+        4, "The number of its entry in that dictionary; unknown words come behind the lexicon."
+    )
     left = of_record(5, "The left context id.")
     right = of_record(6, "The right context id.")
     cost = of_record(7, "The word cost.")
-    category = of_record(9, "The number of the first category of its first character, in the order of char.def.")
+    category = of_record(
+        9, "The number of the first category of its first character, in the order of char.def."
+    )
     total = of_record(10, "The cost of the path up to and with this word.")
 
     @property
@@ -100,7 +104,9 @@ class Word:
         names = self._line.names
         if name not in names:
             named = ", ".join(names) or "none"
-            raise AttributeError(f"{name}: no attribute of a word, and no name of a field of the dictionary; it names {named}")
+            raise AttributeError(
+                f"{name}: no attribute of a word, and no name of a field of the dictionary; it names {named}"
+            )
         features, number = self.features, names[name]
         field = features[number] if number < len(features) else NOTHING
         return None if field == NOTHING else field
@@ -133,7 +139,13 @@ class Words(List[Word]):
         names = self[0]._line.names if self else {}
         reading = next((name for name in READINGS if name in names), None)
         head = ["surface", *([reading] if reading else []), "feature", "cost", "total"]
-        return head, [[str(getattr(word, name) or "") if name == reading else str(getattr(word, name)) for name in head] for word in self]
+        return head, [
+            [
+                str(getattr(word, name) or "") if name == reading else str(getattr(word, name))
+                for name in head
+            ]
+            for word in self
+        ]
 
     def __repr__(self) -> str:
         return table_of(*self._columns())

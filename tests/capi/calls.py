@@ -18,7 +18,15 @@ LINES = [
 # The nodes of a line, each with the least cost up to it and through it, and whether it is on the best path.
 LATTICES = [
     ("", []),
-    (LINE, [("すもも", 110, 152, True), ("も", 137, 169, False), ("もも", 147, 152, True), ("も", 164, 169, False)]),
+    (
+        LINE,
+        [
+            ("すもも", 110, 152, True),
+            ("も", 137, 169, False),
+            ("もも", 147, 152, True),
+            ("も", 164, 169, False),
+        ],
+    ),
 ]
 FORMATS = [
     ({}, PRINTED),
@@ -53,16 +61,34 @@ def check_words():
     cutter = Cutter(SYSTEM)
     for line, words in LINES:
         found = cutter.cut(line)
-        same(f"cut {line!r}", words, [(word.surface, word.start, word.end, word.byte_start, word.byte_end) for word in found])
+        same(
+            f"cut {line!r}",
+            words,
+            [
+                (word.surface, word.start, word.end, word.byte_start, word.byte_end)
+                for word in found
+            ],
+        )
         same(f"wakati {line!r}", [word[0] for word in words], cutter.wakati(line))
         same(f"known {line!r}", [True] * len(words), [word.known for word in found])
     same("features", ["名詞,すもも", "名詞,もも"], [word.feature for word in cutter.cut(LINE)])
     for line, nodes in LATTICES:
-        same(f"lattice {line!r}", nodes, [(node.surface, node.total, node.through, node.best) for node in cutter.lattice(line).nodes])
+        same(
+            f"lattice {line!r}",
+            nodes,
+            [
+                (node.surface, node.total, node.through, node.best)
+                for node in cutter.lattice(line).nodes
+            ],
+        )
     for options, text in FORMATS:
         same(f"format {options}", text, cutter.format(LINE, **options))
     same("an odd feature", ["名詞,すもも", "名詞\nもも"], [word.feature for word in Cutter(ODD).cut(LINE)])
-    same("a long line", [LINE[:3], LINE[3:]] * 20_000, Cutter(open(SYSTEM, "rb").read()).wakati(LINE * 20_000))
+    same(
+        "a long line",
+        [LINE[:3], LINE[3:]] * 20_000,
+        Cutter(open(SYSTEM, "rb").read()).wakati(LINE * 20_000),
+    )
     same("its words", 40_000, len(cutter.cut(LINE * 20_000)))
 
 
@@ -73,8 +99,12 @@ def faults_of_images():
         number = int(number[0]) if number else None
         # The SHA-256 is tested if that is asked for.
         for how in [True] if code == "L8" else [False, True]:
-            yield code, number, None, None, lambda image=image, how=how: Cutter(image, test_digest=how)
-            yield code, number, None, None, lambda image=image, how=how: Cutter(SYSTEM, [image], test_digest=how)
+            yield code, number, None, None, lambda image=image, how=how: Cutter(
+                image, test_digest=how
+            )
+            yield code, number, None, None, lambda image=image, how=how: Cutter(
+                SYSTEM, [image], test_digest=how
+            )
     for image in OTHER_SIZES.values():
         yield "O3", 0, None, None, lambda image=image: Cutter(SYSTEM, [image])
 
@@ -84,7 +114,11 @@ def check_faults():
         try:
             call()
         except Fault as fault:
-            same(f"fault {code}", (code, number, part, at), (fault.code, fault.number, fault.part, fault.at))
+            same(
+                f"fault {code}",
+                (code, number, part, at),
+                (fault.code, fault.number, fault.part, fault.at),
+            )
         else:
             sys.exit(f"{code}: no fault")
 
@@ -105,7 +139,9 @@ def check_threads():
     faults = []
 
     def cut(cutter):
-        faults.extend(words for words in (cutter.wakati(LINE) for _ in range(500)) if words != [LINE])
+        faults.extend(
+            words for words in (cutter.wakati(LINE) for _ in range(500)) if words != [LINE]
+        )
 
     threads = [threading.Thread(target=cut, args=(cutter,)) for cutter in [*others, others[0]]]
     for thread in threads:

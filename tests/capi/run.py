@@ -48,7 +48,13 @@ KINDS = {"default": [], "wakati": ["-O", "wakati"]}
 
 def declared():
     """The names of the library's calls in the header; what is inline there is not the library's."""
-    return sorted(re.findall(r"^(?:uint32_t |void |const kumquatsieve_dictionary \*)(kumquatsieve_\w+)\(", (TOP / "capi" / "include" / "kumquatsieve.h").read_text(), re.MULTILINE))
+    return sorted(
+        re.findall(
+            r"^(?:uint32_t |void |const kumquatsieve_dictionary \*)(kumquatsieve_\w+)\(",
+            (TOP / "capi" / "include" / "kumquatsieve.h").read_text(),
+            re.MULTILINE,
+        )
+    )
 
 
 def check_version():
@@ -56,10 +62,15 @@ def check_version():
     header = (TOP / "capi" / "include" / "kumquatsieve.h").read_text()
     told = re.search(r'#define KUMQUATSIEVE_VERSION "([0-9.]+)"', header).group(1)
     number = int(re.search(r"#define KUMQUATSIEVE_VERSION_NUMBER ([0-9]+)", header).group(1))
-    version = re.search(r'pub const VERSION: &str = "([0-9.]+)', (TOP / "crates" / "command_lines" / "src" / "about.rt").read_text()).group(1)
+    version = re.search(
+        r'pub const VERSION: &str = "([0-9.]+)',
+        (TOP / "crates" / "command_lines" / "src" / "about.rt").read_text(),
+    ).group(1)
     first, second, third = map(int, version.split("."))
     if told != version or number != 10_000 * first + 100 * second + third:
-        sys.exit(f"library: the header's version is {told}, {number}, and that of the programs {version}")
+        sys.exit(
+            f"library: the header's version is {told}, {number}, and that of the programs {version}"
+        )
 
 
 def told_codes(library):
@@ -75,12 +86,22 @@ def told_codes(library):
 
 def check_codes(library):
     """The header has each code that has a text, and no other: its number is the letter and the number of its text, and its name that of the text."""
-    rows = re.findall(r"KUMQUATSIEVE_([A-Z0-9_]+) = (0x[0-9a-f]{4}|1)\b,? */?\*? ?([A-Z][0-9])?", (TOP / "capi" / "include" / "kumquatsieve.h").read_text())
-    named = {int(number, 0): " ".join(filter(None, [fault, "".join(map(str.capitalize, name.split("_")))])) for name, number, fault in rows}
+    rows = re.findall(
+        r"KUMQUATSIEVE_([A-Z0-9_]+) = (0x[0-9a-f]{4}|1)\b,? */?\*? ?([A-Z][0-9])?",
+        (TOP / "capi" / "include" / "kumquatsieve.h").read_text(),
+    )
+    named = {
+        int(number, 0): " ".join(
+            filter(None, [fault, "".join(map(str.capitalize, name.split("_")))])
+        )
+        for name, number, fault in rows
+    }
     told = dict(told_codes(library))
     for code in sorted(named.keys() | told.keys()):
         if named.get(code) != told.get(code):
-            sys.exit(f"library: code {code:#06x} is {named.get(code)} in the header, and {told.get(code)} in the library")
+            sys.exit(
+                f"library: code {code:#06x} is {named.get(code)} in the header, and {told.get(code)} in the library"
+            )
         if code != 1 and told[code][:2] != f"{chr(code >> 8)}{code & 0xff}":
             sys.exit(f"library: code {code:#06x} is not that of {told[code]}")
     print(f"library: {len(told)} codes: the header names them as the library does")
@@ -89,7 +110,9 @@ def check_codes(library):
 def sample_images(folder):
     """The sample's image, and that of a user dictionary for it."""
     system = folder / "system.img"
-    sources = [word for name in ("matrix", "char", "unk") for word in (f"--{name}", SAMPLE / f"{name}.def")]
+    sources = [
+        word for name in ("matrix", "char", "unk") for word in (f"--{name}", SAMPLE / f"{name}.def")
+    ]
     run([program("dictc"), "system", *sources, "--out", system, SAMPLE / "lexicon.csv"])
     return system, user_image(system, "user", USER)
 
@@ -122,7 +145,9 @@ def large_image(system):
 
 def made_up_lines(count):
     choose = random.Random(1)
-    return "".join("".join(choose.choices(LETTERS, k=choose.randrange(60))) + "\n" for _ in range(count)).encode()
+    return "".join(
+        "".join(choose.choices(LETTERS, k=choose.randrange(60))) + "\n" for _ in range(count)
+    ).encode()
 
 
 def same(what, wanted, got):
@@ -140,7 +165,15 @@ def check_texts(library, cut, image, text):
         wanted = run([program("jseg"), "-d", image, *options], text)
         words = [image] if kind == "default" else [image, kind]
         same(f"C, {kind}", wanted, run([cut, *words], text))
-        same(f"Python, {kind}", wanted, run([sys.executable, TOP / "examples" / "python" / "cut.py", *words], text, env=library.python()))
+        same(
+            f"Python, {kind}",
+            wanted,
+            run(
+                [sys.executable, TOP / "examples" / "python" / "cut.py", *words],
+                text,
+                env=library.python(),
+            ),
+        )
     wanted = run([program("jseg"), "-d", image], text)
     for what, how in {"copied": COPIES, "mapped": FILES}.items():
         threads = library.compiled(C / "threads.c", *how)
@@ -149,7 +182,9 @@ def check_texts(library, cut, image, text):
 
 def check_rows(library, system):
     """The tables of rows, each with its values."""
-    momo_users = [user_image(system, f"momo{number}", lines) for number, lines in enumerate(MOMO_USERS)]
+    momo_users = [
+        user_image(system, f"momo{number}", lines) for number, lines in enumerate(MOMO_USERS)
+    ]
     rows = {"lines": [], "settings": momo_users, "nodes": [user_image(system, "blank", BLANK)]}
     for name, users in rows.items():
         for how in (COPIES, WHOLE_FILES):
@@ -194,11 +229,19 @@ def check_pages(library, system):
     """Huge pages are asked for a large image alone, and the kernel gives them. The answer says what could not be told here."""
     if not HUGE_PAGES.exists():
         return ["huge pages, which the kernel does not have"]
-    told = run([library.compiled(C / "pages.c", "-Wl,--wrap=madvise"), system, large_image(system)]).decode()
-    print(f"library: huge pages are asked for a large image alone; in such pages stand, by each way to load it: {told}", end="", flush=True)
+    told = run(
+        [library.compiled(C / "pages.c", "-Wl,--wrap=madvise"), system, large_image(system)]
+    ).decode()
+    print(
+        f"library: huge pages are asked for a large image alone; in such pages stand, by each way to load it: {told}",
+        end="",
+        flush=True,
+    )
     if all(int(kilobytes) > 0 for kilobytes in re.findall("([0-9]+) of", told)):
         return []
-    return [f"huge pages, of which the kernel gives none: {HUGE_PAGES} is {HUGE_PAGES.read_text().strip()}"]
+    return [
+        f"huge pages, of which the kernel gives none: {HUGE_PAGES} is {HUGE_PAGES.read_text().strip()}"
+    ]
 
 
 def leave_out(parts):
@@ -219,15 +262,31 @@ def told_times(library, cut, image, text, rounds):
             began = os.times()
             run(words, text)
             ended = os.times()
-            took = ended.children_user - began.children_user + ended.children_system - began.children_system
+            took = (
+                ended.children_user
+                - began.children_user
+                + ended.children_system
+                - began.children_system
+            )
             least[name] = min(took, least.get(name, took))
-    print("library: processor's seconds: " + ", ".join(f"{name} {took:.2f}" for name, took in least.items()))
+    print(
+        "library: processor's seconds: "
+        + ", ".join(f"{name} {took:.2f}" for name, took in least.items())
+    )
 
 
 def chosen():
-    options = argparse.ArgumentParser(description=__doc__, formatter_class=argparse.RawDescriptionHelpFormatter)
-    options.add_argument("--built", action="store_true", help="take the archive that stands in crates/cutter_c/out")
-    options.add_argument("--image", type=Path, help="the image of a system dictionary, with which the text is cut and timed")
+    options = argparse.ArgumentParser(
+        description=__doc__, formatter_class=argparse.RawDescriptionHelpFormatter
+    )
+    options.add_argument(
+        "--built", action="store_true", help="take the archive that stands in crates/cutter_c/out"
+    )
+    options.add_argument(
+        "--image",
+        type=Path,
+        help="the image of a system dictionary, with which the text is cut and timed",
+    )
     options.add_argument("--text", type=Path, help="the text to cut with --image")
     options.add_argument("--rounds", type=int, default=5, help="how often each command is timed")
     return options.parse_args()
@@ -246,7 +305,9 @@ def main():
         if library.exports() != declared():
             sys.exit(f"library: exports {library.exports()}, and the header declares {declared()}")
         if library.archived() != declared():
-            sys.exit(f"library: the archive defines {library.archived()}, and the header declares {declared()}")
+            sys.exit(
+                f"library: the archive defines {library.archived()}, and the header declares {declared()}"
+            )
         system, user = sample_images(library.folder)
         cut = library.compiled(TOP / "examples" / "c" / "cut.c")
         check_calls(library, cut, system, user)

@@ -66,15 +66,22 @@ class Sources:
                 self.ranges.append((int(low, 16), int(high or low, 16), rest[0]))
             else:
                 self.categories[first] = Category(rest[0] == "1", rest[1] == "1", int(rest[2]))
-        self.unknown, self.lexicon = self.entries(folder / "unk.def"), self.entries(folder / "lexicon.csv")
+        self.unknown, self.lexicon = self.entries(folder / "unk.def"), self.entries(
+            folder / "lexicon.csv"
+        )
 
     @staticmethod
     def entries(path):
         rows = [line.split(",", 4) for line in path.read_text().splitlines()]
-        return [(surface, int(left), int(right), int(cost), feature) for surface, left, right, cost, feature in rows]
+        return [
+            (surface, int(left), int(right), int(cost), feature)
+            for surface, left, right, cost, feature in rows
+        ]
 
     def name(self, char):
-        return next((name for low, high, name in self.ranges if low <= ord(char) <= high), "DEFAULT")
+        return next(
+            (name for low, high, name in self.ranges if low <= ord(char) <= high), "DEFAULT"
+        )
 
     def words(self, text, place):
         """All words of a place."""
@@ -100,7 +107,9 @@ class Sources:
         """How many characters unknown words have that begin here."""
         if is_known and not category.invoke:
             return []
-        run = len(list(itertools.takewhile(lambda char: self.name(char) == self.name(text[0]), text)))
+        run = len(
+            list(itertools.takewhile(lambda char: self.name(char) == self.name(text[0]), text))
+        )
         grouped = [run] if category.group and run - 1 <= GROUPING else []
         longest = min(category.length, run - 1 if category.group else run)
         return grouped + list(range(1, longest + 1)) or ([] if is_known else [1])
@@ -115,7 +124,9 @@ class Sources:
     def cost(self, chain, ends):
         rights = [0, *(word.right for word in chain)]
         lefts = [*(word.left for word in chain), *([0] if ends else [])]
-        return sum(self.connection[pair] for pair in zip(rights, lefts)) + sum(word.cost for word in chain)
+        return sum(self.connection[pair] for pair in zip(rights, lefts)) + sum(
+            word.cost for word in chain
+        )
 
 
 def expected(sources, text):
@@ -131,14 +142,24 @@ def expected(sources, text):
             for word in chain:
                 through[word] = min(through.get(word, cost), cost)
     best = min(cost for cost, _ in paths)
-    rival = lambda place, end: min((cost - best for cost, bounds in paths if (place, end) not in bounds), default=None)
+    rival = lambda place, end: min(
+        (cost - best for cost, bounds in paths if (place, end) not in bounds), default=None
+    )
     return {word: (total, through.get(word)) for word, total in totals.items()}, best, rival
 
 
 def printed(folder, lines, *options):
     words = [JSEG, "--sources", folder, *options]
-    out = subprocess.run(words, input="".join(f"{line}\n" for line in lines).encode(), stdout=subprocess.PIPE, check=True).stdout.decode()
-    return [[row.split("\t") for row in table.split("\n")[1:]] for table in out.removesuffix("\n\n").split("\n\n")]
+    out = subprocess.run(
+        words,
+        input="".join(f"{line}\n" for line in lines).encode(),
+        stdout=subprocess.PIPE,
+        check=True,
+    ).stdout.decode()
+    return [
+        [row.split("\t") for row in table.split("\n")[1:]]
+        for table in out.removesuffix("\n\n").split("\n\n")
+    ]
 
 
 def number(cell):
@@ -149,7 +170,16 @@ def node_of(text, row):
     """A row of a lattice as a word, with its total and its through."""
     at = {len(text[:count].encode()): count for count in range(len(text) + 1)}
     place, start, end, _, left, right, cost, known, _, _, total, cost_through, _, _, feature = row
-    word = Word(at[int(place)], at[int(start)], at[int(end)], int(left), int(right), int(cost), known, feature)
+    word = Word(
+        at[int(place)],
+        at[int(start)],
+        at[int(end)],
+        int(left),
+        int(right),
+        int(cost),
+        known,
+        feature,
+    )
     return word, (int(total), number(cost_through))
 
 
@@ -178,9 +208,18 @@ def faults_of(sources, text, nodes, whys):
 
 def check(name, folder):
     sources = Sources(folder)
-    lines = ["".join(chars) for count in range(1, 6) for chars in itertools.product(TEXTS[name], repeat=count)]
+    lines = [
+        "".join(chars)
+        for count in range(1, 6)
+        for chars in itertools.product(TEXTS[name], repeat=count)
+    ]
     faults = 0
-    for text, nodes, whys in zip(lines, printed(folder, lines, "--lattice", "tsv"), printed(folder, lines, "--why"), strict=True):
+    for text, nodes, whys in zip(
+        lines,
+        printed(folder, lines, "--lattice", "tsv"),
+        printed(folder, lines, "--why"),
+        strict=True,
+    ):
         for fault in faults_of(sources, text, [row for row in nodes if len(row) > 1], whys):
             faults += 1
             print(f"all-paths: {name}: {text!r}: {fault}", file=sys.stderr)

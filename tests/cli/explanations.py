@@ -42,7 +42,10 @@ class Node(NamedTuple):
     feature: str
 
     def takes_place_of(self, other):
-        return self.place <= other.place < self.end and (self.place, self.end) != (other.place, other.end)
+        return self.place <= other.place < self.end and (self.place, self.end) != (
+            other.place,
+            other.end,
+        )
 
 
 class Row(NamedTuple):
@@ -58,7 +61,12 @@ class Row(NamedTuple):
     feature: str
 
     def is_of(self, node):
-        return (self.start, self.start + len(self.surface.encode()), self.cost, self.feature) == (node.start, node.end, node.cost, node.feature)
+        return (self.start, self.start + len(self.surface.encode()), self.cost, self.feature) == (
+            node.start,
+            node.end,
+            node.cost,
+            node.feature,
+        )
 
 
 def unescaped(cell):
@@ -73,8 +81,15 @@ def number(cell):
 
 
 def node_of(row):
-    place, start, end, _, left, right, cost, _, _, _, total, through, _, best, feature = row.split("\t")
-    return Node(*map(int, (place, start, end, left, right, cost, total)), number(through), best == "*", feature)
+    place, start, end, _, left, right, cost, _, _, _, total, through, _, best, feature = row.split(
+        "\t"
+    )
+    return Node(
+        *map(int, (place, start, end, left, right, cost, total)),
+        number(through),
+        best == "*",
+        feature,
+    )
 
 
 def row_of(row):
@@ -84,7 +99,9 @@ def row_of(row):
 
 def printed(image, text, *options):
     words = [JSEG, "-d", image, "--skip-digest", *options]
-    return subprocess.run(words, input=text.encode(), stdout=subprocess.PIPE, check=True).stdout.decode()
+    return subprocess.run(
+        words, input=text.encode(), stdout=subprocess.PIPE, check=True
+    ).stdout.decode()
 
 
 def tables(text, heading, read):
@@ -147,7 +164,13 @@ def faults_of_best(line, rows, best, cut, cost_of):
     for row, node in zip(words, best):
         yield from walk.go_on(row, node, cost_of)
     yield from walk.costs(eos, 0, cost_of)
-    if (eos.start, eos.surface, eos.cost, eos.lost, eos.feature) != (len(line.encode()), "EOS", 0, None, ""):
+    if (eos.start, eos.surface, eos.cost, eos.lost, eos.feature) != (
+        len(line.encode()),
+        "EOS",
+        0,
+        None,
+        "",
+    ):
         yield f"the last row is {eos}"
 
 
@@ -161,13 +184,30 @@ def beginnings(best):
 
 def faults_of_rival(rows, word, nodes, best, total, cost_of):
     """What is otherwise of the rival of a word of the best path."""
-    lost = min((node.through - total for node in nodes if node.through is not None and node.takes_place_of(word)), default=None)
+    lost = min(
+        (
+            node.through - total
+            for node in nodes
+            if node.through is not None and node.takes_place_of(word)
+        ),
+        default=None,
+    )
     if {row.lost for row in rows} != ({lost} if lost is not None else set()):
         yield f"{word} has {rows}, and the least that a rival lost by is {lost}"
     words = [row for row in rows if row.cost is not None]
     if not words:
         return
-    chosen = [next((node for node in nodes if row.is_of(node) and node.through is not None and not node.is_best), None) for row in words]
+    chosen = [
+        next(
+            (
+                node
+                for node in nodes
+                if row.is_of(node) and node.through is not None and not node.is_best
+            ),
+            None,
+        )
+        for row in words
+    ]
     if None in chosen or not any(node.takes_place_of(word) for node in chosen):
         yield f"{rows} are no words of the lattice in the place of {word}"
         return
@@ -182,7 +222,11 @@ def faults_of_rival(rows, word, nodes, best, total, cost_of):
     last = words[-1].total + chosen[-1].through - chosen[-1].total
     if last != total + lost:
         yield f"{words[-1]} leads to {last}, and the rival costs {total + lost}"
-    if rows[-1] is words[-1] and chosen[-1].end not in {0, *(node.place for node in best), best[-1].end}:
+    if rows[-1] is words[-1] and chosen[-1].end not in {
+        0,
+        *(node.place for node in best),
+        best[-1].end,
+    }:
         yield f"{words[-1]} does not end where a word of the best path begins"
 
 
@@ -199,10 +243,16 @@ def faults_of(line, rows, nodes, cut, cost_of):
 
 def made_up(count):
     """Lines of IPADIC's surfaces, and of what it has no word for."""
-    surfaces = [line.split(",")[0] for path in sorted(SOURCES.glob("*.csv")) for line in path.read_text("euc_jp").splitlines()]
+    surfaces = [
+        line.split(",")[0]
+        for path in sorted(SOURCES.glob("*.csv"))
+        for line in path.read_text("euc_jp").splitlines()
+    ]
     choice = random.Random(1)
     for length in itertools.islice(itertools.cycle(range(13)), count):
-        yield "".join(choice.choice(OTHERS if choice.random() < 0.1 else surfaces) for _ in range(length))
+        yield "".join(
+            choice.choice(OTHERS if choice.random() < 0.1 else surfaces) for _ in range(length)
+        )
 
 
 def check(image, count):
@@ -223,8 +273,12 @@ def check(image, count):
 
 
 def main():
-    options = argparse.ArgumentParser(description=__doc__, formatter_class=argparse.RawDescriptionHelpFormatter)
-    options.add_argument("--lines", type=int, default=500, metavar="N", help="how many lines are checked (500)")
+    options = argparse.ArgumentParser(
+        description=__doc__, formatter_class=argparse.RawDescriptionHelpFormatter
+    )
+    options.add_argument(
+        "--lines", type=int, default=500, metavar="N", help="how many lines are checked (500)"
+    )
     count = options.parse_args().lines
     missing = [str(path) for path in (DICTC, JSEG, SOURCES / "matrix.def") if not path.exists()]
     if missing:
@@ -233,7 +287,12 @@ def main():
     os.environ["PATH"] = f"{DICTC.parent}:{os.environ['PATH']}"
     with tempfile.TemporaryDirectory() as folder:
         image = Path(folder) / "ipadic.img"
-        subprocess.run([TOP / "importer/kumquatsieve-import", "ipadic", image], check=True, stdout=subprocess.DEVNULL, stderr=subprocess.DEVNULL)
+        subprocess.run(
+            [TOP / "importer/kumquatsieve-import", "ipadic", image],
+            check=True,
+            stdout=subprocess.DEVNULL,
+            stderr=subprocess.DEVNULL,
+        )
         return check(image, count)
 
 

@@ -24,7 +24,22 @@ LINES = [
     "",
     ASCII,
     *ASCII,
-    *(f"も{pair}も" for pair in ('\\"', '"\\', "\\n", "\\N", "\\G", "\\\\", "&amp;", "&#12354;", "<b>も</b>", "]; x [", "%")),
+    *(
+        f"も{pair}も"
+        for pair in (
+            '\\"',
+            '"\\',
+            "\\n",
+            "\\N",
+            "\\G",
+            "\\\\",
+            "&amp;",
+            "&#12354;",
+            "<b>も</b>",
+            "]; x [",
+            "%",
+        )
+    ),
     " も  も ",
     "𠮷野ア\u0300é",
     "".join(map(chr, (*range(0x80, 0xA0), *range(0xA1, 0x100)))),
@@ -36,7 +51,12 @@ LINES = [
 
 def printed(form, line):
     """What jseg prints of a line."""
-    return subprocess.run([JSEG, "--sample", "--lattice", form], input=f"{line}\n".encode(), stdout=subprocess.PIPE, check=True).stdout
+    return subprocess.run(
+        [JSEG, "--sample", "--lattice", form],
+        input=f"{line}\n".encode(),
+        stdout=subprocess.PIPE,
+        check=True,
+    ).stdout
 
 
 def unescaped(cell):
@@ -57,7 +77,13 @@ def rows_of(line):
     for row in rows:
         cells = dict(zip(heading.split("\t"), row.split("\t")))
         field = unescaped(cells["feature"]).split(",")[0]
-        yield [as_drawn(unescaped(cells["surface"])), field, f"cost {cells['cost']}", f"total {cells['total']}", f"lost {cells['lost']}"]
+        yield [
+            as_drawn(unescaped(cells["surface"])),
+            field,
+            f"cost {cells['cost']}",
+            f"total {cells['total']}",
+            f"lost {cells['lost']}",
+        ]
 
 
 def texts_in(group):
@@ -71,7 +97,11 @@ def drawn(line):
     if done.returncode != 0 or done.stderr:
         sys.exit(f"graphs: dot can't read the graph of {line!r}: {done.stderr.decode()}")
     graph = xml.fromstring(done.stdout).find(f"{SVG}g")
-    boxes = [group for group in graph.findall(f"{SVG}g[@class='node']") if group.find(f"{SVG}title").text.startswith("w")]
+    boxes = [
+        group
+        for group in graph.findall(f"{SVG}g[@class='node']")
+        if group.find(f"{SVG}title").text.startswith("w")
+    ]
     boxes.sort(key=lambda box: int(box.find(f"{SVG}title").text[1:]))
     return texts_in(graph), [texts_in(box) for box in boxes]
 

@@ -44,10 +44,16 @@ def corpus(texts, size):
     if texts:
         text = b"".join(path.read_bytes() for path in texts)
     elif MANUAL_PAGES.exists():
-        text = b"".join(gzip.decompress(path.read_bytes()) for path in sorted(MANUAL_PAGES.glob("man*/*.gz")) if path.is_file())
+        text = b"".join(
+            gzip.decompress(path.read_bytes())
+            for path in sorted(MANUAL_PAGES.glob("man*/*.gz"))
+            if path.is_file()
+        )
     else:
         text = (TOP / "examples" / "sample" / "text.txt").read_bytes()
-    text = b"".join(line for line in text.splitlines(keepends=True) if is_text(line) and len(line) < 1 << 20)
+    text = b"".join(
+        line for line in text.splitlines(keepends=True) if is_text(line) and len(line) < 1 << 20
+    )
     text = text if text.endswith(b"\n") else text + b"\n"
     return text * max(1, round(size / len(text)))
 
@@ -75,7 +81,9 @@ class Times:
 
 def print_table(times, size):
     """A row for each command, the first of which is one jseg."""
-    print("| how | seconds | of these without a text | search, beside one `jseg` | MB/s |\n|---|---|---|---|---|")
+    print(
+        "| how | seconds | of these without a text | search, beside one `jseg` | MB/s |\n|---|---|---|---|---|"
+    )
     one = next(iter(times.values())).search()
     for name, row in times.items():
         part = f"{row.search() / one:.2f}" if one > 0 else "none"
@@ -87,16 +95,34 @@ def commands(chosen):
     words = [*(["-d", str(chosen.image)] if chosen.image else ["--sample"]), "-O", "wakati"]
     yield "one `jseg`", [str(JSEG), *words]
     if chosen.mecab:
-        yield "MeCab", ["mecab", "-r", "/dev/null", "-b", "1100000", "-d", str(chosen.mecab), "-O", "wakati"]
+        yield "MeCab", [
+            "mecab",
+            "-r",
+            "/dev/null",
+            "-b",
+            "1100000",
+            "-d",
+            str(chosen.mecab),
+            "-O",
+            "wakati",
+        ]
     if chosen.cut:
-        yield from ((f"`kumquatsieve-cut -j {cores}`", [str(chosen.cut), "-j", str(cores), *words]) for cores in CORES)
+        yield from (
+            (f"`kumquatsieve-cut -j {cores}`", [str(chosen.cut), "-j", str(cores), *words])
+            for cores in CORES
+        )
     if shutil.which("parallel"):
         jobs = ["parallel", "--will-cite", "--pipe", "-k", "--block", chosen.block]
-        yield from ((f"`parallel --pipe -k -j {cores}`", [*jobs, "-j", str(cores), str(JSEG), *words]) for cores in CORES)
+        yield from (
+            (f"`parallel --pipe -k -j {cores}`", [*jobs, "-j", str(cores), str(JSEG), *words])
+            for cores in CORES
+        )
 
 
 def main():
-    options = argparse.ArgumentParser(description=__doc__, formatter_class=argparse.RawDescriptionHelpFormatter)
+    options = argparse.ArgumentParser(
+        description=__doc__, formatter_class=argparse.RawDescriptionHelpFormatter
+    )
     options.add_argument("--image", type=Path)
     options.add_argument("--cut", type=Path, metavar="PROGRAM")
     options.add_argument("--mecab", type=Path, metavar="FOLDER")
@@ -125,7 +151,9 @@ def main():
                 return 1
         size = source.stat().st_size / 1e6
         print_table(times, size)
-        print(f"{size:.0f} MB of text, blocks of {chosen.block}, {os.cpu_count()} cores: each output is that of one jseg, byte for byte")
+        print(
+            f"{size:.0f} MB of text, blocks of {chosen.block}, {os.cpu_count()} cores: each output is that of one jseg, byte for byte"
+        )
     if not shutil.which("parallel"):
         print("parallel: GNU parallel is not there: no job was compared", file=sys.stderr)
         return LEFT_OUT

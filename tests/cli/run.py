@@ -76,7 +76,13 @@ def what_stands(folder):
     found = {}
     for path in folder.rglob("*"):
         name = str(path.relative_to(folder))
-        found[name] = Path(os.readlink(path)) if path.is_symlink() else {} if path.is_dir() else path.read_bytes()
+        found[name] = (
+            Path(os.readlink(path))
+            if path.is_symlink()
+            else {}
+            if path.is_dir()
+            else path.read_bytes()
+        )
     return found
 
 
@@ -84,12 +90,16 @@ def changed(before, left, pid, start):
     """What has to stand after a run."""
     after = dict(before)
     for name, there in left.items():
-        after[name.format(pid=pid)] = (start / there).read_bytes() if isinstance(there, str) else there
+        after[name.format(pid=pid)] = (
+            (start / there).read_bytes() if isinstance(there, str) else there
+        )
     return {name: there for name, there in after.items() if there is not None}
 
 
 def is_same(wanted, found):
-    return wanted.keys() == found.keys() and all(there is ANY or there == found[name] for name, there in wanted.items())
+    return wanted.keys() == found.keys() and all(
+        there is ANY or there == found[name] for name, there in wanted.items()
+    )
 
 
 def told_wrong(row, outcome):
@@ -113,11 +123,18 @@ class Rows:
         for name, lexicon in USERS.items():
             (self.start / f"{name}.csv").write_text(lexicon)
         definitions = " ".join(f"--{name.removesuffix('.def')} a/{name}" for name in DEFINITIONS)
-        self.compile(f"dictc system {definitions} --out sys.img a/lexicon.csv", "3 entries, 0 skipped\n")
+        self.compile(
+            f"dictc system {definitions} --out sys.img a/lexicon.csv", "3 entries, 0 skipped\n"
+        )
         for name in USERS:
-            self.compile(f"dictc user --dic sys.img --out {name}.img {name}.csv", "1 entries, 0 skipped\n")
+            self.compile(
+                f"dictc user --dic sys.img --out {name}.img {name}.csv", "1 entries, 0 skipped\n"
+            )
         (self.start / "second.csv").unlink()
-        for home, names in ((self.programs.made, ("both", "made")), (self.programs.shared, ("both", "installed"))):
+        for home, names in (
+            (self.programs.made, ("both", "made")),
+            (self.programs.shared, ("both", "installed")),
+        ):
             home.mkdir(parents=True)
             for name in names:
                 shutil.copy(self.start / "sys.img", home / f"{name}.img")
@@ -193,17 +210,31 @@ def codes_of_rows():
 def missing_codes():
     """What is wrong with the codes that rows tell."""
     told = codes_of_rows()
-    yield from (f"no row tells {code}" for code in sorted(codes_of_programs() - told - NOT_RUN.keys()))
-    yield from (f"{code} is told, and named as one that isn't" for code in sorted(NOT_RUN.keys() & told))
-    yield from (f"no program has the fault {code}" for code in sorted((told | NOT_RUN.keys()) - codes_of_programs()))
+    yield from (
+        f"no row tells {code}" for code in sorted(codes_of_programs() - told - NOT_RUN.keys())
+    )
+    yield from (
+        f"{code} is told, and named as one that isn't" for code in sorted(NOT_RUN.keys() & told)
+    )
+    yield from (
+        f"no program has the fault {code}"
+        for code in sorted((told | NOT_RUN.keys()) - codes_of_programs())
+    )
 
 
 def by_cut(row, threads):
     """A row of jseg's, as kumquatsieve-cut is to be run."""
-    def renamed(text):
-        return text.replace("jseg", "kumquatsieve-cut").replace("'kumquatsieve-cut --explain", "'jseg --explain")
 
-    words = row.words if {"-d", "-u"} & set(row.words.split()) else row.words.replace("--sample", "-d sys.img")
+    def renamed(text):
+        return text.replace("jseg", "kumquatsieve-cut").replace(
+            "'kumquatsieve-cut --explain", "'jseg --explain"
+        )
+
+    words = (
+        row.words
+        if {"-d", "-u"} & set(row.words.split())
+        else row.words.replace("--sample", "-d sys.img")
+    )
     tested = "" if "--skip-digest" in row.words.split() else " --test-digest"
     words = renamed(words).replace("kumquatsieve-cut", f"kumquatsieve-cut -j {threads}{tested}", 1)
     err = row.err.changed(renamed) if isinstance(row.err, Has) else row.err
@@ -213,26 +244,56 @@ def by_cut(row, threads):
 def rows_of_cut():
     """The rows over an image or the sample. What asks a program about itself, what explains a cut, how far a load is, and whether a record spares
     the digest are jseg's alone."""
-    beside = [row for row in ROWS if row.words.startswith("jseg ") and {"-d", "--sample"} & set(row.words.split())]
+    beside = [
+        row
+        for row in ROWS
+        if row.words.startswith("jseg ") and {"-d", "--sample"} & set(row.words.split())
+    ]
     asked = {"--help", "--lattice", "--within", "--why"}
-    shared = [row for row in beside if not asked & set(row.words.split()) and "comes slowly, on a terminal" not in row.name]
-    shared = [row for row in shared if not any(isinstance(there, RecordOf) for there in row.files.values())]
+    shared = [
+        row
+        for row in beside
+        if not asked & set(row.words.split()) and "comes slowly, on a terminal" not in row.name
+    ]
+    shared = [
+        row
+        for row in shared
+        if not any(isinstance(there, RecordOf) for there in row.files.values())
+    ]
     return [by_cut(row, threads) for threads in (1, 3) for row in shared]
 
 
 def chosen():
-    options = argparse.ArgumentParser(description=__doc__, formatter_class=argparse.RawDescriptionHelpFormatter)
-    options.add_argument("--only", metavar="WORD", default="", help="run the rows whose name or command has it")
+    options = argparse.ArgumentParser(
+        description=__doc__, formatter_class=argparse.RawDescriptionHelpFormatter
+    )
+    options.add_argument(
+        "--only", metavar="WORD", default="", help="run the rows whose name or command has it"
+    )
     options.add_argument("--dictc", type=Path, default=CRATES / "dictc" / "out" / "dictc")
     options.add_argument("--jseg", type=Path, default=CRATES / "jseg" / "out" / "jseg")
-    options.add_argument("--linked", action="store_true", help="link dictc and jseg as they are installed, and run these")
-    options.add_argument("--cut", type=Path, metavar="PROGRAM", help="run the rows of `jseg -d` and `--sample` by this program")
+    options.add_argument(
+        "--linked",
+        action="store_true",
+        help="link dictc and jseg as they are installed, and run these",
+    )
+    options.add_argument(
+        "--cut",
+        type=Path,
+        metavar="PROGRAM",
+        help="run the rows of `jseg -d` and `--sample` by this program",
+    )
     return options.parse_args()
 
 
 def link(options, prefix):
     """Takes the programs that packaging/build-programs makes."""
-    done = subprocess.run([TOP / "packaging" / "build-programs", prefix], env={**os.environ, "DESTDIR": ""}, stderr=subprocess.PIPE, text=True)
+    done = subprocess.run(
+        [TOP / "packaging" / "build-programs", prefix],
+        env={**os.environ, "DESTDIR": ""},
+        stderr=subprocess.PIPE,
+        text=True,
+    )
     if done.returncode != 0:
         sys.exit(done.stderr)
     options.dictc, options.jseg = prefix / "bin" / "dictc", prefix / "bin" / "jseg"
@@ -240,18 +301,29 @@ def link(options, prefix):
 
 def main():
     options = chosen()
-    missing = [str(path) for path in (options.dictc, options.cut or options.jseg) if not path.exists()]
+    missing = [
+        str(path) for path in (options.dictc, options.cut or options.jseg) if not path.exists()
+    ]
     if missing:
-        print(f"nothing was run: {' and '.join(missing)} not built; `rt run` in the crate's folder builds it", file=sys.stderr)
+        print(
+            f"nothing was run: {' and '.join(missing)} not built; `rt run` in the crate's folder builds it",
+            file=sys.stderr,
+        )
         return 2
     os.umask(0o022)
-    rows = [row for row in (rows_of_cut() if options.cut else ROWS) if options.only in f"{row.name} {row.words}"]
+    rows = [
+        row
+        for row in (rows_of_cut() if options.cut else ROWS)
+        if options.only in f"{row.name} {row.words}"
+    ]
     with tempfile.TemporaryDirectory() as folder:
         os.chmod(folder, 0o755)
         if options.linked:
             link(options, Path(folder, "linked"))
         faults = [] if options.cut else [*missing_codes(), *faults_of_turns(options.jseg)]
-        runs = Rows(Path(folder), Programs(Path(folder), [options.dictc, options.cut or options.jseg]))
+        runs = Rows(
+            Path(folder), Programs(Path(folder), [options.dictc, options.cut or options.jseg])
+        )
         runs.prepare()
         for row in rows:
             faults += [f"{row.name}: `{row.words[:200]}` {wrong}" for wrong in runs.wrong(row)]

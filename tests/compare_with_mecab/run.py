@@ -29,7 +29,13 @@ DICTIONARIES = Path("/usr/share/mecab/dic")
 NAMES = ["ipadic", "juman", "naist-jdic", "unidic"]
 ENCODINGS = ["utf-8", "euc_jp", "cp932"]
 DEFINITIONS = ["matrix.def", "char.def", "unk.def"]
-MECAB_DEFINITIONS = DEFINITIONS + ["left-id.def", "right-id.def", "pos-id.def", "rewrite.def", "feature.def"]
+MECAB_DEFINITIONS = DEFINITIONS + [
+    "left-id.def",
+    "right-id.def",
+    "pos-id.def",
+    "rewrite.def",
+    "feature.def",
+]
 DICRC = "cost-factor = 800\nbos-feature = BOS/EOS\neval-size = 8\nunk-eval-size = 4\n"
 MANUAL_PAGES = Path("/usr/share/man/ja")
 LONGEST = 65_535
@@ -51,7 +57,11 @@ def left_out(why):
 
 def folder_of(name):
     """The folder of a dictionary's sources, by its path or by Debian's name of it; none where it is not installed."""
-    named = [Path(name)] if "/" in name else [DICTIONARIES / name, *sorted(DICTIONARIES.glob(f"{name}-*"))]
+    named = (
+        [Path(name)]
+        if "/" in name
+        else [DICTIONARIES / name, *sorted(DICTIONARIES.glob(f"{name}-*"))]
+    )
     return next((folder for folder in named if (folder / "matrix.def").exists()), None)
 
 
@@ -60,7 +70,9 @@ def write_in_utf8(source, made):
     left out, and their number is reported."""
     for encoding in ENCODINGS:
         try:
-            with open(source, encoding=encoding, newline="") as reading, open(made, "w", encoding="utf-8", newline="") as writing:
+            with open(source, encoding=encoding, newline="") as reading, open(
+                made, "w", encoding="utf-8", newline=""
+            ) as writing:
                 shutil.copyfileobj(reading, writing, 2**20)
             return
         except UnicodeDecodeError:
@@ -85,7 +97,9 @@ class Sources:
     """The source files in UTF-8: as dictc reads them, and joined as mecab-dict-index does."""
 
     def __init__(self, source, folder):
-        self.ours, self.theirs, self.mecab = (folder / name for name in ("sources", "joined", "mecab"))
+        self.ours, self.theirs, self.mecab = (
+            folder / name for name in ("sources", "joined", "mecab")
+        )
         for made in (self.ours, self.theirs, self.mecab):
             made.mkdir()
         self.image = folder / "system.img"
@@ -105,9 +119,25 @@ class Sources:
             (place / "dicrc").write_text(DICRC)
 
     def compilers(self, programs):
-        definitions = [word for name in DEFINITIONS for word in ("--" + name.removesuffix(".def"), self.ours / name)]
+        definitions = [
+            word
+            for name in DEFINITIONS
+            for word in ("--" + name.removesuffix(".def"), self.ours / name)
+        ]
         ours = [programs.dictc, "system", *definitions, "--out", self.image, *self.lexicons]
-        theirs = [programs.mecab_dict_index, "-d", self.theirs, "-o", self.mecab, "-f", "UTF-8", "-t", "UTF-8", "-c", "UTF-8"]
+        theirs = [
+            programs.mecab_dict_index,
+            "-d",
+            self.theirs,
+            "-o",
+            self.mecab,
+            "-f",
+            "UTF-8",
+            "-t",
+            "UTF-8",
+            "-c",
+            "UTF-8",
+        ]
         return Pair(ours, theirs)
 
     def segmenters(self, programs, options):
@@ -129,18 +159,31 @@ def made_up_line(draw, words, characters):
         return "".join(draw.choices(words, k=draw.randrange(15)))
     if kind == 2:
         return " ".join(draw.choices(words, k=draw.randrange(8)))
-    return "".join(draw.choice(words) + draw.choice(characters) * draw.randrange(30) for _ in range(draw.randrange(9)))
+    return "".join(
+        draw.choice(words) + draw.choice(characters) * draw.randrange(30)
+        for _ in range(draw.randrange(9))
+    )
 
 
 def made_up_text(count, seed, words):
     draw = random.Random(seed)
-    ranges = [range(0x20, 0x7F), range(0x3041, 0x3097), range(0x30A1, 0x30FD), range(0x4E00, 0x4F00), range(0x1F600, 0x1F610)]
+    ranges = [
+        range(0x20, 0x7F),
+        range(0x3041, 0x3097),
+        range(0x30A1, 0x30FD),
+        range(0x4E00, 0x4F00),
+        range(0x1F600, 0x1F610),
+    ]
     characters = [chr(code) for codes in ranges for code in codes] + list("\t\u3000、。〇ー𠮷éαА")
     return "".join(made_up_line(draw, words, characters) + "\n" for _ in range(count)).encode()
 
 
 def manual_pages():
-    return b"".join(gzip.decompress(path.read_bytes()) for path in sorted(MANUAL_PAGES.glob("man*/*.gz")) if path.is_file())
+    return b"".join(
+        gzip.decompress(path.read_bytes())
+        for path in sorted(MANUAL_PAGES.glob("man*/*.gz"))
+        if path.is_file()
+    )
 
 
 def common_ground(text):
@@ -151,7 +194,9 @@ def common_ground(text):
 def is_common(line):
     """Whether a line is short enough, and text without U+0000 and U+FFFF."""
     characters = decoded(line)
-    return characters is not None and len(line) <= LONGEST and not {"\0", "\uffff"} & set(characters)
+    return (
+        characters is not None and len(line) <= LONGEST and not {"\0", "\uffff"} & set(characters)
+    )
 
 
 def written_by(command, text):
@@ -169,7 +214,9 @@ def written_by(command, text):
 
 def first_difference(ours, theirs):
     """The number of the first line that differs, and that line of each file; none where they are the same."""
-    for number, (our_line, their_line) in enumerate(itertools.zip_longest(ours, theirs, fillvalue=b""), 1):
+    for number, (our_line, their_line) in enumerate(
+        itertools.zip_longest(ours, theirs, fillvalue=b""), 1
+    ):
         if our_line != their_line:
             return number, our_line, their_line
     return None
@@ -184,7 +231,10 @@ def compare(what, text, pair):
     if size == 0:
         left_out(f"{what}: nothing was printed")
     lines = text.count(b"\n") + (not text.endswith(b"\n"))
-    print(f"{what}: {lines} lines, {len(text)} bytes of text, {size} bytes of output: the same", flush=True)
+    print(
+        f"{what}: {lines} lines, {len(text)} bytes of text, {size} bytes of output: the same",
+        flush=True,
+    )
 
 
 def compare_dictionary(name, source, texts, options):
@@ -195,13 +245,26 @@ def compare_dictionary(name, source, texts, options):
         made_up = made_up_text(options.made_up, options.seed, sources.surfaces())
         for given, text in {"made-up lines": made_up, **texts}.items():
             for format_name, chosen_format in FORMATS.items():
-                compare(f"{name}, {given}, {format_name}", text, sources.segmenters(options, chosen_format))
+                compare(
+                    f"{name}, {given}, {format_name}",
+                    text,
+                    sources.segmenters(options, chosen_format),
+                )
 
 
 def chosen():
-    options = argparse.ArgumentParser(description=__doc__, formatter_class=argparse.RawDescriptionHelpFormatter)
-    options.add_argument("--dictionary", action="append", metavar="NAME", help=f"a folder, or one of {', '.join(NAMES)}; again for more")
-    options.add_argument("--made-up", type=int, default=20_000, metavar="N", help="how many lines are made up")
+    options = argparse.ArgumentParser(
+        description=__doc__, formatter_class=argparse.RawDescriptionHelpFormatter
+    )
+    options.add_argument(
+        "--dictionary",
+        action="append",
+        metavar="NAME",
+        help=f"a folder, or one of {', '.join(NAMES)}; again for more",
+    )
+    options.add_argument(
+        "--made-up", type=int, default=20_000, metavar="N", help="how many lines are made up"
+    )
     options.add_argument("--seed", type=int, default=1)
     options.add_argument("--dictc", type=Path, default=CRATES / "dictc" / "out" / "dictc")
     options.add_argument("--jseg", type=Path, default=CRATES / "jseg" / "out" / "jseg")
@@ -216,7 +279,9 @@ def main():
     for program in (options.dictc, options.jseg, options.mecab, options.mecab_dict_index):
         if not shutil.which(program):
             left_out(f"{program} is not there")
-    texts = {path.name: path.read_bytes() for path in options.texts} or {"manual pages": manual_pages()}
+    texts = {path.name: path.read_bytes() for path in options.texts} or {
+        "manual pages": manual_pages()
+    }
     texts = {name: common_ground(text) for name, text in texts.items()}
     for name, text in texts.items():
         if not text:

@@ -18,12 +18,18 @@ import sys
 from pathlib import Path
 
 sys.dont_write_bytecode = True
-sys.path[:0] = [str(Path(__file__).resolve().parents[1]), str(Path(__file__).resolve().parents[2] / "importer")]
+sys.path[:0] = [
+    str(Path(__file__).resolve().parents[1]),
+    str(Path(__file__).resolve().parents[2] / "importer"),
+]
 from cli.completion.checks import faults as faults_of_completion  # noqa: E402
 
 TOP = Path(__file__).resolve().parents[2]
 PAGES = sorted((TOP / "man").glob("*.[15]"))
-HELPS = {"dictc": [["--help"], ["system", "--help"], ["user", "--help"], ["ids", "--help"]], "jseg": [["--help"]]}
+HELPS = {
+    "dictc": [["--help"], ["system", "--help"], ["user", "--help"], ["ids", "--help"]],
+    "jseg": [["--help"]],
+}
 
 
 def linted():
@@ -44,7 +50,10 @@ def help_of(program, words):
 
 def options_in(text):
     """The options that help names: a short one, a long one, or both."""
-    names = (re.split(r" {2,}| \[?<", line)[0].split(", ") for line in re.findall(r"^ +(-.*)$", text, re.M))
+    names = (
+        re.split(r" {2,}| \[?<", line)[0].split(", ")
+        for line in re.findall(r"^ +(-.*)$", text, re.M)
+    )
     return set().union(*names)
 
 
@@ -69,10 +78,14 @@ def options_of_page(program):
 
 def completed():
     """What help lists, by the words after which it has to be completed."""
-    wanted = [(f"{name} -", options_of_page(name)) for name in ("kumquatsieve-cut", "kumquatsieve-import")]
+    wanted = [
+        (f"{name} -", options_of_page(name)) for name in ("kumquatsieve-cut", "kumquatsieve-import")
+    ]
     for program in HELPS:
         for *subcommand, _ in HELPS[program]:
-            words, text = " ".join([program, *subcommand]), help_of(program, [*subcommand, "--help"])
+            words, text = " ".join([program, *subcommand]), help_of(
+                program, [*subcommand, "--help"]
+            )
             wanted.append((f"{words} -", options_in(text)))
             if subcommands_in(text):
                 wanted.append((f"{words} ", subcommands_in(text)))
@@ -94,9 +107,13 @@ def main():
     faults += not_completed
     if shutil.which("mandoc"):
         faults += linted()
-        print(f"{len(PAGES)} pages linted, the options of {len(HELPS)} programs compared, {len(faults)} faults")
+        print(
+            f"{len(PAGES)} pages linted, the options of {len(HELPS)} programs compared, {len(faults)} faults"
+        )
     else:
-        print(f"mandoc is not there: the pages were not linted; the options of {len(HELPS)} programs compared, {len(faults)} faults")
+        print(
+            f"mandoc is not there: the pages were not linted; the options of {len(HELPS)} programs compared, {len(faults)} faults"
+        )
     for fault in faults:
         print(fault, file=sys.stderr)
     return 1 if faults else 0

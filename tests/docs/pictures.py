@@ -53,7 +53,9 @@ def missing():
 
 
 def run(*words):
-    subprocess.run(list(map(str, words)), check=True, stdout=subprocess.DEVNULL, stderr=subprocess.DEVNULL)
+    subprocess.run(
+        list(map(str, words)), check=True, stdout=subprocess.DEVNULL, stderr=subprocess.DEVNULL
+    )
 
 
 def prepare(folder):
@@ -73,7 +75,9 @@ def graph_of(picture, image, folder):
 
     entries = ENTRY.findall(DOCUMENT.read_text())[: picture.entries]
     if len(entries) != picture.entries:
-        sys.exit(f"pictures: {DOCUMENT} has {len(entries)} entries, and {picture.name} wants {picture.entries}")
+        sys.exit(
+            f"pictures: {DOCUMENT} has {len(entries)} entries, and {picture.name} wants {picture.entries}"
+        )
     users = []
     if entries:
         (folder / "own.csv").write_text("".join(f"{entry}\n" for entry in entries))
@@ -84,7 +88,9 @@ def graph_of(picture, image, folder):
 
 def drawn(graph):
     """A graph as Graphviz draws it, without the comments that name its version."""
-    svg = subprocess.run(["dot", "-Tsvg"], input=graph.encode(), check=True, stdout=subprocess.PIPE).stdout.decode()
+    svg = subprocess.run(
+        ["dot", "-Tsvg"], input=graph.encode(), check=True, stdout=subprocess.PIPE
+    ).stdout.decode()
     return re.sub(r"<!--.*?-->\n", "", svg, flags=re.S)
 
 
@@ -94,7 +100,10 @@ def words_of(svg):
 
 def wrong_of(picture, graph):
     """What a picture that is kept has otherwise."""
-    for ending, same in ((".dot", lambda kept: kept == graph), (".svg", lambda kept: words_of(kept) == words_of(drawn(graph)))):
+    for ending, same in (
+        (".dot", lambda kept: kept == graph),
+        (".svg", lambda kept: words_of(kept) == words_of(drawn(graph))),
+    ):
         path = PICTURES / (picture.name + ending)
         if not (path.exists() and same(path.read_text())):
             yield f"{path.relative_to(TOP)} is not what is drawn now: tests/docs/pictures.py --write"

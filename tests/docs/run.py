@@ -68,7 +68,11 @@ def blocks():
             if kind == "console":
                 yield Block(f"{name}:{line}", wants.split(), commands_of(shown))
             elif shown.startswith(">>>"):
-                yield Block(f"{name}:{line}", wants.split(), [(f"python3 -m doctest /dev/stdin << 'END'\n{shown}END\n", "")])
+                yield Block(
+                    f"{name}:{line}",
+                    wants.split(),
+                    [(f"python3 -m doctest /dev/stdin << 'END'\n{shown}END\n", "")],
+                )
 
 
 def is_there(wanted):
@@ -93,10 +97,17 @@ def prepare(folder):
     (prefix / "bin").mkdir(parents=True)
     for path in [*PROGRAMS, TOP / "importer/kumquatsieve-import"]:
         shutil.copy(path, prefix / "bin")
-    shutil.copytree(TOP / "importer/kumquatsieve_import", prefix / "lib" / "kumquatsieve" / "kumquatsieve_import")
+    shutil.copytree(
+        TOP / "importer/kumquatsieve_import",
+        prefix / "lib" / "kumquatsieve" / "kumquatsieve_import",
+    )
     if is_there("library"):
         for words in (["build-library", "--built"], ["build-pjseg"]):
-            subprocess.run([TOP / "packaging" / words[0], *words[1:], prefix], check=True, stderr=subprocess.DEVNULL)
+            subprocess.run(
+                [TOP / "packaging" / words[0], *words[1:], prefix],
+                check=True,
+                stderr=subprocess.DEVNULL,
+            )
     shutil.copytree(TOP / "examples" / "sample", work)
     for name in LINKED:
         (work / name).symlink_to(TOP / name)
@@ -112,18 +123,42 @@ def same_words(text, prefix):
 def wrong_of(block, prefix, work):
     """What the commands of a block print other than is shown."""
     lib = prefix / "lib"
-    found = {"PKG_CONFIG_PATH": lib / "pkgconfig", "LD_LIBRARY_PATH": lib, "PYTHONPATH": TOP / "python", "PYTHONDONTWRITEBYTECODE": "1"}
-    place = {**os.environ, **found, "PATH": f"{prefix / 'bin'}:{os.environ['PATH']}", "LC_ALL": "C.UTF-8"}
+    found = {
+        "PKG_CONFIG_PATH": lib / "pkgconfig",
+        "LD_LIBRARY_PATH": lib,
+        "PYTHONPATH": TOP / "python",
+        "PYTHONDONTWRITEBYTECODE": "1",
+    }
+    place = {
+        **os.environ,
+        **found,
+        "PATH": f"{prefix / 'bin'}:{os.environ['PATH']}",
+        "LC_ALL": "C.UTF-8",
+    }
     for command, shown in block.commands:
-        ran = subprocess.run(["bash", "-c", command.replace("/usr/local", str(prefix))], cwd=work, env=place, stdout=subprocess.PIPE, stderr=subprocess.STDOUT)
+        ran = subprocess.run(
+            ["bash", "-c", command.replace("/usr/local", str(prefix))],
+            cwd=work,
+            env=place,
+            stdout=subprocess.PIPE,
+            stderr=subprocess.STDOUT,
+        )
         printed = ran.stdout.decode(errors="replace")
         if same_words(printed, prefix) != same_words(shown, prefix):
             yield f"{block.place}: `{command.strip()}` prints\n{printed}and not\n{shown}"
 
 
 def main():
-    options = argparse.ArgumentParser(description=__doc__, formatter_class=argparse.RawDescriptionHelpFormatter)
-    options.add_argument("--without", action="append", default=[], metavar="WORD", help="leave out the blocks that want this")
+    options = argparse.ArgumentParser(
+        description=__doc__, formatter_class=argparse.RawDescriptionHelpFormatter
+    )
+    options.add_argument(
+        "--without",
+        action="append",
+        default=[],
+        metavar="WORD",
+        help="leave out the blocks that want this",
+    )
     without = options.parse_args().without
     missing = [str(path) for path in PROGRAMS if not path.exists()]
     if missing:

@@ -158,7 +158,9 @@ def stem(size):
     """Keys of a stem with three or four letters after it. The stem's first character stands in it once."""
     front = "語" + "あ" * (STEM_BYTES // 3 - 1)
     count = (size - STEM_BYTES * CELL_BYTES) // 36
-    return with_a_token_each("stem", front, [in_letters(len(LETTERS) ** 3 + i) for i in range(count)])
+    return with_a_token_each(
+        "stem", front, [in_letters(len(LETTERS) ** 3 + i) for i in range(count)]
+    )
 
 
 def in_letters(number):
@@ -172,14 +174,19 @@ def in_letters(number):
 def overlapping(size):
     """One key. Half of the image are its tokens, half the features; no two tokens of a thousand times a thousand have the same feature."""
     features = "詞".encode() * (size // 6)
-    tokens = [(3 * (i % 1000), len(features) - 3 * (i % 1000) - 3 * (i // 1000 % 1000)) for i in range(size // 2 // TOKEN_BYTES)]
+    tokens = [
+        (3 * (i % 1000), len(features) - 3 * (i % 1000) - 3 * (i // 1000 % 1000))
+        for i in range(size // 2 // TOKEN_BYTES)
+    ]
     cells = Cells(trie_of(b"", ["語".encode()])).section()
     return Image("overlapping", image_of(cells, [0, len(tokens)], tokens, features), 1, "語")
 
 
 def fault_of(command, image):
     """Why an image does not answer its line with one word; None where it does."""
-    done = subprocess.run([*command, *MARKS], input=(image.line + "\n").encode(), capture_output=True)
+    done = subprocess.run(
+        [*command, *MARKS], input=(image.line + "\n").encode(), capture_output=True
+    )
     if done.returncode != 0:
         return f"is refused with status {done.returncode}: {done.stderr.decode().strip()}"
     if done.stdout != b"w\n":
@@ -191,7 +198,11 @@ def loads(options, folder):
     """The loads of hostile images, each beside that of the honest one. The script stops where an image does not answer."""
     system = Sources("z,1,1,1,x\n").compiled(options.dictc, folder / "system")
     runs = {}
-    for image in (honest(options.size, random.Random(1)), stem(options.size), overlapping(options.size)):
+    for image in (
+        honest(options.size, random.Random(1)),
+        stem(options.size),
+        overlapping(options.size),
+    ):
         path = folder / f"{image.name}.img"
         path.write_bytes(image.data)
         command = [options.jseg, "-d", system, "-u", path]
@@ -199,7 +210,10 @@ def loads(options, folder):
         if fault:
             sys.exit(f"{image.name} {fault}")
         runs[image.name] = Run(command), f"{len(image.data)} bytes, {image.groups} groups"
-    return [Shape(name, runs[name][1], runs["honest"][0], runs[name][0]) for name in ("stem", "overlapping")]
+    return [
+        Shape(name, runs[name][1], runs["honest"][0], runs[name][0])
+        for name in ("stem", "overlapping")
+    ]
 
 
 def longest(path, data, length):
@@ -211,8 +225,8 @@ def longest(path, data, length):
 
 def telling(image, length):
     """An image whose header tells so many bytes more of section 1."""
-    told, = struct.unpack_from("<Q", image, FIRST_LENGTH)
-    return image[:FIRST_LENGTH] + struct.pack("<Q", told + length) + image[FIRST_LENGTH + 8:]
+    (told,) = struct.unpack_from("<Q", image, FIRST_LENGTH)
+    return image[:FIRST_LENGTH] + struct.pack("<Q", told + length) + image[FIRST_LENGTH + 8 :]
 
 
 def refused(options, fault, command):
@@ -228,7 +242,11 @@ def at(options, path, fault):
 
 def behind(options, image, more, fault):
     """The run over a pipe of an image and of what stands in another file."""
-    return refused(options, fault, ["bash", "-c", 'exec "$0" -d <(exec cat "$1" "$2")', options.jseg, image, more])
+    return refused(
+        options,
+        fault,
+        ["bash", "-c", 'exec "$0" -d <(exec cat "$1" "$2")', options.jseg, image, more],
+    )
 
 
 def none(options, folder):
@@ -240,21 +258,48 @@ def none(options, folder):
     byte.write_bytes(b"\0")
     zeros = at(options, longest(small, b"", 1 << 20), "L2 BadMagic")
     files = [
-        ("longer", longest(folder / "one-more.img", image, length + 1), longest(folder / "longer.img", image, SPARSE_BYTES), "L4 BadSection 9"),
-        ("shorter", longest(folder / "one-less.img", image, length - 1),
-            longest(folder / "shorter.img", telling(image, SPARSE_BYTES + TOLD_MORE - length), SPARSE_BYTES), "L1 Truncated"),
+        (
+            "longer",
+            longest(folder / "one-more.img", image, length + 1),
+            longest(folder / "longer.img", image, SPARSE_BYTES),
+            "L4 BadSection 9",
+        ),
+        (
+            "shorter",
+            longest(folder / "one-less.img", image, length - 1),
+            longest(
+                folder / "shorter.img",
+                telling(image, SPARSE_BYTES + TOLD_MORE - length),
+                SPARSE_BYTES,
+            ),
+            "L1 Truncated",
+        ),
     ]
     size = f"{SPARSE_BYTES >> 30} GiB"
     return [
-        Shape("zeros", size, zeros, at(options, longest(folder / "zeros.img", b"", SPARSE_BYTES), "L2 BadMagic")),
-        *(Shape(name, size, at(options, few, fault), at(options, many, fault)) for name, few, many, fault in files),
+        Shape(
+            "zeros",
+            size,
+            zeros,
+            at(options, longest(folder / "zeros.img", b"", SPARSE_BYTES), "L2 BadMagic"),
+        ),
+        *(
+            Shape(name, size, at(options, few, fault), at(options, many, fault))
+            for name, few, many, fault in files
+        ),
         Shape("device", "no end", zeros, at(options, "/dev/zero", "L2 BadMagic")),
-        Shape("pipe", "no end", *(behind(options, whole, more, "L4 BadSection 9") for more in (byte, "/dev/zero"))),
+        Shape(
+            "pipe",
+            "no end",
+            *(behind(options, whole, more, "L4 BadSection 9") for more in (byte, "/dev/zero")),
+        ),
     ]
 
 
 def main():
-    options = chosen(__doc__, 5, ["dictc", "jseg"], size=(10_000_000, 1_000_000, "about the bytes of each image"))
+    options = chosen(
+        __doc__, 5, ["dictc", "jseg"], size=(10_000_000, 1_000_000, "about the bytes of each image")
+    )
     with tempfile.TemporaryDirectory() as made:
         folder = Path(made)
         faults = judged([*loads(options, folder), *none(options, folder)], KNOWN, options)

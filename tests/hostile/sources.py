@@ -83,7 +83,9 @@ def features(front, count):
 
 
 def lexicon(texts):
-    return b"".join(b"%s,1,1,1,%s\n" % (eight_letters(i).encode(), text) for i, text in enumerate(texts))
+    return b"".join(
+        b"%s,1,1,1,%s\n" % (eight_letters(i).encode(), text) for i, text in enumerate(texts)
+    )
 
 
 def of_features(options, folder):
@@ -91,7 +93,10 @@ def of_features(options, folder):
     draw = random.Random(1)
     colliding = features(collider(draw), options.lines)
     free = features(bytes(draw.choices(LETTERS, k=24)), options.lines)
-    if len({hash_of(text) for text in colliding}) != 1 or len({hash_of(text) for text in free}) != options.lines:
+    if (
+        len({hash_of(text) for text in colliding}) != 1
+        or len({hash_of(text) for text in free}) != options.lines
+    ):
         sys.exit("the features do not collide as they should")
     system = Sources("z,1,1,1,x\n").compiled(options.dictc, folder / "system")
     runs = []
@@ -99,7 +104,9 @@ def of_features(options, folder):
         source = folder / f"{name}.csv"
         source.write_bytes(lexicon(texts))
         words = ["user", "--dic", system, "--out", folder / f"{name}.img", source]
-        runs.append(Run([options.dictc, *words], printed=b"%d entries, 0 skipped\n" % options.lines))
+        runs.append(
+            Run([options.dictc, *words], printed=b"%d entries, 0 skipped\n" % options.lines)
+        )
     return Shape("colliding features", f"{options.lines} lines", *runs)
 
 
@@ -108,11 +115,26 @@ def of_matrices(options, folder):
     beside = folder / "beside"
     Sources("z,1,1,1,x\n").compiled(options.dictc, beside)
     runs = []
-    for name, text, status in (("rows", "2 2\n" + "1 1 12\n" * (options.bytes // 7), 0), ("line", "1 1 1 1 " * (options.bytes // 8), 1)):
+    for name, text, status in (
+        ("rows", "2 2\n" + "1 1 12\n" * (options.bytes // 7), 0),
+        ("line", "1 1 1 1 " * (options.bytes // 8), 1),
+    ):
         matrix = folder / f"{name}.def"
         matrix.write_text(text)
         words = ["--matrix", matrix, "--char", beside / "char.def", "--unk", beside / "unk.def"]
-        runs.append(Run([options.dictc, "system", *words, "--out", folder / f"{name}.img", beside / "lexicon.def"], statuses=(status,)))
+        runs.append(
+            Run(
+                [
+                    options.dictc,
+                    "system",
+                    *words,
+                    "--out",
+                    folder / f"{name}.img",
+                    beside / "lexicon.def",
+                ],
+                statuses=(status,),
+            )
+        )
     return Shape("matrix.def of a line", f"{options.bytes} bytes", *runs)
 
 
@@ -130,16 +152,33 @@ def of_rows(options, folder):
     """Rows of any length, beside rows of as many bytes. None is in memory as a whole."""
     beside = folder / "beside rows"
     Sources("z,1,1,1,x\n").compiled(options.dictc, beside)
-    others = ["--char", beside / "char.def", "--unk", beside / "unk.def", "--out", folder / "row.img", beside / "lexicon.def"]
+    others = [
+        "--char",
+        beside / "char.def",
+        "--unk",
+        beside / "unk.def",
+        "--out",
+        folder / "row.img",
+        beside / "lexicon.def",
+    ]
 
     def run(path, is_refused):
-        wanted = {"statuses": (1,), "told": b":2: M2 BadRow\n"} if is_refused else {"printed": b"1 entries, 0 skipped\n"}
+        wanted = (
+            {"statuses": (1,), "told": b":2: M2 BadRow\n"}
+            if is_refused
+            else {"printed": b"1 entries, 0 skipped\n"}
+        )
         return Run([options.dictc, "system", "--matrix", path, *others], room=ROW_ROOM, **wanted)
 
     write_long(beside / "rows.def", b"2 2\n", b"1 1 12\n", options.row)
     for name, (begin, piece, end, is_refused) in LONG_ROWS.items():
         write_long(beside / f"{name}.def", b"2 2\n" + begin, piece, options.row, end)
-        yield Shape(f"a row of {name}", f"{options.row} bytes", run(beside / "rows.def", False), run(beside / f"{name}.def", is_refused))
+        yield Shape(
+            f"a row of {name}",
+            f"{options.row} bytes",
+            run(beside / "rows.def", False),
+            run(beside / f"{name}.def", is_refused),
+        )
 
 
 def of_mappings(options, folder):
@@ -152,7 +191,14 @@ def of_mappings(options, folder):
     for name, lines in (("single", single), ("nested", nested)):
         mappings = "".join(f"{points} {('KANJI', 'OTHER')[i % 2]}\n" for points, i in lines)
         (beside / f"{name}.def").write_text(CATEGORIES + mappings)
-        words = ["--matrix", beside / "matrix.def", "--char", beside / f"{name}.def", "--unk", beside / "unk.def"]
+        words = [
+            "--matrix",
+            beside / "matrix.def",
+            "--char",
+            beside / f"{name}.def",
+            "--unk",
+            beside / "unk.def",
+        ]
         words = ["system", *words, "--out", folder / f"{name}.img", beside / "lexicon.def"]
         runs.append(Run([options.dictc, *words], printed=b"1 entries, 0 skipped\n"))
     return Shape("nested mappings", f"{options.mappings} lines", *runs)
@@ -168,7 +214,12 @@ def main():
     options = chosen(__doc__, 3, ["dictc"], **sizes)
     with tempfile.TemporaryDirectory() as made:
         folder = Path(made)
-        shapes = [of_features(options, folder), of_matrices(options, folder), *of_rows(options, folder), of_mappings(options, folder)]
+        shapes = [
+            of_features(options, folder),
+            of_matrices(options, folder),
+            *of_rows(options, folder),
+            of_mappings(options, folder),
+        ]
         faults = judged(shapes, KNOWN, options)
     return ended(faults)
 

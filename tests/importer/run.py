@@ -39,17 +39,29 @@ def faults_of_rows(topic, programs, folder):
 
 def faults_from_outside(kind, programs, folder):
     for number in injected.SIGNALS:
-        yield from (f"{number.name} while dictc writes: {fault}" for fault in injected.wrong_by_signal(number, kind, programs, folder))
+        yield from (
+            f"{number.name} while dictc writes: {fault}"
+            for fault in injected.wrong_by_signal(number, kind, programs, folder)
+        )
     reading, writing = os.pipe()
     os.close(reading)
     with open("/dev/full", "wb") as full, open(writing, "wb") as closed:
         for name, target in (("full", full), ("read by nobody", closed), ("closed", None)):
-            yield from (f"standard output, {name}: {fault}" for fault in injected.wrong_by_output(name, target, kind, programs, folder))
+            yield from (
+                f"standard output, {name}: {fault}"
+                for fault in injected.wrong_by_output(name, target, kind, programs, folder)
+            )
     for fault in injected.wrong_without_error(kind, programs, folder):
         yield f"standard error closed: {fault}"
-    yield from (f"stopped while a pipe is full: {fault}" for fault in injected.wrong_by_stop(kind, programs, folder))
+    yield from (
+        f"stopped while a pipe is full: {fault}"
+        for fault in injected.wrong_by_stop(kind, programs, folder)
+    )
     for megabytes in injected.MEGABYTES:
-        yield from (f"{megabytes} MB: {fault}" for fault in injected.wrong_by_memory(megabytes, kind, programs, folder))
+        yield from (
+            f"{megabytes} MB: {fault}"
+            for fault in injected.wrong_by_memory(megabytes, kind, programs, folder)
+        )
 
 
 def injected_faults(programs, folder):
@@ -82,9 +94,14 @@ def main():
     for fault in faults + wrong:
         print(fault, file=sys.stderr)
     rows = sum(len(topic.ROWS) for topic in TOPICS)
-    print(f"{rows} imports, {sum(filter(None, counts))} injected faults, {len(faults + wrong)} faults")
+    print(
+        f"{rows} imports, {sum(filter(None, counts))} injected faults, {len(faults + wrong)} faults"
+    )
     if None in counts:
-        print("imports: strace is not there or may not be used: injected faults are left out", file=sys.stderr)
+        print(
+            "imports: strace is not there or may not be used: injected faults are left out",
+            file=sys.stderr,
+        )
     return 1 if faults or wrong else 77 if None in counts else 0
 
 

@@ -30,8 +30,18 @@ from pathlib import Path
 
 sys.dont_write_bytecode = True
 sys.path.insert(0, str(Path(__file__).resolve().parents[1]))
-from libmecab.clients.checks import check_calls, check_changing, check_forks, check_growths  # noqa: E402
-from libmecab.clients.checks import check_linking, check_names, check_replaced, check_threads  # noqa: E402
+from libmecab.clients.checks import (
+    check_calls,
+    check_changing,
+    check_forks,
+    check_growths,
+)  # noqa: E402
+from libmecab.clients.checks import (
+    check_linking,
+    check_names,
+    check_replaced,
+    check_threads,
+)  # noqa: E402
 from libmecab.clients.common import COMPILED, HEADER, IPADIC, TOP, run  # noqa: E402
 from libmecab.clients.dictionaries import compared  # noqa: E402
 from libmecab.clients.printing import clients  # noqa: E402
@@ -65,7 +75,10 @@ def environments(folder, built):
     prefix, dictionary = folder / "prefix", folder / "dictionary"
     run([TOP / "packaging/install", *built, "--mecab", prefix], os.environ)
     dictionary.mkdir()
-    run([prefix / "bin" / "kumquatsieve-import", IPADIC, dictionary / "kumquatsieve.img"], os.environ)
+    run(
+        [prefix / "bin" / "kumquatsieve-import", IPADIC, dictionary / "kumquatsieve.img"],
+        os.environ,
+    )
     for name in ("dicrc", "pos-id.def"):
         if not (dictionary / f"kumquatsieve.{name}").is_file():
             sys.exit(f"mecab-clients: kumquatsieve-import has kept no {name} beside the image")
@@ -73,7 +86,11 @@ def environments(folder, built):
     settings.write_text(f"dicdir = {COMPILED}\n")
     home.mkdir()
     nobody = dict(os.environ, HOME=str(home))
-    ours = dict(nobody, LD_LIBRARY_PATH=str(prefix / "lib" / "kumquatsieve" / "mecab"), KUMQUATSIEVE_DICTIONARY=str(dictionary))
+    ours = dict(
+        nobody,
+        LD_LIBRARY_PATH=str(prefix / "lib" / "kumquatsieve" / "mecab"),
+        KUMQUATSIEVE_DICTIONARY=str(dictionary),
+    )
     return dict(nobody, MECABRC=str(settings)), ours
 
 
@@ -88,13 +105,19 @@ def lines_file(folder, count):
 
 
 def main():
-    options = argparse.ArgumentParser(description=__doc__, formatter_class=argparse.RawDescriptionHelpFormatter)
+    options = argparse.ArgumentParser(
+        description=__doc__, formatter_class=argparse.RawDescriptionHelpFormatter
+    )
     options.add_argument("--install", action="store_true", help="install what is wanted first")
-    options.add_argument("--built", action="store_true", help="take the archive that stands in crates/cutter_c/out")
+    options.add_argument(
+        "--built", action="store_true", help="take the archive that stands in crates/cutter_c/out"
+    )
     options.add_argument("--lines", type=int, default=10_000)
     chosen = options.parse_args()
     if chosen.install:
-        subprocess.run(["apt-get", "install", "-y", "-qq", *PACKAGES], check=True, stdout=subprocess.DEVNULL)
+        subprocess.run(
+            ["apt-get", "install", "-y", "-qq", *PACKAGES], check=True, stdout=subprocess.DEVNULL
+        )
     if not (IPADIC / "matrix.def").exists() or not COMPILED.exists() or not HEADER.exists():
         left_out("mecab-ipadic, mecab-ipadic-utf8 or libmecab-dev is not there")
     if not all(map(shutil.which, ("gcc", "g++", "valgrind", "mecab"))):
@@ -124,7 +147,10 @@ def main():
             wanted = printed(lines, theirs, folder)
             if not wanted or wanted != printed(lines, ours, folder):
                 sys.exit(f"mecab-clients: {name} prints other bytes over this library")
-            print(f"mecab-clients: {name}: the same {len(wanted)} bytes of {count} lines over both libraries", flush=True)
+            print(
+                f"mecab-clients: {name}: the same {len(wanted)} bytes of {count} lines over both libraries",
+                flush=True,
+            )
     if missing:
         name_missing(missing)
         sys.exit(77)

@@ -34,10 +34,14 @@ def main():
     again = growths["two_calls"] - growths["one_call"]
     anew = growths["two_lattices"] - growths["one_call"]
     line = growths["two_lines"] - growths["one_line"]
-    print(f"segmenter: a second lattice takes {anew} growths, a second call on one {again}, a second line {line}")
+    print(
+        f"segmenter: a second lattice takes {anew} growths, a second call on one {again}, a second line {line}"
+    )
     for what, more in (("call", again), ("line", line)):
         if more > MOST or more >= anew:
-            sys.exit(f"segmenter: the second {what} takes {more} growths: more than {MOST}, or no fewer than a second lattice's {anew}")
+            sys.exit(
+                f"segmenter: the second {what} takes {more} growths: more than {MOST}, or no fewer than a second lattice's {anew}"
+            )
 
 
 main()

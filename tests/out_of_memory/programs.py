@@ -42,17 +42,33 @@ class Heap:
         self.folder, self.data = folder, folder.parent / "data"
         self.library = folder.parent / "refuse.so"
         self.report = folder.parent / "report"
-        command = ["gcc", "-std=c11", "-O2", "-shared", "-fPIC", TOP / "tests" / "support" / "refuse.c", "-o", self.library]
+        command = [
+            "gcc",
+            "-std=c11",
+            "-O2",
+            "-shared",
+            "-fPIC",
+            TOP / "tests" / "support" / "refuse.c",
+            "-o",
+            self.library,
+        ]
         subprocess.run(command, check=True)
 
     def run(self, command, refused=None):
         """How a run ended with this growth refused, and how many growths it asked for."""
         (self.folder / "out.img").write_bytes(OLD)
-        place = dict(os.environ, LD_PRELOAD=str(self.library), REFUSE_REPORT=str(self.report), XDG_DATA_HOME=str(self.data))
+        place = dict(
+            os.environ,
+            LD_PRELOAD=str(self.library),
+            REFUSE_REPORT=str(self.report),
+            XDG_DATA_HOME=str(self.data),
+        )
         place.pop("REFUSE", None)
         if refused:
             place["REFUSE"] = str(refused)
-        ended = subprocess.run(command, input=TEXT, env=place, cwd=self.folder, capture_output=True, timeout=60)
+        ended = subprocess.run(
+            command, input=TEXT, env=place, cwd=self.folder, capture_output=True, timeout=60
+        )
         files = {path.name: path.read_bytes() for path in self.folder.iterdir()}
         words = self.report.read_text().split()
         growths = int(words[words.index("growths") + 1])
@@ -78,10 +94,14 @@ def refuse_each(heap, name, arguments):
         if ended == whole:
             gone_on += 1
         elif not is_refusal(name, ended, whole):
-            sys.exit(f"{name} {' '.join(arguments)}: growth {refused} refused: status {ended.status}: {ended.errors.decode()}{sorted(ended.files)}")
+            sys.exit(
+                f"{name} {' '.join(arguments)}: growth {refused} refused: status {ended.status}: {ended.errors.decode()}{sorted(ended.files)}"
+            )
     if gone_on == growths:
         sys.exit(f"{name} {' '.join(arguments)}: no refusal came to it")
-    print(f"{name} {' '.join(arguments)}: growths refused in turn: {growths}, of which {gone_on} went on")
+    print(
+        f"{name} {' '.join(arguments)}: growths refused in turn: {growths}, of which {gone_on} went on"
+    )
 
 
 def main():
@@ -102,15 +122,25 @@ def main():
         heap = Heap(folder)
         (heap.data / "kumquatsieve").mkdir(parents=True)
         for kind in ("system", "user"):
-            (heap.data / "kumquatsieve" / f"{kind}.img").write_bytes((folder / f"{kind}.img").read_bytes())
+            (heap.data / "kumquatsieve" / f"{kind}.img").write_bytes(
+                (folder / f"{kind}.img").read_bytes()
+            )
         refuse_each(heap, "dictc", SYSTEM)
         refuse_each(heap, "dictc", USER)
         refuse_each(heap, "jseg", ["--sample"])
-        refuse_each(heap, "jseg", ["-d", "system.img", "-u", "user.img", "-F", "%m\\t%f[0]\\n", "-E", "%pc\\n"])
+        refuse_each(
+            heap,
+            "jseg",
+            ["-d", "system.img", "-u", "user.img", "-F", "%m\\t%f[0]\\n", "-E", "%pc\\n"],
+        )
         refuse_each(heap, "jseg", ["-d", "system", "-u", "user", "-O", "wakati"])
         refuse_each(heap, "jseg", ["--dictionaries"])
         refuse_each(heap, "jseg", ["--sample", "--lattice", "dot"])
-        refuse_each(heap, "jseg", ["-d", "system.img", "-u", "user.img", "--lattice", "tsv", "--within", "100"])
+        refuse_each(
+            heap,
+            "jseg",
+            ["-d", "system.img", "-u", "user.img", "--lattice", "tsv", "--within", "100"],
+        )
         refuse_each(heap, "jseg", ["-d", "system.img", "-u", "user.img", "--why"])
 
 

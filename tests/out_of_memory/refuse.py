@@ -19,10 +19,22 @@ from support.heap import Heap, left, program_of  # noqa: E402
 
 
 def main():
-    options = argparse.ArgumentParser(description=__doc__, formatter_class=argparse.RawDescriptionHelpFormatter)
+    options = argparse.ArgumentParser(
+        description=__doc__, formatter_class=argparse.RawDescriptionHelpFormatter
+    )
     options.add_argument("--most", type=int, metavar="N", help="refuse the first N growths alone")
-    options.add_argument("--on", type=int, default=0, metavar="N", help="how many refused runs go on with less memory")
-    options.add_argument("--frees", metavar="EMPTY", help="count the blocks that come back too; EMPTY is a test that does nothing")
+    options.add_argument(
+        "--on",
+        type=int,
+        default=0,
+        metavar="N",
+        help="how many refused runs go on with less memory",
+    )
+    options.add_argument(
+        "--frees",
+        metavar="EMPTY",
+        help="count the blocks that come back too; EMPTY is a test that does nothing",
+    )
     options.add_argument("crate")
     options.add_argument("tests", nargs="+", metavar="test", help="a full name, as tests::name")
     chosen = options.parse_args()
@@ -39,7 +51,9 @@ def main():
             if taken == 0:
                 sys.exit(f"{test}: no refusal came to it")
             gone_on += last - taken
-            print(f"{chosen.crate} {test}: growths refused in turn: {last} of {growths}, of which {last - taken} went on")
+            print(
+                f"{chosen.crate} {test}: growths refused in turn: {last} of {growths}, of which {last - taken} went on"
+            )
         if gone_on != chosen.on:
             sys.exit(f"{chosen.crate}: {gone_on} refused runs went on, and not {chosen.on}")
 

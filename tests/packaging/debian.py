@@ -27,7 +27,10 @@ PRINTED = "すもも\t名詞,すもも\nもも\t名詞,もも\nEOS\n"
 WAKATI = "すもも もも \n"
 WITH_USER = "すもも ももも \n"
 IMAGE = "/var/lib/kumquatsieve/sample.img"
-CHOSEN, SHARED = "/var/lib/kumquatsieve/kumquatsieve.img", "/usr/share/kumquatsieve/kumquatsieve.img"
+CHOSEN, SHARED = (
+    "/var/lib/kumquatsieve/kumquatsieve.img",
+    "/usr/share/kumquatsieve/kumquatsieve.img",
+)
 IMAGES = "var/lib/kumquatsieve"
 SOURCES = "usr/share/mecab/dic/unidic"
 left_out = []
@@ -43,7 +46,9 @@ def wanted(what, right, got):
 
 
 def name_of(package):
-    return subprocess.run(["dpkg-deb", "-f", package, "Package"], capture_output=True, text=True, check=True).stdout.strip()
+    return subprocess.run(
+        ["dpkg-deb", "-f", package, "Package"], capture_output=True, text=True, check=True
+    ).stdout.strip()
 
 
 def leave_out(name, why):
@@ -57,15 +62,25 @@ def leave_out(name, why):
 def check_programs(root):
     """The sample is compiled and imported, and a line cut, also with a user dictionary."""
     shutil.copytree(TOP / "examples" / "sample", root.folder / "sources")
-    sources = [word for name in ("matrix", "char", "unk") for word in (f"--{name}", f"/sources/{name}.def")]
+    sources = [
+        word for name in ("matrix", "char", "unk") for word in (f"--{name}", f"/sources/{name}.def")
+    ]
     root.run("dictc", "system", *sources, "--out", IMAGE, "/sources/lexicon.csv")
     for program in ("jseg", "kumquatsieve-cut"):
         wanted(program, WAKATI, root.run(program, "-d", IMAGE, "-O", "wakati", text=LINE))
     (root.folder / "sources" / "user").write_text("ももも,1,1,1,名詞,ももも\n")
     root.run("dictc", "user", "--dic", IMAGE, "--out", "/tmp/user.img", "/sources/user")
-    wanted("jseg -u", WITH_USER, root.run("jseg", "-d", IMAGE, "-u", "/tmp/user.img", "-O", "wakati", text="すももももも\n"))
+    wanted(
+        "jseg -u",
+        WITH_USER,
+        root.run("jseg", "-d", IMAGE, "-u", "/tmp/user.img", "-O", "wakati", text="すももももも\n"),
+    )
     root.run("kumquatsieve-import", "/sources", "/tmp/imported.img")
-    wanted("jseg over what was imported", PRINTED, root.run("jseg", "-d", "/tmp/imported.img", text=LINE))
+    wanted(
+        "jseg over what was imported",
+        PRINTED,
+        root.run("jseg", "-d", "/tmp/imported.img", text=LINE),
+    )
     with proc_mounted(root) as has_proc:
         check_names(root, has_proc)
     check_completion(root)
@@ -74,9 +89,15 @@ def check_programs(root):
 def check_completion(root):
     """bash finds what completes each program by the program's name, and zsh by the names in the first line."""
     for name in ("jseg", "dictc", "kumquatsieve-cut", "kumquatsieve-import"):
-        root.run("bash", "-c", f". /usr/share/bash-completion/completions/{name} && complete -p {name}")
+        root.run(
+            "bash", "-c", f". /usr/share/bash-completion/completions/{name} && complete -p {name}"
+        )
     file = root.folder / "usr/share/zsh/vendor-completions/_kumquatsieve"
-    wanted("what zsh completes", "#compdef jseg dictc kumquatsieve-cut kumquatsieve-import", file.read_text().split("\n")[0])
+    wanted(
+        "what zsh completes",
+        "#compdef jseg dictc kumquatsieve-cut kumquatsieve-import",
+        file.read_text().split("\n")[0],
+    )
 
 
 @contextmanager
@@ -103,7 +124,9 @@ def check_names(root, has_proc):
     """Images by their names: one that stands there, and one that is imported."""
     wanted("jseg -d sample", PRINTED, root.run("jseg", "-d", "sample", text=LINE))
     size = (root.folder / IMAGES / "sample.img").stat().st_size
-    wanted("jseg --dictionaries", f"sample\t{size}\t3\t{IMAGE}\n", root.run("jseg", "--dictionaries"))
+    wanted(
+        "jseg --dictionaries", f"sample\t{size}\t3\t{IMAGE}\n", root.run("jseg", "--dictionaries")
+    )
     folder = root.folder / SOURCES
     made = [parent for parent in folder.parents if not parent.exists()]
     shutil.copytree(TOP / "examples" / "sample", folder)
@@ -125,12 +148,24 @@ def check_c(root):
     flags = root.run("pkg-config", "--cflags", "--libs", "kumquatsieve").split()
     root.run("gcc", "/usr/share/doc/libkumquatsieve-dev/examples/cut.c", *flags, "-o", "/tmp/cut")
     wanted("the example in C", PRINTED, root.run("/tmp/cut", IMAGE, text=LINE))
-    root.run("gcc", "/usr/share/doc/libkumquatsieve-dev/examples/cut.c", "-l:libkumquatsieve.a", "-o", "/tmp/cut")
+    root.run(
+        "gcc",
+        "/usr/share/doc/libkumquatsieve-dev/examples/cut.c",
+        "-l:libkumquatsieve.a",
+        "-o",
+        "/tmp/cut",
+    )
     wanted("the example in C over the archive", PRINTED, root.run("/tmp/cut", IMAGE, text=LINE))
 
 
 def check_python(root):
-    wanted("the example in Python", PRINTED, root.run("python3", "/usr/share/doc/python3-kumquatsieve/examples/cut.py", IMAGE, text=LINE))
+    wanted(
+        "the example in Python",
+        PRINTED,
+        root.run(
+            "python3", "/usr/share/doc/python3-kumquatsieve/examples/cut.py", IMAGE, text=LINE
+        ),
+    )
     version = "import importlib.metadata, kumquatsieve; print(importlib.metadata.version('kumquatsieve') == kumquatsieve.__version__)"
     wanted("the version of the dist-info", "True\n", root.run("python3", "-c", version))
 
@@ -159,9 +194,15 @@ def cut_by_mecab(root):
 
 def check_libmecab(root):
     """Nothing changes before a user chooses; then the choice stays until another one is made, also where ldconfig runs."""
-    query = [name for name in root.run("update-alternatives", "--get-selections").split() if name.startswith("libmecab.so.2-")]
+    query = [
+        name
+        for name in root.run("update-alternatives", "--get-selections").split()
+        if name.startswith("libmecab.so.2-")
+    ]
     folder = Path("/usr/lib", query[0].removeprefix("libmecab.so.2-"))
-    theirs, ours = root.run("readlink", "-f", str(folder / "libmecab.so.2")).strip(), str(folder / "kumquatsieve" / "mecab" / "libmecab.so.2")
+    theirs, ours = root.run("readlink", "-f", str(folder / "libmecab.so.2")).strip(), str(
+        folder / "kumquatsieve" / "mecab" / "libmecab.so.2"
+    )
     wanted("libmecab.so.2 as installed", theirs, library_of(root, "/usr/bin/mecab"))
     wanted("libmecab.so as installed", theirs, opened_library(root))
     root.run("update-alternatives", "--set", query[0], ours)
@@ -192,17 +233,27 @@ def check_system_settings(root):
 
 def check_switch(root, theirs, ours):
     """The switch is refused without an image; with one a program needs no variable."""
-    refused = subprocess.run(["chroot", root.folder, "kumquatsieve-libmecab", "on"], capture_output=True, text=True)
+    refused = subprocess.run(
+        ["chroot", root.folder, "kumquatsieve-libmecab", "on"], capture_output=True, text=True
+    )
     if refused.returncode != 3 or f"kumquatsieve-import ipadic {CHOSEN}" not in refused.stderr:
-        fail(f"kumquatsieve-libmecab on without an image: status {refused.returncode}, {refused.stderr!r}")
+        fail(
+            f"kumquatsieve-libmecab on without an image: status {refused.returncode}, {refused.stderr!r}"
+        )
     for image in (CHOSEN, SHARED):
         root.run("mkdir", "-p", str(Path(image).parent))
         root.run("cp", IMAGE, image)
         root.run("kumquatsieve-libmecab", "on")
-        wanted(f"libmecab.so.2 after `on` with {image}", ours, root.run("kumquatsieve-libmecab", "status").strip())
+        wanted(
+            f"libmecab.so.2 after `on` with {image}",
+            ours,
+            root.run("kumquatsieve-libmecab", "status").strip(),
+        )
         wanted(f"mecab after `on` with {image}", PRINTED, root.run("mecab", text=LINE))
         root.run("kumquatsieve-libmecab", "off")
-        wanted("libmecab.so.2 after `off`", theirs, root.run("kumquatsieve-libmecab", "status").strip())
+        wanted(
+            "libmecab.so.2 after `off`", theirs, root.run("kumquatsieve-libmecab", "status").strip()
+        )
         root.run("rm", image)
     root.run("rmdir", str(Path(SHARED).parent))
 
@@ -214,18 +265,35 @@ def check_readers(root, theirs, ours):
     (root.folder / "sources/pos-id.def").write_text("名詞 1\n")
     root.run("sh", "-c", f"umask 077 && kumquatsieve-import /sources {CHOSEN}")
     stem, folder = CHOSEN.removesuffix(".img"), str(Path(CHOSEN).parent)
-    for path, mode, letter in ((CHOSEN, 0o600, "r"), (f"{stem}.dicrc", 0o640, "r"), (f"{stem}.pos-id.def", 0o600, "r"), (folder, 0o750, "x")):
+    for path, mode, letter in (
+        (CHOSEN, 0o600, "r"),
+        (f"{stem}.dicrc", 0o640, "r"),
+        (f"{stem}.pos-id.def", 0o600, "r"),
+        (folder, 0o750, "x"),
+    ):
         place = root.folder / path[1:]
         before = place.stat().st_mode
         place.chmod(mode)
-        refused = subprocess.run(["chroot", root.folder, "kumquatsieve-libmecab", "on"], capture_output=True, text=True)
+        refused = subprocess.run(
+            ["chroot", root.folder, "kumquatsieve-libmecab", "on"], capture_output=True, text=True
+        )
         if refused.returncode != 1 or not refused.stderr.endswith(f": chmod a+{letter} {path}\n"):
-            fail(f"kumquatsieve-libmecab on with {path} of mode {mode:o}: status {refused.returncode}, {refused.stderr!r}")
-        wanted("libmecab.so.2 after a refused `on`", theirs, root.run("kumquatsieve-libmecab", "status").strip())
+            fail(
+                f"kumquatsieve-libmecab on with {path} of mode {mode:o}: status {refused.returncode}, {refused.stderr!r}"
+            )
+        wanted(
+            "libmecab.so.2 after a refused `on`",
+            theirs,
+            root.run("kumquatsieve-libmecab", "status").strip(),
+        )
         place.chmod(before)
     root.run("kumquatsieve-libmecab", "on")
     wanted("libmecab.so.2 after `on`", ours, root.run("kumquatsieve-libmecab", "status").strip())
-    wanted("mecab of another user", PRINTED, root.run("setpriv", "--reuid=65534", "--regid=65534", "--clear-groups", "mecab", text=LINE))
+    wanted(
+        "mecab of another user",
+        PRINTED,
+        root.run("setpriv", "--reuid=65534", "--regid=65534", "--clear-groups", "mecab", text=LINE),
+    )
     root.run("kumquatsieve-libmecab", "off")
     endings = ("dicrc", "pos-id.def", "tested")
     root.run("rm", "-f", CHOSEN, *(f"{stem}.{ending}" for ending in endings))
@@ -237,7 +305,17 @@ def check_mecabs_tools(root):
     (root.folder / "sources" / "left-id.def").write_text("0 BOS/EOS\n1 名詞\n")
     shutil.copy(root.folder / "sources" / "left-id.def", root.folder / "sources" / "right-id.def")
     root.run("mkdir", "-p", "/tmp/compiled")
-    root.run("/usr/lib/mecab/mecab-dict-index", "-d", "/sources", "-o", "/tmp/compiled", "-f", "UTF-8", "-t", "UTF-8")
+    root.run(
+        "/usr/lib/mecab/mecab-dict-index",
+        "-d",
+        "/sources",
+        "-o",
+        "/tmp/compiled",
+        "-f",
+        "UTF-8",
+        "-t",
+        "UTF-8",
+    )
     if not (root.folder / "tmp/compiled/sys.dic").exists():
         fail("mecab-dict-index over libmecab.so.2 as chosen: no sys.dic")
 
@@ -273,8 +351,14 @@ def prepare(root, packages):
 
 
 def main(packages):
-    if shutil.which("dpkg") is None or subprocess.run(["chroot", "/", "true"], stderr=subprocess.DEVNULL).returncode != 0:
-        print("package: dpkg is not there, or the root folder may not be changed here: nothing was checked", file=sys.stderr)
+    if (
+        shutil.which("dpkg") is None
+        or subprocess.run(["chroot", "/", "true"], stderr=subprocess.DEVNULL).returncode != 0
+    ):
+        print(
+            "package: dpkg is not there, or the root folder may not be changed here: nothing was checked",
+            file=sys.stderr,
+        )
         sys.exit(77)
     with tempfile.TemporaryDirectory() as folder:
         # Another user runs a program in it too.
@@ -316,7 +400,9 @@ def purge_programs(root, theirs):
 
 
 def nothing_changed(what, after, before):
-    changed = [path for path in sorted(before.keys() | after.keys()) if before.get(path) != after.get(path)]
+    changed = [
+        path for path in sorted(before.keys() | after.keys()) if before.get(path) != after.get(path)
+    ]
     if changed:
         fail(f"after {what} these differ: {' '.join(changed)}")
 

@@ -20,22 +20,35 @@ PLACE = {"PATH": "/usr/sbin:/usr/bin:/sbin:/bin", "LC_ALL": "C.UTF-8"}
 def installed():
     """What is installed here: the name by which dpkg keeps each package's files, and the names that it depends on."""
     form = "${Package}\t${binary:Package}\t${db:Status-Abbrev}\t${Provides}\t${Pre-Depends}, ${Depends}\n"
-    told = subprocess.run(["dpkg-query", "-W", "-f", form], capture_output=True, text=True, check=True).stdout
+    told = subprocess.run(
+        ["dpkg-query", "-W", "-f", form], capture_output=True, text=True, check=True
+    ).stdout
     kept, needs = {}, {}
     for line in told.splitlines():
         name, full, status, provided, wanted = line.split("\t")
         if not status.startswith("ii") or name in needs:
             continue
-        needs[name] = [[re.split(r"[ (:]", choice.strip())[0] for choice in one.split("|")] for one in wanted.split(",") if one.strip()]
+        needs[name] = [
+            [re.split(r"[ (:]", choice.strip())[0] for choice in one.split("|")]
+            for one in wanted.split(",")
+            if one.strip()
+        ]
         kept[name] = full
-        for other in filter(None, (re.split(r"[ (]", one.strip())[0] for one in provided.split(","))):
+        for other in filter(
+            None, (re.split(r"[ (]", one.strip())[0] for one in provided.split(","))
+        ):
             kept.setdefault(other, full)
     return kept, needs
 
 
 def essential():
     """The packages that every Debian has."""
-    told = subprocess.run(["dpkg-query", "-W", "-f", "${Package}\t${Essential}\n"], capture_output=True, text=True, check=True).stdout
+    told = subprocess.run(
+        ["dpkg-query", "-W", "-f", "${Package}\t${Essential}\n"],
+        capture_output=True,
+        text=True,
+        check=True,
+    ).stdout
     return [line.partition("\t")[0] for line in told.splitlines() if line.endswith("\tyes")]
 
 
@@ -49,7 +62,10 @@ def with_needs(names, kept, needs):
         real = kept[name].partition(":")[0]
         if real not in found:
             found.add(real)
-            rest += [next((choice for choice in choices if choice in kept), choices[0]) for choices in needs[real]]
+            rest += [
+                next((choice for choice in choices if choice in kept), choices[0])
+                for choices in needs[real]
+            ]
     return found
 
 
@@ -64,9 +80,22 @@ class Root:
             if Path("/", name).is_symlink():
                 (folder / "usr" / name).mkdir(parents=True)
                 (folder / name).symlink_to(os.readlink(f"/{name}"))
-        for name in ("tmp", "dev", "etc/alternatives", "var/log", "var/lib/dpkg/info", "var/lib/dpkg/updates", "var/lib/dpkg/triggers"):
+        for name in (
+            "tmp",
+            "dev",
+            "etc/alternatives",
+            "var/log",
+            "var/lib/dpkg/info",
+            "var/lib/dpkg/updates",
+            "var/lib/dpkg/triggers",
+        ):
             (folder / name).mkdir(parents=True)
-        for name in ("dev/null", "var/lib/dpkg/status", "var/lib/dpkg/available", "var/lib/dpkg/triggers/File"):
+        for name in (
+            "dev/null",
+            "var/lib/dpkg/status",
+            "var/lib/dpkg/available",
+            "var/lib/dpkg/triggers/File",
+        ):
             (folder / name).touch()
         (folder / "var/lib/dpkg/triggers/ldconfig").write_text("libc-bin\n")
         shutil.copy(INFO / "format", folder / "var/lib/dpkg/info")
@@ -84,11 +113,20 @@ class Root:
 
     def copy(self, full):
         listed = (INFO / f"{full}.list").read_text().splitlines()
-        paths = [path for path in listed if path != "/." and not path.startswith(UNWANTED) and os.path.lexists(path)]
+        paths = [
+            path
+            for path in listed
+            if path != "/." and not path.startswith(UNWANTED) and os.path.lexists(path)
+        ]
         packed = subprocess.Popen(
-            ["tar", "-C", "/", "--no-recursion", "-cf", "-", "-T", "-"], stdin=subprocess.PIPE, stdout=subprocess.PIPE, text=False
+            ["tar", "-C", "/", "--no-recursion", "-cf", "-", "-T", "-"],
+            stdin=subprocess.PIPE,
+            stdout=subprocess.PIPE,
+            text=False,
         )
-        unpacked = subprocess.Popen(["tar", "-C", self.folder, "--keep-directory-symlink", "-xf", "-"], stdin=packed.stdout)
+        unpacked = subprocess.Popen(
+            ["tar", "-C", self.folder, "--keep-directory-symlink", "-xf", "-"], stdin=packed.stdout
+        )
         packed.stdout.close()
         packed.stdin.write("".join(f".{path}\n" for path in paths).encode())
         packed.stdin.close()
@@ -96,20 +134,33 @@ class Root:
             sys.exit(f"root: {full} can't be copied")
         for path in INFO.glob(f"{full}.*"):
             shutil.copy(path, self.folder / "var/lib/dpkg/info")
-        told = subprocess.run(["dpkg-query", "-s", full], capture_output=True, text=True, check=True).stdout
+        told = subprocess.run(
+            ["dpkg-query", "-s", full], capture_output=True, text=True, check=True
+        ).stdout
         with open(self.folder / "var/lib/dpkg/status", "a") as status:
             status.write(told.rstrip("\n") + "\n\n")
 
     def dpkg(self, *words):
-        return subprocess.run(["dpkg", f"--root={self.folder}", *map(str, words)], env=PLACE, stdout=subprocess.PIPE, stderr=subprocess.STDOUT)
+        return subprocess.run(
+            ["dpkg", f"--root={self.folder}", *map(str, words)],
+            env=PLACE,
+            stdout=subprocess.PIPE,
+            stderr=subprocess.STDOUT,
+        )
 
     def run(self, *words, text="", **variables):
         """What a command prints there; where it fails this script ends."""
         done = subprocess.run(
-            ["chroot", self.folder, *words], input=text.encode(), stdout=subprocess.PIPE, stderr=subprocess.STDOUT, env={**PLACE, **variables}
+            ["chroot", self.folder, *words],
+            input=text.encode(),
+            stdout=subprocess.PIPE,
+            stderr=subprocess.STDOUT,
+            env={**PLACE, **variables},
         )
         if done.returncode != 0:
-            sys.exit(f"root: {' '.join(words)}: status {done.returncode}\n{done.stdout.decode(errors='replace')}")
+            sys.exit(
+                f"root: {' '.join(words)}: status {done.returncode}\n{done.stdout.decode(errors='replace')}"
+            )
         return done.stdout.decode()
 
     def state(self):
@@ -119,6 +170,14 @@ class Root:
             for name in folders + names:
                 path = Path(folder, name)
                 place = str(path.relative_to(self.folder))
-                if not (place + "/").startswith(OWN) and ("__pycache__" not in place or "kumquatsieve" in place):
-                    found[place] = os.readlink(path) if path.is_symlink() else 0 if path.is_dir() else path.stat().st_size
+                if not (place + "/").startswith(OWN) and (
+                    "__pycache__" not in place or "kumquatsieve" in place
+                ):
+                    found[place] = (
+                        os.readlink(path)
+                        if path.is_symlink()
+                        else 0
+                        if path.is_dir()
+                        else path.stat().st_size
+                    )
         return found

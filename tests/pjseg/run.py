@@ -56,19 +56,30 @@ class Place:
         self.folder = folder
         self.jseg, self.dictc = options.jseg, options.dictc
         self.cut = options.program or self.built(options.built)
-        self.image, self.user, self.long = (folder / f"{name}.img" for name in ("system", "user", "long"))
+        self.image, self.user, self.long = (
+            folder / f"{name}.img" for name in ("system", "user", "long")
+        )
         self.compile(self.image, SAMPLE / "lexicon.csv")
         (folder / "long.csv").write_text(long_outputs.LEXICON)
         self.compile(self.long, folder / "long.csv")
         (folder / "user.csv").write_text(USER)
         run([self.dictc, "user", "--dic", self.image, "--out", self.user, folder / "user.csv"])
-        self.images = {"SYSTEM": self.image, "USER": self.user, "DAMAGED": self.damaged(self.image), "DAMAGED USER": self.damaged(self.user)}
+        self.images = {
+            "SYSTEM": self.image,
+            "USER": self.user,
+            "DAMAGED": self.damaged(self.image),
+            "DAMAGED USER": self.damaged(self.user),
+        }
         self.failing, self.refusing = (self.preloaded(name) for name in ("fail", "refuse"))
         self.named = self.with_names()
 
     def compile(self, image, lexicon):
         """Makes an image of a lexicon with the other sources of the sample."""
-        sources = [word for name in ("matrix", "char", "unk") for word in (f"--{name}", SAMPLE / f"{name}.def")]
+        sources = [
+            word
+            for name in ("matrix", "char", "unk")
+            for word in (f"--{name}", SAMPLE / f"{name}.def")
+        ]
         run([self.dictc, "system", *sources, "--out", image, lexicon])
 
     def with_names(self):
@@ -87,20 +98,40 @@ class Place:
         return path
 
     def built(self, archive):
-        run([TOP / "packaging/build-library", *(["--built"] if archive else []), self.folder / "prefix"])
+        run(
+            [
+                TOP / "packaging/build-library",
+                *(["--built"] if archive else []),
+                self.folder / "prefix",
+            ]
+        )
         run([TOP / "packaging/build-pjseg", self.folder / "prefix"])
         return self.folder / "prefix" / "bin" / NAME
 
     def preloaded(self, name):
         library = self.folder / f"{name}.so"
-        run(["gcc", "-std=c11", "-O2", "-shared", "-fPIC", TOP / "tests" / "support" / f"{name}.c", "-o", library])
+        run(
+            [
+                "gcc",
+                "-std=c11",
+                "-O2",
+                "-shared",
+                "-fPIC",
+                TOP / "tests" / "support" / f"{name}.c",
+                "-o",
+                library,
+            ]
+        )
         return library
 
     def sanitized(self):
         """The program with ThreadSanitizer in it."""
         prefix = self.folder / "sanitized"
         shutil.copytree(self.folder / "prefix", prefix)
-        run([TOP / "packaging/build-pjseg", prefix], env=dict(os.environ, CFLAGS="-O1 -g -fsanitize=thread", CPPFLAGS=""))
+        run(
+            [TOP / "packaging/build-pjseg", prefix],
+            env=dict(os.environ, CFLAGS="-O1 -g -fsanitize=thread", CPPFLAGS=""),
+        )
         return prefix / "bin" / NAME
 
     def text(self, text):
@@ -110,26 +141,50 @@ class Place:
 
     def outcome(self, words, row, text):
         """Status, standard output, and standard error without the program's name."""
-        place = {**os.environ, **({"LD_PRELOAD": str(self.failing)} if row.place else {}), **row.place}
+        place = {
+            **os.environ,
+            **({"LD_PRELOAD": str(self.failing)} if row.place else {}),
+            **row.place,
+        }
         with open(text, "rb") as reading, row.output(self.folder) as writing:
             source = os.open(self.folder, os.O_RDONLY) if row.is_directory else reading
-            done = subprocess.run(words, stdin=source, stdout=writing, stderr=subprocess.PIPE, env=place, preexec_fn=row.begin,
-                restore_signals=not row.most, timeout=SECONDS)
+            done = subprocess.run(
+                words,
+                stdin=source,
+                stdout=writing,
+                stderr=subprocess.PIPE,
+                env=place,
+                preexec_fn=row.begin,
+                restore_signals=not row.most,
+                timeout=SECONDS,
+            )
             if row.is_directory:
                 os.close(source)
-            return done.returncode, row.written(writing), done.stderr.replace(Path(words[0]).name.encode(), b"", 1)
+            return (
+                done.returncode,
+                row.written(writing),
+                done.stderr.replace(Path(words[0]).name.encode(), b"", 1),
+            )
 
     def compare(self, row, text, jobs):
         """Whether the program does what jseg does, with each number of threads."""
-        words = ["-d", self.images[row.image], *(self.images.get(word, word) for word in row.options)]
+        words = [
+            "-d",
+            self.images[row.image],
+            *(self.images.get(word, word) for word in row.options),
+        ]
         wanted = self.outcome([self.jseg, *row.jseg, *words], row, text)
         for job in jobs:
             got = self.outcome([self.cut, "-j", str(job), *row.cut, *words], row, text)
             if got != wanted:
                 shown = [(status, len(out), told) for status, out, told in (got, wanted)]
-                fail(f"{row.what}, {job} threads: status, bytes and fault are {shown[0]}, and of jseg {shown[1]}")
+                fail(
+                    f"{row.what}, {job} threads: status, bytes and fault are {shown[0]}, and of jseg {shown[1]}"
+                )
         if wanted[0] != row.status or row.told.encode() not in wanted[2]:
-            fail(f"{row.what}: status {wanted[0]} of jseg, and not {row.status}, or not {row.told}: {wanted[2]}")
+            fail(
+                f"{row.what}: status {wanted[0]} of jseg, and not {row.status}, or not {row.told}: {wanted[2]}"
+            )
         return wanted
 
 
@@ -138,7 +193,10 @@ def check_formats(place, text):
         status, out, told = place.compare(row, text, JOBS)
         if status != 0 or told or not out:
             fail(f"{row.what}: shows nothing: {told}")
-        print(f"cut-lines: {row.what}: {len(out)} bytes with 1 to {JOBS[-1]} threads, as of jseg", flush=True)
+        print(
+            f"cut-lines: {row.what}: {len(out)} bytes with 1 to {JOBS[-1]} threads, as of jseg",
+            flush=True,
+        )
 
 
 def check_images(place, text):
@@ -154,12 +212,17 @@ def check_rows(place, text):
     path = place.text(text)
     for row in (*INPUTS, *OUTPUTS):
         place.compare(row, path, (1, 4))
-    print(f"cut-lines: {len(TEXTS)} texts, {len(INPUTS)} inputs and {len(OUTPUTS)} outputs end as with jseg", flush=True)
+    print(
+        f"cut-lines: {len(TEXTS)} texts, {len(INPUTS)} inputs and {len(OUTPUTS)} outputs end as with jseg",
+        flush=True,
+    )
 
 
 def ended_by_itself(words, text, written):
     """Whether a program ends after a text, though its input stays open."""
-    process = subprocess.Popen(words, stdin=subprocess.PIPE, stdout=subprocess.PIPE, stderr=subprocess.PIPE)
+    process = subprocess.Popen(
+        words, stdin=subprocess.PIPE, stdout=subprocess.PIPE, stderr=subprocess.PIPE
+    )
     feeding = threading.Thread(target=feed, args=(process.stdin, text))
     feeding.start()
     reading = threading.Thread(target=lambda: written.append(process.stdout.read()))
@@ -196,9 +259,16 @@ def check_open_input(place, text):
         status, told = ended_by_itself([place.cut, "-d", place.image, "-j", str(job)], bad, written)
         if (status, told.decode()) != (1, f"{NAME}: line {line}: G3 NotUtf8\n"):
             fail(f"a fault before an open input, {job} threads: status {status}, {told!r}")
-        wanted = subprocess.run([place.jseg, "-d", place.image], input=bad, stdout=subprocess.PIPE, stderr=subprocess.DEVNULL).stdout
+        wanted = subprocess.run(
+            [place.jseg, "-d", place.image],
+            input=bad,
+            stdout=subprocess.PIPE,
+            stderr=subprocess.DEVNULL,
+        ).stdout
         if written[0] != wanted:
-            fail(f"a fault before an open input, {job} threads: {len(written[0])} bytes, and of jseg {len(wanted)}")
+            fail(
+                f"a fault before an open input, {job} threads: {len(written[0])} bytes, and of jseg {len(wanted)}"
+            )
     print("cut-lines: a fault ends a run whose input stays open")
 
 
@@ -209,14 +279,24 @@ def check_leaving_reader(place, text):
         wanted = run([place.jseg, "-d", place.image], stdin=reading)
     for job in (1, 4):
         with open(path, "rb") as reading:
-            process = subprocess.Popen([place.cut, "-d", place.image, "-j", str(job)], stdin=reading, stdout=subprocess.PIPE, stderr=subprocess.PIPE)
+            process = subprocess.Popen(
+                [place.cut, "-d", place.image, "-j", str(job)],
+                stdin=reading,
+                stdout=subprocess.PIPE,
+                stderr=subprocess.PIPE,
+            )
             front = process.stdout.read(least)
             process.stdout.close()
             told = process.stderr.read().decode()
             process.stderr.close()
             status = process.wait(SECONDS)
         found = re.fullmatch(f"{NAME}: G2 Write ([0-9]+)\n", told)
-        if status != 3 or not found or not least <= int(found[1]) < len(wanted) or front != wanted[:least]:
+        if (
+            status != 3
+            or not found
+            or not least <= int(found[1]) < len(wanted)
+            or front != wanted[:least]
+        ):
             fail(f"a reader that leaves, {job} threads: status {status}, {told!r}")
     print("cut-lines: a reader that leaves ends a run")
 
@@ -224,8 +304,14 @@ def check_leaving_reader(place, text):
 def check_memory(place, text):
     """A text that is four times as long takes no more memory, once it has more pieces than there are places; nor does a line of 200 MB."""
     peaks = {}
-    for what, bytes in (("15 MB", text * 3), ("60 MB", text * 12), ("a line of 200 MB", b"a" * 200_000_000)):
-        peaks[what] = long_outputs.peak([place.cut, "-d", place.image, "-j", "6"], place.text(bytes))
+    for what, bytes in (
+        ("15 MB", text * 3),
+        ("60 MB", text * 12),
+        ("a line of 200 MB", b"a" * 200_000_000),
+    ):
+        peaks[what] = long_outputs.peak(
+            [place.cut, "-d", place.image, "-j", "6"], place.text(bytes)
+        )
     told = ", ".join(f"{kilobytes} kB for {what}" for what, kilobytes in peaks.items())
     if max(peaks.values()) > long_outputs.most_memory(6):
         fail(f"memory of 6 threads: {told}, and not {long_outputs.most_memory(6)} kB at most")
@@ -236,7 +322,9 @@ def check_long_outputs(place):
     found = list(long_outputs.faults(place.cut, place.jseg, place.long, place.folder / "text"))
     if found:
         fail("\n".join(found))
-    print("cut-lines: lines that print much take a bounded memory, with 1 and 4 threads", flush=True)
+    print(
+        "cut-lines: lines that print much take a bounded memory, with 1 and 4 threads", flush=True
+    )
 
 
 def check_terminals(place):
@@ -244,23 +332,36 @@ def check_terminals(place):
     found = [*faults_of_warnings(words, path), *faults_of_progress(words, path)]
     if found:
         fail("\n".join(found))
-    print("cut-lines: warnings and progress are printed on a terminal, and nowhere else", flush=True)
+    print(
+        "cut-lines: warnings and progress are printed on a terminal, and nowhere else", flush=True
+    )
 
 
 def check_threads(place, text, sanitized):
     """Fewer threads serve where some can't be made, which -v says; nothing is left under valgrind, and no race is found."""
     few = dict(os.environ, LD_PRELOAD=str(place.failing), FAIL="pthread_create", FAIL_AFTER="2")
-    done = subprocess.run([place.cut, "-d", place.image, "-j", "8", "-v"], input=text, capture_output=True, env=few)
+    done = subprocess.run(
+        [place.cut, "-d", place.image, "-j", "8", "-v"], input=text, capture_output=True, env=few
+    )
     wanted = run([place.jseg, "-d", place.image], input=text)
     if done.stdout != wanted or b" 3 of 8 threads\n" not in done.stderr:
         fail(f"with 3 of 8 threads: {done.stderr}")
     short = text[: 5 << 19].rsplit(b"\n", 1)[0]
     wanted = run([place.jseg, "-d", place.image], input=short)
     for job in ("1", "4"):
-        if run([*VALGRIND, place.cut, "-d", place.image, "-u", place.user, "-j", job], input=short) == wanted:
+        if (
+            run([*VALGRIND, place.cut, "-d", place.image, "-u", place.user, "-j", job], input=short)
+            == wanted
+        ):
             fail("the user dictionary shows nothing")
-    nowhere = subprocess.run([*VALGRIND, place.cut, "-v", "-d", "nowhere"], capture_output=True, env=place.named)
-    if nowhere.returncode != 3 or b"images there: " not in nowhere.stderr or b"system, user" not in nowhere.stderr:
+    nowhere = subprocess.run(
+        [*VALGRIND, place.cut, "-v", "-d", "nowhere"], capture_output=True, env=place.named
+    )
+    if (
+        nowhere.returncode != 3
+        or b"images there: " not in nowhere.stderr
+        or b"system, user" not in nowhere.stderr
+    ):
         fail(f"an image that is nowhere: status {nowhere.returncode}, {nowhere.stderr}")
     print("cut-lines: fewer threads serve; valgrind: no error and no block left", flush=True)
     if sanitized:
@@ -271,7 +372,14 @@ def check_races(place, sanitized, text):
     """No race is found, also where threads wait since they may keep no more of the output."""
     for image, text in ((place.image, text), (place.long, long_outputs.SHORTER)):
         wanted = run([place.jseg, "-d", image], input=text)
-        if run([sanitized, "-d", image, "-j", "4"], input=text, env=dict(os.environ, TSAN_OPTIONS="exitcode=9")) != wanted:
+        if (
+            run(
+                [sanitized, "-d", image, "-j", "4"],
+                input=text,
+                env=dict(os.environ, TSAN_OPTIONS="exitcode=9"),
+            )
+            != wanted
+        ):
             fail("another output with ThreadSanitizer")
     print("cut-lines: ThreadSanitizer: no race of 4 threads", flush=True)
 
@@ -286,11 +394,21 @@ def check_refused_memory(place, text):
         wanted = run(words, input=short, env=heap)
         growths = int(re.search("growths ([0-9]+)", report.read_text())[1])
         for number in range(1, growths + 1):
-            done = subprocess.run(words, input=short, capture_output=True, env={**heap, "REFUSE": str(number)}, timeout=SECONDS)
+            done = subprocess.run(
+                words,
+                input=short,
+                capture_output=True,
+                env={**heap, "REFUSE": str(number)},
+                timeout=SECONDS,
+            )
             is_whole = done.returncode == 0 and done.stdout == wanted and not done.stderr
             is_front = wanted.startswith(done.stdout) and done.stdout[-4:] in (b"", b"EOS\n")
-            if not is_whole and (done.returncode != 4 or done.stderr != f"{NAME}: Memory\n".encode() or not is_front):
-                fail(f"growth {number} refused, {job} threads: status {done.returncode}, {len(done.stdout)} bytes, {done.stderr!r}")
+            if not is_whole and (
+                done.returncode != 4 or done.stderr != f"{NAME}: Memory\n".encode() or not is_front
+            ):
+                fail(
+                    f"growth {number} refused, {job} threads: status {done.returncode}, {len(done.stdout)} bytes, {done.stderr!r}"
+                )
             refused += not is_whole
     print(f"cut-lines: {refused} refused growths end a run with Memory", flush=True)
 
@@ -302,8 +420,12 @@ def check_asked(place):
 
 
 def chosen():
-    options = argparse.ArgumentParser(description=__doc__, formatter_class=argparse.RawDescriptionHelpFormatter)
-    options.add_argument("--built", action="store_true", help="take the archive that stands in crates/cutter_c/out")
+    options = argparse.ArgumentParser(
+        description=__doc__, formatter_class=argparse.RawDescriptionHelpFormatter
+    )
+    options.add_argument(
+        "--built", action="store_true", help="take the archive that stands in crates/cutter_c/out"
+    )
     options.add_argument("--program", type=Path, help="look at this program")
     options.add_argument("--dictc", type=Path, default=CRATES / "dictc" / "out" / "dictc")
     options.add_argument("--jseg", type=Path, default=CRATES / "jseg" / "out" / "jseg")

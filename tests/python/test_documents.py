@@ -44,7 +44,11 @@ ROWS = {
     ),
     "gzip.open": (corpus, lambda given, seen, folder: seen, JOINED),
     "writelines": (corpus, printed, "もも\t名詞,もも\nEOS\nEOS\nすもも\t名詞,すもも\nもも\t名詞,もも\nEOS\n"),
-    "dropna": (frame_of_pandas, lambda given, seen, folder: list(given["frame"]["words"].fillna("none")), ["もも", "none", "すもも もも"]),
+    "dropna": (
+        frame_of_pandas,
+        lambda given, seen, folder: list(given["frame"]["words"].fillna("none")),
+        ["もも", "none", "すもも もも"],
+    ),
 }
 
 
@@ -64,7 +68,7 @@ def test_each_block_is_that_of_a_row():
 
 @pytest.mark.parametrize("mark", ROWS)
 def test_a_block_does_what_it_says(system, tmp_path, monkeypatch, mark):
-    block, = (block for block in BLOCKS if mark in block)
+    (block,) = (block for block in BLOCKS if mark in block)
     given_in, look, wanted = ROWS[mark]
     monkeypatch.chdir(tmp_path)
     seen = []

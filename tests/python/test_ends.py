@@ -64,7 +64,9 @@ def test_with_closes_where_a_fault_leaves_it(system):
 def test_close_waits_for_the_calls_that_run(system, call):
     """While they do, this thread runs too."""
     cutter, done = Cutter(system, format=Format("%m", eos="")), []
-    threads = [begun(lambda: done.append("".join(call(cutter, LONG)).replace(" ", ""))) for _ in range(2)]
+    threads = [
+        begun(lambda: done.append("".join(call(cutter, LONG)).replace(" ", ""))) for _ in range(2)
+    ]
     assert len(cutter._handles.running()) == 2
     cutter.close()
     assert cutter._handles.running() == []
@@ -146,7 +148,9 @@ def test_a_copy_shares_the_dictionaries_and_is_closed_by_itself(system, user, ag
 def test_what_nobody_has_any_more_is_given_back(system):
     cutter = Cutter(system)
     cutter.wakati(LINE)
-    slots = [weakref.ref(handle._slot) for handle in (cutter._handles._first, *cutter._handles._free)]
+    slots = [
+        weakref.ref(handle._slot) for handle in (cutter._handles._first, *cutter._handles._free)
+    ]
     gone = weakref.ref(cutter)
     del cutter
     gc.collect()
@@ -192,7 +196,10 @@ def in_child(call):
 
 def test_a_fork_during_cuts_leaves_a_child_that_cuts_and_closes(system):
     cutter = Cutter(system)
-    threads = [begun(lambda call=call: list(call(cutter, LONG))) for call in (Cutter.wakati, Cutter.wakati_lines, Cutter.parse_lines)]
+    threads = [
+        begun(lambda call=call: list(call(cutter, LONG)))
+        for call in (Cutter.wakati, Cutter.wakati_lines, Cutter.parse_lines)
+    ]
 
     def cut_and_close():
         assert cutter.wakati(LINE) == WORDS
@@ -226,7 +233,9 @@ def test_forks_under_load(system):
 def test_a_child_forked_in_a_call_of_its_own_thread(system):
     """A handler of signals forks while its thread is about to cut."""
     cutter, found = Cutter(system), []
-    before = signal.signal(signal.SIGALRM, lambda *_: found.append(in_child(lambda: CALLS["cut"](cutter))))
+    before = signal.signal(
+        signal.SIGALRM, lambda *_: found.append(in_child(lambda: CALLS["cut"](cutter)))
+    )
     try:
         signal.setitimer(signal.ITIMER_REAL, 0.01)
         while not found:

@@ -33,7 +33,9 @@ def test_a_fault_says_what_and_where(given, said):
 
 
 @pytest.mark.parametrize("given, said", FAULTS)
-@pytest.mark.parametrize("again", [lambda fault: pickle.loads(pickle.dumps(fault)), copy.copy, copy.deepcopy])
+@pytest.mark.parametrize(
+    "again", [lambda fault: pickle.loads(pickle.dumps(fault)), copy.copy, copy.deepcopy]
+)
 def test_a_fault_is_the_same_again(given, said, again):
     fault = again(Fault(*given))
     assert parts_of(fault) == given + (None,) * (6 - len(given))

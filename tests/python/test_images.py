@@ -61,7 +61,9 @@ FORMS = {
     "bytearray": lambda path: bytearray(read(path)),
     "memoryview": lambda path: memoryview(read(path)),
     "memoryview of a bytearray": lambda path: memoryview(bytearray(read(path))),
-    "every second byte": lambda path: memoryview(bytes(twice for byte in read(path) for twice in (byte, 0)))[::2],
+    "every second byte": lambda path: memoryview(
+        bytes(twice for byte in read(path) for twice in (byte, 0))
+    )[::2],
     "array": lambda path: array.array("B", read(path)),
     "bytes with another length": lambda path: LongBytes(read(path)),
     "bytearray with another length": lambda path: LongArray(read(path)),
@@ -74,7 +76,10 @@ FORMS = {
 
 def systems(prefix):
     """The folders of a prefix: of what is made at run time, and of what came with the programs."""
-    return [Path("/" if str(prefix) == "/usr" else prefix, "var/lib/kumquatsieve"), Path(prefix, "share/kumquatsieve")]
+    return [
+        Path("/" if str(prefix) == "/usr" else prefix, "var/lib/kumquatsieve"),
+        Path(prefix, "share/kumquatsieve"),
+    ]
 
 
 @pytest.fixture
@@ -144,7 +149,9 @@ def test_what_is_no_image_is_named(image):
         Cutter(image)
 
 
-@pytest.mark.parametrize("form", [str, Path, read, FORMS["bytearray"], FORMS["memoryview"], FORMS["mmap to read"]])
+@pytest.mark.parametrize(
+    "form", [str, Path, read, FORMS["bytearray"], FORMS["memoryview"], FORMS["mmap to read"]]
+)
 def test_users_are_a_list(system, user, form):
     with pytest.raises(TypeError, match="users are several images, in a list"):
         Cutter(system, form(user))
@@ -232,7 +239,9 @@ def test_a_name_that_is_not_installed_lists_those_that_are(system, user, install
     (installed / "folder.img").mkdir()
     with pytest.raises(FileNotFoundError, match="ipadic: .*installed are: sample, unidic$"):
         Cutter("ipadic")
-    assert kumquatsieve.dictionaries() == {name: str(installed / f"{name}.img") for name in ("sample", "unidic")}
+    assert kumquatsieve.dictionaries() == {
+        name: str(installed / f"{name}.img") for name in ("sample", "unidic")
+    }
 
 
 class TooLong(BaseException):
@@ -315,12 +324,17 @@ OWN = [
 
 
 @pytest.mark.parametrize("data, home, own", OWN)
-def test_the_folders_are_of_the_user_of_jseg_and_of_this_python(installed, monkeypatch, data, home, own):
+def test_the_folders_are_of_the_user_of_jseg_and_of_this_python(
+    installed, monkeypatch, data, home, own
+):
     for name, value in (("XDG_DATA_HOME", data), ("HOME", home)):
         if value is None:
             monkeypatch.delenv(name, raising=False)
         else:
             monkeypatch.setenv(name, value)
     prefixes = dict.fromkeys([str(installed.parents[2]), sys.prefix, "/usr/local", "/usr"])
-    wanted = [*([Path(own)] if own else []), *(home for prefix in prefixes for home in systems(prefix))]
+    wanted = [
+        *([Path(own)] if own else []),
+        *(home for prefix in prefixes for home in systems(prefix)),
+    ]
     assert whole() == [str(path) for path in wanted]

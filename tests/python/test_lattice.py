@@ -50,7 +50,22 @@ RIVALS = {
     "桃太郎も": [("桃太", "桃", 0), ("郎", "太郎", 0), ("も", None, None)],
     "": [],
 }
-SMALL = ["も", "もも", "ももも", "すもも", LINE, LINE + "もも", "すも", "す zもも", "桃太郎", "太郎も 桃 ", "カカもカ", "カカカカ", "zz桃zすもも", "　も"]
+SMALL = [
+    "も",
+    "もも",
+    "ももも",
+    "すもも",
+    LINE,
+    LINE + "もも",
+    "すも",
+    "す zもも",
+    "桃太郎",
+    "太郎も 桃 ",
+    "カカもカ",
+    "カカカカ",
+    "zz桃zすもも",
+    "　も",
+]
 
 # The sample's sources, as a list of all paths is made of them.
 ENTRIES = {"すもも": 100, "も": 20, "もも": 30}
@@ -64,7 +79,11 @@ def kind_of(sign):
 
 def ends_at(text, start):
     """The ends of the words that begin somewhere, each with its cost."""
-    known = {start + len(surface): cost for surface, cost in ENTRIES.items() if text.startswith(surface, start)}
+    known = {
+        start + len(surface): cost
+        for surface, cost in ENTRIES.items()
+        if text.startswith(surface, start)
+    }
     invoke, group, length = KINDS[kind_of(text[start])]
     run = start + 1
     while run < len(text) and text[run] in kind_of(text[start]):
@@ -82,7 +101,11 @@ def paths_of(text, place=0):
         start += 1
     if start == len(text):
         return [[]]
-    return [[(start, end, cost), *rest] for end, cost in ends_at(text, start) for rest in paths_of(text, end)]
+    return [
+        [(start, end, cost), *rest]
+        for end, cost in ends_at(text, start)
+        for rest in paths_of(text, end)
+    ]
 
 
 def cost_of(path):
@@ -101,11 +124,17 @@ def listed(text):
 
 
 def rows(lattice):
-    return [(node.surface, node.start, node.end, node.cost, node.total, node.through, node.best) for node in lattice.nodes]
+    return [
+        (node.surface, node.start, node.end, node.cost, node.total, node.through, node.best)
+        for node in lattice.nodes
+    ]
 
 
 def rivals(lattice):
-    return [(rival.word.surface, rival.node and rival.node.surface, rival.lost) for rival in lattice.rivals()]
+    return [
+        (rival.word.surface, rival.node and rival.node.surface, rival.lost)
+        for rival in lattice.rivals()
+    ]
 
 
 def boundaries_of(path):
@@ -124,7 +153,9 @@ def dead(system, images):
 def test_the_nodes_worked_by_hand(system, line):
     lattice = Cutter(system).lattice(line)
     assert rows(lattice) == NODES[line]
-    assert [node.lost for node in lattice.nodes] == [node.through - lattice.total for node in lattice.nodes]
+    assert [node.lost for node in lattice.nodes] == [
+        node.through - lattice.total for node in lattice.nodes
+    ]
 
 
 def test_nodes_that_no_path_has(dead):
@@ -136,10 +167,14 @@ def test_nodes_that_no_path_has(dead):
 @pytest.mark.parametrize("text", SMALL)
 def test_the_nodes_are_those_of_a_list_of_all_paths(system, text):
     lattice = Cutter(system).lattice(text)
-    found = {(node.start, node.end, node.cost): (node.total, node.through) for node in lattice.nodes}
+    found = {
+        (node.start, node.end, node.cost): (node.total, node.through) for node in lattice.nodes
+    }
     assert found == listed(text) and len(found) == len(lattice.nodes)
     assert lattice.total == min(map(cost_of, paths_of(text)))
-    assert [node.byte_place for node in lattice.nodes] == sorted(node.byte_place for node in lattice.nodes)
+    assert [node.byte_place for node in lattice.nodes] == sorted(
+        node.byte_place for node in lattice.nodes
+    )
 
 
 @pytest.mark.parametrize("text", SMALL)
@@ -223,7 +258,19 @@ def test_the_best_nodes_are_the_words_of_the_line(system, line):
 def test_a_node_has_the_attributes_of_a_word(system, user):
     """Of a user's entry, of the system's and of an unknown word; and names of fields."""
     nodes = Cutter(system, [user], fields=["pos", "reading"]).lattice(" すもももも桃").nodes
-    found = [(node.dictionary, node.known, node.feature, node.pos, node.reading, node.byte_place, node.byte_start, node.byte_end) for node in nodes]
+    found = [
+        (
+            node.dictionary,
+            node.known,
+            node.feature,
+            node.pos,
+            node.reading,
+            node.byte_place,
+            node.byte_start,
+            node.byte_end,
+        )
+        for node in nodes
+    ]
     assert found == [
         (0, True, "名詞,すもも", "名詞", "すもも", 0, 1, 10),
         (1, True, "名詞,すもももも", "名詞", "すもももも", 0, 1, 16),
@@ -257,7 +304,9 @@ def test_nodes_are_light_and_are_pickled(system):
     nodes = Cutter(system).lattice(LINE).nodes
     assert not hasattr(nodes[0], "__dict__") and sys.getsizeof(nodes[0]) <= 80
     again = pickle.loads(pickle.dumps(nodes))
-    assert again == nodes and [(node.lost, node.end) for node in again] == [(node.lost, node.end) for node in nodes]
+    assert again == nodes and [(node.lost, node.end) for node in again] == [
+        (node.lost, node.end) for node in nodes
+    ]
 
 
 def test_what_a_node_shows(system, dead):
@@ -298,9 +347,14 @@ def test_a_graph(system):
     """As `jseg --lattice dot` prints it."""
     lattice = Cutter(system).lattice(LINE)
     assert lattice.to_dot() == lattice.to_dot(17) == GRAPH
-    near = "".join(line for line in GRAPH.splitlines(keepends=True) if "w1" not in line and "w3" not in line)
+    near = "".join(
+        line for line in GRAPH.splitlines(keepends=True) if "w1" not in line and "w3" not in line
+    )
     assert lattice.to_dot(16) == lattice.to_dot(0) == near
-    assert Cutter(system).lattice("").to_dot() == GRAPH[: GRAPH.index("  w0")].replace(LINE, "") + "}\n"
+    assert (
+        Cutter(system).lattice("").to_dot()
+        == GRAPH[: GRAPH.index("  w0")].replace(LINE, "") + "}\n"
+    )
 
 
 def test_graphs_are_those_of_jseg(system):
@@ -308,13 +362,30 @@ def test_graphs_are_those_of_jseg(system):
         pytest.skip(f"{JSEG} is not built")
     lines = [*SMALL, "", *(sign for sign, _ in ESCAPES)]
     for within in (None, 0, 2000):
-        words = [JSEG, "-d", system, "--lattice", "dot", *([] if within is None else ["--within", str(within)])]
-        printed = subprocess.run(words, input="".join(f"{line}\n" for line in lines).encode(), stdout=subprocess.PIPE, check=True).stdout
-        assert printed.decode() == "".join(Cutter(system).lattice(line).to_dot(within) for line in lines)
+        words = [
+            JSEG,
+            "-d",
+            system,
+            "--lattice",
+            "dot",
+            *([] if within is None else ["--within", str(within)]),
+        ]
+        printed = subprocess.run(
+            words,
+            input="".join(f"{line}\n" for line in lines).encode(),
+            stdout=subprocess.PIPE,
+            check=True,
+        ).stdout
+        assert printed.decode() == "".join(
+            Cutter(system).lattice(line).to_dot(within) for line in lines
+        )
 
 
 def test_a_graph_of_what_no_path_has(dead):
-    assert '  w0 [shape=box, label="も\\n助詞\\ncost 20\\ntotal 30\\nno path"];\n  0 -> w0 -> 3;\n' in dead.to_dot()
+    assert (
+        '  w0 [shape=box, label="も\\n助詞\\ncost 20\\ntotal 30\\nno path"];\n  0 -> w0 -> 3;\n'
+        in dead.to_dot()
+    )
     assert "no path" not in dead.to_dot(10**6)
 
 
@@ -373,7 +444,11 @@ def test_a_notebook_shows_a_drawing_or_a_table(system, monkeypatch, tmp_path):
     """A drawing where Graphviz is there; a table where it is not, or where it fails or takes too long."""
     if shutil.which("dot"):
         drawn = Cutter(system).lattice(LINE)
-        assert drawn._repr_svg_().startswith("<svg") and "すもも" in drawn._repr_svg_() and drawn._repr_html_() is None
+        assert (
+            drawn._repr_svg_().startswith("<svg")
+            and "すもも" in drawn._repr_svg_()
+            and drawn._repr_html_() is None
+        )
     monkeypatch.setenv("PATH", str(tmp_path))
     monkeypatch.setattr(_lattice, "DRAWING", 0.2)
     for script in (None, "exit 1", "exec /bin/sleep 60"):
@@ -382,5 +457,8 @@ def test_a_notebook_shows_a_drawing_or_a_table(system, monkeypatch, tmp_path):
             Path(tmp_path, "dot").chmod(0o755)
         lattice = Cutter(system).lattice("すもも<b>")
         assert lattice._repr_svg_() is None
-        assert "<tr><td>すもも</td><td>名詞,すもも</td><td>*</td><td>100</td><td>110</td>" in lattice._repr_html_()
+        assert (
+            "<tr><td>すもも</td><td>名詞,すもも</td><td>*</td><td>100</td><td>110</td>"
+            in lattice._repr_html_()
+        )
         assert "&lt;" in lattice._repr_html_() and "<b>" not in lattice._repr_html_()

@@ -82,7 +82,11 @@ def test_other_characters_are_kept(cutter, call, line, kept):
 @pytest.mark.parametrize("call", CALLS)
 def test_a_kind_of_str_is_its_text(cutter, call):
     assert call(cutter, Own("すもももも\n")) == WORDS
-    assert list(cutter.wakati_lines([Own("すもももも\n")])) == list(cutter.wakati_lines(Own("すもももも"))) == [" ".join(WORDS)]
+    assert (
+        list(cutter.wakati_lines([Own("すもももも\n")]))
+        == list(cutter.wakati_lines(Own("すもももも")))
+        == [" ".join(WORDS)]
+    )
 
 
 @pytest.mark.parametrize("call", CALLS)

@@ -17,7 +17,12 @@ LINES = ["すもももも", "", " すもももも  zz", "もも"]
 TEXT = "".join(line + "\n" for line in LINES)
 SURFACES = [["すもも", "もも"], [], ["すもも", "もも", "zz"], ["もも"]]
 JOINED = ["すもも もも", "", "すもも もも zz", "もも"]
-PRINTED = ["すもも\t名詞,すもも\nもも\t名詞,もも\nEOS\n", "EOS\n", "すもも\t名詞,すもも\nもも\t名詞,もも\nzz\t未知\nEOS\n", "もも\t名詞,もも\nEOS\n"]
+PRINTED = [
+    "すもも\t名詞,すもも\nもも\t名詞,もも\nEOS\n",
+    "EOS\n",
+    "すもも\t名詞,すもも\nもも\t名詞,もも\nzz\t未知\nEOS\n",
+    "もも\t名詞,もも\nEOS\n",
+]
 
 
 def mapped(text):
@@ -40,13 +45,33 @@ SOURCES = {
     "a generator of bytes": lambda text: (line for line in text.encode().splitlines(keepends=True)),
 }
 WAYS = {
-    "lines": (lambda cutter, source, **how: [[word.surface for word in words] for words in cutter.lines(source, **how)], SURFACES),
-    "wakati_lines": (lambda cutter, source, **how: list(cutter.wakati_lines(source, **how)), JOINED),
+    "lines": (
+        lambda cutter, source, **how: [
+            [word.surface for word in words] for words in cutter.lines(source, **how)
+        ],
+        SURFACES,
+    ),
+    "wakati_lines": (
+        lambda cutter, source, **how: list(cutter.wakati_lines(source, **how)),
+        JOINED,
+    ),
     "parse_lines": (lambda cutter, source, **how: list(cutter.parse_lines(source, **how)), PRINTED),
 }
-BEGIN = {"lines": Cutter.lines, "wakati_lines": Cutter.wakati_lines, "parse_lines": Cutter.parse_lines}
+BEGIN = {
+    "lines": Cutter.lines,
+    "wakati_lines": Cutter.wakati_lines,
+    "parse_lines": Cutter.parse_lines,
+}
 # Bytes that are no UTF-8. Their text is that of Python's decoder.
-BAD = [b"\xff", b"\xe3\x81", b"a\xc0\xafb", b"\xed\xa0\x80", b"\xf0\x9f\x8d", b"\xef\xbf\xbd\xff\xef\xbf\xbd", b"\x80\x80"]
+BAD = [
+    b"\xff",
+    b"\xe3\x81",
+    b"a\xc0\xafb",
+    b"\xed\xa0\x80",
+    b"\xf0\x9f\x8d",
+    b"\xef\xbf\xbd\xff\xef\xbf\xbd",
+    b"\x80\x80",
+]
 
 
 @pytest.fixture(scope="module")
@@ -64,14 +89,23 @@ def test_each_source_gives_its_lines(cutter, monkeypatch, way, source, piece):
 
 
 # A text without a line feed at its end, with carriage returns, with other ends that are none, and none at all.
-ENDS = [("もも", ["もも"]), ("もも\r\nもも\r\n", ["もも", "もも"]), ("もも\r", ["もも \r"]), ("\n\n", ["", ""]), ("", []), ("も\u2028も", ["も \u2028 も"])]
+ENDS = [
+    ("もも", ["もも"]),
+    ("もも\r\nもも\r\n", ["もも", "もも"]),
+    ("もも\r", ["もも \r"]),
+    ("\n\n", ["", ""]),
+    ("", []),
+    ("も\u2028も", ["も \u2028 も"]),
+]
 
 
 @pytest.mark.parametrize("source", ["str", "bytes", "a file of bytes"])
 @pytest.mark.parametrize("text, joined", ENDS)
 def test_ends_of_lines(cutter, source, text, joined):
     assert list(cutter.wakati_lines(SOURCES[source](text))) == joined
-    assert [" ".join(word.surface for word in words) for words in cutter.lines(SOURCES[source](text))] == joined
+    assert [
+        " ".join(word.surface for word in words) for words in cutter.lines(SOURCES[source](text))
+    ] == joined
 
 
 @pytest.mark.parametrize("way", WAYS)
@@ -124,14 +158,18 @@ def test_what_is_no_line_is_named(cutter, way, bad):
     """As a missing value in a column of pandas'."""
     answers = BEGIN[way](cutter, ["もも", bad, "もも"])
     next(answers)
-    with pytest.raises(TypeError, match=f"line 2: a line is a str or bytes, not {type(bad).__name__}"):
+    with pytest.raises(
+        TypeError, match=f"line 2: a line is a str or bytes, not {type(bad).__name__}"
+    ):
         next(answers)
 
 
 @pytest.mark.parametrize("source", [None, 3, Path("text.txt"), object()])
 @pytest.mark.parametrize("way", WAYS)
 def test_what_is_no_source_is_named_at_once(cutter, way, source):
-    with pytest.raises(TypeError, match=f"a source is a text, an open file or lines, not {type(source).__name__}"):
+    with pytest.raises(
+        TypeError, match=f"a source is a text, an open file or lines, not {type(source).__name__}"
+    ):
         BEGIN[way](cutter, source)
 
 

@@ -33,10 +33,17 @@ def test_each_name_that_is_exported_is_there_and_says_what_it_is():
 def test_a_library_that_is_not_there_is_named():
     code = "import os; os.environ['KUMQUATSIEVE_LIBRARY'] = 'none.so'; import kumquatsieve"
     done = subprocess.run([sys.executable, "-c", code], capture_output=True, text=True)
-    assert done.returncode == 1 and "ImportError: none.so" in done.stderr and "KUMQUATSIEVE_LIBRARY" in done.stderr
+    assert (
+        done.returncode == 1
+        and "ImportError: none.so" in done.stderr
+        and "KUMQUATSIEVE_LIBRARY" in done.stderr
+    )
 
 
-@pytest.mark.parametrize("has_lock, told", [("True", ""), ("False", "ImportError: this Python runs threads without its lock (GIL)")])
+@pytest.mark.parametrize(
+    "has_lock, told",
+    [("True", ""), ("False", "ImportError: this Python runs threads without its lock (GIL)")],
+)
 def test_a_python_without_its_lock_is_refused(has_lock, told):
     code = f"import sys; sys._is_gil_enabled = lambda: {has_lock}; import kumquatsieve"
     done = subprocess.run([sys.executable, "-c", code], capture_output=True, text=True)
@@ -57,4 +64,7 @@ def test_a_call_is_a_method_of_what_ends(monkeypatch, hidden):
 def test_a_library_without_a_call_is_named():
     code = "import os; os.environ['KUMQUATSIEVE_LIBRARY'] = 'libc.so.6'; import kumquatsieve"
     done = subprocess.run([sys.executable, "-c", code], capture_output=True, text=True)
-    assert done.returncode == 1 and "ImportError: libc.so.6: it has no kumquatsieve_load" in done.stderr
+    assert (
+        done.returncode == 1
+        and "ImportError: libc.so.6: it has no kumquatsieve_load" in done.stderr
+    )

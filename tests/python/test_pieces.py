@@ -13,7 +13,12 @@ LONGEST = 2**20
 MIXED = "もも\r\nすもももも\r\n\r\n𠮷\n\r\r\nもも\r"
 JOINED = ["もも", "すもも もも", "", "𠮷", "\r", "もも \r"]
 WAYS = [Cutter.wakati_lines, Cutter.parse_lines]
-KINDS = [str.encode, lambda text: text, lambda text: io.BytesIO(text.encode()), lambda text: io.StringIO(text, newline="")]
+KINDS = [
+    str.encode,
+    lambda text: text,
+    lambda text: io.BytesIO(text.encode()),
+    lambda text: io.StringIO(text, newline=""),
+]
 
 
 @pytest.fixture(scope="module")
@@ -59,7 +64,9 @@ def test_a_fault_has_its_place_in_the_whole_text(cutter, monkeypatch, way, what,
 
 def test_the_longest_line_is_cut(cutter):
     for end in ("", "\n", "\r\n"):
-        assert [len(line.replace(" ", "")) for line in cutter.wakati_lines("z" * LONGEST + end)] == [LONGEST]
+        assert [
+            len(line.replace(" ", "")) for line in cutter.wakati_lines("z" * LONGEST + end)
+        ] == [LONGEST]
 
 
 # Bytes that are no text, and what stands for them.
@@ -82,7 +89,15 @@ def test_what_is_no_text_is_replaced_and_counted(cutter, monkeypatch, way, text,
 
 
 MARK = "\uffff"
-MARKED_FORMATS = [None, "wakati", Format(MARK), Format("%m" + MARK), Format("%m", bos=MARK), Format("%m", eos=MARK), Format("", eos="")]
+MARKED_FORMATS = [
+    None,
+    "wakati",
+    Format(MARK),
+    Format("%m" + MARK),
+    Format("%m", bos=MARK),
+    Format("%m", eos=MARK),
+    Format("", eos=""),
+]
 MARKED_TEXTS = ["もも\nすもももも\n", f"もも\n{MARK}\n\n{MARK * 2}もも", "\n\n", ""]
 
 
@@ -105,7 +120,9 @@ def test_a_fault_behind_a_mark_has_its_place(cutter):
 def test_a_megabyte_is_one_call(cutter, monkeypatch, way):
     """And none is made for a line."""
     calls, real = [], _handle.CUT_LINES
-    monkeypatch.setattr(_handle, "CUT_LINES", lambda *given: calls.append(len(given[1])) or real(*given))
+    monkeypatch.setattr(
+        _handle, "CUT_LINES", lambda *given: calls.append(len(given[1])) or real(*given)
+    )
     monkeypatch.setattr(_handle, "CUT", None)
     assert len(list(way(cutter, io.BytesIO(b"ab\n" * 500_000)))) == 500_000
     assert calls == [999_999, 500_001]

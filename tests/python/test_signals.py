@@ -22,14 +22,19 @@ TIMES = 2000
 CALLS = {
     "cut": lambda cutter: [(word.surface, word.feature, word.total) for word in cutter.cut(LINE)],
     "wakati": lambda cutter: cutter.wakati(LINE),
-    "lattice": lambda cutter: [(node.surface, node.feature, node.through) for node in cutter.lattice(LINE[:5]).nodes],
+    "lattice": lambda cutter: [
+        (node.surface, node.feature, node.through) for node in cutter.lattice(LINE[:5]).nodes
+    ],
     "parse": lambda cutter: cutter.parse(LINE),
     "format": lambda cutter: cutter.format(LINE, "%m/"),
     "wakati_lines": lambda cutter: list(cutter.wakati_lines(LINE)),
     "parse_lines": lambda cutter: list(cutter.parse_lines(LINE)),
 }
 # Where the steps of a call are that leave something behind.
-FILES = {os.path.join(os.path.dirname(kumquatsieve.__file__), name) for name in ("_cutter.py", "_handles.py", "_handle.py", "_buffers.py")}
+FILES = {
+    os.path.join(os.path.dirname(kumquatsieve.__file__), name)
+    for name in ("_cutter.py", "_handles.py", "_handle.py", "_buffers.py")
+}
 
 
 class Interrupt(BaseException):

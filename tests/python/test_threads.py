@@ -11,9 +11,13 @@ from kumquatsieve import Cutter, Fault, Format
 THREADS = 4
 LETTERS = "すもうち東京都a1 　。𠮷\t"
 CALLS = {
-    "cut": lambda cutter, line: [(word.surface, word.feature, word.start, word.total) for word in cutter.cut(line)],
+    "cut": lambda cutter, line: [
+        (word.surface, word.feature, word.start, word.total) for word in cutter.cut(line)
+    ],
     "wakati": Cutter.wakati,
-    "lattice": lambda cutter, line: [(node.surface, node.feature, node.end, node.through) for node in cutter.lattice(line).nodes],
+    "lattice": lambda cutter, line: [
+        (node.surface, node.feature, node.end, node.through) for node in cutter.lattice(line).nodes
+    ],
     "parse": Cutter.parse,
     "format": lambda cutter, line: cutter.format(line, "%m/%f[0] ", eos="\\n"),
     "lines": lambda cutter, line: [words.total for words in cutter.lines([line] * 3)],
@@ -49,7 +53,9 @@ def test_threads_get_what_one_gets(system, user, made_up, often):
 
 @pytest.mark.parametrize("call", [Cutter.wakati_lines, Cutter.parse_lines])
 def test_threads_with_shares_cut_the_parts_of_a_text(system, made_up, often, call):
-    cutter, parts = Cutter(system), ["".join(line + "\n" for line in made_up[part::THREADS]) * 20 for part in range(THREADS)]
+    cutter, parts = Cutter(system), [
+        "".join(line + "\n" for line in made_up[part::THREADS]) * 20 for part in range(THREADS)
+    ]
     with ThreadPoolExecutor(THREADS) as threads:
         answers = list(threads.map(lambda part: list(call(cutter.share(), part)), parts))
     assert [answer for part in answers for answer in part] == list(call(cutter, "".join(parts)))
@@ -57,7 +63,10 @@ def test_threads_with_shares_cut_the_parts_of_a_text(system, made_up, often, cal
 
 def test_a_grouping_that_is_set_holds_for_the_calls_after_it(system, often):
     cutter, over, found = Cutter(system), threading.Event(), set()
-    wanted = {grouping: tuple(Cutter(system, grouping=grouping).wakati("abcdefgh")) for grouping in (0, 3, 24)}
+    wanted = {
+        grouping: tuple(Cutter(system, grouping=grouping).wakati("abcdefgh"))
+        for grouping in (0, 3, 24)
+    }
 
     def cut():
         while not over.is_set():
@@ -95,7 +104,9 @@ def test_a_grouping_may_be_any_kind_of_integer(system):
         def __index__(self):
             return 3
 
-    assert Cutter(system, grouping=Three()).wakati("abcdefgh") == Cutter(system, grouping=3).wakati("abcdefgh")
+    assert Cutter(system, grouping=Three()).wakati("abcdefgh") == Cutter(system, grouping=3).wakati(
+        "abcdefgh"
+    )
 
 
 def test_a_grouping_that_is_refused_leaves_that_before(system):

@@ -46,13 +46,39 @@ FEATURES = [
     ("る", 'x,"a,b""', ["x", 'a,b"']),
 ]
 # A last field may be empty: a comma parts two fields.
-PLAIN = [("", [""]), ("x", ["x"]), ("x,", ["x", ""]), ("x,,", ["x", "", ""]), ('"",', ["", ""]), ("x, ", ["x", ""])]
-BAD_NAMES = [["pos", "pos"], ["pos", "cost"], ["pos", "surface"], ["pos", "_x"], ["pos", "1"], ["pos reading"], ["pos,reading"]]
+PLAIN = [
+    ("", [""]),
+    ("x", ["x"]),
+    ("x,", ["x", ""]),
+    ("x,,", ["x", "", ""]),
+    ('"",', ["", ""]),
+    ("x, ", ["x", ""]),
+]
+BAD_NAMES = [
+    ["pos", "pos"],
+    ["pos", "cost"],
+    ["pos", "surface"],
+    ["pos", "_x"],
+    ["pos", "1"],
+    ["pos reading"],
+    ["pos,reading"],
+]
 # The names of a dictionary's fields, and the number of the field that each common name stands for.
 UNIDIC = ["pos1", "cType", "cForm", "lForm", "lemma", "pron", "orthBase", "kana"]
 COMMON = [
     (["pos1", "base_form", "reading"], {"lemma": 1, "base_form": 1, "reading": 2}),
-    (UNIDIC, {"conjugation_type": 1, "conjugation_form": 2, "reading": 3, "lemma": 4, "pronunciation": 5, "base_form": 6, "lForm": 3}),
+    (
+        UNIDIC,
+        {
+            "conjugation_type": 1,
+            "conjugation_form": 2,
+            "reading": 3,
+            "lemma": 4,
+            "pronunciation": 5,
+            "base_form": 6,
+            "lForm": 3,
+        },
+    ),
     (["lemma", "lForm", "base_form", "reading"], {"lemma": 0, "base_form": 2, "reading": 3}),
     (["pos1", "lemma"], {"lemma": 1}),
 ]
@@ -61,7 +87,12 @@ NOT_COMMON = ["conjugation_type", "reading", "base_form"]
 BESIDE = [
     ("kept/a.img", "a.img", {"kept/a.fields": "there"}, ("there",)),
     ("kept/a.img", "a.img", {"a.fields": "here"}, ()),
-    ("kept/a.img", "b.img", {"kept/a.fields": "there", "b.fields": "here", "kept/b.fields": "other"}, ("there",)),
+    (
+        "kept/a.img",
+        "b.img",
+        {"kept/a.fields": "there", "b.fields": "here", "kept/b.fields": "other"},
+        ("there",),
+    ),
     ("kept/a.img", "a", {"kept/a.fields": "there"}, ("there",)),
     ("unidic.v2", None, {"unidic.fields": "first", "unidic.v2.fields": "second"}, ("second",)),
     ("unidic.v2", None, {"unidic.fields": "first"}, ()),
@@ -87,7 +118,7 @@ def test_attributes(system, name):
 
 
 def test_a_users_word_names_its_dictionary(system, user):
-    word, = Cutter(system, [user]).cut("すもももも")
+    (word,) = Cutter(system, [user]).cut("すもももも")
     assert (word.dictionary, word.token, word.cost, word.known) == (1, 0, -30000, True)
 
 
@@ -103,14 +134,17 @@ def test_the_total_is_that_of_the_path(system):
 
 def test_a_line_feed_in_a_feature(odd):
     words = Cutter(odd).cut("すもももも")
-    assert [(word.surface, word.feature, word.total) for word in words] == [("すもも", "名詞,すもも", 110), ("もも", "名詞\nもも", 147)]
+    assert [(word.surface, word.feature, word.total) for word in words] == [
+        ("すもも", "名詞,すもも", 110),
+        ("もも", "名詞\nもも", 147),
+    ]
     assert "名詞\\nもも" in repr(words)
 
 
 @pytest.mark.parametrize("line, feature, fields", FEATURES)
 def test_a_feature_is_split_as_mecab_does(images, line, feature, fields):
     cutter = Cutter(images / "quoted.img")
-    word, = cutter.cut(line)
+    (word,) = cutter.cut(line)
     assert (word.feature, word.features) == (feature, fields)
     printed = [cutter.format(line, f"%f[{number}]", eos="") for number in range(len(fields))]
     assert printed == fields
@@ -145,7 +179,7 @@ NO_FIELD = [
 def test_a_field_that_is_not_there_is_none(system, tmp_path, feature, base_form, reading):
     """Also where the dictionary has an asterisk for it, as those of MeCab do."""
     image = with_feature(system, feature, tmp_path / "image.img")
-    word, = Cutter(image, fields=["pos", "base_form", "reading"]).cut("もも")
+    (word,) = Cutter(image, fields=["pos", "base_form", "reading"]).cut("もも")
     assert (word.feature, word.base_form, word.reading) == (feature, base_form, reading)
 
 
@@ -196,7 +230,7 @@ def test_names_of_another_image_are_ignored(system, tmp_path, first, fields):
         cutter = Cutter(path)
         assert cutter.fields == fields
         assert pickle.loads(pickle.dumps(cutter)).fields == fields
-    word, = Cutter(image).cut("もも")
+    (word,) = Cutter(image).cut("もも")
     assert [getattr(word, name) for name in fields] == ["名詞", "もも"][: len(fields)]
 
 
@@ -229,7 +263,10 @@ def test_names_by_hand(named, system):
     """They are taken in place of those beside the image, and for an image in memory too; a process that gets the cutter has them."""
     for image in (named, system, Path(system).read_bytes()):
         cutter = Cutter(image, fields=[None, "yomi"])
-        assert (cutter.fields, [word.yomi for word in cutter.cut(LINE)]) == (("yomi",), NAMED["reading"])
+        assert (cutter.fields, [word.yomi for word in cutter.cut(LINE)]) == (
+            ("yomi",),
+            NAMED["reading"],
+        )
     again = pickle.loads(pickle.dumps(Cutter(named, fields=["", "yomi"])))
     assert (again.fields, again.cut(LINE)[1].yomi) == (("yomi",), "もも")
     assert Cutter(named, fields=[]).fields == ()
@@ -239,7 +276,7 @@ def test_names_by_hand(named, system):
 def test_common_names(system, names, numbers):
     cutter = Cutter(system, fields=names)
     assert cutter.fields == tuple(names)
-    word, = cutter.cut("もも")
+    (word,) = cutter.cut("もも")
     word._features = list(map(str, range(len(names))))
     assert {name: int(getattr(word, name)) for name in numbers} == numbers
 
@@ -325,7 +362,10 @@ def test_a_table_has_the_reading_of_the_word_as_it_stands(system):
 
 
 def test_a_table_without_readings(system):
-    assert repr(Cutter(system).cut("もも")).splitlines() == ["surface  feature    cost  total", "もも     名詞,もも    30     40"]
+    assert repr(Cutter(system).cut("もも")).splitlines() == [
+        "surface  feature    cost  total",
+        "もも     名詞,もも    30     40",
+    ]
     assert repr(Cutter(system).cut("")) == "surface  feature  cost  total"
 
 

@@ -28,7 +28,16 @@ class Heap:
         self.library = folder / "refuse.so"
         self.report = folder / "report"
         self.program = program
-        command = ["gcc", "-std=c11", "-O2", "-shared", "-fPIC", HERE / "refuse.c", "-o", self.library]
+        command = [
+            "gcc",
+            "-std=c11",
+            "-O2",
+            "-shared",
+            "-fPIC",
+            HERE / "refuse.c",
+            "-o",
+            self.library,
+        ]
         subprocess.run(command, check=True)
 
     def run(self, test, refused=None, leaves=None):
@@ -39,7 +48,9 @@ class Heap:
         if refused:
             place["REFUSE"] = str(refused)
         memory = f"growth {refused} refused" if refused else "ample memory"
-        ended = subprocess.run([self.program, test], env=place, capture_output=True, text=True, timeout=SECONDS)
+        ended = subprocess.run(
+            [self.program, test], env=place, capture_output=True, text=True, timeout=SECONDS
+        )
         if ended.returncode != 0 or not self.report.exists():
             sys.exit(f"{test}, {memory}: status {ended.returncode}\n{ended.stdout}{ended.stderr}")
         words = self.report.read_text().split()
@@ -50,5 +61,7 @@ class Heap:
         if counts["taken"] > counts["refused"]:
             sys.exit(f"{test}, {memory}: told as refused {counts['taken']} times")
         if leaves is not None and left(counts) != leaves:
-            sys.exit(f"{test}, {memory}: {left(counts)} blocks were not given back, and not {leaves}")
+            sys.exit(
+                f"{test}, {memory}: {left(counts)} blocks were not given back, and not {leaves}"
+            )
         return counts

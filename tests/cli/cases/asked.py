@@ -25,9 +25,18 @@ def explained_by(program, code):
 def beside(words, before, fault, code, status):
     """A fault on a terminal, and read by a program."""
     program = words.split()[0]
-    lines = before.replace("{program}", program) + f"{program}: {fault}\n" + explained_by(program, code)
+    lines = (
+        before.replace("{program}", program) + f"{program}: {fault}\n" + explained_by(program, code)
+    )
     files = {**EUC, "text": b"no image"}
-    yield Run(f"{words}, on a terminal", words, err=Exactly(lines), status=status, files=files, under=Under(stderr="terminal"))
+    yield Run(
+        f"{words}, on a terminal",
+        words,
+        err=Exactly(lines),
+        status=status,
+        files=files,
+        under=Under(stderr="terminal"),
+    )
     yield Run(f"{words}, read by a program", words, err=fault, status=status, files=files)
 
 
@@ -36,14 +45,20 @@ def asked_otherwise(program):
     yield f"{program} --explain g3", "G3 NotUtf8\nMeaning: ", ()
     yield f"{program} --explain BADSECTION", "L4 BadSection\nMeaning: ", ()
     yield f"{program} --explain NotUtf8", "S1 NotUtf8\nMeaning: ", ("\n\nG3 NotUtf8\nMeaning: ",)
-    yield f"{program} --explain", "", ("L4 BadSection\n", "Memory\n", *(f"{code}\n" for code in CODES_OF_CALLS))
+    yield f"{program} --explain", "", (
+        "L4 BadSection\n",
+        "Memory\n",
+        *(f"{code}\n" for code in CODES_OF_CALLS),
+    )
 
 
 def explained(code):
     """Both programs explain a code."""
     for program in PROGRAMS:
         words = f"{program} --explain {code.split()[0]}"
-        yield Run(words, words, out=Has(f"{code}\nMeaning: ", ("\nUsual cause: ", "\nWhat to do: ")))
+        yield Run(
+            words, words, out=Has(f"{code}\nMeaning: ", ("\nUsual cause: ", "\nWhat to do: "))
+        )
 
 
 # A wrong command line, and the option or name that is near. (words, the near one)
@@ -95,7 +110,10 @@ OF_INDEX = [
     ("dictc user -d sys.img --out new.img user.csv", "-d is not known: write --dic IMG"),
     ("dictc user --dic sys.img -o new.img user.csv", "-o is not known: write --out IMG"),
     ("dictc user --dic sys.img -u new.img user.csv", "-u is not known: write --out IMG"),
-    ("dictc user -f euc-jp --dic sys.img --out new.img user.csv", "-f is not known: sources are read as UTF-8"),
+    (
+        "dictc user -f euc-jp --dic sys.img --out new.img user.csv",
+        "-f is not known: sources are read as UTF-8",
+    ),
     ("dictc system -d dic --out new.img", "--matrix FILE --char FILE --unk FILE"),
     ("dictc ids -d sys.img X", "-d is not known: write --dic IMG"),
 ]
@@ -120,11 +138,51 @@ READING = Erased(f"reading /dev/stdin: {len(MATRIX)} bytes{ERASED}")
 MARKED, ANY_IMAGE = {"mark.csv": MARK + LEXICON}, {"new.img": ANY}
 FROM_INPUT = f"{SYSTEM.replace('a/matrix.def', '/dev/stdin')} a/lexicon.csv"
 TOLD = [
-    ("a mark before a lexicon,", f"{SYSTEM} mark.csv", MARKED, ANY_IMAGE, "on a terminal", Exactly(NOTE), Under(stderr="terminal")),
-    ("a mark before a user's lexicon,", f"{USER} mark.csv", MARKED, ANY_IMAGE, "on a terminal", Exactly(NOTE), Under(stderr="terminal")),
-    ("a mark before a lexicon,", f"{SYSTEM} mark.csv", MARKED, ANY_IMAGE, "read by a program", Exactly(""), Under()),
-    ("a slow matrix.def", FROM_INPUT, {}, MADE, "on a terminal", READING, Under(stdin="slow", stderr="terminal")),
-    ("a slow matrix.def", FROM_INPUT, {}, MADE, "read by a program", Exactly(""), Under(stdin="slow")),
+    (
+        "a mark before a lexicon,",
+        f"{SYSTEM} mark.csv",
+        MARKED,
+        ANY_IMAGE,
+        "on a terminal",
+        Exactly(NOTE),
+        Under(stderr="terminal"),
+    ),
+    (
+        "a mark before a user's lexicon,",
+        f"{USER} mark.csv",
+        MARKED,
+        ANY_IMAGE,
+        "on a terminal",
+        Exactly(NOTE),
+        Under(stderr="terminal"),
+    ),
+    (
+        "a mark before a lexicon,",
+        f"{SYSTEM} mark.csv",
+        MARKED,
+        ANY_IMAGE,
+        "read by a program",
+        Exactly(""),
+        Under(),
+    ),
+    (
+        "a slow matrix.def",
+        FROM_INPUT,
+        {},
+        MADE,
+        "on a terminal",
+        READING,
+        Under(stdin="slow", stderr="terminal"),
+    ),
+    (
+        "a slow matrix.def",
+        FROM_INPUT,
+        {},
+        MADE,
+        "read by a program",
+        Exactly(""),
+        Under(stdin="slow"),
+    ),
 ]
 
 # Images that come slowly, and what the run ends with: none, or a fault whose code is explained on a terminal. The digest is taken meanwhile.
@@ -135,19 +193,81 @@ FROM_FILE = f"reading long.img: {len(LONG)} of {len(LONG)} bytes{ERASED}"
 BY_PIPE, BY_FILE = {"stdin": "slow"}, {"fails": "slow read"}
 SLOW_LOADS = [
     ("an image", "jseg -d sys.img -u /dev/stdin", BY_PIPE, LAYOUT_3, {}, "", FROM_PIPE, ""),
-    ("an image with another digest", "jseg -d sys.img -u /dev/stdin", BY_PIPE, UNTESTED["digest.img"], {}, "", FROM_PIPE, "/dev/stdin: L8 Digest"),
-    ("an image that is not tested", "jseg -d sys.img --skip-digest -u /dev/stdin", BY_PIPE, UNTESTED["digest.img"], {}, "", FROM_PIPE, ""),
-    ("an image of a lexicon's", USER.replace("sys.img", "/dev/stdin") + " user.csv", BY_PIPE, LAYOUT_3, {}, "", FROM_PIPE, "/dev/stdin: O1 NotSystem"),
-    ("an image whose ids are asked for", "dictc ids --dic /dev/stdin X", BY_PIPE, LAYOUT_3, {}, "", FROM_PIPE, "/dev/stdin: O1 NotSystem"),
-    ("a long image", USER.replace("sys.img", "long.img") + " user.csv", BY_FILE, "", {"long.img": LONG}, "", FROM_FILE, "long.img: O1 NotSystem"),
+    (
+        "an image with another digest",
+        "jseg -d sys.img -u /dev/stdin",
+        BY_PIPE,
+        UNTESTED["digest.img"],
+        {},
+        "",
+        FROM_PIPE,
+        "/dev/stdin: L8 Digest",
+    ),
+    (
+        "an image that is not tested",
+        "jseg -d sys.img --skip-digest -u /dev/stdin",
+        BY_PIPE,
+        UNTESTED["digest.img"],
+        {},
+        "",
+        FROM_PIPE,
+        "",
+    ),
+    (
+        "an image of a lexicon's",
+        USER.replace("sys.img", "/dev/stdin") + " user.csv",
+        BY_PIPE,
+        LAYOUT_3,
+        {},
+        "",
+        FROM_PIPE,
+        "/dev/stdin: O1 NotSystem",
+    ),
+    (
+        "an image whose ids are asked for",
+        "dictc ids --dic /dev/stdin X",
+        BY_PIPE,
+        LAYOUT_3,
+        {},
+        "",
+        FROM_PIPE,
+        "/dev/stdin: O1 NotSystem",
+    ),
+    (
+        "a long image",
+        USER.replace("sys.img", "long.img") + " user.csv",
+        BY_FILE,
+        "",
+        {"long.img": LONG},
+        "",
+        FROM_FILE,
+        "long.img: O1 NotSystem",
+    ),
 ]
 
 
 def slow_load(what, words, how, text, files, out, read, fault):
     """A slow load on a terminal, and read by a program."""
-    end = f"{words.split()[0]}: {fault}\n{explained_by(words.split()[0], fault.split()[1])}" if fault else ""
-    for where, err, stderr in (("on a terminal", Erased(read, (end,)), "terminal"), ("read by a program", fault, "kept")):
-        yield Run(f"{what} that comes slowly, {where}", words, text, out, err, 1 if fault else 0, files, under=Under(stderr=stderr, **how))
+    end = (
+        f"{words.split()[0]}: {fault}\n{explained_by(words.split()[0], fault.split()[1])}"
+        if fault
+        else ""
+    )
+    for where, err, stderr in (
+        ("on a terminal", Erased(read, (end,)), "terminal"),
+        ("read by a program", fault, "kept"),
+    ):
+        yield Run(
+            f"{what} that comes slowly, {where}",
+            words,
+            text,
+            out,
+            err,
+            1 if fault else 0,
+            files,
+            under=Under(stderr=stderr, **how),
+        )
+
 
 # What is said beside a fault, on a terminal and with `-v` alone. (words, the lines before the fault's, that one, its code, the status)
 NOT_THERE = "{program}: none.img: it is not there\n"
@@ -155,13 +275,37 @@ CONVERTER = "{program}: kumquatsieve-import takes sources that are not UTF-8: a 
 EUC = {"euc.csv": LEXICON.decode().encode("euc_jp")}
 BESIDE = [
     ("jseg -d ./none.img", NOT_THERE.replace("none", "./none"), "./none.img: F1 File", "F1", 3),
-    ("dictc ids --dic ./none.img x", NOT_THERE.replace("none", "./none"), "./none.img: F1 File", "F1", 3),
+    (
+        "dictc ids --dic ./none.img x",
+        NOT_THERE.replace("none", "./none"),
+        "./none.img: F1 File",
+        "F1",
+        3,
+    ),
     (f"{SYSTEM} euc.csv", CONVERTER, "euc.csv:1: S1 NotUtf8", "S1", 1),
     (f"{USER} euc.csv", CONVERTER, "euc.csv:1: S1 NotUtf8", "S1", 1),
     ("jseg -d text", "", "text: L1 Truncated", "L1", 1),
-    ("jseg --sample -F %m%q", "{program}: the fault is in the text of -F\n{program}: %m%q\n{program}:   ^\n", "P2 BadItem 2", "P2", 2),
-    ("jseg --sample -U 'すa\t%q'", "{program}: the fault is in the text of -U\n{program}: すa\\t%q\n{program}:      ^\n", "P2 BadItem 5", "P2", 2),
-    ("jseg --sample -E '\\x'", "{program}: the fault is in the text of -E\n{program}: \\x\n{program}: ^\n", "P1 BadEscape 0", "P1", 2),
+    (
+        "jseg --sample -F %m%q",
+        "{program}: the fault is in the text of -F\n{program}: %m%q\n{program}:   ^\n",
+        "P2 BadItem 2",
+        "P2",
+        2,
+    ),
+    (
+        "jseg --sample -U 'すa\t%q'",
+        "{program}: the fault is in the text of -U\n{program}: すa\\t%q\n{program}:      ^\n",
+        "P2 BadItem 5",
+        "P2",
+        2,
+    ),
+    (
+        "jseg --sample -E '\\x'",
+        "{program}: the fault is in the text of -E\n{program}: \\x\n{program}: ^\n",
+        "P1 BadEscape 0",
+        "P1",
+        2,
+    ),
 ]
 
 # The longest surface, with `-v` alone. (words, what is there, the line; none where there is no entry)
@@ -169,59 +313,254 @@ LONGEST = [
     (f"{SYSTEM} a/lexicon.csv", {}, "9 bytes, in line 1 of a/lexicon.csv"),
     (f"{USER} user.csv", {}, "6 bytes, in line 1 of user.csv"),
     (f"{USER} user.csv a/lexicon.csv", {}, "9 bytes, in line 1 of a/lexicon.csv"),
-    (f"{USER} user.csv equal.csv", {"equal.csv": b"\nab,1,1,1,\nabcdef,1,1,1,\n"}, "6 bytes, in line 1 of user.csv"),
-    (f"{USER} equal.csv user.csv", {"equal.csv": b"\nab,1,1,1,\nabcdef,1,1,1,\n"}, "6 bytes, in line 3 of equal.csv"),
-    (f"{USER} quoted.csv", {"quoted.csv": b'"a"",""b",1,1,1,X\na,1,1,1,\n'}, "5 bytes, in line 1 of quoted.csv"),
+    (
+        f"{USER} user.csv equal.csv",
+        {"equal.csv": b"\nab,1,1,1,\nabcdef,1,1,1,\n"},
+        "6 bytes, in line 1 of user.csv",
+    ),
+    (
+        f"{USER} equal.csv user.csv",
+        {"equal.csv": b"\nab,1,1,1,\nabcdef,1,1,1,\n"},
+        "6 bytes, in line 3 of equal.csv",
+    ),
+    (
+        f"{USER} quoted.csv",
+        {"quoted.csv": b'"a"",""b",1,1,1,X\na,1,1,1,\n'},
+        "5 bytes, in line 1 of quoted.csv",
+    ),
     (f"{USER} skipped.csv", {"skipped.csv": b",1,1,1,X\n\n"}, ""),
 ]
 
 
 def longest(words, files, line):
     """What is said of the longest surface, with `-v` and without it on a terminal."""
-    said = Has("dictc: ", (f" s: longest surface: {line}\n",)) if line else Has("dictc: ", ("compiled ",), ("longest",))
+    said = (
+        Has("dictc: ", (f" s: longest surface: {line}\n",))
+        if line
+        else Has("dictc: ", ("compiled ",), ("longest",))
+    )
     out = Has("", (" entries, ", " skipped\n"))
-    yield Run(f"longest surface: {words}", f"{words} -v", out=out, err=said, files=files, left=ANY_IMAGE)
-    yield Run(f"longest surface, not asked for: {words}", words, out=out, files=files, left=ANY_IMAGE, under=Under(stderr="terminal"))
+    yield Run(
+        f"longest surface: {words}", f"{words} -v", out=out, err=said, files=files, left=ANY_IMAGE
+    )
+    yield Run(
+        f"longest surface, not asked for: {words}",
+        words,
+        out=out,
+        files=files,
+        left=ANY_IMAGE,
+        under=Under(stderr="terminal"),
+    )
 
 
 def all_hints(words):
     """What follows all faults on a terminal and with `-v`, once for each code."""
     codes = [fault.split()[0] for _, fault, _ in FAULTS]
-    hints = CONVERTER.format(program="dictc") + "".join(explained_by("dictc", code) for code in codes)
+    hints = CONVERTER.format(program="dictc") + "".join(
+        explained_by("dictc", code) for code in codes
+    )
     words, files = f"{words} --all-faults bad.csv other.csv", TWO
-    told = told_faults("bad.csv", FAULTS) + told_faults("other.csv", [(1, "S2 TooFewFields", "c,1,1")])
-    yield Run(f"hints after all faults: {words}", words, err=Exactly(told + hints), status=1, files=files, under=Under(stderr="terminal"))
-    yield Run(f"hints after all faults, with -v: {words}", f"{words} -v", err=Has("dictc: ", (told + hints,)), status=1, files=files)
+    told = told_faults("bad.csv", FAULTS) + told_faults(
+        "other.csv", [(1, "S2 TooFewFields", "c,1,1")]
+    )
+    yield Run(
+        f"hints after all faults: {words}",
+        words,
+        err=Exactly(told + hints),
+        status=1,
+        files=files,
+        under=Under(stderr="terminal"),
+    )
+    yield Run(
+        f"hints after all faults, with -v: {words}",
+        f"{words} -v",
+        err=Has("dictc: ", (told + hints,)),
+        status=1,
+        files=files,
+    )
 
 
-STEPS = ["connection costs of 2 right ids and 2 left ids", "6 categories", "unknown words", "3 entries up to a/lexicon.csv"]
-SHARES = ["connection costs: 8 bytes", "categories of code points: ", "keys: ", "group index: ", "tokens: ", "features: "]
+STEPS = [
+    "connection costs of 2 right ids and 2 left ids",
+    "6 categories",
+    "unknown words",
+    "3 entries up to a/lexicon.csv",
+]
+SHARES = [
+    "connection costs: 8 bytes",
+    "categories of code points: ",
+    "keys: ",
+    "group index: ",
+    "tokens: ",
+    "features: ",
+]
 
 ROWS = [
-    *(Run(f"{name} {option}", f"{name} {option}", out=f"{name} {VERSION}") for name in PROGRAMS for option in ("--version", "-V")),
-    *(run for code in sorted(codes_of_programs()) for run in explained("Memory" if code == "Memory" else code)),
+    *(
+        Run(f"{name} {option}", f"{name} {option}", out=f"{name} {VERSION}")
+        for name in PROGRAMS
+        for option in ("--version", "-V")
+    ),
+    *(
+        run
+        for code in sorted(codes_of_programs())
+        for run in explained("Memory" if code == "Memory" else code)
+    ),
     *(run for code in CODES_OF_CALLS for run in explained(code)),
-    *(Run(words, words, out=Has(begin, told)) for program in PROGRAMS for words, begin, told in asked_otherwise(program)),
-    *(Run(words, words, err=Has(f"{words.split()[0]}: no fault has the code or name 'X9'"), status=2) for words in ("jseg --explain X9", "dictc --explain X9")),
-    *(Run(words, words, err=Has(f"{words.split()[0]}: ", (near,)), status=2) for words, near in NEAR),
+    *(
+        Run(words, words, out=Has(begin, told))
+        for program in PROGRAMS
+        for words, begin, told in asked_otherwise(program)
+    ),
+    *(
+        Run(
+            words,
+            words,
+            err=Has(f"{words.split()[0]}: no fault has the code or name 'X9'"),
+            status=2,
+        )
+        for words in ("jseg --explain X9", "dictc --explain X9")
+    ),
+    *(
+        Run(words, words, err=Has(f"{words.split()[0]}: ", (near,)), status=2)
+        for words, near in NEAR
+    ),
     *(Run(words, words, "も\n", err=Has("jseg: ", (told,)), status=2) for words, told in HABITS),
-    Run("the program's name is told once", "jseg sys.img text.txt", "も\n", err=Has("jseg: the text is read from standard input: ", (), ("jseg: jseg",)), status=2),
+    Run(
+        "the program's name is told once",
+        "jseg sys.img text.txt",
+        "も\n",
+        err=Has("jseg: the text is read from standard input: ", (), ("jseg: jseg",)),
+        status=2,
+    ),
     *(Run(words, words, err=Has("dictc: ", (told,)), status=2) for words, told in OF_INDEX),
-    Run("an option of none", "jseg -q", err=Has("jseg: unexpected argument '-q' found\n\nUsage: "), status=2),
-    *(Run(f"MeCab's, {files}", "jseg -d dic", err=Has("jseg: dic is a dictionary of MeCab"), status=2, files=files) for files in (COMPILED, SOURCES)),
-    *(Run(f"{words}: {why}", words, err=Has("", (f": {path}: {why}\n", f": {path}: F1 File\n")), status=3, files={path: there}) for words, path, there, why in WHY),
-    Run("no permission", "jseg -d sys.img -v", err=Has("", ("sys.img: permission to read it is missing\n",)), status=3, modes={"sys.img": DENIED}),
-    Run("a name that is not UTF-8", "jseg --sources a -v", err=Has("", ("a: a name in this directory is not UTF-8\n",)), status=3, files={"a/\udcff": b""}),
+    Run(
+        "an option of none",
+        "jseg -q",
+        err=Has("jseg: unexpected argument '-q' found\n\nUsage: "),
+        status=2,
+    ),
+    *(
+        Run(
+            f"MeCab's, {files}",
+            "jseg -d dic",
+            err=Has("jseg: dic is a dictionary of MeCab"),
+            status=2,
+            files=files,
+        )
+        for files in (COMPILED, SOURCES)
+    ),
+    *(
+        Run(
+            f"{words}: {why}",
+            words,
+            err=Has("", (f": {path}: {why}\n", f": {path}: F1 File\n")),
+            status=3,
+            files={path: there},
+        )
+        for words, path, there, why in WHY
+    ),
+    Run(
+        "no permission",
+        "jseg -d sys.img -v",
+        err=Has("", ("sys.img: permission to read it is missing\n",)),
+        status=3,
+        modes={"sys.img": DENIED},
+    ),
+    Run(
+        "a name that is not UTF-8",
+        "jseg --sources a -v",
+        err=Has("", ("a: a name in this directory is not UTF-8\n",)),
+        status=3,
+        files={"a/\udcff": b""},
+    ),
     *(run for row in BESIDE for run in beside(*row)),
-    *(Run(f"which option: {option}", f"jseg --sample -v {option} %q", err=Has("", (f"the text of {option}\n", "P2 BadItem 0\n")), status=2) for option in ("-F", "-U", "-B", "-E")),
-    Run("a mark before matrix.def", "jseg --sources a -v", err=Has("", ("a/matrix.def begins with a byte order mark", "a/matrix.def:1: M1 BadHeader")), status=1, files={"a/matrix.def": MARK + MATRIX}),
-    Run("a mark before a lexicon", f"{SYSTEM} -v mark.csv", out=LINE, err=Has("", ("mark.csv begins with a byte order mark",)), files={"mark.csv": MARK + LEXICON}, left={"new.img": ANY}),
-    *(Run(f"{what} {where}", words, MATRIX, out=LINE, err=told, files=files, left=left, under=under) for what, words, files, left, where, told, under in TOLD),
+    *(
+        Run(
+            f"which option: {option}",
+            f"jseg --sample -v {option} %q",
+            err=Has("", (f"the text of {option}\n", "P2 BadItem 0\n")),
+            status=2,
+        )
+        for option in ("-F", "-U", "-B", "-E")
+    ),
+    Run(
+        "a mark before matrix.def",
+        "jseg --sources a -v",
+        err=Has("", ("a/matrix.def begins with a byte order mark", "a/matrix.def:1: M1 BadHeader")),
+        status=1,
+        files={"a/matrix.def": MARK + MATRIX},
+    ),
+    Run(
+        "a mark before a lexicon",
+        f"{SYSTEM} -v mark.csv",
+        out=LINE,
+        err=Has("", ("mark.csv begins with a byte order mark",)),
+        files={"mark.csv": MARK + LEXICON},
+        left={"new.img": ANY},
+    ),
+    *(
+        Run(
+            f"{what} {where}",
+            words,
+            MATRIX,
+            out=LINE,
+            err=told,
+            files=files,
+            left=left,
+            under=under,
+        )
+        for what, words, files, left, where, told, under in TOLD
+    ),
     *(run for row in SLOW_LOADS for run in slow_load(*row)),
-    Run("nothing to know, on a terminal", f"{SYSTEM} a/lexicon.csv", out=LINE, left=MADE, under=Under(stderr="terminal")),
-    Run("what dictc does", f"{SYSTEM} -v a/lexicon.csv", out=LINE, err=Has("dictc: ", ("read a/matrix.def: ", "compiling 1 lexicons", *STEPS, "sorted 3 entries", "compiled 3 entries", "wrote new.img: ", *SHARES)), left=MADE),
-    Run("what dictc does for a user", f"{USER} -v user.csv", out="1 entries, 0 skipped\n", err=Has("dictc: ", ("loaded sys.img", "read user.csv: ", "1 entries up to user.csv", "sorted 1 entries", "wrote new.img: ")), left={"new.img": "user.img"}),
+    Run(
+        "nothing to know, on a terminal",
+        f"{SYSTEM} a/lexicon.csv",
+        out=LINE,
+        left=MADE,
+        under=Under(stderr="terminal"),
+    ),
+    Run(
+        "what dictc does",
+        f"{SYSTEM} -v a/lexicon.csv",
+        out=LINE,
+        err=Has(
+            "dictc: ",
+            (
+                "read a/matrix.def: ",
+                "compiling 1 lexicons",
+                *STEPS,
+                "sorted 3 entries",
+                "compiled 3 entries",
+                "wrote new.img: ",
+                *SHARES,
+            ),
+        ),
+        left=MADE,
+    ),
+    Run(
+        "what dictc does for a user",
+        f"{USER} -v user.csv",
+        out="1 entries, 0 skipped\n",
+        err=Has(
+            "dictc: ",
+            (
+                "loaded sys.img",
+                "read user.csv: ",
+                "1 entries up to user.csv",
+                "sorted 1 entries",
+                "wrote new.img: ",
+            ),
+        ),
+        left={"new.img": "user.img"},
+    ),
     *(run for row in LONGEST for run in longest(*row)),
     *(run for words in (SYSTEM, USER) for run in all_hints(words)),
-    Run("what jseg does", "jseg -d sys.img -v", "も\n", MO, err=Has("jseg: ", ("loaded sys.img", "cut 1 lines"))),
+    Run(
+        "what jseg does",
+        "jseg -d sys.img -v",
+        "も\n",
+        MO,
+        err=Has("jseg: ", ("loaded sys.img", "cut 1 lines")),
+    ),
 ]

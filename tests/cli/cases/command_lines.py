@@ -5,10 +5,30 @@ from .run import DEFINITIONS, LEXICON, SYSTEM, USER, Has, Path, Run
 HELP = [
     ("dictc --help", ("system", "user")),
     ("dictc -h", ("system", "user")),
-    ("dictc system --help", ("--matrix <FILE>", "--char <FILE>", "--unk <FILE>", "--out <IMG>", "<LEX>...")),
+    (
+        "dictc system --help",
+        ("--matrix <FILE>", "--char <FILE>", "--unk <FILE>", "--out <IMG>", "<LEX>..."),
+    ),
     ("dictc user --help", ("--dic <IMG>", "--out <IMG>", "<LEX>...")),
     ("dictc ids --help", ("--dic <IMG>", "-u <IMG>", "<FEATURE>")),
-    ("jseg --help", ("-d <IMG>", "-u <IMG>", "--sources <DIR>", "--sample", "-M <N>", "-O <NAME>", "-F <", "-U <", "-B <", "-E <", "--lattice <FORM>", "--within <N>", "--why")),
+    (
+        "jseg --help",
+        (
+            "-d <IMG>",
+            "-u <IMG>",
+            "--sources <DIR>",
+            "--sample",
+            "-M <N>",
+            "-O <NAME>",
+            "-F <",
+            "-U <",
+            "-B <",
+            "-E <",
+            "--lattice <FORM>",
+            "--within <N>",
+            "--why",
+        ),
+    ),
     ("jseg -d none.img --help", ("--sources <DIR>",)),
 ]
 
@@ -95,23 +115,53 @@ INPUTS = [
     (f"dictc system {DEFINITIONS} --out a/matrix.def a/lexicon.csv", "a/matrix.def"),
     (f"dictc system {DEFINITIONS} --out a/char.def a/lexicon.csv", "a/char.def"),
     (f"dictc system {DEFINITIONS} --out a/unk.def a/lexicon.csv", "a/unk.def"),
-    (f"dictc system {DEFINITIONS} --out link/lexicon.csv spare.csv a/lexicon.csv", "link/lexicon.csv"),
+    (
+        f"dictc system {DEFINITIONS} --out link/lexicon.csv spare.csv a/lexicon.csv",
+        "link/lexicon.csv",
+    ),
 ]
 
 
 def as_file(words, name):
     """The run that tells what to write for the name of a file."""
     tip = f"tip: for the file '{name}' write './{name}'"
-    return Run(f"{name} as a file", words, "も\n", err=Has(f"{words.split()[0]}: ", (tip,)), status=2)
+    return Run(
+        f"{name} as a file", words, "も\n", err=Has(f"{words.split()[0]}: ", (tip,)), status=2
+    )
 
 
 ROWS = [
     *(Run(words, words, out=Has("", ("Usage: ", *texts))) for words, texts in HELP),
     *(Run(what, words, "も\n", err=Has(f"{words.split()[0]}: "), status=2) for what, words in WRONG),
-    *(Run(f"{told}, {words.split()[0]}", words, "も\n", err=Has(f"{words.split()[0]}: {told}"), status=2) for words, told in CONTROLS),
+    *(
+        Run(
+            f"{told}, {words.split()[0]}",
+            words,
+            "も\n",
+            err=Has(f"{words.split()[0]}: {told}"),
+            status=2,
+        )
+        for words, told in CONTROLS
+    ),
     *(as_file(*row) for row in DASHES),
-    Run("the tip is right", f"{SYSTEM} ./-x.csv", out="3 entries, 0 skipped\n", files={"-x.csv": LEXICON}, left={"new.img": "sys.img"}),
-    Run("an argument that is not UTF-8", "jseg --sample -F \udcff", err="an argument is not UTF-8", status=2),
-    Run("a path that is not UTF-8", f"{SYSTEM} \udcff.csv", err="an argument is not UTF-8", status=2),
-    *(Run(words, words, err=f"--out names a file that is read: {told}", status=2, files=SPARE) for words, told in INPUTS),
+    Run(
+        "the tip is right",
+        f"{SYSTEM} ./-x.csv",
+        out="3 entries, 0 skipped\n",
+        files={"-x.csv": LEXICON},
+        left={"new.img": "sys.img"},
+    ),
+    Run(
+        "an argument that is not UTF-8",
+        "jseg --sample -F \udcff",
+        err="an argument is not UTF-8",
+        status=2,
+    ),
+    Run(
+        "a path that is not UTF-8", f"{SYSTEM} \udcff.csv", err="an argument is not UTF-8", status=2
+    ),
+    *(
+        Run(words, words, err=f"--out names a file that is read: {told}", status=2, files=SPARE)
+        for words, told in INPUTS
+    ),
 ]

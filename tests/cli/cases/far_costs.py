@@ -14,13 +14,26 @@ TEXTS = [
     ("a text that is too short by a line", LINE * 2_047, SUMOMO * 2_047),
     ("a text that is just long enough", LINE * 2_048, SUMOMO * 2_048),
     ("a text of three reads", LINE * 9_000, SUMOMO * 9_000),
-    ("ids that its beginning has not", "x" * 9 + "\n" * 70_000 + LINE, "x" * 9 + "\t未知\n" + "EOS\n" * 70_000 + SUMOMO),
+    (
+        "ids that its beginning has not",
+        "x" * 9 + "\n" * 70_000 + LINE,
+        "x" * 9 + "\t未知\n" + "EOS\n" * 70_000 + SUMOMO,
+    ),
     ("a text of blanks", " " * 70_000 + "\n", "EOS\n"),
 ]
 
 
 def cut(what, text, out, by="jseg -d new.img", **rest):
-    return Run(f"far costs: {what}", f"{SYSTEM} a/lexicon.csv", text, COMPILED + out, files=MATRIX, left={"new.img": ANY}, then=by, **rest)
+    return Run(
+        f"far costs: {what}",
+        f"{SYSTEM} a/lexicon.csv",
+        text,
+        COMPILED + out,
+        files=MATRIX,
+        left={"new.img": ANY},
+        then=by,
+        **rest,
+    )
 
 
 def told(fault):
@@ -31,8 +44,36 @@ def told(fault):
 ROWS = [
     *(cut(*row) for row in TEXTS),
     cut("what a path costs", LINE * 5_000, "152\n" * 5_000, r"jseg -d new.img -F '' -E '%pc\n'"),
-    cut("a first read that fails", "", "", err=told("line 1: G1 Read"), status=3, under=Under(stdin="directory")),
-    cut("a first read that fails, and a second that ends", "", "", err=told("line 1: G1 Read"), status=3, under=Under(stdin="reset")),
-    cut("a later read that fails", "も\nす", MO, err=told("line 2: G1 Read"), status=3, under=Under(stdin="failing")),
-    cut("a user that does not fit", LINE * 5_000, "", "jseg -d new.img -u user.img", err=told("user.img: O3 OtherSizes 0"), status=1),
+    cut(
+        "a first read that fails",
+        "",
+        "",
+        err=told("line 1: G1 Read"),
+        status=3,
+        under=Under(stdin="directory"),
+    ),
+    cut(
+        "a first read that fails, and a second that ends",
+        "",
+        "",
+        err=told("line 1: G1 Read"),
+        status=3,
+        under=Under(stdin="reset"),
+    ),
+    cut(
+        "a later read that fails",
+        "も\nす",
+        MO,
+        err=told("line 2: G1 Read"),
+        status=3,
+        under=Under(stdin="failing"),
+    ),
+    cut(
+        "a user that does not fit",
+        LINE * 5_000,
+        "",
+        "jseg -d new.img -u user.img",
+        err=told("user.img: O3 OtherSizes 0"),
+        status=1,
+    ),
 ]

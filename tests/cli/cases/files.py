@@ -56,7 +56,12 @@ WRITTEN = [
     ("in place of an old one", ALL, OLD, MADE),
     ("by a link", to("link"), LINKED, {"folder/new.img": "sys.img"}),
     ("by a name of 255 bytes", to(LONGEST), {}, {LONGEST: "sys.img"}),
-    ("in place of the one of that name", to(f"a/{LONGEST}"), {f"a/{LONGEST}": b"old"}, {f"a/{LONGEST}": "sys.img"}),
+    (
+        "in place of the one of that name",
+        to(f"a/{LONGEST}"),
+        {f"a/{LONGEST}": b"old"},
+        {f"a/{LONGEST}": "sys.img"},
+    ),
     ("in place of a link to nothing", ALL, {"new.img": Path("none")}, MADE),
     ("a device", to("/dev/null"), {}, {}),
 ]
@@ -96,20 +101,112 @@ def shell(path):
 
 
 ROWS = [
-    *(Run(what, words, "も\n", err=f"{told}: F1 File", status=3, files={told: there}) for what, words, told, there in READ),
-    *(Run("a name that is not UTF-8", "jseg --sources a", err="a: F1 File", status=3, files=files) for files in NOT_UTF8),
-    *(Run(f"{told} is refused, {words}", words, err=f"{told}: F1 File", status=3, modes={told: mode}) for words, told, mode in REFUSED),
-    Run("files before the directory", "jseg --sources a", err="a/unk.def: F1 File", status=3, modes={"a/unk.def": DENIED, "a": NO_LISTING}),
+    *(
+        Run(what, words, "も\n", err=f"{told}: F1 File", status=3, files={told: there})
+        for what, words, told, there in READ
+    ),
+    *(
+        Run("a name that is not UTF-8", "jseg --sources a", err="a: F1 File", status=3, files=files)
+        for files in NOT_UTF8
+    ),
+    *(
+        Run(
+            f"{told} is refused, {words}",
+            words,
+            err=f"{told}: F1 File",
+            status=3,
+            modes={told: mode},
+        )
+        for words, told, mode in REFUSED
+    ),
+    Run(
+        "files before the directory",
+        "jseg --sources a",
+        err="a/unk.def: F1 File",
+        status=3,
+        modes={"a/unk.def": DENIED, "a": NO_LISTING},
+    ),
     *(Run(what, words, out=LINE, files=files, left=left) for what, words, files, left in WRITTEN),
-    *(Run(f"not written: {path}", to(path), err=f"{path}: F1 File", status=3, files=files) for path, files in NOT_WRITTEN),
-    Run("a folder that is not written", to("b/new.img"), err="b/new.img: F1 File", status=3, files={"b": {}}, modes={"b": 0o555}),
-    *(Run(f"{what}, in place of an old image", ALL, err="new.img: F1 File", status=3, files=OLD, under=under) for what, under in FAILING),
-    *(Run(f"{what}, a new image", ALL, err="new.img: F1 File", status=3, under=under) for what, under in FAILING),
-    *(Run(f"{what}, by a link", to("link"), err="link: F1 File", status=3, files=LINKED, under=under) for what, under in FAILING),
-    Run("a mode that can't be kept", ALL, err="new.img: F1 File", status=3, files=OLD, under=Under(fails="fchmod")),
-    Run("refused sources", f"{ALL} user.csv", err="user.csv:1: S2 TooFewFields", status=1, files={**OLD, "user.csv": b"X"}),
-    Run("killed while it writes", ALL, status=-25, files=OLD, left={BESIDE: ANY}, under=Under(most=SMALL, killed=True)),
-    Run("the name of a killed run", ALL, out=LINE, files=OLD, left={**MADE, **LEFT}, under=Under(taken=BESIDE)),
-    *(Run(f"mode {mode:o} is kept", ALL, out=LINE, files=OLD, left=MADE, modes={"new.img": mode}) for mode in (0o600, 0o444, 0o664, 0o777)),
-    *(Run(f"a path with controls, {told}", f"jseg -d {shell(path)}", err=f"{told}: F1 File", status=3) for path, told in CONTROLS),
+    *(
+        Run(f"not written: {path}", to(path), err=f"{path}: F1 File", status=3, files=files)
+        for path, files in NOT_WRITTEN
+    ),
+    Run(
+        "a folder that is not written",
+        to("b/new.img"),
+        err="b/new.img: F1 File",
+        status=3,
+        files={"b": {}},
+        modes={"b": 0o555},
+    ),
+    *(
+        Run(
+            f"{what}, in place of an old image",
+            ALL,
+            err="new.img: F1 File",
+            status=3,
+            files=OLD,
+            under=under,
+        )
+        for what, under in FAILING
+    ),
+    *(
+        Run(f"{what}, a new image", ALL, err="new.img: F1 File", status=3, under=under)
+        for what, under in FAILING
+    ),
+    *(
+        Run(
+            f"{what}, by a link",
+            to("link"),
+            err="link: F1 File",
+            status=3,
+            files=LINKED,
+            under=under,
+        )
+        for what, under in FAILING
+    ),
+    Run(
+        "a mode that can't be kept",
+        ALL,
+        err="new.img: F1 File",
+        status=3,
+        files=OLD,
+        under=Under(fails="fchmod"),
+    ),
+    Run(
+        "refused sources",
+        f"{ALL} user.csv",
+        err="user.csv:1: S2 TooFewFields",
+        status=1,
+        files={**OLD, "user.csv": b"X"},
+    ),
+    Run(
+        "killed while it writes",
+        ALL,
+        status=-25,
+        files=OLD,
+        left={BESIDE: ANY},
+        under=Under(most=SMALL, killed=True),
+    ),
+    Run(
+        "the name of a killed run",
+        ALL,
+        out=LINE,
+        files=OLD,
+        left={**MADE, **LEFT},
+        under=Under(taken=BESIDE),
+    ),
+    *(
+        Run(f"mode {mode:o} is kept", ALL, out=LINE, files=OLD, left=MADE, modes={"new.img": mode})
+        for mode in (0o600, 0o444, 0o664, 0o777)
+    ),
+    *(
+        Run(
+            f"a path with controls, {told}",
+            f"jseg -d {shell(path)}",
+            err=f"{told}: F1 File",
+            status=3,
+        )
+        for path, told in CONTROLS
+    ),
 ]

@@ -64,33 +64,127 @@ def of_refused(image, fault):
     files = {"bad.img": image}
     told = f"bad.img: {fault}"
     yield Run(f"{fault}, -d", "jseg -d bad.img", "も\n", err=told, status=1, files=files)
-    yield Run(f"{fault}, -u", "jseg -d sys.img -u user.img -u bad.img", "も\n", err=told, status=1, files=files)
-    yield Run(f"{fault}, --dic", "dictc user --dic bad.img --out new.img user.csv", err=told, status=1, files=files)
+    yield Run(
+        f"{fault}, -u",
+        "jseg -d sys.img -u user.img -u bad.img",
+        "も\n",
+        err=told,
+        status=1,
+        files=files,
+    )
+    yield Run(
+        f"{fault}, --dic",
+        "dictc user --dic bad.img --out new.img user.csv",
+        err=told,
+        status=1,
+        files=files,
+    )
     if fault != "L8 Digest":
-        yield Run(f"{fault}, --skip-digest", "jseg --skip-digest -d bad.img", "も\n", err=told, status=1, files=files)
+        yield Run(
+            f"{fault}, --skip-digest",
+            "jseg --skip-digest -d bad.img",
+            "も\n",
+            err=told,
+            status=1,
+            files=files,
+        )
 
 
 # Images that are intact but for their digest: the one digest is another, and the other that of another feature.
-UNTESTED = {"digest.img": changed(LAYOUT_3, (960, bytes([LAYOUT_3[960] ^ 1]))), "feature.img": changed(LAYOUT_3, (928, b"Y"))}
+UNTESTED = {
+    "digest.img": changed(LAYOUT_3, (960, bytes([LAYOUT_3[960] ^ 1]))),
+    "feature.img": changed(LAYOUT_3, (928, b"Y")),
+}
 OTHER_SIZES = {"other.img": changed(LAYOUT_1, (20, b"\3"))}
-ENDLESS = ["jseg -d /dev/zero", "jseg -d sys.img -u /dev/zero", "dictc user --dic /dev/zero --out new.img user.csv"]
+ENDLESS = [
+    "jseg -d /dev/zero",
+    "jseg -d sys.img -u /dev/zero",
+    "dictc user --dic /dev/zero --out new.img user.csv",
+]
 OLDER = {"1.img": LAYOUT_1, "2.img": LAYOUT_2, "3.img": LAYOUT_3}
 
 ROWS = [run for row in REFUSED for run in of_refused(*row)] + [
     Run("layout 1", "jseg -d sys.img -u 1.img", "もも\n", "もも\tX\nEOS\n", files=OLDER),
     Run("layout 2", "jseg -d sys.img -u 2.img", "a\n", "a\tX\nEOS\n", files=OLDER),
     Run("layout 3", "jseg -d sys.img -u 3.img", "a\n", "a\tX\nEOS\n", files=OLDER),
-    Run("layout 1 as the system's", "jseg -d 1.img", "もも\n", err="1.img: O1 NotSystem", status=1, files=OLDER),
-    Run("another digest", "jseg -d sys.img --skip-digest -u digest.img", "a\n", "a\tX\nEOS\n", files=UNTESTED),
-    Run("a feature under an old digest", "jseg -d sys.img --skip-digest -u feature.img", "a\n", "a\tY\nEOS\n", files=UNTESTED),
-    *(Run(f"no end, {words}", words, "も\n", err="/dev/zero: L2 BadMagic", status=1) for words in ENDLESS),
-    Run("dictc skips it too", "dictc user --skip-digest --dic digest.img --out new.img user.csv", err="digest.img: O1 NotSystem", status=1, files=UNTESTED),
-    Run("a user's as the system's", "jseg -d user.img", "も\n", err="user.img: O1 NotSystem", status=1),
-    Run("for a user's", "dictc user --dic user.img --out new.img user.csv", err="user.img: O1 NotSystem", status=1),
-    Run("the system's as a user's", "jseg -d sys.img -u sys.img", "も\n", err="sys.img: O2 NotUser 0", status=1),
-    Run("a second one", "jseg -d sys.img -u user.img -u sys.img", err="sys.img: O2 NotUser 1", status=1),
-    Run("for other sizes", "jseg -d sys.img -u other.img", err="other.img: O3 OtherSizes 0", status=1, files=OTHER_SIZES),
+    Run(
+        "layout 1 as the system's",
+        "jseg -d 1.img",
+        "もも\n",
+        err="1.img: O1 NotSystem",
+        status=1,
+        files=OLDER,
+    ),
+    Run(
+        "another digest",
+        "jseg -d sys.img --skip-digest -u digest.img",
+        "a\n",
+        "a\tX\nEOS\n",
+        files=UNTESTED,
+    ),
+    Run(
+        "a feature under an old digest",
+        "jseg -d sys.img --skip-digest -u feature.img",
+        "a\n",
+        "a\tY\nEOS\n",
+        files=UNTESTED,
+    ),
+    *(
+        Run(f"no end, {words}", words, "も\n", err="/dev/zero: L2 BadMagic", status=1)
+        for words in ENDLESS
+    ),
+    Run(
+        "dictc skips it too",
+        "dictc user --skip-digest --dic digest.img --out new.img user.csv",
+        err="digest.img: O1 NotSystem",
+        status=1,
+        files=UNTESTED,
+    ),
+    Run(
+        "a user's as the system's",
+        "jseg -d user.img",
+        "も\n",
+        err="user.img: O1 NotSystem",
+        status=1,
+    ),
+    Run(
+        "for a user's",
+        "dictc user --dic user.img --out new.img user.csv",
+        err="user.img: O1 NotSystem",
+        status=1,
+    ),
+    Run(
+        "the system's as a user's",
+        "jseg -d sys.img -u sys.img",
+        "も\n",
+        err="sys.img: O2 NotUser 0",
+        status=1,
+    ),
+    Run(
+        "a second one",
+        "jseg -d sys.img -u user.img -u sys.img",
+        err="sys.img: O2 NotUser 1",
+        status=1,
+    ),
+    Run(
+        "for other sizes",
+        "jseg -d sys.img -u other.img",
+        err="other.img: O3 OtherSizes 0",
+        status=1,
+        files=OTHER_SIZES,
+    ),
     Run("O1 before O2", "jseg -d user.img -u sys.img", err="user.img: O1 NotSystem", status=1),
-    Run("O2 before O3", "jseg -d sys.img -u sys.img -u other.img", err="sys.img: O2 NotUser 0", status=1, files=OTHER_SIZES),
-    Run("a lexicon is read before O1", f"{USER.replace('sys', 'user')} none.csv", err="none.csv: F1 File", status=3),
+    Run(
+        "O2 before O3",
+        "jseg -d sys.img -u sys.img -u other.img",
+        err="sys.img: O2 NotUser 0",
+        status=1,
+        files=OTHER_SIZES,
+    ),
+    Run(
+        "a lexicon is read before O1",
+        f"{USER.replace('sys', 'user')} none.csv",
+        err="none.csv: F1 File",
+        status=3,
+    ),
 ]

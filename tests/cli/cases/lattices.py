@@ -4,7 +4,11 @@ from .streams import DEVICES, FAILING
 
 LEXICON = "a/lexicon.csv"
 HEADING = "place\tstart\tend\tsurface\tleft\tright\tcost\tknown\tdictionary\ttoken\ttotal\tthrough\tlost\tbest\tfeature\n"
-PLUMS, PLUM, BEST = "すもも\t1\t1\t100\tknown\t0\t0\t110\t152\t0\t*\t名詞,すもも", "もも\t1\t1\t30\tknown\t0\t2", "0\t*\t名詞,もも"
+PLUMS, PLUM, BEST = (
+    "すもも\t1\t1\t100\tknown\t0\t0\t110\t152\t0\t*\t名詞,すもも",
+    "もも\t1\t1\t30\tknown\t0\t2",
+    "0\t*\t名詞,もも",
+)
 
 # The words of a line, one each, by tabs as a table has them. BOS and a word cost 10, two words 7, and a word and EOS 5.
 SUMOMO = [
@@ -18,7 +22,10 @@ TWICE = {LEXICON: "も,1,1,20,一\nも,1,1,20,二\nもも,1,1,47,三\n".encode()
 FIELDS = {LEXICON: 'も,1,1,20,"名詞 ""も""",も\\\n'.encode()}
 USER = "もも\t1\t1\t1\tknown\t1\t0"
 # With no grouping two words, 10 + 1000 and 1010 + 7 + 1000; 2017 + 5.
-LETTERS = [f"{place}\t{place}\t{place + 1}\tz\t1\t1\t1000\tunknown\t\t5\t{total}\t2022\t0\t*\t未知" for place, total in ((0, 1010), (1, 2017))]
+LETTERS = [
+    f"{place}\t{place}\t{place + 1}\tz\t1\t1\t1000\tunknown\t\t5\t{total}\t2022\t0\t*\t未知"
+    for place, total in ((0, 1010), (1, 2017))
+]
 TABLES = [
     # (what, words, line, rows, what else is there)
     ("all nodes", "--sample", "すもももも", SUMOMO, {}),
@@ -29,7 +36,13 @@ TABLES = [
     ("the best path alone", "-d sys.img --within 0", "すもももも", [SUMOMO[0], SUMOMO[2]], {}),
     ("no word", "--sample", "", [], {}),
     ("blanks alone", "--sample", "  ", [], {}),
-    ("blanks before a word and behind it", "--sample", " も ", ["0\t1\t4\tも\t1\t1\t20\tknown\t0\t1\t30\t35\t0\t*\t助詞,も"], {}),
+    (
+        "blanks before a word and behind it",
+        "--sample",
+        " も ",
+        ["0\t1\t4\tも\t1\t1\t20\tknown\t0\t1\t30\t35\t0\t*\t助詞,も"],
+        {},
+    ),
     (
         "a word of a user",
         "-d sys.img -u user.img",
@@ -55,18 +68,58 @@ TABLES = [
         ],
         TWICE,
     ),
-    ("an unknown word", "--sample", "もz", [MO.replace("\t35\t", "\t1042\t"), "3\t3\t4\tz\t1\t1\t1000\tunknown\t\t5\t1037\t1042\t0\t*\t未知"], {}),
-    *(("words without grouping", f"{words} -M 0", "zz", LETTERS, {}) for words in ("--sample", "-d sys.img", "--sources a")),
-    ("a tab and a backslash", "--sample", "\t\\", ["0\t0\t2\t\\t\\\\\t1\t1\t1000\tunknown\t\t3\t1010\t1015\t0\t*\t未知"], {}),
-    ("a carriage return", "--sample", "\r", ["0\t0\t1\t\\r\t1\t1\t1000\tunknown\t\t3\t1010\t1015\t0\t*\t未知"], {}),
-    ("a backslash in a feature", "--sources a", "も", ['0\t0\t3\tも\t1\t1\t20\tknown\t0\t0\t30\t35\t0\t*\t"名詞 ""も""",も\\\\'], FIELDS),
+    (
+        "an unknown word",
+        "--sample",
+        "もz",
+        [
+            MO.replace("\t35\t", "\t1042\t"),
+            "3\t3\t4\tz\t1\t1\t1000\tunknown\t\t5\t1037\t1042\t0\t*\t未知",
+        ],
+        {},
+    ),
+    *(
+        ("words without grouping", f"{words} -M 0", "zz", LETTERS, {})
+        for words in ("--sample", "-d sys.img", "--sources a")
+    ),
+    (
+        "a tab and a backslash",
+        "--sample",
+        "\t\\",
+        ["0\t0\t2\t\\t\\\\\t1\t1\t1000\tunknown\t\t3\t1010\t1015\t0\t*\t未知"],
+        {},
+    ),
+    (
+        "a carriage return",
+        "--sample",
+        "\r",
+        ["0\t0\t1\t\\r\t1\t1\t1000\tunknown\t\t3\t1010\t1015\t0\t*\t未知"],
+        {},
+    ),
+    (
+        "a backslash in a feature",
+        "--sources a",
+        "も",
+        ['0\t0\t3\tも\t1\t1\t20\tknown\t0\t0\t30\t35\t0\t*\t"名詞 ""も""",も\\\\'],
+        FIELDS,
+    ),
 ]
 
 BEST_BOX, BEST_EDGE = ", color=red, penwidth=2", " [color=red, penwidth=2]"
 
 
 def graph(label, *lines):
-    return "".join(f"{line}\n" for line in ("digraph {", "  rankdir=LR;", f'  label="{label}";', "  node [shape=circle];", *lines, "}"))
+    return "".join(
+        f"{line}\n"
+        for line in (
+            "digraph {",
+            "  rankdir=LR;",
+            f'  label="{label}";',
+            "  node [shape=circle];",
+            *lines,
+            "}",
+        )
+    )
 
 
 def word(number, start, end, label, best=True):
@@ -81,9 +134,15 @@ THIRD = word(2, 9, 15, r"もも\n名詞\ncost 30\ntotal 147\nlost 0")
 FOURTH = word(3, 12, 15, r"も\n助詞\ncost 20\ntotal 164\nlost 17", False)
 UNKNOWN = r"\n未知\ncost 1000\ntotal 1010\nlost 0"
 QUOTED = word(0, 0, 3, r"も\n名詞 \"も\"\ncost 20\ntotal 30\nlost 0")
-CONTROLS, C1, NONE = r"\\u{0}\\u{1f}\\u{7f}", "\\\\u{80}\\\\u{9f}\xa0", "\\\\u{fffe}\\\\u{ffff}\ufffd"
+CONTROLS, C1, NONE = (
+    r"\\u{0}\\u{1f}\\u{7f}",
+    "\\\\u{80}\\\\u{9f}\xa0",
+    "\\\\u{fffe}\\\\u{ffff}\ufffd",
+)
 ODD = {LEXICON: "も,1,1,20,\ufffe\x1b\uffff\u0085\uffe6¢\n".encode()}
-IN_FEATURE = word(0, 0, 3, "も\\n\\\\u{fffe}\\\\u{1b}\\\\u{ffff}\\\\u{85}\uffe6¢\\ncost 20\\ntotal 30\\nlost 0")
+IN_FEATURE = word(
+    0, 0, 3, "も\\n\\\\u{fffe}\\\\u{1b}\\\\u{ffff}\\\\u{85}\uffe6¢\\ncost 20\\ntotal 30\\nlost 0"
+)
 GRAPHS = [
     # (what, words, line, graph, what else is there)
     ("all nodes", "--sample", "すもももも", graph("すもももも", FIRST, SECOND, THIRD, FOURTH), {}),
@@ -91,10 +150,34 @@ GRAPHS = [
     ("all nodes", "--sources a", "すもももも", graph("すもももも", FIRST, SECOND, THIRD, FOURTH), {}),
     ("what lost by 16 at most", "--sample --within 16", "すもももも", graph("すもももも", FIRST, THIRD), {}),
     ("no word", "--sample", "", graph(""), {}),
-    ("a quote, an ampersand and a backslash", "--sample", '"&\\', graph(r"\"&amp;\\", word(0, 0, 3, r"\"&amp;\\" + UNKNOWN)), {}),
-    ("control characters", "--sample", "\0\x1f\x7f", graph(CONTROLS, word(0, 0, 3, CONTROLS + UNKNOWN)), {}),
-    ("controls of two bytes", "--sample", "\x80\x9f\xa0", graph(C1, word(0, 0, 6, C1 + UNKNOWN)), {}),
-    ("no characters", "--sample", "\ufffe\uffff\ufffd", graph(NONE, word(0, 0, 9, NONE + UNKNOWN)), {}),
+    (
+        "a quote, an ampersand and a backslash",
+        "--sample",
+        '"&\\',
+        graph(r"\"&amp;\\", word(0, 0, 3, r"\"&amp;\\" + UNKNOWN)),
+        {},
+    ),
+    (
+        "control characters",
+        "--sample",
+        "\0\x1f\x7f",
+        graph(CONTROLS, word(0, 0, 3, CONTROLS + UNKNOWN)),
+        {},
+    ),
+    (
+        "controls of two bytes",
+        "--sample",
+        "\x80\x9f\xa0",
+        graph(C1, word(0, 0, 6, C1 + UNKNOWN)),
+        {},
+    ),
+    (
+        "no characters",
+        "--sample",
+        "\ufffe\uffff\ufffd",
+        graph(NONE, word(0, 0, 9, NONE + UNKNOWN)),
+        {},
+    ),
     ("no character in a feature", "--sources a", "も", graph("も", IN_FEATURE), ODD),
     ("a field with quotes", "--sources a", "も", graph("も", QUOTED), FIELDS),
 ]
@@ -123,17 +206,89 @@ WRONG = [
 ]
 
 ROWS = [
-    *(Run(f"a table of {what}, {words}", f"jseg --lattice tsv {words}", f"{line}\n", table(*rows), files=files) for what, words, line, rows, files in TABLES),
-    *(Run(f"a graph of {what}, {words}", f"jseg --lattice dot {words}", f"{line}\n", text, files=files) for what, words, line, text, files in GRAPHS),
+    *(
+        Run(
+            f"a table of {what}, {words}",
+            f"jseg --lattice tsv {words}",
+            f"{line}\n",
+            table(*rows),
+            files=files,
+        )
+        for what, words, line, rows, files in TABLES
+    ),
+    *(
+        Run(
+            f"a graph of {what}, {words}",
+            f"jseg --lattice dot {words}",
+            f"{line}\n",
+            text,
+            files=files,
+        )
+        for what, words, line, text, files in GRAPHS
+    ),
     Run("two tables", "jseg --sample --lattice tsv", "も\n\nも", ONE + table() + ONE),
     Run("two graphs", "jseg --sample --lattice dot --within 0", "\n\n", graph("") + graph("")),
     *(Run(f"no text, {form}", f"jseg --sample {form}") for form in FORMS),
-    Run("a table before a bad line", "jseg --sample --lattice tsv", BAD, ONE, "line 2: G3 NotUtf8", 1),
-    Run("a table before a bad line, an image", "jseg -d sys.img --lattice tsv", BAD, ONE, "line 2: G3 NotUtf8", 1),
-    Run("a table before input that fails", "jseg --sample --lattice tsv", "も\nす", ONE, "line 2: G1 Read", 3, under=FAILING),
-    *(Run(f"{form}, output {what}", f"jseg --sample {form}", "も\n", err="G2 Write 0", status=3, under=under) for form in FORMS for what, under in DEVICES),
-    Run("a table of 5 bytes", "jseg --sample --lattice tsv", "も\n", "place", "G2 Write 5", 3, under=Under(stdout="file", most=5)),
-    Run("a lattice of sources at fault", "jseg --sources a --lattice tsv", "も\n", err="a/lexicon.csv:1: S3 BadNumber", status=1, files={LEXICON: b"x,1,1,x,\n"}),
-    Run("a lattice of no sources", "jseg --sources none --lattice dot", "も\n", err="none/matrix.def: F1 File", status=3),
+    Run(
+        "a table before a bad line",
+        "jseg --sample --lattice tsv",
+        BAD,
+        ONE,
+        "line 2: G3 NotUtf8",
+        1,
+    ),
+    Run(
+        "a table before a bad line, an image",
+        "jseg -d sys.img --lattice tsv",
+        BAD,
+        ONE,
+        "line 2: G3 NotUtf8",
+        1,
+    ),
+    Run(
+        "a table before input that fails",
+        "jseg --sample --lattice tsv",
+        "も\nす",
+        ONE,
+        "line 2: G1 Read",
+        3,
+        under=FAILING,
+    ),
+    *(
+        Run(
+            f"{form}, output {what}",
+            f"jseg --sample {form}",
+            "も\n",
+            err="G2 Write 0",
+            status=3,
+            under=under,
+        )
+        for form in FORMS
+        for what, under in DEVICES
+    ),
+    Run(
+        "a table of 5 bytes",
+        "jseg --sample --lattice tsv",
+        "も\n",
+        "place",
+        "G2 Write 5",
+        3,
+        under=Under(stdout="file", most=5),
+    ),
+    Run(
+        "a lattice of sources at fault",
+        "jseg --sources a --lattice tsv",
+        "も\n",
+        err="a/lexicon.csv:1: S3 BadNumber",
+        status=1,
+        files={LEXICON: b"x,1,1,x,\n"},
+    ),
+    Run(
+        "a lattice of no sources",
+        "jseg --sources none --lattice dot",
+        "も\n",
+        err="none/matrix.def: F1 File",
+        status=3,
+    ),
     *(Run(f"refused: {what}", words, "も\n", err=Has("jseg: "), status=2) for what, words in WRONG),
 ]

@@ -168,15 +168,23 @@ class Programs:
         self.places = {}
         for kind, prefix in (("", folder), ("bare-", folder / "bare")):
             (prefix / "bin").mkdir(parents=True)
-            self.places |= {f"{kind}{path.name}": shutil.copy(path, prefix / "bin") for path in paths}
-        self.made, self.shared = folder / "var" / "lib" / "kumquatsieve", folder / "share" / "kumquatsieve"
+            self.places |= {
+                f"{kind}{path.name}": shutil.copy(path, prefix / "bin") for path in paths
+            }
+        self.made, self.shared = (
+            folder / "var" / "lib" / "kumquatsieve",
+            folder / "share" / "kumquatsieve",
+        )
         self.failing, self.repeating = self.library(folder, "fail"), self.library(folder, "repeat")
         self.user = NOBODY if os.geteuid() == 0 else None
 
     def library(self, folder, name):
         """A library to be preloaded, built from a file of tools."""
         built = folder / f"{name}.so"
-        subprocess.run(["gcc", "-std=c11", "-O2", "-shared", "-fPIC", SUPPORT / f"{name}.c", "-o", built], check=True)
+        subprocess.run(
+            ["gcc", "-std=c11", "-O2", "-shared", "-fPIC", SUPPORT / f"{name}.c", "-o", built],
+            check=True,
+        )
         return str(built)
 
     def preloaded(self, under):
@@ -194,7 +202,13 @@ class Programs:
             stdout=stdout,
             stderr=stderr,
             cwd=folder,
-            env={**self.preloaded(under), **{name: value.replace("HERE", str(folder)) for name, value in under.variables.items()}},
+            env={
+                **self.preloaded(under),
+                **{
+                    name: value.replace("HERE", str(folder))
+                    for name, value in under.variables.items()
+                },
+            },
             user=self.user,
             group=self.user,
             extra_groups=None if self.user is None else [],

@@ -5,7 +5,9 @@ from pathlib import Path
 from typing import NamedTuple
 
 SAMPLE = Path(__file__).resolve().parents[3] / "examples" / "sample"
-MATRIX, CHARS, UNK, LEXICON = ((SAMPLE / name).read_bytes() for name in ("matrix.def", "char.def", "unk.def", "lexicon.csv"))
+MATRIX, CHARS, UNK, LEXICON = (
+    (SAMPLE / name).read_bytes() for name in ("matrix.def", "char.def", "unk.def", "lexicon.csv")
+)
 
 # What compiles the sources of the folder a, and a user dictionary, to new.img.
 DEFINITIONS = "--matrix a/matrix.def --char a/char.def --unk a/unk.def"
@@ -50,11 +52,17 @@ class Has(NamedTuple):
     lacks: tuple = ()
 
     def fits(self, text):
-        return text.startswith(self.begin) and all(word in text for word in self.words) and not any(word in text for word in self.lacks)
+        return (
+            text.startswith(self.begin)
+            and all(word in text for word in self.words)
+            and not any(word in text for word in self.lacks)
+        )
 
     def changed(self, change):
         """The same with another form of each text."""
-        return type(self)(change(self.begin), tuple(map(change, self.words)), tuple(map(change, self.lacks)))
+        return type(self)(
+            change(self.begin), tuple(map(change, self.words)), tuple(map(change, self.lacks))
+        )
 
 
 class Exactly(Has):
@@ -72,7 +80,12 @@ class Erased(Has):
         lines = text.split("\r")
         told, last = lines[1:-1], lines[-1]
         of_this = [line for line in told if without_numbers(line) == without_numbers(self.begin)]
-        return lines[0] == "" and told == of_this and told[-1:] == [self.begin] and last == ERASED + "".join(self.words)
+        return (
+            lines[0] == ""
+            and told == of_this
+            and told[-1:] == [self.begin]
+            and last == ERASED + "".join(self.words)
+        )
 
 
 def without_numbers(line):
@@ -111,7 +124,9 @@ class Run(NamedTuple):
     out: str = ""  # on standard output
     err: str = ""  # on standard error: one line, after the program's name and `: `
     status: int = 0
-    files: dict = {}  # what else is there: bytes, or the number of bytes of 0, None for what isn't, a Path for a link, {} for a folder, a RecordOf
+    files: dict = (
+        {}
+    )  # what else is there: bytes, or the number of bytes of 0, None for what isn't, a Path for a link, {} for a folder, a RecordOf
     left: dict = {}  # what is changed: bytes, the name of a file that it is equal to, ANY, or None
     modes: dict = {}  # who may read and write a file, before the run and after it
     then: str = ""  # a second command: it gets the text, and its output follows

@@ -41,8 +41,12 @@ def of_definition(file, data, line, fault):
     """A bad file of the folder a, read by both programs."""
     files = {f"a/{file}": data}
     told = f"a/{file}:{line}: {fault}"
-    yield Run(f"{fault} in {file}, dictc", f"{SYSTEM} a/lexicon.csv", err=told, status=1, files=files)
-    yield Run(f"{fault} in {file}, jseg", "jseg --sources a", "も\n", err=told, status=1, files=files)
+    yield Run(
+        f"{fault} in {file}, dictc", f"{SYSTEM} a/lexicon.csv", err=told, status=1, files=files
+    )
+    yield Run(
+        f"{fault} in {file}, jseg", "jseg --sources a", "も\n", err=told, status=1, files=files
+    )
 
 
 def of_lexicon(data, line, fault):
@@ -50,11 +54,19 @@ def of_lexicon(data, line, fault):
     yield from of_definition("lexicon.csv", data, line, fault)
     files = {"bad.csv": data}
     told = f"bad.csv:{line}: {fault}"
-    yield Run(f"{fault} in a second lexicon", f"{SYSTEM} a/lexicon.csv bad.csv", err=told, status=1, files=files)
+    yield Run(
+        f"{fault} in a second lexicon",
+        f"{SYSTEM} a/lexicon.csv bad.csv",
+        err=told,
+        status=1,
+        files=files,
+    )
     yield Run(f"{fault} of a user", f"{USER} bad.csv", err=told, status=1, files=files)
 
 
-ROWS = [run for row in DEFINITIONS for run in of_definition(*row)] + [run for row in LEXICONS for run in of_lexicon(*row)]
+ROWS = [run for row in DEFINITIONS for run in of_definition(*row)] + [
+    run for row in LEXICONS for run in of_lexicon(*row)
+]
 
 # All faults of lexicons, each with its line: those of each file, its ids after its lines; nothing is written.
 FAULTY = "も,1,1,20,助詞\na,1,1\r\n\nb,1,1,x,X\n\tc,2,1,5,\x01\n".encode() + b"\xff,1,1,1,X"
@@ -77,26 +89,60 @@ def told_faults(path, faults):
 
 def of_all(what, words, err, files):
     """What is told with --all-faults. No image is left."""
-    return Run(f"all faults: {what}", f"{words} --all-faults", err=Exactly(err), status=1, files=files)
+    return Run(
+        f"all faults: {what}", f"{words} --all-faults", err=Exactly(err), status=1, files=files
+    )
 
 
 TWO = {"bad.csv": FAULTY, "other.csv": b"c,1,1\n"}
 ROWS += [
     of_all("of a system", f"{SYSTEM} a/lexicon.csv bad.csv", told_faults("bad.csv", FAULTS), TWO),
     of_all("of a user", f"{USER} bad.csv", told_faults("bad.csv", FAULTS), TWO),
-    of_all("of two files", f"{USER} bad.csv other.csv", told_faults("bad.csv", FAULTS) + told_faults("other.csv", [(1, "S2 TooFewFields", "c,1,1")]), TWO),
-    of_all("one", f"{USER} other.csv", told_faults("other.csv", [(1, "S2 TooFewFields", "c,1,1")]), TWO),
-    of_all("a long line", f"{USER} long.csv", told_faults("long.csv", [(1, "S2 TooFewFields", LONG_LINE[:200] + "..")]), {"long.csv": LONG_LINE.encode()}),
-    of_all("20 of 25", f"{USER} many.csv", told_faults("many.csv", [(n + 1, "S2 TooFewFields", f"{n},1,1") for n in range(20)]) + MORE, {"many.csv": TWENTY}),
-    of_all("no line of a lexicon", f"{SYSTEM} bad.csv", "dictc: a/unk.def:7: S2 TooFewFields\n", {**TWO, "a/unk.def": UNK + b"KANJI,1,1\n"}),
-    Run("all faults: none", f"{SYSTEM} --all-faults a/lexicon.csv", out="3 entries, 0 skipped\n", left={"new.img": "sys.img"}),
+    of_all(
+        "of two files",
+        f"{USER} bad.csv other.csv",
+        told_faults("bad.csv", FAULTS)
+        + told_faults("other.csv", [(1, "S2 TooFewFields", "c,1,1")]),
+        TWO,
+    ),
+    of_all(
+        "one", f"{USER} other.csv", told_faults("other.csv", [(1, "S2 TooFewFields", "c,1,1")]), TWO
+    ),
+    of_all(
+        "a long line",
+        f"{USER} long.csv",
+        told_faults("long.csv", [(1, "S2 TooFewFields", LONG_LINE[:200] + "..")]),
+        {"long.csv": LONG_LINE.encode()},
+    ),
+    of_all(
+        "20 of 25",
+        f"{USER} many.csv",
+        told_faults("many.csv", [(n + 1, "S2 TooFewFields", f"{n},1,1") for n in range(20)]) + MORE,
+        {"many.csv": TWENTY},
+    ),
+    of_all(
+        "no line of a lexicon",
+        f"{SYSTEM} bad.csv",
+        "dictc: a/unk.def:7: S2 TooFewFields\n",
+        {**TWO, "a/unk.def": UNK + b"KANJI,1,1\n"},
+    ),
+    Run(
+        "all faults: none",
+        f"{SYSTEM} --all-faults a/lexicon.csv",
+        out="3 entries, 0 skipped\n",
+        left={"new.img": "sys.img"},
+    ),
 ]
 
 # What is reported first.
 BAD_CHARS = {"a/char.def": CHARS + b"0x3007 OTHER\n", "a/unk.def": b"X", "a/lexicon.csv": b"X"}
 BAD_UNK = {"a/unk.def": UNK + b"X", "a/lexicon.csv": b"X"}
 BAD_IDS = {"a/unk.def": UNK + b"KANJI,2,1,1000,X\nKANJI,1,1,x,X\n", "a/lexicon.csv": b"X"}
-C4, S2, S3 = "a/char.def:13: C4 NoSuchCategory", "a/unk.def:7: S2 TooFewFields", "a/unk.def:8: S3 BadNumber"
+C4, S2, S3 = (
+    "a/char.def:13: C4 NoSuchCategory",
+    "a/unk.def:7: S2 TooFewFields",
+    "a/unk.def:8: S3 BadNumber",
+)
 ROWS += [
     Run("char.def before unk.def", f"{SYSTEM} a/lexicon.csv", err=C4, status=1, files=BAD_CHARS),
     Run("unk.def before the lexicon", "jseg --sources a", err=S2, status=1, files=BAD_UNK),
@@ -105,8 +151,24 @@ ROWS += [
 
 # 2^28 entries are 15 GB. These are all of one line, so that memory which repeats holds them.
 MANY_ENTRIES = Under(stdin="entries", repeats=True, seconds=600)
-ROWS.append(Run("too many entries", f"{SYSTEM} /dev/stdin", err="/dev/stdin:268435457: S5 TooMany", status=1, under=MANY_ENTRIES))
+ROWS.append(
+    Run(
+        "too many entries",
+        f"{SYSTEM} /dev/stdin",
+        err="/dev/stdin:268435457: S5 TooMany",
+        status=1,
+        under=MANY_ENTRIES,
+    )
+)
 
 # A line of 4 GB, which repeats too: its feature has one byte more than those of an image may have together.
 LONG_FEATURE = Under(stdin="feature", repeats=True, seconds=600)
-ROWS.append(Run("features too large", f"{SYSTEM} /dev/stdin", err="I3 FeaturesTooLarge", status=1, under=LONG_FEATURE))
+ROWS.append(
+    Run(
+        "features too large",
+        f"{SYSTEM} /dev/stdin",
+        err="I3 FeaturesTooLarge",
+        status=1,
+        under=LONG_FEATURE,
+    )
+)

@@ -11,16 +11,37 @@ DICTIONARIES = [
     Run("a path with a slash behind it", "jseg --sources ./a/", "すもももも\n", SUMOMO),
     Run("a user", "jseg -d sys.img -u user.img", "もも\n", "もも\t名詞,ユーザ\nEOS\n"),
     Run("two users", "jseg -d sys.img -u user.img -u second.img", "もも\n", "もも\t名詞,ユーザ\nEOS\n"),
-    Run("in the other order", "jseg -u second.img -d sys.img -u user.img", "もも\n", "もも\t名詞,二番\nEOS\n"),
+    Run(
+        "in the other order",
+        "jseg -u second.img -d sys.img -u user.img",
+        "もも\n",
+        "もも\t名詞,二番\nEOS\n",
+    ),
 ]
 
 NO_LEXICON = {"a/lexicon.csv": None}
-THREE = {"a/b.csv": b"a,1,1,10,second\n", "a/B.csv": b"a,1,1,10,first\n", "a/é.csv": b"a,1,1,10,third\n"}
-NOT_READ = {"a/dicrc": b"x", "a/lexicon.csv.bak": b"x", "a/left-id.def": b"x", "a/csv": b"x", "a/folder": {}}
+THREE = {
+    "a/b.csv": b"a,1,1,10,second\n",
+    "a/B.csv": b"a,1,1,10,first\n",
+    "a/é.csv": b"a,1,1,10,third\n",
+}
+NOT_READ = {
+    "a/dicrc": b"x",
+    "a/lexicon.csv.bak": b"x",
+    "a/left-id.def": b"x",
+    "a/csv": b"x",
+    "a/folder": {},
+}
 DIRECTORIES = [
     Run("no .csv", "jseg --sources a", "も\n", "も\t未知\nEOS\n", files=NO_LEXICON),
     Run("in byte order of the names", "jseg --sources a", "a\n", "a\tfirst\nEOS\n", files=THREE),
-    Run("a name of .csv alone", "jseg --sources a", "a\n", "a\tX\nEOS\n", files={"a/.csv": b"a,1,1,10,X\n"}),
+    Run(
+        "a name of .csv alone",
+        "jseg --sources a",
+        "a\n",
+        "a\tX\nEOS\n",
+        files={"a/.csv": b"a,1,1,10,X\n"},
+    ),
     Run("files that are not read", "jseg --sources a", "すもももも\n", SUMOMO, files=NOT_READ),
 ]
 
@@ -43,11 +64,35 @@ WITH = SYSTEM.replace(" a/", "=a/").replace(" new", "=new")
 COMPILED = [
     # (what, words, text, what dictc prints, what jseg prints by the new image)
     ("the sample", ALL, "すもももも", "3 entries, 0 skipped", "すもも 名詞,すもも;もも 名詞,もも;152"),
-    ("options behind", f"dictc system a/lexicon.csv {DEFINITIONS} --out new.img", "も", "3 entries, 0 skipped", "も 助詞,も;35"),
+    (
+        "options behind",
+        f"dictc system a/lexicon.csv {DEFINITIONS} --out new.img",
+        "も",
+        "3 entries, 0 skipped",
+        "も 助詞,も;35",
+    ),
     ("options with =", f"{WITH} a/lexicon.csv", "も", "3 entries, 0 skipped", "も 助詞,も;35"),
-    ("another matrix", ALL.replace("a/matrix.def", "matrix"), "もも", "3 entries, 0 skipped", "もも 名詞,もも;46"),
-    ("other categories", ALL.replace("a/char.def", "char"), "　すもも　", "3 entries, 0 skipped", "すもも 名詞,すもも;115"),
-    ("other unknown words", ALL.replace("a/unk.def", "unk"), "z", "3 entries, 0 skipped", "z U;515"),
+    (
+        "another matrix",
+        ALL.replace("a/matrix.def", "matrix"),
+        "もも",
+        "3 entries, 0 skipped",
+        "もも 名詞,もも;46",
+    ),
+    (
+        "other categories",
+        ALL.replace("a/char.def", "char"),
+        "　すもも　",
+        "3 entries, 0 skipped",
+        "すもも 名詞,すもも;115",
+    ),
+    (
+        "other unknown words",
+        ALL.replace("a/unk.def", "unk"),
+        "z",
+        "3 entries, 0 skipped",
+        "z U;515",
+    ),
     ("two lexicons", f"{SYSTEM} x.csv y.csv", "a", "2 entries, 0 skipped", "a X;25"),
     ("in the other order", f"{SYSTEM} y.csv x.csv", "a", "2 entries, 0 skipped", "a Y;25"),
     ("a path with a hyphen", f"{SYSTEM} -- -z.csv", "a", "1 entries, 0 skipped", "a Z;25"),
@@ -63,7 +108,15 @@ USERS = [
 
 
 def compiled(what, words, text, line, cut, by=CUT):
-    return Run(f"compiled: {what}", words, f"{text}\n", f"{line}\n{cut}\n", files=OTHERS, left={"new.img": ANY}, then=by)
+    return Run(
+        f"compiled: {what}",
+        words,
+        f"{text}\n",
+        f"{line}\n{cut}\n",
+        files=OTHERS,
+        left={"new.img": ANY},
+        then=by,
+    )
 
 
 # The options that say how words are cut and printed.
@@ -71,7 +124,11 @@ LONG = 1_048_576
 OPTIONS = [
     # (options, text, output)
     (r"-F '%m/%f[0]/%c/%pn/%pc\s' -E '%pc\n'", "すもももも", "すもも/名詞/100/110/110 もも/名詞/30/37/147 152\n"),
-    (r"-F '%M|%ps|%pe|%pl|%pL|%pS;' -E '%L\n'", " すもも  もも ", " すもも|1|10|9|10| ;  もも|12|18|6|8|  ;19\n"),
+    (
+        r"-F '%M|%ps|%pe|%pl|%pL|%pS;' -E '%L\n'",
+        " すもも  もも ",
+        " すもも|1|10|9|10| ;  もも|12|18|6|8|  ;19\n",
+    ),
     (r"-B '[%S]' -F '%m/' -E '%L|%pc\n'", "すもも", "[すもも]すもも/9|115\n"),
     (r"-F '%phl,%phr,%pC;'", "すもももも", "1,1,10;1,1,7;EOS\n"),
     (r"-F '%m:%s\s'", "もz", "も:0 z:1 EOS\n"),
@@ -112,10 +169,38 @@ TEXTS = [
     Run("a line without its end", "jseg --sample", "も\nも", MO + MO),
     Run("a carriage return", "jseg --sample -O wakati", "も\r\n", "も \r \n"),
     Run("a character behind U+FFFF", "jseg --sample -O wakati", "𠮷野\n", "𠮷 野 \n"),
-    Run("not UTF-8", "jseg --sample", b"\xe3\x82\x82\n\xff\n\xe3\x82\x82\n", MO, "line 2: G3 NotUtf8", 1),
-    Run("not UTF-8 at the end", "jseg --sample", b"\xe3\x82\x82\n\xe3\x82", MO, "line 2: G3 NotUtf8", 1),
-    Run("a line that is too long", "jseg --sample", "も\n" + "z" * (LONG + 1), MO, "line 2: G4 TooLong", 1),
-    Run("too long before not UTF-8", "jseg --sample", b"\xff" + b"z" * LONG, "", "line 1: G4 TooLong", 1),
+    Run(
+        "not UTF-8",
+        "jseg --sample",
+        b"\xe3\x82\x82\n\xff\n\xe3\x82\x82\n",
+        MO,
+        "line 2: G3 NotUtf8",
+        1,
+    ),
+    Run(
+        "not UTF-8 at the end",
+        "jseg --sample",
+        b"\xe3\x82\x82\n\xe3\x82",
+        MO,
+        "line 2: G3 NotUtf8",
+        1,
+    ),
+    Run(
+        "a line that is too long",
+        "jseg --sample",
+        "も\n" + "z" * (LONG + 1),
+        MO,
+        "line 2: G4 TooLong",
+        1,
+    ),
+    Run(
+        "too long before not UTF-8",
+        "jseg --sample",
+        b"\xff" + b"z" * LONG,
+        "",
+        "line 1: G4 TooLong",
+        1,
+    ),
 ]
 
 # (options, code, name and byte)
@@ -143,6 +228,9 @@ ROWS = [
     *(compiled(*row, by=CUT.replace("new.img", "sys.img -u new.img")) for row in USERS),
     *(run for row in OPTIONS for run in with_options(*row)),
     *TEXTS,
-    *(Run(f"{options}: {fault}", f"jseg --sample {options}", "も\n", err=fault, status=2) for options, fault in FORMATS),
+    *(
+        Run(f"{options}: {fault}", f"jseg --sample {options}", "も\n", err=fault, status=2)
+        for options, fault in FORMATS
+    ),
     Run("a format before an image", "jseg -d none.img -F %q", err="P2 BadItem 0", status=2),
 ]

@@ -29,7 +29,9 @@ def read_so_much(out, count):
 
 def faults_of_turns(program):
     """What is not as it should be."""
-    with subprocess.Popen([program, "--sample"], stdin=subprocess.PIPE, stdout=subprocess.PIPE, bufsize=0) as process:
+    with subprocess.Popen(
+        [program, "--sample"], stdin=subprocess.PIPE, stdout=subprocess.PIPE, bufsize=0
+    ) as process:
         for asked, answer in TURNS:
             process.stdin.write(asked.encode())
             found = read_so_much(process.stdout, len(answer.encode()))

@@ -33,7 +33,13 @@ def surroundings():
 def of_bash(words, folder):
     """What bash completes after these words, of which the last one has begun."""
     asked = ["bash", "--norc", "-c", OF_BASH, "bash", HERE / "kumquatsieve.bash", *words]
-    done = subprocess.run(asked, capture_output=True, text=True, cwd=folder, env={**surroundings(), "HOME": str(folder.parent)})
+    done = subprocess.run(
+        asked,
+        capture_output=True,
+        text=True,
+        cwd=folder,
+        env={**surroundings(), "HOME": str(folder.parent)},
+    )
     if done.returncode != 0 or done.stderr:
         sys.exit(f"bash can't complete {' '.join(words)}: {done.stderr}")
     *found, noted = filter(None, done.stdout.split("\n"))
@@ -67,7 +73,13 @@ def typed(shell, keys, folder):
     process, terminal = pty.fork()
     if process == 0:
         os.chdir(folder)
-        place = {"ASKED": str(answer), "COMPLETIONS": str(HERE), "HOME": str(folder.parent), "INPUTRC": "/dev/null", "TERM": "dumb"}
+        place = {
+            "ASKED": str(answer),
+            "COMPLETIONS": str(HERE),
+            "HOME": str(folder.parent),
+            "INPUTRC": "/dev/null",
+            "TERM": "dumb",
+        }
         os.execvpe(shell, INTERACTIVE[shell], {**surroundings(), **place})
     os.write(terminal, f". {HERE}/asked.{shell}\n{keys}".encode())
     printed = printed_on(terminal)

@@ -29,7 +29,16 @@ HOMES = tuple(
 )
 NAMES = {"own", "ipadic", "shared", "two words", COMMAND}
 ROWS = [
-    *((f"PREFIX/bin/{words} ", NAMES | FILES) for words in ("jseg -d", "jseg -u", "dictc user --dic", "kumquatsieve-cut -d", "kumquatsieve-cut -u")),
+    *(
+        (f"PREFIX/bin/{words} ", NAMES | FILES)
+        for words in (
+            "jseg -d",
+            "jseg -u",
+            "dictc user --dic",
+            "kumquatsieve-cut -d",
+            "kumquatsieve-cut -u",
+        )
+    ),
     ("PREFIX/bin/kumquatsieve-import --user ", NAMES | FILES),
     *((f"PREFIX/bin/dictc ids {option} ", NAMES | FILES) for option in ("--dic", "-u")),
     ("PREFIX/bin/jseg -d i", {"ipadic"}),
@@ -54,7 +63,10 @@ ROWS = [
     ("kumquatsieve-import -v ipadic ", FILES),
     ("kumquatsieve-import --encoding ", ENCODINGS),
     ("kumquatsieve-import --user a --out ", FILES),
-    *((f"PREFIX/bin/kumquatsieve-import --test {words}", NAMES | FILES) for words in ("", "a-file ")),
+    *(
+        (f"PREFIX/bin/kumquatsieve-import --test {words}", NAMES | FILES)
+        for words in ("", "a-file ")
+    ),
     ("kumquatsieve-import --user a --out b ", FILES),
 ]
 
@@ -73,7 +85,10 @@ LINES = [
 
 def faults(helped):
     """What is completed and should not be, or the other way round. `helped` has for each command line what its help lists; the rows follow."""
-    shells = {"bash": of_bash, **({"zsh": of_zsh} if shutil.which("zsh") and has_terminals() else {})}
+    shells = {
+        "bash": of_bash,
+        **({"zsh": of_zsh} if shutil.which("zsh") and has_terminals() else {}),
+    }
     rows, lines = [*helped, *ROWS], LINES if has_terminals() else []
     found = []
     with tempfile.TemporaryDirectory() as made:
@@ -82,13 +97,21 @@ def faults(helped):
             words = line.replace("PREFIX", made).split(" ")
             for shell, completed in shells.items():
                 expected = set(wanted) - {COMMAND} if shell == "bash" else set(wanted)
-                differ = {word.replace(made, "PREFIX") for word in completed(words, folder)} ^ expected
-                found += [f"{shell}, after {line!r}: {word!r} is {'not ' * (word in expected)}completed" for word in sorted(differ)]
+                differ = {
+                    word.replace(made, "PREFIX") for word in completed(words, folder)
+                } ^ expected
+                found += [
+                    f"{shell}, after {line!r}: {word!r} is {'not ' * (word in expected)}completed"
+                    for word in sorted(differ)
+                ]
         found += faults_of_lines(shells, lines, folder, f"{made}/bin/jseg -d ")
         if (folder / "ran").exists():
             found.append(f"the name {COMMAND!r} was run")
     left_out = "" if "zsh" in shells else ", and not by zsh, for want of it or of a terminal"
-    return found, f"{len(rows) + len(lines)} command lines completed by {' and by '.join(shells)}{left_out}"
+    return (
+        found,
+        f"{len(rows) + len(lines)} command lines completed by {' and by '.join(shells)}{left_out}",
+    )
 
 
 def faults_of_lines(shells, lines, folder, begun):
@@ -102,7 +125,14 @@ def faults_of_lines(shells, lines, folder, begun):
 
 def made_folder(prefix):
     """A folder with a file and a folder, beside what is installed."""
-    for path in ("bin/jseg", "bin/dictc", "bin/kumquatsieve-cut", "bin/kumquatsieve-import", *HOMES, f"here/{FILE}"):
+    for path in (
+        "bin/jseg",
+        "bin/dictc",
+        "bin/kumquatsieve-cut",
+        "bin/kumquatsieve-import",
+        *HOMES,
+        f"here/{FILE}",
+    ):
         (prefix / path).parent.mkdir(parents=True, exist_ok=True)
         (prefix / path).touch(0o755)
     (prefix / "here" / FOLDER).mkdir()

@@ -24,5 +24,9 @@ class Sources(NamedTuple):
         for name, text in {**names, "lexicon": self.lexicon}.items():
             (folder / f"{name}.def").write_text(text)
         words = [word for name in names for word in (f"--{name}", folder / f"{name}.def")]
-        subprocess.run([dictc, "system", *words, "--out", folder / "system.img", folder / "lexicon.def"], check=True, stdout=subprocess.DEVNULL)
+        subprocess.run(
+            [dictc, "system", *words, "--out", folder / "system.img", folder / "lexicon.def"],
+            check=True,
+            stdout=subprocess.DEVNULL,
+        )
         return folder / "system.img"

@@ -65,7 +65,9 @@ def seconds_of(what, run):
     with tempfile.TemporaryFile() as text, tempfile.TemporaryFile() as printed, tempfile.TemporaryFile() as told:
         text.write(run.text)
         text.seek(0)
-        started = subprocess.Popen(list(map(str, run.command)), stdin=text, stdout=printed, stderr=told, preexec_fn=limit)
+        started = subprocess.Popen(
+            list(map(str, run.command)), stdin=text, stdout=printed, stderr=told, preexec_fn=limit
+        )
         _, ended, used = os.wait4(started.pid, 0)
         started.returncode = os.waitstatus_to_exitcode(ended)
         if started.returncode == -signal.SIGXCPU:
@@ -73,22 +75,29 @@ def seconds_of(what, run):
         printed.seek(0)
         told.seek(0)
         if started.returncode not in run.statuses:
-            sys.exit(f"{what}: status {started.returncode}: {told.read(1000).decode(errors='replace').strip()}")
+            sys.exit(
+                f"{what}: status {started.returncode}: {told.read(1000).decode(errors='replace').strip()}"
+            )
         if run.printed is not None and printed.read() != run.printed:
             sys.exit(f"{what}: prints something else than it should")
         fault = told.read()
         if not fault.endswith(run.told):
-            sys.exit(f"{what}: tells {fault[:1000].decode(errors='replace').strip()}, and not {run.told.decode().strip()}")
+            sys.exit(
+                f"{what}: tells {fault[:1000].decode(errors='replace').strip()}, and not {run.told.decode().strip()}"
+            )
     return used.ru_utime + used.ru_stime
 
 
 def times_of(shape, rounds, most):
     """The least time of each of both, which run in turn. Where the first round leaves no doubt that the bound is missed, it is the only one. Where
-    the bound is missed after all rounds, they are run once more, since other work may have taken the processor from one of both."""
+    the bound is missed after all rounds, they are run once more, since other work may have taken the processor from one of both.
+    """
     times = ([], [])
     for number in range(2 * rounds):
         for part, run in zip(times, (shape.honest, shape.hostile)):
-            part.append(seconds_of(f"{shape.name}, {'hostile' if part is times[1] else 'honest'}", run))
+            part.append(
+                seconds_of(f"{shape.name}, {'hostile' if part is times[1] else 'honest'}", run)
+            )
         honest, hostile = min(times[0]), min(times[1])
         if number == 0 and hostile > max(CLEAR, 4 * shape.bound(honest, most)):
             break
@@ -101,13 +110,20 @@ def judged(shapes, known, options):
     """Prints a row for each shape, and answers the faults: a bound that is missed, or one that is met and is known not to be. Of small inputs the
     latter is only reported, since what costs much there may not show."""
     print(f"{'shape':28} {'honest':>9} {'hostile':>9} {'ratio':>8}  {'bound':16} size")
-    faults = [f"KNOWN names no shape: {name}" for name in known if name not in {shape.name for shape in shapes}]
+    faults = [
+        f"KNOWN names no shape: {name}"
+        for name in known
+        if name not in {shape.name for shape in shapes}
+    ]
     most = QUICK_MOST if options.quick else MOST
     for shape in shapes:
         honest, hostile = times_of(shape, options.rounds, most)
         is_met = hostile <= shape.bound(honest, most)
         told = f"{shape.bound_told(most)}, {'met' if is_met else 'not met'}"
-        print(f"{shape.name:28} {honest:7.3f} s {hostile:7.3f} s {hostile / honest:8.2f}  {told:16} {shape.size}", flush=True)
+        print(
+            f"{shape.name:28} {honest:7.3f} s {hostile:7.3f} s {hostile / honest:8.2f}  {told:16} {shape.size}",
+            flush=True,
+        )
         if is_met and shape.name in known and options.quick:
             print("    known, and met at this size")
         elif is_met and shape.name in known:
@@ -115,16 +131,27 @@ def judged(shapes, known, options):
         elif not is_met and shape.name in known:
             print(f"    known: {known[shape.name]}")
         elif not is_met:
-            faults.append(f"{shape.name}: takes more than {shape.bound_told(most)}{'' if shape.seconds else ' as long as the honest one'}")
+            faults.append(
+                f"{shape.name}: takes more than {shape.bound_told(most)}{'' if shape.seconds else ' as long as the honest one'}"
+            )
     return faults
 
 
 def chosen(about, rounds, programs, **others):
     """The options of a script: how often each input is run, and where the programs stand. Where one is not there, the script ends. Each of the
     others has a default, one for small inputs, and what `--help` says of it."""
-    options = argparse.ArgumentParser(description=about, formatter_class=argparse.RawDescriptionHelpFormatter)
-    options.add_argument("--rounds", type=int, metavar="N", help=f"how often each input is run; {rounds}, and {QUICK_ROUNDS} of small ones")
-    options.add_argument("--quick", action="store_true", help="small inputs, at which the ratios show too")
+    options = argparse.ArgumentParser(
+        description=about, formatter_class=argparse.RawDescriptionHelpFormatter
+    )
+    options.add_argument(
+        "--rounds",
+        type=int,
+        metavar="N",
+        help=f"how often each input is run; {rounds}, and {QUICK_ROUNDS} of small ones",
+    )
+    options.add_argument(
+        "--quick", action="store_true", help="small inputs, at which the ratios show too"
+    )
     for name in programs:
         options.add_argument(f"--{name}", type=Path, default=TOP / "crates" / name / "out" / name)
     for name, (_, _, told) in others.items():
@@ -136,7 +163,10 @@ def chosen(about, rounds, programs, **others):
             setattr(found, name, small if found.quick else usual)
     missing = [str(getattr(found, name)) for name in programs if not getattr(found, name).exists()]
     if missing:
-        print(f"nothing was measured: {' and '.join(missing)} not built; `rt run` in the crate's folder builds it", file=sys.stderr)
+        print(
+            f"nothing was measured: {' and '.join(missing)} not built; `rt run` in the crate's folder builds it",
+            file=sys.stderr,
+        )
         sys.exit(2)
     return found
 

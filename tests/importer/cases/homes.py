@@ -36,7 +36,13 @@ ROWS = [
     Row("the user's data", {**DATA, **HOME}, False, "HERE/data/kumquatsieve", OWN),
     Row("the user's home", HOME, False, "HERE/home/.local/share/kumquatsieve", OWN),
     Row("the user's data, of a group", DATA, False, "HERE/data/kumquatsieve", OWN, umask=0o002),
-    Row("relative data", {"XDG_DATA_HOME": "data", **HOME}, False, "HERE/home/.local/share/kumquatsieve", OWN),
+    Row(
+        "relative data",
+        {"XDG_DATA_HOME": "data", **HOME},
+        False,
+        "HERE/home/.local/share/kumquatsieve",
+        OWN,
+    ),
     Row("no home", {"HOME": "home"}, False, "", err=f"{SYSTEM}: Permission denied"),
 ]
 
@@ -48,7 +54,10 @@ def in_place(text, programs, work):
 def run(programs, work, row, words, text=""):
     """Runs a program as who may not write the system's folder, where that is closed."""
     user = NOBODY if os.geteuid() == 0 and not row.is_open else None
-    place = {"PATH": os.environ["PATH"], **{name: in_place(value, programs, work) for name, value in row.variables.items()}}
+    place = {
+        "PATH": os.environ["PATH"],
+        **{name: in_place(value, programs, work) for name, value in row.variables.items()},
+    }
     groups = None if user is None else []
     return subprocess.run(
         words,
@@ -91,7 +100,12 @@ def differs(row, programs, work, ran):
         return
     home = in_place(row.home, programs, work)
     said = [line for line in ran.stdout.splitlines() if line.startswith(("image: ", "home: "))]
-    if ran.returncode != 0 or len(said) != 2 or not said[0].startswith(f"image: {home}/dic.img, ") or said[1] != in_place(row.said, programs, work):
+    if (
+        ran.returncode != 0
+        or len(said) != 2
+        or not said[0].startswith(f"image: {home}/dic.img, ")
+        or said[1] != in_place(row.said, programs, work)
+    ):
         yield f"prints {ran.stdout!r} and tells {ran.stderr!r} with status {ran.returncode}, not that it is in {home}"
         return
     modes = [stat.S_IMODE(os.stat(path).st_mode) for path in (home, f"{home}/dic.img")]
@@ -99,6 +113,12 @@ def differs(row, programs, work, ran):
         yield f"makes {home} and its image with modes {' and '.join(f'{mode:o}' for mode in modes)}"
     if f"tested: {home}/dic.img\n" not in ran.stdout or not os.path.exists(f"{home}/dic.tested"):
         yield f"prints {ran.stdout!r}, and leaves {os.listdir(home)}"
-    cut = run(programs, work, row, [programs / "jseg", "-d", "dic", "-O", "wakati"], (SAMPLE / "text.txt").read_text())
+    cut = run(
+        programs,
+        work,
+        row,
+        [programs / "jseg", "-d", "dic", "-O", "wakati"],
+        (SAMPLE / "text.txt").read_text(),
+    )
     if cut.stdout != WORDS:
         yield f"jseg -d dic prints {cut.stdout!r} and tells {cut.stderr!r}"

@@ -26,7 +26,9 @@ MAKING = ("mkdir", "mkdirat", "mknod", "mknodat", "symlink", "symlinkat", "link"
 MAKING += ("rename", "renameat", "renameat2", "chmod", "fchmod", "fchmodat", "write", "fsync")
 OTHERS = ("unlink", "unlinkat", "rmdir", "pipe2", "vfork", "clone", "clone3", "close", "openat")
 DICRC = b"; f[0]: pos\n; f[1]: reading\n"
-SOURCES = in_code("euc_jp", a_csv="ん,1,1,5,X,ん\n".encode("euc_jp") * 2 + b"\xa4,1,1,5,X,X\n", dicrc=DICRC)
+SOURCES = in_code(
+    "euc_jp", a_csv="ん,1,1,5,X,ん\n".encode("euc_jp") * 2 + b"\xa4,1,1,5,X,X\n", dicrc=DICRC
+)
 SOURCES["pos-id.def"] = "名詞 1\n".encode("euc_jp")
 # One is made UTF-8, and one is read where it stands.
 LEXICONS = {"a.csv": "ん,1,1,5,X,ん\n".encode("euc_jp") * 2, "b.csv": b"A,1,1,5,X,A\n"}
@@ -56,8 +58,14 @@ class Kind(NamedTuple):
 
 def kinds(programs, folder):
     """Imports of a folder, and of lexicons for the sample's dictionary."""
-    settings = {"old.dicrc": DICRC, "old.pos-id.def": "名詞 1\n".encode(), "old.fields": b"pos\nreading\n"}
-    of_folder = Kind("folder", ("dic", "old.img"), SOURCES, {"old.dicrc": b"old", "old.fields": b"old"}, settings)
+    settings = {
+        "old.dicrc": DICRC,
+        "old.pos-id.def": "名詞 1\n".encode(),
+        "old.fields": b"pos\nreading\n",
+    }
+    of_folder = Kind(
+        "folder", ("dic", "old.img"), SOURCES, {"old.dicrc": b"old", "old.fields": b"old"}, settings
+    )
     system = compiled(programs, folder / "system", FILES, ["lexicon.csv"])
     words = ("--user", "dic/sys.img", "--out", "old.img", *(f"dic/{name}" for name in LEXICONS))
     return of_folder, Kind("user", words, {**LEXICONS, "sys.img": system}, {}, {})
@@ -96,7 +104,10 @@ def is_image(data):
 
 def stands(kind, work):
     """What stands where the import wrote: a name, or what is wrong."""
-    found = {path.name: path.read_bytes() if path.is_file() else None for path in [*work.iterdir(), *(work / "tmp").iterdir()]}
+    found = {
+        path.name: path.read_bytes() if path.is_file() else None
+        for path in [*work.iterdir(), *(work / "tmp").iterdir()]
+    }
     rest = {name: data for name, data in found.items() if name not in ("dic", "tmp")}
     image, record = rest.pop("old.img", None), rest.pop("old.tested", None)
     if rest == kind.old and image == b"old" and record == b"old":
@@ -121,7 +132,16 @@ def calls(kind, programs, work):
     """How often each call comes in a process of a run without faults, as strace sees it; None where it can't."""
     prepare(kind, work)
     names = ",".join(f"?{name}" for name in MAKING + OTHERS)
-    words = ["strace", "-f", "-qq", "-o", work.parent / "trace", "-e", f"trace={names}", *command(kind, programs)]
+    words = [
+        "strace",
+        "-f",
+        "-qq",
+        "-o",
+        work.parent / "trace",
+        "-e",
+        f"trace={names}",
+        *command(kind, programs),
+    ]
     try:
         ran = subprocess.run(words, cwd=work, env=environment(work), capture_output=True)
     except FileNotFoundError:
@@ -169,7 +189,11 @@ def wrong_by_table(kind, programs, folder):
         return None, []
     table = list(injections(found))
     with ThreadPoolExecutor(min(4, os.cpu_count() or 1)) as pool:
-        faults = [fault for one in pool.map(lambda one: injected(one, kind, programs, folder), table) for fault in one]
+        faults = [
+            fault
+            for one in pool.map(lambda one: injected(one, kind, programs, folder), table)
+            for fault in one
+        ]
     return len(table), faults
 
 
@@ -183,7 +207,13 @@ def wrong_by_signal(number, kind, programs, folder):
     begun = folder / f"{number.name}.begun"
     # A caller in the background ignores some signals, and so would the import.
     heard = lambda: signal.signal(number, signal.SIG_DFL)  # noqa: E731
-    ran = subprocess.Popen(command(kind, slow), cwd=work, env=environment(work, BEGUN=str(begun)), stdout=subprocess.DEVNULL, preexec_fn=heard)
+    ran = subprocess.Popen(
+        command(kind, slow),
+        cwd=work,
+        env=environment(work, BEGUN=str(begun)),
+        stdout=subprocess.DEVNULL,
+        preexec_fn=heard,
+    )
     while not begun.exists() and ran.poll() is None:
         time.sleep(0.01)
     ran.send_signal(number)
@@ -198,7 +228,14 @@ def wrong_by_output(name, target, kind, programs, folder):
     work = folder / name
     prepare(kind, work)
     closing = (lambda: os.close(1)) if target is None else None
-    ran = subprocess.run(command(kind, programs), cwd=work, env=environment(work), stdout=target, stderr=subprocess.PIPE, preexec_fn=closing)
+    ran = subprocess.run(
+        command(kind, programs),
+        cwd=work,
+        env=environment(work),
+        stdout=target,
+        stderr=subprocess.PIPE,
+        preexec_fn=closing,
+    )
     if ran.returncode != 3 or not ran.stderr.startswith(b"kumquatsieve-import: standard output: "):
         yield f"tells {ran.stderr!r} with status {ran.returncode}"
     if stands(kind, work) != "old":
@@ -226,7 +263,13 @@ def wrong_by_memory(megabytes, kind, programs, folder):
     (work / "dic" / "a.csv").write_bytes("ん,1,1,5,名詞,ん\n".encode("euc_jp") * 400_000)
     limit = megabytes << 20
     bound = lambda: resource.setrlimit(resource.RLIMIT_AS, (limit, limit))  # noqa: E731
-    ran = subprocess.run(command(kind, programs), cwd=work, env=environment(work), capture_output=True, preexec_fn=bound)
+    ran = subprocess.run(
+        command(kind, programs),
+        cwd=work,
+        env=environment(work),
+        capture_output=True,
+        preexec_fn=bound,
+    )
     if stands(kind, work) != ("new" if ran.returncode == 0 else "old"):
         yield f"status {ran.returncode} leaves {stands(kind, work)}"
     if ran.stderr.startswith(b"kumquatsieve-import: ") and ran.returncode not in (0, 4):
@@ -247,7 +290,9 @@ def wrong_by_stop(kind, programs, folder):
     os.mkfifo(work / "old.img")
     with open(os.open(work / "old.img", os.O_RDONLY | os.O_NONBLOCK), "rb") as pipe:
         room = fcntl.fcntl(pipe, SET_ROOM, 1)
-        ran = subprocess.Popen(command(kind, programs), cwd=work, env=environment(work), stdout=subprocess.DEVNULL)
+        ran = subprocess.Popen(
+            command(kind, programs), cwd=work, env=environment(work), stdout=subprocess.DEVNULL
+        )
         while in_pipe(pipe) < room and ran.poll() is None:
             time.sleep(0.01)
         ran.send_signal(signal.SIGSTOP)

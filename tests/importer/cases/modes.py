@@ -29,7 +29,9 @@ def of_folder(name, image, umask, mode, to=None):
 
 
 def of_user(name, image, umask, mode):
-    return Row(name, ("--user", "sys.img", "--out", image, "dic/lexicon.csv"), umask, (image,), mode)
+    return Row(
+        name, ("--user", "sys.img", "--out", image, "dic/lexicon.csv"), umask, (image,), mode
+    )
 
 
 ROWS = [
@@ -55,7 +57,13 @@ def wrong(row, programs, work):
     (system / "old.img").chmod(0o644)
     (work / "link.img").symlink_to(system / "old.img")
     words = [word.replace("PREFIX", str(prefix)) for word in row.words]
-    ran = subprocess.run([programs / "kumquatsieve-import", *words], cwd=work, capture_output=True, text=True, umask=row.umask)
+    ran = subprocess.run(
+        [programs / "kumquatsieve-import", *words],
+        cwd=work,
+        capture_output=True,
+        text=True,
+        umask=row.umask,
+    )
     if ran.returncode != 0:
         yield f"tells {ran.stderr!r} with status {ran.returncode}"
     for name in row.made:

@@ -79,8 +79,11 @@ def used(work):
     found = {ending: work / f"new.{ending}" for ending in ENDINGS}
     texts = {ending: path.read_bytes() for ending, path in found.items() if path.exists()}
     line = headed(image, b"")
-    return image, {ending: text for ending, text in texts.items()
-                   if text.startswith(line) or not text.startswith(b"; image-sha256 ")}
+    return image, {
+        ending: text
+        for ending, text in texts.items()
+        if text.startswith(line) or not text.startswith(b"; image-sha256 ")
+    }
 
 
 def check_killed(programs, work, old, new):

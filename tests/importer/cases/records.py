@@ -144,8 +144,14 @@ ROWS = [
     refused("layout 3, an id", "user.img", BAD_ID, written("user.img", BAD_3)),
     refused("no image", "text", "L1 Truncated"),
     refused("a device", "/dev/null", "L1 Truncated"),
-    Row("two fail", ("text", "none", "a.img"), ("tested: a.img",), ("text: L1 Truncated", NONE), 1,
-        ("a.img",)),
+    Row(
+        "two fail",
+        ("text", "none", "a.img"),
+        ("tested: a.img",),
+        ("text: L1 Truncated", NONE),
+        1,
+        ("a.img",),
+    ),
     Row("a folder", ("dic",), err=("dic: Is a directory",), status=3),
     Row("no /proc", err=(NO_FD,), status=3, before=NO_PROC),
     Row("no images", (), err=(WANTED,), status=2),
@@ -156,8 +162,12 @@ ROWS = [
     imported("by a link", ("tested: link.img",), ("dic", "link.img"), recorded=("a.img",)),
     imported("a user's import", ("tested: new.img",), OF_USER, recorded=("new.img",)),
     imported("to a device", (), ("dic", "/dev/null")),
-    imported("to an open folder", (f"tested, not recorded: dir/new.img: {IN_FOLDER}",),
-             ("dic", "dir/new.img"), change=open_to_all),
+    imported(
+        "to an open folder",
+        (f"tested, not recorded: dir/new.img: {IN_FOLDER}",),
+        ("dic", "dir/new.img"),
+        change=open_to_all,
+    ),
     imported("without /proc", (f"not tested: new.img: {NO_FD}",), before=NO_PROC),
 ]
 
@@ -169,16 +179,18 @@ def seconds(nanoseconds):
 def text_of(path):
     """The record that a file should have, by the words of the documents."""
     of = os.stat(path)
-    return "\n".join([
-        "kumquatsieve-tested 1",
-        f"device {os.major(of.st_dev)}:{os.minor(of.st_dev)}",
-        f"inode {of.st_ino}",
-        f"size {of.st_size}",
-        f"mtime {seconds(of.st_mtime_ns)}",
-        f"ctime {seconds(of.st_ctime_ns)}",
-        f"sha256 {hashlib.sha256(path.read_bytes()).hexdigest()}",
-        "",
-    ])
+    return "\n".join(
+        [
+            "kumquatsieve-tested 1",
+            f"device {os.major(of.st_dev)}:{os.minor(of.st_dev)}",
+            f"inode {of.st_ino}",
+            f"size {of.st_size}",
+            f"mtime {seconds(of.st_mtime_ns)}",
+            f"ctime {seconds(of.st_ctime_ns)}",
+            f"sha256 {hashlib.sha256(path.read_bytes()).hexdigest()}",
+            "",
+        ]
+    )
 
 
 def prepare(row, programs, work):

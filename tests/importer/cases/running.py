@@ -6,14 +6,19 @@ from pathlib import Path
 
 TOP = Path(__file__).resolve().parents[3]
 SAMPLE = TOP / "examples" / "sample"
-FILES = {path.name: path.read_bytes() for path in SAMPLE.iterdir() if path.suffix in (".def", ".csv")}
+FILES = {
+    path.name: path.read_bytes() for path in SAMPLE.iterdir() if path.suffix in (".def", ".csv")
+}
 PROGRAMS = [TOP / "crates" / name / "out" / name for name in ("dictc", "jseg")]
 MARK = b"\xef\xbb\xbf"
 
 
 def in_code(code, **others):
     """The sample's sources in an encoding, and other files: the name of one has `_` for its point."""
-    return {**{name: data.decode().encode(code) for name, data in FILES.items()}, **files_of(others)}
+    return {
+        **{name: data.decode().encode(code) for name, data in FILES.items()},
+        **files_of(others),
+    }
 
 
 def files_of(others):
@@ -25,7 +30,10 @@ def install(folder):
     (folder / "bin").mkdir()
     for path in [*PROGRAMS, TOP / "importer/kumquatsieve-import"]:
         shutil.copy(path, folder / "bin")
-    shutil.copytree(TOP / "importer/kumquatsieve_import", folder / "lib" / "kumquatsieve" / "kumquatsieve_import")
+    shutil.copytree(
+        TOP / "importer/kumquatsieve_import",
+        folder / "lib" / "kumquatsieve" / "kumquatsieve_import",
+    )
     return folder / "bin"
 
 

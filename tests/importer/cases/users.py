@@ -51,23 +51,85 @@ CHOICE = "a.csv: --encoding has to choose: UTF-8 fits; EUC-JP fits; EUC-JIS-2004
 ROWS = [
     Row("UTF-8", ONE, "UTF-8", {"a.csv": WORD}),
     Row("EUC-JP", {"a.csv": WORD.encode("euc_jp")}, "EUC-JP", {"a.csv": WORD}),
-    Row("EUC-JP named", {"a.csv": WORD.encode("euc_jp")}, "EUC-JP", {"a.csv": WORD}, options=named("euc-jp")),
-    Row("Shift_JIS named", {"a.csv": WORD.encode("cp932")}, "CP932", {"a.csv": WORD}, options=named("shift_jis")),
-    Row("two lexicons", {"a.csv": WORD.encode("cp932"), "b": OTHER.encode("cp932")}, "CP932", {"a.csv": WORD, "b": OTHER}),
+    Row(
+        "EUC-JP named",
+        {"a.csv": WORD.encode("euc_jp")},
+        "EUC-JP",
+        {"a.csv": WORD},
+        options=named("euc-jp"),
+    ),
+    Row(
+        "Shift_JIS named",
+        {"a.csv": WORD.encode("cp932")},
+        "CP932",
+        {"a.csv": WORD},
+        options=named("shift_jis"),
+    ),
+    Row(
+        "two lexicons",
+        {"a.csv": WORD.encode("cp932"), "b": OTHER.encode("cp932")},
+        "CP932",
+        {"a.csv": WORD, "b": OTHER},
+    ),
     Row("a mark", {"a.csv": MARK + WORD.encode()}, "UTF-8", {"a.csv": WORD}),
     Row("a name of any bytes", {b"\xff\n.csv": WORD.encode()}, "UTF-8", {"a.csv": WORD}),
     Row("options behind", ONE, "UTF-8", {"a.csv": WORD}, options=(), words=("a.csv", *OPTIONS)),
     refused("a broken line", TWO_CODES, "a.csv:3: it is not EUC-JP", 1, *named("euc-jp")),
     refused("no numbers", {"a.csv": b"a,,,,X\n"}, "a.csv:1: S3 BadNumber", 1),
     refused("alpha or another", {"a.csv": b"\xce\xb1,1,1,5,X\n"}, CHOICE, 1),
-    refused("the image is a lexicon", ONE, "a.csv is a file that is read: a.csv", 2, "--user", "sys.img", "--out", "a.csv"),
-    refused("the image is the system's", ONE, "link.img is a file that is read: sys.img", 2, "--user", "sys.img", "--out", "link.img"),
-    refused("the system's by its name", ONE, "sys.img is a file that is read: HOME/kumquatsieve/here.img", 2, "--user", "here", "--out", "sys.img"),
-    refused("the image is a folder", ONE, "folder: it is a folder", 3, "--user", "sys.img", "--out", "folder"),
+    refused(
+        "the image is a lexicon",
+        ONE,
+        "a.csv is a file that is read: a.csv",
+        2,
+        "--user",
+        "sys.img",
+        "--out",
+        "a.csv",
+    ),
+    refused(
+        "the image is the system's",
+        ONE,
+        "link.img is a file that is read: sys.img",
+        2,
+        "--user",
+        "sys.img",
+        "--out",
+        "link.img",
+    ),
+    refused(
+        "the system's by its name",
+        ONE,
+        "sys.img is a file that is read: HOME/kumquatsieve/here.img",
+        2,
+        "--user",
+        "here",
+        "--out",
+        "sys.img",
+    ),
+    refused(
+        "the image is a folder",
+        ONE,
+        "folder: it is a folder",
+        3,
+        "--user",
+        "sys.img",
+        "--out",
+        "folder",
+    ),
     refused("a slash", ONE, "new/ is no file name", 3, "--user", "sys.img", "--out", "new/"),
     refused("no file", {}, "none.csv: No such file or directory", 3, words=("none.csv",)),
     refused("no image", ONE, "text: L2 BadMagic", 1, "--user", "text", "--out", "new.img"),
-    refused("no image of a name of any bytes", ONE, "an argument is not UTF-8", 2, "--user", b"none\xff.img", "--out", "new.img"),
+    refused(
+        "no image of a name of any bytes",
+        ONE,
+        "an argument is not UTF-8",
+        2,
+        "--user",
+        b"none\xff.img",
+        "--out",
+        "new.img",
+    ),
     *(nowhere(name, *HOMES) for name in ("none", "new", "image", "empty", "000000.csv")),
     *(nowhere(name) for name in ("./none", "./new", "../000000.csv", "../image")),
     refused("no lexicon", {}, WANTED, 2),
@@ -79,7 +141,15 @@ ROWS = [
 def image_of(programs, work, utf_8):
     """The image that dictc makes of lexicons in UTF-8."""
     lay(work / "want", {name: text.encode() for name, text in utf_8.items()})
-    words = [programs / "dictc", "user", "--dic", work / "sys.img", "--out", "want.img", *sorted(utf_8)]
+    words = [
+        programs / "dictc",
+        "user",
+        "--dic",
+        work / "sys.img",
+        "--out",
+        "want.img",
+        *sorted(utf_8),
+    ]
     subprocess.run(words, cwd=work / "want", check=True, stdout=subprocess.DEVNULL)
     return (work / "want" / "want.img").read_bytes()
 
@@ -96,8 +166,20 @@ def wrong(row, programs, work):
     there = {path.name for path in work.iterdir()}
     words = [*row.options, *(row.words or sorted(row.lexicons, key=os.fsencode))]
     place = {**os.environ, "XDG_DATA_HOME": str(work / "home")}
-    ran = subprocess.run([programs / "kumquatsieve-import", *words], cwd=work, env=place, capture_output=True, text=True)
-    err = f"kumquatsieve-import: {row.err}\n".replace("HOME", str(work / "home")).replace("PREFIX", str(programs.parent)) if row.err else ""
+    ran = subprocess.run(
+        [programs / "kumquatsieve-import", *words],
+        cwd=work,
+        env=place,
+        capture_output=True,
+        text=True,
+    )
+    err = (
+        f"kumquatsieve-import: {row.err}\n".replace("HOME", str(work / "home")).replace(
+            "PREFIX", str(programs.parent)
+        )
+        if row.err
+        else ""
+    )
     if (ran.stderr, ran.returncode) != (err, row.status):
         yield f"tells {ran.stderr!r} with status {ran.returncode}, not {err!r} with {row.status}"
     left = {path.name for path in work.iterdir()} - there

@@ -4,7 +4,15 @@ from libmecab.clients.common import CLIENTS, compiled, run
 from libmecab.clients.dictionaries import compared, compile_for_both
 
 ITEMS = "%pb%m %pi %h %phl %phr %t %s %c %pw %pc %pC %pn %ps %pe %H\\n"
-OPTIONS = [[], ["-Owakati"], ["-Onone"], ["-Ochasen"], ["-N1"], ["-x", "x,y"], ["-F", ITEMS, "-E", "%pi\\n"]]
+OPTIONS = [
+    [],
+    ["-Owakati"],
+    ["-Onone"],
+    ["-Ochasen"],
+    ["-N1"],
+    ["-x", "x,y"],
+    ["-F", ITEMS, "-E", "%pi\\n"],
+]
 # What IPADIC's char.def has as blanks, and can end a line. Where only blanks are left MeCab prints a node of a blank after the sentence.
 BLANKS = " \t\v\f\r\u00d0"
 
@@ -18,14 +26,27 @@ def dictionary(environment, folder):
 
 def without_last_blanks(lines, folder):
     path = folder / "lines-without-last-blanks"
-    path.write_text("".join(f"{line.rstrip(BLANKS)}\n" for line in lines.read_text().split("\n")[:-1]))
+    path.write_text(
+        "".join(f"{line.rstrip(BLANKS)}\n" for line in lines.read_text().split("\n")[:-1])
+    )
     return path
 
 
 def printed_of_lattices(lines, environment, folder, users=()):
-    return run([compiled(CLIENTS / "lattices.c", folder, "-lmecab"), dictionary(environment, folder), lines, *users], environment)
+    return run(
+        [
+            compiled(CLIENTS / "lattices.c", folder, "-lmecab"),
+            dictionary(environment, folder),
+            lines,
+            *users,
+        ],
+        environment,
+    )
 
 
 def printed_with_all_morphs(lines, environment, folder):
     few = without_last_blanks(lines, folder)
-    return b"".join(run(["mecab", "-a", "-d", dictionary(environment, folder), *options, few], environment) for options in OPTIONS)
+    return b"".join(
+        run(["mecab", "-a", "-d", dictionary(environment, folder), *options, few], environment)
+        for options in OPTIONS
+    )

@@ -15,26 +15,48 @@ OVER_THE_SAMPLE = ("calls.c", "classes.cc", "sharing.c", "odd_texts.c")
 def check_names(library):
     """What MeCab's header declares is exported, and named in the document, and nothing else of that name is."""
     declared = set(re.findall(r"\b(mecab_\w+) *\(", HEADER.read_text()))
-    exported = {line.split()[-1] for line in run(["nm", "-D", "--defined-only", library], os.environ).decode().splitlines()}
+    exported = {
+        line.split()[-1]
+        for line in run(["nm", "-D", "--defined-only", library], os.environ).decode().splitlines()
+    }
     named = set(re.findall(r"`(mecab_\w+)", (TOP / "docs" / "LIBMECAB.md").read_text()))
-    for what, found in (("exports", {name for name in exported if name.startswith("mecab_")}), ("docs/LIBMECAB.md", named)):
+    for what, found in (
+        ("exports", {name for name in exported if name.startswith("mecab_")}),
+        ("docs/LIBMECAB.md", named),
+    ):
         if found != declared:
             sys.exit(f"mecab-clients: {what}: {' '.join(sorted(found ^ declared))}")
-    print(f"mecab-clients: each of the {len(declared)} calls of MeCab's header is exported, and named in docs/LIBMECAB.md", flush=True)
+    print(
+        f"mecab-clients: each of the {len(declared)} calls of MeCab's header is exported, and named in docs/LIBMECAB.md",
+        flush=True,
+    )
 
 
 def write_image(folder, name, lexicon):
     """An image of the sample's sources, but for the lexicon, which has this text."""
-    image, source, written = folder / f"{name}.img", TOP / "examples" / "sample", folder / f"{name}.csv"
-    sources = [word for kind in ("matrix", "char", "unk") for word in (f"--{kind}", source / f"{kind}.def")]
+    image, source, written = (
+        folder / f"{name}.img",
+        TOP / "examples" / "sample",
+        folder / f"{name}.csv",
+    )
+    sources = [
+        word for kind in ("matrix", "char", "unk") for word in (f"--{kind}", source / f"{kind}.def")
+    ]
     written.write_text(lexicon)
-    run([TOP / "crates" / "dictc" / "out" / "dictc", "system", *sources, "--out", image, written], os.environ)
+    run(
+        [TOP / "crates" / "dictc" / "out" / "dictc", "system", *sources, "--out", image, written],
+        os.environ,
+    )
     return image
 
 
 def check_made():
     """Each call of MeCab's header, and each function of its classes, stands in a program that is run under valgrind."""
-    declared = re.findall(r"^ *(?:virtual|static|MECAB_DLL_EXTERN)\b[^;(~]*?\b(\w+) *\(", HEADER.read_text(), re.MULTILINE)
+    declared = re.findall(
+        r"^ *(?:virtual|static|MECAB_DLL_EXTERN)\b[^;(~]*?\b(\w+) *\(",
+        HEADER.read_text(),
+        re.MULTILINE,
+    )
     text = "".join((CLIENTS / name).read_text() for name in (*OVER_THE_SAMPLE, "programs.c"))
     missing = [name for name in sorted(set(declared)) if not re.search(rf"\b{name}\b", text)]
     if missing:
@@ -56,9 +78,15 @@ def check_calls(folder, library):
 def check_replaced(folder, library):
     """A file that takes the place of an image that is loaded."""
     lexicon = (TOP / "examples" / "sample" / "lexicon.csv").read_text()
-    images = write_image(folder, "first", lexicon), write_image(folder, "second", lexicon.replace("名詞,もも", "記号,もも"))
+    images = write_image(folder, "first", lexicon), write_image(
+        folder, "second", lexicon.replace("名詞,もも", "記号,もも")
+    )
     ours = dict(os.environ, LD_LIBRARY_PATH=str(library.parent))
-    print(run([*VALGRIND, compiled(CLIENTS / "replaced.c", folder, library), *images], ours).decode(), end="", flush=True)
+    print(
+        run([*VALGRIND, compiled(CLIENTS / "replaced.c", folder, library), *images], ours).decode(),
+        end="",
+        flush=True,
+    )
 
 
 def check_growths(folder, library):
@@ -71,13 +99,17 @@ def check_growths(folder, library):
     for options in ("-C", "-Ox"):
         for number in range(1, 10_000):
             environment, report = refusing(folder, ours, number)
-            status = subprocess.run([program, image, options], env=environment, stderr=subprocess.DEVNULL).returncode
+            status = subprocess.run(
+                [program, image, options], env=environment, stderr=subprocess.DEVNULL
+            ).returncode
             if "refused 0" in report.read_text():
                 break
             if status not in (0, 1):
                 sys.exit(f"mecab-clients: growth {number} refused, {options}: status {status}")
             count += 1
-    print(f"mecab-clients: {count} growths, each refused in turn: none ends the program", flush=True)
+    print(
+        f"mecab-clients: {count} growths, each refused in turn: none ends the program", flush=True
+    )
 
 
 def check_forks(folder, library):
@@ -110,10 +142,23 @@ def check_changing(folder, library):
 
 def check_threads(folder, library, lines, dictionary):
     """One tagger in four threads, with no race that valgrind's helgrind finds, or gcc's ThreadSanitizer in the layer. Helgrind takes an atomic read
-    for a plain one. So for it the entries of the lines are kept before the threads begin, and ThreadSanitizer has the threads keep them."""
+    for a plain one. So for it the entries of the lines are kept before the threads begin, and ThreadSanitizer has the threads keep them.
+    """
     ours = dict(os.environ, LD_LIBRARY_PATH=str(library.parent))
     program = compiled(CLIENTS / "one_tagger.c", folder, library)
-    run(["valgrind", "-q", "--tool=helgrind", "--error-exitcode=9", program, dictionary, first_lines(lines, 20, folder), "met"], ours)
+    run(
+        [
+            "valgrind",
+            "-q",
+            "--tool=helgrind",
+            "--error-exitcode=9",
+            program,
+            dictionary,
+            first_lines(lines, 20, folder),
+            "met",
+        ],
+        ours,
+    )
     program = with_layer(folder, library, CLIENTS / "one_tagger.c", "-fsanitize=thread")
     run([program, dictionary, first_lines(lines, 1000, folder)], os.environ)
     print("mecab-clients: one tagger in four threads: no race", flush=True)
@@ -121,7 +166,11 @@ def check_threads(folder, library, lines, dictionary):
 
 def check_linking(folder, library):
     """Programs find the library by its name, by pkg-config and by mecab-config."""
-    environment = dict(os.environ, LD_LIBRARY_PATH=str(library.parent), PKG_CONFIG_PATH=str(library.parent / "pkgconfig"))
+    environment = dict(
+        os.environ,
+        LD_LIBRARY_PATH=str(library.parent),
+        PKG_CONFIG_PATH=str(library.parent / "pkgconfig"),
+    )
     opened = "import ctypes; ctypes.CDLL('libmecab.so'); print(open('/proc/self/maps').read())"
     if str(library) not in run([PYTHON, "-c", opened], environment).decode():
         sys.exit("mecab-clients: libmecab.so by its name is another library")
@@ -132,4 +181,7 @@ def check_linking(folder, library):
         program = compiled(CLIENTS / "fields.c", folder, *words)
         if str(library) not in run(["ldd", program], environment).decode():
             sys.exit(f"mecab-clients: {' '.join(words)} links another library")
-    print("mecab-clients: the library is found by its name, and by what mecab-config and pkg-config say", flush=True)
+    print(
+        "mecab-clients: the library is found by its name, and by what mecab-config and pkg-config say",
+        flush=True,
+    )

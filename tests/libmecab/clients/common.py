@@ -27,11 +27,17 @@ MORE_ENTRIES = (
 
 
 def works(*command):
-    return shutil.which(command[0]) is not None and subprocess.run(command, stdout=subprocess.DEVNULL, stderr=subprocess.DEVNULL).returncode == 0
+    return (
+        shutil.which(command[0]) is not None
+        and subprocess.run(command, stdout=subprocess.DEVNULL, stderr=subprocess.DEVNULL).returncode
+        == 0
+    )
 
 
 def run(command, environment, text=b""):
-    done = subprocess.run([str(word) for word in command], input=text, stdout=subprocess.PIPE, env=environment)
+    done = subprocess.run(
+        [str(word) for word in command], input=text, stdout=subprocess.PIPE, env=environment
+    )
     if done.returncode != 0:
         sys.exit(f"mecab-clients: {' '.join(map(str, command))}: status {done.returncode}")
     return done.stdout
@@ -41,16 +47,47 @@ def compiled(source, folder, *more):
     """A program in C, or in C++ where its name ends so."""
     program = folder / source.name.replace(".", "-")
     compiler = ["g++", "-std=c++17"] if source.suffix == ".cc" else ["gcc", "-std=gnu11"]
-    run([*compiler, "-O1", "-g", "-Wall", "-Wextra", "-Wpedantic", "-Werror", source, *more, "-pthread", "-o", program], os.environ)
+    run(
+        [
+            *compiler,
+            "-O1",
+            "-g",
+            "-Wall",
+            "-Wextra",
+            "-Wpedantic",
+            "-Werror",
+            source,
+            *more,
+            "-pthread",
+            "-o",
+            program,
+        ],
+        os.environ,
+    )
     return program
 
 
 def with_layer(folder, library, source, *flags):
     """A program with the layer compiled into it by flags of its own."""
     prefix, program = library.parents[3], folder / f"with-layer-{source.stem}"
-    layer = [*sorted((TOP / "capi/homes").glob("*.c")), *sorted((TOP / "libmecab").glob("*.c")), prefix / "lib" / "libkumquatsieve.a"]
+    layer = [
+        *sorted((TOP / "capi/homes").glob("*.c")),
+        *sorted((TOP / "libmecab").glob("*.c")),
+        prefix / "lib" / "libkumquatsieve.a",
+    ]
     headers = [f"-I{prefix / 'include'}", f"-I{TOP / 'capi' / 'homes'}"]
-    words = ["-std=gnu11", "-O1", "-g", "-Wall", "-Wextra", "-Wpedantic", "-Werror", *flags, *headers, "-pthread"]
+    words = [
+        "-std=gnu11",
+        "-O1",
+        "-g",
+        "-Wall",
+        "-Wextra",
+        "-Wpedantic",
+        "-Werror",
+        *flags,
+        *headers,
+        "-pthread",
+    ]
     run(["gcc", *words, source, *layer, "-ldl", "-o", program], os.environ)
     return program
 
@@ -59,8 +96,14 @@ def refusing(folder, environment, number):
     """The environment in which the growth of the heap of this number is refused, and the file that says whether there was one."""
     heap, report = folder / "refuse.so", folder / "growths"
     if not heap.exists():
-        run(["gcc", "-shared", "-fPIC", "-O1", TOP / "tests/support/refuse.c", "-o", heap, "-ldl"], os.environ)
-    return dict(environment, LD_PRELOAD=str(heap), REFUSE=str(number), REFUSE_REPORT=str(report)), report
+        run(
+            ["gcc", "-shared", "-fPIC", "-O1", TOP / "tests/support/refuse.c", "-o", heap, "-ldl"],
+            os.environ,
+        )
+    return (
+        dict(environment, LD_PRELOAD=str(heap), REFUSE=str(number), REFUSE_REPORT=str(report)),
+        report,
+    )
 
 
 def dictionary_of(environment):

@@ -25,7 +25,9 @@ def compile_for_both(source, folder):
     """MeCab's folder and our image, from the same sources in the same order, each with the settings of the sources beside it."""
     folder.mkdir()
     sources = compared.Sources(source, folder)
-    programs = SimpleNamespace(dictc=TOP / "crates" / "dictc" / "out" / "dictc", mecab_dict_index=INDEX)
+    programs = SimpleNamespace(
+        dictc=TOP / "crates" / "dictc" / "out" / "dictc", mecab_dict_index=INDEX
+    )
     for command in sources.compilers(programs):
         run(command, os.environ)
     compared.write_in_utf8(source / "dicrc", sources.mecab / "dicrc")
@@ -43,15 +45,23 @@ def printed_over(name):
             compile_for_both(compared.folder_of(name), made)
         dictionary = made / ("system.img" if "KUMQUATSIEVE_DICTIONARY" in environment else "mecab")
         types = re.findall(r"^node-format-(\w+)", (made / "system.dicrc").read_text(), re.MULTILINE)
-        told = [run(["mecab", "-d", dictionary, *words, few], environment) for words in ([], *([f"-O{each}"] for each in types))]
-        return b"".join(told) + run([compiled(CLIENTS / "fields.c", folder, "-lmecab"), dictionary, few], environment)
+        told = [
+            run(["mecab", "-d", dictionary, *words, few], environment)
+            for words in ([], *([f"-O{each}"] for each in types))
+        ]
+        return b"".join(told) + run(
+            [compiled(CLIENTS / "fields.c", folder, "-lmecab"), dictionary, few], environment
+        )
 
     return printed
 
 
 def over_dictionaries():
     """Each one's name, whether it is there, and what is printed over it."""
-    return [(f"{name}: its formats, and each field of each node", is_there(name), printed_over(name)) for name in NAMES]
+    return [
+        (f"{name}: its formats, and each field of each node", is_there(name), printed_over(name))
+        for name in NAMES
+    ]
 
 
 def is_there(name):

@@ -23,8 +23,12 @@ def printed_by_examples(lines, environment, folder):
         program = compiled(CLIENTS / source, folder, "-lmecab")
         for part, paths in PARTS.items():
             words = list(map(str, [program, dictionary_of(environment), part]))
-            done = subprocess.run(words, stdout=subprocess.PIPE, stderr=subprocess.STDOUT, env=environment)
+            done = subprocess.run(
+                words, stdout=subprocess.PIPE, stderr=subprocess.STDOUT, env=environment
+            )
             if not is_right(paths, is_ours, done.returncode, done.stdout.decode()):
-                sys.exit(f"mecab-clients: {source} {part}: status {done.returncode}, {done.stdout.decode()}")
+                sys.exit(
+                    f"mecab-clients: {source} {part}: status {done.returncode}, {done.stdout.decode()}"
+                )
             told += [done.stdout] if paths == 1 else []
     return b"".join(told)

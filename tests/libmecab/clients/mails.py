@@ -30,11 +30,15 @@ Content-Transfer-Encoding: 8bit
 def write_letters(lines, folder):
     folder.mkdir()
     for number, begin in enumerate(range(0, len(lines), LINES_OF_A_LETTER), 1):
-        (folder / str(number)).write_text(HEAD.format(number) + "\n".join(lines[begin : begin + LINES_OF_A_LETTER]) + "\n")
+        (folder / str(number)).write_text(
+            HEAD.format(number) + "\n".join(lines[begin : begin + LINES_OF_A_LETTER]) + "\n"
+        )
 
 
 def run(command, **more):
-    done = subprocess.run(list(map(str, command)), stdout=subprocess.PIPE, stderr=subprocess.DEVNULL, **more)
+    done = subprocess.run(
+        list(map(str, command)), stdout=subprocess.PIPE, stderr=subprocess.DEVNULL, **more
+    )
     if done.returncode != 0:
         sys.exit(f"mails: {command[0]}: status {done.returncode}")
     return done.stdout
@@ -47,13 +51,19 @@ def server(folder):
     for made in (sockets, data):
         made.mkdir()
         os.chown(made, pwd.getpwnam(USER).pw_uid, -1)
-    run([SERVER / "initdb", "-D", data, "-A", "trust", "-E", "UTF-8", "--locale=C.UTF-8", "-N"], cwd="/", **AS_USER)
+    run(
+        [SERVER / "initdb", "-D", data, "-A", "trust", "-E", "UTF-8", "--locale=C.UTF-8", "-N"],
+        cwd="/",
+        **AS_USER,
+    )
     words = [SERVER / "postgres", "-D", data, "-k", sockets, "-c", "listen_addresses=", "-F"]
     process = subprocess.Popen(list(map(str, words)), cwd="/", stderr=subprocess.DEVNULL, **AS_USER)
     try:
         wait_for(sockets)
         run([SERVER / "createdb", "-h", sockets, "-U", USER, "letters"])
-        yield lambda *asked: run([SERVER / "psql", "-q", "-h", sockets, "-U", USER, "-At", *asked, "letters"])
+        yield lambda *asked: run(
+            [SERVER / "psql", "-q", "-h", sockets, "-U", USER, "-At", *asked, "letters"]
+        )
     finally:
         process.terminate()
         process.wait()
@@ -70,9 +80,21 @@ def wait_for(sockets):
 def print_indexes(folder):
     with server(folder) as ask:
         ask("-f", TABLES)
-        words = ["-d", "letters", "-h", folder / "sockets", "-U", USER, "--mecab-encoding", "UTF-8", folder / "letters"]
+        words = [
+            "-d",
+            "letters",
+            "-h",
+            folder / "sockets",
+            "-U",
+            USER,
+            "--mecab-encoding",
+            "UTF-8",
+            folder / "letters",
+        ]
         run(["syldbimport", *words], env=dict(os.environ, HOME=str(folder)))
-        sys.stdout.buffer.write(ask("-c", "SELECT hdr_subject, body_index FROM msginfo ORDER BY hdr_msgid"))
+        sys.stdout.buffer.write(
+            ask("-c", "SELECT hdr_subject, body_index FROM msginfo ORDER BY hdr_msgid")
+        )
 
 
 def main():

@@ -5,7 +5,17 @@ import MeCab
 
 
 def told(node):
-    numbers = [node.length, node.rlength, node.lcAttr, node.rcAttr, node.stat, node.char_type, node.isbest, node.wcost, node.cost]
+    numbers = [
+        node.length,
+        node.rlength,
+        node.lcAttr,
+        node.rcAttr,
+        node.stat,
+        node.char_type,
+        node.isbest,
+        node.wcost,
+        node.cost,
+    ]
     return "\t".join([node.surface, node.feature, *map(str, numbers)])
 
 

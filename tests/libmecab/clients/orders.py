@@ -27,7 +27,13 @@ def told_requests():
     """What taggers and lattices are asked for by options, and after a level was set."""
     for more in ("", "-C", "-m", "-l0", "-l1", "-l2", "-N1", "-t0.5 -c7"):
         tagger, model = MeCab.Tagger(f"{OPTIONS} {more}"), MeCab.Model(f"{OPTIONS} {more}")
-        print(more, tagger.request_type(), model.createTagger().request_type(), model.createLattice().request_type(), tagger.theta())
+        print(
+            more,
+            tagger.request_type(),
+            model.createTagger().request_type(),
+            model.createLattice().request_type(),
+            tagger.theta(),
+        )
         for level in (1, 2, 0):
             tagger.set_lattice_level(level)
             print(tagger.lattice_level(), tagger.request_type())
@@ -45,12 +51,31 @@ def main():
     model, wakati = MeCab.Model(OPTIONS), MeCab.Tagger(OPTIONS + " -Owakati")
     tagger, lattice, own = model.createTagger(), model.createLattice(), MeCab.Lattice()
     lattice.set_sentence("すもももも x")
-    print(tagger.parse(lattice), lattice.toString(), lattice.size(), lattice.sentence(), lattice.is_available())
+    print(
+        tagger.parse(lattice),
+        lattice.toString(),
+        lattice.size(),
+        lattice.sentence(),
+        lattice.is_available(),
+    )
     print(lattice.has_request_type(1), lattice.request_type(), lattice.theta(), lattice.Z())
     told_path(lattice)
     information = model.dictionary_info()
-    print(information.charset, information.size, information.type, MeCab.VERSION, MeCab.Tagger.version(), MeCab.Model.version())
-    print(wakati.parse("すもも もも"), wakati.partial(), wakati.all_morphs(), wakati.lattice_level(), wakati.theta())
+    print(
+        information.charset,
+        information.size,
+        information.type,
+        MeCab.VERSION,
+        MeCab.Tagger.version(),
+        MeCab.Model.version(),
+    )
+    print(
+        wakati.parse("すもも もも"),
+        wakati.partial(),
+        wakati.all_morphs(),
+        wakati.lattice_level(),
+        wakati.theta(),
+    )
     wakati.set_request_type(1 | 64)
     print(wakati.request_type(), wakati.parse("すもも もも"), tagger.what())
     own.set_sentence("もも")

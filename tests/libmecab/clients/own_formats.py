@@ -43,6 +43,9 @@ def printed_in_own_formats(lines, environment, folder):
     endings = compiled(CLIENTS / "endings.c", folder, "-lmecab")
     told = [run(["mecab", "-d", made, few], environment)]
     for kind in TYPES:
-        told += [run(["mecab", "-d", made, "-O", kind, *more, few], environment) for more in ([], ["-N1"], ["-E", "own"])]
+        told += [
+            run(["mecab", "-d", made, "-O", kind, *more, few], environment)
+            for more in ([], ["-N1"], ["-E", "own"])
+        ]
         told.append(run([endings, made, kind, few], environment))
     return b"".join(told)

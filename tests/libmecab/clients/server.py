@@ -29,7 +29,9 @@ def address(port, command, **words):
 def asked(where, body=None):
     """What an answer says, without its times."""
     headers = {"Content-Type": "application/json"}
-    with urllib.request.urlopen(urllib.request.Request(where, data=body, headers=headers), timeout=SECONDS) as answer:
+    with urllib.request.urlopen(
+        urllib.request.Request(where, data=body, headers=headers), timeout=SECONDS
+    ) as answer:
         told = json.load(answer)
     if told[0][0] != 0:
         raise OSError(f"{where}: {told[0]}")
@@ -47,18 +49,58 @@ def wait_for(port):
 
 def fill(port, texts):
     asked(address(port, "table_create", name="Lines", flags="TABLE_NO_KEY"))
-    asked(address(port, "column_create", table="Lines", name="text", flags="COLUMN_SCALAR", type="ShortText"))
-    asked(address(port, "table_create", name="Terms", flags="TABLE_PAT_KEY", key_type="ShortText", default_tokenizer="TokenMecab",
-                  normalizer="NormalizerAuto"))
-    asked(address(port, "column_create", table="Terms", name="lines_text", flags="COLUMN_INDEX|WITH_POSITION", type="Lines", source="text"))
-    asked(address(port, "load", table="Lines"), json.dumps([{"text": text} for text in texts]).encode())
+    asked(
+        address(
+            port,
+            "column_create",
+            table="Lines",
+            name="text",
+            flags="COLUMN_SCALAR",
+            type="ShortText",
+        )
+    )
+    asked(
+        address(
+            port,
+            "table_create",
+            name="Terms",
+            flags="TABLE_PAT_KEY",
+            key_type="ShortText",
+            default_tokenizer="TokenMecab",
+            normalizer="NormalizerAuto",
+        )
+    )
+    asked(
+        address(
+            port,
+            "column_create",
+            table="Terms",
+            name="lines_text",
+            flags="COLUMN_INDEX|WITH_POSITION",
+            type="Lines",
+            source="text",
+        )
+    )
+    asked(
+        address(port, "load", table="Lines"),
+        json.dumps([{"text": text} for text in texts]).encode(),
+    )
 
 
 def request(port, number, texts):
     text = texts[number % len(texts)]
     if number % 2 == 0:
-        return address(port, "tokenize", tokenizer="TokenMecab", string=text, normalizer="NormalizerAuto")
-    searched = {"table": "Lines", "match_columns": "text", "query_flags": "NONE", "query": text.split()[0], "limit": 1000, "output_columns": "_id"}
+        return address(
+            port, "tokenize", tokenizer="TokenMecab", string=text, normalizer="NormalizerAuto"
+        )
+    searched = {
+        "table": "Lines",
+        "match_columns": "text",
+        "query_flags": "NONE",
+        "query": text.split()[0],
+        "limit": 1000,
+        "output_columns": "_id",
+    }
     return address(port, "select", **searched)
 
 
@@ -86,14 +128,30 @@ def main():
     texts = [text for text in Path(sys.argv[1]).read_text().splitlines() if text.split()][:1_000]
     port = free_port()
     subprocess.run(["groonga", "-n", sys.argv[2], "status"], stdout=subprocess.DEVNULL, check=True)
-    words = ["groonga", "--protocol", "http", "-p", str(port), "--bind-address", "127.0.0.1", "-t", str(CLIENTS), "-s", sys.argv[2]]
+    words = [
+        "groonga",
+        "--protocol",
+        "http",
+        "-p",
+        str(port),
+        "--bind-address",
+        "127.0.0.1",
+        "-t",
+        str(CLIENTS),
+        "-s",
+        sys.argv[2],
+    ]
     server = subprocess.Popen(words, stdout=subprocess.DEVNULL)
     try:
         wait_for(port)
         fill(port, texts)
         answers = ask_all(port, texts)
         print("\n".join(answers))
-        print("the server lives" if server.poll() is None else f"the server ended with status {server.returncode}")
+        print(
+            "the server lives"
+            if server.poll() is None
+            else f"the server ended with status {server.returncode}"
+        )
     finally:
         server.terminate()
         server.wait()

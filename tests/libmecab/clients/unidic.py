@@ -77,31 +77,53 @@ HIRAGANA,2,2,9000,感動詞,一般,*,*,*,*
 KATAKANA,1,1,5500,名詞,固有名詞,一般,*,*,*
 KATAKANA,1,1,5400,名詞,普通名詞,一般,*,*,*
 """
-SENTENCES = "すもももももももの本\n東京都に住む\n 引用,\"の\"を する \nカタカナとabcと漢字。\n\n"
+SENTENCES = 'すもももももももの本\n東京都に住む\n 引用,"の"を する \nカタカナとabcと漢字。\n\n'
 IDS = 4
 
 
 def costs():
     """A cost for each right and left id, so that paths with the same words cost different sums."""
-    rows = [f"{right} {left} {(37 * right + 101 * left) % 700 - 300}" for right in range(IDS) for left in range(IDS)]
+    rows = [
+        f"{right} {left} {(37 * right + 101 * left) % 700 - 300}"
+        for right in range(IDS)
+        for left in range(IDS)
+    ]
     return "\n".join([f"{IDS} {IDS}", *rows, ""])
 
 
 def write_sources(folder):
     folder.mkdir()
-    ids = "".join(f"{number} {name},*,*,*,*,*\n" for number, name in enumerate(("BOS/EOS", "名詞", "助詞", "動詞")))
-    files = {"lex.csv": LEXICON, "char.def": CHARACTERS, "unk.def": UNKNOWN, "matrix.def": costs(), "left-id.def": ids, "right-id.def": ids}
+    ids = "".join(
+        f"{number} {name},*,*,*,*,*\n" for number, name in enumerate(("BOS/EOS", "名詞", "助詞", "動詞"))
+    )
+    files = {
+        "lex.csv": LEXICON,
+        "char.def": CHARACTERS,
+        "unk.def": UNKNOWN,
+        "matrix.def": costs(),
+        "left-id.def": ids,
+        "right-id.def": ids,
+    }
     for name, text in {**files, "dicrc": DICRC}.items():
         (folder / name).write_text(text)
 
 
 def printed_over_unidic(lines, environment, folder):
-    made, sentences, endings = folder / "unidic", folder / "unidic-sentences", compiled(CLIENTS / "endings.c", folder, "-lmecab")
+    made, sentences, endings = (
+        folder / "unidic",
+        folder / "unidic-sentences",
+        compiled(CLIENTS / "endings.c", folder, "-lmecab"),
+    )
     if not made.exists():
         write_sources(folder / "unidic-sources")
         compile_for_both(folder / "unidic-sources", made)
         sentences.write_bytes(SENTENCES.encode() + first_lines(lines, 1000, folder).read_bytes())
     dictionary = made / ("system.img" if "KUMQUATSIEVE_DICTIONARY" in environment else "mecab")
-    told = [run(["mecab", "-d", dictionary, *words, sentences], environment) for words in ([], *([f"-O{kind}"] for kind in TYPES), ["-N1"])]
+    told = [
+        run(["mecab", "-d", dictionary, *words, sentences], environment)
+        for words in ([], *([f"-O{kind}"] for kind in TYPES), ["-N1"])
+    ]
     told += [run([endings, dictionary, kind, sentences], environment) for kind in TYPES]
-    return b"".join(told) + run([compiled(CLIENTS / "fields.c", folder, "-lmecab"), dictionary, sentences], environment)
+    return b"".join(told) + run(
+        [compiled(CLIENTS / "fields.c", folder, "-lmecab"), dictionary, sentences], environment
+    )

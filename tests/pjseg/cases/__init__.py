@@ -15,7 +15,9 @@ LINE_MOST = 1_048_576
 def made_up(size):
     """Lines of about so many bytes in all."""
     choose = random.Random(1)
-    lines = ("".join(choose.choices(LETTERS, k=choose.randrange(60))) + "\n" for _ in range(size // 70))
+    lines = (
+        "".join(choose.choices(LETTERS, k=choose.randrange(60))) + "\n" for _ in range(size // 70)
+    )
     return "".join(lines).encode()
 
 
@@ -69,7 +71,14 @@ class Row(NamedTuple):
         return os.pread(file.fileno(), 1 << 30, 0) if self.output is kept else b""
 
 
-ALL_ITEMS = ("-F", "%m\\t%M|%H|%f[0]|%c|%s|%phl|%phr|%pC|%pn|%pc|%ps|%pe|%t\\n", "-B", "%S|%L\\n", "-E", "%pc%%\\n")
+ALL_ITEMS = (
+    "-F",
+    "%m\\t%M|%H|%f[0]|%c|%s|%phl|%phr|%pC|%pn|%pc|%ps|%pe|%t\\n",
+    "-B",
+    "%S|%L\\n",
+    "-E",
+    "%pc%%\\n",
+)
 
 FORMATS = [
     Row("default format"),
@@ -87,15 +96,47 @@ IMAGES = [
     Row("another digest", image="DAMAGED", cut=TESTED, status=1, told="L8 Digest"),
     Row("another digest, a user's", ("-u", "DAMAGED USER"), cut=TESTED, status=1, told="L8 Digest"),
     Row("other digests", ("-u", "DAMAGED USER"), image="DAMAGED", jseg=UNTESTED),
-    Row("other digests, without their test", ("--skip-digest", "-u", "DAMAGED USER"), image="DAMAGED"),
+    Row(
+        "other digests, without their test",
+        ("--skip-digest", "-u", "DAMAGED USER"),
+        image="DAMAGED",
+    ),
     Row("the digests", ("-u", "USER"), cut=TESTED),
     Row("the digests, without their test", ("-u", "USER", "--skip-digest")),
     Row("images that are copied", ("-u", "USER"), cut=("--copy",)),
-    Row("another digest that is copied", image="DAMAGED", cut=("--copy", "--test-digest"), status=1, told="L8 Digest"),
-    Row("another digest that is copied, without the test", image="DAMAGED", cut=("--copy",), jseg=UNTESTED),
-    Row("another digest behind what is no user's", ("-u", "SYSTEM", "-u", "DAMAGED USER"), cut=TESTED, status=1, told="L8 Digest"),
-    Row("the same, without the test", ("-u", "SYSTEM", "-u", "DAMAGED USER", "--skip-digest"), status=1, told="O2 NotUser 0"),
-    Row("the same, with neither", ("-u", "SYSTEM", "-u", "DAMAGED USER"), jseg=UNTESTED, status=1, told="O2 NotUser 0"),
+    Row(
+        "another digest that is copied",
+        image="DAMAGED",
+        cut=("--copy", "--test-digest"),
+        status=1,
+        told="L8 Digest",
+    ),
+    Row(
+        "another digest that is copied, without the test",
+        image="DAMAGED",
+        cut=("--copy",),
+        jseg=UNTESTED,
+    ),
+    Row(
+        "another digest behind what is no user's",
+        ("-u", "SYSTEM", "-u", "DAMAGED USER"),
+        cut=TESTED,
+        status=1,
+        told="L8 Digest",
+    ),
+    Row(
+        "the same, without the test",
+        ("-u", "SYSTEM", "-u", "DAMAGED USER", "--skip-digest"),
+        status=1,
+        told="O2 NotUser 0",
+    ),
+    Row(
+        "the same, with neither",
+        ("-u", "SYSTEM", "-u", "DAMAGED USER"),
+        jseg=UNTESTED,
+        status=1,
+        told="O2 NotUser 0",
+    ),
 ]
 
 TEXT = made_up(4_000_000)
@@ -121,27 +162,56 @@ TEXTS = [
     Row("the longest line", text=LONG),
     Row("the longest lines", text=(LONG + b"\n") * 3),
     Row("the longest lines, no line feed at the end", text=(LONG + b"\n") * 2 + LONG),
-    Row("a piece and a byte", text=TEXT[: TEXT.index(b"\n", PIECE - 200) + 1].ljust(PIECE, b"a") + b"\n"),
-    Row("a piece, then a line", text=TEXT[: TEXT.index(b"\n", PIECE - 200) + 1].ljust(PIECE - 1, b"a") + b"\nb"),
+    Row(
+        "a piece and a byte",
+        text=TEXT[: TEXT.index(b"\n", PIECE - 200) + 1].ljust(PIECE, b"a") + b"\n",
+    ),
+    Row(
+        "a piece, then a line",
+        text=TEXT[: TEXT.index(b"\n", PIECE - 200) + 1].ljust(PIECE - 1, b"a") + b"\nb",
+    ),
     Row("a bad line alone", status=1, text=b"\xff"),
     Row("a bad line at the end", status=1, text=TEXT + b"a\xff"),
     Row("a line too long at the end", status=1, text=TEXT + LONGER),
     Row("a line without end", status=1, text=b"a" * 5_000_000),
-    Row("too long and bad", status=1, text=TEXT[:PIECE] + b"\n" + b"\xff" * (LINE_MOST + 1) + b"\n"),
+    Row(
+        "too long and bad", status=1, text=TEXT[:PIECE] + b"\n" + b"\xff" * (LINE_MOST + 1) + b"\n"
+    ),
     Row("bad, then too long", status=1, text=with_line(b"\xff\n" + LONGER, PIECE)),
     Row("too long, then bad", status=1, text=with_line(LONGER + b"\n\xff", PIECE)),
-    Row("an open line too long behind a bad one", status=1, text=TEXT[: PIECE // 2] + b"\xff\n" + LONGER),
-    Row("bad lines in several pieces", status=1, text=with_line(b"\xff", PIECE + 5).replace(TEXT[-200:], TEXT[-200:] + b"\xff\n")),
+    Row(
+        "an open line too long behind a bad one",
+        status=1,
+        text=TEXT[: PIECE // 2] + b"\xff\n" + LONGER,
+    ),
+    Row(
+        "bad lines in several pieces",
+        status=1,
+        text=with_line(b"\xff", PIECE + 5).replace(TEXT[-200:], TEXT[-200:] + b"\xff\n"),
+    ),
     Row("a zero byte", text=with_line(b"\0", PIECE)),
-    *(Row(f"a bad line behind byte {at}", status=1, text=with_line("すもも".encode()[:-1], at)) for at in PLACES),
-    *(Row(f"a line too long behind byte {at}", status=1, text=with_line(LONGER, at)) for at in PLACES),
+    *(
+        Row(f"a bad line behind byte {at}", status=1, text=with_line("すもも".encode()[:-1], at))
+        for at in PLACES
+    ),
+    *(
+        Row(f"a line too long behind byte {at}", status=1, text=with_line(LONGER, at))
+        for at in PLACES
+    ),
     *(Row(f"the longest line behind byte {at}", text=with_line(LONG, at)) for at in PLACES),
 ]
 
 READS = [0, 1, 7, 15, 16, 17, 40, 60]
 
 INPUTS = [
-    *(Row(f"a read fails after {reads}", status=3, place={"FAIL": "read", "FAIL_AFTER": str(reads)}) for reads in READS),
+    *(
+        Row(
+            f"a read fails after {reads}",
+            status=3,
+            place={"FAIL": "read", "FAIL_AFTER": str(reads)},
+        )
+        for reads in READS
+    ),
     Row("input that is closed", status=3, closed=(0,)),
     Row("input that is a directory", status=3, is_directory=True),
 ]
@@ -150,5 +220,8 @@ OUTPUTS = [
     Row("output that is full", status=3, output=full),
     Row("output that is closed", status=3, closed=(1,)),
     Row("output that nobody reads", status=3, output=unread),
-    *(Row(f"output of {most} bytes", status=3, most=most) for most in (1, 5, 65_536, 1_000_000, 7_654_321)),
+    *(
+        Row(f"output of {most} bytes", status=3, most=most)
+        for most in (1, 5, 65_536, 1_000_000, 7_654_321)
+    ),
 ]

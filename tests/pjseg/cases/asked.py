@@ -16,13 +16,25 @@ WRONG = [
     ("-j -1", "a value is required for '-j <N>'"),
     ("-j 2 -j 2", "the argument '-j <N>' cannot be used multiple times"),
     ("-vv", "the argument '-v' cannot be used multiple times"),
-    ("--skip-digest -d none --skip-digest", "the argument '--skip-digest' cannot be used multiple times"),
+    (
+        "--skip-digest -d none --skip-digest",
+        "the argument '--skip-digest' cannot be used multiple times",
+    ),
     ("--skip-digest", "-d IMG has to be given"),
     ("--test-digest --copy", "-d IMG has to be given"),
-    ("--test-digest -d none --test-digest", "the argument '--test-digest' cannot be used multiple times"),
+    (
+        "--test-digest -d none --test-digest",
+        "the argument '--test-digest' cannot be used multiple times",
+    ),
     ("--copy -d none --copy", "the argument '--copy' cannot be used multiple times"),
-    ("--skip-digest --test-digest", "the argument '--test-digest' cannot be used with '--skip-digest'"),
-    ("--test-digest -d none --skip-digest", "the argument '--test-digest' cannot be used with '--skip-digest'"),
+    (
+        "--skip-digest --test-digest",
+        "the argument '--test-digest' cannot be used with '--skip-digest'",
+    ),
+    (
+        "--test-digest -d none --skip-digest",
+        "the argument '--test-digest' cannot be used with '--skip-digest'",
+    ),
     ("--test-digest=yes", "unexpected argument '--test-digest=yes' found"),
     ("--copy=yes", "unexpected argument '--copy=yes' found"),
     ("--skip-digest=yes", "unexpected argument '--skip-digest=yes' found"),
@@ -49,8 +61,16 @@ WRONG = [
     ("-\x7f", r"unexpected argument '-\u{7f}' found"),
     ("-j '2\r'", r"invalid value '2\r' for '-j <N>': it is no number"),
     ("-M '\x9b1'", r"invalid value '\u{9b}1' for '-M <N>': it is no number"),
-    ("-d -x.img", "a value is required for '-d <IMG>' but none was supplied\n\n  tip: for the file '-x.img' write './-x.img'"),
-    ("-u '-\x07'", r"a value is required for '-u <IMG>' but none was supplied" "\n\n" r"  tip: for the file '-\u{7}' write './-\u{7}'"),
+    (
+        "-d -x.img",
+        "a value is required for '-d <IMG>' but none was supplied\n\n  tip: for the file '-x.img' write './-x.img'",
+    ),
+    (
+        "-u '-\x07'",
+        r"a value is required for '-u <IMG>' but none was supplied"
+        "\n\n"
+        r"  tip: for the file '-\u{7}' write './-\u{7}'",
+    ),
     ("-M -x.img", "a value is required for '-M <N>' but none was supplied\n\nFor more"),
     ("-d none text.txt", "the text is read from standard input"),
     ("-d none -- text.txt", "the text is read from standard input"),
@@ -73,9 +93,17 @@ def faults(program, page):
 
 def options_of_help(program):
     text = subprocess.run([program, "--help"], capture_output=True, text=True, check=True).stdout
-    return {name for names in re.findall(r"^ +(-[\w-]+(?:, -[\w-]+)?)", text, re.M) for name in names.split(", ")}
+    return {
+        name
+        for names in re.findall(r"^ +(-[\w-]+(?:, -[\w-]+)?)", text, re.M)
+        for name in names.split(", ")
+    }
 
 
 def options_of_page(page):
-    lines = (line.removeprefix(".It Fl ") for line in page.read_text().splitlines() if line.startswith(".It Fl "))
+    lines = (
+        line.removeprefix(".It Fl ")
+        for line in page.read_text().splitlines()
+        if line.startswith(".It Fl ")
+    )
     return {"-" + name for line in lines for name in re.sub(r" Ar .*", "", line).split(" , ")}
