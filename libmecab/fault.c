@@ -4,9 +4,7 @@
 
 static _Thread_local fault common;
 
-fault *common_fault(void) {
-    return &common;
-}
+fault *common_fault(void) { return &common; }
 
 bool fail(fault *error, const char *text, ...) {
     va_list words;
@@ -16,9 +14,7 @@ bool fail(fault *error, const char *text, ...) {
     return false;
 }
 
-bool fail_memory(fault *error) {
-    return fail(error, "out of memory");
-}
+bool fail_memory(fault *error) { return fail(error, "out of memory"); }
 
 bool fail_code(fault *error, const char *what, uint32_t code) {
     uint8_t name[64];

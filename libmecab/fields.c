@@ -2,7 +2,8 @@
 #include "formats.h"
 #include <string.h>
 
-/* Takes the quotes off a field, where doubled ones stand for one. Answers where what is behind it begins. */
+/* Takes the quotes off a field, where doubled ones stand for one. Answers where what is behind it
+ * begins. */
 static char *unquoted(char *field) {
     char *to = field, *from = field;
     while (*from) {
@@ -16,8 +17,8 @@ static char *unquoted(char *field) {
     return behind;
 }
 
-/* Blanks before a field are dropped, quotes are taken off, and behind the last comma nothing is a field. The last of `most` fields has the rest.
-   (MeCab) */
+/* Blanks before a field are dropped, quotes are taken off, and behind the last comma nothing is a
+   field. The last of `most` fields has the rest. (MeCab) */
 size_t cut_fields(char *text, const char **fields, size_t most) {
     size_t count = 0;
     while (*text && count < most) {

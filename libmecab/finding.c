@@ -47,8 +47,8 @@ static bool is_of_mecab(const char *folder) {
     return is_in_folder(folder, "sys.dic") || is_in_folder(folder, "matrix.def");
 }
 
-/* The name of an image that kumquatsieve-import makes of the sources of a folder of this name: without the character code, and Debian's
-   naist-jdic is naist. */
+/* The name of an image that kumquatsieve-import makes of the sources of a folder of this name:
+   without the character code, and Debian's naist-jdic is naist. */
 static size_t length_of_name(const char *name) {
     static const char *const CODES[] = {"-utf8", "-utf-8", "-eucjp", "-euc-jp", "-sjis"};
     size_t length = strlen(name);
@@ -56,7 +56,9 @@ static size_t length_of_name(const char *name) {
         size_t code = strlen(CODES[i]);
         if (length > code && strcmp(name + length - code, CODES[i]) == 0) length -= code;
     }
-    return length == strlen("naist-jdic") && strncmp(name, "naist-jdic", length) == 0 ? strlen("naist") : length;
+    return length == strlen("naist-jdic") && strncmp(name, "naist-jdic", length) == 0
+               ? strlen("naist")
+               : length;
 }
 
 /* Those that kumquatsieve-import knows by their names. */
@@ -70,11 +72,17 @@ static bool is_known(const char *name) {
 
 static bool fail_not_imported(fault *error, const char *folder, const char *name) {
     if (is_known(name)) {
-        return fail(error, "%s is a dictionary of MeCab's: `kumquatsieve-import %s` makes an image of its sources", folder, name);
+        return fail(
+            error,
+            "%s is a dictionary of MeCab's: `kumquatsieve-import %s` makes an image of its sources",
+            folder, name);
     }
     char *home = run_time_home(PREFIX);
     if (!home) return fail_memory(error);
-    fail(error, "%s is a dictionary of MeCab's: `kumquatsieve-import SOURCES %s/%s.img` makes an image of its sources", folder, home, name);
+    fail(error,
+         "%s is a dictionary of MeCab's: `kumquatsieve-import SOURCES %s/%s.img` makes an image of "
+         "its sources",
+         folder, home, name);
     free(home);
     return false;
 }
@@ -85,8 +93,10 @@ static char *imported(const char *folder, fault *error) {
     const char *path = realpath(folder, whole) ? whole : folder;
     const char *last = strrchr(path, '/') ? strrchr(path, '/') + 1 : path;
     char *name = strndup(last, length_of_name(last)), *image = NULL;
-    if (!name || !find_in_homes(name, PREFIX, &image)) fail_memory(error);
-    else if (!image) fail_not_imported(error, folder, name);
+    if (!name || !find_in_homes(name, PREFIX, &image))
+        fail_memory(error);
+    else if (!image)
+        fail_not_imported(error, folder, name);
     free(name);
     return image;
 }
@@ -125,18 +135,25 @@ static char *with_rc_path(const char *value, const char *file) {
     const char *behind = found + strlen(RC_PATH);
     size_t length = before + folder_length + strlen(behind) + 1;
     char *path = malloc(length);
-    if (path) snprintf(path, length, "%.*s%.*s%s", (int)before, value, (int)folder_length, folder, behind);
+    if (path)
+        snprintf(path, length, "%.*s%.*s%s", (int)before, value, (int)folder_length, folder,
+                 behind);
     return path;
 }
 
-/* The option's file, or the user's own, or that of the environment, or the system's. (MeCab) Only the last one may be missing, and the user's. */
+/* The option's file, or the user's own, or that of the environment, or the system's. (MeCab) Only
+ * the last one may be missing, and the user's. */
 static source read_sources(settings *to, char **file, fault *error) {
-    const char *given = setting_of(to, "rcfile"), *home = secure_getenv("HOME"), *named = secure_getenv("MECABRC");
+    const char *given = setting_of(to, "rcfile"), *home = secure_getenv("HOME"),
+               *named = secure_getenv("MECABRC");
     source from = given && *given ? GIVEN_SOURCE : USERS_SOURCE;
     char *own = home ? in_folder(home, ".mecabrc") : NULL;
-    if (from == GIVEN_SOURCE) *file = strdup(given);
-    else if (own && access(own, R_OK) == 0) *file = strdup(own);
-    else if (named && *named) *file = strdup(named);
+    if (from == GIVEN_SOURCE)
+        *file = strdup(given);
+    else if (own && access(own, R_OK) == 0)
+        *file = strdup(own);
+    else if (named && *named)
+        *file = strdup(named);
     else {
         from = access(SYSTEM_SETTINGS, R_OK) == 0 ? SYSTEM_SOURCE : NO_SOURCE;
         *file = strdup(SYSTEM_SETTINGS);
@@ -153,7 +170,8 @@ static char *awaited_image(void) {
     return path;
 }
 
-/* What is nearer to the caller goes before what is the machine's. The folder of the system's settings goes last: it is MeCab's own. */
+/* What is nearer to the caller goes before what is the machine's. The folder of the system's
+ * settings goes last: it is MeCab's own. */
 static char *chosen_name(const char *option, const char *setting, source from) {
     const char *named = secure_getenv(VARIABLE);
     const char *chosen = option;
@@ -167,7 +185,8 @@ static char *chosen_name(const char *option, const char *setting, source from) {
     return setting ? strdup(setting) : awaited_image();
 }
 
-/* The settings beside an image NAME.img are NAME.dicrc and NAME.pos-id.def. Where the image is a link they are beside what it leads to. */
+/* The settings beside an image NAME.img are NAME.dicrc and NAME.pos-id.def. Where the image is a
+ * link they are beside what it leads to. */
 char *beside(const char *image, const char *ending) {
     char whole[PATH_MAX];
     const char *path = realpath(image, whole) ? whole : image;
@@ -178,7 +197,8 @@ char *beside(const char *image, const char *ending) {
     return made;
 }
 
-/* Whether there is no such name, or can be none. What is there and can't be read, as a link that leads nowhere, is reported by who reads it. */
+/* Whether there is no such name, or can be none. What is there and can't be read, as a link that
+ * leads nowhere, is reported by who reads it. */
 static bool is_missing(const char *path) {
     struct stat of;
     return lstat(path, &of) != 0 && (errno == ENOENT || errno == ENOTDIR || errno == ENAMETOOLONG);
@@ -216,13 +236,13 @@ char *find_image(settings *to, fault *error) {
     const char *given = setting_of(to, "dicdir");
     char *option = given && *given ? strdup(given) : NULL;
     char *image = NULL;
-    if (given && *given && !option) fail_memory(error);
-    else image = find_named(to, option, error);
+    if (given && *given && !option)
+        fail_memory(error);
+    else
+        image = find_named(to, option, error);
     free(option);
     return image;
 }
 
 /* The path of a user's image; NULL if no image has the name, or memory runs out. */
-char *find_user_image(const char *name, fault *error) {
-    return path_of(name, error);
-}
+char *find_user_image(const char *name, fault *error) { return path_of(name, error); }

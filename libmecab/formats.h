@@ -43,7 +43,8 @@ typedef struct setting {
     char *value;
 } setting;
 
-/* What a caller asked for, and what files say. `others` are the words that are no options, which stay the caller's. */
+/* What a caller asked for, and what files say. `others` are the words that are no options, which
+ * stay the caller's. */
 typedef struct settings {
     setting *all;
     size_t count;
@@ -70,12 +71,11 @@ typedef enum stamp { NO_STAMP, OWN_STAMP, OTHER_STAMP } stamp;
    checksum for settings beside an image, and NULL for others. If the settings are for another image
    it reads none and sets *is_other. */
 stamp stamp_in(const char *line, const unsigned char *checksum);
-bool read_settings(
-    settings *to, const char *path, const unsigned char *checksum, bool *is_other, fault *error
-);
+bool read_settings(settings *to, const char *path, const unsigned char *checksum, bool *is_other,
+                   fault *error);
 
-/* Bytes that were read from a file, of which `told` were told as lines and `seen` have no line's end behind those. `number` is that of the
-   line that was told last, from 1. */
+/* Bytes that were read from a file, of which `told` were told as lines and `seen` have no line's
+   end behind those. `number` is that of the line that was told last, from 1. */
 typedef struct lines {
     int from;
     bytes held;
@@ -85,17 +85,43 @@ typedef struct lines {
     bool is_over;
 } lines;
 
-/* lines.c. The next line, without its end, or NULL where there is none. What was written is flushed before the file is waited for, so that who
-   writes a line and waits gets its answer. */
+/* lines.c. The next line, without its end, or NULL where there is none. What was written is flushed
+   before the file is waited for, so that who writes a line and waits gets its answer. */
 bool next_line(lines *of, FILE *to, const char **line, size_t *length, fault *error);
 
-/* What a format's piece prints. FIELDS is followed by its FIELDs; what prints a number stands from FIRST_NUMBER on. */
+/* What a format's piece prints. FIELDS is followed by its FIELDs; what prints a number stands from
+ * FIRST_NUMBER on. */
 typedef enum kind {
-    TEXT, SENTENCE, SURFACE, SURFACE_WITH_BLANKS, BLANKS, FEATURE, FIELDS, FIELD, MARK, PROBABILITY, CONNECTION_COST, COST_FROM_LAST,
-    FIRST_NUMBER, SENTENCE_SIZE, POSID, WORD_COST, CATEGORY, STATUS, ID, START, END, COST, LENGTH, LENGTH_WITH_BLANKS, LEFT_ID, RIGHT_ID,
+    TEXT,
+    SENTENCE,
+    SURFACE,
+    SURFACE_WITH_BLANKS,
+    BLANKS,
+    FEATURE,
+    FIELDS,
+    FIELD,
+    MARK,
+    PROBABILITY,
+    CONNECTION_COST,
+    COST_FROM_LAST,
+    FIRST_NUMBER,
+    SENTENCE_SIZE,
+    POSID,
+    WORD_COST,
+    CATEGORY,
+    STATUS,
+    ID,
+    START,
+    END,
+    COST,
+    LENGTH,
+    LENGTH_WITH_BLANKS,
+    LEFT_ID,
+    RIGHT_ID,
 } kind;
 
-/* A piece: of a TEXT the bytes from `from` on, of FIELDS the separator, of a FIELD its number from 0. */
+/* A piece: of a TEXT the bytes from `from` on, of FIELDS the separator, of a FIELD its number from
+ * 0. */
 typedef struct item {
     kind kind;
     char separator;
@@ -119,8 +145,8 @@ typedef enum style { LINES_STYLE, WAKATI_STYLE, NO_STYLE, OWN_STYLE } style;
 
 enum { NODE_PART, UNK_PART, BOS_PART, EOS_PART, EON_PART, PART_COUNT };
 
-/* An output format. No two have the same number, which is above 0. With a style of its own it has items, and texts that are freed with it.
-   What the proved library has not is printed here. */
+/* An output format. No two have the same number, which is above 0. With a style of its own it has
+   items, and texts that are freed with it. What the proved library has not is printed here. */
 typedef struct format {
     style style;
     const char *texts[PART_COUNT];

@@ -10,6 +10,7 @@ static bool are_at(struct timespec one, struct timespec other) {
 }
 
 bool are_same(const identity *one, const identity *other) {
-    return one->device == other->device && one->number == other->number && one->size == other->size && are_at(one->modified, other->modified)
-        && are_at(one->changed, other->changed);
+    return one->device == other->device && one->number == other->number &&
+           one->size == other->size && are_at(one->modified, other->modified) &&
+           are_at(one->changed, other->changed);
 }

@@ -9,9 +9,10 @@
    after those. (docs/FORMAT.md) */
 enum { RIGHT_AT = 16, LEFT_AT = 20, TOKENS_AT = 32, UNKNOWN_AT = 36, VERSION = 102 };
 
-/* A system's image and those of users that are laid over it, with what nodes take of their tokens, by each rules for ids that were asked for. Tokens
-   are counted through all images: those of one stand from its start on, and end where the next one's start. The holders and the list of all are under
-   the one lock of lock.c, and the tokens under that of loads. */
+/* A system's image and those of users that are laid over it, with what nodes take of their tokens,
+   by each rules for ids that were asked for. Tokens are counted through all images: those of one
+   stand from its start on, and end where the next one's start. The holders and the list of all are
+   under the one lock of lock.c, and the tokens under that of loads. */
 struct images {
     images *next;
     unsigned long holders;
@@ -46,7 +47,8 @@ static images *find_at(char *const *paths, size_t count) {
     images *found = NULL;
     struct stat of;
     size_t known = 0;
-    while (files && known < count && stat(paths[known], &of) == 0) files[known++] = identity_of(&of);
+    while (files && known < count && stat(paths[known], &of) == 0)
+        files[known++] = identity_of(&of);
     if (files && known == count) {
         lock_shared();
         found = find(files, count);
@@ -56,21 +58,18 @@ static images *find_at(char *const *paths, size_t count) {
     return found;
 }
 
-static bool fail_image(
-    fault *error, const char *path, const heading *of, uint32_t code, uint64_t number
-) {
+static bool fail_image(fault *error, const char *path, const heading *of, uint32_t code,
+                       uint64_t number) {
     if (code == KUMQUATSIEVE_FILE) return fail(error, "%s: %s", path, strerror((int)number));
     if (!is_compiled_by_mecab(of)) return fail_code(error, path, code);
-    return fail(
-        error,
-        "%s is a dictionary of MeCab's: `dictc user --dic IMG --out USER.img USER.csv` makes one of a user's source, kumquatsieve-import a system's",
-        path
-    );
+    return fail(error,
+                "%s is a dictionary of MeCab's: `dictc user --dic IMG --out USER.img USER.csv` "
+                "makes one of a user's source, kumquatsieve-import a system's",
+                path);
 }
 
-static bool add_info(
-    mecab_dictionary_info_t **last, const char *path, const heading *of, int type
-) {
+static bool add_info(mecab_dictionary_info_t **last, const char *path, const heading *of,
+                     int type) {
     mecab_dictionary_info_t *info = calloc(1, sizeof *info);
     char *name = strdup(path);
     if (!info || !name) {
@@ -79,8 +78,13 @@ static bool add_info(
         return false;
     }
     *info = (mecab_dictionary_info_t){
-        .filename = name, .charset = "UTF-8", .size = number_at(of, TOKENS_AT), .type = type,
-        .lsize = number_at(of, LEFT_AT), .rsize = number_at(of, RIGHT_AT), .version = VERSION,
+        .filename = name,
+        .charset = "UTF-8",
+        .size = number_at(of, TOKENS_AT),
+        .type = type,
+        .lsize = number_at(of, LEFT_AT),
+        .rsize = number_at(of, RIGHT_AT),
+        .version = VERSION,
     };
     *last = info;
     return true;
@@ -179,7 +183,8 @@ static images *load_all(char *const *paths, size_t count, fault *error) {
     return NULL;
 }
 
-/* Others are kept, or none; what was kept before is taken out of the list, to be freed. The lock is the caller's. */
+/* Others are kept, or none; what was kept before is taken out of the list, to be freed. The lock is
+ * the caller's. */
 static images *exchange_kept(images *by) {
     images *before = kept;
     for (images **at = &loaded; before && *at; at = &(*at)->next) {
@@ -234,9 +239,7 @@ bool is_first_file(const images *of, const identity *which) {
     return are_same(&of->files->which, which);
 }
 
-const mecab_dictionary_info_t *infos_of(const images *of) {
-    return of->infos;
-}
+const mecab_dictionary_info_t *infos_of(const images *of) { return of->infos; }
 
 bool cutter_over_images(kumquatsieve_cutter *to, const images *from, fault *error) {
     uint32_t code = kumquatsieve_cutter_over(to, from->dictionary);

@@ -12,16 +12,31 @@ typedef struct letter {
 } letter;
 
 static const letter BEHIND_PERCENT[] = {
-    {'S', SENTENCE}, {'L', SENTENCE_SIZE}, {'m', SURFACE}, {'M', SURFACE_WITH_BLANKS}, {'h', POSID}, {'c', WORD_COST}, {'H', FEATURE},
-    {'t', CATEGORY}, {'s', STATUS}, {'P', PROBABILITY}, {'\0', TEXT},
+    {'S', SENTENCE}, {'L', SENTENCE_SIZE}, {'m', SURFACE}, {'M', SURFACE_WITH_BLANKS},
+    {'h', POSID},    {'c', WORD_COST},     {'H', FEATURE}, {'t', CATEGORY},
+    {'s', STATUS},   {'P', PROBABILITY},   {'\0', TEXT},
 };
 static const letter BEHIND_P[] = {
-    {'i', ID}, {'S', BLANKS}, {'s', START}, {'e', END}, {'C', CONNECTION_COST}, {'w', WORD_COST}, {'c', COST}, {'n', COST_FROM_LAST},
-    {'b', MARK}, {'P', PROBABILITY}, {'A', PROBABILITY}, {'B', PROBABILITY}, {'l', LENGTH}, {'L', LENGTH_WITH_BLANKS}, {'\0', TEXT},
+    {'i', ID},
+    {'S', BLANKS},
+    {'s', START},
+    {'e', END},
+    {'C', CONNECTION_COST},
+    {'w', WORD_COST},
+    {'c', COST},
+    {'n', COST_FROM_LAST},
+    {'b', MARK},
+    {'P', PROBABILITY},
+    {'A', PROBABILITY},
+    {'B', PROBABILITY},
+    {'l', LENGTH},
+    {'L', LENGTH_WITH_BLANKS},
+    {'\0', TEXT},
 };
 static const letter BEHIND_H[] = {{'l', LEFT_ID}, {'r', RIGHT_ID}, {'\0', TEXT}};
 static const char ESCAPES[][2] = {
-    {'0', '\0'}, {'a', '\a'}, {'b', '\b'}, {'t', '\t'}, {'n', '\n'}, {'v', '\v'}, {'f', '\f'}, {'r', '\r'}, {'s', ' '}, {'\\', '\\'},
+    {'0', '\0'}, {'a', '\a'}, {'b', '\b'}, {'t', '\t'}, {'n', '\n'},
+    {'v', '\v'}, {'f', '\f'}, {'r', '\r'}, {'s', ' '},  {'\\', '\\'},
 };
 
 static bool add(items *to, item new, fault *error) {
@@ -52,7 +67,8 @@ static uint32_t add_letter(items *to, const letter *of, const char **at, fault *
     return add(to, (item){.kind = of->kind}, error) ? KUMQUATSIEVE_OK : KUMQUATSIEVE_MEMORY;
 }
 
-/* Numbers of fields between commas, behind `[` and up to `]`. Where there is no digit the number is 0. (MeCab) */
+/* Numbers of fields between commas, behind `[` and up to `]`. Where there is no digit the number is
+ * 0. (MeCab) */
 static uint32_t add_fields(items *to, const char **at, char separator, fault *error) {
     if (**at != '[') return KUMQUATSIEVE_BAD_INDEX;
     ++*at;
@@ -76,7 +92,8 @@ static uint32_t add_separated(items *to, const char **at, fault *error) {
     char separator = **at;
     if (separator == '\0') return KUMQUATSIEVE_BAD_INDEX;
     ++*at;
-    if (separator == '\\' && escaped(at, &separator) != KUMQUATSIEVE_OK) return KUMQUATSIEVE_BAD_ESCAPE;
+    if (separator == '\\' && escaped(at, &separator) != KUMQUATSIEVE_OK)
+        return KUMQUATSIEVE_BAD_ESCAPE;
     return add_fields(to, at, separator, error);
 }
 
@@ -88,7 +105,8 @@ static uint32_t add_behind_p(items *to, const char **at, fault *error) {
 
 static uint32_t add_item(items *to, const char **at, fault *error) {
     char letter = **at;
-    if (letter != 'f' && letter != 'F' && letter != 'p') return add_letter(to, BEHIND_PERCENT, at, error);
+    if (letter != 'f' && letter != 'F' && letter != 'p')
+        return add_letter(to, BEHIND_PERCENT, at, error);
     ++*at;
     if (letter == 'p') return add_behind_p(to, at, error);
     return letter == 'f' ? add_fields(to, at, '\t', error) : add_separated(to, at, error);
@@ -103,7 +121,8 @@ static uint32_t add_byte(items *to, char byte, fault *error) {
         last->length++;
         return KUMQUATSIEVE_OK;
     }
-    return add(to, (item){.kind = TEXT, .from = at, .length = 1}, error) ? KUMQUATSIEVE_OK : KUMQUATSIEVE_MEMORY;
+    return add(to, (item){.kind = TEXT, .from = at, .length = 1}, error) ? KUMQUATSIEVE_OK
+                                                                         : KUMQUATSIEVE_MEMORY;
 }
 
 static uint32_t add_next(items *to, const char **at, fault *error) {

@@ -97,10 +97,16 @@ const char *mecab_lattice_tostr2(mecab_lattice_t *lattice, char *out, size_t roo
 const char *mecab_lattice_strerror(mecab_lattice_t *lattice) { return lattice->error.text; }
 
 int mecab_lattice_get_request_type(mecab_lattice_t *lattice) { return lattice->request; }
-int mecab_lattice_has_request_type(mecab_lattice_t *lattice, int type) { return (lattice->request & type) != 0; }
+int mecab_lattice_has_request_type(mecab_lattice_t *lattice, int type) {
+    return (lattice->request & type) != 0;
+}
 void mecab_lattice_set_request_type(mecab_lattice_t *lattice, int type) { lattice->request = type; }
-void mecab_lattice_add_request_type(mecab_lattice_t *lattice, int type) { lattice->request |= type; }
-void mecab_lattice_remove_request_type(mecab_lattice_t *lattice, int type) { lattice->request &= ~type; }
+void mecab_lattice_add_request_type(mecab_lattice_t *lattice, int type) {
+    lattice->request |= type;
+}
+void mecab_lattice_remove_request_type(mecab_lattice_t *lattice, int type) {
+    lattice->request &= ~type;
+}
 
 double mecab_lattice_get_theta(mecab_lattice_t *lattice) { return lattice->theta; }
 void mecab_lattice_set_theta(mecab_lattice_t *lattice, double theta) { lattice->theta = theta; }

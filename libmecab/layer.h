@@ -1,5 +1,5 @@
-/* MeCab's C interface over kumquatsieve.h. It is not proved; docs/LIBMECAB.md says what each call does. Types and declarations are those of
-   MeCab's own header. */
+/* MeCab's C interface over kumquatsieve.h. It is not proved; docs/LIBMECAB.md says what each call
+   does. Types and declarations are those of MeCab's own header. */
 #ifndef LAYER_H
 #define LAYER_H
 #include "formats.h"
@@ -38,8 +38,9 @@ typedef struct heading {
 /* Rules for ids of parts of speech. (posids.c) */
 typedef struct posids posids;
 
-/* What nodes take of the tokens of their words: for each token a node of no place and no path, or NULL where no word of it came yet. The next one has
-   other rules for ids; without rules each id is 0. (tokens.c) */
+/* What nodes take of the tokens of their words: for each token a node of no place and no path, or
+   NULL where no word of it came yet. The next one has other rules for ids; without rules each id is
+   0. (tokens.c) */
 typedef struct tokens {
     struct tokens *next;
     const size_t *starts;
@@ -49,9 +50,10 @@ typedef struct tokens {
     identity rules;
 } tokens;
 
-/* The dictionaries of a model and what goes with them, which stay as they are; no two have the same number, which is above 0. The boundary is what the
-   nodes of a beginning and an end have in common. The holders are the model and the lattices that were cut by it; their count is under the lock of
-   lock.c. */
+/* The dictionaries of a model and what goes with them, which stay as they are; no two have the same
+   number, which is above 0. The boundary is what the nodes of a beginning and an end have in
+   common. The holders are the model and the lattices that were cut by it; their count is under the
+   lock of lock.c. */
 typedef struct tables {
     unsigned long number;
     unsigned long holders;
@@ -63,8 +65,9 @@ typedef struct tables {
     mecab_node_t boundary;
 } tables;
 
-/* Which tables taggers take, and what is asked of new ones. It goes with the last of its holders: its owner, its taggers and its lattices. All
-   but the texts is under the lock of lock.c; the number of its tables is told beside them, so that who has those already needs no lock. */
+/* Which tables taggers take, and what is asked of new ones. It goes with the last of its holders:
+   its owner, its taggers and its lattices. All but the texts is under the lock of lock.c; the
+   number of its tables is told beside them, so that who has those already needs no lock. */
 struct mecab_model_t {
     atomic_ulong holders;
     tables *tables;
@@ -74,8 +77,8 @@ struct mecab_model_t {
     double theta;
 };
 
-/* What it has to change belongs to its own lattice; so other lattices are parsed by several threads. What it is asked for is asked of its own
-   sentences alone. */
+/* What it has to change belongs to its own lattice; so other lattices are parsed by several
+   threads. What it is asked for is asked of its own sentences alone. */
 struct mecab_t {
     mecab_model_t *model;
     mecab_lattice_t *lattice;
@@ -84,10 +87,12 @@ struct mecab_t {
     fault error;
 };
 
-/* A sentence and, once it was parsed, its best path: the nodes from its beginning to its end, and, once that was asked for, its text in the
-   format of its model, or the default one where it has none, and the nodes of the whole lattice: those that are not on the path are `others`. The
-   cutter is over the tables of the tagger that parsed it last; `chosen` is the number of the cutter's format, 0 where none was chosen. A sentence is
-   odd where it was not cut as it is, placed where the nodes of the lattice stand at their places, chained where all of them are linked in place of
+/* A sentence and, once it was parsed, its best path: the nodes from its beginning to its end, and,
+   once that was asked for, its text in the format of its model, or the default one where it has
+   none, and the nodes of the whole lattice: those that are not on the path are `others`. The cutter
+   is over the tables of the tagger that parsed it last; `chosen` is the number of the cutter's
+   format, 0 where none was chosen. A sentence is odd where it was not cut as it is, placed where
+   the nodes of the lattice stand at their places, chained where all of them are linked in place of
    the path, and told where its best path was given as the first of several. It has a long word if
    one was found that no node has room for. */
 struct mecab_lattice_t {
@@ -146,8 +151,9 @@ char *beside(const char *image, const char *ending);
 /* missing.c */
 bool fail_missing(fault *error, const char *name, const char *prefix);
 
-/* lock.c. The one is held over a load of images. The other one is for all that models and lattices share; it is held for a few steps, never
-   over a sentence, and not for each. Both are free in a child that was forked while another thread had them. */
+/* lock.c. The one is held over a load of images. The other one is for all that models and lattices
+   share; it is held for a few steps, never over a sentence, and not for each. Both are free in a
+   child that was forked while another thread had them. */
 void lock_loads(void);
 void unlock_loads(void);
 void lock_shared(void);
@@ -162,7 +168,8 @@ bool read_heading(heading *to, const char *path, fault *error);
 uint32_t number_at(const heading *of, size_t at);
 bool is_compiled_by_mecab(const heading *of);
 
-/* images.c. What nodes take of tokens stays as long as its images; the rules are those of a file, or none. */
+/* images.c. What nodes take of tokens stays as long as its images; the rules are those of a file,
+ * or none. */
 images *open_images(char *const *paths, size_t count, fault *error);
 void release_images(images *of);
 bool is_first_file(const images *of, const identity *which);
@@ -171,11 +178,10 @@ tokens *tokens_over(images *of, const char *rules, fault *error);
 bool cutter_over_images(kumquatsieve_cutter *to, const images *from, fault *error);
 
 /* tokens.c */
-tokens *tokens_in(
-    tokens **list, const size_t *starts, size_t count, const char *rules,
-    const unsigned char *checksum, fault *error
-);
-bool keep_token(const tokens *of, kumquatsieve_cutter *cutter, const kumquatsieve_word *word, fault *error);
+tokens *tokens_in(tokens **list, const size_t *starts, size_t count, const char *rules,
+                  const unsigned char *checksum, fault *error);
+bool keep_token(const tokens *of, kumquatsieve_cutter *cutter, const kumquatsieve_word *word,
+                fault *error);
 void free_tokens(tokens *list);
 
 /* posids.c. Without a file, or with one that is for another image than the one with the checksum,
@@ -197,7 +203,8 @@ bool choose_texts(format *to, const settings *from, kumquatsieve_cutter *cutter,
 void free_texts(format *of);
 
 /* printer.c */
-bool print_by_status(const format *texts, const mecab_lattice_t *lattice, const mecab_node_t *node, bytes *to, fault *error);
+bool print_by_status(const format *texts, const mecab_lattice_t *lattice, const mecab_node_t *node,
+                     bytes *to, fault *error);
 bool print_path(const format *texts, const mecab_lattice_t *lattice, bytes *to, fault *error);
 
 /* model.c */
@@ -211,8 +218,9 @@ bool parse_own(mecab_t *tagger, const char *text, size_t length, int request, bo
 /* lattice.c */
 const format *format_of(const mecab_lattice_t *lattice);
 
-/* A part of a sentence that is cut by itself: it begins at `at` of the text, behind words that end at `place` of the sentence and cost `cost`.
-   Without a text it is the sentence itself, as it is. */
+/* A part of a sentence that is cut by itself: it begins at `at` of the text, behind words that end
+   at `place` of the sentence and cost `cost`. Without a text it is the sentence itself, as it is.
+ */
 typedef struct part {
     repaired *text;
     size_t at;

@@ -21,7 +21,8 @@ const char *mecab_lattice_get_feature_constraint(mecab_lattice_t *lattice, size_
     return NULL;
 }
 
-/* These answer nothing, so that the sentence is refused where it is parsed, and no older result stays. */
+/* These answer nothing, so that the sentence is refused where it is parsed, and no older result
+ * stays. */
 static void constrain(mecab_lattice_t *lattice, const char *what) {
     fail_left_out(&lattice->error, what);
     lattice->is_constrained = true;
@@ -32,7 +33,8 @@ void mecab_lattice_set_boundary_constraint(mecab_lattice_t *lattice, size_t at, 
     constrain(lattice, "mecab_lattice_set_boundary_constraint");
 }
 
-void mecab_lattice_set_feature_constraint(mecab_lattice_t *lattice, size_t from, size_t to, const char *feature) {
+void mecab_lattice_set_feature_constraint(mecab_lattice_t *lattice, size_t from, size_t to,
+                                          const char *feature) {
     constrain(lattice, "mecab_lattice_set_feature_constraint");
 }
 
@@ -45,7 +47,8 @@ int mecab_model_transition_cost(mecab_model_t *model, unsigned short right, unsi
     return 0;
 }
 
-mecab_node_t *mecab_model_lookup(mecab_model_t *model, const char *begin, const char *end, mecab_lattice_t *lattice) {
+mecab_node_t *mecab_model_lookup(mecab_model_t *model, const char *begin, const char *end,
+                                 mecab_lattice_t *lattice) {
     fail_left_out(lattice ? &lattice->error : common_fault(), "mecab_model_lookup");
     return NULL;
 }

@@ -5,8 +5,9 @@
 static pthread_mutex_t loads = PTHREAD_MUTEX_INITIALIZER;
 static pthread_mutex_t shared = PTHREAD_MUTEX_INITIALIZER;
 
-/* Files are opened and read under the lock of loads, and a thread that was cancelled in such a call would keep it for ever. So no thread is cancelled
-   while it has that lock. Whether it could be before is kept here, under the lock. */
+/* Files are opened and read under the lock of loads, and a thread that was cancelled in such a call
+   would keep it for ever. So no thread is cancelled while it has that lock. Whether it could be
+   before is kept here, under the lock. */
 static int cancellation;
 
 void lock_loads(void) {
@@ -22,13 +23,9 @@ void unlock_loads(void) {
     pthread_setcancelstate(before, &disabled);
 }
 
-void lock_shared(void) {
-    pthread_mutex_lock(&shared);
-}
+void lock_shared(void) { pthread_mutex_lock(&shared); }
 
-void unlock_shared(void) {
-    pthread_mutex_unlock(&shared);
-}
+void unlock_shared(void) { pthread_mutex_unlock(&shared); }
 
 static void lock_all(void) {
     lock_loads();
@@ -40,8 +37,9 @@ static void unlock_all(void) {
     unlock_loads();
 }
 
-/* A child has the forking thread alone: what another one had locked would stay so. At a fork these are locked before the lock of capi/src, which
-   is noted earlier: images are given back under the lock of loads, and that takes the other one. */
+/* A child has the forking thread alone: what another one had locked would stay so. At a fork these
+   are locked before the lock of capi/src, which is noted earlier: images are given back under the
+   lock of loads, and that takes the other one. */
 __attribute__((constructor)) static void keep_over_forks(void) {
     pthread_atfork(lock_all, unlock_all, unlock_all);
 }

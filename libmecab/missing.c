@@ -8,9 +8,7 @@
 /* How many names are listed. */
 enum { NAMES_MAX = 20 };
 
-static bool add_text(bytes *to, const char *text) {
-    return add_bytes(to, text, strlen(text));
-}
+static bool add_text(bytes *to, const char *text) { return add_bytes(to, text, strlen(text)); }
 
 static bool add_folders(bytes *to, const homes *of) {
     bool is_added = add_text(to, of->count > 0 ? "looked for in " : "there is no folder of images");

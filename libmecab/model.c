@@ -46,7 +46,8 @@ mecab_model_t *open_model(settings *from, fault *error) {
         return NULL;
     }
     model->holders = 1;
-    if ((model->tables = load_tables(from, error)) && are_had(from, error) && take_texts(model, from, error)) {
+    if ((model->tables = load_tables(from, error)) && are_had(from, error) &&
+        take_texts(model, from, error)) {
         model->request = request_of(from);
         model->theta = theta_of(from);
         model->number = model->tables->number;
@@ -58,14 +59,17 @@ mecab_model_t *open_model(settings *from, fault *error) {
 
 mecab_model_t *mecab_model_new(int count, char **words) {
     settings from = {0};
-    mecab_model_t *model = read_options(&from, count, words, common_fault()) ? open_model(&from, common_fault()) : NULL;
+    mecab_model_t *model = read_options(&from, count, words, common_fault())
+                               ? open_model(&from, common_fault())
+                               : NULL;
     free_settings(&from);
     return model;
 }
 
 mecab_model_t *mecab_model_new2(const char *line) {
     settings from = {0};
-    mecab_model_t *model = read_options_of(&from, line, common_fault()) ? open_model(&from, common_fault()) : NULL;
+    mecab_model_t *model =
+        read_options_of(&from, line, common_fault()) ? open_model(&from, common_fault()) : NULL;
     free_settings(&from);
     return model;
 }
@@ -98,8 +102,8 @@ mecab_lattice_t *mecab_model_new_lattice(mecab_model_t *model) {
     return lattice;
 }
 
-/* A model takes the dictionaries of another, which goes, and what that asks of new taggers; formats stay. (MeCab) Sentences that come later are
-   cut by them. */
+/* A model takes the dictionaries of another, which goes, and what that asks of new taggers; formats
+   stay. (MeCab) Sentences that come later are cut by them. */
 int mecab_model_swap(mecab_model_t *model, mecab_model_t *other) {
     if (!is_given(model) || !is_given(other)) return 0;
     if (model == other) return fail(common_fault(), "a model is swapped for itself");

@@ -5,9 +5,11 @@
 
 enum { NBEST_MAX = 512 };
 
-/* The first path is the best one. A second one is refused, so that nobody takes the best one for all there are. */
+/* The first path is the best one. A second one is refused, so that nobody takes the best one for
+ * all there are. */
 int mecab_lattice_next(mecab_lattice_t *lattice) {
-    if (!(lattice->request & MECAB_NBEST)) return fail(&lattice->error, "MECAB_NBEST request type is not set");
+    if (!(lattice->request & MECAB_NBEST))
+        return fail(&lattice->error, "MECAB_NBEST request type is not set");
     if (!lattice->is_cut) return fail(&lattice->error, "no sentence was parsed");
     if (lattice->is_told) return fail_left_out(&lattice->error, "N-best");
     lattice->is_told = true;
@@ -22,11 +24,13 @@ static bool add_end(mecab_lattice_t *lattice) {
 
 static bool list_best(mecab_lattice_t *lattice, size_t n) {
     fault *error = &lattice->error;
-    if (n == 0 || n > NBEST_MAX) return fail(error, "nbest size must be 1 <= nbest <= %d", NBEST_MAX);
+    if (n == 0 || n > NBEST_MAX)
+        return fail(error, "nbest size must be 1 <= nbest <= %d", NBEST_MAX);
     if (n > 1) return fail_left_out(error, "N-best");
     if (!mecab_lattice_next(lattice) || !text_of(lattice, error)) return false;
     const bytes *text = &lattice->printed;
-    return (set_bytes(&lattice->listed, text->at, text->length) || fail_memory(error)) && add_end(lattice);
+    return (set_bytes(&lattice->listed, text->at, text->length) || fail_memory(error)) &&
+           add_end(lattice);
 }
 
 static char *copy_text(const bytes *text, char *out, size_t room, fault *error) {
@@ -68,12 +72,16 @@ const char *mecab_nbest_sparse_tostr(mecab_t *tagger, size_t n, const char *text
     return mecab_nbest_sparse_tostr2(tagger, n, text, text ? strlen(text) : 0);
 }
 
-char *mecab_nbest_sparse_tostr3(mecab_t *tagger, size_t n, const char *text, size_t length, char *out, size_t room) {
-    return list_own(tagger, n, text, length) ? copy_text(&tagger->lattice->listed, out, room, &tagger->error) : NULL;
+char *mecab_nbest_sparse_tostr3(mecab_t *tagger, size_t n, const char *text, size_t length,
+                                char *out, size_t room) {
+    return list_own(tagger, n, text, length)
+               ? copy_text(&tagger->lattice->listed, out, room, &tagger->error)
+               : NULL;
 }
 
 static bool next_of(mecab_t *tagger) {
-    return mecab_lattice_next(tagger->lattice) || fail(&tagger->error, "%s", tagger->lattice->error.text);
+    return mecab_lattice_next(tagger->lattice) ||
+           fail(&tagger->error, "%s", tagger->lattice->error.text);
 }
 
 const char *mecab_nbest_next_tostr(mecab_t *tagger) {
@@ -81,7 +89,9 @@ const char *mecab_nbest_next_tostr(mecab_t *tagger) {
 }
 
 char *mecab_nbest_next_tostr2(mecab_t *tagger, char *out, size_t room) {
-    return mecab_nbest_next_tostr(tagger) ? copy_text(&tagger->lattice->printed, out, room, &tagger->error) : NULL;
+    return mecab_nbest_next_tostr(tagger)
+               ? copy_text(&tagger->lattice->printed, out, room, &tagger->error)
+               : NULL;
 }
 
 const mecab_node_t *mecab_nbest_next_tonode(mecab_t *tagger) {
@@ -89,7 +99,9 @@ const mecab_node_t *mecab_nbest_next_tonode(mecab_t *tagger) {
         fail_left_out(&tagger->error, "a marginal probability");
         return NULL;
     }
-    return next_of(tagger) && make_nodes(tagger->lattice, &tagger->error) ? mecab_lattice_get_bos_node(tagger->lattice) : NULL;
+    return next_of(tagger) && make_nodes(tagger->lattice, &tagger->error)
+               ? mecab_lattice_get_bos_node(tagger->lattice)
+               : NULL;
 }
 
 /* A lattice without a model has a format of its own for one node. (MeCab) */
@@ -99,7 +111,8 @@ static bool print_one(mecab_lattice_t *lattice, const mecab_node_t *node, fault 
     if (!set_bytes(to, "", 0)) return fail_memory(error);
     if (lattice->model) return print_by_status(&lattice->model->texts, lattice, node, to, error);
     const char *feature = node->feature ? node->feature : "";
-    bool is_put = add_bytes(to, node->surface, node->length) && add_bytes(to, "\t", 1) && add_bytes(to, feature, strlen(feature));
+    bool is_put = add_bytes(to, node->surface, node->length) && add_bytes(to, "\t", 1) &&
+                  add_bytes(to, feature, strlen(feature));
     return is_put || fail_memory(error);
 }
 
@@ -107,8 +120,11 @@ const char *text_of_node(mecab_lattice_t *lattice, const mecab_node_t *node) {
     return print_one(lattice, node, &lattice->error) ? lattice->listed.at : NULL;
 }
 
-const char *copy_text_of_node(mecab_lattice_t *lattice, const mecab_node_t *node, char *out, size_t room) {
-    return print_one(lattice, node, &lattice->error) ? copy_text(&lattice->listed, out, room, &lattice->error) : NULL;
+const char *copy_text_of_node(mecab_lattice_t *lattice, const mecab_node_t *node, char *out,
+                              size_t room) {
+    return print_one(lattice, node, &lattice->error)
+               ? copy_text(&lattice->listed, out, room, &lattice->error)
+               : NULL;
 }
 
 const char *mecab_format_node(mecab_t *tagger, const mecab_node_t *node) {
@@ -116,5 +132,7 @@ const char *mecab_format_node(mecab_t *tagger, const mecab_node_t *node) {
 }
 
 const char *copy_format_node(mecab_t *tagger, const mecab_node_t *node, char *out, size_t room) {
-    return print_one(tagger->lattice, node, &tagger->error) ? copy_text(&tagger->lattice->listed, out, room, &tagger->error) : NULL;
+    return print_one(tagger->lattice, node, &tagger->error)
+               ? copy_text(&tagger->lattice->listed, out, room, &tagger->error)
+               : NULL;
 }

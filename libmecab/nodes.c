@@ -32,8 +32,8 @@ void add_cost(part *of) {
     if (of->word_count > 0) of->cost += (long)of->total;
 }
 
-/* A word's places are those of the text that was cut; here they become those of the sentence, and the costs those from its beginning on. A word
-   begins where the one before ended. */
+/* A word's places are those of the text that was cut; here they become those of the sentence, and
+   the costs those from its beginning on. A word begins where the one before ended. */
 static void move_words(kumquatsieve_word *words, size_t count, part *of) {
     for (size_t i = 0; i < count; i++) {
         words[i].place = of->place;
@@ -59,9 +59,10 @@ static bool fit_all(kumquatsieve_word *words, size_t count) {
     return fitting == count;
 }
 
-/* Sets a node of a word, which has no neighbors then. False, and nothing is set, where the word's token has no node yet, or is past those of its
-   dictionary. */
-static inline bool set_node(const tokens *of, mecab_node_t *node, const kumquatsieve_word *word, const char *sentence) {
+/* Sets a node of a word, which has no neighbors then. False, and nothing is set, where the word's
+   token has no node yet, or is past those of its dictionary. */
+static inline bool set_node(const tokens *of, mecab_node_t *node, const kumquatsieve_word *word,
+                            const char *sentence) {
     size_t token = of->starts[word->dictionary] + word->token;
     if (token >= of->starts[word->dictionary + 1]) return false;
     const mecab_node_t *kept = atomic_load_explicit(&of->nodes[token], memory_order_acquire);
@@ -75,8 +76,10 @@ static inline bool set_node(const tokens *of, mecab_node_t *node, const kumquats
     return true;
 }
 
-/* Sets nodes of the path, each between its neighbors, up to the first word that none can be set of. Answers how many. */
-static size_t set_nodes(const tokens *of, mecab_node_t *node, size_t id, const kumquatsieve_word *words, size_t count, const char *sentence) {
+/* Sets nodes of the path, each between its neighbors, up to the first word that none can be set of.
+ * Answers how many. */
+static size_t set_nodes(const tokens *of, mecab_node_t *node, size_t id,
+                        const kumquatsieve_word *words, size_t count, const char *sentence) {
     const kumquatsieve_word *word = words, *end = words + count;
     for (; word < end && set_node(of, node, word, sentence); word++, node++) {
         node->prev = node - 1;
@@ -98,7 +101,8 @@ static bool set_all(mecab_lattice_t *lattice, mecab_node_t *nodes, size_t count,
     const tokens *of = lattice->tables->tokens;
     for (size_t done = 0;;) {
         const kumquatsieve_word *words = lattice->words + done;
-        done += set_nodes(of, nodes + done, lattice->count + done, words, count - done, lattice->sentence);
+        done += set_nodes(of, nodes + done, lattice->count + done, words, count - done,
+                          lattice->sentence);
         if (done == count) break;
         if (!keep_token(of, &lattice->cutter, &lattice->words[done], error)) return false;
     }
@@ -143,7 +147,8 @@ static void add_boundaries(mecab_lattice_t *lattice, long cost) {
     lattice->count++;
 }
 
-/* Links the nodes of all parts anew: those of the first ones may have been moved when others were added. */
+/* Links the nodes of all parts anew: those of the first ones may have been moved when others were
+ * added. */
 static void link_nodes(mecab_lattice_t *lattice) {
     for (size_t i = 1; i < lattice->count; i++) {
         lattice->nodes[i - 1].next = &lattice->nodes[i];
@@ -183,7 +188,8 @@ static bool has_others_room(mecab_lattice_t *lattice, fault *error) {
     return true;
 }
 
-static bool make_other(mecab_lattice_t *lattice, mecab_node_t *node, const kumquatsieve_word *word, fault *error) {
+static bool make_other(mecab_lattice_t *lattice, mecab_node_t *node, const kumquatsieve_word *word,
+                       fault *error) {
     const tokens *of = lattice->tables->tokens;
     while (!set_node(of, node, word, lattice->sentence)) {
         if (!keep_token(of, &lattice->cutter, word, error)) return false;

@@ -1,4 +1,5 @@
-/* Sentences that the library refuses: those that are not UTF-8 are made so, and those that are too long are cut in parts. */
+/* Sentences that the library refuses: those that are not UTF-8 are made so, and those that are too
+ * long are cut in parts. */
 #include "layer.h"
 #include <string.h>
 
@@ -11,7 +12,8 @@ typedef bool take(mecab_lattice_t *lattice, part *of, fault *error);
 
 static bool cut_part(mecab_lattice_t *lattice, part *of, size_t length, take *from, fault *error) {
     const uint8_t *text = (const uint8_t *)of->text->text.at + of->at;
-    uint32_t code = kumquatsieve_cut_text(&lattice->cutter, text, length, &of->word_count, &of->total, NULL);
+    uint32_t code =
+        kumquatsieve_cut_text(&lattice->cutter, text, length, &of->word_count, &of->total, NULL);
     return code == KUMQUATSIEVE_OK ? from(lattice, of, error) : fail_code(error, "sentence", code);
 }
 
@@ -30,20 +32,23 @@ bool is_odd(uint32_t code) {
     return code == KUMQUATSIEVE_NOT_UTF8 || code == KUMQUATSIEVE_TOO_LONG;
 }
 
-/* The nodes are one list, with the bytes that were given, so that the words join to the sentence. */
+/* The nodes are one list, with the bytes that were given, so that the words join to the sentence.
+ */
 bool add_odd(mecab_lattice_t *lattice, long *cost, fault *error) {
     repaired text = {0};
     part one = {.text = &text};
     bool is_cut = repair(&text, lattice->sentence, lattice->size) || fail_memory(error);
     is_cut = is_cut && cut_parts(lattice, &one, add_nodes, error);
     lattice->bad_bytes = text.bad;
-    if (is_cut && text.bad > 0) fail(error, "%zu bytes that are not UTF-8 were cut as U+FFFD", text.bad);
+    if (is_cut && text.bad > 0)
+        fail(error, "%zu bytes that are not UTF-8 were cut as U+FFFD", text.bad);
     *cost = lattice->count > 1 ? one.cost : (long)one.total;
     free_repaired(&text);
     return is_cut;
 }
 
-/* All nodes of such a sentence: its parts are cut once more, since of each the lattice is there only until the next one is cut. */
+/* All nodes of such a sentence: its parts are cut once more, since of each the lattice is there
+ * only until the next one is cut. */
 bool find_odd(mecab_lattice_t *lattice, fault *error) {
     repaired text = {0};
     part one = {.text = &text};

@@ -3,7 +3,8 @@
 #define ODD_H
 #include "formats.h"
 
-/* Characters of a repaired text, one behind the other, that stand for other bytes of the given one: each of `length` bytes for `given`. */
+/* Characters of a repaired text, one behind the other, that stand for other bytes of the given one:
+ * each of `length` bytes for `given`. */
 typedef struct exchange {
     size_t at;
     size_t given_at;
@@ -12,7 +13,8 @@ typedef struct exchange {
     size_t times;
 } exchange;
 
-/* A text in UTF-8, and how it differs from the one that was given. `bad` counts the bytes that are part of no character. */
+/* A text in UTF-8, and how it differs from the one that was given. `bad` counts the bytes that are
+ * part of no character. */
 typedef struct repaired {
     bytes text;
     exchange *exchanges;

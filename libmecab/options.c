@@ -42,7 +42,8 @@ static const struct {
 static int find(const char *word, size_t *value_at) {
     for (int i = 0; i < (int)(sizeof KNOWN / sizeof *KNOWN); i++) {
         size_t length = strlen(KNOWN[i].name);
-        if (word[1] == '-' && strncmp(word + 2, KNOWN[i].name, length) == 0 && (word[2 + length] == '\0' || word[2 + length] == '=')) {
+        if (word[1] == '-' && strncmp(word + 2, KNOWN[i].name, length) == 0 &&
+            (word[2 + length] == '\0' || word[2 + length] == '=')) {
             *value_at = 2 + length + (word[2 + length] == '=');
             return i;
         }

@@ -2,7 +2,8 @@
 #include "layer.h"
 #include <string.h>
 
-/* Has the lattice's cutter over the model's dictionaries, where it isn't yet, or those were exchanged since. */
+/* Has the lattice's cutter over the model's dictionaries, where it isn't yet, or those were
+ * exchanged since. */
 static bool take_tables(mecab_model_t *model, mecab_lattice_t *lattice, fault *error) {
     if (lattice->tables && lattice->tables->number == model->number) return true;
     kumquatsieve_cutter cutter = KUMQUATSIEVE_EMPTY;
@@ -23,7 +24,8 @@ static bool take_tables(mecab_model_t *model, mecab_lattice_t *lattice, fault *e
 static bool is_had(const mecab_lattice_t *lattice, bool nodes, fault *error) {
     int request = lattice->request;
     if (request & MECAB_PARTIAL) return fail_left_out(error, "partial parsing");
-    if (nodes && request & MECAB_MARGINAL_PROB) return fail_left_out(error, "a marginal probability");
+    if (nodes && request & MECAB_MARGINAL_PROB)
+        return fail_left_out(error, "a marginal probability");
     if (lattice->is_constrained) return fail_left_out(error, "a constraint");
     return lattice->sentence != NULL || fail(error, "no sentence is set");
 }
@@ -39,7 +41,8 @@ bool parse(mecab_model_t *model, mecab_lattice_t *lattice, bool nodes, fault *er
     error->text[0] = '\0';
     if (!is_had(lattice, nodes, error) || !take_tables(model, lattice, error)) return false;
     const uint8_t *sentence = (const uint8_t *)lattice->sentence;
-    uint32_t code = kumquatsieve_cut_text(&lattice->cutter, sentence, lattice->size, &lattice->word_count, &lattice->total, NULL);
+    uint32_t code = kumquatsieve_cut_text(&lattice->cutter, sentence, lattice->size,
+                                          &lattice->word_count, &lattice->total, NULL);
     lattice->is_odd = code != KUMQUATSIEVE_OK && is_odd(code);
     if (code != KUMQUATSIEVE_OK && !lattice->is_odd) return fail_code(error, "sentence", code);
     if ((nodes || lattice->is_odd) && !make_nodes(lattice, error)) return false;
@@ -61,13 +64,16 @@ static bool print_into(mecab_lattice_t *lattice, const format *texts, fault *err
     return set_bytes(&lattice->printed, text, length) || fail_memory(error);
 }
 
-/* By the library, where it has the format and the sentence was cut as it is, and by the nodes else. */
+/* By the library, where it has the format and the sentence was cut as it is, and by the nodes else.
+ */
 static bool print_text(mecab_lattice_t *lattice, fault *error) {
     const format *texts = format_of(lattice);
-    bool is_changed = lattice->is_odd || lattice->is_chained || lattice->tables->unk_feature != NULL;
+    bool is_changed =
+        lattice->is_odd || lattice->is_chained || lattice->tables->unk_feature != NULL;
     if (texts->is_proved && !is_changed) return print_into(lattice, texts, error);
     if (!make_nodes(lattice, error)) return false;
-    return (set_bytes(&lattice->printed, "", 0) || fail_memory(error)) && print_path(texts, lattice, &lattice->printed, error);
+    return (set_bytes(&lattice->printed, "", 0) || fail_memory(error)) &&
+           print_path(texts, lattice, &lattice->printed, error);
 }
 
 /* The text is made when it is asked for. */

@@ -18,15 +18,18 @@ static bool has_room(mecab_lattice_t *lattice, fault *error) {
 }
 
 static void clear(mecab_lattice_t *lattice) {
-    for (size_t i = 0; i < lattice->size + BEYOND; i++) lattice->begins[i] = lattice->ends[i] = NULL;
+    for (size_t i = 0; i < lattice->size + BEYOND; i++)
+        lattice->begins[i] = lattice->ends[i] = NULL;
 }
 
-/* A word begins with its blanks, and of those that begin at a place the last one is the first in its list. All nodes are counted through. (MeCab) */
+/* A word begins with its blanks, and of those that begin at a place the last one is the first in
+ * its list. All nodes are counted through. (MeCab) */
 static void link_begins(mecab_lattice_t *lattice) {
     mecab_node_t *best = lattice->nodes + 1, *other = lattice->others;
     for (size_t i = 0; i < lattice->found_count; i++) {
         const kumquatsieve_node *found = &lattice->found[i];
-        mecab_node_t *node = found->on_best ? best++ : other++, **first = &lattice->begins[found->word.place];
+        mecab_node_t *node = found->on_best ? best++ : other++,
+                     **first = &lattice->begins[found->word.place];
         node->id = (unsigned)(i + 1);
         node->bnext = *first;
         *first = node;
@@ -38,18 +41,20 @@ static void add_end(mecab_lattice_t *lattice, mecab_node_t *node, size_t end) {
     lattice->ends[end] = node;
 }
 
-/* Of those that end at a place the one is the first in its list that was connected last: place by place, and at a place in the order of the list of
-   those that begin there. (MeCab) */
+/* Of those that end at a place the one is the first in its list that was connected last: place by
+   place, and at a place in the order of the list of those that begin there. (MeCab) */
 static void link_ends(mecab_lattice_t *lattice) {
     for (size_t at = 0; at < lattice->size; at++) {
-        for (mecab_node_t *node = lattice->begins[at]; node; node = node->bnext) add_end(lattice, node, at + node->rlength);
+        for (mecab_node_t *node = lattice->begins[at]; node; node = node->bnext)
+            add_end(lattice, node, at + node->rlength);
     }
 }
 
-/* The beginning ends where the sentence begins, and the end begins where it ends. The end is also one of those that end where the last word
-   does. (MeCab) */
+/* The beginning ends where the sentence begins, and the end begins where it ends. The end is also
+   one of those that end where the last word does. (MeCab) */
 static void link_boundaries(mecab_lattice_t *lattice) {
-    mecab_node_t *first = lattice->nodes, *end = &lattice->nodes[lattice->count - 1], *last = end - 1;
+    mecab_node_t *first = lattice->nodes, *end = &lattice->nodes[lattice->count - 1],
+                 *last = end - 1;
     end->id = (unsigned)(lattice->found_count + 1);
     add_end(lattice, end, (size_t)(last->surface - lattice->sentence) + last->length);
     lattice->ends[0] = first;
@@ -57,7 +62,9 @@ static void link_boundaries(mecab_lattice_t *lattice) {
 }
 
 static bool place_nodes(mecab_lattice_t *lattice, fault *error) {
-    if (!make_nodes(lattice, error) || !find_nodes(lattice, error) || !make_others(lattice, error) || !has_room(lattice, error)) return false;
+    if (!make_nodes(lattice, error) || !find_nodes(lattice, error) ||
+        !make_others(lattice, error) || !has_room(lattice, error))
+        return false;
     clear(lattice);
     lattice->ends[0] = lattice->nodes;
     link_begins(lattice);
@@ -66,15 +73,19 @@ static bool place_nodes(mecab_lattice_t *lattice, fault *error) {
     return true;
 }
 
-/* The whole lattice is made when it is asked for. Before a sentence is parsed no place has a node. */
+/* The whole lattice is made when it is asked for. Before a sentence is parsed no place has a node.
+ */
 static bool has_places(mecab_lattice_t *lattice, fault *error) {
     if (lattice->is_placed) return true;
-    if (lattice->is_cut) lattice->is_placed = place_nodes(lattice, error);
-    else if ((lattice->is_placed = has_room(lattice, error))) clear(lattice);
+    if (lattice->is_cut)
+        lattice->is_placed = place_nodes(lattice, error);
+    else if ((lattice->is_placed = has_room(lattice, error)))
+        clear(lattice);
     return lattice->is_placed;
 }
 
-/* Links all nodes, in the order of the places where they begin, in place of those of the path. (MeCab) */
+/* Links all nodes, in the order of the places where they begin, in place of those of the path.
+ * (MeCab) */
 bool chain_all(mecab_lattice_t *lattice, fault *error) {
     if (!has_places(lattice, error)) return false;
     mecab_node_t *last = lattice->nodes;

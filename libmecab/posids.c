@@ -6,8 +6,9 @@
 
 enum { FIELD_MAX = 512, NO_ID = 65535 };
 
-/* A rule's fields, of which each has to match a feature's, and its id. The first `shared` fields are those of the rule before. `other` is the number of
-   the next rule whose first field is another one. */
+/* A rule's fields, of which each has to match a feature's, and its id. The first `shared` fields
+   are those of the rule before. `other` is the number of the next rule whose first field is another
+   one. */
 typedef struct rule {
     char *text;
     const char **fields;
@@ -35,12 +36,14 @@ static bool add_fields_of(rule *to, fault *error) {
 }
 
 static size_t shared_of(const rule *one, const rule *other) {
-    size_t shared = 0, most = one->field_count < other->field_count ? one->field_count : other->field_count;
+    size_t shared = 0,
+           most = one->field_count < other->field_count ? one->field_count : other->field_count;
     while (shared < most && strcmp(one->fields[shared], other->fields[shared]) == 0) shared++;
     return shared;
 }
 
-static bool add_rule(posids *to, const char *pattern, size_t length, unsigned long id, fault *error) {
+static bool add_rule(posids *to, const char *pattern, size_t length, unsigned long id,
+                     fault *error) {
     if (to->count == to->room) {
         rule *rules = realloc(to->rules, (2 * to->room + 64) * sizeof *rules);
         if (!rules) return fail_memory(error);
@@ -65,7 +68,8 @@ static bool read_rule(posids *to, const char *line, fault *error) {
     char *end = NULL;
     if (length == 0 || *number < '0' || *number > '9') return fail(error, "no pattern and number");
     unsigned long id = strtoul(number, &end, 10);
-    if ((*end && *end != ' ' && *end != '\t') || id > UINT16_MAX) return fail(error, "not a number up to %d: %.100s", UINT16_MAX, number);
+    if ((*end && *end != ' ' && *end != '\t') || id > UINT16_MAX)
+        return fail(error, "not a number up to %d: %.100s", UINT16_MAX, number);
     return add_rule(to, pattern, length, id, error);
 }
 
@@ -145,7 +149,8 @@ static bool are_equal(const char *one, const char *other) {
     return *one == *other && strcmp(one, other) == 0;
 }
 
-/* A pattern that begins with `*` matches all, and one in brackets each of what stands between bars. (MeCab) */
+/* A pattern that begins with `*` matches all, and one in brackets each of what stands between bars.
+ * (MeCab) */
 static bool matches(const char *pattern, const char *field) {
     if (*pattern == '*' || are_equal(pattern, field)) return true;
     if (*pattern != '(') return false;
@@ -153,16 +158,20 @@ static bool matches(const char *pattern, const char *field) {
     return length >= 3 && pattern[length - 1] == ')' && is_one_of(pattern + 1, length - 2, field);
 }
 
-/* How many fields of a rule match, of which so many are known to, before the first one that doesn't. */
+/* How many fields of a rule match, of which so many are known to, before the first one that
+ * doesn't. */
 static size_t matching(const rule *of, size_t matched, const char *const *fields, size_t count) {
-    while (matched < of->field_count && matched < count && matches(of->fields[matched], fields[matched])) matched++;
+    while (matched < of->field_count && matched < count &&
+           matches(of->fields[matched], fields[matched]))
+        matched++;
     return matched;
 }
 
-/* That of the first rule that fits. A rule fails where the one before failed, as long as it shares that field. */
+/* That of the first rule that fits. A rule fails where the one before failed, as long as it shares
+ * that field. */
 static uint16_t id_by_fields(const posids *of, const char *const *fields, size_t count) {
     size_t matched = 0;
-    for (size_t i = 0; i < of->count; i = matched > 0 ? i + 1 : of->rules[i].other) {
+    for (size_t i = 0; i<of->count; i = matched> 0 ? i + 1 : of->rules[i].other) {
         const rule *one = &of->rules[i];
         if (matched < one->shared) continue;
         matched = matching(one, one->shared, fields, count);
@@ -171,7 +180,8 @@ static uint16_t id_by_fields(const posids *of, const char *const *fields, size_t
     return NO_ID;
 }
 
-/* The id by a feature, which is cut in place. What is behind the longest rule is not looked at, so one field more has it. */
+/* The id by a feature, which is cut in place. What is behind the longest rule is not looked at, so
+ * one field more has it. */
 uint16_t posid_of(const posids *of, char *feature) {
     const char *fields[FIELD_MAX];
     size_t most = of->longest < FIELD_MAX ? of->longest + 1 : FIELD_MAX;

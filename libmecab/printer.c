@@ -49,7 +49,8 @@ static bool find_fields(printing *of, fault *error) {
     return true;
 }
 
-/* Fields that begin with `*` are left out, and so is the separator behind one. (MeCab) Those that are missing are left out too. */
+/* Fields that begin with `*` are left out, and so is the separator behind one. (MeCab) Those that
+ * are missing are left out too. */
 static bool put_fields(printing *of, const item **at, const item *end, fault *error) {
     char separator = (*at)->separator;
     bool is_first = true;
@@ -64,11 +65,13 @@ static bool put_fields(printing *of, const item **at, const item *end, fault *er
 static bool put_cost(printing *of, kind which, fault *error) {
     const mecab_node_t *node = of->node;
     if (!node->prev) return fail(error, "there is no connection before the beginning");
-    return put_number(of, node->cost - node->prev->cost - (which == CONNECTION_COST ? node->wcost : 0), error);
+    return put_number(
+        of, node->cost - node->prev->cost - (which == CONNECTION_COST ? node->wcost : 0), error);
 }
 
 static bool put_probability(printing *of, fault *error) {
-    if (of->lattice->request & MECAB_MARGINAL_PROB) return fail_left_out(error, "a marginal probability");
+    if (of->lattice->request & MECAB_MARGINAL_PROB)
+        return fail_left_out(error, "a marginal probability");
     return put(of, "0.000000", strlen("0.000000"), error);
 }
 
@@ -90,9 +93,7 @@ static bool put_text_item(printing *of, const items *format, const item *one, fa
     }
 }
 
-static bool is_number(kind which) {
-    return which >= FIRST_NUMBER;
-}
+static bool is_number(kind which) { return which >= FIRST_NUMBER; }
 
 static long number_in(const printing *of, kind which) {
     const mecab_node_t *node = of->node;
@@ -115,21 +116,26 @@ static long number_in(const printing *of, kind which) {
     }
 }
 
-bool print_node(const items *format, const mecab_lattice_t *lattice, const mecab_node_t *node, bytes *to, fault *error) {
+bool print_node(const items *format, const mecab_lattice_t *lattice, const mecab_node_t *node,
+                bytes *to, fault *error) {
     printing of = {.lattice = lattice, .node = node, .to = to};
     const item *end = format->all + format->count;
     bool is_put = true;
     for (const item *at = format->all; is_put && at < end; at++) {
-        if (at->kind == FIELDS) is_put = put_fields(&of, &at, end, error);
-        else if (is_number(at->kind)) is_put = put_number(&of, number_in(&of, at->kind), error);
-        else is_put = put_text_item(&of, format, at, error);
+        if (at->kind == FIELDS)
+            is_put = put_fields(&of, &at, end, error);
+        else if (is_number(at->kind))
+            is_put = put_number(&of, number_in(&of, at->kind), error);
+        else
+            is_put = put_text_item(&of, format, at, error);
     }
     free(of.fields);
     return is_put;
 }
 
 /* A node in the format of its kind. */
-bool print_by_status(const format *texts, const mecab_lattice_t *lattice, const mecab_node_t *node, bytes *to, fault *error) {
+bool print_by_status(const format *texts, const mecab_lattice_t *lattice, const mecab_node_t *node,
+                     bytes *to, fault *error) {
     static const int PARTS[] = {NODE_PART, UNK_PART, BOS_PART, EOS_PART, EON_PART};
     if (texts->style != OWN_STYLE || node->stat > MECAB_EON_NODE) return true;
     return print_node(&texts->items[PARTS[node->stat]], lattice, node, to, error);
@@ -139,7 +145,8 @@ static bool print_line(const mecab_node_t *node, style style, bytes *to) {
     if (style == NO_STYLE) return true;
     if (!add_bytes(to, node->surface, node->length)) return false;
     if (style == WAKATI_STYLE) return add_bytes(to, " ", 1);
-    return add_bytes(to, "\t", 1) && add_bytes(to, feature_of(node), strlen(feature_of(node))) && add_bytes(to, "\n", 1);
+    return add_bytes(to, "\t", 1) && add_bytes(to, feature_of(node), strlen(feature_of(node))) &&
+           add_bytes(to, "\n", 1);
 }
 
 /* Styles that are no formats of a caller or a dictionary. */
@@ -152,7 +159,8 @@ static bool print_plain(style style, const mecab_lattice_t *lattice, bytes *to) 
 }
 
 bool print_path(const format *texts, const mecab_lattice_t *lattice, bytes *to, fault *error) {
-    if (texts->style != OWN_STYLE) return print_plain(texts->style, lattice, to) || fail_memory(error);
+    if (texts->style != OWN_STYLE)
+        return print_plain(texts->style, lattice, to) || fail_memory(error);
     for (const mecab_node_t *node = lattice->nodes; node; node = node->next) {
         if (!print_by_status(texts, lattice, node, to, error)) return false;
     }

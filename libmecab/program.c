@@ -18,7 +18,8 @@ static int report_file(const char *path) {
 
 static bool write_text(mecab_t *tagger, FILE *to, fault *error) {
     const bytes *text = &tagger->lattice->printed;
-    return fwrite(text->at, 1, text->length, to) == text->length || fail(error, "a write failed: %s", strerror(errno));
+    return fwrite(text->at, 1, text->length, to) == text->length ||
+           fail(error, "a write failed: %s", strerror(errno));
 }
 
 /* What is not UTF-8 in the lines that were cut. */
@@ -43,7 +44,8 @@ static int cut_lines(mecab_t *tagger, int from, FILE *to, tally *bad) {
         if (!is_good) break;
         count_bad(bad, tagger);
     }
-    if (!is_good) fprintf(stderr, "mecab: line %zu: %s\n", all.number + (line == NULL), error->text);
+    if (!is_good)
+        fprintf(stderr, "mecab: line %zu: %s\n", all.number + (line == NULL), error->text);
     free_bytes(&all.held);
     return is_good ? 0 : 1;
 }
@@ -61,15 +63,20 @@ static int cut_files(mecab_t *tagger, int count, char **paths, FILE *to) {
     static const char *const INPUT[] = {"-"};
     tally bad = {0, 0};
     int status = 0;
-    for (int i = 0; status == 0 && i < (count > 0 ? count : 1); i++) status = cut_file(tagger, count > 0 ? paths[i] : INPUT[0], to, &bad);
-    if (bad.bytes > 0) fprintf(stderr, "mecab: %zu bytes in %zu lines are not UTF-8, and were cut as U+FFFD\n", bad.bytes, bad.lines);
+    for (int i = 0; status == 0 && i < (count > 0 ? count : 1); i++)
+        status = cut_file(tagger, count > 0 ? paths[i] : INPUT[0], to, &bad);
+    if (bad.bytes > 0)
+        fprintf(stderr, "mecab: %zu bytes in %zu lines are not UTF-8, and were cut as U+FFFD\n",
+                bad.bytes, bad.lines);
     return status;
 }
 
 static int tell_dictionaries(const mecab_dictionary_info_t *info, FILE *to) {
     for (; info; info = info->next) {
-        fprintf(to, "filename:\t%s\nversion:\t%u\ncharset:\t%s\n", info->filename, info->version, info->charset);
-        fprintf(to, "type:\t%d\nsize:\t%u\nleft size:\t%u\nright size:\t%u\n\n", info->type, info->size, info->lsize, info->rsize);
+        fprintf(to, "filename:\t%s\nversion:\t%u\ncharset:\t%s\n", info->filename, info->version,
+                info->charset);
+        fprintf(to, "type:\t%d\nsize:\t%u\nleft size:\t%u\nright size:\t%u\n\n", info->type,
+                info->size, info->lsize, info->rsize);
     }
     return 0;
 }
@@ -77,8 +84,10 @@ static int tell_dictionaries(const mecab_dictionary_info_t *info, FILE *to) {
 static int cut_into(mecab_t *tagger, const settings *from, FILE *to) {
     long nbest = number_of(from, "nbest", 1);
     if (nbest <= 0) return report("invalid N value");
-    if (is_set(from, "dump-config")) return report("-P is not supported by libmecab over Kumquatsieve");
-    if (is_set(from, "dictionary-info")) return tell_dictionaries(mecab_dictionary_info(tagger), to);
+    if (is_set(from, "dump-config"))
+        return report("-P is not supported by libmecab over Kumquatsieve");
+    if (is_set(from, "dictionary-info"))
+        return tell_dictionaries(mecab_dictionary_info(tagger), to);
     return cut_files(tagger, from->other_count, from->others, to);
 }
 
@@ -88,9 +97,12 @@ static int run(settings *from) {
     const char *path = setting_of(from, "output");
     FILE *to = tagger && path && *path ? fopen(path, "wbe") : stdout;
     int status = 0;
-    if (!tagger) status = report(common_fault()->text);
-    else if (!to) status = report_file(path);
-    else status = cut_into(tagger, from, to);
+    if (!tagger)
+        status = report(common_fault()->text);
+    else if (!to)
+        status = report_file(path);
+    else
+        status = cut_into(tagger, from, to);
     if (to && fflush(to) != 0 && status == 0) status = report("a write failed");
     if (to && to != stdout && fclose(to) != 0 && status == 0) status = report("a write failed");
     mecab_destroy(tagger);
@@ -100,17 +112,23 @@ static int run(settings *from) {
 
 static void tell_help(void) {
     printf("Usage: mecab [options] files\n"
-           "MeCab's library over Kumquatsieve. Of MeCab's options it takes -a, -d, -u, -r, -O, -F, -U, -B, -E, -S, -x, -M, -N 1, -o, -C, -D, -v\n"
-           "and -h; -b, -c, -l, -m and -t are taken, and change no text; -p, -P and -N above 1 are refused.\n\n");
+           "MeCab's library over Kumquatsieve. Of MeCab's options it takes -a, -d, -u, -r, -O, -F, "
+           "-U, -B, -E, -S, -x, -M, -N 1, -o, -C, -D, -v\n"
+           "and -h; -b, -c, -l, -m and -t are taken, and change no text; -p, -P and -N above 1 are "
+           "refused.\n\n");
 }
 
 int mecab_do(int count, char **words) {
     settings from = {0};
     int status = 0;
-    if (!read_options(&from, count, words, common_fault())) status = report(common_fault()->text);
-    else if (is_set(&from, "help")) tell_help();
-    else if (is_set(&from, "version")) printf("mecab of %s\n\n", mecab_version());
-    else status = run(&from);
+    if (!read_options(&from, count, words, common_fault()))
+        status = report(common_fault()->text);
+    else if (is_set(&from, "help"))
+        tell_help();
+    else if (is_set(&from, "version"))
+        printf("mecab of %s\n\n", mecab_version());
+    else
+        status = run(&from);
     free_settings(&from);
     return status;
 }

@@ -9,9 +9,7 @@ static const char FULL_STOP[] = "\xe3\x80\x82";
 
 enum { REPLACEMENT_LENGTH = 3, SURROGATE_LENGTH = 3, PAIR_LENGTH = 6, PAIRED_LENGTH = 4 };
 
-static bool is_behind(unsigned char byte) {
-    return (byte & 0xc0) == 0x80;
-}
+static bool is_behind(unsigned char byte) { return (byte & 0xc0) == 0x80; }
 
 /* The length of the character that a text begins with, 0 where it begins with none. */
 static size_t character_length(const unsigned char *at, size_t left) {
@@ -33,8 +31,10 @@ static bool is_surrogate(const unsigned char *at, unsigned char least) {
 
 /* A pair of surrogates, each in three bytes, as Java writes characters past U+FFFF. */
 static bool read_pair(const unsigned char *at, size_t left, char *character) {
-    if (left < PAIR_LENGTH || !is_surrogate(at, 0xa0) || !is_surrogate(at + SURROGATE_LENGTH, 0xb0)) return false;
-    unsigned high = (at[1] & 0x0fu) << 6 | (at[2] & 0x3fu), low = (at[4] & 0x0fu) << 6 | (at[5] & 0x3fu);
+    if (left < PAIR_LENGTH || !is_surrogate(at, 0xa0) || !is_surrogate(at + SURROGATE_LENGTH, 0xb0))
+        return false;
+    unsigned high = (at[1] & 0x0fu) << 6 | (at[2] & 0x3fu),
+             low = (at[4] & 0x0fu) << 6 | (at[5] & 0x3fu);
     unsigned code = 0x10000u + (high << 10 | low);
     character[0] = (char)(0xf0u | code >> 18);
     character[1] = (char)(0x80u | (code >> 12 & 0x3fu));
@@ -45,7 +45,8 @@ static bool read_pair(const unsigned char *at, size_t left, char *character) {
 
 static bool add_exchange(repaired *to, size_t at, size_t given_at, size_t length, size_t given) {
     exchange *last = to->count > 0 ? &to->exchanges[to->count - 1] : NULL;
-    if (last && last->length == length && last->given == given && last->at + last->times * length == at) {
+    if (last && last->length == length && last->given == given &&
+        last->at + last->times * length == at) {
         last->times++;
         return true;
     }
@@ -55,7 +56,8 @@ static bool add_exchange(repaired *to, size_t at, size_t given_at, size_t length
         to->exchanges = exchanges;
         to->room = 2 * to->room + 8;
     }
-    to->exchanges[to->count++] = (exchange){.at = at, .given_at = given_at, .length = length, .given = given, .times = 1};
+    to->exchanges[to->count++] =
+        (exchange){.at = at, .given_at = given_at, .length = length, .given = given, .times = 1};
     return true;
 }
 
@@ -75,7 +77,8 @@ bool repair(repaired *to, const char *given, size_t size) {
     const unsigned char *text = (const unsigned char *)given;
     for (size_t at = 0; at < size;) {
         size_t good = at, length = 0;
-        while (good < size && (length = character_length(text + good, size - good)) > 0) good += length;
+        while (good < size && (length = character_length(text + good, size - good)) > 0)
+            good += length;
         if (good > at && !add_bytes(&to->text, given + at, good - at)) return false;
         at = good;
         if (at < size && !add_other(to, text, &at, size)) return false;
@@ -89,14 +92,16 @@ void free_repaired(repaired *of) {
     *of = (repaired){0};
 }
 
-/* Where a place of the repaired text stands in the one that was given. It is looked for from the place that was asked for last. */
+/* Where a place of the repaired text stands in the one that was given. It is looked for from the
+ * place that was asked for last. */
 size_t given_at(repaired *of, size_t at) {
     while (of->asked > 0 && of->exchanges[of->asked - 1].at > at) of->asked--;
     while (of->asked < of->count && of->exchanges[of->asked].at <= at) of->asked++;
     if (of->asked == 0) return at;
     const exchange *last = &of->exchanges[of->asked - 1];
     size_t behind = at - last->at;
-    if (behind < last->times * last->length) return last->given_at + behind / last->length * last->given;
+    if (behind < last->times * last->length)
+        return last->given_at + behind / last->length * last->given;
     return last->given_at + last->times * last->given + (behind - last->times * last->length);
 }
 
@@ -113,8 +118,8 @@ static size_t behind_last_stop(const char *text, size_t length) {
     return 0;
 }
 
-/* Where a part of a text ends that is too long: before its last line feed, else behind its last full stop, else before its last blank, else
-   behind its last character. */
+/* Where a part of a text ends that is too long: before its last line feed, else behind its last
+   full stop, else before its last blank, else behind its last character. */
 size_t part_of(const char *text, size_t length, size_t most) {
     if (length <= most) return length;
     size_t end = last_place_of(text, most, '\n');

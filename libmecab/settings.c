@@ -5,15 +5,17 @@
 #include <stdlib.h>
 #include <string.h>
 
-/* What MeCab's files can't set, since MeCab has a value of its own for each before it reads them. */
+/* What MeCab's files can't set, since MeCab has a value of its own for each before it reads them.
+ */
 static const char *const NOT_IN_FILES[] = {
-    "node-format", "unk-format", "bos-format", "eos-format", "eon-format", "lattice-level", "nbest", "max-grouping-size", "theta",
-    "cost-factor",
+    "node-format",   "unk-format", "bos-format",        "eos-format", "eon-format",
+    "lattice-level", "nbest",      "max-grouping-size", "theta",      "cost-factor",
 };
 
 static setting *find(const settings *of, const char *name, size_t length) {
     for (size_t i = 0; i < of->count; i++) {
-        if (strncmp(of->all[i].name, name, length) == 0 && of->all[i].name[length] == '\0') return &of->all[i];
+        if (strncmp(of->all[i].name, name, length) == 0 && of->all[i].name[length] == '\0')
+            return &of->all[i];
     }
     return NULL;
 }
@@ -23,9 +25,7 @@ const char *setting_of(const settings *of, const char *name) {
     return found ? found->value : NULL;
 }
 
-static bool is_blank(char byte) {
-    return byte == ' ' || (byte >= '\t' && byte <= '\r');
-}
+static bool is_blank(char byte) { return byte == ' ' || (byte >= '\t' && byte <= '\r'); }
 
 bool is_only_blanks(const char *text) {
     while (is_blank(*text)) text++;
@@ -43,9 +43,7 @@ long number_of(const settings *of, const char *name, long otherwise) {
     return end != text && is_int && is_only_blanks(end) ? number : 0;
 }
 
-bool is_set(const settings *of, const char *name) {
-    return number_of(of, name, 0) == 1;
-}
+bool is_set(const settings *of, const char *name) { return number_of(of, name, 0) == 1; }
 
 static bool add(settings *to, const char *name, size_t length, const char *value, fault *error) {
     if (to->count == to->room) {
@@ -76,12 +74,14 @@ bool set(settings *to, const char *name, const char *value, fault *error) {
 
 static bool is_in_files(const char *name, size_t length) {
     for (size_t i = 0; i < sizeof NOT_IN_FILES / sizeof *NOT_IN_FILES; i++) {
-        if (strncmp(NOT_IN_FILES[i], name, length) == 0 && NOT_IN_FILES[i][length] == '\0') return false;
+        if (strncmp(NOT_IN_FILES[i], name, length) == 0 && NOT_IN_FILES[i][length] == '\0')
+            return false;
     }
     return true;
 }
 
-/* A name, `=` and a value. Empty lines say nothing, nor does what begins with `;` or `#`. (MeCab) */
+/* A name, `=` and a value. Empty lines say nothing, nor does what begins with `;` or `#`. (MeCab)
+ */
 static bool read_line(settings *to, const char *line, fault *error) {
     if (*line == '\0' || *line == ';' || *line == '#') return true;
     const char *value = strchr(line, '=');
@@ -90,7 +90,8 @@ static bool read_line(settings *to, const char *line, fault *error) {
     while (length > 0 && is_blank(line[length - 1])) length--;
     do value++;
     while (is_blank(*value));
-    return find(to, line, length) || !is_in_files(line, length) || add(to, line, length, value, error);
+    return find(to, line, length) || !is_in_files(line, length) ||
+           add(to, line, length, value, error);
 }
 
 /* Such a line has the checksum in lowercase digits and nothing else. */
@@ -144,9 +145,8 @@ static bool read_lines(reading *from, settings *to, fault *error) {
 }
 
 /* What is set already stays as it is. */
-bool read_settings(
-    settings *to, const char *path, const unsigned char *checksum, bool *is_other, fault *error
-) {
+bool read_settings(settings *to, const char *path, const unsigned char *checksum, bool *is_other,
+                   fault *error) {
     reading from = {.file = fopen(path, "re"), .path = path, .checksum = checksum};
     if (!from.file) return fail(error, "%s: %s", path, strerror(errno));
     bool is_read = read_lines(&from, to, error);

@@ -50,9 +50,7 @@ void mecab_destroy(mecab_t *tagger) {
     free(tagger);
 }
 
-const char *mecab_version(void) {
-    return "0.996";
-}
+const char *mecab_version(void) { return "0.996"; }
 
 const char *mecab_strerror(mecab_t *tagger) {
     return tagger ? tagger->error.text : common_fault()->text;
@@ -68,7 +66,8 @@ int mecab_parse_lattice(mecab_t *tagger, mecab_lattice_t *lattice) {
     return parse(tagger->model, lattice, true, &lattice->error);
 }
 
-/* A sentence of the tagger's own lattice. What is asked for goes before it, since that may be to copy it. */
+/* A sentence of the tagger's own lattice. What is asked for goes before it, since that may be to
+ * copy it. */
 bool parse_own(mecab_t *tagger, const char *text, size_t length, int request, bool nodes) {
     mecab_lattice_t *lattice = tagger->lattice;
     lattice->request = tagger->request | request;
@@ -78,14 +77,16 @@ bool parse_own(mecab_t *tagger, const char *text, size_t length, int request, bo
 }
 
 const char *mecab_sparse_tostr2(mecab_t *tagger, const char *text, size_t length) {
-    return parse_own(tagger, text, length, 0, false) ? text_of(tagger->lattice, &tagger->error) : NULL;
+    return parse_own(tagger, text, length, 0, false) ? text_of(tagger->lattice, &tagger->error)
+                                                     : NULL;
 }
 
 const char *mecab_sparse_tostr(mecab_t *tagger, const char *text) {
     return mecab_sparse_tostr2(tagger, text, text ? strlen(text) : 0);
 }
 
-char *mecab_sparse_tostr3(mecab_t *tagger, const char *text, size_t length, char *out, size_t room) {
+char *mecab_sparse_tostr3(mecab_t *tagger, const char *text, size_t length, char *out,
+                          size_t room) {
     if (!mecab_sparse_tostr2(tagger, text, length)) return NULL;
     const bytes *printed = &tagger->lattice->printed;
     if (printed->length >= room) {
@@ -97,7 +98,8 @@ char *mecab_sparse_tostr3(mecab_t *tagger, const char *text, size_t length, char
 }
 
 const mecab_node_t *mecab_sparse_tonode2(mecab_t *tagger, const char *text, size_t length) {
-    return parse_own(tagger, text, length, 0, true) ? mecab_lattice_get_bos_node(tagger->lattice) : NULL;
+    return parse_own(tagger, text, length, 0, true) ? mecab_lattice_get_bos_node(tagger->lattice)
+                                                    : NULL;
 }
 
 const mecab_node_t *mecab_sparse_tonode(mecab_t *tagger, const char *text) {
@@ -106,8 +108,10 @@ const mecab_node_t *mecab_sparse_tonode(mecab_t *tagger, const char *text) {
 
 /* What this library lacks is refused where a sentence is parsed. */
 static void ask(mecab_t *tagger, int type, bool wanted) {
-    if (wanted) tagger->request |= type;
-    else tagger->request &= ~type;
+    if (wanted)
+        tagger->request |= type;
+    else
+        tagger->request &= ~type;
 }
 
 int mecab_get_partial(mecab_t *tagger) { return (tagger->request & MECAB_PARTIAL) != 0; }
@@ -115,7 +119,9 @@ void mecab_set_partial(mecab_t *tagger, int partial) { ask(tagger, MECAB_PARTIAL
 float mecab_get_theta(mecab_t *tagger) { return (float)tagger->theta; }
 void mecab_set_theta(mecab_t *tagger, float theta) { tagger->theta = theta; }
 int mecab_get_all_morphs(mecab_t *tagger) { return (tagger->request & MECAB_ALL_MORPHS) != 0; }
-void mecab_set_all_morphs(mecab_t *tagger, int all_morphs) { ask(tagger, MECAB_ALL_MORPHS, all_morphs); }
+void mecab_set_all_morphs(mecab_t *tagger, int all_morphs) {
+    ask(tagger, MECAB_ALL_MORPHS, all_morphs);
+}
 int request_of_tagger(const mecab_t *tagger) { return tagger->request; }
 void set_request_of_tagger(mecab_t *tagger, int request) { tagger->request = request; }
 

@@ -5,18 +5,20 @@
 
 static const char NODE[] = "%m\\t%H\\n";
 static const char EOS[] = "EOS\\n";
-static const char *const PARTS[PART_COUNT] = {"node-format", "unk-format", "bos-format", "eos-format", "eon-format"};
+static const char *const PARTS[PART_COUNT] = {"node-format", "unk-format", "bos-format",
+                                              "eos-format", "eon-format"};
 static const char *const DEFAULTS[PART_COUNT] = {NODE, NODE, "", EOS, ""};
 
-/* No two formats have the same number. 0 is none's: a lattice's cutter has it before a format was chosen. */
+/* No two formats have the same number. 0 is none's: a lattice's cutter has it before a format was
+ * chosen. */
 static atomic_ulong last_number = 1;
-static const format LINES = {.style = LINES_STYLE, .texts = {NODE, NODE, "", EOS, ""}, .number = 1, .is_proved = true};
-static const format WAKATI = {.style = WAKATI_STYLE, .texts = {"%m ", "%m ", "", "\\n", ""}, .is_proved = true};
+static const format LINES = {
+    .style = LINES_STYLE, .texts = {NODE, NODE, "", EOS, ""}, .number = 1, .is_proved = true};
+static const format WAKATI = {
+    .style = WAKATI_STYLE, .texts = {"%m ", "%m ", "", "\\n", ""}, .is_proved = true};
 static const format NONE = {.style = NO_STYLE, .texts = {"", "", "", "", ""}, .is_proved = true};
 
-const format *default_format(void) {
-    return &LINES;
-}
+const format *default_format(void) { return &LINES; }
 
 bool accepts_texts(kumquatsieve_cutter *cutter, const format *texts, fault *error) {
     uint32_t part = 0;
@@ -27,13 +29,13 @@ bool accepts_texts(kumquatsieve_cutter *cutter, const format *texts, fault *erro
         of[i] = (const uint8_t *)texts->texts[i];
         lengths[i] = strlen(texts->texts[i]);
     }
-    uint32_t code = kumquatsieve_set_format(
-        cutter, of[0], lengths[0], of[1], lengths[1], of[2], lengths[2], of[3], lengths[3], &part, &at
-    );
+    uint32_t code = kumquatsieve_set_format(cutter, of[0], lengths[0], of[1], lengths[1], of[2],
+                                            lengths[2], of[3], lengths[3], &part, &at);
     return code == KUMQUATSIEVE_OK || fail_code(error, PARTS[part & 3], code);
 }
 
-/* A part's setting, or that of a style, where the others have nothing in place of a default. (MeCab) */
+/* A part's setting, or that of a style, where the others have nothing in place of a default.
+ * (MeCab) */
 static const char *text_in(const settings *from, int part, const char *style) {
     char name[256];
     if (!*style) {
@@ -53,7 +55,8 @@ static bool is_default(const char *const texts[]) {
 }
 
 /* What the library has is left to it, and the rest is printed here. */
-static bool read_own(format *to, const char *const texts[], kumquatsieve_cutter *cutter, fault *error) {
+static bool read_own(format *to, const char *const texts[], kumquatsieve_cutter *cutter,
+                     fault *error) {
     fault refused;
     for (int i = 0; i < PART_COUNT; i++) {
         to->texts[i] = to->own[i] = strdup(texts[i]);
@@ -66,7 +69,8 @@ static bool read_own(format *to, const char *const texts[], kumquatsieve_cutter 
 }
 
 /* The default unknown words' text stands for that of known ones. (MeCab) */
-static bool choose_own(format *to, const settings *from, const char *style, kumquatsieve_cutter *cutter, fault *error) {
+static bool choose_own(format *to, const settings *from, const char *style,
+                       kumquatsieve_cutter *cutter, fault *error) {
     const char *texts[PART_COUNT];
     for (int i = 0; i < PART_COUNT; i++) texts[i] = text_in(from, i, style);
     if (*style && !*texts[NODE_PART]) return fail(error, "unknown format type [%.200s]", style);
@@ -83,9 +87,12 @@ bool choose_texts(format *to, const settings *from, kumquatsieve_cutter *cutter,
     if (strcmp(style, "dump") == 0) return fail_left_out(error, "the output format type dump");
     if (strcmp(style, "em") == 0) return fail_left_out(error, "the output format type em");
     bool chosen = true;
-    if (strcmp(style, "wakati") == 0) *to = WAKATI;
-    else if (strcmp(style, "none") == 0) *to = NONE;
-    else chosen = choose_own(to, from, style, cutter, error);
+    if (strcmp(style, "wakati") == 0)
+        *to = WAKATI;
+    else if (strcmp(style, "none") == 0)
+        *to = NONE;
+    else
+        chosen = choose_own(to, from, style, cutter, error);
     to->number = ++last_number;
     return chosen;
 }

@@ -1,5 +1,5 @@
-/* What nodes take of the tokens of their words: all but where a word stands and what the path costs up to it. It is found once for each token, when a
-   word of it comes first. */
+/* What nodes take of the tokens of their words: all but where a word stands and what the path costs
+   up to it. It is found once for each token, when a word of it comes first. */
 #include "layer.h"
 #include <errno.h>
 #include <stdlib.h>
@@ -20,7 +20,8 @@ static bool open_rules(const char *path, FILE **file, identity *which, fault *er
 }
 
 static tokens *find(tokens *list, bool has_rules, const identity *rules) {
-    while (list && ((list->posids != NULL) != has_rules || !are_same(&list->rules, rules))) list = list->next;
+    while (list && ((list->posids != NULL) != has_rules || !are_same(&list->rules, rules)))
+        list = list->next;
     return list;
 }
 
@@ -39,10 +40,8 @@ static tokens *make(const size_t *starts, size_t count, const identity *rules, f
 }
 
 /* New ones before the others. */
-static tokens *add(
-    tokens **list, tokens *new, FILE *file, const char *path, const unsigned char *checksum,
-    fault *error
-) {
+static tokens *add(tokens **list, tokens *new, FILE *file, const char *path,
+                   const unsigned char *checksum, fault *error) {
     if (!new) return NULL;
     if (path && !(new->posids = read_posids(file, path, checksum, error))) {
         free_tokens(new);
@@ -54,10 +53,8 @@ static tokens *add(
 }
 
 /* Those by the rules of a file, which are made where they aren't there yet. */
-tokens *tokens_in(
-    tokens **list, const size_t *starts, size_t count, const char *path,
-    const unsigned char *checksum, fault *error
-) {
+tokens *tokens_in(tokens **list, const size_t *starts, size_t count, const char *path,
+                  const unsigned char *checksum, fault *error) {
     FILE *file = NULL;
     identity rules = {0};
     if (path && !open_rules(path, &file, &rules, error)) return NULL;
@@ -67,12 +64,18 @@ tokens *tokens_in(
     return found;
 }
 
-/* The node with its feature behind it, as C reads it: one with U+0000 ends there. For an id the feature is cut, and so it is copied once more. */
-static mecab_node_t *make_node(const posids *rules, const kumquatsieve_word *word, const uint8_t *feature, size_t length) {
+/* The node with its feature behind it, as C reads it: one with U+0000 ends there. For an id the
+ * feature is cut, and so it is copied once more. */
+static mecab_node_t *make_node(const posids *rules, const kumquatsieve_word *word,
+                               const uint8_t *feature, size_t length) {
     mecab_node_t *made = malloc(sizeof *made + length + 1);
     if (!made) return NULL;
     char *text = (char *)(made + 1);
-    *made = (mecab_node_t){.feature = text, .rcAttr = word->right, .lcAttr = word->left, .isbest = 1, .wcost = word->cost};
+    *made = (mecab_node_t){.feature = text,
+                           .rcAttr = word->right,
+                           .lcAttr = word->left,
+                           .isbest = 1,
+                           .wcost = word->cost};
     made->stat = word->known ? MECAB_NOR_NODE : MECAB_UNK_NODE;
     text[length] = '\0';
     memcpy(text, feature, length);
@@ -83,25 +86,36 @@ static mecab_node_t *make_node(const posids *rules, const kumquatsieve_word *wor
     return made;
 }
 
-static mecab_node_t *node_of(const tokens *of, kumquatsieve_cutter *cutter, const kumquatsieve_word *word, fault *error) {
+static mecab_node_t *node_of(const tokens *of, kumquatsieve_cutter *cutter,
+                             const kumquatsieve_word *word, fault *error) {
     const uint8_t *feature = NULL;
     size_t length = 0;
-    uint32_t code = kumquatsieve_entry_feature(cutter, word->known, word->dictionary, word->token, &feature, &length);
-    mecab_node_t *made = code == KUMQUATSIEVE_OK ? make_node(of->posids, word, feature, length) : NULL;
-    if (code != KUMQUATSIEVE_OK) fail_code(error, "feature", code);
-    else if (!made) fail_memory(error);
+    uint32_t code = kumquatsieve_entry_feature(cutter, word->known, word->dictionary, word->token,
+                                               &feature, &length);
+    mecab_node_t *made =
+        code == KUMQUATSIEVE_OK ? make_node(of->posids, word, feature, length) : NULL;
+    if (code != KUMQUATSIEVE_OK)
+        fail_code(error, "feature", code);
+    else if (!made)
+        fail_memory(error);
     return made;
 }
 
-/* Keeps the node of a word's token, where it isn't yet. Threads that want one at the same time make it each, and the first is kept. The counts of tokens
-   are read of a file once more, behind the library's copy of it, so one that is written over in the meantime has others. */
-bool keep_token(const tokens *of, kumquatsieve_cutter *cutter, const kumquatsieve_word *word, fault *error) {
+/* Keeps the node of a word's token, where it isn't yet. Threads that want one at the same time make
+   it each, and the first is kept. The counts of tokens are read of a file once more, behind the
+   library's copy of it, so one that is written over in the meantime has others. */
+bool keep_token(const tokens *of, kumquatsieve_cutter *cutter, const kumquatsieve_word *word,
+                fault *error) {
     size_t token = of->starts[word->dictionary] + word->token;
-    if (token >= of->starts[word->dictionary + 1]) return fail(error, "dictionary %zu was written over while it was loaded", word->dictionary);
-    mecab_node_t *before = atomic_load_explicit(&of->nodes[token], memory_order_acquire), *made = NULL;
+    if (token >= of->starts[word->dictionary + 1])
+        return fail(error, "dictionary %zu was written over while it was loaded", word->dictionary);
+    mecab_node_t *before = atomic_load_explicit(&of->nodes[token], memory_order_acquire),
+                 *made = NULL;
     if (before) return true;
     if (!(made = node_of(of, cutter, word, error))) return false;
-    if (!atomic_compare_exchange_strong_explicit(&of->nodes[token], &before, made, memory_order_acq_rel, memory_order_acquire)) free(made);
+    if (!atomic_compare_exchange_strong_explicit(&of->nodes[token], &before, made,
+                                                 memory_order_acq_rel, memory_order_acquire))
+        free(made);
     return true;
 }
 

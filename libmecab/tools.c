@@ -1,5 +1,6 @@
-/* MeCab's own tools. Its programs are these calls, and Debian's packages of dictionaries run one where they are installed; so each is handed to
-   MeCab's own library, where that is there, and refused else. */
+/* MeCab's own tools. Its programs are these calls, and Debian's packages of dictionaries run one
+   where they are installed; so each is handed to MeCab's own library, where that is there, and
+   refused else. */
 #include "layer.h"
 #include <dlfcn.h>
 #include <stdio.h>
@@ -28,8 +29,18 @@ static int hand_on(const char *name, tool *here, int count, char **words) {
     return 1;
 }
 
-int mecab_dict_index(int count, char **words) { return hand_on(__func__, mecab_dict_index, count, words); }
-int mecab_dict_gen(int count, char **words) { return hand_on(__func__, mecab_dict_gen, count, words); }
-int mecab_cost_train(int count, char **words) { return hand_on(__func__, mecab_cost_train, count, words); }
-int mecab_system_eval(int count, char **words) { return hand_on(__func__, mecab_system_eval, count, words); }
-int mecab_test_gen(int count, char **words) { return hand_on(__func__, mecab_test_gen, count, words); }
+int mecab_dict_index(int count, char **words) {
+    return hand_on(__func__, mecab_dict_index, count, words);
+}
+int mecab_dict_gen(int count, char **words) {
+    return hand_on(__func__, mecab_dict_gen, count, words);
+}
+int mecab_cost_train(int count, char **words) {
+    return hand_on(__func__, mecab_cost_train, count, words);
+}
+int mecab_system_eval(int count, char **words) {
+    return hand_on(__func__, mecab_system_eval, count, words);
+}
+int mecab_test_gen(int count, char **words) {
+    return hand_on(__func__, mecab_test_gen, count, words);
+}

@@ -1,4 +1,5 @@
-/* The words of the whole lattice of a sentence: those of its best path, and all others that some chain of words leads to. */
+/* The words of the whole lattice of a sentence: those of its best path, and all others that some
+ * chain of words leads to. */
 #include "layer.h"
 #include <stdlib.h>
 
@@ -14,19 +15,22 @@ static bool has_room(mecab_lattice_t *lattice, size_t wanted, fault *error) {
     return true;
 }
 
-/* Writes those of what was cut last behind those of the parts before. Where the guess was too low it is asked again. */
+/* Writes those of what was cut last behind those of the parts before. Where the guess was too low
+ * it is asked again. */
 static bool write_found(mecab_lattice_t *lattice, size_t guess, size_t *count, fault *error) {
     size_t room = 0;
     for (*count = guess; *count > room;) {
         if (!has_room(lattice, lattice->found_count + *count, error)) return false;
         room = lattice->found_room - lattice->found_count;
-        uint32_t code = kumquatsieve_nodes(&lattice->cutter, 0, lattice->found + lattice->found_count, room, count);
+        uint32_t code = kumquatsieve_nodes(&lattice->cutter, 0,
+                                           lattice->found + lattice->found_count, room, count);
         if (code != KUMQUATSIEVE_OK) return fail_code(error, "nodes", code);
     }
     return true;
 }
 
-/* As the words of the path are moved. (nodes.c) What begins a part begins where the path of the part before ended. */
+/* As the words of the path are moved. (nodes.c) What begins a part begins where the path of the
+ * part before ended. */
 static void move_found(kumquatsieve_node *found, size_t count, part *of) {
     size_t place = of->place;
     for (size_t i = 0; i < count; i++) {

@@ -1,5 +1,5 @@
-/* kumquatsieve-cut: what its parts have in common. Standard input is cut by N threads over one dictionary, and what is written is what jseg
-   writes. */
+/* kumquatsieve-cut: what its parts have in common. Standard input is cut by N threads over one
+   dictionary, and what is written is what jseg writes. */
 #ifndef CUT_H
 #define CUT_H
 #define _GNU_SOURCE
@@ -28,7 +28,8 @@ enum {
     FAULT_INPUT_TOO_LONG = 0x4705, /* G5, with the line */
 };
 
-/* Why the program ends early. `code` is one of the library's or of those above; `number` is that of a line, a byte, a section or the like. */
+/* Why the program ends early. `code` is one of the library's or of those above; `number` is that of
+ * a line, a byte, a section or the like. */
 typedef struct fault {
     uint32_t code;
     const char *path;
@@ -36,8 +37,8 @@ typedef struct fault {
     uint32_t part;
 } fault;
 
-/* What a command line asks for. A format that was not given is NULL; `dic` and `users` are main's to
-   free. `how` is the argument of kumquatsieve_open. */
+/* What a command line asks for. A format that was not given is NULL; `dic` and `users` are main's
+   to free. `how` is the argument of kumquatsieve_open. */
 typedef struct options {
     char *dic;
     char **users;
@@ -50,18 +51,20 @@ typedef struct options {
     bool is_verbose;
 } options;
 
-/* options.c. Whether there is work to do; else the program ends with this status, and why was told. */
+/* options.c. Whether there is work to do; else the program ends with this status, and why was told.
+ */
 bool read_options(int count, char **words, options *asked, int *status);
 
-/* habits.c. What to do in place of what jseg or MeCab take: of an option of one letter, which is not 0, and of a whole word; NULL where that is
-   known of none. In place of a name of an output format; and what --help and --version print. */
+/* habits.c. What to do in place of what jseg or MeCab take: of an option of one letter, which is
+   not 0, and of a whole word; NULL where that is known of none. In place of a name of an output
+   format; and what --help and --version print. */
 const char *instead_of_letter(char letter);
 const char *instead_of_word(const char *word);
 const char *instead_of_output(const char *name);
 extern const char HELP[], VERSION[];
 
-/* telling.c. Each line is one write, where there is memory for it; one that fails is ignored. Progress
-   is erased before it. */
+/* telling.c. Each line is one write, where there is memory for it; one that fails is ignored.
+   Progress is erased before it. */
 void tell(const char *format, ...) __attribute__((format(printf, 1, 2)));
 void tell_wrong(const char *format, ...) __attribute__((format(printf, 1, 2)));
 int tell_fault(const fault *why);
@@ -69,13 +72,15 @@ void tell_why(const options *asked, const fault *why);
 void tell_explanation(const fault *why);
 bool print_text(const char *text);
 
-/* narrator.c. What -v says, with the seconds since the beginning. A person is told more of a fault than its line: with -v, and on a terminal. */
+/* narrator.c. What -v says, with the seconds since the beginning. A person is told more of a fault
+ * than its line: with -v, and on a terminal. */
 void begin_narration(void);
 bool is_narrated(void);
 bool is_heard(void);
 void say(const char *format, ...) __attribute__((format(printf, 1, 2)));
 
-/* texts.c. Whether a text is UTF-8; and a path in one line, its control characters escaped, which the caller frees: NULL for want of memory. */
+/* texts.c. Whether a text is UTF-8; and a path in one line, its control characters escaped, which
+ * the caller frees: NULL for want of memory. */
 bool is_utf8(const char *text);
 char *one_line(const char *text);
 
@@ -89,11 +94,13 @@ bool is_mecab_directory(const char *path);
 /* missing.c. Where an image was looked for, as a person is told. */
 void tell_homes(const fault *why);
 
-/* formats.c. Whether the format that is asked for is one; sets it to a cutter that has a dictionary. */
+/* formats.c. Whether the format that is asked for is one; sets it to a cutter that has a
+ * dictionary. */
 bool check_format(const options *asked, fault *why);
 bool set_format(const options *asked, kumquatsieve_cutter *cutter, fault *why);
 
-/* dictionary.c. Fills an empty cutter with the images, the format and the grouping that are asked for; else a fault. */
+/* dictionary.c. Fills an empty cutter with the images, the format and the grouping that are asked
+ * for; else a fault. */
 bool make_cutter(const options *asked, kumquatsieve_cutter *cutter, fault *why);
 
 /* pieces.c. The text on standard input, a piece of whole lines after another. In bytes, as jseg has
@@ -109,7 +116,8 @@ enum {
 
 typedef enum ending { GOES_ON, AT_END, READ_FAILED, LINE_TOO_LONG, COMES_TO_NO_END } ending;
 
-/* `ending` says what came behind the whole lines: where it is AT_END the last line may lack its line feed. */
+/* `ending` says what came behind the whole lines: where it is AT_END the last line may lack its
+ * line feed. */
 typedef struct piece {
     uint8_t *bytes;
     size_t length;
@@ -125,7 +133,8 @@ typedef struct input {
 bool make_input(input *in);
 void free_input(input *in);
 
-/* Reads the next piece, of at least `least` bytes if the text has them. `least` is at most PIECE_MOST. */
+/* Reads the next piece, of at least `least` bytes if the text has them. `least` is at most
+ * PIECE_MOST. */
 void read_piece(input *in, piece *next, size_t least);
 
 /* groups.c. A piece that is segmented group by group, and the output that waits to be written.
@@ -192,11 +201,13 @@ void begin_progress(void);
 void print_progress(uint64_t bytes);
 void erase_progress(void);
 
-/* writing.c. Writes all bytes to standard output, and counts those that it takes; false where a write fails or takes none. */
+/* writing.c. Writes all bytes to standard output, and counts those that it takes; false where a
+ * write fails or takes none. */
 bool write_out(const uint8_t *at, size_t length, uint64_t *taken);
 
-/* queue.c. Cuts standard input by so many threads, and writes what its lines print; a fault of the text, of a read or of a write ends the program,
-   after what stands before it was written. False for want of memory before the first read. */
+/* queue.c. Cuts standard input by so many threads, and writes what its lines print; a fault of the
+   text, of a read or of a write ends the program, after what stands before it was written. False
+   for want of memory before the first read. */
 bool cut_input(kumquatsieve_cutter *cutter, uint32_t threads, uint64_t *lines);
 
 #endif

@@ -4,14 +4,14 @@
 
 static bool fails(fault *why, uint32_t code, const char *path, uint64_t number) {
     if (code == KUMQUATSIEVE_OK) return false;
-    *why = (fault){.code = code, .path = code == KUMQUATSIEVE_MEMORY ? NULL : path, .number = number};
+    *why =
+        (fault){.code = code, .path = code == KUMQUATSIEVE_MEMORY ? NULL : path, .number = number};
     return true;
 }
 
-/* Whether a fault is of images that don't belong together. It is told after the faults of each image by itself. */
-static bool is_of_overlay(uint32_t code) {
-    return code >> 8 == 'O';
-}
+/* Whether a fault is of images that don't belong together. It is told after the faults of each
+ * image by itself. */
+static bool is_of_overlay(uint32_t code) { return code >> 8 == 'O'; }
 
 static bool load_system(const char *path, kumquatsieve_cutter *cutter, unsigned how, fault *why) {
     uint64_t number = 0;
@@ -19,7 +19,8 @@ static bool load_system(const char *path, kumquatsieve_cutter *cutter, unsigned 
     return !fails(why, code, path, number);
 }
 
-/* What is wrong with an image by itself. That it is no system dictionary's is nothing wrong with it. */
+/* What is wrong with an image by itself. That it is no system dictionary's is nothing wrong with
+ * it. */
 static uint32_t look_at(const char *path, unsigned how, uint64_t *number) {
     kumquatsieve_cutter alone = KUMQUATSIEVE_EMPTY;
     uint32_t code = kumquatsieve_open(&alone, path, how, number);
@@ -27,10 +28,13 @@ static uint32_t look_at(const char *path, unsigned how, uint64_t *number) {
     return is_of_overlay(code) ? KUMQUATSIEVE_OK : code;
 }
 
-/* Lays a user dictionary over the others, or only looks at its image where these don't belong together. */
-static bool add_user(const char *path, kumquatsieve_cutter *cutter, unsigned how, bool only_look, fault *why) {
+/* Lays a user dictionary over the others, or only looks at its image where these don't belong
+ * together. */
+static bool add_user(const char *path, kumquatsieve_cutter *cutter, unsigned how, bool only_look,
+                     fault *why) {
     uint64_t number = 0;
-    uint32_t code = only_look ? look_at(path, how, &number) : kumquatsieve_open_user(cutter, path, how, &number);
+    uint32_t code = only_look ? look_at(path, how, &number)
+                              : kumquatsieve_open_user(cutter, path, how, &number);
     return !fails(why, code, path, number);
 }
 
@@ -40,8 +44,9 @@ static void say_loaded(const char *path) {
     free(line);
 }
 
-/* The images are opened one after the other, as jseg does. A dictionary of the library's is made of all at once, and its first fault may be of an
-   overlay, where a later image is at fault by itself. */
+/* The images are opened one after the other, as jseg does. A dictionary of the library's is made of
+   all at once, and its first fault may be of an overlay, where a later image is at fault by itself.
+ */
 static bool load_images(const options *asked, kumquatsieve_cutter *cutter, fault *why) {
     fault overlay = {0};
     if (!load_system(asked->dic, cutter, asked->how, why)) {

@@ -54,9 +54,8 @@ static size_t next_group(size_t group, size_t printed) {
 bool cut_group(place *own) {
     size_t end = group_end(own);
     const uint8_t *from = own->text.bytes + own->cut_to;
-    own->code = kumquatsieve_cut_lines(
-        &own->cutter, from, end - own->cut_to, &own->out, &own->out_length, &own->lines
-    );
+    own->code = kumquatsieve_cut_lines(&own->cutter, from, end - own->cut_to, &own->out,
+                                       &own->out_length, &own->lines);
     own->cut_to = end;
     own->group = next_group(own->group, own->out_length);
     own->printed += own->out_length;

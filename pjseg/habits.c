@@ -1,4 +1,5 @@
-/* What users of jseg and MeCab type first and this program doesn't take, each with what to do instead; and what it says of itself. */
+/* What users of jseg and MeCab type first and this program doesn't take, each with what to do
+ * instead; and what it says of itself. */
 #include "cut.h"
 #include <string.h>
 
@@ -15,7 +16,8 @@ const char HELP[] =
     "  --copy         Read the images into memory; otherwise their files are mapped\n"
     "  -j <N>         How many threads cut, 1 to 1,000 (as many as there are processors)\n"
     "  -M <N>         How many characters may follow the first one of a grouped unknown word (24)\n"
-    "  -O <NAME>      An output format by its name: wakati, a line of surfaces with a blank after each\n"
+    "  -O <NAME>      An output format by its name: wakati, a line of surfaces with a blank after "
+    "each\n"
     "  -F <FORMAT>    The format of known words\n"
     "  -U <FORMAT>    The format of unknown words\n"
     "  -B <FORMAT>    What is printed before the first word of a line\n"
@@ -31,28 +33,38 @@ static const struct {
     char letter;
     const char *word, *instead;
 } HABITS[] = {
-    {0, "sources", "--sources is not known: " PROGRAM " takes images, so compile the sources with dictc, or use jseg"},
+    {0, "sources",
+     "--sources is not known: " PROGRAM
+     " takes images, so compile the sources with dictc, or use jseg"},
     {0, "sample", "--sample is not known: " PROGRAM " takes images, so use jseg"},
     {0, "explain", "--explain is not known: jseg --explain says what a code means"},
-    {0, "dictionaries", "--dictionaries is not known: jseg --dictionaries lists the images that a bare name may find"},
+    {0, "dictionaries",
+     "--dictionaries is not known: jseg --dictionaries lists the images that a bare name may find"},
     {0, "lattice", "--lattice is not known: jseg --lattice prints the lattice of each line"},
     {0, "within", "--within is not known: it is for jseg --lattice"},
     {0, "why", "--why is not known: jseg --why prints why each line is cut so"},
     {'N', "nbest", "-N is not known: " PROGRAM " writes the one best path, so leave it out"},
     {'a', "all-morphs", "-a is not known: " PROGRAM " writes the one best path, so leave it out"},
-    {'l', "lattice-level", "-l is not known: " PROGRAM " writes the one best path, so leave it out"},
+    {'l', "lattice-level",
+     "-l is not known: " PROGRAM " writes the one best path, so leave it out"},
     {'m', "marginal", "-m is not known: " PROGRAM " computes no probabilities, so leave it out"},
     {'t', "theta", "-t is not known: " PROGRAM " computes no probabilities, so leave it out"},
     {'c', "cost-factor", "-c is not known: " PROGRAM " computes no probabilities, so leave it out"},
-    {'p', "partial", "-p is not known: " PROGRAM " cuts lines of text, and takes no words that were cut before"},
-    {'S', "eon-format", "-S is not known: it ends N paths, and " PROGRAM " writes one, so leave it out"},
+    {'p', "partial",
+     "-p is not known: " PROGRAM " cuts lines of text, and takes no words that were cut before"},
+    {'S', "eon-format",
+     "-S is not known: it ends N paths, and " PROGRAM " writes one, so leave it out"},
     {'x', "unk-feature", "-x is not known: give -U a format that has the text in place of %H"},
     {'o', "output", "-o is not known: " PROGRAM " writes to standard output, so end with '> FILE'"},
-    {'r', "rcfile", "-r is not known: " PROGRAM " reads no dicrc, so give its formats with -F, -U, -B and -E"},
-    {'D', "dictionary-info", "-D is not known: -v tells what is loaded, and jseg --dictionaries what is installed"},
+    {'r', "rcfile",
+     "-r is not known: " PROGRAM " reads no dicrc, so give its formats with -F, -U, -B and -E"},
+    {'D', "dictionary-info",
+     "-D is not known: -v tells what is loaded, and jseg --dictionaries what is installed"},
     {'P', "dump-config", "-P is not known: --help lists what " PROGRAM " takes"},
-    {'b', "input-buffer-size", "-b is not needed: a line may have 1,048,576 bytes, so leave it out"},
-    {'C', "allocate-sentence", "-C is not needed: " PROGRAM " keeps each line itself, so leave it out"},
+    {'b', "input-buffer-size",
+     "-b is not needed: a line may have 1,048,576 bytes, so leave it out"},
+    {'C', "allocate-sentence",
+     "-C is not needed: " PROGRAM " keeps each line itself, so leave it out"},
     {0, "dicdir", "--dicdir is not known: write -d IMG"},
     {0, "userdic", "--userdic is not known: write -u IMG"},
     {0, "output-format-type", "--output-format-type is not known: write -O wakati"},
@@ -88,7 +100,8 @@ const char *instead_of_word(const char *word) {
     return NULL;
 }
 
-/* NULL for the one format that has a name. The others are those of IPADIC's dicrc, each with the options that print the same or nearly so. */
+/* NULL for the one format that has a name. The others are those of IPADIC's dicrc, each with the
+ * options that print the same or nearly so. */
 const char *instead_of_output(const char *name) {
     static const struct {
         const char *name, *instead;
@@ -97,12 +110,15 @@ const char *instead_of_output(const char *name) {
         {"chasen", "-O chasen is not known: for IPADIC write "
                    "-F '%m\\t%f[7]\\t%f[6]\\t%f[0]-%f[1]-%f[2]-%f[3]\\t%f[4]\\t%f[5]\\n' "
                    "-U '%m\\t%m\\t%m\\t%f[0]-%f[1]-%f[2]-%f[3]\\t\\t\\n'"},
-        {"yomi", "-O yomi is not known: run 'mecab -d IMG -Oyomi', or for IPADIC write -F '%pS%f[7]' -U '%M' -E '\\n'"},
-        {"simple", "-O simple is not known: run 'mecab -d IMG -Osimple', or for IPADIC write -F '%m\\t%f[0]-%f[1]-%f[2]-%f[3]\\n'"},
+        {"yomi", "-O yomi is not known: run 'mecab -d IMG -Oyomi', or for IPADIC write -F "
+                 "'%pS%f[7]' -U '%M' -E '\\n'"},
+        {"simple", "-O simple is not known: run 'mecab -d IMG -Osimple', or for IPADIC write -F "
+                   "'%m\\t%f[0]-%f[1]-%f[2]-%f[3]\\n'"},
     };
     for (size_t i = 0; i < sizeof KNOWN / sizeof *KNOWN; i++) {
         if (strcmp(name, KNOWN[i].name) == 0) return KNOWN[i].instead;
     }
-    return "-O takes wakati alone: MeCab reads other names in the dictionary's dicrc, so run 'mecab -d IMG -O NAME', "
+    return "-O takes wakati alone: MeCab reads other names in the dictionary's dicrc, so run "
+           "'mecab -d IMG -O NAME', "
            "or give that format with -F, -U, -B and -E";
 }

@@ -11,14 +11,17 @@ enum { NAMES_MOST = 20 };
 static void keep_utf8(image_names *of) {
     size_t kept = 0;
     for (size_t i = 0; i < of->count; i++) {
-        if (is_utf8(of->all[i])) of->all[kept++] = of->all[i];
-        else free(of->all[i]);
+        if (is_utf8(of->all[i]))
+            of->all[kept++] = of->all[i];
+        else
+            free(of->all[i]);
     }
     of->count = kept;
 }
 
 static void write_names(FILE *to, const image_names *of) {
-    fputs(of->count > 0 ? "images there: " : "images there: none; kumquatsieve-import makes one", to);
+    fputs(of->count > 0 ? "images there: " : "images there: none; kumquatsieve-import makes one",
+          to);
     for (size_t i = 0; i < of->count && i < NAMES_MOST; i++) {
         char *name = one_line(of->all[i]);
         fprintf(to, "%s%s", i > 0 ? ", " : "", name ? name : "");

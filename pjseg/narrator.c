@@ -10,17 +10,11 @@
 static bool narrated;
 static struct timespec began;
 
-void begin_narration(void) {
-    narrated = clock_gettime(CLOCK_MONOTONIC, &began) == 0;
-}
+void begin_narration(void) { narrated = clock_gettime(CLOCK_MONOTONIC, &began) == 0; }
 
-bool is_narrated(void) {
-    return narrated;
-}
+bool is_narrated(void) { return narrated; }
 
-bool is_heard(void) {
-    return narrated || isatty(STDERR_FILENO);
-}
+bool is_heard(void) { return narrated || isatty(STDERR_FILENO); }
 
 void say(const char *format, ...) {
     struct timespec now;

@@ -1,4 +1,5 @@
-/* The command line. Its words are taken as jseg takes them: a value stands behind its letter, behind `=`, or in the next word. */
+/* The command line. Its words are taken as jseg takes them: a value stands behind its letter,
+ * behind `=`, or in the next word. */
 #include "cut.h"
 #include <limits.h>
 #include <sched.h>
@@ -15,12 +16,14 @@ typedef struct row {
 } row;
 
 static const row ROWS[] = {
-    {'d', "IMG", false, false},   {'u', "IMG", false, true},   {'j', "N", false, false},     {'M', "N", false, false},
-    {'O', "NAME", false, false},  {'F', "FORMAT", true, false}, {'U', "FORMAT", true, false}, {'B', "FORMAT", true, false},
-    {'E', "FORMAT", true, false}, {'v', NULL, false, false},
+    {'d', "IMG", false, false},   {'u', "IMG", false, true},    {'j', "N", false, false},
+    {'M', "N", false, false},     {'O', "NAME", false, false},  {'F', "FORMAT", true, false},
+    {'U', "FORMAT", true, false}, {'B', "FORMAT", true, false}, {'E', "FORMAT", true, false},
+    {'v', NULL, false, false},
 };
 
-/* What was read of a command line: `at` is the next word, and a letter that was given is true. The users' names are as many as the options say. */
+/* What was read of a command line: `at` is the next word, and a letter that was given is true. The
+ * users' names are as many as the options say. */
 typedef struct reading {
     char **words;
     int count, at;
@@ -64,17 +67,20 @@ static step answer(reading *of, const char *text) {
 }
 
 /* A number from `least` to `most`, in digits that a sign may stand before. */
-static step read_number(reading *of, const row *option, const char *text, long least, long most, uint32_t *number) {
+static step read_number(reading *of, const row *option, const char *text, long least, long most,
+                        uint32_t *number) {
     const char *digits = text + (*text == '+' || *text == '-');
     if (*digits == '\0' || digits[strspn(digits, "0123456789")] != '\0') {
         char behind[64];
-        snprintf(behind, sizeof behind, "for '-%c <%s>': it is no number", option->letter, option->value);
+        snprintf(behind, sizeof behind, "for '-%c <%s>': it is no number", option->letter,
+                 option->value);
         return wrong_with(of, "invalid value", text, behind);
     }
     /* A number that is too large for a long is the largest one. */
     long found = strtol(text, NULL, 10);
     if (found < least || found > most) {
-        tell_wrong("invalid value '%s' for '-%c <%s>': %s is not in %ld..=%ld", text, option->letter, option->value, text, least, most);
+        tell_wrong("invalid value '%s' for '-%c <%s>': %s is not in %ld..=%ld", text,
+                   option->letter, option->value, text, least, most);
         return WRONG;
     }
     *number = (uint32_t)found;
@@ -97,7 +103,8 @@ static step set_value(reading *of, const row *option, const char *value) {
     return NEXT;
 }
 
-/* The value of an option: what is left of its word, without a `=` before it, or the next word. NULL where there is none. */
+/* The value of an option: what is left of its word, without a `=` before it, or the next word. NULL
+ * where there is none. */
 static const char *value_of(reading *of, const row *option, const char *rest) {
     if (*rest) return rest + (*rest == '=');
     if (of->at == of->count) return NULL;
@@ -113,10 +120,12 @@ static step missing_value(reading *of, const row *option) {
     char *line = may_be_file ? one_line(of->words[of->at]) : NULL;
     if (may_be_file && !line) return no_memory(of);
     if (line) {
-        tell_wrong("a value is required for '-%c <%s>' but none was supplied\n\n  tip: for the file '%s' write './%s'", option->letter, option->value,
-            line, line);
+        tell_wrong("a value is required for '-%c <%s>' but none was supplied\n\n  tip: for the "
+                   "file '%s' write './%s'",
+                   option->letter, option->value, line, line);
     } else {
-        tell_wrong("a value is required for '-%c <%s>' but none was supplied", option->letter, option->value);
+        tell_wrong("a value is required for '-%c <%s>' but none was supplied", option->letter,
+                   option->value);
     }
     free(line);
     return WRONG;
@@ -137,7 +146,8 @@ static const row *row_of(char letter) {
 /* An option by its name, and that of its value, or NULL. */
 static step given_twice(const char *name, const char *value) {
     const char *before = value ? " <" : "", *behind = value ? ">" : "";
-    tell_wrong("the argument '%s%s%s%s' cannot be used multiple times", name, before, value ? value : "", behind);
+    tell_wrong("the argument '%s%s%s%s' cannot be used multiple times", name, before,
+               value ? value : "", behind);
     return WRONG;
 }
 
@@ -148,7 +158,8 @@ static step read_letters(reading *of, const char *word) {
         if (*at == 'h') return answer(of, HELP);
         if (*at == 'V') return answer(of, VERSION);
         if (!option) return unexpected(of, word, instead_of_letter(*at));
-        if (of->given[(unsigned char)*at] && !option->is_repeated) return given_twice((char[]){'-', *at, '\0'}, option->value);
+        if (of->given[(unsigned char)*at] && !option->is_repeated)
+            return given_twice((char[]){'-', *at, '\0'}, option->value);
         of->given[(unsigned char)*at] = true;
         if (option->value) return read_value(of, option, at + 1);
         of->asked->is_verbose = true;
@@ -189,7 +200,8 @@ static step read_word(reading *of) {
     if (how) return read_opening(of, word, how);
     if (strcmp(word, "--help") == 0) return answer(of, HELP);
     if (strcmp(word, "--version") == 0) return answer(of, VERSION);
-    if (strcmp(word, "--") == 0) return of->at == of->count ? NEXT : wrong_word(of, of->words[of->at]);
+    if (strcmp(word, "--") == 0)
+        return of->at == of->count ? NEXT : wrong_word(of, of->words[of->at]);
     if (word[0] != '-' || word[1] == '\0' || word[1] == '-') return wrong_word(of, word);
     return read_letters(of, word);
 }
@@ -197,14 +209,17 @@ static step read_word(reading *of) {
 /* The processors that this process may run on. */
 static uint32_t processors(void) {
     cpu_set_t set;
-    long count = sched_getaffinity(0, sizeof set, &set) == 0 ? CPU_COUNT(&set) : sysconf(_SC_NPROCESSORS_ONLN);
+    long count = sched_getaffinity(0, sizeof set, &set) == 0 ? CPU_COUNT(&set)
+                                                             : sysconf(_SC_NPROCESSORS_ONLN);
     return count < 1 ? 1 : count > THREADS_MOST ? THREADS_MOST : (uint32_t)count;
 }
 
 static step wrong_directory(reading *of, const char *path) {
     char *line = one_line(path);
     if (!line) return no_memory(of);
-    tell_wrong("%s is a dictionary of MeCab: make an image of its sources with 'kumquatsieve-import SOURCES IMG', and give that with -d", line);
+    tell_wrong("%s is a dictionary of MeCab: make an image of its sources with "
+               "'kumquatsieve-import SOURCES IMG', and give that with -d",
+               line);
     free(line);
     return WRONG;
 }
@@ -253,8 +268,15 @@ static bool read_words(reading *of) {
 
 bool read_options(int count, char **words, options *asked, int *status) {
     size_t room = (size_t)count + 1;
-    *asked = (options){.users = calloc(room, sizeof *asked->users), .grouping = GROUPING_DEFAULT, .threads = processors()};
-    reading own = {.words = words, .count = count, .at = 1, .asked = asked, .users = calloc(room, sizeof *own.users), .status = status};
+    *asked = (options){.users = calloc(room, sizeof *asked->users),
+                       .grouping = GROUPING_DEFAULT,
+                       .threads = processors()};
+    reading own = {.words = words,
+                   .count = count,
+                   .at = 1,
+                   .asked = asked,
+                   .users = calloc(room, sizeof *own.users),
+                   .status = status};
     bool is_read = false;
     *status = STATUS_WRONG;
     if (asked->users && own.users) {

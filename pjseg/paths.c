@@ -16,7 +16,8 @@ static bool to_parent(char *path) {
     return true;
 }
 
-/* PREFIX, where this program is PREFIX/bin/kumquatsieve-cut, in room for a path; NULL where the system doesn't say where it is. */
+/* PREFIX, where this program is PREFIX/bin/kumquatsieve-cut, in room for a path; NULL where the
+ * system doesn't say where it is. */
 static const char *own_prefix(char program[static PATH_MAX + 1]) {
     ssize_t length = readlink("/proc/self/exe", program, PATH_MAX);
     if (length <= 0) return NULL;

@@ -1,4 +1,5 @@
-/* Standard input in pieces of a megabyte or less, which end at line ends. No failed read is tried again. */
+/* Standard input in pieces of a megabyte or less, which end at line ends. No failed read is tried
+ * again. */
 #include "cut.h"
 #include <stdlib.h>
 #include <string.h>
@@ -12,9 +13,7 @@ bool make_input(input *in) {
     return in->open != NULL;
 }
 
-void free_input(input *in) {
-    free(in->open);
-}
+void free_input(input *in) { free(in->open); }
 
 /* One read behind `length` bytes. */
 static ending read_more(input *in, uint8_t *bytes, size_t *length, size_t *lines_end) {
@@ -29,13 +28,15 @@ static ending read_more(input *in, uint8_t *bytes, size_t *length, size_t *lines
     return *length - *lines_end > LINE_MOST ? LINE_TOO_LONG : GOES_ON;
 }
 
-/* Reads until there is a line's end and at least so many bytes, or the text ends in one way or another. The line behind the last line's end is kept for the
-   next piece: it is the open one, and has at most LINE_MOST bytes, so that a further read has room. */
+/* Reads until there is a line's end and at least so many bytes, or the text ends in one way or
+   another. The line behind the last line's end is kept for the next piece: it is the open one, and
+   has at most LINE_MOST bytes, so that a further read has room. */
 void read_piece(input *in, piece *next, size_t least) {
     size_t length = in->open_length, lines_end = 0;
     ending how = GOES_ON;
     memcpy(next->bytes, in->open, length);
-    while (how == GOES_ON && (length < least || lines_end == 0)) how = read_more(in, next->bytes, &length, &lines_end);
+    while (how == GOES_ON && (length < least || lines_end == 0))
+        how = read_more(in, next->bytes, &length, &lines_end);
     if (how == AT_END) lines_end = length;
     in->open_length = how == GOES_ON ? length - lines_end : 0;
     memcpy(in->open, next->bytes + lines_end, in->open_length);

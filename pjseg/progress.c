@@ -54,10 +54,8 @@ void print_progress(uint64_t bytes) {
     unsigned percent = (unsigned)(100.0 * (double)bytes / (double)most);
     double rate = (double)bytes / 1000 / (double)(time - begun);
     next = time + PAUSE;
-    snprintf(
-        line, sizeof line, "\rsegmented %llu of %llu bytes, %u %%, %.1f MB/s\x1b[K",
-        (unsigned long long)bytes, (unsigned long long)most, percent, rate
-    );
+    snprintf(line, sizeof line, "\rsegmented %llu of %llu bytes, %u %%, %.1f MB/s\x1b[K",
+             (unsigned long long)bytes, (unsigned long long)most, percent, rate);
     atomic_store(&is_shown, true);
     print_line(line);
 }

@@ -29,7 +29,8 @@ typedef struct queue {
     warnings warnings;
 } queue;
 
-/* A fault ends the program from any thread: another one may be waiting in a read that never ends. */
+/* A fault ends the program from any thread: another one may be waiting in a read that never ends.
+ */
 static _Noreturn void end_early(uint32_t code, uint64_t number) {
     fault why = {.code = code, .number = number};
     int status = tell_fault(&why);
@@ -64,9 +65,7 @@ static void write_piece(queue *of, place *next) {
     }
 }
 
-static place *place_of(queue *of, uint64_t number) {
-    return &of->places[number % of->room];
-}
+static place *place_of(queue *of, uint64_t number) { return &of->places[number % of->room]; }
 
 /* Reads the next piece into its place. The lock is held before and after, and not meanwhile. */
 static place *read_next(queue *of) {
@@ -88,7 +87,8 @@ static place *read_next(queue *of) {
 static place *take(queue *of) {
     place *next = NULL;
     pthread_mutex_lock(&of->lock);
-    while (!of->is_ended && (of->is_reading || of->taken - of->written == of->room)) pthread_cond_wait(&of->changed, &of->lock);
+    while (!of->is_ended && (of->is_reading || of->taken - of->written == of->room))
+        pthread_cond_wait(&of->changed, &of->lock);
     if (!of->is_ended) next = read_next(of);
     pthread_mutex_unlock(&of->lock);
     return next;

@@ -16,7 +16,8 @@ static void write_once(const char *text) {
 }
 
 /* A text between two others, in one write where there is memory for it. */
-static void tell_between(const char *before, const char *behind, const char *format, va_list words) {
+static void tell_between(const char *before, const char *behind, const char *format,
+                         va_list words) {
     char *text = NULL, *whole = NULL;
     if (vasprintf(&text, format, words) < 0) {
         write_once(PROGRAM ": Memory\n");
@@ -56,15 +57,19 @@ static void name_of(uint32_t code, char *name, size_t room) {
         uint32_t code;
         const char *name;
     } OTHERS[] = {
-        {KUMQUATSIEVE_FILE, "F1 File"}, {FAULT_OUTPUT, "F2 Output"},
-        {FAULT_READ, "G1 Read"}, {FAULT_WRITE, "G2 Write"},
+        {KUMQUATSIEVE_FILE, "F1 File"},
+        {FAULT_OUTPUT, "F2 Output"},
+        {FAULT_READ, "G1 Read"},
+        {FAULT_WRITE, "G2 Write"},
         {FAULT_INPUT_TOO_LONG, "G5 InputTooLong"},
     };
     size_t length = 0;
     for (size_t i = 0; i < sizeof OTHERS / sizeof *OTHERS; i++) {
         if (OTHERS[i].code == code) snprintf(name, room, "%s", OTHERS[i].name);
     }
-    if (kumquatsieve_fault(code, (uint8_t *)name, room - 1, &length) == KUMQUATSIEVE_OK && length > 0) name[length] = '\0';
+    if (kumquatsieve_fault(code, (uint8_t *)name, room - 1, &length) == KUMQUATSIEVE_OK &&
+        length > 0)
+        name[length] = '\0';
 }
 
 static bool has_number(uint32_t code) {
@@ -116,11 +121,13 @@ int tell_fault(const fault *why) {
     return status_of(why->code);
 }
 
-/* How many columns of a terminal a text takes: two for a character from Hangul's first on, U+1100, and one for each before it. */
+/* How many columns of a terminal a text takes: two for a character from Hangul's first on, U+1100,
+ * and one for each before it. */
 static int columns_of(const char *text) {
     int columns = 0;
     for (const unsigned char *at = (const unsigned char *)text; *at; at++) {
-        bool is_first = (*at & 0xc0) != 0x80, is_wide = *at > 0xe1 || (*at == 0xe1 && at[1] >= 0x84);
+        bool is_first = (*at & 0xc0) != 0x80,
+             is_wide = *at > 0xe1 || (*at == 0xe1 && at[1] >= 0x84);
         if (is_first) columns += is_wide ? 2 : 1;
     }
     return columns;
@@ -128,7 +135,8 @@ static int columns_of(const char *text) {
 
 /* A text in one line, and a mark under a byte of it. */
 static void tell_mark(const char *text, size_t at) {
-    char *front = strndup(text, at), *before = front ? one_line(front) : NULL, *line = one_line(text);
+    char *front = strndup(text, at), *before = front ? one_line(front) : NULL,
+         *line = one_line(text);
     if (before && line) {
         tell("%s", line);
         tell("%*s^", columns_of(before), "");
@@ -162,7 +170,8 @@ static void tell_reason(const char *of, uint64_t error) {
     free(path);
 }
 
-/* Why a file can't be read, and which option has the text of a format that is refused, and where. */
+/* Why a file can't be read, and which option has the text of a format that is refused, and where.
+ */
 void tell_why(const options *asked, const fault *why) {
     if (!is_heard()) return;
     if (why->code == KUMQUATSIEVE_FILE) tell_reason(why->path, why->number);
@@ -173,5 +182,7 @@ void tell_why(const options *asked, const fault *why) {
 void tell_explanation(const fault *why) {
     char name[64] = "";
     name_of(why->code, name, sizeof name);
-    if (is_heard()) tell("'jseg --explain %.*s' prints what that means and what to do", (int)strcspn(name, " "), name);
+    if (is_heard())
+        tell("'jseg --explain %.*s' prints what that means and what to do", (int)strcspn(name, " "),
+             name);
 }

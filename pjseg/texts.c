@@ -4,7 +4,8 @@
 #include <stdlib.h>
 #include <string.h>
 
-/* How many bytes the character has that begins here, by RFC 3629; 0 where none does. The text ends with a zero byte. */
+/* How many bytes the character has that begins here, by RFC 3629; 0 where none does. The text ends
+ * with a zero byte. */
 static size_t character_at(const unsigned char *at) {
     /* The first bytes of a kind, and the range of the second byte. */
     static const struct {
@@ -18,7 +19,9 @@ static size_t character_at(const unsigned char *at) {
     size_t kind = 0, count = sizeof KINDS / sizeof *KINDS;
     while (kind < count && (*at < KINDS[kind].low || *at > KINDS[kind].high)) kind++;
     if (kind == count) return 0;
-    if (KINDS[kind].length > 1 && (at[1] < KINDS[kind].second_low || at[1] > KINDS[kind].second_high)) return 0;
+    if (KINDS[kind].length > 1 &&
+        (at[1] < KINDS[kind].second_low || at[1] > KINDS[kind].second_high))
+        return 0;
     for (size_t i = 2; i < KINDS[kind].length; i++) {
         if (at[i] < 0x80 || at[i] > 0xbf) return 0;
     }
@@ -35,7 +38,8 @@ bool is_utf8(const char *text) {
     return true;
 }
 
-/* The number of the control character that begins here, and its length in bytes; 0 where another one does. */
+/* The number of the control character that begins here, and its length in bytes; 0 where another
+ * one does. */
 static unsigned control_at(const unsigned char *at, size_t *length) {
     *length = at[0] == 0xc2 && at[1] >= 0x80 && at[1] <= 0x9f ? 2 : 1;
     if (*length == 2) return at[1];

@@ -1,5 +1,6 @@
-/* Cuts each line of standard input by one way of MeCab's library, reads the fields of its nodes, and prints what they sum up to: nodes WAY
-   DICTIONARY. The ways are `lattice`, of a model with a tagger and a lattice, and `tonode`, of a tagger alone. The lines are read before. */
+/* Cuts each line of standard input by one way of MeCab's library, reads the fields of its nodes,
+   and prints what they sum up to: nodes WAY DICTIONARY. The ways are `lattice`, of a model with a
+   tagger and a lattice, and `tonode`, of a tagger alone. The lines are read before. */
 #include <mecab.h>
 #include <stdio.h>
 #include <stdlib.h>
@@ -35,14 +36,17 @@ static cutter open_cutter(const char *way, const char *dictionary) {
 static const mecab_node_t *cut(const cutter *by, const char *line, size_t length) {
     if (!by->lattice) return mecab_sparse_tonode2(by->tagger, line, length);
     mecab_lattice_set_sentence2(by->lattice, line, length);
-    return mecab_parse_lattice(by->tagger, by->lattice) ? mecab_lattice_get_bos_node(by->lattice) : NULL;
+    return mecab_parse_lattice(by->tagger, by->lattice) ? mecab_lattice_get_bos_node(by->lattice)
+                                                        : NULL;
 }
 
 static unsigned long sum_of(const mecab_node_t *node) {
     unsigned long sum = 0;
     for (; node; node = node->next) {
-        sum = sum * 31 + (unsigned char)node->surface[0] + node->length + (unsigned char)node->feature[0];
-        sum += (unsigned long)node->cost + (unsigned long)node->wcost + node->posid + node->stat + node->char_type;
+        sum = sum * 31 + (unsigned char)node->surface[0] + node->length +
+              (unsigned char)node->feature[0];
+        sum += (unsigned long)node->cost + (unsigned long)node->wcost + node->posid + node->stat +
+               node->char_type;
     }
     return sum;
 }

@@ -53,7 +53,8 @@ char *run_time_home(const char *prefix) {
 }
 
 static bool add_systems(homes *to, const char *prefix) {
-    return !prefix || (add_home(to, run_time_home(prefix)) && add_home(to, joined(prefix, "/share/kumquatsieve")));
+    return !prefix || (add_home(to, run_time_home(prefix)) &&
+                       add_home(to, joined(prefix, "/share/kumquatsieve")));
 }
 
 bool find_homes(const char *prefix, homes *found) {
@@ -82,9 +83,7 @@ bool find_in_homes(const char *name, const char *prefix, char **path) {
     return has_memory;
 }
 
-bool is_looked_for(const char *name) {
-    return *name && !strchr(name, '/') && !is_there(name);
-}
+bool is_looked_for(const char *name) { return *name && !strchr(name, '/') && !is_there(name); }
 
 char *image_path(const char *name, const char *prefix) {
     char *path = NULL;

@@ -50,8 +50,10 @@ static void keep_each_once(image_names *of) {
     size_t kept = 0;
     for (size_t i = 0; i < of->count; i++) {
         bool is_again = kept > 0 && strcmp(of->all[kept - 1], of->all[i]) == 0;
-        if (is_again) free(of->all[i]);
-        else of->all[kept++] = of->all[i];
+        if (is_again)
+            free(of->all[i]);
+        else
+            of->all[kept++] = of->all[i];
     }
     of->count = kept;
 }

@@ -1,5 +1,6 @@
-/* Dictionaries that many cutters have: a base, which is a cutter that never cuts, and the count of who holds it. The calls of a cutter are for one
-   thread at a time, so a base is shared under a lock, which is held for as long as a count takes to rise. */
+/* Dictionaries that many cutters have: a base, which is a cutter that never cuts, and the count of
+   who holds it. The calls of a cutter are for one thread at a time, so a base is shared under a
+   lock, which is held for as long as a count takes to rise. */
 #include <kumquatsieve.h>
 #include <pthread.h>
 #include <stdlib.h>
@@ -17,32 +18,29 @@ struct kumquatsieve_dictionary {
 
 static pthread_mutex_t shared = PTHREAD_MUTEX_INITIALIZER;
 
-static void lock(void) {
-    pthread_mutex_lock(&shared);
-}
+static void lock(void) { pthread_mutex_lock(&shared); }
 
-static void unlock(void) {
-    pthread_mutex_unlock(&shared);
-}
+static void unlock(void) { pthread_mutex_unlock(&shared); }
 
-/* A child has the forking thread alone: what another one had locked would stay so. What is noted first is locked last at a fork. So this is noted
-   before whatever else is linked in, whose locks may be held while this one is taken, as those of libmecab are. Only the lock of mapping.c, which is
-   taken under this one, is noted earlier; no program may be earlier than 101. */
+/* A child has the forking thread alone: what another one had locked would stay so. What is noted
+   first is locked last at a fork. So this is noted before whatever else is linked in, whose locks
+   may be held while this one is taken, as those of libmecab are. Only the lock of mapping.c, which
+   is taken under this one, is noted earlier; no program may be earlier than 101. */
 __attribute__((constructor(102))) static void keep_over_forks(void) {
     pthread_atfork(lock, unlock, unlock);
 }
 
 /* Loads an image, the first one as the system's. */
-static uint32_t load(kumquatsieve_cutter *base, const kumquatsieve_image *image, bool is_first, unsigned how, uint64_t *number) {
+static uint32_t load(kumquatsieve_cutter *base, const kumquatsieve_image *image, bool is_first,
+                     unsigned how, uint64_t *number) {
     bool skip = how & KUMQUATSIEVE_SKIP_DIGEST;
     return is_first ? kumquatsieve_load_by(base, image->bytes, image->length, skip, number)
                     : kumquatsieve_add_user_by(base, image->bytes, image->length, skip, number);
 }
 
 /* Loads images up to the first that is refused, whose number is told. */
-static uint32_t load_all(
-    kumquatsieve_cutter *base, const kumquatsieve_image *images, size_t count, unsigned how, size_t *image, uint64_t *number
-) {
+static uint32_t load_all(kumquatsieve_cutter *base, const kumquatsieve_image *images, size_t count,
+                         unsigned how, size_t *image, uint64_t *number) {
     uint32_t code = KUMQUATSIEVE_OK;
     for (size_t i = 0; i < count && code == KUMQUATSIEVE_OK; i++) {
         *image = i;
@@ -51,9 +49,9 @@ static uint32_t load_all(
     return code;
 }
 
-uint32_t kumquatsieve_dictionary_make(
-    kumquatsieve_dictionary **dictionary, const kumquatsieve_image *images, size_t count, unsigned how, size_t *image, uint64_t *number
-) {
+uint32_t kumquatsieve_dictionary_make(kumquatsieve_dictionary **dictionary,
+                                      const kumquatsieve_image *images, size_t count, unsigned how,
+                                      size_t *image, uint64_t *number) {
     size_t at = 0;
     if (count == 0) return KUMQUATSIEVE_EMPTY_CUTTER;
     kumquatsieve_dictionary *made = malloc(sizeof *made);
@@ -70,28 +68,35 @@ uint32_t kumquatsieve_dictionary_make(
     return code;
 }
 
-/* Fills a base with the dictionaries of a cutter alone: its format and its grouping are those that a cutter begins with. */
+/* Fills a base with the dictionaries of a cutter alone: its format and its grouping are those that
+ * a cutter begins with. */
 static uint32_t share_plain(kumquatsieve_cutter *base, kumquatsieve_cutter *cutter) {
     const uint8_t *word = (const uint8_t *)WORD, *end = (const uint8_t *)LINE_END;
     size_t length = strlen(WORD);
     uint32_t code = kumquatsieve_share(base, cutter);
-    if (code == KUMQUATSIEVE_OK) code = kumquatsieve_set_format(base, word, length, word, length, NULL, 0, end, strlen(LINE_END), NULL, NULL);
+    if (code == KUMQUATSIEVE_OK)
+        code = kumquatsieve_set_format(base, word, length, word, length, NULL, 0, end,
+                                       strlen(LINE_END), NULL, NULL);
     if (code == KUMQUATSIEVE_OK) code = kumquatsieve_set_grouping(base, GROUPING);
     return code;
 }
 
-uint32_t kumquatsieve_dictionary_of(kumquatsieve_dictionary **dictionary, kumquatsieve_cutter *cutter) {
+uint32_t kumquatsieve_dictionary_of(kumquatsieve_dictionary **dictionary,
+                                    kumquatsieve_cutter *cutter) {
     kumquatsieve_dictionary *made = malloc(sizeof *made);
     if (!made) return KUMQUATSIEVE_MEMORY;
     *made = (kumquatsieve_dictionary){KUMQUATSIEVE_EMPTY, 1};
     uint32_t code = share_plain(&made->base, cutter);
     if (code == KUMQUATSIEVE_OK) kumquatsieve_free(cutter);
-    if (code == KUMQUATSIEVE_OK && dictionary) *dictionary = made;
-    else kumquatsieve_dictionary_release(made);
+    if (code == KUMQUATSIEVE_OK && dictionary)
+        *dictionary = made;
+    else
+        kumquatsieve_dictionary_release(made);
     return code;
 }
 
-uint32_t kumquatsieve_cutter_over(kumquatsieve_cutter *cutter, const kumquatsieve_dictionary *dictionary) {
+uint32_t kumquatsieve_cutter_over(kumquatsieve_cutter *cutter,
+                                  const kumquatsieve_dictionary *dictionary) {
     kumquatsieve_dictionary *of = (kumquatsieve_dictionary *)dictionary;
     if (!of) return KUMQUATSIEVE_EMPTY_CUTTER;
     lock();
@@ -100,7 +105,8 @@ uint32_t kumquatsieve_cutter_over(kumquatsieve_cutter *cutter, const kumquatsiev
     return code;
 }
 
-const kumquatsieve_dictionary *kumquatsieve_dictionary_hold(const kumquatsieve_dictionary *dictionary) {
+const kumquatsieve_dictionary *
+kumquatsieve_dictionary_hold(const kumquatsieve_dictionary *dictionary) {
     kumquatsieve_dictionary *of = (kumquatsieve_dictionary *)dictionary;
     if (!of) return NULL;
     lock();

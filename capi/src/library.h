@@ -27,15 +27,13 @@ typedef struct loan {
    - Nobody writes, unmaps or truncates the bytes, in this process or in another one.
 
    After an error the core has no pointer to the bytes any more. proved_load_trusted and
-   proved_add_user_trusted make no tests: the bytes are an image of layout 3 that passes all tests of
-   kumquatsieve_load, the digest included. With other bytes the behaviour is undefined. So they need
-   a record that record.c accepts. */
-uint32_t proved_load_lent(
-    kumquatsieve_cutter *cutter, loan image, bool skip_digest, uint64_t *number
-);
-uint32_t proved_add_user_lent(
-    kumquatsieve_cutter *cutter, loan image, bool skip_digest, uint64_t *number
-);
+   proved_add_user_trusted make no tests: the bytes are an image of layout 3 that passes all tests
+   of kumquatsieve_load, the digest included. With other bytes the behaviour is undefined. So they
+   need a record that record.c accepts. */
+uint32_t proved_load_lent(kumquatsieve_cutter *cutter, loan image, bool skip_digest,
+                          uint64_t *number);
+uint32_t proved_add_user_lent(kumquatsieve_cutter *cutter, loan image, bool skip_digest,
+                              uint64_t *number);
 uint32_t proved_load_trusted(kumquatsieve_cutter *cutter, loan image, uint64_t *number);
 uint32_t proved_add_user_trusted(kumquatsieve_cutter *cutter, loan image, uint64_t *number);
 
@@ -47,10 +45,8 @@ uint32_t proved_add_user_trusted(kumquatsieve_cutter *cutter, loan image, uint64
    Returns 0, and sets *list, or returns an errno and leaves both as they were. ENODEV means that
    the file has to be read: its file system maps no files, or the file was changed after `of` was
    asked for. */
-int map_file(
-    int file, const struct stat *of, struct kumquatsieve_mapped *others,
-    struct kumquatsieve_mapped **list
-);
+int map_file(int file, const struct stat *of, struct kumquatsieve_mapped *others,
+             struct kumquatsieve_mapped **list);
 
 /* Returns the bytes of the first file of a list. */
 loan mapped_bytes(const struct kumquatsieve_mapped *list);

@@ -28,13 +28,9 @@ struct kumquatsieve_mapped {
 static mapping *mappings;
 static pthread_mutex_t registry = PTHREAD_MUTEX_INITIALIZER;
 
-static void lock(void) {
-    pthread_mutex_lock(&registry);
-}
+static void lock(void) { pthread_mutex_lock(&registry); }
 
-static void unlock(void) {
-    pthread_mutex_unlock(&registry);
-}
+static void unlock(void) { pthread_mutex_unlock(&registry); }
 
 /* A child has the forking thread alone: what another one had locked would stay so. What is noted
    first is locked last at a fork. This lock is taken while that of dictionary.c is held, so it is
@@ -79,10 +75,8 @@ static int map_entry(int file, mapping *fresh, struct kumquatsieve_mapped *entry
     return 0;
 }
 
-int map_file(
-    int file, const struct stat *of, struct kumquatsieve_mapped *others,
-    struct kumquatsieve_mapped **list
-) {
+int map_file(int file, const struct stat *of, struct kumquatsieve_mapped *others,
+             struct kumquatsieve_mapped **list) {
     struct kumquatsieve_mapped *entry = malloc(sizeof *entry);
     mapping *fresh = malloc(sizeof *fresh);
     int error = ENOMEM;
@@ -95,8 +89,10 @@ int map_file(
     }
     bool is_used = error == 0 && entry->file == fresh;
     if (!is_used) free(fresh);
-    if (error == 0) *list = entry;
-    else free(entry);
+    if (error == 0)
+        *list = entry;
+    else
+        free(entry);
     return error;
 }
 

@@ -87,8 +87,10 @@ static int map_and_load(const opened *from, const request *to, uint32_t *code) {
     int error = map_file(from->file, &from->of, to->cutter->mapped, &list);
     if (error == ENODEV) return error;
     *code = error == 0 ? load_mapped(from, to, mapped_bytes(list)) : fail_file(error, to->number);
-    if (*code == KUMQUATSIEVE_OK) to->cutter->mapped = list;
-    else if (list) release_first(list);
+    if (*code == KUMQUATSIEVE_OK)
+        to->cutter->mapped = list;
+    else if (list)
+        release_first(list);
     return 0;
 }
 
@@ -135,16 +137,14 @@ static uint32_t open_by(const char *path, const request *to) {
     return open_and_load(path, to);
 }
 
-uint32_t kumquatsieve_open(
-    kumquatsieve_cutter *cutter, const char *path, unsigned how, uint64_t *number
-) {
+uint32_t kumquatsieve_open(kumquatsieve_cutter *cutter, const char *path, unsigned how,
+                           uint64_t *number) {
     uint64_t unread = 0;
     return open_by(path, &(request){cutter, false, how, number ? number : &unread});
 }
 
-uint32_t kumquatsieve_open_user(
-    kumquatsieve_cutter *cutter, const char *path, unsigned how, uint64_t *number
-) {
+uint32_t kumquatsieve_open_user(kumquatsieve_cutter *cutter, const char *path, unsigned how,
+                                uint64_t *number) {
     uint64_t unread = 0;
     return open_by(path, &(request){cutter, true, how, number ? number : &unread});
 }
@@ -164,7 +164,7 @@ void kumquatsieve_free(kumquatsieve_cutter *cutter) {
 }
 
 /* The core knows all codes but that of a file. */
-uint32_t (kumquatsieve_fault)(uint32_t code, uint8_t *out, size_t room, size_t *needed) {
+uint32_t(kumquatsieve_fault)(uint32_t code, uint8_t *out, size_t room, size_t *needed) {
     static const char TEXT[] = "F1 File";
     if (code != KUMQUATSIEVE_FILE) return proved_fault(code, out, room, needed);
     *needed = strlen(TEXT);

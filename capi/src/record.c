@@ -63,14 +63,13 @@ static bool name_record(const char *image, char *name, size_t room) {
 /* Writes the text that a record of this image has before the digits of its checksum. Returns its
    length. */
 static size_t expect(const struct stat *of, char *text, size_t room) {
-    int written = snprintf(
-        text, room,
-        "kumquatsieve-tested 1\ndevice %u:%u\ninode %ju\nsize %jd\nmtime %jd.%09ld\n"
-        "ctime %jd.%09ld\nsha256 ",
-        major(of->st_dev), minor(of->st_dev), (uintmax_t)of->st_ino, (intmax_t)of->st_size,
-        (intmax_t)of->st_mtim.tv_sec, of->st_mtim.tv_nsec, (intmax_t)of->st_ctim.tv_sec,
-        of->st_ctim.tv_nsec
-    );
+    int written =
+        snprintf(text, room,
+                 "kumquatsieve-tested 1\ndevice %u:%u\ninode %ju\nsize %jd\nmtime %jd.%09ld\n"
+                 "ctime %jd.%09ld\nsha256 ",
+                 major(of->st_dev), minor(of->st_dev), (uintmax_t)of->st_ino, (intmax_t)of->st_size,
+                 (intmax_t)of->st_mtim.tv_sec, of->st_mtim.tv_nsec, (intmax_t)of->st_ctim.tv_sec,
+                 of->st_ctim.tv_nsec);
     return written > 0 && (size_t)written < room ? (size_t)written : 0;
 }
 
@@ -105,9 +104,8 @@ static bool is_recorded(int directory, const char *name, const struct stat *of) 
     return is_found;
 }
 
-bool has_record(
-    int directory, const char *name, int image, const struct stat *of, uint64_t layout
-) {
+bool has_record(int directory, const char *name, int image, const struct stat *of,
+                uint64_t layout) {
     const char *trust = getenv("KUMQUATSIEVE_TRUST");
     struct stat around;
     if (trust && strcmp(trust, "never") == 0) return false;

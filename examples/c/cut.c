@@ -34,11 +34,13 @@ static bool make_room(struct bytes *bytes, size_t more) {
     return true;
 }
 
-static uint32_t print_line(kumquatsieve_cutter *cutter, const uint8_t *line, size_t length, struct bytes *out) {
+static uint32_t print_line(kumquatsieve_cutter *cutter, const uint8_t *line, size_t length,
+                           struct bytes *out) {
     size_t count = 0, printed = 0;
     int64_t total = 0;
     const uint8_t *text = NULL;
-    /* The line was cut at its line feed, so kumquatsieve_cut_text, which looks for none, is enough. */
+    /* The line was cut at its line feed, so kumquatsieve_cut_text, which looks for none, is enough.
+     */
     uint32_t code = kumquatsieve_cut_text(cutter, line, length, &count, &total, NULL);
     if (code == KUMQUATSIEVE_OK) code = kumquatsieve_print(cutter, &text, &printed);
     if (code != KUMQUATSIEVE_OK) return code;
@@ -48,8 +50,10 @@ static uint32_t print_line(kumquatsieve_cutter *cutter, const uint8_t *line, siz
     return KUMQUATSIEVE_OK;
 }
 
-/* Prints the lines that were read. What is after the last line feed stays for the next piece, and is a line where none comes. */
-static uint32_t print_lines(kumquatsieve_cutter *cutter, struct bytes *in, bool at_end, struct bytes *out) {
+/* Prints the lines that were read. What is after the last line feed stays for the next piece, and
+ * is a line where none comes. */
+static uint32_t print_lines(kumquatsieve_cutter *cutter, struct bytes *in, bool at_end,
+                            struct bytes *out) {
     const uint8_t *line = in->at, *end = in->at + in->length, *feed = NULL;
     uint32_t code = KUMQUATSIEVE_OK;
     while (code == KUMQUATSIEVE_OK && (feed = memchr(line, '\n', (size_t)(end - line)))) {
@@ -57,7 +61,8 @@ static uint32_t print_lines(kumquatsieve_cutter *cutter, struct bytes *in, bool 
         line = feed + 1;
     }
     in->length = (size_t)(end - line);
-    if (code == KUMQUATSIEVE_OK && at_end && line < end) code = print_line(cutter, line, in->length, out);
+    if (code == KUMQUATSIEVE_OK && at_end && line < end)
+        code = print_line(cutter, line, in->length, out);
     memmove(in->at, line, in->length);
     return code;
 }
@@ -67,7 +72,8 @@ static void stop(const char *what) {
     exit(2);
 }
 
-/* Reads and writes in large pieces: a call of stdio for each line would cost more than the library's own calls do. */
+/* Reads and writes in large pieces: a call of stdio for each line would cost more than the
+ * library's own calls do. */
 static uint32_t print_text(kumquatsieve_cutter *cutter) {
     struct bytes in = {NULL, 0, 0}, out = {NULL, 0, 0};
     uint32_t code = KUMQUATSIEVE_OK;
@@ -79,7 +85,8 @@ static uint32_t print_text(kumquatsieve_cutter *cutter) {
         if (got < 0) stop("standard input");
         in.length += (size_t)got;
         code = print_lines(cutter, &in, got == 0, &out);
-        if (fwrite(out.at, 1, out.length, stdout) != out.length || fflush(stdout) != 0) stop("standard output");
+        if (fwrite(out.at, 1, out.length, stdout) != out.length || fflush(stdout) != 0)
+            stop("standard output");
         out.length = 0;
     }
     free(in.at);

@@ -1,9 +1,13 @@
-// One call of the C library that fails, to be preloaded (LD_PRELOAD) by `tests/cli/run.py` and `tests/pjseg/run.py`.
+// One call of the C library that fails, to be preloaded (LD_PRELOAD) by `tests/cli/run.py` and
+// `tests/pjseg/run.py`.
 //
-//     FAIL=rename       the call that fails: rename, fsync, fchmod, write to a file, as on a full device, read of standard input, or pthread_create;
-//                       or `interrupted write`: the first write to a file, as a signal interrupts it; or `slow read`, which fails in nothing: the
-//                       second read of files takes longer than two seconds
-//     FAIL_AFTER=N      how many calls of read or pthread_create don't fail before; none where it isn't given
+//     FAIL=rename       the call that fails: rename, fsync, fchmod, write to a file, as on a full
+//     device, read of standard input, or pthread_create;
+//                       or `interrupted write`: the first write to a file, as a signal interrupts
+//                       it; or `slow read`, which fails in nothing: the second read of files takes
+//                       longer than two seconds
+//     FAIL_AFTER=N      how many calls of read or pthread_create don't fail before; none where it
+//     isn't given
 #define _GNU_SOURCE
 #include <dlfcn.h>
 #include <errno.h>
@@ -26,12 +30,11 @@ static int fails(const char *name, int error) {
 }
 
 int rename(const char *from, const char *to) {
-    return fails("rename", EACCES) ? -1 : (int)syscall(SYS_renameat2, AT_FDCWD, from, AT_FDCWD, to, 0);
+    return fails("rename", EACCES) ? -1
+                                   : (int)syscall(SYS_renameat2, AT_FDCWD, from, AT_FDCWD, to, 0);
 }
 
-int fsync(int file) {
-    return fails("fsync", EIO) ? -1 : (int)syscall(SYS_fsync, file);
-}
+int fsync(int file) { return fails("fsync", EIO) ? -1 : (int)syscall(SYS_fsync, file); }
 
 int fchmod(int file, mode_t mode) {
     return fails("fchmod", EPERM) ? -1 : (int)syscall(SYS_fchmod, file, mode);
@@ -49,7 +52,9 @@ static int is_interrupted(void) {
 }
 
 ssize_t write(int file, const void *bytes, size_t count) {
-    return is_file(file) && (fails("write", ENOSPC) || is_interrupted()) ? -1 : syscall(SYS_write, file, bytes, count);
+    return is_file(file) && (fails("write", ENOSPC) || is_interrupted())
+               ? -1
+               : syscall(SYS_write, file, bytes, count);
 }
 
 // Whether the calls that don't fail are over.
@@ -63,15 +68,19 @@ static int fails_now(const char *name, int error) {
 static void may_wait(int file) {
     static atomic_int reads;
     static const struct timespec pause = {.tv_sec = 2, .tv_nsec = 200000000};
-    if (fails("slow read", 0) && is_file(file) && atomic_fetch_add(&reads, 1) == 1) nanosleep(&pause, NULL);
+    if (fails("slow read", 0) && is_file(file) && atomic_fetch_add(&reads, 1) == 1)
+        nanosleep(&pause, NULL);
 }
 
 ssize_t read(int file, void *bytes, size_t count) {
     may_wait(file);
-    return file == STDIN_FILENO && fails_now("read", EIO) ? -1 : syscall(SYS_read, file, bytes, count);
+    return file == STDIN_FILENO && fails_now("read", EIO) ? -1
+                                                          : syscall(SYS_read, file, bytes, count);
 }
 
-int pthread_create(pthread_t *thread, const pthread_attr_t *kind, void *(*begin)(void *), void *given) {
-    int (*made)(pthread_t *, const pthread_attr_t *, void *(*)(void *), void *) = dlsym(RTLD_NEXT, "pthread_create");
+int pthread_create(pthread_t *thread, const pthread_attr_t *kind, void *(*begin)(void *),
+                   void *given) {
+    int (*made)(pthread_t *, const pthread_attr_t *, void *(*)(void *), void *) =
+        dlsym(RTLD_NEXT, "pthread_create");
     return fails_now("pthread_create", EAGAIN) || !made ? EAGAIN : made(thread, kind, begin, given);
 }

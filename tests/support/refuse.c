@@ -1,11 +1,13 @@
 // A heap that counts, to be preloaded (LD_PRELOAD) by `tests/out_of_memory/refuse.py`.
 //
-//     REFUSE=n          the n-th growth of the run is refused, and no other; without it growths are only counted
-//     REFUSE_REPORT=f   the file that gets the counts at the end; without it standard error does
+//     REFUSE=n          the n-th growth of the run is refused, and no other; without it growths are
+//     only counted REFUSE_REPORT=f   the file that gets the counts at the end; without it standard
+//     error does
 //
-// A growth is a call that asks for memory: a new block, or another size for an old one. The counts are written as one line,
-// `growths 7 refused 1 given 5 back 5`: given are the blocks that were handed out, back those that came back.
-// It stands on glibc's own names of its heap, so that nothing is looked up while a program starts.
+// A growth is a call that asks for memory: a new block, or another size for an old one. The counts
+// are written as one line, `growths 7 refused 1 given 5 back 5`: given are the blocks that were
+// handed out, back those that came back. It stands on glibc's own names of its heap, so that
+// nothing is looked up while a program starts.
 #define _GNU_SOURCE
 #include <errno.h>
 #include <fcntl.h>
@@ -43,9 +45,7 @@ static void *counted(void *block) {
     return block;
 }
 
-void *malloc(size_t size) {
-    return is_refused() ? NULL : counted(__libc_malloc(size));
-}
+void *malloc(size_t size) { return is_refused() ? NULL : counted(__libc_malloc(size)); }
 
 void *calloc(size_t count, size_t size) {
     return is_refused() ? NULL : counted(__libc_calloc(count, size));
@@ -74,9 +74,7 @@ void *memalign(size_t alignment, size_t size) {
     return is_refused() ? NULL : counted(__libc_memalign(alignment, size));
 }
 
-void *aligned_alloc(size_t alignment, size_t size) {
-    return memalign(alignment, size);
-}
+void *aligned_alloc(size_t alignment, size_t size) { return memalign(alignment, size); }
 
 int posix_memalign(void **block, size_t alignment, size_t size) {
     int before = errno;
@@ -98,13 +96,12 @@ static void report(void) {
     int file = path ? open(path, O_WRONLY | O_CREAT | O_TRUNC | O_CLOEXEC, 0666) : STDERR_FILENO;
     char line[128];
     int length = snprintf(line, sizeof line, "growths %ld refused %ld given %ld back %ld\n",
-                          atomic_load(&growths), atomic_load(&refused), atomic_load(&given), atomic_load(&back));
+                          atomic_load(&growths), atomic_load(&refused), atomic_load(&given),
+                          atomic_load(&back));
     if (file < 0 || write(file, line, (size_t)length) != length) syscall(SYS_exit_group, 125);
 }
 
-__attribute__((destructor)) static void at_exit(void) {
-    report();
-}
+__attribute__((destructor)) static void at_exit(void) { report(); }
 
 // A program that ends here runs no destructor.
 void _exit(int status) {

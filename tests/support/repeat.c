@@ -1,7 +1,9 @@
-// A heap whose large blocks repeat, to be preloaded (LD_PRELOAD) by `tests/cli/run.py`: what stands in such a block stands there again and again.
+// A heap whose large blocks repeat, to be preloaded (LD_PRELOAD) by `tests/cli/run.py`: what stands
+// in such a block stands there again and again.
 //
-// So a block of any size takes few bytes. It serves a program whose large blocks hold one thing over and over, as the entries of a lexicon of
-// equal lines, where the size of that thing divides the bytes after which they repeat. It stands on glibc's own names of its heap.
+// So a block of any size takes few bytes. It serves a program whose large blocks hold one thing
+// over and over, as the entries of a lexicon of equal lines, where the size of that thing divides
+// the bytes after which they repeat. It stands on glibc's own names of its heap.
 #define _GNU_SOURCE
 #include <malloc.h>
 #include <stddef.h>
@@ -15,11 +17,16 @@ extern void *__libc_calloc(size_t count, size_t size);
 extern void *__libc_realloc(void *block, size_t size);
 extern void __libc_free(void *block);
 
-// Blocks from this size on repeat, and after so many bytes: a number that pages, and all sizes up to 10 words and up to 10 bytes, divide.
+// Blocks from this size on repeat, and after so many bytes: a number that pages, and all sizes up
+// to 10 words and up to 10 bytes, divide.
 #define PERIOD ((size_t)4096 * 2520 * 7)
 #define MOST 16
 
-static struct block { char *start; size_t size; int file; } blocks[MOST];
+static struct block {
+    char *start;
+    size_t size;
+    int file;
+} blocks[MOST];
 
 static struct block *found(const void *start) {
     for (int i = 0; start && i < MOST; i++)
@@ -31,7 +38,9 @@ static char *mapped(int file, size_t size) {
     char *start = mmap(NULL, size, PROT_NONE, MAP_PRIVATE | MAP_ANONYMOUS | MAP_NORESERVE, -1, 0);
     for (size_t at = 0; start != MAP_FAILED && at < size; at += PERIOD) {
         size_t length = size - at < PERIOD ? size - at : PERIOD;
-        if (mmap(start + at, length, PROT_READ | PROT_WRITE, MAP_SHARED | MAP_FIXED, file, 0) == MAP_FAILED) abort();
+        if (mmap(start + at, length, PROT_READ | PROT_WRITE, MAP_SHARED | MAP_FIXED, file, 0) ==
+            MAP_FAILED)
+            abort();
     }
     return start == MAP_FAILED ? NULL : start;
 }
@@ -53,9 +62,7 @@ static void give_back(struct block *block) {
     block->start = NULL;
 }
 
-void *malloc(size_t size) {
-    return size < PERIOD ? __libc_malloc(size) : large(size);
-}
+void *malloc(size_t size) { return size < PERIOD ? __libc_malloc(size) : large(size); }
 
 void *calloc(size_t count, size_t size) {
     return size && count >= PERIOD / size ? large(count * size) : __libc_calloc(count, size);
@@ -63,8 +70,10 @@ void *calloc(size_t count, size_t size) {
 
 void free(void *block) {
     struct block *of = found(block);
-    if (of) give_back(of);
-    else __libc_free(block);
+    if (of)
+        give_back(of);
+    else
+        __libc_free(block);
 }
 
 // The bytes of a block that repeats are those of its file, so that nothing is copied.

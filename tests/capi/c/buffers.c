@@ -1,5 +1,5 @@
-/* Images that come in pieces, and dictionaries made of the cutters that they fill: buffers SYSTEM.img USER.img. The user's dictionary has the word
-   すもももも. */
+/* Images that come in pieces, and dictionaries made of the cutters that they fill: buffers
+   SYSTEM.img USER.img. The user's dictionary has the word すもももも. */
 #include "check.h"
 
 #define USERS "すもももも\t名詞,すもももも\nEOS\n"
@@ -17,7 +17,9 @@ static kumquatsieve_buffer gathered(file image, size_t piece, size_t room) {
     kumquatsieve_buffer buffer = kumquatsieve_no_bytes();
     for (size_t at = 0; at < image.length; at += piece) {
         size_t left = image.length - at;
-        CHECK(kumquatsieve_buffer_append(&buffer, room, image.bytes + at, left < piece ? left : piece) == KUMQUATSIEVE_OK && buffer.held);
+        CHECK(kumquatsieve_buffer_append(&buffer, room, image.bytes + at,
+                                         left < piece ? left : piece) == KUMQUATSIEVE_OK &&
+              buffer.held);
     }
     return buffer;
 }
@@ -34,34 +36,41 @@ static void pieces(file system) {
         kumquatsieve_buffer buffer = gathered(system, rows[i].piece, rows[i].room);
         kumquatsieve_cutter cutter = kumquatsieve_empty();
         uint64_t number = BEFORE;
-        CHECK_ROW(rows[i].what, kumquatsieve_load_buffer(&cutter, &buffer, i % 2, &number) == KUMQUATSIEVE_OK);
+        CHECK_ROW(rows[i].what,
+                  kumquatsieve_load_buffer(&cutter, &buffer, i % 2, &number) == KUMQUATSIEVE_OK);
         CHECK_ROW(rows[i].what, !buffer.held && number == BEFORE);
         CHECK_ROW(rows[i].what, cut(&cutter, LINE) == KUMQUATSIEVE_OK && prints(&cutter, PRINTED));
         kumquatsieve_free(&cutter);
     }
 }
 
-/* What is refused of an image in pieces is refused as of one at once; the buffer is empty after it, and serves again. */
+/* What is refused of an image in pieces is refused as of one at once; the buffer is empty after it,
+ * and serves again. */
 static void refused(file system) {
     kumquatsieve_cutter cutter = kumquatsieve_empty(), full = loaded(system);
     kumquatsieve_buffer buffer = kumquatsieve_no_bytes();
     uint64_t number = BEFORE;
-    CHECK(kumquatsieve_load_buffer(&cutter, &buffer, false, &number) == KUMQUATSIEVE_TRUNCATED && number == BEFORE);
+    CHECK(kumquatsieve_load_buffer(&cutter, &buffer, false, &number) == KUMQUATSIEVE_TRUNCATED &&
+          number == BEFORE);
     buffer = gathered((file){system.bytes, system.length - 1, NULL}, 1000, 0);
-    CHECK(kumquatsieve_load_buffer(&cutter, &buffer, false, &number) == KUMQUATSIEVE_TRUNCATED && number == BEFORE && !buffer.held);
+    CHECK(kumquatsieve_load_buffer(&cutter, &buffer, false, &number) == KUMQUATSIEVE_TRUNCATED &&
+          number == BEFORE && !buffer.held);
     system.bytes[8] ^= 8;
     buffer = gathered(system, 1000, system.length);
     system.bytes[8] ^= 8;
-    CHECK(kumquatsieve_load_buffer(&cutter, &buffer, true, &number) == KUMQUATSIEVE_BAD_LAYOUT && number == 11 && !buffer.held);
+    CHECK(kumquatsieve_load_buffer(&cutter, &buffer, true, &number) == KUMQUATSIEVE_BAD_LAYOUT &&
+          number == 11 && !buffer.held);
     system.bytes[system.length - 1] ^= 1;
     buffer = gathered(system, 1000, system.length);
-    CHECK(kumquatsieve_load_buffer(&cutter, &buffer, false, NULL) == KUMQUATSIEVE_DIGEST && !cutter.held);
+    CHECK(kumquatsieve_load_buffer(&cutter, &buffer, false, NULL) == KUMQUATSIEVE_DIGEST &&
+          !cutter.held);
     buffer = gathered(system, 1000, system.length);
     system.bytes[system.length - 1] ^= 1;
     CHECK(kumquatsieve_load_buffer(&cutter, &buffer, true, NULL) == KUMQUATSIEVE_OK && cutter.held);
     buffer = gathered(system, 1000, system.length);
     number = BEFORE;
-    CHECK(kumquatsieve_load_buffer(&full, &buffer, false, &number) == KUMQUATSIEVE_FULL_CUTTER && number == BEFORE && !buffer.held);
+    CHECK(kumquatsieve_load_buffer(&full, &buffer, false, &number) == KUMQUATSIEVE_FULL_CUTTER &&
+          number == BEFORE && !buffer.held);
     CHECK(cut(&full, LINE) == KUMQUATSIEVE_OK && prints(&full, PRINTED));
     kumquatsieve_free(&cutter);
     kumquatsieve_free(&full);
@@ -72,16 +81,21 @@ static void users(file system, file user) {
     kumquatsieve_cutter cutter = loaded(system), none = kumquatsieve_empty();
     uint64_t number = BEFORE;
     kumquatsieve_buffer buffer = gathered(user, 7, user.length);
-    CHECK(kumquatsieve_add_user_buffer(&none, &buffer, false, &number) == KUMQUATSIEVE_EMPTY_CUTTER && number == BEFORE && !buffer.held);
+    CHECK(kumquatsieve_add_user_buffer(&none, &buffer, false, &number) ==
+              KUMQUATSIEVE_EMPTY_CUTTER &&
+          number == BEFORE && !buffer.held);
     buffer = gathered(system, 1000, 0);
-    CHECK(kumquatsieve_add_user_buffer(&cutter, &buffer, false, &number) == KUMQUATSIEVE_NOT_USER && number == 0 && !buffer.held);
+    CHECK(kumquatsieve_add_user_buffer(&cutter, &buffer, false, &number) == KUMQUATSIEVE_NOT_USER &&
+          number == 0 && !buffer.held);
     user.bytes[user.length - 1] ^= 1;
     buffer = gathered(user, 7, user.length);
-    CHECK(kumquatsieve_add_user_buffer(&cutter, &buffer, false, NULL) == KUMQUATSIEVE_DIGEST && !buffer.held);
+    CHECK(kumquatsieve_add_user_buffer(&cutter, &buffer, false, NULL) == KUMQUATSIEVE_DIGEST &&
+          !buffer.held);
     CHECK(cut(&cutter, LINE) == KUMQUATSIEVE_OK && prints(&cutter, PRINTED));
     buffer = gathered(user, 7, user.length);
     user.bytes[user.length - 1] ^= 1;
-    CHECK(kumquatsieve_add_user_buffer(&cutter, &buffer, true, NULL) == KUMQUATSIEVE_OK && !buffer.held);
+    CHECK(kumquatsieve_add_user_buffer(&cutter, &buffer, true, NULL) == KUMQUATSIEVE_OK &&
+          !buffer.held);
     CHECK(cut(&cutter, LINE) == KUMQUATSIEVE_OK && prints(&cutter, USERS));
     kumquatsieve_free(&cutter);
 }
@@ -115,15 +129,19 @@ static void cuts_plainly(kumquatsieve_cutter *cutter) {
     CHECK(cut(cutter, "zzz") == KUMQUATSIEVE_OK && prints(cutter, "zzz\t未知\nEOS\n"));
 }
 
-/* A dictionary has the dictionaries of its cutter and no more of it, and the cutter is empty and serves again. */
+/* A dictionary has the dictionaries of its cutter and no more of it, and the cutter is empty and
+ * serves again. */
 static void dictionaries(file system, file user) {
     kumquatsieve_cutter cutter = kumquatsieve_empty(), over = kumquatsieve_empty();
     kumquatsieve_dictionary *dictionary = NULL;
-    CHECK(kumquatsieve_dictionary_of(&dictionary, &cutter) == KUMQUATSIEVE_EMPTY_CUTTER && !dictionary);
+    CHECK(kumquatsieve_dictionary_of(&dictionary, &cutter) == KUMQUATSIEVE_EMPTY_CUTTER &&
+          !dictionary);
     cutter = filled(system, user);
-    CHECK(set_texts(&cutter, "%m ", "%m ", "", "") == KUMQUATSIEVE_OK && kumquatsieve_set_grouping(&cutter, 1) == KUMQUATSIEVE_OK);
+    CHECK(set_texts(&cutter, "%m ", "%m ", "", "") == KUMQUATSIEVE_OK &&
+          kumquatsieve_set_grouping(&cutter, 1) == KUMQUATSIEVE_OK);
     CHECK(cut(&cutter, "zzz") == KUMQUATSIEVE_OK && prints(&cutter, "z zz "));
-    CHECK(kumquatsieve_dictionary_of(&dictionary, &cutter) == KUMQUATSIEVE_OK && dictionary && !cutter.held);
+    CHECK(kumquatsieve_dictionary_of(&dictionary, &cutter) == KUMQUATSIEVE_OK && dictionary &&
+          !cutter.held);
     CHECK(cut(&cutter, LINE) == KUMQUATSIEVE_EMPTY_CUTTER);
     CHECK(kumquatsieve_cutter_over(&over, dictionary) == KUMQUATSIEVE_OK);
     CHECK(kumquatsieve_cutter_over(&cutter, dictionary) == KUMQUATSIEVE_OK);

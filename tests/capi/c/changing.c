@@ -53,26 +53,18 @@ ssize_t __wrap_read(int fd, void *to, size_t count) {
     return -1;
 }
 
-static void grow(void) {
-    CHECK(truncate(SYSTEM, (off_t)sys.length + 1) == 0);
-}
+static void grow(void) { CHECK(truncate(SYSTEM, (off_t)sys.length + 1) == 0); }
 
-static void shrink(void) {
-    CHECK(truncate(SYSTEM, (off_t)sys.length - 1) == 0);
-}
+static void shrink(void) { CHECK(truncate(SYSTEM, (off_t)sys.length - 1) == 0); }
 
-static void empty(void) {
-    CHECK(truncate(SYSTEM, 0) == 0);
-}
+static void empty(void) { CHECK(truncate(SYSTEM, 0) == 0); }
 
 static void touch(void) {
     const struct timespec times[] = {{1, 0}, {1, 0}};
     CHECK(utimensat(AT_FDCWD, SYSTEM, times, 0) == 0);
 }
 
-static void fail_fstat(void) {
-    fstat_error = EIO;
-}
+static void fail_fstat(void) { fstat_error = EIO; }
 
 /* What happens or fails, and what is returned then. A file that is accepted is read, not mapped. */
 typedef struct row {
@@ -113,10 +105,8 @@ static void check_row(const row *of) {
     CHECK_ROW(of->what, code == of->code && number == of->number);
     CHECK_ROW(of->what, cutter.held == (code == KUMQUATSIEVE_OK) && !cutter.mapped);
     CHECK_ROW(of->what, mappings_of(NULL) == maps && open_files() == files);
-    CHECK_ROW(
-        of->what,
-        !cutter.held || (cut(&cutter, LINE) == KUMQUATSIEVE_OK && prints(&cutter, PRINTED))
-    );
+    CHECK_ROW(of->what,
+              !cutter.held || (cut(&cutter, LINE) == KUMQUATSIEVE_OK && prints(&cutter, PRINTED)));
     kumquatsieve_free(&cutter);
 }
 
@@ -131,14 +121,10 @@ static void too_large(void) {
     image.bytes[LENGTHS_AT + 7] |= 0x40;
     write_file(SYSTEM, image.bytes, image.length);
     told_length = (off_t)length;
-    CHECK(
-        kumquatsieve_open(&cutter, SYSTEM, 0, &number) == KUMQUATSIEVE_MEMORY && number == UNSET &&
-        !cutter.held
-    );
-    CHECK(
-        kumquatsieve_open(&cutter, SYSTEM, KUMQUATSIEVE_COPY, &number) == KUMQUATSIEVE_MEMORY &&
-        number == UNSET && !cutter.held
-    );
+    CHECK(kumquatsieve_open(&cutter, SYSTEM, 0, &number) == KUMQUATSIEVE_MEMORY &&
+          number == UNSET && !cutter.held);
+    CHECK(kumquatsieve_open(&cutter, SYSTEM, KUMQUATSIEVE_COPY, &number) == KUMQUATSIEVE_MEMORY &&
+          number == UNSET && !cutter.held);
     told_length = 0;
     free(image.bytes);
 }
@@ -159,10 +145,8 @@ static void few_descriptors(void) {
     kumquatsieve_free(&cutter);
     few.rlim_cur = (rlim_t)next;
     CHECK(setrlimit(RLIMIT_NOFILE, &few) == 0);
-    CHECK(
-        kumquatsieve_open(&cutter, SYSTEM, 0, &number) == KUMQUATSIEVE_FILE && number == EMFILE &&
-        !cutter.held
-    );
+    CHECK(kumquatsieve_open(&cutter, SYSTEM, 0, &number) == KUMQUATSIEVE_FILE && number == EMFILE &&
+          !cutter.held);
     CHECK(setrlimit(RLIMIT_NOFILE, &most) == 0);
 }
 
@@ -176,10 +160,8 @@ static void stopped(void) {
         kumquatsieve_cutter cutter = KUMQUATSIEVE_EMPTY;
         const struct rlimit none = {0, 0};
         CHECK(setrlimit(RLIMIT_CORE, &none) == 0);
-        CHECK(
-            kumquatsieve_open(&cutter, SYSTEM, 0, NULL) == KUMQUATSIEVE_OK &&
-            truncate(SYSTEM, 0) == 0
-        );
+        CHECK(kumquatsieve_open(&cutter, SYSTEM, 0, NULL) == KUMQUATSIEVE_OK &&
+              truncate(SYSTEM, 0) == 0);
         cut(&cutter, LINE);
         _exit(0);
     }

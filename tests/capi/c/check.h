@@ -1,5 +1,5 @@
-/* What the C programs of tests/capi/run.py share. With HOW they open images by their paths, and HOW is
-   the argument `how`. Without it they load copies of the bytes. */
+/* What the C programs of tests/capi/run.py share. With HOW they open images by their paths, and HOW
+   is the argument `how`. Without it they load copies of the bytes. */
 #ifndef CHECK_H
 #define CHECK_H
 #include <kumquatsieve.h>
@@ -7,21 +7,21 @@
 #include <stdlib.h>
 #include <string.h>
 
-#define CHECK(holds)                                                  \
-    do {                                                              \
-        if (!(holds)) {                                               \
-            fprintf(stderr, "%s:%d: %s\n", __FILE__, __LINE__, #holds); \
-            exit(1);                                                  \
-        }                                                             \
+#define CHECK(holds)                                                                               \
+    do {                                                                                           \
+        if (!(holds)) {                                                                            \
+            fprintf(stderr, "%s:%d: %s\n", __FILE__, __LINE__, #holds);                            \
+            exit(1);                                                                               \
+        }                                                                                          \
     } while (0)
 
 /* The same of a row of a table, by its name. */
-#define CHECK_ROW(what, holds)                                                    \
-    do {                                                                          \
-        if (!(holds)) {                                                           \
-            fprintf(stderr, "%s:%d: %s: %s\n", __FILE__, __LINE__, what, #holds); \
-            exit(1);                                                              \
-        }                                                                         \
+#define CHECK_ROW(what, holds)                                                                     \
+    do {                                                                                           \
+        if (!(holds)) {                                                                            \
+            fprintf(stderr, "%s:%d: %s: %s\n", __FILE__, __LINE__, what, #holds);                  \
+            exit(1);                                                                               \
+        }                                                                                          \
     } while (0)
 
 /* How many rows a table has. */
@@ -88,15 +88,16 @@ static inline kumquatsieve_cutter loaded(file image) {
     return cutter;
 }
 
-static inline uint32_t set_texts(kumquatsieve_cutter *cutter, const char *node, const char *unk, const char *bos, const char *eos) {
-    return kumquatsieve_set_format(
-        cutter, BYTES(node), strlen(node), BYTES(unk), strlen(unk), BYTES(bos), strlen(bos), BYTES(eos), strlen(eos), NULL, NULL
-    );
+static inline uint32_t set_texts(kumquatsieve_cutter *cutter, const char *node, const char *unk,
+                                 const char *bos, const char *eos) {
+    return kumquatsieve_set_format(cutter, BYTES(node), strlen(node), BYTES(unk), strlen(unk),
+                                   BYTES(bos), strlen(bos), BYTES(eos), strlen(eos), NULL, NULL);
 }
 
 static inline int prints(kumquatsieve_cutter *cutter, const char *wanted) {
     const uint8_t *text = NULL;
     size_t length = 0;
-    return kumquatsieve_print(cutter, &text, &length) == KUMQUATSIEVE_OK && is_text(text, length, wanted);
+    return kumquatsieve_print(cutter, &text, &length) == KUMQUATSIEVE_OK &&
+           is_text(text, length, wanted);
 }
 #endif

@@ -1,5 +1,6 @@
-/* Dictionaries that are loaded once, and cutters that are made over them, also by several threads: dictionaries SYSTEM.img USER.img [FORKS]. The user's
-   dictionary has the word すもももも. With FORKS so many children are forked while the threads are at work, and make cutters too. */
+/* Dictionaries that are loaded once, and cutters that are made over them, also by several threads:
+   dictionaries SYSTEM.img USER.img [FORKS]. The user's dictionary has the word すもももも. With
+   FORKS so many children are forked while the threads are at work, and make cutters too. */
 #include "check.h"
 #include <pthread.h>
 #include <sys/wait.h>
@@ -9,7 +10,8 @@
 
 enum { THREADS = 4, ROUNDS = 50, USER_COUNT = 17, BEFORE = 77 };
 
-/* What is answered where images make no dictionary: the code, the number of the image at fault, and the fault's number. */
+/* What is answered where images make no dictionary: the code, the number of the image at fault, and
+ * the fault's number. */
 typedef struct refused_row {
     const char *what;
     kumquatsieve_image images[2];
@@ -37,20 +39,50 @@ static void refused(file system, file user) {
         {"an empty one", {{NULL, 0}}, 1, 0, KUMQUATSIEVE_TRUNCATED, 0, BEFORE},
         {"a user's first", {image_of(user)}, 1, 0, KUMQUATSIEVE_NOT_SYSTEM, 0, BEFORE},
         {"another layout", {image_of(bad)}, 1, 0, KUMQUATSIEVE_BAD_LAYOUT, 0, 9},
-        {"another layout, its digest skipped", {image_of(bad)}, 1, KUMQUATSIEVE_SKIP_DIGEST, KUMQUATSIEVE_BAD_LAYOUT, 0, 9},
-        {"a system's second", {image_of(system), image_of(system)}, 2, 0, KUMQUATSIEVE_NOT_USER, 1, 0},
-        {"another layout second", {image_of(system), image_of(bad)}, 2, 0, KUMQUATSIEVE_BAD_LAYOUT, 1, 9},
+        {"another layout, its digest skipped",
+         {image_of(bad)},
+         1,
+         KUMQUATSIEVE_SKIP_DIGEST,
+         KUMQUATSIEVE_BAD_LAYOUT,
+         0,
+         9},
+        {"a system's second",
+         {image_of(system), image_of(system)},
+         2,
+         0,
+         KUMQUATSIEVE_NOT_USER,
+         1,
+         0},
+        {"another layout second",
+         {image_of(system), image_of(bad)},
+         2,
+         0,
+         KUMQUATSIEVE_BAD_LAYOUT,
+         1,
+         9},
         {"another digest", {image_of(odd)}, 1, 0, KUMQUATSIEVE_DIGEST, 0, BEFORE},
-        {"another digest, which is skipped, second", {image_of(system), image_of(odd)}, 2, KUMQUATSIEVE_SKIP_DIGEST, KUMQUATSIEVE_NOT_USER, 1, 0},
+        {"another digest, which is skipped, second",
+         {image_of(system), image_of(odd)},
+         2,
+         KUMQUATSIEVE_SKIP_DIGEST,
+         KUMQUATSIEVE_NOT_USER,
+         1,
+         0},
     };
     for (size_t i = 0; i < ROWS(rows); i++) {
         kumquatsieve_dictionary *dictionary = NULL;
         size_t image = BEFORE;
         uint64_t number = BEFORE;
-        CHECK_ROW(rows[i].what, kumquatsieve_dictionary_make(&dictionary, rows[i].images, rows[i].count, rows[i].how, &image, &number) == rows[i].code);
+        CHECK_ROW(rows[i].what,
+                  kumquatsieve_dictionary_make(&dictionary, rows[i].images, rows[i].count,
+                                               rows[i].how, &image, &number) == rows[i].code);
         CHECK_ROW(rows[i].what, !dictionary && image == rows[i].image && number == rows[i].number);
-        CHECK_ROW(rows[i].what, kumquatsieve_dictionary_make(&dictionary, rows[i].images, rows[i].count, rows[i].how, NULL, NULL) == rows[i].code);
-        CHECK_ROW(rows[i].what, kumquatsieve_dictionary_make(NULL, rows[i].images, rows[i].count, rows[i].how, NULL, NULL) == rows[i].code);
+        CHECK_ROW(rows[i].what,
+                  kumquatsieve_dictionary_make(&dictionary, rows[i].images, rows[i].count,
+                                               rows[i].how, NULL, NULL) == rows[i].code);
+        CHECK_ROW(rows[i].what,
+                  kumquatsieve_dictionary_make(NULL, rows[i].images, rows[i].count, rows[i].how,
+                                               NULL, NULL) == rows[i].code);
     }
     const kumquatsieve_image image = image_of(system);
     CHECK(kumquatsieve_dictionary_make(NULL, NULL, 0, 0, NULL, NULL) == KUMQUATSIEVE_EMPTY_CUTTER);
@@ -76,7 +108,8 @@ static kumquatsieve_dictionary *made(file system, file user, unsigned how) {
     size_t image = BEFORE;
     uint64_t number = BEFORE;
     const kumquatsieve_image images[] = {image_of(system), image_of(user)};
-    CHECK(kumquatsieve_dictionary_make(&dictionary, images, user.bytes ? 2 : 1, how, &image, &number) == KUMQUATSIEVE_OK);
+    CHECK(kumquatsieve_dictionary_make(&dictionary, images, user.bytes ? 2 : 1, how, &image,
+                                       &number) == KUMQUATSIEVE_OK);
     CHECK(dictionary && image == BEFORE && number == BEFORE);
     return dictionary;
 }
@@ -88,30 +121,40 @@ static void skipped_digests(file system, file user) {
     uint64_t number = BEFORE;
     system.bytes[system.length - 1] ^= 1;
     user.bytes[user.length - 1] ^= 1;
-    CHECK(kumquatsieve_load_by(&cutter, system.bytes, system.length, false, &number) == KUMQUATSIEVE_DIGEST && number == BEFORE && !cutter.held);
-    CHECK(kumquatsieve_load_by(&cutter, system.bytes, system.length, true, &number) == KUMQUATSIEVE_OK && number == BEFORE && cutter.held);
+    CHECK(kumquatsieve_load_by(&cutter, system.bytes, system.length, false, &number) ==
+              KUMQUATSIEVE_DIGEST &&
+          number == BEFORE && !cutter.held);
+    CHECK(kumquatsieve_load_by(&cutter, system.bytes, system.length, true, &number) ==
+              KUMQUATSIEVE_OK &&
+          number == BEFORE && cutter.held);
     CHECK(kumquatsieve_load_by(&cutter, NULL, 0, true, NULL) == KUMQUATSIEVE_FULL_CUTTER);
     CHECK(cut(&cutter, LINE) == KUMQUATSIEVE_OK && prints(&cutter, PRINTED));
-    CHECK(kumquatsieve_add_user_by(&cutter, user.bytes, user.length, false, &number) == KUMQUATSIEVE_DIGEST);
-    CHECK(kumquatsieve_add_user_by(&cutter, user.bytes, user.length, true, NULL) == KUMQUATSIEVE_OK);
+    CHECK(kumquatsieve_add_user_by(&cutter, user.bytes, user.length, false, &number) ==
+          KUMQUATSIEVE_DIGEST);
+    CHECK(kumquatsieve_add_user_by(&cutter, user.bytes, user.length, true, NULL) ==
+          KUMQUATSIEVE_OK);
     CHECK(cut(&cutter, LINE) == KUMQUATSIEVE_OK && prints(&cutter, USERS));
     kumquatsieve_free(&cutter);
     system.bytes[system.length - 1] ^= 1;
     user.bytes[user.length - 1] ^= 1;
 }
 
-/* A cutter begins with the default format, and keeps the dictionaries that their holders gave back. */
+/* A cutter begins with the default format, and keeps the dictionaries that their holders gave back.
+ */
 static void cutters(file system, file user) {
     kumquatsieve_cutter first = KUMQUATSIEVE_EMPTY, second = KUMQUATSIEVE_EMPTY;
     kumquatsieve_dictionary *dictionary = made(system, user, 0);
     kumquatsieve_dictionary *alone = made(system, (file){NULL, 0, NULL}, 0);
     CHECK(kumquatsieve_cutter_over(&first, NULL) == KUMQUATSIEVE_EMPTY_CUTTER && !first.held);
-    CHECK(kumquatsieve_cutter_over(&first, dictionary) == KUMQUATSIEVE_OK && kumquatsieve_cutter_over(&first, dictionary) == KUMQUATSIEVE_FULL_CUTTER);
+    CHECK(kumquatsieve_cutter_over(&first, dictionary) == KUMQUATSIEVE_OK &&
+          kumquatsieve_cutter_over(&first, dictionary) == KUMQUATSIEVE_FULL_CUTTER);
     CHECK(set_texts(&first, "%m ", "%m ", "", "\\n") == KUMQUATSIEVE_OK);
     CHECK(kumquatsieve_add_user(&first, user.bytes, user.length, NULL) == KUMQUATSIEVE_SHARED);
-    CHECK(kumquatsieve_cutter_over(&second, dictionary) == KUMQUATSIEVE_OK && cut(&second, LINE) == KUMQUATSIEVE_OK && prints(&second, USERS));
+    CHECK(kumquatsieve_cutter_over(&second, dictionary) == KUMQUATSIEVE_OK &&
+          cut(&second, LINE) == KUMQUATSIEVE_OK && prints(&second, USERS));
     kumquatsieve_free(&second);
-    CHECK(kumquatsieve_cutter_over(&second, alone) == KUMQUATSIEVE_OK && cut(&second, LINE) == KUMQUATSIEVE_OK && prints(&second, PRINTED));
+    CHECK(kumquatsieve_cutter_over(&second, alone) == KUMQUATSIEVE_OK &&
+          cut(&second, LINE) == KUMQUATSIEVE_OK && prints(&second, PRINTED));
     const kumquatsieve_dictionary *held = kumquatsieve_dictionary_hold(dictionary);
     CHECK(held == dictionary && kumquatsieve_dictionary_hold(NULL) == NULL);
     kumquatsieve_dictionary_release(alone);
@@ -124,7 +167,8 @@ static void cutters(file system, file user) {
     kumquatsieve_free(&second);
 }
 
-/* As many users' dictionaries as are given are laid over the system's: the word is that of the first of them. */
+/* As many users' dictionaries as are given are laid over the system's: the word is that of the
+ * first of them. */
 static void many_users(file system, file user) {
     kumquatsieve_image images[1 + USER_COUNT] = {image_of(system)};
     kumquatsieve_dictionary *dictionary = NULL;
@@ -132,10 +176,12 @@ static void many_users(file system, file user) {
     kumquatsieve_word word;
     size_t count = 0;
     for (size_t i = 1; i <= USER_COUNT; i++) images[i] = image_of(user);
-    CHECK(kumquatsieve_dictionary_make(&dictionary, images, 1 + USER_COUNT, 0, NULL, NULL) == KUMQUATSIEVE_OK);
+    CHECK(kumquatsieve_dictionary_make(&dictionary, images, 1 + USER_COUNT, 0, NULL, NULL) ==
+          KUMQUATSIEVE_OK);
     CHECK(kumquatsieve_cutter_over(&cutter, dictionary) == KUMQUATSIEVE_OK);
     CHECK(cut(&cutter, LINE) == KUMQUATSIEVE_OK && prints(&cutter, USERS));
-    CHECK(kumquatsieve_words(&cutter, 0, &word, 1, &count) == KUMQUATSIEVE_OK && count == 1 && word.dictionary == 1);
+    CHECK(kumquatsieve_words(&cutter, 0, &word, 1, &count) == KUMQUATSIEVE_OK && count == 1 &&
+          word.dictionary == 1);
     kumquatsieve_free(&cutter);
     kumquatsieve_dictionary_release(dictionary);
 }
@@ -172,7 +218,8 @@ static void fork_often(const kumquatsieve_dictionary *dictionary, int forks) {
 static void threads(file system, file user, int forks) {
     kumquatsieve_dictionary *dictionary = made(system, user, KUMQUATSIEVE_SKIP_DIGEST);
     pthread_t all[THREADS];
-    for (int i = 0; i < THREADS; i++) CHECK(pthread_create(&all[i], NULL, cut_often, dictionary) == 0);
+    for (int i = 0; i < THREADS; i++)
+        CHECK(pthread_create(&all[i], NULL, cut_often, dictionary) == 0);
     fork_often(dictionary, forks);
     for (int i = 0; i < THREADS; i++) CHECK(pthread_join(all[i], NULL) == 0);
     kumquatsieve_dictionary_release(dictionary);
@@ -189,6 +236,7 @@ int main(int given, char **paths) {
     threads(system, user, forks);
     free(system.bytes);
     free(user.bytes);
-    printf("dictionaries: %d threads and %d children made cutters over one dictionary\n", THREADS, forks);
+    printf("dictionaries: %d threads and %d children made cutters over one dictionary\n", THREADS,
+           forks);
     return 0;
 }

@@ -1,5 +1,5 @@
-/* Prints how each image is refused, first as the system's and then as a user's for SYSTEM.img: images SYSTEM.img IMG... A line has the fault's
-   text, and its number where it has one. */
+/* Prints how each image is refused, first as the system's and then as a user's for SYSTEM.img:
+   images SYSTEM.img IMG... A line has the fault's text, and its number where it has one. */
 #include "check.h"
 
 static void print_fault(uint32_t code, uint64_t number) {

@@ -1,4 +1,5 @@
-/* Rows of lines that are cut, of their words, and of what is reported of them: lines SYSTEM.img, of the sample's sources. */
+/* Rows of lines that are cut, of their words, and of what is reported of them: lines SYSTEM.img, of
+ * the sample's sources. */
 #include "check.h"
 
 #define LONGEST 1048576
@@ -8,10 +9,8 @@ static const struct {
     size_t count;
     int64_t total;
 } SIZES[] = {
-    {"sumomo", "すもももも", 2, 152},
-    {"one word", "すもも", 1, 115},
-    {"an unknown word", "z", 1, 1015},
-    {"empty line", "", 0, 0},
+    {"sumomo", "すもももも", 2, 152},  {"one word", "すもも", 1, 115},
+    {"an unknown word", "z", 1, 1015}, {"empty line", "", 0, 0},
     {"only_blanks", "   ", 0, 0},
 };
 
@@ -20,13 +19,17 @@ static void sizes_and_costs(kumquatsieve_cutter *cutter) {
     int64_t total = 99;
     for (size_t i = 0; i < ROWS(SIZES); i++) {
         size_t length = strlen(SIZES[i].line);
-        CHECK_ROW(SIZES[i].what, kumquatsieve_cut(cutter, BYTES(SIZES[i].line), length, &count, &total, NULL) == KUMQUATSIEVE_OK);
+        CHECK_ROW(SIZES[i].what, kumquatsieve_cut(cutter, BYTES(SIZES[i].line), length, &count,
+                                                  &total, NULL) == KUMQUATSIEVE_OK);
         CHECK_ROW(SIZES[i].what, count == SIZES[i].count && total == SIZES[i].total);
         count = 9, total = 99;
-        CHECK_ROW(SIZES[i].what, kumquatsieve_cut_text(cutter, BYTES(SIZES[i].line), length, &count, &total, NULL) == KUMQUATSIEVE_OK);
+        CHECK_ROW(SIZES[i].what, kumquatsieve_cut_text(cutter, BYTES(SIZES[i].line), length, &count,
+                                                       &total, NULL) == KUMQUATSIEVE_OK);
         CHECK_ROW(SIZES[i].what, count == SIZES[i].count && total == SIZES[i].total);
     }
-    CHECK(kumquatsieve_cut_text(cutter, BYTES("も\nも"), strlen("も\nも"), &count, &total, NULL) == KUMQUATSIEVE_OK && count == 3 && total == 1069);
+    CHECK(kumquatsieve_cut_text(cutter, BYTES("も\nも"), strlen("も\nも"), &count, &total, NULL) ==
+              KUMQUATSIEVE_OK &&
+          count == 3 && total == 1069);
 }
 
 static const struct {
@@ -37,15 +40,19 @@ static const struct {
     {"only_blanks", "   ", "EOS\n"},
     {"blanks between words", " すもも  もも ", PRINTED},
     {"an unknown word", "x", "x\t未知\nEOS\n"},
-    {"an ideographic space is a character", "\u3000すもも\u3000", "\u3000\t未知\nすもも\t名詞,すもも\n\u3000\t未知\nEOS\n"},
+    {"an ideographic space is a character", "\u3000すもも\u3000",
+     "\u3000\t未知\nすもも\t名詞,すもも\n\u3000\t未知\nEOS\n"},
     {"tokyo_tie", "東京都", "東京\t未知\n都\t未知\nEOS\n"},
 };
 
 static void printed_lines(kumquatsieve_cutter *cutter) {
     for (size_t i = 0; i < ROWS(PRINTED_LINES); i++) {
         const char *line = PRINTED_LINES[i].line;
-        CHECK_ROW(PRINTED_LINES[i].what, cut(cutter, line) == KUMQUATSIEVE_OK && prints(cutter, PRINTED_LINES[i].output));
-        CHECK_ROW(PRINTED_LINES[i].what, kumquatsieve_cut_text(cutter, BYTES(line), strlen(line), NULL, NULL, NULL) == KUMQUATSIEVE_OK);
+        CHECK_ROW(PRINTED_LINES[i].what,
+                  cut(cutter, line) == KUMQUATSIEVE_OK && prints(cutter, PRINTED_LINES[i].output));
+        CHECK_ROW(PRINTED_LINES[i].what,
+                  kumquatsieve_cut_text(cutter, BYTES(line), strlen(line), NULL, NULL, NULL) ==
+                      KUMQUATSIEVE_OK);
         CHECK_ROW(PRINTED_LINES[i].what, prints(cutter, PRINTED_LINES[i].output));
     }
 }
@@ -60,10 +67,12 @@ static const struct {
 } REFUSED[] = {
     {"a line feed", BYTES("も\nも"), 7, KUMQUATSIEVE_LINE_FEED, KUMQUATSIEVE_OK},
     {"a line feed alone", BYTES("\n"), 1, KUMQUATSIEVE_LINE_FEED, KUMQUATSIEVE_OK},
-    {"a line feed, then no text", BYTES("ab\n\xff"), 4, KUMQUATSIEVE_LINE_FEED, KUMQUATSIEVE_NOT_UTF8},
+    {"a line feed, then no text", BYTES("ab\n\xff"), 4, KUMQUATSIEVE_LINE_FEED,
+     KUMQUATSIEVE_NOT_UTF8},
     {"no text", BYTES("a\xff"), 2, KUMQUATSIEVE_NOT_UTF8, KUMQUATSIEVE_NOT_UTF8},
     {"too long", letters, sizeof letters, KUMQUATSIEVE_TOO_LONG, KUMQUATSIEVE_TOO_LONG},
-    {"too long, no text", bad_bytes, sizeof bad_bytes, KUMQUATSIEVE_TOO_LONG, KUMQUATSIEVE_TOO_LONG},
+    {"too long, no text", bad_bytes, sizeof bad_bytes, KUMQUATSIEVE_TOO_LONG,
+     KUMQUATSIEVE_TOO_LONG},
 };
 
 static void refused_texts(kumquatsieve_cutter *cutter) {
@@ -71,32 +80,69 @@ static void refused_texts(kumquatsieve_cutter *cutter) {
     memset(bad_bytes, 0xff, sizeof bad_bytes);
     CHECK(cut(cutter, "もも") == KUMQUATSIEVE_OK);
     for (size_t i = 0; i < ROWS(REFUSED); i++) {
-        CHECK_ROW(REFUSED[i].what, kumquatsieve_cut(cutter, REFUSED[i].bytes, REFUSED[i].length, NULL, NULL, NULL) == REFUSED[i].as_line);
+        CHECK_ROW(REFUSED[i].what, kumquatsieve_cut(cutter, REFUSED[i].bytes, REFUSED[i].length,
+                                                    NULL, NULL, NULL) == REFUSED[i].as_line);
         if (REFUSED[i].as_text != KUMQUATSIEVE_OK) {
-            CHECK_ROW(REFUSED[i].what, kumquatsieve_cut_text(cutter, REFUSED[i].bytes, REFUSED[i].length, NULL, NULL, NULL) == REFUSED[i].as_text);
+            CHECK_ROW(REFUSED[i].what,
+                      kumquatsieve_cut_text(cutter, REFUSED[i].bytes, REFUSED[i].length, NULL, NULL,
+                                            NULL) == REFUSED[i].as_text);
         }
         CHECK_ROW(REFUSED[i].what, prints(cutter, MOMO));
     }
     CHECK(kumquatsieve_cut(cutter, letters, LONGEST, NULL, NULL, NULL) == KUMQUATSIEVE_OK);
 }
 
-/* What stands in a buffer before a call; the words of ` すもも z`: that of the lexicon's first line, and that of ALPHA's entry: after the
-   lexicon's three come those of DEFAULT and SPACE. BOS before the first costs 10, and its connection with the second 7. */
+/* What stands in a buffer before a call; the words of ` すもも z`: that of the lexicon's first
+   line, and that of ALPHA's entry: after the lexicon's three come those of DEFAULT and SPACE. BOS
+   before the first costs 10, and its connection with the second 7. */
 static const kumquatsieve_word BLANK = {
-    .place = 9, .start = 9, .end = 9, .dictionary = 9, .token = 9, .left = 9, .right = 9, .cost = 9, .known = 9, .category = 9, .total = 9, .feature_length = 9,
+    .place = 9,
+    .start = 9,
+    .end = 9,
+    .dictionary = 9,
+    .token = 9,
+    .left = 9,
+    .right = 9,
+    .cost = 9,
+    .known = 9,
+    .category = 9,
+    .total = 9,
+    .feature_length = 9,
 };
 static const kumquatsieve_word SUMOMO = {
-    .place = 0, .start = 1, .end = 10, .token = 0, .left = 1, .right = 1, .cost = 100, .known = 1, .category = 5, .total = 110, .feature_length = 16,
+    .place = 0,
+    .start = 1,
+    .end = 10,
+    .token = 0,
+    .left = 1,
+    .right = 1,
+    .cost = 100,
+    .known = 1,
+    .category = 5,
+    .total = 110,
+    .feature_length = 16,
 };
 static const kumquatsieve_word Z = {
-    .place = 10, .start = 11, .end = 12, .token = 5, .left = 1, .right = 1, .cost = 1000, .known = 0, .category = 2, .total = 1117, .feature_length = 6,
+    .place = 10,
+    .start = 11,
+    .end = 12,
+    .token = 5,
+    .left = 1,
+    .right = 1,
+    .cost = 1000,
+    .known = 0,
+    .category = 2,
+    .total = 1117,
+    .feature_length = 6,
 };
 
 static int is_word(const kumquatsieve_word *word, const kumquatsieve_word *wanted) {
-    return word->place == wanted->place && word->start == wanted->start && word->end == wanted->end && word->dictionary == wanted->dictionary
-        && word->token == wanted->token && word->left == wanted->left && word->right == wanted->right && word->cost == wanted->cost
-        && word->known == wanted->known && word->category == wanted->category && word->total == wanted->total
-        && word->feature_length == wanted->feature_length;
+    return word->place == wanted->place && word->start == wanted->start &&
+           word->end == wanted->end && word->dictionary == wanted->dictionary &&
+           word->token == wanted->token && word->left == wanted->left &&
+           word->right == wanted->right && word->cost == wanted->cost &&
+           word->known == wanted->known && word->category == wanted->category &&
+           word->total == wanted->total && word->feature_length == wanted->feature_length;
 }
 
 static const struct {
@@ -118,7 +164,9 @@ static void words_from_a_number_on(kumquatsieve_cutter *cutter) {
     for (size_t i = 0; i < ROWS(WORDS); i++) {
         kumquatsieve_word words[3] = {BLANK, BLANK, BLANK};
         size_t count = 99;
-        CHECK_ROW(WORDS[i].what, kumquatsieve_words(cutter, WORDS[i].first, words, WORDS[i].room, &count) == KUMQUATSIEVE_OK && count == 2);
+        CHECK_ROW(WORDS[i].what, kumquatsieve_words(cutter, WORDS[i].first, words, WORDS[i].room,
+                                                    &count) == KUMQUATSIEVE_OK &&
+                                     count == 2);
         for (int k = 0; k < 3; k++) CHECK_ROW(WORDS[i].what, is_word(&words[k], WORDS[i].after[k]));
     }
 }
@@ -132,12 +180,15 @@ static void features(kumquatsieve_cutter *cutter) {
     const uint8_t *feature = NULL;
     size_t length = 0;
     for (size_t i = 0; i < ROWS(FEATURES); i++) {
-        CHECK_ROW(FEATURES[i].feature, kumquatsieve_feature(cutter, FEATURES[i].number, &feature, &length) == KUMQUATSIEVE_OK);
+        CHECK_ROW(FEATURES[i].feature, kumquatsieve_feature(cutter, FEATURES[i].number, &feature,
+                                                            &length) == KUMQUATSIEVE_OK);
         CHECK_ROW(FEATURES[i].feature, is_text(feature, length, FEATURES[i].feature));
     }
     CHECK(kumquatsieve_feature(cutter, 2, &feature, &length) == KUMQUATSIEVE_NO_WORD);
-    CHECK(kumquatsieve_features(cutter, &feature, &length) == KUMQUATSIEVE_OK && is_text(feature, length, "名詞,すもも未知"));
-    CHECK(cut(cutter, "   ") == KUMQUATSIEVE_OK && kumquatsieve_features(cutter, &feature, &length) == KUMQUATSIEVE_OK && length == 0);
+    CHECK(kumquatsieve_features(cutter, &feature, &length) == KUMQUATSIEVE_OK &&
+          is_text(feature, length, "名詞,すもも未知"));
+    CHECK(cut(cutter, "   ") == KUMQUATSIEVE_OK &&
+          kumquatsieve_features(cutter, &feature, &length) == KUMQUATSIEVE_OK && length == 0);
 }
 
 typedef enum asked { PATH, FEATURE, FAULT } asked;
@@ -171,7 +222,8 @@ static const struct {
     {"no fault's code", FAULT, 78, 0, KUMQUATSIEVE_OK, 0, ""},
 };
 
-static uint32_t copied(kumquatsieve_cutter *cutter, asked asked, uint32_t number, uint8_t *out, size_t room, size_t *needed) {
+static uint32_t copied(kumquatsieve_cutter *cutter, asked asked, uint32_t number, uint8_t *out,
+                       size_t room, size_t *needed) {
     switch (asked) {
     case PATH: return kumquatsieve_copy_print(cutter, out, room, needed);
     case FEATURE: return kumquatsieve_copy_feature(cutter, number, out, room, needed);
@@ -185,8 +237,10 @@ static void buffers(kumquatsieve_cutter *cutter) {
         uint8_t out[32];
         size_t needed = 99, written = strlen(BUFFERS[i].written);
         memset(out, '#', sizeof out);
-        CHECK_ROW(BUFFERS[i].what, copied(cutter, BUFFERS[i].asked, BUFFERS[i].number, out, BUFFERS[i].room, &needed) == BUFFERS[i].code);
-        CHECK_ROW(BUFFERS[i].what, needed == BUFFERS[i].needed && memcmp(out, BUFFERS[i].written, written) == 0);
+        CHECK_ROW(BUFFERS[i].what, copied(cutter, BUFFERS[i].asked, BUFFERS[i].number, out,
+                                          BUFFERS[i].room, &needed) == BUFFERS[i].code);
+        CHECK_ROW(BUFFERS[i].what,
+                  needed == BUFFERS[i].needed && memcmp(out, BUFFERS[i].written, written) == 0);
         for (size_t k = written; k < sizeof out; k++) CHECK_ROW(BUFFERS[i].what, out[k] == '#');
     }
 }
@@ -195,17 +249,22 @@ static void nothing_cut(kumquatsieve_cutter *cutter) {
     kumquatsieve_word word = BLANK;
     uint8_t out[32];
     size_t count = 0;
-    CHECK(kumquatsieve_words(cutter, 0, &word, 1, &count) == KUMQUATSIEVE_NOTHING_CUT && is_word(&word, &BLANK));
+    CHECK(kumquatsieve_words(cutter, 0, &word, 1, &count) == KUMQUATSIEVE_NOTHING_CUT &&
+          is_word(&word, &BLANK));
     CHECK(kumquatsieve_copy_print(cutter, out, sizeof out, &count) == KUMQUATSIEVE_NOTHING_CUT);
-    CHECK(kumquatsieve_copy_feature(cutter, 0, out, sizeof out, &count) == KUMQUATSIEVE_NOTHING_CUT);
+    CHECK(kumquatsieve_copy_feature(cutter, 0, out, sizeof out, &count) ==
+          KUMQUATSIEVE_NOTHING_CUT);
     CHECK(cut(cutter, "すもも") == KUMQUATSIEVE_OK);
     CHECK(kumquatsieve_copy_feature(cutter, 1, out, sizeof out, &count) == KUMQUATSIEVE_NO_WORD);
-    CHECK(kumquatsieve_copy_print(cutter, out, sizeof out, &count) == KUMQUATSIEVE_OK && count == 31);
+    CHECK(kumquatsieve_copy_print(cutter, out, sizeof out, &count) == KUMQUATSIEVE_OK &&
+          count == 31);
 }
 
 static void line_feed_in_a_text(kumquatsieve_cutter *cutter) {
     CHECK(set_texts(cutter, "%m|", "%m|", "", "\\n") == KUMQUATSIEVE_OK);
-    CHECK(kumquatsieve_cut_text(cutter, BYTES("も\nも"), strlen("も\nも"), NULL, NULL, NULL) == KUMQUATSIEVE_OK && prints(cutter, "も|\n|も|\n"));
+    CHECK(kumquatsieve_cut_text(cutter, BYTES("も\nも"), strlen("も\nも"), NULL, NULL, NULL) ==
+              KUMQUATSIEVE_OK &&
+          prints(cutter, "も|\n|も|\n"));
 }
 
 int main(int given, char **paths) {

@@ -10,18 +10,16 @@
 enum { OFTEN = 1000 };
 
 static const char SYSTEM[] = "system.img", USER[] = "user.img", OTHER[] = "other.img";
-static const char *const PATHS[] = {
-    "system.img", "./system.img", "link.img", "hard.img", "folder/../system.img"};
+static const char *const PATHS[] = {"system.img", "./system.img", "link.img", "hard.img",
+                                    "folder/../system.img"};
 static file sys, user;
 static size_t maps_before, files_before;
 
 static kumquatsieve_cutter opened(const char *path, unsigned how) {
     kumquatsieve_cutter cutter = kumquatsieve_empty();
     uint64_t number = 0;
-    CHECK_ROW(
-        path, kumquatsieve_open(&cutter, path, how, &number) == KUMQUATSIEVE_OK && number == 0 &&
-                  cutter.held
-    );
+    CHECK_ROW(path, kumquatsieve_open(&cutter, path, how, &number) == KUMQUATSIEVE_OK &&
+                        number == 0 && cutter.held);
     return cutter;
 }
 
@@ -37,10 +35,8 @@ static void check_nothing_left(const char *what) {
 /* A file that is opened by several paths is mapped once, until the last cutter is freed. */
 static void one_file(void) {
     kumquatsieve_cutter all[ROWS(PATHS)], copy;
-    CHECK(
-        symlink(SYSTEM, "link.img") == 0 && link(SYSTEM, "hard.img") == 0 &&
-        mkdir("folder", 0700) == 0
-    );
+    CHECK(symlink(SYSTEM, "link.img") == 0 && link(SYSTEM, "hard.img") == 0 &&
+          mkdir("folder", 0700) == 0);
     for (size_t i = 0; i < ROWS(PATHS); i++) {
         all[i] = opened(PATHS[i], 0);
         CHECK_ROW(PATHS[i], mappings_of(SYSTEM) == 1 && open_files() == files_before);
@@ -78,25 +74,17 @@ static void shared(void) {
                         third = kumquatsieve_empty();
     CHECK(kumquatsieve_open_user(&first, USER, 0, NULL) == KUMQUATSIEVE_OK && cuts(&first, USERS));
     CHECK(mappings_of(SYSTEM) == 1 && mappings_of(USER) == 1);
-    CHECK(
-        kumquatsieve_share(&second, &first) == KUMQUATSIEVE_OK &&
-        kumquatsieve_share(&third, &second) == KUMQUATSIEVE_OK
-    );
-    CHECK(
-        kumquatsieve_share(&third, &second) == KUMQUATSIEVE_FULL_CUTTER &&
-        third.mapped == second.mapped
-    );
-    CHECK(
-        kumquatsieve_open_user(&second, OTHER, 0, NULL) == KUMQUATSIEVE_SHARED &&
-        mappings_of(OTHER) == 0
-    );
+    CHECK(kumquatsieve_share(&second, &first) == KUMQUATSIEVE_OK &&
+          kumquatsieve_share(&third, &second) == KUMQUATSIEVE_OK);
+    CHECK(kumquatsieve_share(&third, &second) == KUMQUATSIEVE_FULL_CUTTER &&
+          third.mapped == second.mapped);
+    CHECK(kumquatsieve_open_user(&second, OTHER, 0, NULL) == KUMQUATSIEVE_SHARED &&
+          mappings_of(OTHER) == 0);
     kumquatsieve_free(&first);
     kumquatsieve_free(&third);
     CHECK(cuts(&second, USERS) && mappings_of(SYSTEM) == 1 && mappings_of(USER) == 1);
-    CHECK(
-        kumquatsieve_open_user(&second, OTHER, 0, NULL) == KUMQUATSIEVE_OK &&
-        mappings_of(OTHER) == 1
-    );
+    CHECK(kumquatsieve_open_user(&second, OTHER, 0, NULL) == KUMQUATSIEVE_OK &&
+          mappings_of(OTHER) == 1);
     CHECK(kumquatsieve_share(&first, &second) == KUMQUATSIEVE_OK);
     kumquatsieve_free(&second);
     CHECK(cuts(&first, USERS));
@@ -108,26 +96,19 @@ static void shared(void) {
    a file stands twice. */
 static void mixed(void) {
     kumquatsieve_cutter cutter = opened(SYSTEM, 0);
-    CHECK(
-        kumquatsieve_open_user(&cutter, USER, KUMQUATSIEVE_COPY, NULL) == KUMQUATSIEVE_OK &&
-        mappings_of(USER) == 0
-    );
+    CHECK(kumquatsieve_open_user(&cutter, USER, KUMQUATSIEVE_COPY, NULL) == KUMQUATSIEVE_OK &&
+          mappings_of(USER) == 0);
     CHECK(kumquatsieve_add_user(&cutter, user.bytes, user.length, NULL) == KUMQUATSIEVE_OK);
-    CHECK(
-        kumquatsieve_open_user(&cutter, USER, 0, NULL) == KUMQUATSIEVE_OK && mappings_of(USER) == 1
-    );
-    CHECK(
-        kumquatsieve_open_user(&cutter, USER, 0, NULL) == KUMQUATSIEVE_OK && mappings_of(USER) == 1
-    );
+    CHECK(kumquatsieve_open_user(&cutter, USER, 0, NULL) == KUMQUATSIEVE_OK &&
+          mappings_of(USER) == 1);
+    CHECK(kumquatsieve_open_user(&cutter, USER, 0, NULL) == KUMQUATSIEVE_OK &&
+          mappings_of(USER) == 1);
     CHECK(cuts(&cutter, USERS));
     kumquatsieve_free(&cutter);
-    CHECK(
-        kumquatsieve_load(&cutter, sys.bytes, sys.length, NULL) == KUMQUATSIEVE_OK && !cutter.mapped
-    );
-    CHECK(
-        kumquatsieve_open_user(&cutter, USER, 0, NULL) == KUMQUATSIEVE_OK &&
-        mappings_of(USER) == 1 && cuts(&cutter, USERS)
-    );
+    CHECK(kumquatsieve_load(&cutter, sys.bytes, sys.length, NULL) == KUMQUATSIEVE_OK &&
+          !cutter.mapped);
+    CHECK(kumquatsieve_open_user(&cutter, USER, 0, NULL) == KUMQUATSIEVE_OK &&
+          mappings_of(USER) == 1 && cuts(&cutter, USERS));
     kumquatsieve_free(&cutter);
     check_nothing_left("mixed");
 }
@@ -137,10 +118,8 @@ static void dictionaries(void) {
     kumquatsieve_dictionary *dictionary = NULL;
     kumquatsieve_cutter cutter = opened(SYSTEM, 0), over = kumquatsieve_empty();
     CHECK(kumquatsieve_open_user(&cutter, USER, 0, NULL) == KUMQUATSIEVE_OK);
-    CHECK(
-        kumquatsieve_dictionary_of(&dictionary, &cutter) == KUMQUATSIEVE_OK && !cutter.mapped &&
-        mappings_of(SYSTEM) == 1
-    );
+    CHECK(kumquatsieve_dictionary_of(&dictionary, &cutter) == KUMQUATSIEVE_OK && !cutter.mapped &&
+          mappings_of(SYSTEM) == 1);
     CHECK(kumquatsieve_cutter_over(&over, dictionary) == KUMQUATSIEVE_OK && over.mapped);
     CHECK(kumquatsieve_cutter_over(&over, dictionary) == KUMQUATSIEVE_FULL_CUTTER);
     CHECK(kumquatsieve_dictionary_hold(dictionary) == dictionary);
@@ -203,10 +182,8 @@ static void touched(bool is_state_alone) {
 static void often(void) {
     for (int i = 0; i < OFTEN; i++) {
         kumquatsieve_cutter cutter = opened(SYSTEM, i % 5 == 0 ? KUMQUATSIEVE_COPY : 0);
-        CHECK(
-            kumquatsieve_open_user(&cutter, USER, i % 3 == 0 ? KUMQUATSIEVE_COPY : 0, NULL) ==
-            KUMQUATSIEVE_OK
-        );
+        CHECK(kumquatsieve_open_user(&cutter, USER, i % 3 == 0 ? KUMQUATSIEVE_COPY : 0, NULL) ==
+              KUMQUATSIEVE_OK);
         kumquatsieve_free(&cutter);
     }
     check_nothing_left("often");
@@ -235,9 +212,7 @@ int main(int given, char **paths) {
     often();
     free(sys.bytes);
     free(user.bytes);
-    printf(
-        "mapped: a file is mapped once, until its last cutter is freed; %d opens left nothing\n",
-        OFTEN
-    );
+    printf("mapped: a file is mapped once, until its last cutter is freed; %d opens left nothing\n",
+           OFTEN);
     return 0;
 }

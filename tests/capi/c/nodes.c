@@ -1,11 +1,13 @@
-/* Rows of the lattices of lines, with all of their nodes: nodes SYSTEM.img BLANK.img. The system's sources are the sample's: a connection from BOS costs
-   10, one between words 7 and one to EOS 5. The user's dictionary has the word `もも `, which ends with a blank and costs 50: where it is the last one, no
-   other chain ends as late, so the words without the blank are dead ends. */
+/* Rows of the lattices of lines, with all of their nodes: nodes SYSTEM.img BLANK.img. The system's
+   sources are the sample's: a connection from BOS costs 10, one between words 7 and one to EOS 5.
+   The user's dictionary has the word `もも `, which ends with a blank and costs 50: where it is the
+   last one, no other chain ends as late, so the words without the blank are dead ends. */
 #include "check.h"
 
 enum { MOST_NODES = 32, MOST_WORDS = 16, BOS_COSTS = 10, CONNECTION_COSTS = 7, EOS_COSTS = 5 };
 
-/* A node: where its word stands, its entry, its word cost and its feature; its total, and the least cost of the paths that have it. */
+/* A node: where its word stands, its entry, its word cost and its feature; its total, and the least
+ * cost of the paths that have it. */
 typedef struct node_row {
     size_t place, start, end;
     const char *feature;
@@ -36,54 +38,78 @@ static const lattice_row LATTICES[] = {
     {"blanks alone", "   ", 0, 0, {{0}}},
     {"one word", "すもも", 115, 1, {{0, 0, 9, SUMOMO, 110, 115, 1, 1}}},
     /* 10 + 100, 110 + 7 + 20, 110 + 7 + 30, 137 + 7 + 20; 147 + 5 and 164 + 5 */
-    {"sumomo", "すもももも", 152, 4, {
-        {0, 0, 9, SUMOMO, 110, 152, 1, 1},
-        {9, 9, 12, MO, 137, 169, 1, 0},
-        {9, 9, 15, MOMO_ENTRY, 147, 152, 1, 1},
-        {12, 12, 15, MO, 164, 169, 1, 0},
-    }},
+    {"sumomo",
+     "すもももも",
+     152,
+     4,
+     {
+         {0, 0, 9, SUMOMO, 110, 152, 1, 1},
+         {9, 9, 12, MO, 137, 169, 1, 0},
+         {9, 9, 15, MOMO_ENTRY, 147, 152, 1, 1},
+         {12, 12, 15, MO, 164, 169, 1, 0},
+     }},
     /* The blank stands before the first word, and that at the end is no word's. */
     {"blanks", " も ", 35, 1, {{0, 1, 4, MO, 30, 35, 1, 1}}},
-    /* 10 + 1000, 1010 + 7 + 1000, 2017 + 5; of paths of one cost that is best whose last other word has the later place. */
-    {"tokyo_tie", "東京都", 2022, 5, {
-        {0, 0, 3, KANJI, 1010, 2022, 1, 0},
-        {0, 0, 6, KANJI, 1010, 2022, 1, 1},
-        {3, 3, 6, KANJI, 2017, 3029, 1, 0},
-        {3, 3, 9, KANJI, 2017, 2022, 1, 0},
-        {6, 6, 9, KANJI, 2017, 2022, 1, 1},
-    }},
+    /* 10 + 1000, 1010 + 7 + 1000, 2017 + 5; of paths of one cost that is best whose last other word
+       has the later place. */
+    {"tokyo_tie",
+     "東京都",
+     2022,
+     5,
+     {
+         {0, 0, 3, KANJI, 1010, 2022, 1, 0},
+         {0, 0, 6, KANJI, 1010, 2022, 1, 1},
+         {3, 3, 6, KANJI, 2017, 3029, 1, 0},
+         {3, 3, 9, KANJI, 2017, 2022, 1, 0},
+         {6, 6, 9, KANJI, 2017, 2022, 1, 1},
+     }},
     /* 10 + 20, 30 + 7 + 1000 */
-    {"an unknown word behind a known one", "も zz", 1042, 2, {
-        {0, 0, 3, MO, 30, 1042, 1, 1},
-        {3, 4, 6, ALPHA, 1037, 1042, 1, 1},
-    }},
-    {"dead ends", "もも ", 65, 4, {
-        {0, 0, 3, MO, 30, 0, 0, 0},
-        {0, 0, 6, MOMO_ENTRY, 40, 0, 0, 0},
-        {0, 0, 7, MOMO_BLANK, 60, 65, 1, 1},
-        {3, 3, 6, MO, 57, 0, 0, 0},
-    }},
+    {"an unknown word behind a known one",
+     "も zz",
+     1042,
+     2,
+     {
+         {0, 0, 3, MO, 30, 1042, 1, 1},
+         {3, 4, 6, ALPHA, 1037, 1042, 1, 1},
+     }},
+    {"dead ends",
+     "もも ",
+     65,
+     4,
+     {
+         {0, 0, 3, MO, 30, 0, 0, 0},
+         {0, 0, 6, MOMO_ENTRY, 40, 0, 0, 0},
+         {0, 0, 7, MOMO_BLANK, 60, 65, 1, 1},
+         {3, 3, 6, MO, 57, 0, 0, 0},
+     }},
 };
 
 static int is_node(const kumquatsieve_node *node, const node_row *wanted) {
     const kumquatsieve_word *word = &node->word;
-    return word->place == wanted->place && word->start == wanted->start && word->end == wanted->end && word->dictionary == wanted->dictionary
-        && word->token == wanted->token && word->left == 1 && word->right == 1 && word->cost == wanted->cost && word->known == wanted->known
-        && word->category == wanted->category && word->total == wanted->total && word->feature_length == strlen(wanted->feature)
-        && node->through == wanted->through && node->reaches_end == wanted->reaches_end && node->on_best == wanted->on_best;
+    return word->place == wanted->place && word->start == wanted->start &&
+           word->end == wanted->end && word->dictionary == wanted->dictionary &&
+           word->token == wanted->token && word->left == 1 && word->right == 1 &&
+           word->cost == wanted->cost && word->known == wanted->known &&
+           word->category == wanted->category && word->total == wanted->total &&
+           word->feature_length == strlen(wanted->feature) && node->through == wanted->through &&
+           node->reaches_end == wanted->reaches_end && node->on_best == wanted->on_best;
 }
 
-static int has_feature(kumquatsieve_cutter *cutter, const kumquatsieve_word *word, const char *wanted) {
+static int has_feature(kumquatsieve_cutter *cutter, const kumquatsieve_word *word,
+                       const char *wanted) {
     const uint8_t *feature = NULL;
     size_t length = 99;
-    return kumquatsieve_entry_feature(cutter, word->known, word->dictionary, word->token, &feature, &length) == KUMQUATSIEVE_OK
-        && is_text(feature, length, wanted);
+    return kumquatsieve_entry_feature(cutter, word->known, word->dictionary, word->token, &feature,
+                                      &length) == KUMQUATSIEVE_OK &&
+           is_text(feature, length, wanted);
 }
 
-static size_t cut_nodes(kumquatsieve_cutter *cutter, const char *line, kumquatsieve_node *nodes, int64_t *best) {
+static size_t cut_nodes(kumquatsieve_cutter *cutter, const char *line, kumquatsieve_node *nodes,
+                        int64_t *best) {
     size_t count = 0;
     CHECK(kumquatsieve_cut(cutter, BYTES(line), strlen(line), NULL, best, NULL) == KUMQUATSIEVE_OK);
-    CHECK(kumquatsieve_nodes(cutter, 0, nodes, MOST_NODES, &count) == KUMQUATSIEVE_OK && count <= MOST_NODES);
+    CHECK(kumquatsieve_nodes(cutter, 0, nodes, MOST_NODES, &count) == KUMQUATSIEVE_OK &&
+          count <= MOST_NODES);
     return count;
 }
 
@@ -92,7 +118,8 @@ static void lattices(kumquatsieve_cutter *cutter) {
         const lattice_row *row = &LATTICES[i];
         kumquatsieve_node nodes[MOST_NODES];
         int64_t best = 99;
-        CHECK_ROW(row->what, cut_nodes(cutter, row->line, nodes, &best) == row->count && best == row->best);
+        CHECK_ROW(row->what,
+                  cut_nodes(cutter, row->line, nodes, &best) == row->count && best == row->best);
         for (size_t k = 0; k < row->count; k++) {
             CHECK_ROW(row->what, is_node(&nodes[k], &row->nodes[k]));
             CHECK_ROW(row->what, has_feature(cutter, &nodes[k].word, row->nodes[k].feature));
@@ -100,13 +127,20 @@ static void lattices(kumquatsieve_cutter *cutter) {
     }
 }
 
-/* The nodes from a number on, as far as there is room; what lies after them in the buffer is as before. */
+/* The nodes from a number on, as far as there is room; what lies after them in the buffer is as
+ * before. */
 static const struct {
     const char *what;
     size_t first, room, written;
 } PARTS[] = {
-    {"all, with room for more", 0, 6, 4}, {"all", 0, 4, 4}, {"room for two", 0, 2, 2}, {"no room", 0, 0, 0},
-    {"from the second on", 1, 6, 3}, {"the last", 3, 6, 1}, {"none behind the last", 4, 6, 0}, {"far behind the last", SIZE_MAX, 6, 0},
+    {"all, with room for more", 0, 6, 4},
+    {"all", 0, 4, 4},
+    {"room for two", 0, 2, 2},
+    {"no room", 0, 0, 0},
+    {"from the second on", 1, 6, 3},
+    {"the last", 3, 6, 1},
+    {"none behind the last", 4, 6, 0},
+    {"far behind the last", SIZE_MAX, 6, 0},
 };
 
 static void nodes_from_a_number_on(kumquatsieve_cutter *cutter) {
@@ -116,10 +150,14 @@ static void nodes_from_a_number_on(kumquatsieve_cutter *cutter) {
         kumquatsieve_node nodes[6];
         size_t count = 99;
         memset(nodes, 0xaa, sizeof nodes);
-        CHECK_ROW(PARTS[i].what, kumquatsieve_nodes(cutter, PARTS[i].first, nodes, PARTS[i].room, &count) == KUMQUATSIEVE_OK && count == 4);
-        for (size_t k = 0; k < PARTS[i].written; k++) CHECK_ROW(PARTS[i].what, is_node(&nodes[k], &wanted[PARTS[i].first + k]));
+        CHECK_ROW(PARTS[i].what, kumquatsieve_nodes(cutter, PARTS[i].first, nodes, PARTS[i].room,
+                                                    &count) == KUMQUATSIEVE_OK &&
+                                     count == 4);
+        for (size_t k = 0; k < PARTS[i].written; k++)
+            CHECK_ROW(PARTS[i].what, is_node(&nodes[k], &wanted[PARTS[i].first + k]));
         const uint8_t *bytes = (const uint8_t *)nodes;
-        for (size_t k = PARTS[i].written * sizeof *nodes; k < sizeof nodes; k++) CHECK_ROW(PARTS[i].what, bytes[k] == 0xaa);
+        for (size_t k = PARTS[i].written * sizeof *nodes; k < sizeof nodes; k++)
+            CHECK_ROW(PARTS[i].what, bytes[k] == 0xaa);
     }
 }
 
@@ -130,15 +168,24 @@ static const struct {
     uint32_t token;
     const char *feature;
 } ENTRIES[] = {
-    {"the system's first", true, 0, 0, "名詞,すもも"}, {"the system's last", true, 0, 2, "名詞,もも"}, {"none behind it", true, 0, 3, ""},
-    {"the user's", true, 1, 0, "名詞,空白"}, {"no other of the user's", true, 1, 1, ""}, {"no other user's", true, 2, 0, ""},
-    {"far behind the users", true, SIZE_MAX, 0, ""}, {"an unknown entry", false, 0, 5, "未知"}, {"whatever the dictionary", false, 9, 5, "未知"},
-    {"a known one's number", false, 0, 2, ""}, {"no unknown entry", false, 0, 9, ""},
+    {"the system's first", true, 0, 0, "名詞,すもも"},
+    {"the system's last", true, 0, 2, "名詞,もも"},
+    {"none behind it", true, 0, 3, ""},
+    {"the user's", true, 1, 0, "名詞,空白"},
+    {"no other of the user's", true, 1, 1, ""},
+    {"no other user's", true, 2, 0, ""},
+    {"far behind the users", true, SIZE_MAX, 0, ""},
+    {"an unknown entry", false, 0, 5, "未知"},
+    {"whatever the dictionary", false, 9, 5, "未知"},
+    {"a known one's number", false, 0, 2, ""},
+    {"no unknown entry", false, 0, 9, ""},
 };
 
 static void features_of_entries(kumquatsieve_cutter *cutter) {
     for (size_t i = 0; i < ROWS(ENTRIES); i++) {
-        kumquatsieve_word word = {.known = ENTRIES[i].known, .dictionary = ENTRIES[i].dictionary, .token = ENTRIES[i].token};
+        kumquatsieve_word word = {.known = ENTRIES[i].known,
+                                  .dictionary = ENTRIES[i].dictionary,
+                                  .token = ENTRIES[i].token};
         CHECK_ROW(ENTRIES[i].what, has_feature(cutter, &word, ENTRIES[i].feature));
     }
 }
@@ -157,7 +204,8 @@ static void less(int64_t *least, int64_t cost) {
 
 static void go_on(all_paths *paths, size_t place, int64_t cost) {
     if (place == paths->last) {
-        for (size_t i = 0; i < paths->words; i++) less(&paths->throughs[paths->chain[i]], cost + EOS_COSTS);
+        for (size_t i = 0; i < paths->words; i++)
+            less(&paths->throughs[paths->chain[i]], cost + EOS_COSTS);
     }
     for (size_t i = 0; i < paths->count; i++) {
         const kumquatsieve_word *word = &paths->nodes[i].word;
@@ -170,7 +218,8 @@ static void go_on(all_paths *paths, size_t place, int64_t cost) {
     }
 }
 
-static const char *const LINES[] = {"すもももも", "もももも", "もすもも", "東京都", "もabも", " も z ", "もも もも ", "カタ も", "もも 東 "};
+static const char *const LINES[] = {"すもももも", "もももも",   "もすもも", "東京都",  "もabも",
+                                    " も z ",     "もも もも ", "カタ も",  "もも 東 "};
 
 static void all_paths_agree(kumquatsieve_cutter *cutter) {
     for (size_t k = 0; k < ROWS(LINES); k++) {
@@ -184,14 +233,19 @@ static void all_paths_agree(kumquatsieve_cutter *cutter) {
             paths.totals[i] = paths.throughs[i] = INT64_MAX;
         }
         go_on(&paths, 0, 0);
-        CHECK_ROW(LINES[k], kumquatsieve_words(cutter, 0, words, MOST_WORDS, &many) == KUMQUATSIEVE_OK && many <= MOST_WORDS);
+        CHECK_ROW(LINES[k],
+                  kumquatsieve_words(cutter, 0, words, MOST_WORDS, &many) == KUMQUATSIEVE_OK &&
+                      many <= MOST_WORDS);
         for (size_t i = 0; i < paths.count; i++) {
-            CHECK_ROW(LINES[k], nodes[i].word.total == paths.totals[i] && nodes[i].reaches_end == (paths.throughs[i] < INT64_MAX));
+            CHECK_ROW(LINES[k], nodes[i].word.total == paths.totals[i] &&
+                                    nodes[i].reaches_end == (paths.throughs[i] < INT64_MAX));
             CHECK_ROW(LINES[k], nodes[i].through == (nodes[i].reaches_end ? paths.throughs[i] : 0));
             if (nodes[i].reaches_end) less(&least, nodes[i].through);
             if (!nodes[i].on_best) continue;
-            CHECK_ROW(LINES[k], on_best < many && nodes[i].word.start == words[on_best].start && nodes[i].word.end == words[on_best].end);
-            CHECK_ROW(LINES[k], nodes[i].word.total == words[on_best].total && nodes[i].through == best);
+            CHECK_ROW(LINES[k], on_best < many && nodes[i].word.start == words[on_best].start &&
+                                    nodes[i].word.end == words[on_best].end);
+            CHECK_ROW(LINES[k],
+                      nodes[i].word.total == words[on_best].total && nodes[i].through == best);
             on_best++;
         }
         CHECK_ROW(LINES[k], on_best == many && least == best);

@@ -1,4 +1,5 @@
-/* NULL for bytes whose length is 0, for outputs that are not wanted, and for a cutter that is given back: nulls SYSTEM.img USER.img. */
+/* NULL for bytes whose length is 0, for outputs that are not wanted, and for a cutter that is given
+ * back: nulls SYSTEM.img USER.img. */
 #include "check.h"
 
 static void no_bytes(file system) {
@@ -6,12 +7,16 @@ static void no_bytes(file system) {
     CHECK(kumquatsieve_load(&cutter, NULL, 0, NULL) == KUMQUATSIEVE_TRUNCATED && !cutter.held);
     CHECK(kumquatsieve_load(&cutter, system.bytes, system.length, NULL) == KUMQUATSIEVE_OK);
     CHECK(kumquatsieve_add_user(&cutter, NULL, 0, NULL) == KUMQUATSIEVE_TRUNCATED);
-    CHECK(kumquatsieve_cut(&cutter, NULL, 0, NULL, NULL, NULL) == KUMQUATSIEVE_OK && prints(&cutter, "EOS\n"));
+    CHECK(kumquatsieve_cut(&cutter, NULL, 0, NULL, NULL, NULL) == KUMQUATSIEVE_OK &&
+          prints(&cutter, "EOS\n"));
     CHECK(kumquatsieve_cut_text(&cutter, NULL, 0, NULL, NULL, NULL) == KUMQUATSIEVE_OK);
     CHECK(kumquatsieve_cut_lines(&cutter, NULL, 0, NULL, NULL, NULL) == KUMQUATSIEVE_OK);
     CHECK(kumquatsieve_cut(&cutter, NULL, 0, NULL, NULL, NULL) == KUMQUATSIEVE_OK);
-    CHECK(kumquatsieve_set_format(&cutter, NULL, 0, NULL, 0, NULL, 0, NULL, 0, NULL, NULL) == KUMQUATSIEVE_OK && prints(&cutter, ""));
-    CHECK(kumquatsieve_set_format(&cutter, BYTES("%q"), 2, NULL, 0, NULL, 0, NULL, 0, NULL, NULL) == KUMQUATSIEVE_BAD_ITEM);
+    CHECK(kumquatsieve_set_format(&cutter, NULL, 0, NULL, 0, NULL, 0, NULL, 0, NULL, NULL) ==
+              KUMQUATSIEVE_OK &&
+          prints(&cutter, ""));
+    CHECK(kumquatsieve_set_format(&cutter, BYTES("%q"), 2, NULL, 0, NULL, 0, NULL, 0, NULL, NULL) ==
+          KUMQUATSIEVE_BAD_ITEM);
     kumquatsieve_free(&cutter);
     kumquatsieve_free(NULL);
     kumquatsieve_buffer_free(NULL);
@@ -22,7 +27,8 @@ static void no_outputs(file system, file user) {
     size_t count = 0, needed = 0;
     CHECK(kumquatsieve_load(&cutter, system.bytes, system.length, NULL) == KUMQUATSIEVE_OK);
     CHECK(kumquatsieve_add_user(&cutter, user.bytes, user.length, NULL) == KUMQUATSIEVE_OK);
-    CHECK(kumquatsieve_cut(&cutter, BYTES(LINE), strlen(LINE), NULL, NULL, NULL) == KUMQUATSIEVE_OK);
+    CHECK(kumquatsieve_cut(&cutter, BYTES(LINE), strlen(LINE), NULL, NULL, NULL) ==
+          KUMQUATSIEVE_OK);
     CHECK(kumquatsieve_words(&cutter, 0, NULL, 0, &count) == KUMQUATSIEVE_OK && count > 0);
     CHECK(kumquatsieve_words(&cutter, 0, NULL, 0, NULL) == KUMQUATSIEVE_OK);
     CHECK(kumquatsieve_nodes(&cutter, 0, NULL, 0, &count) == KUMQUATSIEVE_OK && count > 0);
@@ -30,14 +36,20 @@ static void no_outputs(file system, file user) {
     CHECK(kumquatsieve_entry_feature(&cutter, true, 0, 0, NULL, NULL) == KUMQUATSIEVE_OK);
     CHECK(kumquatsieve_feature(&cutter, 0, NULL, NULL) == KUMQUATSIEVE_OK);
     CHECK(kumquatsieve_features(&cutter, NULL, NULL) == KUMQUATSIEVE_OK);
-    CHECK(kumquatsieve_copy_feature(&cutter, 0, NULL, 0, &needed) == KUMQUATSIEVE_SHORT_BUFFER && needed > 0);
+    CHECK(kumquatsieve_copy_feature(&cutter, 0, NULL, 0, &needed) == KUMQUATSIEVE_SHORT_BUFFER &&
+          needed > 0);
     CHECK(kumquatsieve_copy_feature(&cutter, 0, NULL, 0, NULL) == KUMQUATSIEVE_SHORT_BUFFER);
     CHECK(kumquatsieve_print(&cutter, NULL, NULL) == KUMQUATSIEVE_OK);
-    CHECK(kumquatsieve_copy_print(&cutter, NULL, 0, &needed) == KUMQUATSIEVE_SHORT_BUFFER && needed > 0);
+    CHECK(kumquatsieve_copy_print(&cutter, NULL, 0, &needed) == KUMQUATSIEVE_SHORT_BUFFER &&
+          needed > 0);
     CHECK(kumquatsieve_copy_print(&cutter, NULL, 0, NULL) == KUMQUATSIEVE_SHORT_BUFFER);
-    CHECK(kumquatsieve_cut_lines(&cutter, BYTES(LINE), strlen(LINE), NULL, NULL, NULL) == KUMQUATSIEVE_OK);
-    CHECK(kumquatsieve_cut_lines(&cutter, BYTES("\xff"), 1, NULL, NULL, NULL) == KUMQUATSIEVE_NOT_UTF8);
-    CHECK(kumquatsieve_fault(KUMQUATSIEVE_NOT_UTF8, NULL, 0, &needed) == KUMQUATSIEVE_SHORT_BUFFER && needed == strlen("G3 NotUtf8"));
+    CHECK(kumquatsieve_cut_lines(&cutter, BYTES(LINE), strlen(LINE), NULL, NULL, NULL) ==
+          KUMQUATSIEVE_OK);
+    CHECK(kumquatsieve_cut_lines(&cutter, BYTES("\xff"), 1, NULL, NULL, NULL) ==
+          KUMQUATSIEVE_NOT_UTF8);
+    CHECK(kumquatsieve_fault(KUMQUATSIEVE_NOT_UTF8, NULL, 0, &needed) ==
+              KUMQUATSIEVE_SHORT_BUFFER &&
+          needed == strlen("G3 NotUtf8"));
     CHECK(kumquatsieve_fault(KUMQUATSIEVE_NOT_UTF8, NULL, 0, NULL) == KUMQUATSIEVE_SHORT_BUFFER);
     CHECK(kumquatsieve_fault(KUMQUATSIEVE_FILE, NULL, 0, NULL) == KUMQUATSIEVE_SHORT_BUFFER);
     CHECK(kumquatsieve_open(&cutter, NULL, 0, NULL) == KUMQUATSIEVE_FILE);

@@ -49,10 +49,8 @@ static void make_files(void) {
         size_t written = (size_t)rows[i].length < sys.length ? (size_t)rows[i].length : sys.length;
         CHECK_ROW(rows[i].path, to >= 0 && pwrite(to, sys.bytes, written, 0) == (ssize_t)written);
         CHECK_ROW(rows[i].path, ftruncate(to, rows[i].length) == 0);
-        CHECK_ROW(
-            rows[i].path,
-            pwrite(to, rows[i].bytes, rows[i].count, (off_t)rows[i].at) == (ssize_t)rows[i].count
-        );
+        CHECK_ROW(rows[i].path, pwrite(to, rows[i].bytes, rows[i].count, (off_t)rows[i].at) ==
+                                    (ssize_t)rows[i].count);
         close(to);
     }
 }
@@ -137,10 +135,9 @@ static void refused_systems(void) {
         kumquatsieve_cutter cutter = KUMQUATSIEVE_EMPTY;
         uint64_t number = UNSET;
         size_t files = open_files(), maps = mappings_of(NULL);
-        CHECK_ROW(
-            row->what, kumquatsieve_open(&cutter, row->path, row->how, &number) == row->code &&
-                           number == row->number
-        );
+        CHECK_ROW(row->what,
+                  kumquatsieve_open(&cutter, row->path, row->how, &number) == row->code &&
+                      number == row->number);
         CHECK_ROW(row->what, !cutter.held && !cutter.at && !cutter.mapped);
         CHECK_ROW(row->what, open_files() == files && mappings_of(NULL) == maps);
         CHECK_ROW(row->what, kumquatsieve_open(&cutter, row->path, row->how, NULL) == row->code);
@@ -150,27 +147,21 @@ static void refused_systems(void) {
 static void refused_users(void) {
     kumquatsieve_cutter cutter = KUMQUATSIEVE_EMPTY;
     uint64_t number = UNSET;
-    CHECK(
-        kumquatsieve_open_user(&cutter, "none.img", 0, &number) == KUMQUATSIEVE_EMPTY_CUTTER &&
-        number == UNSET
-    );
-    CHECK(
-        kumquatsieve_open(&cutter, "whole.img", 0, &number) == KUMQUATSIEVE_OK && number == UNSET
-    );
-    CHECK(
-        kumquatsieve_open(&cutter, "none.img", 0, &number) == KUMQUATSIEVE_FULL_CUTTER &&
-        number == UNSET
-    );
+    CHECK(kumquatsieve_open_user(&cutter, "none.img", 0, &number) == KUMQUATSIEVE_EMPTY_CUTTER &&
+          number == UNSET);
+    CHECK(kumquatsieve_open(&cutter, "whole.img", 0, &number) == KUMQUATSIEVE_OK &&
+          number == UNSET);
+    CHECK(kumquatsieve_open(&cutter, "none.img", 0, &number) == KUMQUATSIEVE_FULL_CUTTER &&
+          number == UNSET);
     CHECK(cut(&cutter, LINE) == KUMQUATSIEVE_OK);
     for (size_t i = 0; i < ROWS(AS_USER); i++) {
         const refused_row *row = &AS_USER[i];
         const void *before = cutter.mapped;
         size_t files = open_files(), maps = mappings_of(NULL);
         number = UNSET;
-        CHECK_ROW(
-            row->what, kumquatsieve_open_user(&cutter, row->path, row->how, &number) == row->code &&
-                           number == row->number
-        );
+        CHECK_ROW(row->what,
+                  kumquatsieve_open_user(&cutter, row->path, row->how, &number) == row->code &&
+                      number == row->number);
         CHECK_ROW(row->what, prints(&cutter, PRINTED) && cutter.mapped == before);
         CHECK_ROW(row->what, open_files() == files && mappings_of(NULL) == maps);
     }
@@ -183,9 +174,8 @@ static void unreadable(void) {
     uint64_t number = UNSET;
     bool is_root = geteuid() == 0;
     CHECK(chmod("whole.img", 0) == 0 && (!is_root || seteuid(65534) == 0));
-    CHECK(
-        kumquatsieve_open(&cutter, "whole.img", 0, &number) == KUMQUATSIEVE_FILE && number == EACCES
-    );
+    CHECK(kumquatsieve_open(&cutter, "whole.img", 0, &number) == KUMQUATSIEVE_FILE &&
+          number == EACCES);
     CHECK((!is_root || seteuid(0) == 0) && chmod("whole.img", 0600) == 0);
 }
 
@@ -211,7 +201,8 @@ static pid_t write_from_child(int to, const uint8_t *bytes, size_t length) {
 static const char *start_writing(bool is_named, const uint8_t *bytes, size_t length, pid_t *child) {
     int ends[2];
     if (!is_named) {
-        CHECK(pipe(ends) == 0 && dup2(ends[0], STDIN_FILENO) == STDIN_FILENO && close(ends[0]) == 0);
+        CHECK(pipe(ends) == 0 && dup2(ends[0], STDIN_FILENO) == STDIN_FILENO &&
+              close(ends[0]) == 0);
     }
     *child = write_from_child(is_named ? -1 : ends[1], bytes, length);
     CHECK(is_named || close(ends[1]) == 0);
@@ -244,10 +235,8 @@ static void piped(const char *what, size_t more, size_t at, uint32_t code, uint6
 static void standard_input(void) {
     kumquatsieve_cutter cutter = KUMQUATSIEVE_EMPTY;
     CHECK(freopen("whole.img", "r", stdin));
-    CHECK(
-        kumquatsieve_open(&cutter, "/dev/stdin", 0, NULL) == KUMQUATSIEVE_OK &&
-        mappings_of("whole.img") == 1
-    );
+    CHECK(kumquatsieve_open(&cutter, "/dev/stdin", 0, NULL) == KUMQUATSIEVE_OK &&
+          mappings_of("whole.img") == 1);
     CHECK(cut(&cutter, LINE) == KUMQUATSIEVE_OK && prints(&cutter, PRINTED));
     kumquatsieve_free(&cutter);
 }
@@ -271,9 +260,7 @@ int main(int given, char **paths) {
     standard_input();
     free(sys.bytes);
     free(user.bytes);
-    printf(
-        "opening: %zu files are refused by the calls that open them\n",
-        ROWS(AS_SYSTEM) + ROWS(AS_USER)
-    );
+    printf("opening: %zu files are refused by the calls that open them\n",
+           ROWS(AS_SYSTEM) + ROWS(AS_USER));
     return 0;
 }

@@ -64,9 +64,7 @@ int main(int given, char **words) {
     fork_often(forks);
     for (int i = 0; i < THREADS; i++) CHECK(pthread_join(all[i], NULL) == 0);
     CHECK(mappings_of(paths[1]) == 0 && mappings_of(paths[2]) == 0);
-    printf(
-        "opening_threads: %d threads and %d children opened and freed the same files\n", THREADS,
-        forks
-    );
+    printf("opening_threads: %d threads and %d children opened and freed the same files\n", THREADS,
+           forks);
     return 0;
 }

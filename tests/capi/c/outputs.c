@@ -1,5 +1,6 @@
-/* What each answer leaves in the outputs of a call: outputs SYSTEM.img USER.img, of the sample's sources. Each output is 77 before a call, and an
-   output that the answer doesn't set is 77 after it. */
+/* What each answer leaves in the outputs of a call: outputs SYSTEM.img USER.img, of the sample's
+   sources. Each output is 77 before a call, and an output that the answer doesn't set is 77 after
+   it. */
 #include "check.h"
 
 #define LONGEST 1048576
@@ -9,7 +10,8 @@ enum { UNSET = 77 };
 /* What a pointer is before a call. */
 static const uint8_t NOWHERE = UNSET;
 
-/* Cutters that calls are made with: with nothing in it, that has cut nothing, and that has cut LINE. */
+/* Cutters that calls are made with: with nothing in it, that has cut nothing, and that has cut
+ * LINE. */
 enum { EMPTY, UNCUT, CUT, CUTTERS };
 
 static uint8_t letters[LONGEST + 1], bad_bytes[LONGEST + 1];
@@ -25,9 +27,11 @@ static void end(kumquatsieve_cutter cutters[CUTTERS]) {
     for (int i = 0; i < CUTTERS; i++) kumquatsieve_free(&cutters[i]);
 }
 
-/* The number of an image's fault. The user's image is no system's, and the system's, as the first user, no user's. */
+/* The number of an image's fault. The user's image is no system's, and the system's, as the first
+ * user, no user's. */
 static void numbers(file system, file user) {
-    kumquatsieve_cutter empty = kumquatsieve_empty(), full = loaded(system), third = kumquatsieve_empty();
+    kumquatsieve_cutter empty = kumquatsieve_empty(), full = loaded(system),
+                        third = kumquatsieve_empty();
     const struct {
         const char *what;
         uint32_t (*call)(kumquatsieve_cutter *, const uint8_t *, size_t, uint64_t *);
@@ -36,19 +40,33 @@ static void numbers(file system, file user) {
         uint32_t code;
         uint64_t number;
     } rows[] = {
-        {"load: no bytes", kumquatsieve_load, &empty, {system.bytes, 0, NULL}, KUMQUATSIEVE_TRUNCATED, UNSET},
+        {"load: no bytes",
+         kumquatsieve_load,
+         &empty,
+         {system.bytes, 0, NULL},
+         KUMQUATSIEVE_TRUNCATED,
+         UNSET},
         {"load: no system's", kumquatsieve_load, &empty, user, KUMQUATSIEVE_NOT_SYSTEM, UNSET},
         {"load: a full cutter", kumquatsieve_load, &full, system, KUMQUATSIEVE_FULL_CUTTER, UNSET},
         {"load: done", kumquatsieve_load, &third, system, KUMQUATSIEVE_OK, UNSET},
-        {"add_user: an empty cutter", kumquatsieve_add_user, &empty, user, KUMQUATSIEVE_EMPTY_CUTTER, UNSET},
-        {"add_user: no bytes", kumquatsieve_add_user, &full, {user.bytes, 0, NULL}, KUMQUATSIEVE_TRUNCATED, UNSET},
-        {"add_user: no user's, the first", kumquatsieve_add_user, &full, system, KUMQUATSIEVE_NOT_USER, 0},
+        {"add_user: an empty cutter", kumquatsieve_add_user, &empty, user,
+         KUMQUATSIEVE_EMPTY_CUTTER, UNSET},
+        {"add_user: no bytes",
+         kumquatsieve_add_user,
+         &full,
+         {user.bytes, 0, NULL},
+         KUMQUATSIEVE_TRUNCATED,
+         UNSET},
+        {"add_user: no user's, the first", kumquatsieve_add_user, &full, system,
+         KUMQUATSIEVE_NOT_USER, 0},
         {"add_user: done", kumquatsieve_add_user, &full, user, KUMQUATSIEVE_OK, UNSET},
-        {"add_user: no user's, the second", kumquatsieve_add_user, &full, system, KUMQUATSIEVE_NOT_USER, 1},
+        {"add_user: no user's, the second", kumquatsieve_add_user, &full, system,
+         KUMQUATSIEVE_NOT_USER, 1},
     };
     for (size_t i = 0; i < ROWS(rows); i++) {
         uint64_t number = UNSET;
-        CHECK_ROW(rows[i].what, rows[i].call(rows[i].cutter, rows[i].image.bytes, rows[i].image.length, &number) == rows[i].code);
+        CHECK_ROW(rows[i].what, rows[i].call(rows[i].cutter, rows[i].image.bytes,
+                                             rows[i].image.length, &number) == rows[i].code);
         CHECK_ROW(rows[i].what, number == rows[i].number);
     }
     kumquatsieve_free(&full);
@@ -81,11 +99,11 @@ static const struct {
     {"no text", UNCUT, {"%m", "%m", "a\xff", ""}, KUMQUATSIEVE_NOT_UTF8, 2, 1},
 };
 
-static uint32_t set_format(kumquatsieve_cutter *cutter, const char *const texts[4], uint32_t *part, size_t *at) {
-    return kumquatsieve_set_format(
-        cutter, BYTES(texts[0]), strlen(texts[0]), BYTES(texts[1]), strlen(texts[1]), BYTES(texts[2]), strlen(texts[2]),
-        BYTES(texts[3]), strlen(texts[3]), part, at
-    );
+static uint32_t set_format(kumquatsieve_cutter *cutter, const char *const texts[4], uint32_t *part,
+                           size_t *at) {
+    return kumquatsieve_set_format(cutter, BYTES(texts[0]), strlen(texts[0]), BYTES(texts[1]),
+                                   strlen(texts[1]), BYTES(texts[2]), strlen(texts[2]),
+                                   BYTES(texts[3]), strlen(texts[3]), part, at);
 }
 
 static void formats(file system) {
@@ -94,14 +112,17 @@ static void formats(file system) {
     for (size_t i = 0; i < ROWS(FORMATS); i++) {
         uint32_t part = UNSET;
         size_t at = UNSET;
-        CHECK_ROW(FORMATS[i].what, set_format(&cutters[FORMATS[i].cutter], FORMATS[i].texts, &part, &at) == FORMATS[i].code);
+        CHECK_ROW(FORMATS[i].what, set_format(&cutters[FORMATS[i].cutter], FORMATS[i].texts, &part,
+                                              &at) == FORMATS[i].code);
         CHECK_ROW(FORMATS[i].what, part == FORMATS[i].part && at == FORMATS[i].at);
     }
     end(cutters);
 }
 
-/* A line, or a text: what is answered, and the number of its words, the cost of its path, and where it is at fault. */
-typedef uint32_t cutting(kumquatsieve_cutter *, const uint8_t *, size_t, size_t *, int64_t *, size_t *);
+/* A line, or a text: what is answered, and the number of its words, the cost of its path, and where
+ * it is at fault. */
+typedef uint32_t cutting(kumquatsieve_cutter *, const uint8_t *, size_t, size_t *, int64_t *,
+                         size_t *);
 
 static const struct {
     const char *what;
@@ -116,20 +137,37 @@ static const struct {
 } CUTS[] = {
     {"a line", kumquatsieve_cut, CUT, BYTES(LINE), 15, KUMQUATSIEVE_OK, 2, 152, UNSET},
     {"an empty line", kumquatsieve_cut, CUT, BYTES(""), 0, KUMQUATSIEVE_OK, 0, 0, UNSET},
-    {"an empty cutter", kumquatsieve_cut, EMPTY, BYTES("a\n"), 2, KUMQUATSIEVE_EMPTY_CUTTER, UNSET, UNSET, UNSET},
-    {"a line feed alone", kumquatsieve_cut, CUT, BYTES("\n"), 1, KUMQUATSIEVE_LINE_FEED, UNSET, UNSET, 0},
-    {"the first of two line feeds", kumquatsieve_cut, CUT, BYTES("も\nb\n"), 6, KUMQUATSIEVE_LINE_FEED, UNSET, UNSET, 3},
-    {"a line feed, then no text", kumquatsieve_cut, CUT, BYTES("ab\n\xff"), 4, KUMQUATSIEVE_LINE_FEED, UNSET, UNSET, 2},
-    {"no text, then a line feed", kumquatsieve_cut, CUT, BYTES("\xff" "a\n"), 3, KUMQUATSIEVE_LINE_FEED, UNSET, UNSET, 2},
-    {"no text", kumquatsieve_cut, CUT, BYTES("a\xff" "b\xff"), 4, KUMQUATSIEVE_NOT_UTF8, UNSET, UNSET, 1},
-    {"a cut character", kumquatsieve_cut, CUT, BYTES("ももも\xe3\x82"), 11, KUMQUATSIEVE_NOT_UTF8, UNSET, UNSET, 9},
-    {"a surrogate", kumquatsieve_cut, CUT, BYTES("\xed\xa0\x80"), 3, KUMQUATSIEVE_NOT_UTF8, UNSET, UNSET, 0},
-    {"too long", kumquatsieve_cut, CUT, letters, LONGEST + 1, KUMQUATSIEVE_TOO_LONG, UNSET, UNSET, LONGEST + 1},
-    {"too long, no text", kumquatsieve_cut, CUT, bad_bytes, LONGEST + 1, KUMQUATSIEVE_TOO_LONG, UNSET, UNSET, LONGEST + 1},
+    {"an empty cutter", kumquatsieve_cut, EMPTY, BYTES("a\n"), 2, KUMQUATSIEVE_EMPTY_CUTTER, UNSET,
+     UNSET, UNSET},
+    {"a line feed alone", kumquatsieve_cut, CUT, BYTES("\n"), 1, KUMQUATSIEVE_LINE_FEED, UNSET,
+     UNSET, 0},
+    {"the first of two line feeds", kumquatsieve_cut, CUT, BYTES("も\nb\n"), 6,
+     KUMQUATSIEVE_LINE_FEED, UNSET, UNSET, 3},
+    {"a line feed, then no text", kumquatsieve_cut, CUT, BYTES("ab\n\xff"), 4,
+     KUMQUATSIEVE_LINE_FEED, UNSET, UNSET, 2},
+    {"no text, then a line feed", kumquatsieve_cut, CUT,
+     BYTES("\xff"
+           "a\n"),
+     3, KUMQUATSIEVE_LINE_FEED, UNSET, UNSET, 2},
+    {"no text", kumquatsieve_cut, CUT,
+     BYTES("a\xff"
+           "b\xff"),
+     4, KUMQUATSIEVE_NOT_UTF8, UNSET, UNSET, 1},
+    {"a cut character", kumquatsieve_cut, CUT, BYTES("ももも\xe3\x82"), 11, KUMQUATSIEVE_NOT_UTF8,
+     UNSET, UNSET, 9},
+    {"a surrogate", kumquatsieve_cut, CUT, BYTES("\xed\xa0\x80"), 3, KUMQUATSIEVE_NOT_UTF8, UNSET,
+     UNSET, 0},
+    {"too long", kumquatsieve_cut, CUT, letters, LONGEST + 1, KUMQUATSIEVE_TOO_LONG, UNSET, UNSET,
+     LONGEST + 1},
+    {"too long, no text", kumquatsieve_cut, CUT, bad_bytes, LONGEST + 1, KUMQUATSIEVE_TOO_LONG,
+     UNSET, UNSET, LONGEST + 1},
     {"a text", kumquatsieve_cut_text, CUT, BYTES("も\nも"), 7, KUMQUATSIEVE_OK, 3, 1069, UNSET},
-    {"a text for an empty cutter", kumquatsieve_cut_text, EMPTY, BYTES("\xff"), 1, KUMQUATSIEVE_EMPTY_CUTTER, UNSET, UNSET, UNSET},
-    {"no text behind a line feed", kumquatsieve_cut_text, CUT, BYTES("ab\n\xff"), 4, KUMQUATSIEVE_NOT_UTF8, UNSET, UNSET, 3},
-    {"a text too long", kumquatsieve_cut_text, CUT, letters, LONGEST + 1, KUMQUATSIEVE_TOO_LONG, UNSET, UNSET, LONGEST + 1},
+    {"a text for an empty cutter", kumquatsieve_cut_text, EMPTY, BYTES("\xff"), 1,
+     KUMQUATSIEVE_EMPTY_CUTTER, UNSET, UNSET, UNSET},
+    {"no text behind a line feed", kumquatsieve_cut_text, CUT, BYTES("ab\n\xff"), 4,
+     KUMQUATSIEVE_NOT_UTF8, UNSET, UNSET, 3},
+    {"a text too long", kumquatsieve_cut_text, CUT, letters, LONGEST + 1, KUMQUATSIEVE_TOO_LONG,
+     UNSET, UNSET, LONGEST + 1},
 };
 
 static void cuts(file system) {
@@ -140,13 +178,16 @@ static void cuts(file system) {
     for (size_t i = 0; i < ROWS(CUTS); i++) {
         size_t count = UNSET, at = UNSET;
         int64_t total = UNSET;
-        CHECK_ROW(CUTS[i].what, CUTS[i].call(&cutters[CUTS[i].cutter], CUTS[i].bytes, CUTS[i].length, &count, &total, &at) == CUTS[i].code);
-        CHECK_ROW(CUTS[i].what, count == CUTS[i].count && total == CUTS[i].total && at == CUTS[i].at);
+        CHECK_ROW(CUTS[i].what, CUTS[i].call(&cutters[CUTS[i].cutter], CUTS[i].bytes,
+                                             CUTS[i].length, &count, &total, &at) == CUTS[i].code);
+        CHECK_ROW(CUTS[i].what,
+                  count == CUTS[i].count && total == CUTS[i].total && at == CUTS[i].at);
     }
     end(cutters);
 }
 
-/* What is lent: of the path 9 + 1 + 16 + 1 bytes, 6 + 1 + 13 + 1, and 4 of EOS. A length of UNSET says that no place is set either. */
+/* What is lent: of the path 9 + 1 + 16 + 1 bytes, 6 + 1 + 13 + 1, and 4 of EOS. A length of UNSET
+ * says that no place is set either. */
 typedef enum lender { PATH, FEATURE, FEATURES, ENTRY } lender;
 
 static const struct {
@@ -173,7 +214,8 @@ static const struct {
     {"an entry's feature: an empty cutter", ENTRY, EMPTY, 1, KUMQUATSIEVE_EMPTY_CUTTER, UNSET},
 };
 
-static uint32_t lend(kumquatsieve_cutter *cutter, lender lender, size_t number, const uint8_t **text, size_t *length) {
+static uint32_t lend(kumquatsieve_cutter *cutter, lender lender, size_t number,
+                     const uint8_t **text, size_t *length) {
     switch (lender) {
     case PATH: return kumquatsieve_print(cutter, text, length);
     case FEATURE: return kumquatsieve_feature(cutter, number, text, length);
@@ -188,8 +230,10 @@ static void lent(file system) {
     for (size_t i = 0; i < ROWS(LENT); i++) {
         const uint8_t *text = &NOWHERE;
         size_t length = UNSET;
-        CHECK_ROW(LENT[i].what, lend(&cutters[LENT[i].cutter], LENT[i].lender, LENT[i].number, &text, &length) == LENT[i].code);
-        CHECK_ROW(LENT[i].what, length == LENT[i].length && (text == &NOWHERE) == (length == UNSET));
+        CHECK_ROW(LENT[i].what, lend(&cutters[LENT[i].cutter], LENT[i].lender, LENT[i].number,
+                                     &text, &length) == LENT[i].code);
+        CHECK_ROW(LENT[i].what,
+                  length == LENT[i].length && (text == &NOWHERE) == (length == UNSET));
     }
     end(cutters);
 }
@@ -228,7 +272,8 @@ static const struct {
     {"no fault's text", TEXT, EMPTY, 78, 0, KUMQUATSIEVE_OK, 0},
 };
 
-static uint32_t copy(kumquatsieve_cutter *cutter, copier copier, uint32_t number, size_t room, size_t *told) {
+static uint32_t copy(kumquatsieve_cutter *cutter, copier copier, uint32_t number, size_t room,
+                     size_t *told) {
     static uint8_t out[60];
     static kumquatsieve_word words[2];
     static kumquatsieve_node nodes[2];
@@ -246,7 +291,8 @@ static void copied(file system) {
     begin(cutters, system);
     for (size_t i = 0; i < ROWS(COPIED); i++) {
         size_t told = UNSET;
-        CHECK_ROW(COPIED[i].what, copy(&cutters[COPIED[i].cutter], COPIED[i].copier, COPIED[i].number, COPIED[i].room, &told) == COPIED[i].code);
+        CHECK_ROW(COPIED[i].what, copy(&cutters[COPIED[i].cutter], COPIED[i].copier,
+                                       COPIED[i].number, COPIED[i].room, &told) == COPIED[i].code);
         CHECK_ROW(COPIED[i].what, told == COPIED[i].told);
     }
     end(cutters);
@@ -274,8 +320,11 @@ static void texts(file system) {
         const uint8_t *out = &NOWHERE;
         size_t length = UNSET, given = strlen(TEXTS[i].text);
         uint64_t lines = UNSET;
-        CHECK_ROW(TEXTS[i].what, kumquatsieve_cut_lines(&cutters[TEXTS[i].cutter], BYTES(TEXTS[i].text), given, &out, &length, &lines) == TEXTS[i].code);
-        CHECK_ROW(TEXTS[i].what, length == TEXTS[i].length && lines == TEXTS[i].lines && (out == &NOWHERE) == (length == UNSET));
+        CHECK_ROW(TEXTS[i].what,
+                  kumquatsieve_cut_lines(&cutters[TEXTS[i].cutter], BYTES(TEXTS[i].text), given,
+                                         &out, &length, &lines) == TEXTS[i].code);
+        CHECK_ROW(TEXTS[i].what, length == TEXTS[i].length && lines == TEXTS[i].lines &&
+                                     (out == &NOWHERE) == (length == UNSET));
     }
     end(cutters);
 }

@@ -1,5 +1,6 @@
-/* Huge pages are asked for the memory of a large image, and for nothing else: pages SYSTEM.img LARGE.img. The large image has more bytes than the
-   threshold of capi/heap/heap.c. Both have the sample's words. It prints how much of it stands in huge pages, in kB. */
+/* Huge pages are asked for the memory of a large image, and for nothing else: pages SYSTEM.img
+   LARGE.img. The large image has more bytes than the threshold of capi/heap/heap.c. Both have the
+   sample's words. It prints how much of it stands in huge pages, in kB. */
 #include "check.h"
 #include <errno.h>
 #include <malloc.h>
@@ -17,7 +18,8 @@ int __wrap_madvise(void *at, size_t length, int advice) {
     return -1;
 }
 
-/* What the kernel tells of this process's memory, in kB: the mappings for which huge pages are asked, and what of these stands in such pages. */
+/* What the kernel tells of this process's memory, in kB: the mappings for which huge pages are
+ * asked, and what of these stands in such pages. */
 typedef struct pages {
     size_t asked;
     size_t huge;
@@ -48,7 +50,8 @@ static uint32_t in_pieces(kumquatsieve_cutter *cutter, file image, size_t room) 
     kumquatsieve_buffer buffer = kumquatsieve_no_bytes();
     for (size_t at = 0; at < image.length; at += PIECE) {
         size_t left = image.length - at;
-        CHECK(kumquatsieve_buffer_append(&buffer, room, image.bytes + at, left < PIECE ? left : PIECE) == KUMQUATSIEVE_OK);
+        CHECK(kumquatsieve_buffer_append(&buffer, room, image.bytes + at,
+                                         left < PIECE ? left : PIECE) == KUMQUATSIEVE_OK);
     }
     return kumquatsieve_load_buffer(cutter, &buffer, true, NULL);
 }
@@ -68,10 +71,12 @@ typedef struct way {
     uint32_t (*load)(kumquatsieve_cutter *cutter, file image);
 } way;
 
-static const way WAYS[] = {{"copied", copied}, {"in pieces, with room", with_room}, {"in pieces, without room", without_room}};
+static const way WAYS[] = {{"copied", copied},
+                           {"in pieces, with room", with_room},
+                           {"in pieces, without room", without_room}};
 
-/* The pages of a process that has loaded an image by one way. After that nothing is asked for any more, since its memory is given back. errno is as
-   it was before. */
+/* The pages of a process that has loaded an image by one way. After that nothing is asked for any
+   more, since its memory is given back. errno is as it was before. */
 static pages pages_of(const way *by, file image) {
     kumquatsieve_cutter cutter = kumquatsieve_empty();
     errno = BEFORE;
@@ -87,7 +92,8 @@ static void asked_for_the_large_one(file system, file large) {
     for (size_t i = 0; i < ROWS(WAYS); i++) {
         CHECK_ROW(WAYS[i].what, pages_of(&WAYS[i], system).asked == 0);
         pages found = pages_of(&WAYS[i], large);
-        CHECK_ROW(WAYS[i].what, found.asked >= large.length / 1024 && found.asked <= 2 * large.length / 1024);
+        CHECK_ROW(WAYS[i].what,
+                  found.asked >= large.length / 1024 && found.asked <= 2 * large.length / 1024);
         printf("%s%s: %zu of %zu kB", i == 0 ? "" : ", ", WAYS[i].what, found.huge, found.asked);
     }
     puts("");
@@ -96,14 +102,17 @@ static void asked_for_the_large_one(file system, file large) {
 /* Without huge pages an image is loaded as well. */
 static void refused(file large) {
     refuses = true;
-    for (size_t i = 0; i < ROWS(WAYS); i++) CHECK_ROW(WAYS[i].what, pages_of(&WAYS[i], large).asked == 0);
+    for (size_t i = 0; i < ROWS(WAYS); i++)
+        CHECK_ROW(WAYS[i].what, pages_of(&WAYS[i], large).asked == 0);
     refuses = false;
 }
 
-/* Nothing is asked for memory that lies among the program's own, as where it has malloc map nothing. */
+/* Nothing is asked for memory that lies among the program's own, as where it has malloc map
+ * nothing. */
 static void in_the_heap(file large) {
     CHECK(mallopt(M_MMAP_MAX, 0) == 1);
-    for (size_t i = 0; i < ROWS(WAYS); i++) CHECK_ROW(WAYS[i].what, pages_of(&WAYS[i], large).asked == 0);
+    for (size_t i = 0; i < ROWS(WAYS); i++)
+        CHECK_ROW(WAYS[i].what, pages_of(&WAYS[i], large).asked == 0);
 }
 
 int main(int given, char **paths) {

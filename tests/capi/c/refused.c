@@ -1,7 +1,7 @@
-/* Refuses each growth of a run in turn, and counts the blocks that are held: refused SYSTEM.img USER.img. The call whose growth was
-   refused answers out of memory, the cutter answers the next call as it would have, and no block is
-   left. A file that is mapped counts as a block. Linked with --wrap of malloc, realloc, free, mmap and
-   munmap. */
+/* Refuses each growth of a run in turn, and counts the blocks that are held: refused SYSTEM.img
+   USER.img. The call whose growth was refused answers out of memory, the cutter answers the next
+   call as it would have, and no block is left. A file that is mapped counts as a block. Linked with
+   --wrap of malloc, realloc, free, mmap and munmap. */
 #include "check.h"
 #include <errno.h>
 #include <sys/mman.h>
@@ -14,9 +14,7 @@ int __real_munmap(void *at, size_t length);
 
 static long growths, refused_growth, held;
 
-static int is_refused(void) {
-    return ++growths == refused_growth;
-}
+static int is_refused(void) { return ++growths == refused_growth; }
 
 void *__wrap_malloc(size_t size) {
     if (is_refused()) return NULL;
@@ -48,7 +46,8 @@ int __wrap_munmap(void *at, size_t length) {
     return __real_munmap(at, length);
 }
 
-/* Each call until it isn't refused; how often one was. Not one of them may answer another fault, and what it would have set is as it was. */
+/* Each call until it isn't refused; how often one was. Not one of them may answer another fault,
+ * and what it would have set is as it was. */
 static long times_refused;
 
 enum { UNSET = 77 };
@@ -63,9 +62,12 @@ static void fill(kumquatsieve_cutter *cutter, file system, file user) {
     uint64_t number = UNSET;
     uint32_t part = UNSET;
     size_t at = UNSET;
-    while (again(kumquatsieve_load(cutter, system.bytes, system.length, &number))) CHECK(!cutter->held && number == UNSET);
-    while (again(kumquatsieve_add_user(cutter, user.bytes, user.length, &number))) CHECK(number == UNSET);
-    while (again(kumquatsieve_set_format(cutter, BYTES("%m "), 3, BYTES("%m "), 3, BYTES(""), 0, BYTES("\\n"), 2, &part, &at)))
+    while (again(kumquatsieve_load(cutter, system.bytes, system.length, &number)))
+        CHECK(!cutter->held && number == UNSET);
+    while (again(kumquatsieve_add_user(cutter, user.bytes, user.length, &number)))
+        CHECK(number == UNSET);
+    while (again(kumquatsieve_set_format(cutter, BYTES("%m "), 3, BYTES("%m "), 3, BYTES(""), 0,
+                                         BYTES("\\n"), 2, &part, &at)))
         CHECK(part == UNSET && at == UNSET);
 }
 
@@ -73,15 +75,19 @@ static void ask_path(kumquatsieve_cutter *cutter) {
     size_t count = UNSET, at = UNSET, needed = UNSET;
     int64_t total = UNSET;
     uint8_t room[32];
-    while (again(kumquatsieve_cut(cutter, BYTES(LINE), strlen(LINE), &count, &total, &at))) CHECK(count == UNSET && total == UNSET && at == UNSET);
-    while (again(kumquatsieve_copy_print(cutter, room, sizeof room, &needed))) CHECK(needed == UNSET);
+    while (again(kumquatsieve_cut(cutter, BYTES(LINE), strlen(LINE), &count, &total, &at)))
+        CHECK(count == UNSET && total == UNSET && at == UNSET);
+    while (again(kumquatsieve_copy_print(cutter, room, sizeof room, &needed)))
+        CHECK(needed == UNSET);
 }
 
 static void ask_lent(kumquatsieve_cutter *cutter) {
     const uint8_t *feature = NULL, *features = NULL, *kept = NULL;
     size_t feature_length = UNSET, features_length = UNSET, length = UNSET;
-    while (again(kumquatsieve_feature(cutter, 0, &feature, &feature_length))) CHECK(!feature && feature_length == UNSET);
-    while (again(kumquatsieve_features(cutter, &features, &features_length))) CHECK(!features && features_length == UNSET);
+    while (again(kumquatsieve_feature(cutter, 0, &feature, &feature_length)))
+        CHECK(!feature && feature_length == UNSET);
+    while (again(kumquatsieve_features(cutter, &features, &features_length)))
+        CHECK(!features && features_length == UNSET);
     while (again(kumquatsieve_print(cutter, &kept, &length))) CHECK(!kept && length == UNSET);
     CHECK(is_text(kept, length, "すもももも \n"));
 }
@@ -93,7 +99,8 @@ static void ask_nodes(kumquatsieve_cutter *cutter) {
     const uint8_t *feature = NULL;
     while (again(kumquatsieve_nodes(cutter, 0, nodes, 5, &count))) CHECK(count == UNSET);
     CHECK(count == 5);
-    while (again(kumquatsieve_entry_feature(cutter, true, 0, 0, &feature, &length))) CHECK(!feature && length == UNSET);
+    while (again(kumquatsieve_entry_feature(cutter, true, 0, 0, &feature, &length)))
+        CHECK(!feature && length == UNSET);
     CHECK(is_text(feature, length, "名詞,すもも"));
 }
 
@@ -101,7 +108,8 @@ static void ask_lines(kumquatsieve_cutter *cutter) {
     const uint8_t *kept = NULL;
     size_t length = UNSET;
     uint64_t lines = UNSET;
-    while (again(kumquatsieve_cut_lines(cutter, BYTES(LINE "\n" LINE), 2 * strlen(LINE) + 1, &kept, &length, &lines)))
+    while (again(kumquatsieve_cut_lines(cutter, BYTES(LINE "\n" LINE), 2 * strlen(LINE) + 1, &kept,
+                                        &length, &lines)))
         CHECK(is_text(kept, length, lines == 1 ? "" : "すもももも \n"));
     CHECK(lines == 2 && is_text(kept, length, "すもももも \nすもももも \n"));
 }
@@ -123,7 +131,8 @@ static void run_over_a_dictionary(file system, file user) {
     const kumquatsieve_image images[] = {{system.bytes, system.length}, {user.bytes, user.length}};
     kumquatsieve_dictionary *dictionary = NULL;
     kumquatsieve_cutter cutter = KUMQUATSIEVE_EMPTY;
-    while (again(kumquatsieve_dictionary_make(&dictionary, images, 2, 0, NULL, NULL))) CHECK(!dictionary);
+    while (again(kumquatsieve_dictionary_make(&dictionary, images, 2, 0, NULL, NULL)))
+        CHECK(!dictionary);
     while (again(kumquatsieve_cutter_over(&cutter, dictionary))) CHECK(!cutter.held);
     while (again(cut(&cutter, LINE))) continue;
     kumquatsieve_dictionary_release(dictionary);
@@ -136,20 +145,27 @@ static void run_over_a_buffer(file system, file user) {
     kumquatsieve_cutter cutter = KUMQUATSIEVE_EMPTY;
     kumquatsieve_buffer buffer = KUMQUATSIEVE_NO_BYTES;
     size_t half = system.length / 2;
-    while (again(kumquatsieve_buffer_append(&buffer, half, system.bytes, half))) CHECK(!buffer.held);
-    while (again(kumquatsieve_buffer_append(&buffer, half, system.bytes + half, system.length - half))) CHECK(buffer.held);
+    while (again(kumquatsieve_buffer_append(&buffer, half, system.bytes, half)))
+        CHECK(!buffer.held);
+    while (
+        again(kumquatsieve_buffer_append(&buffer, half, system.bytes + half, system.length - half)))
+        CHECK(buffer.held);
     while (again(kumquatsieve_load_buffer(&cutter, &buffer, false, NULL))) {
         CHECK(!cutter.held && !buffer.held);
-        CHECK(kumquatsieve_buffer_append(&buffer, system.length, system.bytes, system.length) == KUMQUATSIEVE_OK);
+        CHECK(kumquatsieve_buffer_append(&buffer, system.length, system.bytes, system.length) ==
+              KUMQUATSIEVE_OK);
     }
-    while (again(kumquatsieve_buffer_append(&buffer, 0, user.bytes, user.length))) CHECK(!buffer.held);
+    while (again(kumquatsieve_buffer_append(&buffer, 0, user.bytes, user.length)))
+        CHECK(!buffer.held);
     while (again(kumquatsieve_add_user_buffer(&cutter, &buffer, false, NULL))) {
         CHECK(cutter.held && !buffer.held);
-        CHECK(kumquatsieve_buffer_append(&buffer, user.length, user.bytes, user.length) == KUMQUATSIEVE_OK);
+        CHECK(kumquatsieve_buffer_append(&buffer, user.length, user.bytes, user.length) ==
+              KUMQUATSIEVE_OK);
     }
     while (again(set_texts(&cutter, "%m ", "%m ", "", "\\n"))) continue;
     while (again(cut(&cutter, LINE))) continue;
-    while (again(kumquatsieve_dictionary_of(&dictionary, &cutter))) CHECK(!dictionary && prints(&cutter, "すもももも \n"));
+    while (again(kumquatsieve_dictionary_of(&dictionary, &cutter)))
+        CHECK(!dictionary && prints(&cutter, "すもももも \n"));
     kumquatsieve_dictionary_release(dictionary);
 }
 
@@ -204,11 +220,14 @@ static long refuse_each(void (*runs)(file, file), file system, file user, long a
 int main(int given, char **paths) {
     CHECK(given == 3);
     file system = read_file(paths[1]), user = read_file(paths[2]);
-    void (*const all[])(file, file) = {run, run_over_a_dictionary, run_over_a_buffer, run_over_files};
+    void (*const all[])(file, file) = {run, run_over_a_dictionary, run_over_a_buffer,
+                                       run_over_files};
     long counts[ROWS(all)], sum = 0;
     for (size_t i = 0; i < ROWS(all); i++) sum += counts[i] = growths_of(all[i], system, user);
-    for (size_t i = 0; i < ROWS(all); i++) CHECK(refuse_each(all[i], system, user, counts[i]) == counts[i]);
-    printf("refused: %ld growths; each one that was refused ended its call, and no block is left\n", sum);
+    for (size_t i = 0; i < ROWS(all); i++)
+        CHECK(refuse_each(all[i], system, user, counts[i]) == counts[i]);
+    printf("refused: %ld growths; each one that was refused ended its call, and no block is left\n",
+           sum);
     free(system.bytes);
     free(user.bytes);
     return 0;

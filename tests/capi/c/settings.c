@@ -1,5 +1,6 @@
-/* Rows of images that are loaded, of users, of formats and groupings, and of cutters that share: settings SYSTEM.img USER.img SECOND.img, the
-   images of the sample's sources and of users who give もも another feature and cost. */
+/* Rows of images that are loaded, of users, of formats and groupings, and of cutters that share:
+   settings SYSTEM.img USER.img SECOND.img, the images of the sample's sources and of users who give
+   もも another feature and cost. */
 #include "check.h"
 
 #define UNSET 77
@@ -16,7 +17,8 @@ static file changed(file image, size_t at, uint8_t byte) {
 
 static void refused_systems(file system, file user) {
     size_t last = system.length - 1;
-    file magic = changed(system, 0, 0), layout = changed(system, 8, 9), digest = changed(system, last, system.bytes[last] ^ 1);
+    file magic = changed(system, 0, 0), layout = changed(system, 8, 9),
+         digest = changed(system, last, system.bytes[last] ^ 1);
     file letters = {malloc(1000), 1000, NULL};
     CHECK(letters.bytes);
     memset(letters.bytes, 'z', letters.length);
@@ -38,18 +40,25 @@ static void refused_systems(file system, file user) {
     CHECK(cut(&cutter, "もも") == KUMQUATSIEVE_OK);
     for (size_t i = 0; i < ROWS(rows); i++) {
         uint64_t number = UNSET;
-        CHECK_ROW(rows[i].what, kumquatsieve_load(&empty, rows[i].image.bytes, rows[i].image.length, &number) == rows[i].code);
-        CHECK_ROW(rows[i].what, number == rows[i].number && cut(&empty, "z") == KUMQUATSIEVE_EMPTY_CUTTER);
+        CHECK_ROW(rows[i].what, kumquatsieve_load(&empty, rows[i].image.bytes, rows[i].image.length,
+                                                  &number) == rows[i].code);
+        CHECK_ROW(rows[i].what,
+                  number == rows[i].number && cut(&empty, "z") == KUMQUATSIEVE_EMPTY_CUTTER);
         if (rows[i].code == KUMQUATSIEVE_NOT_SYSTEM) continue;
         number = UNSET;
-        CHECK_ROW(rows[i].what, kumquatsieve_add_user(&cutter, rows[i].image.bytes, rows[i].image.length, &number) == rows[i].code);
+        CHECK_ROW(rows[i].what,
+                  kumquatsieve_add_user(&cutter, rows[i].image.bytes, rows[i].image.length,
+                                        &number) == rows[i].code);
         CHECK_ROW(rows[i].what, number == rows[i].number && prints(&cutter, MOMO));
     }
     uint64_t number = UNSET;
-    CHECK(kumquatsieve_load(&cutter, system.bytes, system.length, &number) == KUMQUATSIEVE_FULL_CUTTER && number == UNSET && prints(&cutter, MOMO));
+    CHECK(kumquatsieve_load(&cutter, system.bytes, system.length, &number) ==
+              KUMQUATSIEVE_FULL_CUTTER &&
+          number == UNSET && prints(&cutter, MOMO));
     kumquatsieve_free(&cutter);
     CHECK(cut(&cutter, "") == KUMQUATSIEVE_EMPTY_CUTTER);
-    CHECK(kumquatsieve_load(&cutter, system.bytes, system.length, &number) == KUMQUATSIEVE_OK && number == UNSET);
+    CHECK(kumquatsieve_load(&cutter, system.bytes, system.length, &number) == KUMQUATSIEVE_OK &&
+          number == UNSET);
     kumquatsieve_free(&cutter);
     kumquatsieve_free(&cutter);
     CHECK(cut(&cutter, "") == KUMQUATSIEVE_EMPTY_CUTTER);
@@ -68,8 +77,10 @@ static void users(file system, file user) {
     kumquatsieve_cutter cutter = loaded(system);
     uint64_t number = UNSET;
     CHECK(cut(&cutter, "もも") == KUMQUATSIEVE_OK);
-    CHECK(add_user(&cutter, system, &number) == KUMQUATSIEVE_NOT_USER && number == 0 && prints(&cutter, MOMO));
-    CHECK(add_user(&cutter, user, &number) == KUMQUATSIEVE_OK && number == UNSET && !prints(&cutter, MOMO));
+    CHECK(add_user(&cutter, system, &number) == KUMQUATSIEVE_NOT_USER && number == 0 &&
+          prints(&cutter, MOMO));
+    CHECK(add_user(&cutter, user, &number) == KUMQUATSIEVE_OK && number == UNSET &&
+          !prints(&cutter, MOMO));
     CHECK(add_user(&cutter, system, &number) == KUMQUATSIEVE_NOT_USER && number == 1);
     CHECK(cut(&cutter, "もも") == KUMQUATSIEVE_OK && prints(&cutter, USERS_MOMO));
     kumquatsieve_free(&cutter);
@@ -81,22 +92,30 @@ static void users_words(file system, file user, file second) {
     size_t length = 0;
     uint64_t number = UNSET;
     CHECK(set_texts(&cutter, "%m/%f[1]/%pc ", "%m/%f[1]/%pc ", "", "%pc\\n") == KUMQUATSIEVE_OK);
-    CHECK(cut(&cutter, LINE) == KUMQUATSIEVE_OK && prints(&cutter, "すもも/すもも/110 もも/もも/147 152\n"));
-    CHECK(add_user(&cutter, user, &number) == KUMQUATSIEVE_OK && kumquatsieve_print(&cutter, &text, &length) == KUMQUATSIEVE_NOTHING_CUT);
-    CHECK(cut(&cutter, LINE) == KUMQUATSIEVE_OK && prints(&cutter, "すもも/すもも/110 もも/ユーザ/118 123\n"));
+    CHECK(cut(&cutter, LINE) == KUMQUATSIEVE_OK &&
+          prints(&cutter, "すもも/すもも/110 もも/もも/147 152\n"));
+    CHECK(add_user(&cutter, user, &number) == KUMQUATSIEVE_OK &&
+          kumquatsieve_print(&cutter, &text, &length) == KUMQUATSIEVE_NOTHING_CUT);
+    CHECK(cut(&cutter, LINE) == KUMQUATSIEVE_OK &&
+          prints(&cutter, "すもも/すもも/110 もも/ユーザ/118 123\n"));
     CHECK(add_user(&cutter, second, &number) == KUMQUATSIEVE_OK);
     CHECK(cut(&cutter, "もも") == KUMQUATSIEVE_OK && prints(&cutter, "もも/ユーザ/11 16\n"));
     kumquatsieve_free(&cutter);
 }
 
 static void sharing(file system, file user) {
-    kumquatsieve_cutter first = loaded(system), second = kumquatsieve_empty(), empty = kumquatsieve_empty();
+    kumquatsieve_cutter first = loaded(system), second = kumquatsieve_empty(),
+                        empty = kumquatsieve_empty();
     uint64_t number = UNSET;
-    CHECK(cut(&first, "もも") == KUMQUATSIEVE_OK && kumquatsieve_share(&second, &first) == KUMQUATSIEVE_OK && !prints(&second, MOMO));
-    CHECK(cut(&second, "すもも") == KUMQUATSIEVE_OK && prints(&second, "すもも\t名詞,すもも\nEOS\n") && prints(&first, MOMO));
-    CHECK(set_texts(&second, "%m ", "%m ", "", "") == KUMQUATSIEVE_OK && prints(&second, "すもも ") && prints(&first, MOMO));
+    CHECK(cut(&first, "もも") == KUMQUATSIEVE_OK &&
+          kumquatsieve_share(&second, &first) == KUMQUATSIEVE_OK && !prints(&second, MOMO));
+    CHECK(cut(&second, "すもも") == KUMQUATSIEVE_OK &&
+          prints(&second, "すもも\t名詞,すもも\nEOS\n") && prints(&first, MOMO));
+    CHECK(set_texts(&second, "%m ", "%m ", "", "") == KUMQUATSIEVE_OK &&
+          prints(&second, "すもも ") && prints(&first, MOMO));
     CHECK(kumquatsieve_share(&second, &first) == KUMQUATSIEVE_FULL_CUTTER);
-    CHECK(add_user(&first, user, &number) == KUMQUATSIEVE_SHARED && number == UNSET && prints(&first, MOMO));
+    CHECK(add_user(&first, user, &number) == KUMQUATSIEVE_SHARED && number == UNSET &&
+          prints(&first, MOMO));
     kumquatsieve_free(&first);
     CHECK(kumquatsieve_share(&first, &empty) == KUMQUATSIEVE_EMPTY_CUTTER);
     CHECK(add_user(&second, user, &number) == KUMQUATSIEVE_OK && number == UNSET);
@@ -122,11 +141,11 @@ static const struct {
     {"no text in the fourth", {"", "", "", "abc\xc0"}, KUMQUATSIEVE_NOT_UTF8, 3, 3},
 };
 
-static uint32_t set_format(kumquatsieve_cutter *cutter, const char *const texts[4], uint32_t *part, size_t *at) {
-    return kumquatsieve_set_format(
-        cutter, BYTES(texts[0]), strlen(texts[0]), BYTES(texts[1]), strlen(texts[1]), BYTES(texts[2]), strlen(texts[2]),
-        BYTES(texts[3]), strlen(texts[3]), part, at
-    );
+static uint32_t set_format(kumquatsieve_cutter *cutter, const char *const texts[4], uint32_t *part,
+                           size_t *at) {
+    return kumquatsieve_set_format(cutter, BYTES(texts[0]), strlen(texts[0]), BYTES(texts[1]),
+                                   strlen(texts[1]), BYTES(texts[2]), strlen(texts[2]),
+                                   BYTES(texts[3]), strlen(texts[3]), part, at);
 }
 
 static void refused_formats(file system) {
@@ -135,8 +154,11 @@ static void refused_formats(file system) {
     for (size_t i = 0; i < ROWS(REFUSED_FORMATS); i++) {
         uint32_t part = 9;
         size_t at = 99;
-        CHECK_ROW(REFUSED_FORMATS[i].what, set_format(&cutter, REFUSED_FORMATS[i].texts, &part, &at) == REFUSED_FORMATS[i].code);
-        CHECK_ROW(REFUSED_FORMATS[i].what, part == REFUSED_FORMATS[i].part && at == REFUSED_FORMATS[i].at && prints(&cutter, MOMO));
+        CHECK_ROW(REFUSED_FORMATS[i].what, set_format(&cutter, REFUSED_FORMATS[i].texts, &part,
+                                                      &at) == REFUSED_FORMATS[i].code);
+        CHECK_ROW(REFUSED_FORMATS[i].what, part == REFUSED_FORMATS[i].part &&
+                                               at == REFUSED_FORMATS[i].at &&
+                                               prints(&cutter, MOMO));
     }
     kumquatsieve_free(&cutter);
 }
@@ -155,12 +177,16 @@ static void formats(file system) {
     for (size_t i = 0; i < ROWS(FORMATS); i++) {
         uint32_t part = 9;
         size_t at = 99;
-        CHECK_ROW(FORMATS[i].what, set_format(&cutter, FORMATS[i].texts, &part, &at) == KUMQUATSIEVE_OK && part == 9 && at == 99);
+        CHECK_ROW(FORMATS[i].what,
+                  set_format(&cutter, FORMATS[i].texts, &part, &at) == KUMQUATSIEVE_OK &&
+                      part == 9 && at == 99);
         CHECK_ROW(FORMATS[i].what, prints(&cutter, FORMATS[i].output));
     }
     CHECK(cut(&cutter, LINE) == KUMQUATSIEVE_OK);
-    CHECK(set_texts(&cutter, "%m ", "%m ", "", "\\n") == KUMQUATSIEVE_OK && prints(&cutter, "すもも もも \n"));
-    CHECK(set_texts(&cutter, "%m", "%m", "", "x\\q") == KUMQUATSIEVE_BAD_ESCAPE && prints(&cutter, "すもも もも \n"));
+    CHECK(set_texts(&cutter, "%m ", "%m ", "", "\\n") == KUMQUATSIEVE_OK &&
+          prints(&cutter, "すもも もも \n"));
+    CHECK(set_texts(&cutter, "%m", "%m", "", "x\\q") == KUMQUATSIEVE_BAD_ESCAPE &&
+          prints(&cutter, "すもも もも \n"));
     kumquatsieve_free(&cutter);
 }
 
@@ -184,13 +210,17 @@ static void groupings(file system) {
     size_t length = 0;
     CHECK(set_texts(&cutter, "%m|", "%m|", "", "") == KUMQUATSIEVE_OK);
     for (size_t i = 0; i < ROWS(GROUPINGS); i++) {
-        CHECK_ROW(GROUPINGS[i].what, kumquatsieve_set_grouping(&cutter, GROUPINGS[i].grouping) == GROUPINGS[i].code);
+        CHECK_ROW(GROUPINGS[i].what,
+                  kumquatsieve_set_grouping(&cutter, GROUPINGS[i].grouping) == GROUPINGS[i].code);
         if (GROUPINGS[i].code == KUMQUATSIEVE_OK) {
-            CHECK_ROW(GROUPINGS[i].what, kumquatsieve_print(&cutter, &text, &length) == KUMQUATSIEVE_NOTHING_CUT);
+            CHECK_ROW(GROUPINGS[i].what,
+                      kumquatsieve_print(&cutter, &text, &length) == KUMQUATSIEVE_NOTHING_CUT);
         }
-        CHECK_ROW(GROUPINGS[i].what, cut(&cutter, "zzz") == KUMQUATSIEVE_OK && prints(&cutter, GROUPINGS[i].output));
+        CHECK_ROW(GROUPINGS[i].what,
+                  cut(&cutter, "zzz") == KUMQUATSIEVE_OK && prints(&cutter, GROUPINGS[i].output));
     }
-    CHECK(kumquatsieve_set_grouping(&cutter, 1001) == KUMQUATSIEVE_BAD_GROUPING && prints(&cutter, "zzz|"));
+    CHECK(kumquatsieve_set_grouping(&cutter, 1001) == KUMQUATSIEVE_BAD_GROUPING &&
+          prints(&cutter, "zzz|"));
     kumquatsieve_free(&cutter);
 }
 

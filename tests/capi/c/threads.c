@@ -1,5 +1,5 @@
-/* Four threads, each with a cutter of its own over shared dictionaries, cut the lines of a file: threads IMG LINES. Their texts are the
-   same, and are written once. */
+/* Four threads, each with a cutter of its own over shared dictionaries, cut the lines of a file:
+   threads IMG LINES. Their texts are the same, and are written once. */
 #include "check.h"
 #include <pthread.h>
 
@@ -24,7 +24,8 @@ static void *cut_all(void *given) {
         const uint8_t *feed = memchr(line, '\n', (size_t)(end - line));
         size_t count = 0, length = 0;
         int64_t total = 0;
-        CHECK(feed && kumquatsieve_cut(&own->cutter, line, (size_t)(feed - line), &count, &total, NULL) == KUMQUATSIEVE_OK);
+        CHECK(feed && kumquatsieve_cut(&own->cutter, line, (size_t)(feed - line), &count, &total,
+                                       NULL) == KUMQUATSIEVE_OK);
         CHECK(kumquatsieve_print(&own->cutter, &text, &length) == KUMQUATSIEVE_OK);
         append(own, text, length);
         line = feed + 1;
@@ -42,10 +43,13 @@ int main(int given, char **paths) {
     uint64_t number = 0;
     for (int i = 0; i < THREADS; i++) all[i] = (work){KUMQUATSIEVE_EMPTY, lines, NULL, 0};
     CHECK(load(&all[0].cutter, image, &number) == KUMQUATSIEVE_OK);
-    for (int i = 1; i < THREADS; i++) CHECK(kumquatsieve_share(&all[i].cutter, &all[0].cutter) == KUMQUATSIEVE_OK);
-    for (int i = 0; i < THREADS; i++) CHECK(pthread_create(&threads[i], NULL, cut_all, &all[i]) == 0);
+    for (int i = 1; i < THREADS; i++)
+        CHECK(kumquatsieve_share(&all[i].cutter, &all[0].cutter) == KUMQUATSIEVE_OK);
+    for (int i = 0; i < THREADS; i++)
+        CHECK(pthread_create(&threads[i], NULL, cut_all, &all[i]) == 0);
     for (int i = 0; i < THREADS; i++) CHECK(pthread_join(threads[i], NULL) == 0);
-    for (int i = 1; i < THREADS; i++) CHECK(all[i].length == all[0].length && memcmp(all[i].out, all[0].out, all[0].length) == 0);
+    for (int i = 1; i < THREADS; i++)
+        CHECK(all[i].length == all[0].length && memcmp(all[i].out, all[0].out, all[0].length) == 0);
     fwrite(all[0].out, 1, all[0].length, stdout);
     for (int i = 0; i < THREADS; i++) free(all[i].out);
     free(image.bytes);

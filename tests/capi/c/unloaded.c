@@ -15,10 +15,8 @@ static void open_once(const char *library, const char *image) {
     CHECK(loaded_library);
     *(void **)&opens = dlsym(loaded_library, "kumquatsieve_open");
     *(void **)&frees = dlsym(loaded_library, "kumquatsieve_free");
-    CHECK(
-        opens && frees && opens(&cutter, image, 0, NULL) == KUMQUATSIEVE_OK &&
-        mappings_of(image) == 1
-    );
+    CHECK(opens && frees && opens(&cutter, image, 0, NULL) == KUMQUATSIEVE_OK &&
+          mappings_of(image) == 1);
     frees(&cutter);
     CHECK(mappings_of(image) == 0 && dlclose(loaded_library) == 0);
 }
@@ -36,7 +34,6 @@ int main(int given, char **paths) {
     }
     printf(
         "unloaded: the shared library was loaded and unloaded %d times, with a fork after each\n",
-        OFTEN
-    );
+        OFTEN);
     return 0;
 }

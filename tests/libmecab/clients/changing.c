@@ -12,12 +12,10 @@ enum { ALWAYS = 1000 };
 static const char *path, *other;
 static int changes, opens;
 
-uint32_t __real_kumquatsieve_open(
-    kumquatsieve_cutter *cutter, const char *name, unsigned how, uint64_t *number
-);
-uint32_t __wrap_kumquatsieve_open(
-    kumquatsieve_cutter *cutter, const char *name, unsigned how, uint64_t *number
-);
+uint32_t __real_kumquatsieve_open(kumquatsieve_cutter *cutter, const char *name, unsigned how,
+                                  uint64_t *number);
+uint32_t __wrap_kumquatsieve_open(kumquatsieve_cutter *cutter, const char *name, unsigned how,
+                                  uint64_t *number);
 
 /* Gives the image a time of writing that it never had. */
 static void touch(void) {
@@ -28,12 +26,13 @@ static void touch(void) {
 
 /* Each open comes just after a change, as long as there are changes left. The first one is a
    rename, and the others set the time of writing. */
-uint32_t __wrap_kumquatsieve_open(
-    kumquatsieve_cutter *cutter, const char *name, unsigned how, uint64_t *number
-) {
+uint32_t __wrap_kumquatsieve_open(kumquatsieve_cutter *cutter, const char *name, unsigned how,
+                                  uint64_t *number) {
     opens++;
-    if (changes > 0 && other) CHECK(rename(other, path) == 0);
-    else if (changes > 0) touch();
+    if (changes > 0 && other)
+        CHECK(rename(other, path) == 0);
+    else if (changes > 0)
+        touch();
     changes -= changes > 0;
     other = NULL;
     return __real_kumquatsieve_open(cutter, name, how, number);

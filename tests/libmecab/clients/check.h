@@ -6,21 +6,21 @@
 #include <stdlib.h>
 #include <string.h>
 
-#define CHECK(holds)                                                  \
-    do {                                                              \
-        if (!(holds)) {                                               \
-            fprintf(stderr, "%s:%d: %s\n", __FILE__, __LINE__, #holds); \
-            exit(1);                                                  \
-        }                                                             \
+#define CHECK(holds)                                                                               \
+    do {                                                                                           \
+        if (!(holds)) {                                                                            \
+            fprintf(stderr, "%s:%d: %s\n", __FILE__, __LINE__, #holds);                            \
+            exit(1);                                                                               \
+        }                                                                                          \
     } while (0)
 
 /* The same of a row of a table, by its name. */
-#define CHECK_ROW(what, holds)                                                    \
-    do {                                                                          \
-        if (!(holds)) {                                                           \
-            fprintf(stderr, "%s:%d: %s: %s\n", __FILE__, __LINE__, what, #holds); \
-            exit(1);                                                              \
-        }                                                                         \
+#define CHECK_ROW(what, holds)                                                                     \
+    do {                                                                                           \
+        if (!(holds)) {                                                                            \
+            fprintf(stderr, "%s:%d: %s: %s\n", __FILE__, __LINE__, what, #holds);                  \
+            exit(1);                                                                               \
+        }                                                                                          \
     } while (0)
 
 __attribute__((unused)) static const char LINE[] = "すもももも";
@@ -34,8 +34,6 @@ static inline char *words_of(const char *dictionary, const char *more) {
     return line;
 }
 
-static inline int is_left_out(const char *said) {
-    return strstr(said, "not supported") != NULL;
-}
+static inline int is_left_out(const char *said) { return strstr(said, "not supported") != NULL; }
 
 #endif

@@ -1,5 +1,6 @@
-/* Prints each line in a dictionary's own format: endings DICTIONARY TYPE LINES. The text, and each node by itself, also that of the beginning and the
-   end. Then the best path of some sentences as the first of several, with what stands after these. Of paths that cost the same MeCab may give
+/* Prints each line in a dictionary's own format: endings DICTIONARY TYPE LINES. The text, and each
+   node by itself, also that of the beginning and the end. Then the best path of some sentences as
+   the first of several, with what stands after these. Of paths that cost the same MeCab may give
    another one then, so these are sentences with one best path. */
 #include <mecab.h>
 #include <stdio.h>

@@ -1,5 +1,6 @@
-/* A program as MeCab's documents have them, in C: example DICTIONARY PART. The parts `tagger` and `lattice` want the best path, `tagger-nbest` and
-   `lattice-nbest` three of them. What is refused is printed, with status 1. */
+/* A program as MeCab's documents have them, in C: example DICTIONARY PART. The parts `tagger` and
+   `lattice` want the best path, `tagger-nbest` and `lattice-nbest` three of them. What is refused
+   is printed, with status 1. */
 #include <mecab.h>
 #include <stdio.h>
 #include <string.h>
@@ -14,11 +15,16 @@ static int refused(const char *why) {
 }
 
 static void tell_node(const mecab_node_t *node) {
-    if (node->stat == MECAB_BOS_NODE) printf("BOS");
-    else if (node->stat == MECAB_EOS_NODE) printf("EOS");
-    else printf("%.*s", node->length, node->surface);
-    printf(" %s %td %u %u %u %u ", node->feature, node->surface - SENTENCE, node->length, node->rcAttr, node->lcAttr, node->posid);
-    printf("%u %u %u %f %f %f %ld\n", node->char_type, node->stat, node->isbest, node->alpha, node->beta, node->prob, node->cost);
+    if (node->stat == MECAB_BOS_NODE)
+        printf("BOS");
+    else if (node->stat == MECAB_EOS_NODE)
+        printf("EOS");
+    else
+        printf("%.*s", node->length, node->surface);
+    printf(" %s %td %u %u %u %u ", node->feature, node->surface - SENTENCE, node->length,
+           node->rcAttr, node->lcAttr, node->posid);
+    printf("%u %u %u %f %f %f %ld\n", node->char_type, node->stat, node->isbest, node->alpha,
+           node->beta, node->prob, node->cost);
 }
 
 static void tell_dictionaries(const mecab_dictionary_info_t *info) {
@@ -41,8 +47,10 @@ static int with_tagger(mecab_t *tagger) {
 
 static int with_tagger_nbest(mecab_t *tagger) {
     const char *text = mecab_nbest_sparse_tostr(tagger, PATHS, SENTENCE);
-    if (!text) refused(mecab_strerror(tagger));
-    else printf("NBEST:\n%s", text);
+    if (!text)
+        refused(mecab_strerror(tagger));
+    else
+        printf("NBEST:\n%s", text);
     if (!mecab_nbest_init(tagger, SENTENCE)) return refused(mecab_strerror(tagger));
     for (int i = 0; i < PATHS; i++) {
         text = mecab_nbest_next_tostr(tagger);
@@ -54,7 +62,8 @@ static int with_tagger_nbest(mecab_t *tagger) {
 
 static void tell_places(mecab_lattice_t *lattice) {
     for (size_t at = 0; at <= mecab_lattice_get_size(lattice); at++) {
-        for (const mecab_node_t *node = mecab_lattice_get_begin_nodes(lattice, at); node; node = node->bnext) {
+        for (const mecab_node_t *node = mecab_lattice_get_begin_nodes(lattice, at); node;
+             node = node->bnext) {
             if (node->isbest) printf("%zu ", at), tell_node(node);
         }
     }
@@ -63,8 +72,10 @@ static void tell_places(mecab_lattice_t *lattice) {
 static int with_lattice(mecab_t *tagger, mecab_lattice_t *lattice) {
     mecab_lattice_set_sentence(lattice, SENTENCE);
     if (!mecab_parse_lattice(tagger, lattice)) return refused(mecab_lattice_strerror(lattice));
-    printf("INPUT: %s\nRESULT:\n%s", mecab_lattice_get_sentence(lattice), mecab_lattice_tostr(lattice));
-    for (const mecab_node_t *node = mecab_lattice_get_bos_node(lattice); node; node = node->next) tell_node(node);
+    printf("INPUT: %s\nRESULT:\n%s", mecab_lattice_get_sentence(lattice),
+           mecab_lattice_tostr(lattice));
+    for (const mecab_node_t *node = mecab_lattice_get_bos_node(lattice); node; node = node->next)
+        tell_node(node);
     tell_places(lattice);
     return 0;
 }
@@ -83,7 +94,8 @@ static int with_lattice_nbest(mecab_t *tagger, mecab_lattice_t *lattice) {
 static int with_part(const char *part, mecab_t *tagger, mecab_lattice_t *lattice) {
     if (strcmp(part, "tagger") == 0) return with_tagger(tagger);
     if (strcmp(part, "tagger-nbest") == 0) return with_tagger_nbest(tagger);
-    return strcmp(part, "lattice") == 0 ? with_lattice(tagger, lattice) : with_lattice_nbest(tagger, lattice);
+    return strcmp(part, "lattice") == 0 ? with_lattice(tagger, lattice)
+                                        : with_lattice_nbest(tagger, lattice);
 }
 
 int main(int given, char **words) {
@@ -93,7 +105,8 @@ int main(int given, char **words) {
     mecab_model_t *model = mecab_model_new(3, options);
     mecab_t *tagger = model ? mecab_model_new_tagger(model) : NULL;
     mecab_lattice_t *lattice = model ? mecab_model_new_lattice(model) : NULL;
-    int status = tagger && lattice ? with_part(words[2], tagger, lattice) : refused(mecab_strerror(NULL));
+    int status =
+        tagger && lattice ? with_part(words[2], tagger, lattice) : refused(mecab_strerror(NULL));
     if (lattice) mecab_lattice_destroy(lattice);
     if (tagger) mecab_destroy(tagger);
     if (model) mecab_model_destroy(model);

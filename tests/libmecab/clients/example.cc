@@ -1,6 +1,7 @@
-// A program as MeCab's documents have them, in C++: example DICTIONARY PART. The parts are those of example.c.
-#include <mecab.h>
+// A program as MeCab's documents have them, in C++: example DICTIONARY PART. The parts are those of
+// example.c.
 #include <iostream>
+#include <mecab.h>
 #include <memory>
 #include <string>
 
@@ -15,17 +16,23 @@ int refused(const char *why) {
 }
 
 void tell_node(const MeCab::Node *node) {
-    if (node->stat == MECAB_BOS_NODE) std::cout << "BOS";
-    else if (node->stat == MECAB_EOS_NODE) std::cout << "EOS";
-    else std::cout.write(node->surface, node->length);
-    std::cout << ' ' << node->feature << ' ' << node->surface - SENTENCE << ' ' << node->rcAttr << ' ' << node->lcAttr << ' ' << node->posid << ' '
-              << static_cast<int>(node->char_type) << ' ' << static_cast<int>(node->stat) << ' ' << static_cast<int>(node->isbest) << ' '
-              << node->alpha << ' ' << node->beta << ' ' << node->prob << ' ' << node->cost << '\n';
+    if (node->stat == MECAB_BOS_NODE)
+        std::cout << "BOS";
+    else if (node->stat == MECAB_EOS_NODE)
+        std::cout << "EOS";
+    else
+        std::cout.write(node->surface, node->length);
+    std::cout << ' ' << node->feature << ' ' << node->surface - SENTENCE << ' ' << node->rcAttr
+              << ' ' << node->lcAttr << ' ' << node->posid << ' '
+              << static_cast<int>(node->char_type) << ' ' << static_cast<int>(node->stat) << ' '
+              << static_cast<int>(node->isbest) << ' ' << node->alpha << ' ' << node->beta << ' '
+              << node->prob << ' ' << node->cost << '\n';
 }
 
 void tell_dictionaries(const MeCab::DictionaryInfo *info) {
     for (; info != nullptr; info = info->next) {
-        std::cout << info->charset << ' ' << info->size << ' ' << info->type << ' ' << info->version << '\n';
+        std::cout << info->charset << ' ' << info->size << ' ' << info->type << ' ' << info->version
+                  << '\n';
         std::cout << info->lsize << ' ' << info->rsize << '\n';
     }
 }
@@ -43,8 +50,10 @@ int with_tagger(MeCab::Tagger *tagger) {
 
 int with_tagger_nbest(MeCab::Tagger *tagger) {
     const char *text = tagger->parseNBest(PATHS, SENTENCE);
-    if (text == nullptr) refused(tagger->what());
-    else std::cout << "NBEST:\n" << text;
+    if (text == nullptr)
+        refused(tagger->what());
+    else
+        std::cout << "NBEST:\n" << text;
     if (!tagger->parseNBestInit(SENTENCE)) return refused(tagger->what());
     for (int i = 0; i < PATHS; i++) {
         text = tagger->next();
@@ -58,9 +67,11 @@ int with_lattice(const MeCab::Tagger *tagger, MeCab::Lattice *lattice) {
     lattice->set_sentence(SENTENCE);
     if (!tagger->parse(lattice)) return refused(lattice->what());
     std::cout << "INPUT: " << lattice->sentence() << "\nRESULT:\n" << lattice->toString();
-    for (const MeCab::Node *node = lattice->bos_node(); node != nullptr; node = node->next) tell_node(node);
+    for (const MeCab::Node *node = lattice->bos_node(); node != nullptr; node = node->next)
+        tell_node(node);
     for (size_t at = 0; at <= lattice->size(); at++) {
-        for (const MeCab::Node *node = lattice->begin_nodes(at); node != nullptr; node = node->bnext) {
+        for (const MeCab::Node *node = lattice->begin_nodes(at); node != nullptr;
+             node = node->bnext) {
             if (node->isbest) tell_node(node);
         }
     }
@@ -84,13 +95,15 @@ int with_part(const std::string &part, MeCab::Tagger *tagger, MeCab::Lattice *la
     return part == "lattice" ? with_lattice(tagger, lattice) : with_lattice_nbest(tagger, lattice);
 }
 
-}  // namespace
+} // namespace
 
 int main(int given, char **words) {
     if (given != 3) return 2;
-    std::unique_ptr<MeCab::Model> model(MeCab::createModel((std::string("-d ") + words[1]).c_str()));
+    std::unique_ptr<MeCab::Model> model(
+        MeCab::createModel((std::string("-d ") + words[1]).c_str()));
     if (!model) return refused(MeCab::getLastError());
     std::unique_ptr<MeCab::Tagger> tagger(model->createTagger());
     std::unique_ptr<MeCab::Lattice> lattice(model->createLattice());
-    return tagger && lattice ? with_part(words[2], tagger.get(), lattice.get()) : refused(MeCab::getLastError());
+    return tagger && lattice ? with_part(words[2], tagger.get(), lattice.get())
+                             : refused(MeCab::getLastError());
 }

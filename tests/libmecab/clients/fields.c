@@ -1,13 +1,16 @@
-/* Prints each field of each node, of the beginning and the end too, for each line: fields DICTIONARY LINES [USERS]. */
+/* Prints each field of each node, of the beginning and the end too, for each line: fields
+ * DICTIONARY LINES [USERS]. */
 #include <mecab.h>
 #include <stdio.h>
 #include <stdlib.h>
 #include <string.h>
 
 static void tell(const mecab_node_t *node) {
-    printf("%.*s %s %u %u ", node->length, node->surface, node->feature, node->length, node->rlength);
+    printf("%.*s %s %u %u ", node->length, node->surface, node->feature, node->length,
+           node->rlength);
     printf("%u %u %u %u %u ", node->rcAttr, node->lcAttr, node->posid, node->char_type, node->stat);
-    printf("%u %d %ld %g %g %g\n", node->isbest, node->wcost, node->cost, node->alpha, node->beta, node->prob);
+    printf("%u %d %ld %g %g %g\n", node->isbest, node->wcost, node->cost, node->alpha, node->beta,
+           node->prob);
 }
 
 int main(int given, char **paths) {
@@ -15,7 +18,8 @@ int main(int given, char **paths) {
     size_t room = 0;
     FILE *file = given == 3 || given == 4 ? fopen(paths[2], "r") : NULL;
     if (!file) return 2;
-    snprintf(options, sizeof options, "-d %s %s %s", paths[1], given == 4 ? "-u" : "", given == 4 ? paths[3] : "");
+    snprintf(options, sizeof options, "-d %s %s %s", paths[1], given == 4 ? "-u" : "",
+             given == 4 ? paths[3] : "");
     mecab_t *tagger = mecab_new2(options);
     if (!tagger) return 1;
     while (getline(&line, &room, file) > 0) {

@@ -1,6 +1,8 @@
-/* Forks while three threads parse by one tagger: forks DICTIONARY, 200 times; or forks DICTIONARY ONE OTHER, 2,000 times, while the threads open ONE
-   and OTHER by turns, which are so loaded and given back all the time. Each child parses by that tagger, opens and parses by one of its own, and
-   ends; one that hangs is ended by its clock, and so is the program itself. Prints how many answered. */
+/* Forks while three threads parse by one tagger: forks DICTIONARY, 200 times; or forks DICTIONARY
+   ONE OTHER, 2,000 times, while the threads open ONE and OTHER by turns, which are so loaded and
+   given back all the time. Each child parses by that tagger, opens and parses by one of its own,
+   and ends; one that hangs is ended by its clock, and so is the program itself. Prints how many
+   answered. */
 #include <mecab.h>
 #include <pthread.h>
 #include <stdatomic.h>
@@ -10,7 +12,14 @@
 #include <sys/wait.h>
 #include <unistd.h>
 
-enum { THREADS = 3, FORKS = 200, FORKS_OF_TWO = 2000, SECONDS = 20, ALL_SECONDS = 300, WORDS = 4096 };
+enum {
+    THREADS = 3,
+    FORKS = 200,
+    FORKS_OF_TWO = 2000,
+    SECONDS = 20,
+    ALL_SECONDS = 300,
+    WORDS = 4096
+};
 
 static const char LINE[] = "すもももももももものうち";
 static char options[WORDS];
@@ -27,7 +36,8 @@ static int answers(mecab_t *tagger) {
     int same = 0;
     if (tagger && lattice) {
         mecab_lattice_set_sentence(lattice, LINE);
-        same = mecab_parse_lattice(tagger, lattice) && strcmp(mecab_lattice_tostr(lattice), wanted) == 0;
+        same = mecab_parse_lattice(tagger, lattice) &&
+               strcmp(mecab_lattice_tostr(lattice), wanted) == 0;
     }
     mecab_lattice_destroy(lattice);
     return same;

@@ -1,5 +1,6 @@
-/* Makes a model, a tagger and a lattice, and cuts with them: growths IMG OPTIONS. Each growth of the heap is refused in turn; what can't be done
-   then is said, with status 1, and the rest is as it would be. */
+/* Makes a model, a tagger and a lattice, and cuts with them: growths IMG OPTIONS. Each growth of
+   the heap is refused in turn; what can't be done then is said, with status 1, and the rest is as
+   it would be. */
 #include "check.h"
 
 static const char SENTENCE[] = "すもももも\xff もも";
@@ -12,15 +13,19 @@ static int is_told(const char *answer, const char *said) {
 static int cut(mecab_t *tagger, mecab_lattice_t *lattice) {
     mecab_lattice_add_request_type(lattice, MECAB_ALLOCATE_SENTENCE);
     mecab_lattice_set_sentence(lattice, SENTENCE);
-    if (!mecab_parse_lattice(tagger, lattice)) return is_told(NULL, mecab_lattice_strerror(lattice));
-    for (mecab_node_t *node = mecab_lattice_get_bos_node(lattice); node; node = node->next) CHECK(node->feature);
-    if (!mecab_lattice_get_all_begin_nodes(lattice) || !mecab_lattice_get_all_end_nodes(lattice)) return is_told(NULL, mecab_lattice_strerror(lattice));
+    if (!mecab_parse_lattice(tagger, lattice))
+        return is_told(NULL, mecab_lattice_strerror(lattice));
+    for (mecab_node_t *node = mecab_lattice_get_bos_node(lattice); node; node = node->next)
+        CHECK(node->feature);
+    if (!mecab_lattice_get_all_begin_nodes(lattice) || !mecab_lattice_get_all_end_nodes(lattice))
+        return is_told(NULL, mecab_lattice_strerror(lattice));
     return is_told(mecab_lattice_tostr(lattice), mecab_lattice_strerror(lattice));
 }
 
 static int cut_own(mecab_t *tagger) {
     const mecab_node_t *node = mecab_sparse_tonode(tagger, LINE);
-    if (!node || !mecab_format_node(tagger, node->next)) return is_told(NULL, mecab_strerror(tagger));
+    if (!node || !mecab_format_node(tagger, node->next))
+        return is_told(NULL, mecab_strerror(tagger));
     return is_told(mecab_nbest_sparse_tostr(tagger, 1, LINE), mecab_strerror(tagger));
 }
 

@@ -1,8 +1,9 @@
-/* Prints the whole lattice of each line: lattices DICTIONARY LINES [USERS]. Each node by the place where it begins, in the order of its list; which
-   end at each place; and then all of them in the order in which they are linked where all morphs are asked for.
+/* Prints the whole lattice of each line: lattices DICTIONARY LINES [USERS]. Each node by the place
+   where it begins, in the order of its list; which end at each place; and then all of them in the
+   order in which they are linked where all morphs are asked for.
 
-   Where only blanks are left MeCab has a node of unknown blanks that ends after the sentence. Such a one is passed over, and the id of the end is
-   what it would be without it. */
+   Where only blanks are left MeCab has a node of unknown blanks that ends after the sentence. Such
+   a one is passed over, and the id of the end is what it would be without it. */
 #include <mecab.h>
 #include <stdio.h>
 #include <stdlib.h>
@@ -21,7 +22,8 @@ static unsigned id_of(const mecab_node_t *node) {
 }
 
 static void tell(const mecab_node_t *node) {
-    printf("%u %td %u %u %s ", id_of(node), node->surface - sentence, node->length, node->rlength, node->feature);
+    printf("%u %td %u %u %s ", id_of(node), node->surface - sentence, node->length, node->rlength,
+           node->feature);
     printf("%u %u %u %u %u ", node->rcAttr, node->lcAttr, node->posid, node->char_type, node->stat);
     printf("%u %d %ld", node->isbest, node->wcost, node->cost);
     if (node->isbest && node->prev) printf(" behind %u", id_of(node->prev));
@@ -32,7 +34,8 @@ static void tell(const mecab_node_t *node) {
 static unsigned count_passed(mecab_node_t *const *begins) {
     unsigned count = 0;
     for (size_t at = 0; at <= size; at++) {
-        for (const mecab_node_t *node = begins[at]; node; node = node->bnext) count += !is_within(node);
+        for (const mecab_node_t *node = begins[at]; node; node = node->bnext)
+            count += !is_within(node);
     }
     return count;
 }
@@ -48,7 +51,8 @@ static void tell_begins(mecab_node_t *const *begins) {
 
 static void tell_ends(mecab_node_t *const *ends) {
     for (size_t at = 0; at <= size; at++) {
-        for (const mecab_node_t *node = ends[at]; node; node = node->enext) printf("%u ", id_of(node));
+        for (const mecab_node_t *node = ends[at]; node; node = node->enext)
+            printf("%u ", id_of(node));
         if (ends[at]) printf("end at %zu\n", at);
     }
 }
@@ -75,7 +79,8 @@ int main(int given, char **paths) {
     int told = 1;
     FILE *file = given == 3 || given == 4 ? fopen(paths[2], "r") : NULL;
     if (!file) return 2;
-    snprintf(options, sizeof options, "-d %s %s %s", paths[1], given == 4 ? "-u" : "", given == 4 ? paths[3] : "");
+    snprintf(options, sizeof options, "-d %s %s %s", paths[1], given == 4 ? "-u" : "",
+             given == 4 ? paths[3] : "");
     mecab_model_t *model = mecab_model_new2(options);
     mecab_t *tagger = model ? mecab_model_new_tagger(model) : NULL;
     mecab_lattice_t *lattice = model ? mecab_model_new_lattice(model) : NULL;

@@ -1,6 +1,7 @@
-/* One tagger of MeCab's C interface in four threads, each with a lattice of its own: one_tagger DICTIONARY LINES [met]. Prints what each
-   thread is told of each line, as text and as nodes, and what the nodes of the whole lattice cost, thread after thread. With `met` all lines
-   are parsed once before the threads begin, so that what is kept of their entries is there by then. */
+/* One tagger of MeCab's C interface in four threads, each with a lattice of its own: one_tagger
+   DICTIONARY LINES [met]. Prints what each thread is told of each line, as text and as nodes, and
+   what the nodes of the whole lattice cost, thread after thread. With `met` all lines are parsed
+   once before the threads begin, so that what is kept of their entries is there by then. */
 #include <mecab.h>
 #include <pthread.h>
 #include <stdio.h>
@@ -46,7 +47,8 @@ static long cost_of_all(mecab_lattice_t *lattice) {
     long cost = 0;
     if (!begins) stop(mecab_lattice_strerror(lattice));
     for (size_t at = 0; at <= size; at++) {
-        for (const mecab_node_t *node = begins[at]; node; node = node->bnext) cost += at + node->rlength <= size ? node->cost : 0;
+        for (const mecab_node_t *node = begins[at]; node; node = node->bnext)
+            cost += at + node->rlength <= size ? node->cost : 0;
     }
     return cost;
 }
@@ -56,8 +58,10 @@ static void tell(worker *one, mecab_lattice_t *lattice, const char *line) {
     if (!mecab_parse_lattice(one->tagger, lattice)) stop(mecab_lattice_strerror(lattice));
     fputs(mecab_lattice_tostr(lattice), one->told);
     for (const mecab_node_t *node = mecab_lattice_get_bos_node(lattice); node; node = node->next) {
-        fprintf(one->told, "%.*s %s %u %u ", node->length, node->surface, node->feature, node->length, node->rlength);
-        fprintf(one->told, "%u %u %u %u %d %ld\n", node->rcAttr, node->lcAttr, node->char_type, node->stat, node->wcost, node->cost);
+        fprintf(one->told, "%.*s %s %u %u ", node->length, node->surface, node->feature,
+                node->length, node->rlength);
+        fprintf(one->told, "%u %u %u %u %d %ld\n", node->rcAttr, node->lcAttr, node->char_type,
+                node->stat, node->wcost, node->cost);
     }
     fprintf(one->told, "%ld\n", cost_of_all(lattice));
 }
@@ -72,7 +76,8 @@ static void *work(void *at) {
 
 /* Parses all lines in this thread. */
 static void meet(mecab_t *tagger, char *const *lines, size_t count) {
-    worker alone = {.tagger = tagger, .lines = lines, .count = count, .told = fopen("/dev/null", "w")};
+    worker alone = {
+        .tagger = tagger, .lines = lines, .count = count, .told = fopen("/dev/null", "w")};
     if (!alone.told) stop("/dev/null");
     work(&alone);
     if (fclose(alone.told) != 0) stop("/dev/null");
@@ -91,10 +96,12 @@ int main(int given, char **paths) {
     for (int i = 0; i < THREADS; i++) {
         all[i] = (worker){.tagger = tagger, .lines = lines, .count = count};
         all[i].told = open_memstream(&all[i].text, &all[i].length);
-        if (!all[i].told || pthread_create(&all[i].thread, NULL, work, &all[i]) != 0) stop("no thread");
+        if (!all[i].told || pthread_create(&all[i].thread, NULL, work, &all[i]) != 0)
+            stop("no thread");
     }
     for (int i = 0; i < THREADS; i++) {
-        if (pthread_join(all[i].thread, NULL) != 0 || fclose(all[i].told) != 0) stop("a thread's answers are lost");
+        if (pthread_join(all[i].thread, NULL) != 0 || fclose(all[i].told) != 0)
+            stop("a thread's answers are lost");
         if (fwrite(all[i].text, 1, all[i].length, stdout) != all[i].length) stop("a write failed");
         free(all[i].text);
     }

@@ -1,5 +1,6 @@
-/* Makes the calls of MeCab's C interface in orders and with options that its examples don't have, and prints what they answer: orders DICTIONARY.
-   Over MeCab's library and over ours the lines are the same. */
+/* Makes the calls of MeCab's C interface in orders and with options that its examples don't have,
+   and prints what they answer: orders DICTIONARY. Over MeCab's library and over ours the lines are
+   the same. */
 #include <mecab.h>
 #include <stdio.h>
 #include <stdlib.h>
@@ -18,14 +19,13 @@ static void told(const char *what, const char *text) {
     printf("%s: %s\n", what, text ? text : "NULL");
 }
 
-static void told_number(const char *what, long number) {
-    printf("%s: %ld\n", what, number);
-}
+static void told_number(const char *what, long number) { printf("%s: %ld\n", what, number); }
 
 static void empty_lattices(void) {
     mecab_lattice_t *lattice = mecab_lattice_new();
     told_number("request type of a new lattice", mecab_lattice_get_request_type(lattice));
-    told_number("theta of a new lattice, in hundredths", (long)(100 * mecab_lattice_get_theta(lattice)));
+    told_number("theta of a new lattice, in hundredths",
+                (long)(100 * mecab_lattice_get_theta(lattice)));
     told_number("is available", mecab_lattice_is_available(lattice));
     told("sentence", mecab_lattice_get_sentence(lattice));
     told_number("size", (long)mecab_lattice_get_size(lattice));
@@ -38,22 +38,28 @@ static void empty_lattices(void) {
     told_number("has a beginning before it is parsed", mecab_lattice_get_bos_node(lattice) != NULL);
     told_number("has an end before it is parsed", mecab_lattice_get_eos_node(lattice) != NULL);
     mecab_lattice_add_request_type(lattice, MECAB_ALLOCATE_SENTENCE);
-    told_number("has a request type", mecab_lattice_has_request_type(lattice, MECAB_ALLOCATE_SENTENCE));
+    told_number("has a request type",
+                mecab_lattice_has_request_type(lattice, MECAB_ALLOCATE_SENTENCE));
     mecab_lattice_remove_request_type(lattice, MECAB_ALLOCATE_SENTENCE);
-    told_number("has a request type that was removed", mecab_lattice_has_request_type(lattice, MECAB_ALLOCATE_SENTENCE));
+    told_number("has a request type that was removed",
+                mecab_lattice_has_request_type(lattice, MECAB_ALLOCATE_SENTENCE));
     mecab_lattice_clear(lattice);
     told_number("is available after it was cleared", mecab_lattice_is_available(lattice));
     mecab_lattice_destroy(lattice);
 }
 
-/* The format is that of the model that made the lattice, whichever tagger parses it; a lattice without a model has the default one. */
+/* The format is that of the model that made the lattice, whichever tagger parses it; a lattice
+ * without a model has the default one. */
 static void formats_of_lattices(void) {
-    mecab_model_t *model = mecab_model_new2(words("")), *wakati = mecab_model_new2(words("-Owakati"));
-    mecab_t *tagger = mecab_model_new_tagger(model), *wakati_tagger = mecab_model_new_tagger(wakati);
+    mecab_model_t *model = mecab_model_new2(words("")),
+                  *wakati = mecab_model_new2(words("-Owakati"));
+    mecab_t *tagger = mecab_model_new_tagger(model),
+            *wakati_tagger = mecab_model_new_tagger(wakati);
     mecab_lattice_t *own = mecab_lattice_new(), *of_wakati = mecab_model_new_lattice(wakati);
     mecab_lattice_set_sentence(own, LINE);
     told_number("no lattice is parsed", mecab_parse_lattice(tagger, NULL));
-    told_number("a lattice of no model, by a tagger of wakati", mecab_parse_lattice(wakati_tagger, own));
+    told_number("a lattice of no model, by a tagger of wakati",
+                mecab_parse_lattice(wakati_tagger, own));
     told("its text", mecab_lattice_tostr(own));
     mecab_lattice_set_sentence(of_wakati, LINE);
     told_number("a lattice of wakati, by another tagger", mecab_parse_lattice(tagger, of_wakati));
@@ -62,7 +68,8 @@ static void formats_of_lattices(void) {
     mecab_set_partial(tagger, 5);
     told_number("partial", mecab_get_partial(tagger));
     mecab_lattice_set_sentence(own, LINE);
-    told_number("what a tagger is asked for is not asked of other lattices", mecab_parse_lattice(tagger, own));
+    told_number("what a tagger is asked for is not asked of other lattices",
+                mecab_parse_lattice(tagger, own));
     mecab_set_partial(tagger, 0);
     told_number("not partial", mecab_get_partial(tagger));
     mecab_lattice_clear(own);
@@ -100,14 +107,30 @@ static void settings_of_taggers(void) {
 
 static void options_and_sentences(void) {
     static const char *const OPTIONS[] = {
-        "", "-Owakati\n", "\t-O\twakati", "-F '%m '", "-F \"%m\" -E \\n", "nothing", "--node-format=%m/ --eos-format=", "-F%m -Ux\\n", "-Fa -Fb\\n",
-        "-Owakati -F%m\\n", "nothing -Owakati", "- -Owakati", "-- -Owakati", "-C", "-r /dev/null", "-b 5", "-B[ -E] -F(%m)",
+        "",
+        "-Owakati\n",
+        "\t-O\twakati",
+        "-F '%m '",
+        "-F \"%m\" -E \\n",
+        "nothing",
+        "--node-format=%m/ --eos-format=",
+        "-F%m -Ux\\n",
+        "-Fa -Fb\\n",
+        "-Owakati -F%m\\n",
+        "nothing -Owakati",
+        "- -Owakati",
+        "-- -Owakati",
+        "-C",
+        "-r /dev/null",
+        "-b 5",
+        "-B[ -E] -F(%m)",
     };
     static const char *const SENTENCES[] = {"", " \t ", LINE, "a  すもも   ", "a b\n\nc  "};
     for (size_t i = 0; i < sizeof OPTIONS / sizeof *OPTIONS; i++) {
         mecab_t *tagger = mecab_new2(words(OPTIONS[i]));
         told("options", OPTIONS[i]);
-        for (size_t k = 0; tagger && k < sizeof SENTENCES / sizeof *SENTENCES; k++) told("text", mecab_sparse_tostr(tagger, SENTENCES[k]));
+        for (size_t k = 0; tagger && k < sizeof SENTENCES / sizeof *SENTENCES; k++)
+            told("text", mecab_sparse_tostr(tagger, SENTENCES[k]));
         mecab_destroy(tagger);
     }
 }
@@ -116,29 +139,36 @@ static void nodes(void) {
     mecab_t *tagger = mecab_new2(words("-C"));
     const mecab_node_t *node = mecab_sparse_tonode(tagger, "a  すもも   ");
     for (; node; node = node->next) {
-        printf("%.*s %s %u %u ", node->length, node->surface, node->feature, node->length, node->rlength);
-        printf("%u %u %u %u %u ", node->rcAttr, node->lcAttr, node->char_type, node->stat, node->isbest);
+        printf("%.*s %s %u %u ", node->length, node->surface, node->feature, node->length,
+               node->rlength);
+        printf("%u %u %u %u %u ", node->rcAttr, node->lcAttr, node->char_type, node->stat,
+               node->isbest);
         printf("%d %ld %g %g %g\n", node->wcost, node->cost, node->alpha, node->beta, node->prob);
     }
     told_number("nodes of an empty sentence", mecab_sparse_tonode(tagger, "")->next->stat);
     mecab_destroy(tagger);
 }
 
-/* The last word of a path and all before it, found by the arrays, as those of the best path. The order of the other nodes is that of the sources of the
-   dictionary, which here is not the same. */
+/* The last word of a path and all before it, found by the arrays, as those of the best path. The
+   order of the other nodes is that of the sources of the dictionary, which here is not the same. */
 static void places(void) {
     mecab_t *tagger = mecab_new2(words(""));
     mecab_lattice_t *lattice = mecab_lattice_new();
     mecab_lattice_set_sentence(lattice, " すもももももも の うち ");
     if (!mecab_parse_lattice(tagger, lattice)) return;
-    mecab_node_t **begins = mecab_lattice_get_all_begin_nodes(lattice), **ends = mecab_lattice_get_all_end_nodes(lattice);
+    mecab_node_t **begins = mecab_lattice_get_all_begin_nodes(lattice),
+                 **ends = mecab_lattice_get_all_end_nodes(lattice);
     for (size_t at = 0; at <= mecab_lattice_get_size(lattice); at++) {
         for (mecab_node_t *node = begins[at]; node; node = node->bnext) {
-            if (node->isbest) printf("begins at %zu: %.*s %d\n", at, node->length, node->surface, node == mecab_lattice_get_eos_node(lattice));
+            if (node->isbest)
+                printf("begins at %zu: %.*s %d\n", at, node->length, node->surface,
+                       node == mecab_lattice_get_eos_node(lattice));
         }
-        for (mecab_node_t *node = mecab_lattice_get_end_nodes(lattice, at); node; node = node->enext) {
+        for (mecab_node_t *node = mecab_lattice_get_end_nodes(lattice, at); node;
+             node = node->enext) {
             if (!node->isbest || node->stat == MECAB_EOS_NODE) continue;
-            printf("ends at %zu: %.*s %d\n", at, node->length, node->surface, ends[0] == mecab_lattice_get_bos_node(lattice));
+            printf("ends at %zu: %.*s %d\n", at, node->length, node->surface,
+                   ends[0] == mecab_lattice_get_bos_node(lattice));
         }
     }
     mecab_lattice_destroy(lattice);

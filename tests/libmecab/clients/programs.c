@@ -1,4 +1,5 @@
-/* Makes one of the calls that are whole programs of MeCab's, with the words that follow its name: programs mecab_do WORD.. */
+/* Makes one of the calls that are whole programs of MeCab's, with the words that follow its name:
+ * programs mecab_do WORD.. */
 #include "check.h"
 
 static const struct {

@@ -41,7 +41,8 @@ static const char *beside(const char *ending) {
 
 static bool has_id(mecab_t *tagger, unsigned id) {
     const mecab_node_t *node = mecab_sparse_tonode(tagger, LINE);
-    return node && node->next->posid == id && node->next->next->posid == id && strcmp(node->next->feature, "名詞,すもも") == 0;
+    return node && node->next->posid == id && node->next->next->posid == id &&
+           strcmp(node->next->feature, "名詞,すもも") == 0;
 }
 
 /* Writes a rule after a first line that names an image by its checksum: this one or another one. */
@@ -57,7 +58,8 @@ static void write_stamped(bool is_other) {
     free(image);
 }
 
-/* Taggers of one image by other rules, and by none, each with its own ids as long as it is there. */
+/* Taggers of one image by other rules, and by none, each with its own ids as long as it is there.
+ */
 static void rules(void) {
     mecab_t *none = opened();
     write_whole(beside(".dicrc"), "cost-factor = 800\n", strlen("cost-factor = 800\n"));
@@ -71,7 +73,8 @@ static void rules(void) {
     write_stamped(true);
     mecab_t *foreign = opened();
     CHECK(has_id(stamped, 3) && has_id(foreign, 1));
-    CHECK(mecab_dictionary_info(none) == mecab_dictionary_info(other) && mecab_dictionary_info(one) == mecab_dictionary_info(other));
+    CHECK(mecab_dictionary_info(none) == mecab_dictionary_info(other) &&
+          mecab_dictionary_info(one) == mecab_dictionary_info(other));
     CHECK(has_id(none, 0) && has_id(missing, 1) && has_id(one, 3) && has_id(other, 40));
     mecab_destroy(one);
     CHECK(has_id(none, 0) && has_id(missing, 1) && has_id(same, 3) && has_id(other, 40));
@@ -91,20 +94,26 @@ int main(int given, char **paths) {
     size_t length = 0;
     char *first = whole_of(path, &length);
     mecab_t *before = opened(), *same = opened();
-    CHECK(mecab_dictionary_info(before) == mecab_dictionary_info(same) && rename(paths[2], path) == 0);
+    CHECK(mecab_dictionary_info(before) == mecab_dictionary_info(same) &&
+          rename(paths[2], path) == 0);
     mecab_t *renamed = opened();
-    CHECK(mecab_dictionary_info(renamed) != mecab_dictionary_info(before) && strcmp(mecab_sparse_tostr(renamed, LINE), OTHERS) == 0);
-    CHECK(strcmp(mecab_sparse_tostr(before, LINE), PRINTED) == 0 && strcmp(mecab_sparse_tostr(same, LINE), PRINTED) == 0);
+    CHECK(mecab_dictionary_info(renamed) != mecab_dictionary_info(before) &&
+          strcmp(mecab_sparse_tostr(renamed, LINE), OTHERS) == 0);
+    CHECK(strcmp(mecab_sparse_tostr(before, LINE), PRINTED) == 0 &&
+          strcmp(mecab_sparse_tostr(same, LINE), PRINTED) == 0);
     mecab_destroy(same);
     mecab_destroy(before);
     write_whole(paths[2], first, length);
     CHECK(rename(paths[2], path) == 0);
     mecab_t *rewritten = opened();
-    CHECK(mecab_dictionary_info(rewritten) != mecab_dictionary_info(renamed) && strcmp(mecab_sparse_tostr(rewritten, LINE), PRINTED) == 0);
-    CHECK(strcmp(mecab_sparse_tostr(renamed, LINE), OTHERS) == 0 && strcmp(mecab_sparse_tonode(renamed, LINE)->next->next->feature, "記号,もも") == 0);
+    CHECK(mecab_dictionary_info(rewritten) != mecab_dictionary_info(renamed) &&
+          strcmp(mecab_sparse_tostr(rewritten, LINE), PRINTED) == 0);
+    CHECK(strcmp(mecab_sparse_tostr(renamed, LINE), OTHERS) == 0 &&
+          strcmp(mecab_sparse_tonode(renamed, LINE)->next->next->feature, "記号,もも") == 0);
     mecab_destroy(renamed);
     mecab_destroy(rewritten);
     free(first);
-    puts("replaced: a file that takes an image's place is another image, and the first one stays what it was");
+    puts("replaced: a file that takes an image's place is another image, and the first one stays "
+         "what it was");
     return 0;
 }

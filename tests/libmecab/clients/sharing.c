@@ -8,23 +8,27 @@
 
 static const char *dictionary;
 
-static char *words(const char *more) {
-    return words_of(dictionary, more);
-}
+static char *words(const char *more) { return words_of(dictionary, more); }
 
 /* Who opens what the process has loaded gets the same images. */
 static void images(void) {
-    mecab_t *first = mecab_new2(words("")), *second = mecab_new2(words("-Owakati")), *users = mecab_new2(words("-u /nowhere.img"));
-    CHECK(first && second && !users && mecab_dictionary_info(first) == mecab_dictionary_info(second));
+    mecab_t *first = mecab_new2(words("")), *second = mecab_new2(words("-Owakati")),
+            *users = mecab_new2(words("-u /nowhere.img"));
+    CHECK(first && second && !users &&
+          mecab_dictionary_info(first) == mecab_dictionary_info(second));
     mecab_destroy(first);
     CHECK(strcmp(mecab_sparse_tostr(second, LINE), WAKATI) == 0);
     mecab_destroy(second);
-    CHECK(!mecab_new2("-d /var/lib/mecab/dic/ipadic-utf8/sys.dic") && strstr(mecab_strerror(NULL), "a dictionary of MeCab's"));
-    CHECK(!mecab_new2(words("-u /var/lib/mecab/dic/ipadic-utf8/sys.dic")) && strstr(mecab_strerror(NULL), "dictc user"));
-    CHECK(!mecab_new2("-d /dev") && !mecab_new2("-d /dev/null") && strstr(mecab_strerror(NULL), "/dev/null: is no file"));
+    CHECK(!mecab_new2("-d /var/lib/mecab/dic/ipadic-utf8/sys.dic") &&
+          strstr(mecab_strerror(NULL), "a dictionary of MeCab's"));
+    CHECK(!mecab_new2(words("-u /var/lib/mecab/dic/ipadic-utf8/sys.dic")) &&
+          strstr(mecab_strerror(NULL), "dictc user"));
+    CHECK(!mecab_new2("-d /dev") && !mecab_new2("-d /dev/null") &&
+          strstr(mecab_strerror(NULL), "/dev/null: is no file"));
 }
 
-/* What was given back last stays for who makes one tagger after the other: under valgrind a read of what is freed is an error. */
+/* What was given back last stays for who makes one tagger after the other: under valgrind a read of
+ * what is freed is an error. */
 static void images_that_stay(void) {
     mecab_t *first = mecab_new2(words(""));
     const mecab_dictionary_info_t *info = first ? mecab_dictionary_info(first) : NULL;
@@ -32,13 +36,15 @@ static void images_that_stay(void) {
     mecab_destroy(first);
     CHECK(strcmp(info->filename, dictionary) == 0);
     mecab_t *second = mecab_new2(words("-Owakati"));
-    CHECK(second && mecab_dictionary_info(second) == info && strcmp(mecab_sparse_tostr(second, LINE), WAKATI) == 0);
+    CHECK(second && mecab_dictionary_info(second) == info &&
+          strcmp(mecab_sparse_tostr(second, LINE), WAKATI) == 0);
     mecab_destroy(second);
 }
 
 static void *cut_often(void *model) {
     mecab_t *tagger = mecab_model_new_tagger(model);
-    for (int i = 0; i < 200; i++) CHECK(tagger && strcmp(mecab_sparse_tostr(tagger, LINE), PRINTED) == 0);
+    for (int i = 0; i < 200; i++)
+        CHECK(tagger && strcmp(mecab_sparse_tostr(tagger, LINE), PRINTED) == 0);
     mecab_destroy(tagger);
     return NULL;
 }
@@ -54,12 +60,14 @@ static void threads(void) {
     mecab_model_destroy(model);
 }
 
-/* One tagger serves several threads, each with a lattice of its own, as mecab.h says; also while the model's dictionaries are swapped. */
+/* One tagger serves several threads, each with a lattice of its own, as mecab.h says; also while
+ * the model's dictionaries are swapped. */
 static void *cut_by_one(void *tagger) {
     mecab_lattice_t *lattice = mecab_lattice_new();
     for (int i = 0; i < 500; i++) {
         mecab_lattice_set_sentence(lattice, LINE);
-        CHECK(mecab_parse_lattice(tagger, lattice) && strcmp(mecab_lattice_tostr(lattice), PRINTED) == 0);
+        CHECK(mecab_parse_lattice(tagger, lattice) &&
+              strcmp(mecab_lattice_tostr(lattice), PRINTED) == 0);
         CHECK(strcmp(mecab_lattice_get_bos_node(lattice)->next->next->feature, "名詞,もも") == 0);
     }
     mecab_lattice_destroy(lattice);
@@ -86,24 +94,29 @@ static void *open_once(void *options) {
 
 /* The path of another name of the dictionary, or of what stands beside that. */
 static const char *another(char *path, size_t room, const char *ending) {
-    snprintf(path, room, "%.*s-another%s", (int)(strlen(dictionary) - strlen(".img")), dictionary, ending);
+    snprintf(path, room, "%.*s-another%s", (int)(strlen(dictionary) - strlen(".img")), dictionary,
+             ending);
     return path;
 }
 
-/* A thread that is cancelled while it opens an image keeps no lock: it reads rules for ids out of a pipe then, which others wait for. */
+/* A thread that is cancelled while it opens an image keeps no lock: it reads rules for ids out of a
+ * pipe then, which others wait for. */
 static void cancelled(void) {
     static const char RULE[] = "名詞 1\n";
     char image[4096], settings[4096], rules[4096], options[4200];
     pthread_t thread;
     void *end = NULL;
     int pipe = -1;
-    CHECK(link(dictionary, another(image, sizeof image, ".img")) == 0 && mkfifo(another(rules, sizeof rules, ".pos-id.def"), 0600) == 0);
+    CHECK(link(dictionary, another(image, sizeof image, ".img")) == 0 &&
+          mkfifo(another(rules, sizeof rules, ".pos-id.def"), 0600) == 0);
     FILE *file = fopen(another(settings, sizeof settings, ".dicrc"), "w");
     CHECK(file && fclose(file) == 0);
     snprintf(options, sizeof options, "-d %s", image);
     CHECK(pthread_create(&thread, NULL, open_once, options) == 0);
-    while ((pipe = open(rules, O_WRONLY | O_NONBLOCK)) < 0) CHECK(errno == ENXIO && usleep(1000) == 0);
-    CHECK(pthread_cancel(thread) == 0 && write(pipe, RULE, strlen(RULE)) == (ssize_t)strlen(RULE) && close(pipe) == 0);
+    while ((pipe = open(rules, O_WRONLY | O_NONBLOCK)) < 0)
+        CHECK(errno == ENXIO && usleep(1000) == 0);
+    CHECK(pthread_cancel(thread) == 0 && write(pipe, RULE, strlen(RULE)) == (ssize_t)strlen(RULE) &&
+          close(pipe) == 0);
     CHECK(pthread_join(thread, &end) == 0 && end == PTHREAD_CANCELED);
     /* Who waits for a lock that is kept is ended. */
     alarm(60);
