@@ -40,7 +40,7 @@ class Heap:
 
     def __init__(self, folder):
         self.folder, self.data = folder, folder.parent / "data"
-        self.library = folder.parent / "refuse.so"
+        self.library = folder.parent / "counting_heap.so"
         self.report = folder.parent / "report"
         command = [
             "gcc",
@@ -48,7 +48,7 @@ class Heap:
             "-O2",
             "-shared",
             "-fPIC",
-            TOP / "tests" / "support" / "refuse.c",
+            TOP / "tests" / "support" / "counting_heap.c",
             "-o",
             self.library,
         ]

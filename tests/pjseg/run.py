@@ -70,7 +70,9 @@ class Place:
             "DAMAGED": self.damaged(self.image),
             "DAMAGED USER": self.damaged(self.user),
         }
-        self.failing, self.refusing = (self.preloaded(name) for name in ("fail", "refuse"))
+        self.failing, self.refusing = (
+            self.preloaded(name) for name in ("failing_calls", "counting_heap")
+        )
         self.named = self.with_names()
 
     def compile(self, image, lexicon):

@@ -25,7 +25,7 @@ class Heap:
     """The preloaded heap, built into a folder, and a test program that runs over it."""
 
     def __init__(self, folder, program):
-        self.library = folder / "refuse.so"
+        self.library = folder / "counting_heap.so"
         self.report = folder / "report"
         self.program = program
         command = [
@@ -34,7 +34,7 @@ class Heap:
             "-O2",
             "-shared",
             "-fPIC",
-            HERE / "refuse.c",
+            HERE / "counting_heap.c",
             "-o",
             self.library,
         ]

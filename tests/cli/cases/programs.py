@@ -175,7 +175,9 @@ class Programs:
             folder / "var" / "lib" / "kumquatsieve",
             folder / "share" / "kumquatsieve",
         )
-        self.failing, self.repeating = self.library(folder, "fail"), self.library(folder, "repeat")
+        self.failing, self.repeating = self.library(folder, "failing_calls"), self.library(
+            folder, "repeating_heap"
+        )
         self.user = NOBODY if os.geteuid() == 0 else None
 
     def library(self, folder, name):

@@ -94,10 +94,19 @@ def with_layer(folder, library, source, *flags):
 
 def refusing(folder, environment, number):
     """The environment in which the growth of the heap of this number is refused, and the file that says whether there was one."""
-    heap, report = folder / "refuse.so", folder / "growths"
+    heap, report = folder / "counting_heap.so", folder / "growths"
     if not heap.exists():
         run(
-            ["gcc", "-shared", "-fPIC", "-O1", TOP / "tests/support/refuse.c", "-o", heap, "-ldl"],
+            [
+                "gcc",
+                "-shared",
+                "-fPIC",
+                "-O1",
+                TOP / "tests/support/counting_heap.c",
+                "-o",
+                heap,
+                "-ldl",
+            ],
             os.environ,
         )
     return (

@@ -1,4 +1,4 @@
-// A heap that counts, to be preloaded (LD_PRELOAD) by `tests/out_of_memory/refuse.py`.
+// A heap that counts, to be preloaded (LD_PRELOAD) by `tests/support/heap.py`.
 //
 //     REFUSE=n          the n-th growth of the run is refused, and no other; without it growths are
 //     only counted REFUSE_REPORT=f   the file that gets the counts at the end; without it standard
