@@ -11,7 +11,7 @@ from pathlib import Path
 
 sys.dont_write_bytecode = True
 sys.path.insert(0, str(Path(__file__).resolve().parents[1]))
-from support.heap import Heap, program_of  # noqa: E402
+from support.heap import TestProgram  # noqa: E402
 
 MOST = 100
 TESTS = {
@@ -23,8 +23,8 @@ TESTS = {
 def counted(crate, module, tests):
     """How many growths each of these tests takes."""
     with tempfile.TemporaryDirectory() as folder:
-        heap = Heap(Path(folder), program_of(crate))
-        return {test: heap.run(f"{module}::{test}")["growths"] for test in tests}
+        program = TestProgram(Path(folder), crate)
+        return {test: program.run(f"{module}::{test}").counts.allocations for test in tests}
 
 
 def main():

@@ -16,6 +16,10 @@ import tempfile
 from pathlib import Path
 from typing import NamedTuple
 
+sys.dont_write_bytecode = True
+sys.path.insert(0, str(Path(__file__).resolve().parents[1]))
+from support.heap import Heap as CountingHeap  # noqa: E402
+
 TOP = Path(__file__).resolve().parents[2]
 CRATES = TOP / "crates"
 SAMPLE = TOP / "examples" / "sample"
@@ -40,38 +44,17 @@ class Heap:
 
     def __init__(self, folder):
         self.folder, self.data = folder, folder.parent / "data"
-        self.library = folder.parent / "counting_heap.so"
-        self.report = folder.parent / "report"
-        command = [
-            "gcc",
-            "-std=c11",
-            "-O2",
-            "-shared",
-            "-fPIC",
-            TOP / "tests" / "support" / "counting_heap.c",
-            "-o",
-            self.library,
-        ]
-        subprocess.run(command, check=True)
+        self.counting = CountingHeap(folder.parent)
 
     def run(self, command, refused=None):
         """How a run ended with this growth refused, and how many growths it asked for."""
         (self.folder / "out.img").write_bytes(OLD)
-        place = dict(
-            os.environ,
-            LD_PRELOAD=str(self.library),
-            REFUSE_REPORT=str(self.report),
-            XDG_DATA_HOME=str(self.data),
-        )
-        place.pop("REFUSE", None)
-        if refused:
-            place["REFUSE"] = str(refused)
+        place = self.counting.environment(refused, {**os.environ, "XDG_DATA_HOME": str(self.data)})
         ended = subprocess.run(
             command, input=TEXT, env=place, cwd=self.folder, capture_output=True, timeout=60
         )
         files = {path.name: path.read_bytes() for path in self.folder.iterdir()}
-        words = self.report.read_text().split()
-        growths = int(words[words.index("growths") + 1])
+        growths = self.counting.counts().allocations
         return Ended(ended.returncode, ended.stdout, ended.stderr, files), growths
 
 

@@ -15,7 +15,7 @@ from pathlib import Path
 
 sys.dont_write_bytecode = True
 sys.path.insert(0, str(Path(__file__).resolve().parents[1]))
-from support.heap import Heap, left, program_of  # noqa: E402
+from support.heap import TestProgram  # noqa: E402
 
 
 def main():
@@ -39,15 +39,14 @@ def main():
     options.add_argument("tests", nargs="+", metavar="test", help="a full name, as tests::name")
     chosen = options.parse_args()
 
-    program = program_of(chosen.crate)
     with tempfile.TemporaryDirectory() as folder:
-        heap = Heap(Path(folder), program)
-        leaves = left(heap.run(chosen.frees)) if chosen.frees else None
+        program = TestProgram(Path(folder), chosen.crate)
+        leaves = program.run(chosen.frees).counts.unfreed if chosen.frees else None
         gone_on = 0
         for test in chosen.tests:
-            growths = heap.run(test, leaves=leaves)["growths"]
+            growths = program.run(test, unfreed=leaves).counts.allocations
             last = growths if chosen.most is None else min(growths, chosen.most)
-            taken = sum(heap.run(test, refused, leaves)["taken"] for refused in range(1, last + 1))
+            taken = sum(program.run(test, refused, leaves).caught for refused in range(1, last + 1))
             if taken == 0:
                 sys.exit(f"{test}: no refusal came to it")
             gone_on += last - taken

@@ -30,6 +30,8 @@ from pjseg.cases import long_outputs  # noqa: E402
 from pjseg.cases.asked import NAME, faults as faults_of_asked  # noqa: E402
 from pjseg.cases.terminals import faults_of_progress, faults_of_warnings  # noqa: E402
 from cli.cases.run import SAMPLE  # noqa: E402
+from support.heap import Heap  # noqa: E402
+from support.running import preloadable  # noqa: E402
 
 TOP = Path(__file__).resolve().parents[2]
 CRATES = TOP / "crates"
@@ -70,9 +72,7 @@ class Place:
             "DAMAGED": self.damaged(self.image),
             "DAMAGED USER": self.damaged(self.user),
         }
-        self.failing, self.refusing = (
-            self.preloaded(name) for name in ("failing_calls", "counting_heap")
-        )
+        self.failing, self.heap = preloadable("failing_calls", folder), Heap(folder)
         self.named = self.with_names()
 
     def compile(self, image, lexicon):
@@ -109,22 +109,6 @@ class Place:
         )
         run([TOP / "packaging/build-pjseg", self.folder / "prefix"])
         return self.folder / "prefix" / "bin" / NAME
-
-    def preloaded(self, name):
-        library = self.folder / f"{name}.so"
-        run(
-            [
-                "gcc",
-                "-std=c11",
-                "-O2",
-                "-shared",
-                "-fPIC",
-                TOP / "tests" / "support" / f"{name}.c",
-                "-o",
-                library,
-            ]
-        )
-        return library
 
     def sanitized(self):
         """The program with ThreadSanitizer in it."""
@@ -388,19 +372,18 @@ def check_races(place, sanitized, text):
 
 def check_refused_memory(place, text):
     """With each growth refused in turn a run ends with Memory, after a front of the output that ends at a line's end; or it does without."""
-    report, short = place.folder / "report", text[: 3 << 19].rsplit(b"\n", 1)[0]
+    short = text[: 3 << 19].rsplit(b"\n", 1)[0]
     refused = 0
     for job in ("1", "3"):
         words = [place.cut, "-d", "system", "-u", "user", "-F", "%m\t%H\\n", "-j", job]
-        heap = dict(place.named, LD_PRELOAD=str(place.refusing), REFUSE_REPORT=str(report))
-        wanted = run(words, input=short, env=heap)
-        growths = int(re.search("growths ([0-9]+)", report.read_text())[1])
+        wanted = run(words, input=short, env=place.heap.environment(base=place.named))
+        growths = place.heap.counts().allocations
         for number in range(1, growths + 1):
             done = subprocess.run(
                 words,
                 input=short,
                 capture_output=True,
-                env={**heap, "REFUSE": str(number)},
+                env=place.heap.environment(number, place.named),
                 timeout=SECONDS,
             )
             is_whole = done.returncode == 0 and done.stdout == wanted and not done.stderr

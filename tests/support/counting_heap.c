@@ -1,13 +1,14 @@
-// A heap that counts, to be preloaded (LD_PRELOAD) by `tests/support/heap.py`.
-//
-//     REFUSE=n          the n-th growth of the run is refused, and no other; without it growths are
-//     only counted REFUSE_REPORT=f   the file that gets the counts at the end; without it standard
-//     error does
-//
-// A growth is a call that asks for memory: a new block, or another size for an old one. The counts
-// are written as one line, `growths 7 refused 1 given 5 back 5`: given are the blocks that were
-// handed out, back those that came back. It stands on glibc's own names of its heap, so that
-// nothing is looked up while a program starts.
+/* A heap that counts allocations and can make one of them fail. Preloaded (LD_PRELOAD) through
+   `heap.py`.
+
+       FAIL_ALLOCATION=N   the Nth allocation of the run fails, and no other; without it none does
+       HEAP_REPORT=FILE    the file that gets the counts when the program ends; without it they are
+                           printed on standard error
+
+   An allocation is a call that asks for memory: for a new block, or for another size of an old one.
+   The counts are one line, `allocations 7 failed 1 blocks 5 freed 5`: `blocks` were handed out,
+   `freed` were given back. The functions call glibc's own names of its heap, so that no symbol is
+   looked up while a program starts. */
 #define _GNU_SOURCE
 #include <errno.h>
 #include <fcntl.h>
@@ -24,41 +25,42 @@ extern void *__libc_realloc(void *block, size_t size);
 extern void *__libc_memalign(size_t alignment, size_t size);
 extern void __libc_free(void *block);
 
-static atomic_long growths, refused, given, back;
+static atomic_long allocations, failed, blocks, freed;
 
-// The growth to refuse, 0 for none.
-static long refused_growth(void) {
-    const char *number = getenv("REFUSE");
+/* Returns the number of the allocation that fails, counted from 1; 0 if none does. */
+static long failing_allocation(void) {
+    const char *number = getenv("FAIL_ALLOCATION");
     return number ? atol(number) : 0;
 }
 
-// Counts a growth, and tells whether it is the one to refuse.
-static int is_refused(void) {
-    if (atomic_fetch_add(&growths, 1) + 1 != refused_growth()) return 0;
-    atomic_fetch_add(&refused, 1);
+/* Counts an allocation, and returns whether it fails. */
+static int fails(void) {
+    if (atomic_fetch_add(&allocations, 1) + 1 != failing_allocation()) return 0;
+    atomic_fetch_add(&failed, 1);
     errno = ENOMEM;
     return 1;
 }
 
+/* Counts `block`, unless it is NULL, and returns it. */
 static void *counted(void *block) {
-    if (block) atomic_fetch_add(&given, 1);
+    if (block) atomic_fetch_add(&blocks, 1);
     return block;
 }
 
-void *malloc(size_t size) { return is_refused() ? NULL : counted(__libc_malloc(size)); }
+void *malloc(size_t size) { return fails() ? NULL : counted(__libc_malloc(size)); }
 
 void *calloc(size_t count, size_t size) {
-    return is_refused() ? NULL : counted(__libc_calloc(count, size));
+    return fails() ? NULL : counted(__libc_calloc(count, size));
 }
 
-// At size 0 an old block is given back, and that asks for nothing.
+/* Size 0 frees an old block, which is no allocation. */
 void *realloc(void *block, size_t size) {
     if (!block) return malloc(size);
     if (size == 0) {
         free(block);
         return NULL;
     }
-    return is_refused() ? NULL : __libc_realloc(block, size);
+    return fails() ? NULL : __libc_realloc(block, size);
 }
 
 void *reallocarray(void *block, size_t count, size_t size) {
@@ -71,7 +73,7 @@ void *reallocarray(void *block, size_t count, size_t size) {
 }
 
 void *memalign(size_t alignment, size_t size) {
-    return is_refused() ? NULL : counted(__libc_memalign(alignment, size));
+    return fails() ? NULL : counted(__libc_memalign(alignment, size));
 }
 
 void *aligned_alloc(size_t alignment, size_t size) { return memalign(alignment, size); }
@@ -86,24 +88,24 @@ int posix_memalign(void **block, size_t alignment, size_t size) {
 }
 
 void free(void *block) {
-    if (block) atomic_fetch_add(&back, 1);
+    if (block) atomic_fetch_add(&freed, 1);
     __libc_free(block);
 }
 
-// Tells the counts, without a growth of its own.
+/* Writes the counts without an allocation of its own. */
 static void report(void) {
-    const char *path = getenv("REFUSE_REPORT");
+    const char *path = getenv("HEAP_REPORT");
     int file = path ? open(path, O_WRONLY | O_CREAT | O_TRUNC | O_CLOEXEC, 0666) : STDERR_FILENO;
     char line[128];
-    int length = snprintf(line, sizeof line, "growths %ld refused %ld given %ld back %ld\n",
-                          atomic_load(&growths), atomic_load(&refused), atomic_load(&given),
-                          atomic_load(&back));
+    int length = snprintf(line, sizeof line, "allocations %ld failed %ld blocks %ld freed %ld\n",
+                          atomic_load(&allocations), atomic_load(&failed), atomic_load(&blocks),
+                          atomic_load(&freed));
     if (file < 0 || write(file, line, (size_t)length) != length) syscall(SYS_exit_group, 125);
 }
 
 __attribute__((destructor)) static void at_exit(void) { report(); }
 
-// A program that ends here runs no destructor.
+/* A program that ends by `_exit` runs no destructor. */
 void _exit(int status) {
     report();
     for (;;) syscall(SYS_exit_group, status);

@@ -1,9 +1,10 @@
-// A heap whose large blocks repeat, to be preloaded (LD_PRELOAD) by `tests/cli/run.py`: what stands
-// in such a block stands there again and again.
-//
-// So a block of any size takes few bytes. It serves a program whose large blocks hold one thing
-// over and over, as the entries of a lexicon of equal lines, where the size of that thing divides
-// the bytes after which they repeat. It stands on glibc's own names of its heap.
+/* A heap whose large blocks repeat: the bytes of such a block appear in it again and again.
+   Preloaded (LD_PRELOAD) by tests/cli.
+
+   A large block of any size takes PERIOD bytes of memory. So a program can be run on input that
+   would need more memory than the machine has, if its large blocks hold one thing over and over, as
+   the entries of a lexicon of equal lines do, and the size of that thing divides PERIOD. The
+   functions call glibc's own names of its heap. */
 #define _GNU_SOURCE
 #include <malloc.h>
 #include <stddef.h>
@@ -17,24 +18,27 @@ extern void *__libc_calloc(size_t count, size_t size);
 extern void *__libc_realloc(void *block, size_t size);
 extern void __libc_free(void *block);
 
-// Blocks from this size on repeat, and after so many bytes: a number that pages, and all sizes up
-// to 10 words and up to 10 bytes, divide.
+/* In bytes: blocks of at least this size repeat, after as many bytes. The size of a page, all sizes
+   up to 10 words and all sizes up to 10 bytes divide it. */
 #define PERIOD ((size_t)4096 * 2520 * 7)
-#define MOST 16
+/* The number of large blocks that a program may have at once. */
+#define MAX_BLOCKS 16
 
 static struct block {
     char *start;
     size_t size;
     int file;
-} blocks[MOST];
+} blocks[MAX_BLOCKS];
 
-static struct block *found(const void *start) {
-    for (int i = 0; start && i < MOST; i++)
+/* Returns the large block at `start`, or NULL if there is none. */
+static struct block *find(const void *start) {
+    for (int i = 0; start && i < MAX_BLOCKS; i++)
         if (blocks[i].start == start) return &blocks[i];
     return NULL;
 }
 
-static char *mapped(int file, size_t size) {
+/* Maps `file` into `size` bytes of address space, again and again. */
+static char *map_repeatedly(int file, size_t size) {
     char *start = mmap(NULL, size, PROT_NONE, MAP_PRIVATE | MAP_ANONYMOUS | MAP_NORESERVE, -1, 0);
     for (size_t at = 0; start != MAP_FAILED && at < size; at += PERIOD) {
         size_t length = size - at < PERIOD ? size - at : PERIOD;
@@ -45,56 +49,57 @@ static char *mapped(int file, size_t size) {
     return start == MAP_FAILED ? NULL : start;
 }
 
-static void *large(size_t size) {
-    for (int i = 0; i < MOST; i++) {
+static void *allocate_large(size_t size) {
+    for (int i = 0; i < MAX_BLOCKS; i++) {
         if (blocks[i].start) continue;
         int file = memfd_create("repeated", MFD_CLOEXEC);
         if (file < 0 || ftruncate(file, PERIOD) != 0) abort();
-        blocks[i] = (struct block){mapped(file, size), size, file};
+        blocks[i] = (struct block){map_repeatedly(file, size), size, file};
         return blocks[i].start;
     }
     abort();
 }
 
-static void give_back(struct block *block) {
+static void free_large(struct block *block) {
     munmap(block->start, block->size);
     close(block->file);
     block->start = NULL;
 }
 
-void *malloc(size_t size) { return size < PERIOD ? __libc_malloc(size) : large(size); }
+void *malloc(size_t size) { return size < PERIOD ? __libc_malloc(size) : allocate_large(size); }
 
 void *calloc(size_t count, size_t size) {
-    return size && count >= PERIOD / size ? large(count * size) : __libc_calloc(count, size);
+    return size && count >= PERIOD / size ? allocate_large(count * size)
+                                          : __libc_calloc(count, size);
 }
 
-void free(void *block) {
-    struct block *of = found(block);
-    if (of)
-        give_back(of);
+void free(void *start) {
+    struct block *block = find(start);
+    if (block)
+        free_large(block);
     else
-        __libc_free(block);
+        __libc_free(start);
 }
 
-// The bytes of a block that repeats are those of its file, so that nothing is copied.
-static void *grown(struct block *block, size_t size) {
-    char *start = mapped(block->file, size);
+/* Changes the size of a large block. Its bytes are in its file, so nothing is copied. */
+static void *resize_large(struct block *block, size_t size) {
+    char *start = map_repeatedly(block->file, size);
     munmap(block->start, block->size);
     block->start = start;
     block->size = size;
     return start;
 }
 
-// A block that didn't repeat before is shorter than the new one.
-static void *moved(void *block, size_t size) {
-    char *start = large(size);
-    if (block) memcpy(start, block, malloc_usable_size(block));
-    __libc_free(block);
+/* Moves a small block, which is shorter than the new one, to a large one. */
+static void *move_to_large(void *small, size_t size) {
+    char *start = allocate_large(size);
+    if (small) memcpy(start, small, malloc_usable_size(small));
+    __libc_free(small);
     return start;
 }
 
-void *realloc(void *block, size_t size) {
-    struct block *of = found(block);
-    if (of) return grown(of, size);
-    return size < PERIOD ? __libc_realloc(block, size) : moved(block, size);
+void *realloc(void *start, size_t size) {
+    struct block *block = find(start);
+    if (block) return resize_large(block, size);
+    return size < PERIOD ? __libc_realloc(start, size) : move_to_large(start, size);
 }

@@ -16,8 +16,9 @@ import tty
 from contextlib import suppress
 from pathlib import Path
 
+from support.running import preloadable
+
 NOBODY = 65534
-SUPPORT = Path(__file__).resolve().parents[2] / "support"
 
 # A lexicon of one entry more than a dictionary may have, and one of a single entry whose feature has 2^32 bytes: a piece, and how often it comes.
 LONG = {"entries": (b"a,0,0,0,\n", 2**28 + 1), "feature": (b"a,0,0,0,", 2**29 + 1)}
@@ -175,24 +176,14 @@ class Programs:
             folder / "var" / "lib" / "kumquatsieve",
             folder / "share" / "kumquatsieve",
         )
-        self.failing, self.repeating = self.library(folder, "failing_calls"), self.library(
-            folder, "repeating_heap"
-        )
+        self.failing = preloadable("failing_calls", folder)
+        self.repeating = preloadable("repeating_heap", folder)
         self.user = NOBODY if os.geteuid() == 0 else None
-
-    def library(self, folder, name):
-        """A library to be preloaded, built from a file of tools."""
-        built = folder / f"{name}.so"
-        subprocess.run(
-            ["gcc", "-std=c11", "-O2", "-shared", "-fPIC", SUPPORT / f"{name}.c", "-o", built],
-            check=True,
-        )
-        return str(built)
 
     def preloaded(self, under):
         if under.fails:
-            return {"LD_PRELOAD": self.failing, "FAIL": under.fails}
-        return {"LD_PRELOAD": self.repeating} if under.repeats else {}
+            return {"LD_PRELOAD": str(self.failing), "FAIL": under.fails}
+        return {"LD_PRELOAD": str(self.repeating)} if under.repeats else {}
 
     def run(self, words, text, folder, under):
         words = shlex.split(words)

@@ -98,11 +98,11 @@ def check_growths(folder, library):
     count = 0
     for options in ("-C", "-Ox"):
         for number in range(1, 10_000):
-            environment, report = refusing(folder, ours, number)
+            environment, heap = refusing(folder, ours, number)
             status = subprocess.run(
                 [program, image, options], env=environment, stderr=subprocess.DEVNULL
             ).returncode
-            if "refused 0" in report.read_text():
+            if heap.counts().failed == 0:
                 break
             if status not in (0, 1):
                 sys.exit(f"mecab-clients: growth {number} refused, {options}: status {status}")

@@ -5,6 +5,8 @@ import subprocess
 import sys
 from pathlib import Path
 
+from support.heap import Heap
+
 TOP = Path(__file__).resolve().parents[3]
 CLIENTS = TOP / "tests/libmecab/clients"
 PYTHON = "/usr/bin/python3"
@@ -93,26 +95,9 @@ def with_layer(folder, library, source, *flags):
 
 
 def refusing(folder, environment, number):
-    """The environment in which the growth of the heap of this number is refused, and the file that says whether there was one."""
-    heap, report = folder / "counting_heap.so", folder / "growths"
-    if not heap.exists():
-        run(
-            [
-                "gcc",
-                "-shared",
-                "-fPIC",
-                "-O1",
-                TOP / "tests/support/counting_heap.c",
-                "-o",
-                heap,
-                "-ldl",
-            ],
-            os.environ,
-        )
-    return (
-        dict(environment, LD_PRELOAD=str(heap), REFUSE=str(number), REFUSE_REPORT=str(report)),
-        report,
-    )
+    """The environment in which the allocation of this number fails, and the heap that counts."""
+    heap = Heap(folder)
+    return heap.environment(number, environment), heap
 
 
 def dictionary_of(environment):

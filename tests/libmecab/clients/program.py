@@ -282,9 +282,9 @@ def check_refused_memory(folder, library):
     environment = dict(os.environ, LD_LIBRARY_PATH=str(library.parent))
     whole, said = run(command, environment), set()
     for number in range(1, 10_000):
-        refused, report = refusing(folder, environment, number)
+        refused, heap = refusing(folder, environment, number)
         done = subprocess.run(list(map(str, command)), env=refused, capture_output=True)
-        if "refused 0" in report.read_text():
+        if heap.counts().failed == 0:
             break
         told = done.stderr.decode()
         said.add(told)
