@@ -4,7 +4,7 @@ import sys
 from typing import List, NamedTuple, Optional
 
 from .encodings import CHOICES, Encoding, encoding_named
-from .faults import WRONG_WORDS, Fault, as_bytes, shown
+from .errors import WRONG_WORDS, Fault, as_bytes, shown
 
 USAGE = (
     "usage: kumquatsieve-import [-v] [--encoding NAME] [--] DIR|ipadic|juman|naist|unidic [IMG], "

@@ -7,7 +7,7 @@ the names, none are written, and why is reported.
 import re
 from typing import NamedTuple, Optional
 
-from .faults import naming, shown
+from .errors import naming, shown
 
 # The file of the names beside an image, one name a line.
 FIELDS = b"fields"

@@ -8,8 +8,8 @@ import time
 from contextlib import contextmanager
 from typing import Iterator, Optional
 
-from .faults import shown
-from .telling import SECONDS, Teller
+from .errors import shown
+from .progress import SECONDS, Teller
 
 # Between two tries.
 PAUSE = 0.05

@@ -4,19 +4,19 @@ import signal
 import sys
 
 from .command_line import HELP, NAMES, given_words, read_words
-from .compiling import NEW, Compilation, ImageFile, dictc_beside, place_for_new
-from .converting import make_utf_8, write_converted
+from .compilation import NEW, Compilation, ImageFile, dictc_beside, place_for_new
+from .conversion import make_utf_8, write_converted
 from .encodings import missing_converter
-from .faults import FILE, MEMORY, Ended, Fault, shown
+from .errors import FILE, MEMORY, Ended, Fault, shown
 from .fields import FIELDS, find_names, write_names
-from .finding import find_encoding
-from .homes import home_for, let_all_read, let_none_write
-from .placing import TESTED, Place
+from .encoding_detection import find_encoding
+from .image_dirs import home_for, let_all_read, let_none_write
+from .installing import TESTED, Place
 from .records import test_all, test_new
 from .sources import DICRC, SETTINGS, Source, debian_folder, encoding_told, read_folder
-from .telling import Teller
-from .user import UserImport
-from .workshop import Signals, Workshop
+from .progress import Teller
+from .user_dictionary import UserImport
+from .resources import Signals, Workshop
 
 
 class Import:

@@ -11,13 +11,13 @@ import time
 from contextlib import contextmanager
 from typing import Callable, Iterator, NamedTuple, Optional, Tuple
 
-from .compiling import end_of, lines_of, program_beside
-from .faults import FILE, REFUSED, Fault, naming, shown
-from .homes import image_named
+from .compilation import end_of, lines_of, program_beside
+from .errors import FILE, REFUSED, Fault, naming, shown
+from .image_dirs import image_named
 from .locking import locked
-from .placing import Place, record_of
-from .telling import Teller
-from .workshop import PREFIX, Workshop
+from .installing import Place, record_of
+from .progress import Teller
+from .resources import PREFIX, Workshop
 
 MAGIC = b"MJDICT\r\n"
 # The layouts whose images end with no checksum.

@@ -5,7 +5,7 @@ import stat
 from typing import NamedTuple
 
 from .encodings import encoding_named
-from .faults import FILE, Fault, naming, shown
+from .errors import FILE, Fault, naming, shown
 
 DEFINITIONS = (b"matrix.def", b"char.def", b"unk.def")
 DICRC = b"dicrc"

@@ -26,10 +26,10 @@ from pathlib import Path
 sys.dont_write_bytecode = True
 sys.path.insert(0, str(Path(__file__).resolve().parents[1]))
 from cli.cases import ROWS  # noqa: E402
-from cli.cases.codes import codes_of_programs  # noqa: E402
-from cli.cases.programs import Programs  # noqa: E402
-from cli.cases.run import ANY, SAMPLE, Has, RecordOf, Run  # noqa: E402
-from cli.cases.turns import faults_of_turns  # noqa: E402
+from cli.cases.error_codes import codes_of_programs  # noqa: E402
+from cli.programs import Programs  # noqa: E402
+from cli.cases.case import ANY, SAMPLE, Has, RecordOf, Run  # noqa: E402
+from cli.interactive import faults_of_turns  # noqa: E402
 
 TOP = Path(__file__).resolve().parents[2]
 CRATES = TOP / "crates"

@@ -22,12 +22,35 @@ from pathlib import Path
 
 sys.dont_write_bytecode = True
 sys.path.insert(0, str(Path(__file__).resolve().parents[1]))
-from importer.cases import encodings, fields, homes, injected, locales  # noqa: E402
-from importer.cases import modes, placing, reasons, records, reports, terminals, users  # noqa: E402
-from importer.cases.running import PROGRAMS, install  # noqa: E402
+from importer.cases import (  # noqa: E402
+    encodings,
+    fields,
+    file_modes,
+    image_dirs,
+    injection,
+    installing,
+    locales,
+    progress,
+    records,
+    reports,
+    system_errors,
+    user_dictionaries,
+)
+from importer.cases.common import PROGRAMS, install  # noqa: E402
 
-TOPICS = (reports, encodings, fields, homes, locales, modes)
-TOPICS += (placing, reasons, records, terminals, users)
+TOPICS = (
+    reports,
+    encodings,
+    fields,
+    image_dirs,
+    locales,
+    file_modes,
+    installing,
+    system_errors,
+    records,
+    progress,
+    user_dictionaries,
+)
 
 
 def faults_of_rows(topic, programs, folder):
@@ -38,10 +61,10 @@ def faults_of_rows(topic, programs, folder):
 
 
 def faults_from_outside(kind, programs, folder):
-    for number in injected.SIGNALS:
+    for number in injection.SIGNALS:
         yield from (
             f"{number.name} while dictc writes: {fault}"
-            for fault in injected.wrong_by_signal(number, kind, programs, folder)
+            for fault in injection.wrong_by_signal(number, kind, programs, folder)
         )
     reading, writing = os.pipe()
     os.close(reading)
@@ -49,29 +72,29 @@ def faults_from_outside(kind, programs, folder):
         for name, target in (("full", full), ("read by nobody", closed), ("closed", None)):
             yield from (
                 f"standard output, {name}: {fault}"
-                for fault in injected.wrong_by_output(name, target, kind, programs, folder)
+                for fault in injection.wrong_by_output(name, target, kind, programs, folder)
             )
-    for fault in injected.wrong_without_error(kind, programs, folder):
+    for fault in injection.wrong_without_error(kind, programs, folder):
         yield f"standard error closed: {fault}"
     yield from (
         f"stopped while a pipe is full: {fault}"
-        for fault in injected.wrong_by_stop(kind, programs, folder)
+        for fault in injection.wrong_by_stop(kind, programs, folder)
     )
-    for megabytes in injected.MEGABYTES:
+    for megabytes in injection.MEGABYTES:
         yield from (
             f"{megabytes} MB: {fault}"
-            for fault in injected.wrong_by_memory(megabytes, kind, programs, folder)
+            for fault in injection.wrong_by_memory(megabytes, kind, programs, folder)
         )
 
 
 def injected_faults(programs, folder):
     """How many faults were injected by strace into each kind of import, None where it can't be used, and what is wrong after any fault."""
     counts, faults = [], []
-    for kind in injected.kinds(programs, folder):
+    for kind in injection.kinds(programs, folder):
         own = folder / kind.name
         own.mkdir()
         found = list(faults_from_outside(kind, programs, own))
-        count, wrong = injected.wrong_by_table(kind, programs, own)
+        count, wrong = injection.wrong_by_table(kind, programs, own)
         counts.append(count)
         faults += [f"{kind.name}: {fault}" for fault in found + wrong]
     return counts, faults

@@ -27,9 +27,9 @@ sys.dont_write_bytecode = True
 sys.path.insert(0, str(Path(__file__).resolve().parents[1]))
 from pjseg.cases import FORMATS, IMAGES, INPUTS, JOBS, OUTPUTS, TEXTS, made_up  # noqa: E402
 from pjseg.cases import long_outputs  # noqa: E402
-from pjseg.cases.asked import NAME, faults as faults_of_asked  # noqa: E402
+from pjseg.cases.command_lines import NAME, faults as faults_of_asked  # noqa: E402
 from pjseg.cases.terminals import faults_of_progress, faults_of_warnings  # noqa: E402
-from cli.cases.run import SAMPLE  # noqa: E402
+from cli.cases.case import SAMPLE  # noqa: E402
 from support.heap import Heap  # noqa: E402
 from support.running import preloadable  # noqa: E402
 

@@ -1,10 +1,10 @@
 """The rows of tests/cli/run.py, by subject."""
 from . import (
-    asked,
+    messages,
     command_lines,
-    far_costs,
+    large_matrices,
     files,
-    homes,
+    image_dirs,
     ids,
     images,
     lattices,
@@ -18,14 +18,14 @@ ROWS = [
     row
     for topic in (
         texts,
-        far_costs,
+        large_matrices,
         lattices,
         why,
         command_lines,
-        asked,
+        messages,
         sources,
         images,
-        homes,
+        image_dirs,
         ids,
         files,
         streams,

@@ -1,5 +1,5 @@
 """Command lines: help, and those that are wrong."""
-from .run import DEFINITIONS, LEXICON, SYSTEM, USER, Has, Path, Run
+from .case import DEFINITIONS, LEXICON, SYSTEM, USER, Has, Path, Run
 
 # (words, what stands in the text)
 HELP = [

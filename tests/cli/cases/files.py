@@ -1,5 +1,5 @@
 """Files and directories: read, written whole or not at all, and those that can't be."""
-from .run import ANY, SYSTEM, USER, Path, Run, Under
+from .case import ANY, SYSTEM, USER, Path, Run, Under
 
 MADE = {"new.img": "sys.img"}
 LINE = "3 entries, 0 skipped\n"

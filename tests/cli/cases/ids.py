@@ -1,6 +1,6 @@
 """Which ids and word costs the entries of a part of speech have."""
 from .images import LAYOUT_1, OTHER_SIZES
-from .run import Exactly, Has, Run, Under
+from .case import Exactly, Has, Run, Under
 
 HEADING = "left\tright\tentries\tleast\tlower_quartile\tmedian\tupper_quartile\tgreatest\n"
 IDS = "dictc ids --dic sys.img"

@@ -1,5 +1,5 @@
 """Lattices that are printed: as tables, and as graphs for Graphviz."""
-from .run import Has, Run, Under
+from .case import Has, Run, Under
 from .streams import DEVICES, FAILING
 
 LEXICON = "a/lexicon.csv"

@@ -1,5 +1,5 @@
 """Sources that are refused."""
-from .run import CHARS, LEXICON, SYSTEM, UNK, USER, Exactly, Run, Under
+from .case import CHARS, LEXICON, SYSTEM, UNK, USER, Exactly, Run, Under
 
 MANY = b"".join(b"CATEGORY%d 0 0 0\n" % i for i in range(13))
 LONG = b"z" * 65_536 + b",1,1,1,X\n"

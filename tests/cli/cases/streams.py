@@ -1,5 +1,5 @@
 """Standard streams that fail, and want of memory."""
-from .run import SYSTEM, Run, Under
+from .case import SYSTEM, Run, Under
 from .texts import MO, SUMOMO
 
 ALL = f"{SYSTEM} a/lexicon.csv"

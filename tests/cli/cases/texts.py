@@ -1,5 +1,5 @@
 """Texts that are cut: by which dictionary, with which options, and texts and formats that are refused."""
-from .run import ANY, CHARS, DEFINITIONS, MATRIX, SYSTEM, UNK, USER, Run
+from .case import ANY, CHARS, DEFINITIONS, MATRIX, SYSTEM, UNK, USER, Run
 
 SUMOMO = "すもも\t名詞,すもも\nもも\t名詞,もも\nEOS\n"
 MO = "も\t助詞,も\nEOS\n"

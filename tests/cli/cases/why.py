@@ -1,6 +1,6 @@
 """Why lines were cut so: their best paths, and the rival of each word."""
 from .lattices import BAD, FIELDS, LEXICON, TWICE
-from .run import Has, Run, Under
+from .case import Has, Run, Under
 from .streams import DEVICES, FAILING
 
 HEADING = "path\tstart\tsurface\tconnection\tcost\ttotal\tlost\tfeature\n"

@@ -6,9 +6,9 @@ from pathlib import Path
 
 from kumquatsieve_import.command_line import NAMES as DEBIANS_NAMES
 from kumquatsieve_import.encodings import CHOICES
-from cli.cases.codes import CODES_OF_CALLS, codes_of_programs
+from cli.cases.error_codes import CODES_OF_CALLS, codes_of_programs
 
-from .asked import FILE, FOLDER, has_terminals, line_after_tab, of_bash, of_zsh
+from .shells import FILE, FOLDER, has_terminals, line_after_tab, of_bash, of_zsh
 
 FILES, FOLDERS, NOTHING = {FILE, FOLDER}, {FOLDER}, set()
 CODES = {code.split()[0] for code in (*CODES_OF_CALLS, *codes_of_programs())}

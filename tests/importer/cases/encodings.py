@@ -2,7 +2,7 @@
 import subprocess
 from typing import NamedTuple
 
-from .running import FILES, compiled, files_of, in_code, lay
+from .common import FILES, compiled, files_of, in_code, lay
 
 
 class Row(NamedTuple):

@@ -2,7 +2,7 @@
 import subprocess
 from typing import NamedTuple, Optional
 
-from .running import headed, in_code, lay
+from .common import headed, in_code, lay
 
 # The fields in the documents of each dictionary.
 IPADIC = "pos1 pos2 pos3 pos4 conjugation_type conjugation_form base_form reading pronunciation"

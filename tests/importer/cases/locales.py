@@ -3,8 +3,8 @@ import os
 import subprocess
 from typing import NamedTuple
 
-from .running import FILES, lay
-from .users import USAGE
+from .common import FILES, lay
+from .user_dictionaries import USAGE
 
 # The locale's name, its definition, its encoding, and the encoding as Python calls it.
 LOCALES = (("ja_JP.EUC-JP", "ja_JP", "EUC-JP"), ("en_US.ISO-8859-1", "en_US", "ISO-8859-1"))

@@ -7,10 +7,10 @@ from typing import Callable, NamedTuple, Optional
 
 from cli.cases.images import LAYOUT_1, LAYOUT_2, LAYOUT_3, changed, with_digest
 
-from .homes import NOBODY
-from .reasons import can_run
-from .running import FILES, compiled, lay
-from .users import USAGE
+from .image_dirs import NOBODY
+from .system_errors import can_run
+from .common import FILES, compiled, lay
+from .user_dictionaries import USAGE
 
 WANTED = f"--test wants images, and no other option but -v; {USAGE}"
 OTHERS = "its group or all users may write"

@@ -4,8 +4,8 @@ import re
 import subprocess
 from typing import NamedTuple
 
-from .running import FILES, MARK, SAMPLE, in_code, lay
-from .users import USAGE
+from .common import FILES, MARK, SAMPLE, in_code, lay
+from .user_dictionaries import USAGE
 
 WORDS = "すもも もも \nもも もも \n"
 NAMES = "utf-8, euc-jp, euc-jis-2004, cp932 or iso-2022-jp"

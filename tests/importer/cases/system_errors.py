@@ -5,8 +5,8 @@ import resource
 import subprocess
 from typing import NamedTuple
 
-from .homes import NOBODY
-from .running import FILES, compiled, lay
+from .image_dirs import NOBODY
+from .common import FILES, compiled, lay
 
 # A file system with room for less than the sample's image, in a name space of its own.
 SMALL = """mount -t tmpfs -o size=8k tmpfs small || exit 77

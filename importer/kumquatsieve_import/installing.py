@@ -9,10 +9,10 @@ import shutil
 import stat
 from typing import Dict, List, Optional
 
-from .faults import FILE, WRONG_WORDS, Fault, naming, shown
+from .errors import FILE, WRONG_WORDS, Fault, naming, shown
 from .locking import locked
-from .telling import Teller
-from .workshop import Workshop
+from .progress import Teller
+from .resources import Workshop
 
 ENDING = b".img"
 # The beginning of the first line of a settings file, and how many bytes of checksum end an image.

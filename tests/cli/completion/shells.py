@@ -81,7 +81,7 @@ def typed(shell, keys, folder):
             "TERM": "dumb",
         }
         os.execvpe(shell, INTERACTIVE[shell], {**surroundings(), **place})
-    os.write(terminal, f". {HERE}/asked.{shell}\n{keys}".encode())
+    os.write(terminal, f". {HERE}/interactive.{shell}\n{keys}".encode())
     printed = printed_on(terminal)
     os.waitpid(process, 0)
     os.close(terminal)

@@ -8,7 +8,7 @@ kana for most of a text, as CP932 makes of EUC-JP, and escape sequences of ISO-2
 import re
 
 from .encodings import CHOICES, CP932, EUC_JIS_2004, EUC_JP, ISO_2022_JP, UTF_8
-from .faults import REFUSED, Fault, shown
+from .errors import REFUSED, Fault, shown
 
 ESCAPE = b"\x1b"
 ISO_2022_ESCAPE = re.compile(rb"\x1b[$(]")

@@ -7,7 +7,7 @@ the seconds in it go on; it is erased before anything else is printed and at the
 import os
 import time
 
-from .faults import of_file, shown
+from .errors import of_file, shown
 
 PROGRAM = "kumquatsieve-import"
 # Between two lines of one step.

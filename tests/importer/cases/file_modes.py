@@ -5,7 +5,7 @@ import stat
 import subprocess
 from typing import NamedTuple
 
-from .running import FILES, compiled, lay
+from .common import FILES, compiled, lay
 
 SYSTEM = "PREFIX/var/lib/kumquatsieve"
 SETTINGS = {"dicrc": b"; f[0]: pos\n; f[1]: reading\n", "pos-id.def": "名詞 1\n".encode()}

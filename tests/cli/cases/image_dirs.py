@@ -2,7 +2,7 @@
 import struct
 
 from .images import LAYOUT_1, LAYOUT_2, LAYOUT_3, UNTESTED, changed
-from .run import Has, RecordOf, Run, Under
+from .case import Has, RecordOf, Run, Under
 from .streams import DEVICES
 from .texts import MO
 

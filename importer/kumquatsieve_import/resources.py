@@ -7,7 +7,7 @@ import tempfile
 from contextlib import contextmanager
 from typing import IO
 
-from .faults import FILE, Ended, Fault, naming
+from .errors import FILE, Ended, Fault, naming
 
 NUMBERS = (signal.SIGHUP, signal.SIGINT, signal.SIGQUIT, signal.SIGTERM)
 PREFIX = b"kumquatsieve-import."

@@ -1,9 +1,9 @@
 """What the programs say of themselves and of their work: versions, explanations, `-v`, and what to do in place of MeCab's options."""
 import struct
 
-from .codes import CODES_OF_CALLS, codes_of_programs
+from .error_codes import CODES_OF_CALLS, codes_of_programs
 from .images import LAYOUT_2, LAYOUT_3, UNTESTED, changed, with_digest
-from .run import ANY, ERASED, LEXICON, MATRIX, SYSTEM, USER, Erased, Exactly, Has, Path, Run, Under
+from .case import ANY, ERASED, LEXICON, MATRIX, SYSTEM, USER, Erased, Exactly, Has, Path, Run, Under
 from .sources import FAULTS, TWO, told_faults
 from .texts import MO
 

@@ -3,7 +3,7 @@ import os
 import re
 
 from .encodings import UTF_8
-from .faults import naming, shown
+from .errors import naming, shown
 
 MARK = b"\xef\xbb\xbf"
 # A field of a line with the comma after it, as MeCab and dictc find it: blanks before it are

@@ -6,8 +6,8 @@ import shutil
 import stat
 from typing import Callable, Iterator, Optional
 
-from .faults import FILE, MEMORY, Fault, as_bytes, naming, of_file, shown
-from .workshop import Workshop
+from .errors import FILE, MEMORY, Fault, as_bytes, naming, of_file, shown
+from .resources import Workshop
 
 # A line of `dictc -v` that says how far it is.
 STEP = re.compile(r"dictc: \d+\.\d+ s: (.*)")

@@ -1,5 +1,5 @@
 """Texts that are cut by a dictionary whose connection costs are too many for a copy: those that a text's beginning asks for are looked up apart."""
-from .run import ANY, SYSTEM, Has, Run, Under
+from .case import ANY, SYSTEM, Has, Run, Under
 from .texts import MO, SUMOMO
 
 # 2,900 right ids and as many left ids are more than 2^23 pairs.

@@ -3,7 +3,7 @@ else to the user's own. The programs find it there by its name."""
 import os
 from typing import NamedTuple
 
-from .faults import shown
+from .errors import shown
 
 FOLDER = b"kumquatsieve"
 

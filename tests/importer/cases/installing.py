@@ -7,7 +7,7 @@ import subprocess
 import sys
 from typing import Callable, NamedTuple
 
-from .running import FILES, headed, lay
+from .common import FILES, headed, lay
 
 # Runs a program that is killed in place of its so manieth rename or removal of a file at NAME.*.
 KILLED = """

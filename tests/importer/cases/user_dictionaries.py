@@ -4,7 +4,7 @@ import re
 import subprocess
 from typing import NamedTuple
 
-from .running import FILES, MARK, compiled, lay
+from .common import FILES, MARK, compiled, lay
 
 USAGE = (
     "usage: kumquatsieve-import [-v] [--encoding NAME] [--] DIR|ipadic|juman|naist|unidic [IMG], "

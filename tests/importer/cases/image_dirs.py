@@ -5,7 +5,7 @@ import stat
 import subprocess
 from typing import NamedTuple
 
-from .running import FILES, SAMPLE, lay
+from .common import FILES, SAMPLE, lay
 
 NOBODY = 65534
 WORDS = "すもも もも \nもも もも \n"

@@ -12,7 +12,7 @@ import termios
 import unicodedata
 from typing import NamedTuple
 
-from .running import FILES, lay
+from .common import FILES, lay
 
 # A dictc that works only after somebody opened a pipe for it.
 SLOW = """#!/bin/sh

@@ -1,12 +1,12 @@
 """Lexicons of a user, which dictc compiles for a system dictionary. They are read strictly: no line is left out."""
 import os
 
-from .compiling import NEW, Compilation, ImageFile, dictc_beside, place_for_new
-from .converting import make_utf_8
-from .faults import REFUSED, Fault, naming, shown
-from .finding import find_encoding
-from .homes import image_named, let_all_read
-from .placing import Place
+from .compilation import NEW, Compilation, ImageFile, dictc_beside, place_for_new
+from .conversion import make_utf_8
+from .errors import REFUSED, Fault, naming, shown
+from .encoding_detection import find_encoding
+from .image_dirs import image_named, let_all_read
+from .installing import Place
 from .records import test_new
 from .sources import Source, source_at
 
