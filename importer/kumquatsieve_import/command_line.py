@@ -1,10 +1,11 @@
-"""The words of the command line."""
+"""The command line."""
 import os
 import sys
-from typing import List, NamedTuple, Optional
+from typing import Dict, List, NamedTuple, Optional, Sequence, Tuple
 
 from .encodings import CHOICES, Encoding, encoding_named
-from .errors import WRONG_WORDS, Fault, as_bytes, shown
+from .errors import USAGE as USAGE_ERROR
+from .errors import Error, as_bytes, printable
 
 USAGE = (
     "usage: kumquatsieve-import [-v] [--encoding NAME] [--] DIR|ipadic|juman|naist|unidic [IMG], "
@@ -35,117 +36,149 @@ Options:
 """
 # The options with a value.
 VALUED = ("--encoding", "--user", "--out")
-# What a name is in Debian's folder.
-NAMES = {b"ipadic": b"ipadic", b"juman": b"juman", b"naist": b"naist-jdic", b"unidic": b"unidic"}
+# The names of dictionaries that Debian packages, each with the name of its directory.
+DEBIAN_NAMES = {
+    b"ipadic": b"ipadic",
+    b"juman": b"juman",
+    b"naist": b"naist-jdic",
+    b"unidic": b"unidic",
+}
 
 
 class Choices(NamedTuple):
-    """What was asked for. Without an image's path it is installed by the name of the folder. Of a user's dictionary `lexicons` has the files, and
-    `name` that of the system's. `images` are those to test."""
+    """What a command line asks for.
+
+    `name` is the directory of sources, or the name of a dictionary that Debian packages. Without
+    the path `image`, the image is installed by that name. If there are `lexicons`, they are
+    compiled for the system dictionary `name`. If there are `images`, they are tested.
+    """
 
     name: bytes
     image: Optional[bytes]
     encoding: Optional[Encoding]
     is_verbose: bool
     wants_help: bool
-    lexicons: tuple = ()
-    images: tuple = ()
+    lexicons: Tuple[bytes, ...] = ()
+    images: Tuple[bytes, ...] = ()
 
-    def is_debian(self):
-        return self.name in NAMES
-
-
-def usage_fault(why):
-    return Fault(WRONG_WORDS, f"{why}; {USAGE}")
+    def is_debian(self) -> bool:
+        return self.name in DEBIAN_NAMES
 
 
-def word_bytes(words: List[str]) -> List[bytes]:
-    """The bytes of the last words of this process, of which Python made these words."""
+def usage_error(why: str) -> Error:
+    return Error(USAGE_ERROR, f"{why}; {USAGE}")
+
+
+def argument_bytes(arguments: List[str]) -> List[bytes]:
+    """Returns the bytes of this process's last arguments, from which Python made `arguments`."""
     try:
         with open("/proc/self/cmdline", "rb") as file:
             found = file.read().split(b"\0")[:-1]
     except OSError:
         found = []
-    if len(found) > len(words):
-        return found[len(found) - len(words) :]
+    if len(found) > len(arguments):
+        return found[len(found) - len(arguments) :]
     try:
-        return list(map(os.fsencode, words))
+        return list(map(os.fsencode, arguments))
     except UnicodeEncodeError as error:
         why = "an argument can't be read in this locale: set LC_ALL to C.UTF-8"
-        raise Fault(WRONG_WORDS, why) from error
+        raise Error(USAGE_ERROR, why) from error
 
 
-def given_words(words: List[str]) -> List[str]:
-    """The words of the command line as UTF-8, in which each other byte is a surrogate.
+def utf_8_arguments(arguments: List[str]) -> List[str]:
+    """Returns the arguments decoded as UTF-8, with a surrogate for each byte that is not UTF-8.
 
-    Python decodes them by the locale. In ja_JP.EUC-JP, for one, it can't encode again what it made
+    Python decodes them by the locale. In ja_JP.EUC-JP, for one, it can't encode its own decoding
     of a path in UTF-8.
     """
     if sys.getfilesystemencoding() == "utf-8":
-        return words
-    return [word.decode("utf-8", "surrogateescape") for word in word_bytes(words)]
+        return arguments
+    return [argument.decode("utf-8", "surrogateescape") for argument in argument_bytes(arguments)]
 
 
-def encoding_given(name):
+def parse_encoding(name: str) -> Encoding:
     found = encoding_named(name)
     if found is None:
-        raise Fault(WRONG_WORDS, f"--encoding {shown(name)} is not known; it takes {CHOICES}")
+        message = f"--encoding {printable(name)} is not known; it takes {CHOICES}"
+        raise Error(USAGE_ERROR, message)
     return found
 
 
-def read_words(words):
-    """The choices of a command line. Options stand anywhere before `--`."""
-    rest, names, given, is_verbose, is_test = list(words), [], {}, False, False
-    while rest:
-        word = rest.pop(0)
-        name, equals, value = word.partition("=")
-        if word == "--":
-            names += rest
-            break
-        if not word.startswith("-"):
-            names.append(word)
-        elif word in ("-h", "--help"):
-            return Choices(b"", None, None, False, True)
-        elif word in ("-v", "--verbose"):
-            is_verbose = True
-        elif word == "--test":
-            is_test = True
+class Options:
+    """The options and operands of a command line. An option may come anywhere before `--`."""
+
+    def __init__(self) -> None:
+        self.operands: List[bytes] = []
+        self.values: Dict[str, str] = {}
+        self.is_verbose = self.is_test = self.wants_help = False
+
+    def parse(self, arguments: Sequence[str]) -> None:
+        """Parses arguments up to a `--help`, after which nothing matters."""
+        rest = list(arguments)
+        while rest and not self.wants_help:
+            argument = rest.pop(0)
+            if argument == "--":
+                self.operands += map(as_bytes, rest)
+                return
+            if argument.startswith("-"):
+                self.parse_option(argument, rest)
+            else:
+                self.operands.append(as_bytes(argument))
+
+    def parse_option(self, argument: str, rest: List[str]) -> None:
+        """Parses an option, whose value may be the first of the remaining arguments."""
+        name, equals, value = argument.partition("=")
+        if argument in ("-h", "--help"):
+            self.wants_help = True
+        elif argument in ("-v", "--verbose"):
+            self.is_verbose = True
+        elif argument == "--test":
+            self.is_test = True
         elif name in VALUED and (equals or rest):
-            given[name] = value if equals else rest.pop(0)
+            self.values[name] = value if equals else rest.pop(0)
         else:
-            raise usage_fault(
-                f"{shown(word)} is no option, or lacks its value; a name that begins with - stands after --"
+            raise usage_error(
+                f"{printable(argument)} is no option, or lacks its value; "
+                "a name that begins with - stands after --"
             )
-    encoding = encoding_given(given["--encoding"]) if "--encoding" in given else None
-    names = list(map(as_bytes, names))
-    if is_test:
-        return choices_of_test(names, given, is_verbose)
-    if "--user" in given or "--out" in given:
-        return choices_of_user(
-            given.get("--user", ""), given.get("--out", ""), names, encoding, is_verbose
-        )
-    return choices_of(names, encoding, is_verbose)
 
 
-def choices_of_user(dictionary, image, lexicons, encoding, is_verbose):
-    if not dictionary or not image or not lexicons or b"" in lexicons:
-        raise usage_fault("a user's dictionary wants --user, --out and a lexicon")
-    name, image = as_bytes(dictionary), as_bytes(image)
-    return Choices(name, image, encoding, is_verbose, False, tuple(lexicons))
+def parse_arguments(arguments: Sequence[str]) -> Choices:
+    """Returns the choices of a command line."""
+    options = Options()
+    options.parse(arguments)
+    if options.wants_help:
+        return Choices(b"", None, None, False, True)
+    named = options.values.get("--encoding")
+    encoding = parse_encoding(named) if named is not None else None
+    if options.is_test:
+        return choose_test(options)
+    if "--user" in options.values or "--out" in options.values:
+        return choose_user_import(options, encoding)
+    return choose_import(options, encoding)
 
 
-def choices_of_test(images, given, is_verbose):
-    if not images or b"" in images or given:
-        raise usage_fault("--test wants images, and no other option but -v")
-    return Choices(b"", None, None, is_verbose, False, images=tuple(images))
+def choose_test(options: Options) -> Choices:
+    images = options.operands
+    if not images or b"" in images or options.values:
+        raise usage_error("--test wants images, and no other option but -v")
+    return Choices(b"", None, None, options.is_verbose, False, images=tuple(images))
 
 
-def choices_of(names, encoding, is_verbose):
+def choose_user_import(options: Options, encoding: Optional[Encoding]) -> Choices:
+    name, image = (as_bytes(options.values.get(one, "")) for one in ("--user", "--out"))
+    lexicons = options.operands
+    if not name or not image or not lexicons or b"" in lexicons:
+        raise usage_error("a user's dictionary wants --user, --out and a lexicon")
+    return Choices(name, image, encoding, options.is_verbose, False, tuple(lexicons))
+
+
+def choose_import(options: Options, encoding: Optional[Encoding]) -> Choices:
+    names = options.operands
     if not 1 <= len(names) <= 2 or b"" in names:
-        raise usage_fault("a folder is wanted, and the image to write")
-    choices = Choices(names[0], names[1] if len(names) == 2 else None, encoding, is_verbose, False)
-    if choices.image is None and (b"/" in choices.name or choices.name.startswith(b".")):
-        raise Fault(
-            WRONG_WORDS, f"give the image to write: kumquatsieve-import {shown(choices.name)} IMG"
-        )
-    return choices
+        raise usage_error("a folder is wanted, and the image to write")
+    name, image = names[0], names[1] if len(names) == 2 else None
+    if image is None and (b"/" in name or name.startswith(b".")):
+        message = f"give the image to write: kumquatsieve-import {printable(name)} IMG"
+        raise Error(USAGE_ERROR, message)
+    return Choices(name, image, encoding, options.is_verbose, False)

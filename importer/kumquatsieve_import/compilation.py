@@ -1,64 +1,75 @@
-"""dictc compiles the folder of sources in UTF-8. What it says is reported with the paths of the sources."""
+"""Runs dictc over the sources in UTF-8, and reports its messages with the paths of the sources."""
+import io
 import os
 import re
 import selectors
 import shutil
 import stat
-from typing import Callable, Iterator, Optional
+import subprocess
+from typing import IO, Any, Callable, Dict, Iterator, List, Optional, Sequence, Tuple
 
-from .errors import FILE, MEMORY, Fault, as_bytes, naming, of_file, shown
-from .resources import Workshop
+from .errors import FILE, MEMORY, Error, as_bytes, errors_of, file_error, printable, reason_of
+from .progress import Reporter
+from .resources import Resources
 
-# A line of `dictc -v` that says how far it is.
+# A progress message of `dictc -v`.
 STEP = re.compile(r"dictc: \d+\.\d+ s: (.*)")
-SAID = re.compile(r"dictc: (.*)")
-# What dictc says after a fault to a caller that asked for steps.
-EXPLAINED = re.compile(r"dictc: 'dictc --explain .*")
-# A file that dictc can't read or write.
+MESSAGE = re.compile(r"dictc: (.*)")
+# The hint that dictc prints after an error with -v.
+HINT = re.compile(r"dictc: 'dictc --explain .*")
+# The error of a file that dictc can't read or write.
 NO_FILE = re.compile(r"dictc: (.*): F1 File")
-# The pipe through which dictc gives the image. This program writes the file, so it knows why a
-# write fails.
+# The name of the pipe to which dictc writes the image. This program writes the file, so that it
+# knows why a write fails.
 NEW = b"image"
-# How much is read at once, and how much is written before it is stored: all at once it could take
-# long.
+# The number of bytes that are read at a time, and the number that are written before a sync: to
+# sync all of them at once could take long.
 CHUNK = 1 << 20
-STORED = 8 << 20
-# How long nothing may come from a process before something is shown, in seconds.
-WHILE = 1.0
+SYNC_INTERVAL = 8 << 20
+# Seconds without output of a process after which progress is shown.
+IDLE = 1.0
 
 
 def program_beside(own: bytes, name: bytes) -> bytes:
-    """The program that is beside this one, else the one of the path."""
+    """Returns the path of a program in the directory `own`, or else the one on the PATH."""
     beside = os.path.join(own, name)
     found = beside if os.access(beside, os.X_OK) else shutil.which(name)
     if found is None:
-        raise Fault(FILE, f"{shown(name)} is neither in {shown(own)} nor on the path")
+        message = f"{printable(name)} is neither in {printable(own)} nor on the path"
+        raise Error(FILE, message)
     return os.path.abspath(found)
 
 
-def dictc_beside(own):
+def dictc_beside(own: bytes) -> bytes:
     return program_beside(own, b"dictc")
 
 
-def place_for_new(work):
-    """Makes the pipe for the new image, and returns its name in the folder."""
-    with naming(work):
+def make_image_pipe(work: bytes) -> bytes:
+    """Makes the pipe for the new image in `work`, and returns its name."""
+    with errors_of(work):
         os.mkfifo(os.path.join(work, NEW))
     return NEW
 
 
-def lines_of(pipe, wait, take: Callable[[], bool] = bool, others: tuple = ()) -> Iterator[bytes]:
-    """The lines of a pipe, and a call of `wait` for each while without one. Where one of the other
-    files has bytes, `take` reads them, and returns whether there may be more."""
+def lines_of(
+    pipe: IO[bytes],
+    wait: Callable[[], None],
+    other: Optional[io.FileIO] = None,
+    take: Callable[[], bool] = bool,
+) -> Iterator[bytes]:
+    """Yields the lines of a pipe. Calls `wait` if none comes for IDLE seconds.
+
+    If the file `other` has bytes, `take` reads them, and returns whether there may be more.
+    """
     with selectors.DefaultSelector() as selector:
-        for descriptor in (pipe, *others):
-            selector.register(descriptor, selectors.EVENT_READ)
+        selector.register(pipe, selectors.EVENT_READ)
+        if other is not None:
+            selector.register(other, selectors.EVENT_READ)
         rest = b""
         while True:
-            ready = {key.fileobj for key, _ in selector.select(WHILE)}
-            for other in ready.intersection(others):
-                if not take():
-                    selector.unregister(other)
+            ready = [key.fileobj for key, _ in selector.select(IDLE)]
+            if other is not None and other in ready and not take():
+                selector.unregister(other)
             if not ready:
                 wait()
             if pipe not in ready:
@@ -72,8 +83,11 @@ def lines_of(pipe, wait, take: Callable[[], bool] = bool, others: tuple = ()) ->
         yield rest
 
 
-def places_of(process, paths):
-    """How far a process is in the files that it has open, where the system says so."""
+def positions_of(process: int, paths: Dict[bytes, int]) -> Iterator[Tuple[bytes, int]]:
+    """Yields those of `paths` that a process has open, each with its position in the file.
+
+    Yields nothing if the system has no /proc.
+    """
     folder = f"/proc/{process}"
     try:
         for number in os.listdir(f"{folder}/fd"):
@@ -85,8 +99,8 @@ def places_of(process, paths):
         return
 
 
-def fault_of_reading(path: bytes) -> Optional[OSError]:
-    """The error of reading a file or folder to its end; None where there is none, or no file."""
+def error_of_reading(path: bytes) -> Optional[OSError]:
+    """Reads a file or directory to its end, and returns the error of that, or None."""
     if not os.path.lexists(path):
         return None
     try:
@@ -99,62 +113,72 @@ def fault_of_reading(path: bytes) -> Optional[OSError]:
     return None
 
 
-def open_now(path: bytes, flags: int) -> int:
-    """Opens the reading end of a pipe without waiting for its writer."""
+def open_without_writer(path: Any, flags: int) -> int:
+    """Opens the reading end of a pipe without waiting for its writer. (An `opener` of `open`.)"""
     return os.open(path, flags | os.O_NONBLOCK)
 
 
 class ImageFile:
-    """The file of the new image in a folder, filled from the pipe in dictc's folder."""
+    """The file of the new image in `folder`, filled from the pipe in `work`.
 
-    def __init__(self, folder: bytes, work: bytes, named: bytes, workshop: Workshop):
+    `named` is the path that errors name.
+    """
+
+    def __init__(self, folder: bytes, work: bytes, named: bytes, resources: Resources) -> None:
         self.named = named
-        with naming(named):
-            self.file = workshop.keep(open(os.path.join(folder, NEW), "xb", buffering=0))
-        self.written = 0
-        with naming(work):
-            pipe = os.path.join(work, NEW)
-            self.pipe = workshop.keep(open(pipe, "rb", buffering=0, opener=open_now))
+        with errors_of(named):
+            self.file = resources.keep(open(os.path.join(folder, NEW), "xb", buffering=0))
+        # The number of bytes since the last sync.
+        self.unsynced = 0
+        with errors_of(work):
+            path = os.path.join(work, NEW)
+            self.pipe = resources.keep(open(path, "rb", buffering=0, opener=open_without_writer))
 
     def take(self) -> bool:
-        """Writes what is in the pipe. Returns whether there may be more."""
+        """Writes the bytes that are in the pipe. Returns whether there may be more."""
         try:
             rest = memoryview(os.read(self.pipe.fileno(), 1 << 16))
         except BlockingIOError:
             return True
         is_more = len(rest) > 0
-        with naming(self.named):
+        with errors_of(self.named):
             while rest:
                 count = self.file.write(rest)
-                rest, self.written = rest[count:], self.written + count
-            if self.written >= STORED:
+                rest, self.unsynced = rest[count:], self.unsynced + count
+            if self.unsynced >= SYNC_INTERVAL:
                 os.fsync(self.file)
-                self.written = 0
+                self.unsynced = 0
         return is_more
 
-    def store(self) -> None:
-        """Writes what is left in the pipe after its writer's end, and waits until all is stored."""
+    def finish(self) -> None:
+        """Writes the remaining bytes of the pipe, whose writer has ended, and syncs the file."""
         while self.take():
             pass
-        with naming(self.named):
+        with errors_of(self.named):
             os.fsync(self.file)
             self.file.close()
 
 
-def end_of(child, program: str) -> int:
-    """The status of a process. That a signal ended it is a fault."""
+def status_of(child: "subprocess.Popen[bytes]", program: str) -> int:
+    """Returns the exit status of a process. It is an error if a signal ended it."""
     status = child.wait()
     if status < 0:
-        raise Fault(MEMORY if status == -9 else FILE, f"{program} was ended by signal {-status}")
+        message = f"{program} was ended by signal {-status}"
+        raise Error(MEMORY if status == -9 else FILE, message)
     return status
 
 
 class Compilation:
-    """A run of dictc in a folder that has the sources by names of its own. A name that is no UTF-8 is none of these: dictc refuses its words then."""
+    """A run of dictc in a directory that has the sources by other names, which are UTF-8.
 
-    def __init__(self, names, teller):
+    `names` has the path of each source by that name. dictc would reject arguments that are not
+    UTF-8.
+    """
+
+    def __init__(self, names: Dict[bytes, bytes], reporter: Reporter) -> None:
         self.names = {
-            name.decode("utf-8", "backslashreplace"): shown(path) for name, path in names.items()
+            name.decode("utf-8", "backslashreplace"): printable(path)
+            for name, path in names.items()
         }
         self.sizes = {
             os.path.realpath(path): os.path.getsize(path)
@@ -162,58 +186,66 @@ class Compilation:
             if os.path.isfile(path)
         }
         self.pattern = re.compile("(?<![^ ])(" + "|".join(map(re.escape, self.names)) + ")(?=:|$)")
-        self.teller = teller
+        self.reporter = reporter
 
-    def with_paths(self, text):
+    def with_paths(self, text: str) -> str:
+        """Returns a message of dictc with the paths of the sources."""
         return self.pattern.sub(lambda found: self.names[found[1]], text)
 
-    def say_place(self, process):
-        """Says how far dictc is in what it reads, as in a large matrix.def, or that it works."""
-        for path, at in places_of(process, self.sizes) if self.teller.tells_steps else ():
-            self.teller.say_progress(f"dictc reads {shown(path)}", at, self.sizes[path])
-        self.teller.tick()
+    def log_position(self, process: int) -> None:
+        """Logs how much dictc has read of a large source, such as matrix.def."""
+        for path, at in positions_of(process, self.sizes) if self.reporter.logs_steps else ():
+            self.reporter.log_progress(f"dictc reads {printable(path)}", at, self.sizes[path])
+        self.reporter.tick()
 
-    def watch(self, child, image, folder):
-        """Tells the steps, and gives the other lines, which say a fault and why."""
-        others = []
+    def watch(self, child: "subprocess.Popen[bytes]", image: ImageFile, folder: bytes) -> List[str]:
+        """Logs the steps of dictc. Returns its other messages, of which the last is its error."""
+
+        def wait() -> None:
+            self.log_position(child.pid)
 
         def take() -> bool:
-            self.teller.tick()
+            self.reporter.tick()
             return image.take()
 
-        wait = lambda: self.say_place(child.pid)  # noqa: E731
-        for line in lines_of(child.stderr, wait, take, (image.pipe,)):
+        messages = []
+        assert child.stderr
+        for line in lines_of(child.stderr, wait, image.pipe, take):
             text = line.decode("utf-8", "backslashreplace")
             step = STEP.fullmatch(text)
             if step:
-                self.teller.say_step(self.with_paths(step[1]))
-            elif self.teller.tells_steps or not EXPLAINED.fullmatch(text):
+                self.reporter.log_step(self.with_paths(step[1]))
+            elif self.reporter.logs_steps or not HINT.fullmatch(text):
                 self.check_read(text, folder)
-                said = SAID.fullmatch(text)
-                others.append(self.with_paths(said[1] if said else text))
-        return others
+                message = MESSAGE.fullmatch(text)
+                messages.append(self.with_paths(message[1] if message else text))
+        return messages
 
     def check_read(self, text: str, folder: bytes) -> None:
         """Raises the system's error in place of dictc's, if a read of that file fails here too."""
         found = NO_FILE.fullmatch(text)
         if found and found[1] in self.names:
-            error = fault_of_reading(os.path.join(folder, as_bytes(found[1])))
+            error = error_of_reading(os.path.join(folder, as_bytes(found[1])))
             if error is not None:
-                raise of_file(as_bytes(self.names[found[1]]), error) from error
+                raise file_error(as_bytes(self.names[found[1]]), error) from error
 
-    def run(self, words, folder, workshop, image):
-        """What dictc counted. Its fault is a fault of the import, with its status."""
+    def run(
+        self, command: Sequence[bytes], folder: bytes, resources: Resources, image: ImageFile
+    ) -> str:
+        """Runs dictc, and returns the counts that it prints. An error of dictc ends the import."""
         try:
-            child = workshop.start(words, folder)
+            child = resources.start(command, folder)
         except OSError as error:
-            raise Fault(FILE, f"{shown(words[0])}: {os.strerror(error.errno)}") from error
-        self.teller.begin("dictc begins")
-        others = self.watch(child, image, folder)
-        counted = child.stdout.read().decode().rstrip("\n")
-        status = end_of(child, "dictc")
+            raise Error(FILE, f"{printable(command[0])}: {reason_of(error)}") from error
+        assert child.stdout
+        self.reporter.start_step("dictc begins")
+        messages = self.watch(child, image, folder)
+        counts = child.stdout.read().decode().rstrip("\n")
+        status = status_of(child, "dictc")
         if status:
-            for line in others[:-1]:
-                self.teller.say(line)
-            raise Fault(status, others[-1] if others else f"dictc ended with status {status}")
-        image.store()
-        return counted
+            for line in messages[:-1]:
+                self.reporter.log(line)
+            message = messages[-1] if messages else f"dictc ended with status {status}"
+            raise Error(status, message)
+        image.finish()
+        return counts

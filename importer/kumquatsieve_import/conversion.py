@@ -1,26 +1,38 @@
-"""Sources in UTF-8, in a folder of their own. A file that is so already is read where it stands."""
+"""Converts sources to UTF-8, in a directory of their own. A file in UTF-8 is read in place."""
 import os
 import re
+from typing import Callable, Iterator, List, Tuple
 
-from .encodings import UTF_8
-from .errors import naming, shown
+from .encodings import UTF_8, Encoding
+from .errors import errors_of, printable
+from .progress import Reporter
+from .sources import Source
 
+# The byte order mark of UTF-8.
 MARK = b"\xef\xbb\xbf"
-# A field of a line with the comma after it, as MeCab and dictc find it: blanks before it are
-# skipped, and of a field in quotes what follows the quotes is dropped.
+# A field of a line with the comma after it, as MeCab and dictc parse it: blanks before a field are
+# skipped, and after the quotes of a field the text up to the comma is dropped.
 FIELD = rb'[ \t]*(?:"(?:[^"\n]|"")*"(?!")[^,\n]*|(?![ \t"])[^,\n]*),'
-# A line whose surface is empty is not one of these: dictc skips and counts it.
+# A surface that is not empty. dictc skips and counts a line whose surface is empty.
 SURFACE = rb'[ \t]*(?:"(?:[^"\n]|"")+"(?!")[^,\n]*|(?![ \t",])[^,\n]+),'
 EMPTY = rb'[ \t]*(?:"[ \t]*"(?!")[^,\n]*)?,'
 # A line of a lexicon of which an id or the cost is empty.
 UNNUMBERED = re.compile(rb"(?m)^" + SURFACE + rb"(?:" + FIELD + rb"){0,2}?" + EMPTY)
-# One of these is in each such line.
+# Each such line contains one of these.
 EMPTY_FIELDS = (b",,", b", ", b",\t", b',"')
 NO_NUMBER = "its ids or its cost are empty"
 
+# The number of a line that is left out, and the reason.
+LeftOut = Tuple[int, str]
+# Takes the path of a source, the number of a line that is left out, and the reason.
+LeaveOut = Callable[[bytes, int, str], None]
 
-def decoded(chunk, first, encoding, left_out):
-    """A chunk in UTF-8. A line that is not in the encoding is empty in it, so that the others keep their numbers."""
+
+def decode_chunk(chunk: bytes, first: int, encoding: Encoding, left_out: List[LeftOut]) -> bytes:
+    """Returns a chunk in UTF-8. `first` is the number of its first line.
+
+    A line that is not in the encoding is emptied, so that the other lines keep their numbers.
+    """
     try:
         text = encoding.decode(chunk)
         return chunk if encoding is UTF_8 else text.encode()
@@ -35,8 +47,8 @@ def decoded(chunk, first, encoding, left_out):
     return b"\n".join(lines)
 
 
-def numbered(chunk, first, left_out):
-    """A chunk of a lexicon in which a line without numbers is empty."""
+def empty_unnumbered(chunk: bytes, first: int, left_out: List[LeftOut]) -> bytes:
+    """Returns a chunk of a lexicon in which each line without an id or a cost is emptied."""
     if not any(field in chunk for field in EMPTY_FIELDS):
         return chunk
     kept, at, number = [], 0, first
@@ -50,40 +62,44 @@ def numbered(chunk, first, left_out):
     return b"".join(kept)
 
 
-def converted(source, encoding):
-    """Each chunk of a source, what it is in UTF-8, and the numbers of its lines that are left out, with the reasons. The numbers in matrix.def
-    are the same in each encoding."""
+def converted(source: Source, encoding: Encoding) -> Iterator[Tuple[bytes, bytes, List[LeftOut]]]:
+    """Yields each chunk of a source, the chunk in UTF-8, and its lines that are left out.
+
+    matrix.def is not decoded: its numbers are the same in each encoding.
+    """
+    is_matrix = source.name == b"matrix.def"
     for number, chunk in source.chunks():
-        text, lines = chunk, []
-        if (
-            number == 1
-            and chunk.startswith(MARK)
-            and (encoding is UTF_8 or source.name == b"matrix.def")
-        ):
+        text: bytes = chunk
+        lines: List[LeftOut] = []
+        if number == 1 and chunk.startswith(MARK) and (encoding is UTF_8 or is_matrix):
             text = chunk[len(MARK) :]
-        if source.name != b"matrix.def":
-            text = decoded(text, number, encoding, lines)
-        yield chunk, numbered(text, number, lines) if source.is_lexicon() else text, sorted(lines)
+        if not is_matrix:
+            text = decode_chunk(text, number, encoding, lines)
+        if source.is_lexicon():
+            text = empty_unnumbered(text, number, lines)
+        yield chunk, text, sorted(lines)
 
 
-def is_as_wanted(source, encoding, teller):
-    """Whether a source can be read where it stands. Of matrix.def only the beginning decides that."""
+def is_unchanged(source: Source, encoding: Encoding, reporter: Reporter) -> bool:
+    """Returns whether a source can be read in place. Of matrix.def only the start decides that."""
     if source.name == b"matrix.def":
-        with naming(source.path), open(source.path, "rb") as file:
+        with errors_of(source.path), open(source.path, "rb") as file:
             return file.read(len(MARK)) != MARK
     done = 0
     for chunk, text, _ in converted(source, encoding):
         if chunk != text:
             return False
         done += len(chunk)
-        teller.say_progress(f"looking at {shown(source.path)}", done, source.size)
+        reporter.log_progress(f"looking at {printable(source.path)}", done, source.size)
     return True
 
 
-def write_converted(source, encoding, target, teller, leave_out):
-    """Writes a source in UTF-8. `leave_out` is told of each line that is left out."""
+def write_converted(
+    source: Source, encoding: Encoding, target: bytes, reporter: Reporter, leave_out: LeaveOut
+) -> None:
+    """Writes a source in UTF-8 to `target`. Calls `leave_out` for each line that is left out."""
     done = 0
-    with naming(target), open(target, "wb", buffering=0) as file:
+    with errors_of(target), open(target, "wb", buffering=0) as file:
         for chunk, text, lines in converted(source, encoding):
             for line, why in lines:
                 leave_out(source.path, line, why)
@@ -91,13 +107,15 @@ def write_converted(source, encoding, target, teller, leave_out):
             while rest:
                 rest = rest[file.write(rest) :]
             done += len(chunk)
-            teller.say_progress(f"making {shown(source.path)} UTF-8", done, source.size)
+            reporter.log_progress(f"making {printable(source.path)} UTF-8", done, source.size)
 
 
-def make_utf_8(source, encoding, target, teller, leave_out):
-    """Makes the file, or a link to the source where that is UTF-8 already."""
-    if is_as_wanted(source, encoding, teller):
-        with naming(target):
+def make_utf_8(
+    source: Source, encoding: Encoding, target: bytes, reporter: Reporter, leave_out: LeaveOut
+) -> None:
+    """Makes `target` a copy of the source in UTF-8, or a link to a source that needs no change."""
+    if is_unchanged(source, encoding, reporter):
+        with errors_of(target):
             os.symlink(os.path.abspath(source.path), target)
     else:
-        write_converted(source, encoding, target, teller, leave_out)
+        write_converted(source, encoding, target, reporter, leave_out)

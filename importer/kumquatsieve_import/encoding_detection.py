@@ -1,49 +1,59 @@
-"""Which encoding the sources are in, found from all files together.
+"""Finds the encoding of the sources, from all files together.
 
-Only lines with more than ASCII, or with an escape character, say something. An encoding in which all of them are is taken where it is the only
-one. Where there are several, as with a few characters, the one that dicrc names is taken. Where there is none, the one is taken in which by far
-most of the lines are, and the other lines are left out. What that doesn't decide is refused. What could only be guessed is refused too: half-width
-kana for most of a text, as CP932 makes of EUC-JP, and escape sequences of ISO-2022-JP.
+Only lines with more than ASCII, or with an escape character, are evidence. If all of these lines
+are in one encoding only, it is that one. If they are in several, as with a few characters, dicrc
+decides. If they are in none, it is the encoding of by far most lines, and the other lines are left
+out. Anything else is rejected, and so is what could only be guessed: half-width kana for most of a
+text, as CP932 decodes EUC-JP, and escape sequences of ISO-2022-JP.
 """
 import re
+from typing import Dict, Iterator, Optional, Sequence, Tuple
 
-from .encodings import CHOICES, CP932, EUC_JIS_2004, EUC_JP, ISO_2022_JP, UTF_8
-from .errors import REFUSED, Fault, shown
+from .encodings import CHOICES, CP932, EUC_JIS_2004, EUC_JP, ISO_2022_JP, UTF_8, Encoding
+from .errors import INVALID, Error, printable
+from .progress import Reporter
+from .sources import Source
 
 ESCAPE = b"\x1b"
 ISO_2022_ESCAPE = re.compile(rb"\x1b[$(]")
 LONG_CHARACTER = re.compile(rb"[\xe0-\xf4]")
 HALF_WIDTH = re.compile("[\uff61-\uff9f]")
-# After so many lines that are not in it, and these most of all, an encoding is looked at no more.
+# An encoding is dropped if more lines than this, and more than half of all, are not in it.
 ENOUGH = 100
-# How many times fewer lines than the next one the nearest encoding has to leave out.
-FAR = 4
+# The nearest encoding has to leave out this many times fewer lines than the next one.
+MARGIN = 4
+
+# A line, and its place in its chunk, counted from 0.
+NumberedLine = Tuple[int, bytes]
 
 
-class Standing:
-    """How an encoding stands."""
+class Candidate:
+    """An encoding, and how the lines so far fit it."""
 
-    def __init__(self, encoding):
+    def __init__(self, encoding: Encoding) -> None:
         self.encoding = encoding
-        self.wrong = {}
-        self.first = None
-        self.is_out = False
+        # How many lines of each file are not in the encoding, and the first of all.
+        self.misfits: Dict[bytes, int] = {}
+        self.first: Optional[Tuple[bytes, int]] = None
+        self.is_dropped = False
+        # Of CP932: how many characters there are beyond ASCII, and how many are half-width kana.
         self.characters = 0
         self.half_width = 0
+        # Of UTF-8: whether there is a character of three bytes or more.
         self.has_long = False
 
-    def count(self):
-        return sum(self.wrong.values())
+    def misfit_count(self) -> int:
+        return sum(self.misfits.values())
 
-    def is_likely(self):
-        """Whether it isn't CP932 that has half-width kana for most characters."""
+    def is_likely(self) -> bool:
+        """Returns whether it isn't CP932 with half-width kana for most characters."""
         return self.encoding is not CP932 or self.half_width * 2 <= self.characters
 
-    def fits(self):
-        return not self.wrong and self.is_likely()
+    def fits(self) -> bool:
+        return not self.misfits and self.is_likely()
 
-    def try_text(self, data):
-        """Whether a text is in the encoding, which is counted where it is."""
+    def try_text(self, data: bytes) -> bool:
+        """Returns whether a text is in the encoding, and counts its characters if so."""
         try:
             text = self.encoding.decode(data)
         except ValueError:
@@ -55,138 +65,152 @@ class Standing:
             self.has_long = LONG_CHARACTER.search(data) is not None
         return True
 
-    def look(self, source, number, chunk, telling):
-        """Counts what is not in it: `telling` has the lines that tell something, with their places after `number`."""
-        if self.is_out or self.try_text(chunk):
+    def examine(
+        self, source: Source, number: int, chunk: bytes, evidence: Sequence[NumberedLine]
+    ) -> None:
+        """Counts the lines of `evidence` that are not in the encoding.
+
+        `number` is the number of the chunk's first line in the source.
+        """
+        if self.is_dropped or self.try_text(chunk):
             return
-        for at, line in telling:
+        for at, line in evidence:
             if not self.try_text(line):
                 self.first = self.first or (source.path, number + at)
-                self.wrong[source.path] = self.wrong.get(source.path, 0) + 1
+                self.misfits[source.path] = self.misfits.get(source.path, 0) + 1
 
-    def said(self):
-        if not self.wrong:
+    def summary(self) -> str:
+        """Returns how the sources fit, for a message."""
+        if self.first is None:
             return f"{self.encoding.name} {'fits' if self.is_likely() else 'makes half-width kana'}"
         path, line = self.first
-        return f"{self.encoding.name} fails first at {shown(path)}:{line}"
+        return f"{self.encoding.name} fails first at {printable(path)}:{line}"
 
 
-class Finding:
-    """What is found of all sources."""
+class Detection:
+    """The candidates, and the evidence of all sources so far."""
 
-    def __init__(self, encodings):
-        self.standings = [Standing(encoding) for encoding in encodings]
-        self.lines = {}
-        self.escape = None
+    def __init__(self, encodings: Sequence[Encoding]) -> None:
+        self.candidates = [Candidate(encoding) for encoding in encodings]
+        # The number of lines with evidence in each file.
+        self.lines: Dict[bytes, int] = {}
+        # The first line with an escape sequence of ISO-2022-JP.
+        self.escape: Optional[Tuple[bytes, int]] = None
 
-    def look(self, source):
-        """Looks at a file, and gives the bytes of each chunk."""
+    def examine(self, source: Source) -> Iterator[int]:
+        """Examines a file, and yields the size of each chunk."""
         for number, chunk in source.chunks():
             if not chunk.isascii() or ESCAPE in chunk:
-                self.look_at(source, number, chunk)
+                self.examine_chunk(source, number, chunk)
             yield len(chunk)
 
-    def look_at(self, source, number, chunk):
-        lines = chunk.split(b"\n")
-        telling = [
-            (at, line) for at, line in enumerate(lines) if not line.isascii() or ESCAPE in line
-        ]
-        self.lines[source.path] = self.lines.get(source.path, 0) + len(telling)
+    def examine_chunk(self, source: Source, number: int, chunk: bytes) -> None:
+        lines = enumerate(chunk.split(b"\n"))
+        evidence = [(at, line) for at, line in lines if not line.isascii() or ESCAPE in line]
+        self.lines[source.path] = self.lines.get(source.path, 0) + len(evidence)
         if self.escape is None and ISO_2022_ESCAPE.search(chunk):
-            self.escape = next(
-                (
-                    (source.path, number + at)
-                    for at, line in telling
-                    if ISO_2022_ESCAPE.search(line)
-                ),
-                None,
-            )
-        seen = sum(self.lines.values())
-        for standing in self.standings:
-            standing.look(source, number, chunk, telling)
-            if (
-                len(self.standings) > 1
-                and standing.count() > ENOUGH
-                and standing.count() * 2 > seen
-            ):
-                standing.is_out = True
+            escapes = (at for at, line in evidence if ISO_2022_ESCAPE.search(line))
+            self.escape = next(((source.path, number + at) for at in escapes), None)
+        for candidate in self.candidates:
+            candidate.examine(source, number, chunk, evidence)
+        self.drop_misfits()
 
-    def decided(self, told):
-        """The standing of the encoding that is taken; None where that can't be decided."""
+    def drop_misfits(self) -> None:
+        """Drops each encoding that most lines are not in, unless it is the only one."""
+        seen = sum(self.lines.values())
+        for candidate in self.candidates if len(self.candidates) > 1 else ():
+            count = candidate.misfit_count()
+            if count > ENOUGH and count * 2 > seen:
+                candidate.is_dropped = True
+
+    def decide(self, in_dicrc: Optional[Encoding]) -> Optional[Candidate]:
+        """Returns the encoding that the evidence and dicrc decide on, or None."""
         fitting = [
             one
-            for one in self.standings
-            if one.fits() and (one.encoding is not EUC_JIS_2004 or told is EUC_JIS_2004)
+            for one in self.candidates
+            if one.fits() and (one.encoding is not EUC_JIS_2004 or in_dicrc is EUC_JIS_2004)
         ]
         long = [one for one in fitting if one.encoding is UTF_8 and one.has_long]
-        named = [one for one in fitting if one.encoding is told]
+        named = [one for one in fitting if one.encoding is in_dicrc]
         if long or named:
             chosen = {id(one): one for one in long + named}
             return next(iter(chosen.values())) if len(chosen) == 1 else None
         if fitting:
             return fitting[0] if len(fitting) == 1 else None
-        return self.nearest(told)
+        return self.nearest(in_dicrc)
 
-    def nearest(self, told):
-        """The standing of the encoding in which by far most lines are, where there is one."""
+    def nearest(self, in_dicrc: Optional[Encoding]) -> Optional[Candidate]:
+        """Returns the encoding of by far most lines, or None if there is none."""
         seen = sum(self.lines.values())
-        few = [
+        near = [
             one
-            for one in self.standings
-            if one.is_likely() and not one.is_out and one.count() * 2 < seen
+            for one in self.candidates
+            if one.is_likely() and not one.is_dropped and one.misfit_count() * 2 < seen
         ]
-        named = [one for one in few if one.encoding is told]
+        named = [one for one in near if one.encoding is in_dicrc]
         if named:
             return named[0]
-        counts = {one.encoding: one.count() for one in few}
+        counts = {one.encoding: one.misfit_count() for one in near}
         if counts.get(EUC_JIS_2004, 0) < counts.get(EUC_JP, 0):
             return None
-        few = sorted((one for one in few if one.encoding is not EUC_JIS_2004), key=Standing.count)
-        is_near = few and (len(few) == 1 or few[0].count() * FAR <= few[1].count())
-        return few[0] if is_near else None
+        near = [one for one in near if one.encoding is not EUC_JIS_2004]
+        near.sort(key=Candidate.misfit_count)
+        if not near:
+            return None
+        is_clear = len(near) == 1 or near[0].misfit_count() * MARGIN <= near[1].misfit_count()
+        return near[0] if is_clear else None
 
-    def check_files(self, standing):
-        """Refuses a file that is in another encoding than the others: half its lines at least are not in theirs."""
-        for path, count in standing.wrong.items():
+    def check_files(self, chosen: Candidate) -> None:
+        """Rejects a file of which at least half the lines are not in the encoding of the others."""
+        for path, count in chosen.misfits.items():
             if count * 2 >= self.lines[path]:
-                raise Fault(
-                    REFUSED,
-                    f"{shown(path)}: {count} of {self.lines[path]} lines with more than ASCII are not {standing.encoding.name}: "
+                raise Error(
+                    INVALID,
+                    f"{printable(path)}: {count} of {self.lines[path]} lines with more than ASCII "
+                    f"are not {chosen.encoding.name}: "
                     f"all files have to be in one encoding, which --encoding names: {CHOICES}",
                 )
 
+    def choose(self, in_dicrc: Optional[Encoding], folder: bytes) -> Candidate:
+        """Returns the encoding of the sources. `folder` is the path that an error names."""
+        if self.escape and in_dicrc is not ISO_2022_JP:
+            path, line = self.escape
+            raise Error(
+                INVALID,
+                f"{printable(path)}:{line} has an escape sequence, as ISO-2022-JP has: "
+                "give --encoding iso-2022-jp, or another one",
+            )
+        if not self.lines:
+            return self.candidates[0]
+        if self.escape:
+            return self.candidates[-1]
+        chosen = self.decide(in_dicrc)
+        if chosen is None:
+            summaries = "; ".join(one.summary() for one in self.candidates)
+            raise Error(INVALID, f"{printable(folder)}: --encoding has to choose: {summaries}")
+        return chosen
 
-def find_encoding(sources, given, told, folder, teller):
-    """The encoding that is given, or found."""
-    encodings = (
-        [given]
-        if given
-        else [UTF_8, EUC_JP, EUC_JIS_2004, CP932, *([ISO_2022_JP] if told is ISO_2022_JP else [])]
-    )
-    finding = Finding(encodings)
-    whole, done = sum(source.size for source in sources), 0
+
+def find_encoding(
+    sources: Sequence[Source],
+    given: Optional[Encoding],
+    in_dicrc: Optional[Encoding],
+    folder: bytes,
+    reporter: Reporter,
+) -> Encoding:
+    """Returns the encoding of the sources: the one that --encoding gives, or the one found.
+
+    Rejects a file in another encoding either way. `folder` is the path that an error names.
+    """
+    encodings = [given] if given else [UTF_8, EUC_JP, EUC_JIS_2004, CP932]
+    if not given and in_dicrc is ISO_2022_JP:
+        encodings.append(ISO_2022_JP)
+    detection = Detection(encodings)
+    size, done = sum(source.size for source in sources), 0
     for source in sources:
-        for size in finding.look(source):
-            done += size
-            teller.say_progress("looking for the encoding", done, whole)
-    standing = finding.standings[0] if given else chosen_of(finding, told, folder)
-    finding.check_files(standing)
-    return standing.encoding
-
-
-def chosen_of(finding, told, folder):
-    if finding.escape and told is not ISO_2022_JP:
-        path, line = finding.escape
-        raise Fault(
-            REFUSED,
-            f"{shown(path)}:{line} has an escape sequence, as ISO-2022-JP has: give --encoding iso-2022-jp, or another one",
-        )
-    if not finding.lines:
-        return finding.standings[0]
-    if finding.escape:
-        return finding.standings[-1]
-    standing = finding.decided(told)
-    if standing is None:
-        said = "; ".join(one.said() for one in finding.standings)
-        raise Fault(REFUSED, f"{shown(folder)}: --encoding has to choose: {said}")
-    return standing
+        for count in detection.examine(source):
+            done += count
+            reporter.log_progress("looking for the encoding", done, size)
+    chosen = detection.candidates[0] if given else detection.choose(in_dicrc, folder)
+    detection.check_files(chosen)
+    return chosen.encoding

@@ -1,25 +1,32 @@
-"""The encodings that sources may be in. Each decodes strictly, and raises a ValueError where a text is not in it."""
+"""The encodings that sources may be in.
+
+Each one decodes strictly, and raises a ValueError for text that is not in it.
+"""
 import codecs
 import re
-from typing import Callable, NamedTuple
+from typing import Callable, NamedTuple, Optional, Tuple
 
 
 class Encoding(NamedTuple):
-    """An encoding by the name that is printed."""
+    """An encoding, with the name that is printed."""
 
     name: str
-    decode: Callable
+    decode: Callable[[bytes], str]
 
 
-# What Python's cp932 makes of single bytes that have no meaning there.
+# What Python's cp932 decodes single bytes to that have no meaning there.
 MEANINGLESS = re.compile("[\x80\uf8f0-\uf8f3]")
-# The tilde of JIS X 0212, which iconv, and so MeCab, takes for the full-width one.
+# The tilde of JIS X 0212. iconv, and so MeCab, decodes it to the full-width one.
 TILDE = b"\x8f\xa2\xb7"
 NEC_LEAD = 0xAD
 
 
-def nec_character(error):
-    """NEC's characters in row 13, as CIRCLED DIGIT ONE, which vendors' EUC-JP has and JIS X 0208 has not: CP932 has them in its own place."""
+def nec_character(error: UnicodeError) -> Tuple[str, int]:
+    """Decodes a character of NEC's row 13, such as CIRCLED DIGIT ONE, and returns where it ends.
+
+    Vendors' EUC-JP has these characters, JIS X 0208 does not, and CP932 has them elsewhere.
+    """
+    assert isinstance(error, UnicodeDecodeError)
     pair = error.object[error.start : error.start + 2]
     if len(pair) < 2 or pair[0] != NEC_LEAD or pair[1] < 0xA1:
         raise error
@@ -29,11 +36,11 @@ def nec_character(error):
 codecs.register_error("kumquatsieve-nec", nec_character)
 
 
-def decode_euc_jp(data):
+def decode_euc_jp(data: bytes) -> str:
     return "～".join(part.decode("euc_jp", "kumquatsieve-nec") for part in data.split(TILDE))
 
 
-def decode_cp932(data):
+def decode_cp932(data: bytes) -> str:
     text = data.decode("cp932")
     if MEANINGLESS.search(text):
         raise ValueError
@@ -45,7 +52,7 @@ EUC_JP = Encoding("EUC-JP", decode_euc_jp)
 EUC_JIS_2004 = Encoding("EUC-JIS-2004", lambda data: data.decode("euc_jis_2004"))
 CP932 = Encoding("CP932", decode_cp932)
 ISO_2022_JP = Encoding("ISO-2022-JP", lambda data: data.decode("iso2022_jp"))
-# By the names that MeCab and others have for them, without hyphens and underscores.
+# The names that MeCab and others have for each encoding, without hyphens and underscores.
 NAMES = {
     UTF_8: ("utf8",),
     EUC_JP: ("eucjp", "euc", "ujis", "eucjpms", "cp51932"),
@@ -56,14 +63,17 @@ NAMES = {
 CHOICES = "utf-8, euc-jp, euc-jis-2004, cp932 or iso-2022-jp"
 
 
-def encoding_named(name):
-    """The encoding of a name; None where there is none."""
+def encoding_named(name: str) -> Optional[Encoding]:
+    """Returns the encoding of a name, or None if no encoding has it."""
     bare = name.lower().replace("-", "").replace("_", "")
     return next((encoding for encoding, names in NAMES.items() if bare in names), None)
 
 
-def missing_converter():
-    """The encoding that this Python lacks, as one without its whole library does; None where it has all."""
+def missing_converter() -> Optional[str]:
+    """Returns the name of a codec that this Python lacks, or None.
+
+    A Python without its whole standard library lacks some.
+    """
     for name in ("utf_8", "euc_jp", "euc_jis_2004", "cp932", "iso2022_jp"):
         try:
             codecs.lookup(name)

@@ -1,183 +1,218 @@
-"""The import, step by step."""
+"""The import of a directory of sources, step by step, and the program around it."""
 import os
 import signal
 import sys
+from typing import Dict, List, NoReturn, Optional, Sequence
 
-from .command_line import HELP, NAMES, given_words, read_words
-from .compilation import NEW, Compilation, ImageFile, dictc_beside, place_for_new
+from .command_line import DEBIAN_NAMES, HELP, Choices, parse_arguments, utf_8_arguments
+from .compilation import NEW, Compilation, ImageFile, dictc_beside, make_image_pipe
 from .conversion import make_utf_8, write_converted
-from .encodings import missing_converter
-from .errors import FILE, MEMORY, Ended, Fault, shown
-from .fields import FIELDS, find_names, write_names
 from .encoding_detection import find_encoding
-from .image_dirs import home_for, let_all_read, let_none_write
-from .installing import TESTED, Place
-from .records import test_all, test_new
-from .sources import DICRC, SETTINGS, Source, debian_folder, encoding_told, read_folder
-from .progress import Teller
+from .encodings import Encoding, missing_converter
+from .errors import FILE, MEMORY, Error, Interrupted, printable, reason_of
+from .fields import FIELDS, find_names, write_names
+from .image_dirs import ImageDir, image_dir_for, let_all_read, let_none_write
+from .image_tests import test_all, test_new
+from .installing import TESTED, Destination
+from .progress import Reporter
+from .resources import Resources, Signals
+from .sources import DICRC, SETTINGS, Source, debian_folder, encoding_in_dicrc, read_folder
 from .user_dictionary import UserImport
-from .resources import Signals, Workshop
+
+# The new file of each settings file, by the name in the sources; None if there is none.
+Settings = Dict[bytes, Optional[bytes]]
 
 
 class Import:
-    """One import: what it reads, and where its image goes."""
+    """One import of a directory: what it reads, and where its image goes.
 
-    def __init__(self, choices, own, workshop, teller):
-        self.choices, self.own, self.workshop, self.teller = choices, own, workshop, teller
-        path = (
-            debian_folder(NAMES[choices.name])
-            if choices.is_debian()
-            else choices.name.rstrip(b"/") or b"/"
-        )
-        self.folder = read_folder(path)
+    `own` is the directory of this program.
+    """
+
+    def __init__(
+        self, choices: Choices, own: bytes, resources: Resources, reporter: Reporter
+    ) -> None:
+        self.choices, self.own, self.resources, self.reporter = choices, own, resources, reporter
+        if choices.is_debian():
+            self.folder = read_folder(debian_folder(DEBIAN_NAMES[choices.name]))
+        else:
+            self.folder = read_folder(choices.name.rstrip(b"/") or b"/")
         self.dictc = dictc_beside(own)
         self.prefix = os.path.dirname(own)
-        self.home = home_for(self.prefix) if choices.image is None else None
-        self.place = Place(
-            choices.image
-            if self.home is None
-            else os.path.join(self.home.path, choices.name + b".img")
-        )
-        self.place.check(self.folder, [*SETTINGS, FIELDS, TESTED])
+        # The directory that the image is installed to, if the command line has no path for it.
+        self.image_dir: Optional[ImageDir] = None
+        image = choices.image
+        if image is None:
+            self.image_dir = image_dir_for(self.prefix)
+            image = os.path.join(self.image_dir.path, choices.name + b".img")
+        self.destination = Destination(image)
+        self.destination.check_beside_sources(self.folder, [*SETTINGS, FIELDS, TESTED])
 
-    def run(self):
-        let_all_read(self.place.image, self.prefix)
-        if self.home is not None:
+    def run(self) -> None:
+        let_all_read(self.destination.image, self.prefix)
+        if self.image_dir is not None:
             let_none_write()
-            self.workshop.make_parents(self.home.path)
-        beside = self.workshop.new_folder(None if self.place.is_device() else self.place.folder)
-        work = self.workshop.new_folder()
-        folder, teller = self.folder, self.teller
-        teller.report(f"sources: {shown(folder.path)}")
-        read = [*folder.definitions[1:], *folder.lexicons, *folder.settings]
-        encoding = find_encoding(
-            read, self.choices.encoding, encoding_told(folder), folder.path, teller
-        )
-        teller.report(f"encoding: {encoding.name}")
-        if folder.others:
-            teller.report(f"not read: {' '.join(map(shown, folder.others))}")
+            self.resources.make_parents(self.image_dir.path)
+        is_device = self.destination.is_device()
+        beside = self.resources.new_folder(None if is_device else self.destination.folder)
+        work = self.resources.new_folder()
+        encoding = self.report_sources()
         names = self.convert(encoding, work)
         settings = self.convert_settings(encoding, beside)
-        if not self.place.is_device():
+        if not is_device:
             settings[FIELDS] = self.name_fields(names, settings[DICRC], work, beside)
-        counted = self.compile(names, work, beside)
-        size = os.path.getsize(os.path.join(beside, NEW))
-        removed = self.place.put(os.path.join(beside, NEW), settings, self.workshop, teller)
-        self.tell_end(counted, size, settings, removed)
+        counts = self.compile(names, work, beside)
+        new = os.path.join(beside, NEW)
+        size = os.path.getsize(new)
+        removed = self.destination.install(new, settings, self.resources, self.reporter)
+        self.report_end(counts, size, settings, removed)
 
-    def convert(self, encoding, work):
-        """Makes the sources UTF-8 by names of their own, which are UTF-8 whatever the sources' are."""
+    def report_sources(self) -> Encoding:
+        """Reports the sources, and finds and reports their encoding."""
+        folder, reporter = self.folder, self.reporter
+        reporter.report(f"sources: {printable(folder.path)}")
+        read = [*folder.definitions[1:], *folder.lexicons, *folder.settings]
+        in_dicrc = encoding_in_dicrc(folder)
+        encoding = find_encoding(read, self.choices.encoding, in_dicrc, folder.path, reporter)
+        reporter.report(f"encoding: {encoding.name}")
+        if folder.others:
+            reporter.report(f"not read: {' '.join(map(printable, folder.others))}")
+        return encoding
+
+    def convert(self, encoding: Encoding, work: bytes) -> Dict[bytes, bytes]:
+        """Converts the sources, and returns their paths by their names for dictc.
+
+        These names are UTF-8, whatever the names of the sources are.
+        """
         names = {source.name: source for source in self.folder.definitions}
         names.update(
             {b"%06d.csv" % number: source for number, source in enumerate(self.folder.lexicons)}
         )
+        leave_out = self.reporter.report_left_out
         for name, source in names.items():
-            make_utf_8(
-                source, encoding, os.path.join(work, name), self.teller, self.teller.left_out
-            )
+            make_utf_8(source, encoding, os.path.join(work, name), self.reporter, leave_out)
         return {name: source.path for name, source in names.items()}
 
-    def convert_settings(self, encoding, beside):
-        """The new files of settings, and None for one that the folder has not."""
-        found = {name: None for name in SETTINGS}
-        for source in [] if self.place.is_device() else self.folder.settings:
+    def convert_settings(self, encoding: Encoding, beside: bytes) -> Settings:
+        """Converts the settings files."""
+        found: Settings = {name: None for name in SETTINGS}
+        leave_out = self.reporter.report_left_out
+        for source in [] if self.destination.is_device() else self.folder.settings:
             if self.is_kept(source.name):
-                found[source.name] = os.path.join(beside, source.name)
-                write_converted(
-                    source, encoding, found[source.name], self.teller, self.teller.left_out
-                )
+                target = os.path.join(beside, source.name)
+                found[source.name] = target
+                write_converted(source, encoding, target, self.reporter, leave_out)
         return found
 
-    def name_fields(self, names, dicrc, work, beside):
-        """The new file of the fields' names, or None where they are not known or can't be kept. Their source is UTF-8 by now."""
+    def name_fields(
+        self, names: Dict[bytes, bytes], dicrc: Optional[bytes], work: bytes, beside: bytes
+    ) -> Optional[bytes]:
+        """Writes the file of the fields' names, from sources in UTF-8.
+
+        Returns None if the names are not known, or can't be kept beside the image.
+        """
         if not self.is_kept(FIELDS):
             return None
-        paths = {
-            path: os.path.join(work, name) for name, path in names.items() if name.endswith(b".csv")
-        }
-        lexicons = [
-            (path, Source(made, made, os.path.getsize(made))) for path, made in paths.items()
-        ]
-        found = find_names(dicrc, lexicons, self.teller)
-        self.teller.report(f"fields: {found.said}")
+        lexicons = []
+        for name, path in names.items():
+            if name.endswith(b".csv"):
+                made = os.path.join(work, name)
+                lexicons.append((path, Source(made, made, os.path.getsize(made))))
+        found = find_names(dicrc, lexicons, self.reporter)
+        self.reporter.report(f"fields: {found.message}")
         if not found.names:
             return None
         write_names(found.names, os.path.join(beside, FIELDS))
         return os.path.join(beside, FIELDS)
 
-    def is_kept(self, name):
-        """Whether a file of this name can stand beside the image."""
-        if self.place.beside(name) is None:
-            self.teller.report(
-                f"not kept: {shown(name)}, whose name beside the image would be too long"
-            )
-        return self.place.beside(name) is not None
+    def is_kept(self, name: bytes) -> bool:
+        """Returns whether a file of this name can be kept beside the image, and reports if not."""
+        if self.destination.beside(name) is None:
+            why = "whose name beside the image would be too long"
+            self.reporter.report(f"not kept: {printable(name)}, {why}")
+            return False
+        return True
 
-    def compile(self, names, work, beside):
-        new = place_for_new(work)
-        image = ImageFile(beside, work, self.place.named, self.workshop)
+    def compile(self, names: Dict[bytes, bytes], work: bytes, beside: bytes) -> str:
+        """Runs dictc, and returns the counts that it prints."""
+        new = make_image_pipe(work)
+        image = ImageFile(beside, work, self.destination.named, self.resources)
         files = [b"matrix.def", b"--char", b"char.def", b"--unk", b"unk.def", b"--out", new]
         lexicons = [name for name in names if name.endswith(b".csv")]
-        compilation = Compilation({**names, new: self.place.named}, self.teller)
-        words = [self.dictc, b"system", b"-v", b"--matrix", *files, *lexicons]
-        return compilation.run(words, work, self.workshop, image)
+        compilation = Compilation({**names, new: self.destination.named}, self.reporter)
+        command = [self.dictc, b"system", b"-v", b"--matrix", *files, *lexicons]
+        return compilation.run(command, work, self.resources, image)
 
-    def tell_end(self, counted, size, settings, removed):
-        self.teller.report(counted)
-        self.teller.report(
-            f"image: {shown(self.place.named)}, {size} bytes, {self.teller.seconds():.0f} s"
-        )
-        if self.home is not None:
-            self.teller.report(self.home.said)
-        beside = [
-            (self.place.beside(name), name == FIELDS) for name, path in settings.items() if path
-        ]
-        kept = [path for path, is_made in beside if not is_made]
-        made = [path for path, is_made in beside if is_made]
-        for done, paths in (("kept", kept), ("written", made), ("removed", removed)):
+    def report_end(
+        self, counts: str, size: int, settings: Settings, removed: Sequence[bytes]
+    ) -> None:
+        """Reports the image and the files beside it, tests the image, and reports that."""
+        reporter, named = self.reporter, printable(self.destination.named)
+        reporter.report(counts)
+        reporter.report(f"image: {named}, {size} bytes, {reporter.seconds():.0f} s")
+        if self.image_dir is not None:
+            reporter.report(self.image_dir.message)
+        kept: List[bytes] = []
+        written: List[bytes] = []
+        for name, path in settings.items():
+            target = self.destination.beside(name) if path else None
+            if target is not None:
+                (written if name == FIELDS else kept).append(target)
+        for what, paths in (("kept", kept), ("written", written), ("removed", removed)):
             if paths:
-                self.teller.report(
-                    f"{done} beside it: {' '.join(shown(os.path.basename(path)) for path in paths)}"
-                )
-        test_new(self.place, self.own, self.workshop, self.teller)
-        self.teller.report(f"{self.teller.left_out_lines} lines left out")
-        self.teller.sum_up(f"{shown(self.place.named)}: {counted}, {size} bytes")
+                files = " ".join(printable(os.path.basename(path)) for path in paths)
+                reporter.report(f"{what} beside it: {files}")
+        test_new(self.destination, self.own, self.resources, reporter)
+        reporter.report(f"{reporter.left_out_lines} lines left out")
+        reporter.print_summary(f"{named}: {counts}, {size} bytes")
 
 
-def imported(words, own, workshop, teller):
-    """The status of an import."""
-    try:
-        choices = read_words(given_words(words))
-        if choices.is_verbose:
-            teller.ask()
-        if choices.wants_help:
-            teller.report(HELP.rstrip("\n"))
-            return 0
-        if choices.images:
-            return test_all(choices.images, own, workshop, teller)
-        missing = missing_converter()
-        if missing:
-            raise Fault(
-                FILE,
-                f"this Python has no converter of {missing}: it lacks a part of its library (Debian: apt install python3)",
-            )
-        (UserImport if choices.lexicons else Import)(choices, own, workshop, teller).run()
+def run_command(arguments: List[str], own: bytes, resources: Resources, reporter: Reporter) -> int:
+    """Runs the command of a command line. Returns 0, or raises an error."""
+    choices = parse_arguments(utf_8_arguments(arguments))
+    if choices.is_verbose:
+        reporter.set_verbose()
+    if choices.wants_help:
+        reporter.report(HELP.rstrip("\n"))
         return 0
-    except Fault as fault:
-        teller.say(str(fault))
-        return fault.status
-    except OSError as error:
-        teller.say(
-            f"{shown(error.filename or 'a file')}: {os.strerror(error.errno) if error.errno else error}"
+    if choices.images:
+        return test_all(choices.images, own, resources, reporter)
+    missing = missing_converter()
+    if missing:
+        raise Error(
+            FILE,
+            f"this Python has no converter of {missing}: "
+            "it lacks a part of its library (Debian: apt install python3)",
         )
+    if choices.lexicons:
+        UserImport(choices, own, resources, reporter).run()
+    else:
+        Import(choices, own, resources, reporter).run()
+    return 0
+
+
+def status_of_command(
+    arguments: List[str], own: bytes, resources: Resources, reporter: Reporter
+) -> int:
+    """Runs the command of a command line, and reports its error. Returns the exit status."""
+    try:
+        return run_command(arguments, own, resources, reporter)
+    except Error as error:
+        reporter.log(str(error))
+        return error.status
+    except OSError as error:
+        reporter.log(f"{printable(error.filename or 'a file')}: {reason_of(error)}")
         return FILE
     except MemoryError:
-        teller.say("out of memory")
+        reporter.log("out of memory")
         return MEMORY
 
 
-def fill_streams():
-    """A standard stream that is closed gets a file that can't be written, so that no file that is made gets its number."""
+def fill_streams() -> None:
+    """Opens a standard stream that is closed, as a file that can't be written.
+
+    So no file that is made gets its descriptor.
+    """
     for descriptor in (0, 1, 2):
         try:
             os.fstat(descriptor)
@@ -185,21 +220,30 @@ def fill_streams():
             os.open(os.devnull, os.O_RDONLY)
 
 
-def run(words, own):
-    """Runs an import, and leaves nothing of it but the image; a signal ends it as it would without this."""
+def main() -> NoReturn:
+    """Runs the program by the command line of this process, as a console script."""
+    run(sys.argv[1:], os.fsencode(os.path.dirname(os.path.realpath(sys.argv[0]))))
+
+
+def run(arguments: List[str], own: bytes) -> NoReturn:
+    """Runs the program, and ends this process. Nothing of an import is left but the image.
+
+    `own` is the directory of this program. A signal ends the process as it would without a handler.
+    """
     fill_streams()
     signals = Signals()
-    workshop, teller = Workshop(signals), Teller()
+    resources, reporter = Resources(signals), Reporter()
     signals.listen()
+    status = FILE
     try:
         try:
-            status = imported(words, own, workshop, teller)
+            status = status_of_command(arguments, own, resources, reporter)
         finally:
-            workshop.clean()
-            teller.erase()
-    except Ended as ended:
-        workshop.clean()
-        teller.erase()
-        signal.signal(ended.number, signal.SIG_DFL)
-        os.kill(os.getpid(), ended.number)
+            resources.clean()
+            reporter.erase()
+    except Interrupted as interrupted:
+        resources.clean()
+        reporter.erase()
+        signal.signal(interrupted.number, signal.SIG_DFL)
+        os.kill(os.getpid(), interrupted.number)
     sys.exit(status)

@@ -1,130 +1,143 @@
-"""What an import makes for itself: folders and a process. All of it goes, whatever ends the import."""
+"""What an import makes for itself: directories and a process. All of it is removed at the end."""
+import io
 import os
 import shutil
 import signal
 import subprocess
 import tempfile
 from contextlib import contextmanager
-from typing import IO
+from types import FrameType
+from typing import Iterator, List, Optional, Sequence, Tuple
 
-from .errors import FILE, Ended, Fault, naming
+from .errors import FILE, Error, Interrupted, errors_of
 
-NUMBERS = (signal.SIGHUP, signal.SIGINT, signal.SIGQUIT, signal.SIGTERM)
+SIGNALS = (signal.SIGHUP, signal.SIGINT, signal.SIGQUIT, signal.SIGTERM)
 PREFIX = b"kumquatsieve-import."
 
 
 class Signals:
-    """The first signal ends the import; while they are held back, at the end of that. One that was ignored before stays so."""
+    """Ends the import at the first signal. While signals are held back, it ends when they are not.
 
-    def __init__(self):
+    A signal that was ignored before stays ignored.
+    """
+
+    def __init__(self) -> None:
         self.is_held = False
-        self.waiting = None
+        self.pending: Optional[int] = None
 
-    def listen(self):
-        for number in NUMBERS:
+    def listen(self) -> None:
+        for number in SIGNALS:
             if signal.getsignal(number) is not signal.SIG_IGN:
-                signal.signal(number, self.hear)
+                signal.signal(number, self.handle)
 
-    def hear(self, number, _):
+    def handle(self, number: int, _: Optional[FrameType]) -> None:
         if self.is_held:
-            self.waiting = self.waiting or number
+            self.pending = self.pending or number
             return
         self.is_held = True
-        raise Ended(number)
+        raise Interrupted(number)
 
-    def hold(self):
+    def hold(self) -> None:
+        """Holds signals back for good."""
         self.is_held = True
 
     @contextmanager
-    def held(self):
+    def held(self) -> Iterator[None]:
+        """Holds signals back during the body, and then raises the first that arrived."""
         self.is_held = True
         try:
             yield
         finally:
             self.is_held = False
-        if self.waiting:
+        if self.pending:
             self.is_held = True
-            raise Ended(self.waiting)
+            raise Interrupted(self.pending)
 
 
-def temporary_folder():
+def temporary_folder() -> bytes:
+    """Returns the system's directory for temporary files."""
     try:
         return os.fsencode(tempfile.gettempdir())
     except FileNotFoundError as error:
-        raise Fault(
-            FILE, "no folder for temporary files can be written: TMPDIR names one"
-        ) from error
+        message = "no folder for temporary files can be written: TMPDIR names one"
+        raise Error(FILE, message) from error
 
 
-class Workshop:
-    """Folders and a process of one import."""
+class Resources:
+    """The directories, files and process of one import."""
 
-    def __init__(self, signals):
+    def __init__(self, signals: Signals) -> None:
         self.signals = signals
-        self.folders = []
-        self.made = []
-        self.child = None
-        self.files = []
+        # The temporary directories, of which the first holds old files while others replace them.
+        self.folders: List[bytes] = []
+        # The directories that were made for an image, which stay if the image does.
+        self.parents: List[bytes] = []
+        self.child: Optional[subprocess.Popen[bytes]] = None
+        self.files: List[io.FileIO] = []
 
-    def keep(self, file: IO[bytes]) -> IO[bytes]:
-        """Closes the file at the end, so that there is a descriptor for the removal of folders."""
+    def keep(self, file: io.FileIO) -> io.FileIO:
+        """Closes the file at the end, so that a descriptor is free to remove directories with."""
         self.files.append(file)
         return file
 
-    def new_folder(self, beside=None):
-        """A folder of its own in another one, else in the one for temporary files."""
+    def new_folder(self, beside: Optional[bytes] = None) -> bytes:
+        """Makes a temporary directory in `beside`, or in the system's directory for them."""
         with self.signals.held():
             parent = beside if beside is not None else temporary_folder()
             prefix = b"." + PREFIX if beside is not None else PREFIX
-            with naming(parent):
+            with errors_of(parent):
                 self.folders.append(tempfile.mkdtemp(prefix=prefix, dir=parent))
         return self.folders[-1]
 
-    def make_parents(self, folder):
-        """Makes a folder that all may read, and those that it stands in: each goes again where it stays empty."""
+    def make_parents(self, folder: bytes) -> None:
+        """Makes a directory that all may read, and its parents. Those that stay empty are removed
+        at the end."""
         missing = []
         while not os.path.isdir(folder):
             missing.append(folder)
             folder = os.path.dirname(folder)
         for path in reversed(missing):
-            with naming(path), self.signals.held():
+            with errors_of(path), self.signals.held():
                 os.mkdir(path)
-                self.made.append(path)
+                self.parents.append(path)
                 if path == missing[0]:
                     os.chmod(path, 0o755)
 
-    def start(self, words, folder, files=()):
-        """A process whose output and errors are read, and that has these files. It ignores what
-        this one does, so that a full file is a failed write to it."""
-        pipe = subprocess.PIPE
+    def start(
+        self, command: Sequence[bytes], folder: bytes, files: Tuple[int, ...] = ()
+    ) -> "subprocess.Popen[bytes]":
+        """Starts a process in `folder`, with pipes for its output and errors and with open `files`.
+
+        It ignores the signals that this process ignores. So a write to a file that is full fails.
+        """
         self.stop()
         with self.signals.held():
             self.child = subprocess.Popen(
-                words,
+                command,
                 cwd=folder,
                 stdin=subprocess.DEVNULL,
-                stdout=pipe,
-                stderr=pipe,
+                stdout=subprocess.PIPE,
+                stderr=subprocess.PIPE,
                 restore_signals=False,
                 pass_fds=files,
             )
         return self.child
 
     def stop(self) -> None:
-        """Ends the process, if it is still there."""
+        """Ends the process if it still runs."""
         if self.child is not None and self.child.poll() is None:
             self.child.kill()
             self.child.wait()
 
-    def clean(self):
-        """May be called again where a signal cut it short."""
+    def clean(self) -> None:
+        """Removes everything. It may be called again if a signal interrupted it."""
         self.signals.hold()
         self.stop()
         for file in self.files:
             file.close()
         for folder in self.folders:
             shutil.rmtree(folder, ignore_errors=True)
-        for path in reversed(self.made):
+        for path in reversed(self.parents):
             try:
                 os.rmdir(path)
             except OSError:

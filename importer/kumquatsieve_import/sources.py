@@ -1,15 +1,16 @@
-"""The folder of sources: its files, and what its dicrc says."""
+"""The directory of sources: its files, and the encoding that its dicrc names."""
 import os
 import re
 import stat
-from typing import NamedTuple
+from typing import Iterator, List, NamedTuple, Optional, Tuple
 
-from .encodings import encoding_named
-from .errors import FILE, Fault, naming, shown
+from .encodings import Encoding, encoding_named
+from .errors import FILE, Error, errors_of, printable
 
 DEFINITIONS = (b"matrix.def", b"char.def", b"unk.def")
 DICRC = b"dicrc"
 SETTINGS = (DICRC, b"pos-id.def")
+# Where Debian's packages install sources, and the package of each dictionary.
 DEBIAN = b"/usr/share/mecab/dic"
 PACKAGES = {
     b"ipadic": "mecab-ipadic",
@@ -17,23 +18,23 @@ PACKAGES = {
     b"naist-jdic": "mecab-naist-jdic-eucjp",
     b"unidic": "unidic-mecab",
 }
-# A chunk is this many bytes and the rest of its last line.
+# A chunk has about this many bytes. It ends at the end of a line.
 CHUNK = 1 << 22
 
 
 class Source(NamedTuple):
-    """A file that is read."""
+    """A file that is read. `size` is in bytes."""
 
     path: bytes
     name: bytes
     size: int
 
-    def is_lexicon(self):
+    def is_lexicon(self) -> bool:
         return self.name.endswith(b".csv")
 
-    def chunks(self):
-        """Its lines, many at a time, each time with the number of the first."""
-        with naming(self.path), open(self.path, "rb", buffering=0) as file:
+    def chunks(self) -> Iterator[Tuple[int, bytes]]:
+        """Yields the lines of the file, many at a time, each time after the first one's number."""
+        with errors_of(self.path), open(self.path, "rb", buffering=0) as file:
             number, rest = 1, []
             while block := file.read(CHUNK):
                 end = block.rfind(b"\n") + 1
@@ -48,76 +49,78 @@ class Source(NamedTuple):
 
 
 class Folder(NamedTuple):
-    """A folder's files, those of each kind in byte order of their names."""
+    """The files of a directory of sources. Each kind is in byte order of the names."""
 
     path: bytes
-    definitions: list
-    lexicons: list
-    settings: list
-    others: list
+    definitions: List[Source]
+    lexicons: List[Source]
+    settings: List[Source]
+    others: List[bytes]
 
-    def all_names(self):
+    def all_names(self) -> List[bytes]:
         sources = [*self.definitions, *self.lexicons, *self.settings]
         return [source.name for source in sources] + self.others
 
 
-def debian_folder(name):
-    """The folder of Debian's sources of a name."""
-    with naming(DEBIAN):
+def debian_folder(name: bytes) -> bytes:
+    """Returns the directory of a dictionary's sources that a Debian package installed."""
+    with errors_of(DEBIAN):
         names = sorted(os.listdir(DEBIAN)) if os.path.isdir(DEBIAN) else []
     for found in [name, *(one for one in names if one.startswith(name + b"-"))]:
         if os.path.isfile(os.path.join(DEBIAN, found, b"matrix.def")):
             return os.path.join(DEBIAN, found)
-    raise Fault(
-        FILE, f"no sources of {shown(name)} in {shown(DEBIAN)}: apt install {PACKAGES[name]}"
-    )
+    missing = f"no sources of {printable(name)} in {printable(DEBIAN)}"
+    raise Error(FILE, f"{missing}: apt install {PACKAGES[name]}")
 
 
-def source_at(folder, name):
-    """A file of a folder. What is no file, as a pipe, would be waited for or never end."""
+def source_at(folder: bytes, name: bytes) -> Source:
+    """Returns a file of a directory.
+
+    Rejects what is not a regular file: a read of a pipe, for one, may wait forever or never end.
+    """
     path = os.path.join(folder, name)
-    with naming(path):
+    with errors_of(path):
         if os.path.islink(path) and not os.path.exists(path):
-            raise Fault(
-                FILE,
-                f"{shown(path)}: it is a link to {shown(os.readlink(path))}, which is not there",
-            )
-        of = os.stat(path)
-    if not stat.S_ISREG(of.st_mode):
-        raise Fault(
-            FILE,
-            f"{shown(path)}: it is {'a folder' if stat.S_ISDIR(of.st_mode) else 'no file, but a pipe or a device'}",
-        )
+            target = printable(os.readlink(path))
+            message = f"{printable(path)}: it is a link to {target}, which is not there"
+            raise Error(FILE, message)
+        status = os.stat(path)
+    if not stat.S_ISREG(status.st_mode):
+        is_folder = stat.S_ISDIR(status.st_mode)
+        kind = "a folder" if is_folder else "no file, but a pipe or a device"
+        raise Error(FILE, f"{printable(path)}: it is {kind}")
     if not os.access(path, os.R_OK):
-        raise Fault(FILE, f"{shown(path)}: permission to read it is missing")
-    return Source(path, name, of.st_size)
+        raise Error(FILE, f"{printable(path)}: permission to read it is missing")
+    return Source(path, name, status.st_size)
 
 
-def read_folder(path):
-    """The files of a folder of sources, with hidden ones as `jseg --sources` has them."""
+def read_folder(path: bytes) -> Folder:
+    """Lists a directory of sources. Hidden files count, as for `jseg --sources`."""
     if not os.path.isdir(path):
-        raise Fault(FILE, f"{shown(path)} is no folder")
-    with naming(path):
+        raise Error(FILE, f"{printable(path)} is no folder")
+    with errors_of(path):
         names = sorted(os.listdir(path))
     for name in DEFINITIONS:
         if name not in names:
-            raise Fault(
-                FILE, f"{shown(path)} has no {name.decode()}, so it is no folder of sources"
-            )
+            missing = f"{printable(path)} has no {name.decode()}"
+            raise Error(FILE, f"{missing}, so it is no folder of sources")
     lexicons = [name for name in names if name.endswith(b".csv")]
     if not lexicons:
-        raise Fault(FILE, f"{shown(path)} has no file that ends with .csv")
+        raise Error(FILE, f"{printable(path)} has no file that ends with .csv")
     settings = [name for name in names if name in SETTINGS]
-    kinds = [[source_at(path, name) for name in kind] for kind in (DEFINITIONS, lexicons, settings)]
-    read = {*DEFINITIONS, *lexicons, *settings}
-    return Folder(path, *kinds, [name for name in names if name not in read])
+    definitions, others = list(DEFINITIONS), {*names} - {*DEFINITIONS, *lexicons, *settings}
+    kinds = [[source_at(path, name) for name in kind] for kind in (definitions, lexicons, settings)]
+    return Folder(path, kinds[0], kinds[1], kinds[2], sorted(others))
 
 
-def encoding_told(folder):
-    """The encoding that dicrc names, that of the lexicons before that of the definitions; None where it names none that is known."""
+def encoding_in_dicrc(folder: Folder) -> Optional[Encoding]:
+    """Returns the encoding that dicrc names, or None if it names none that is known.
+
+    The encoding of the lexicons comes before the one of the definitions.
+    """
     for source in folder.settings:
         if source.name == DICRC:
-            with naming(source.path), open(source.path, "rb") as file:
+            with errors_of(source.path), open(source.path, "rb") as file:
                 text = file.read()
             for key in (rb"dictionary-charset", rb"config-charset"):
                 found = re.search(rb"(?m)^[ \t]*" + key + rb"[ \t]*=[ \t]*([A-Za-z0-9_-]+)", text)

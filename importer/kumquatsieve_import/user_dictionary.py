@@ -1,86 +1,113 @@
-"""Lexicons of a user, which dictc compiles for a system dictionary. They are read strictly: no line is left out."""
-import os
+"""Imports the lexicons of a user dictionary for a system dictionary.
 
-from .compilation import NEW, Compilation, ImageFile, dictc_beside, place_for_new
+They are read strictly: a line that is not in the encoding is an error.
+"""
+import os
+from typing import Dict, NoReturn
+
+from .command_line import Choices
+from .compilation import NEW, Compilation, ImageFile, dictc_beside, make_image_pipe
 from .conversion import make_utf_8
-from .errors import REFUSED, Fault, naming, shown
 from .encoding_detection import find_encoding
-from .image_dirs import image_named, let_all_read
-from .installing import Place
-from .records import test_new
+from .encodings import Encoding
+from .errors import INVALID, Error, errors_of, printable
+from .image_dirs import find_image, let_all_read
+from .image_tests import test_new
+from .installing import Destination
+from .progress import Reporter
+from .resources import Resources
 from .sources import Source, source_at
 
-# What the system dictionary is called beside the lexicons.
+# The name of the system dictionary beside the lexicons.
 SYSTEM = b"system.img"
-# dictc runs in a folder below them which has nothing, so that a dictionary that is nowhere is not found among them by its name.
+# dictc runs in an empty directory below them, so that it finds none of them by the bare name of a
+# dictionary.
 EMPTY, ABOVE = b"empty", b"../"
 
 
-def lexicon_at(path):
-    """A lexicon. It has no name, since lines without numbers are dictc's to refuse."""
+def lexicon_at(path: bytes) -> Source:
+    """Returns a lexicon. It has no name, so that dictc rejects its lines without numbers."""
     return Source(path, b"", source_at(b"", path).size)
 
 
-def refuse_line(path, line, why):
-    raise Fault(REFUSED, f"{shown(path)}:{line}: {why}")
+def reject_line(path: bytes, line: int, why: str) -> NoReturn:
+    raise Error(INVALID, f"{printable(path)}:{line}: {why}")
 
 
 class UserImport:
-    """One import of lexicons: what it reads, and where its image goes."""
+    """One import of lexicons: what it reads, and where its image goes.
 
-    def __init__(self, choices, own, workshop, teller):
-        self.choices, self.workshop, self.teller = choices, workshop, teller
+    `own` is the directory of this program.
+    """
+
+    def __init__(
+        self, choices: Choices, own: bytes, resources: Resources, reporter: Reporter
+    ) -> None:
+        assert choices.image is not None
+        self.choices, self.resources, self.reporter = choices, resources, reporter
         self.lexicons = list(map(lexicon_at, choices.lexicons))
         self.own, self.dictc = own, dictc_beside(own)
         self.prefix = os.path.dirname(own)
-        self.system = image_named(choices.name, self.prefix)
-        self.place = Place(choices.image)
-        self.place.check_alone([*choices.lexicons, *([self.system] if self.system else [])])
+        self.system = find_image(choices.name, self.prefix)
+        self.destination = Destination(choices.image)
+        read = [*choices.lexicons, *([self.system] if self.system else [])]
+        self.destination.check_beside_files(read)
 
-    def run(self):
-        let_all_read(self.place.image, self.prefix)
-        beside = self.workshop.new_folder(None if self.place.is_device() else self.place.folder)
-        work = self.workshop.new_folder()
-        encoding = find_encoding(
-            self.lexicons, self.choices.encoding, None, self.choices.lexicons[0], self.teller
-        )
-        self.teller.report(f"encoding: {encoding.name}")
+    def run(self) -> None:
+        let_all_read(self.destination.image, self.prefix)
+        is_device = self.destination.is_device()
+        beside = self.resources.new_folder(None if is_device else self.destination.folder)
+        work = self.resources.new_folder()
+        given, first = self.choices.encoding, self.choices.lexicons[0]
+        encoding = find_encoding(self.lexicons, given, None, first, self.reporter)
+        self.reporter.report(f"encoding: {encoding.name}")
+        counts = self.compile(self.convert(encoding, work), work, beside)
+        new = os.path.join(beside, NEW)
+        size = os.path.getsize(new)
+        self.destination.install(new, {}, self.resources, self.reporter)
+        self.report_end(counts, size)
+
+    def convert(self, encoding: Encoding, work: bytes) -> Dict[bytes, bytes]:
+        """Converts the lexicons, and returns their paths by their names for dictc."""
         names = {
             ABOVE + b"%06d.csv" % number: lexicon.path
             for number, lexicon in enumerate(self.lexicons)
         }
         empty = os.path.join(work, EMPTY)
-        with naming(work):
+        with errors_of(work):
             os.mkdir(empty)
         for name, lexicon in zip(names, self.lexicons):
-            make_utf_8(lexicon, encoding, os.path.join(empty, name), self.teller, refuse_line)
-        counted = self.compile(names, work, beside)
-        new = os.path.join(beside, NEW)
-        size = os.path.getsize(new)
-        self.place.put(new, {}, self.workshop, self.teller)
-        self.teller.report(counted)
-        self.teller.report(
-            f"image: {shown(self.place.named)}, {size} bytes, {self.teller.seconds():.0f} s"
-        )
-        test_new(self.place, self.own, self.workshop, self.teller)
-        self.teller.sum_up(f"{shown(self.place.named)}: {counted}, {size} bytes")
+            make_utf_8(lexicon, encoding, os.path.join(empty, name), self.reporter, reject_line)
+        return names
 
-    def compile(self, names, work, beside):
-        """What dictc counted. It finds a system dictionary that is nowhere no more than this does, and says so by its name."""
-        new, system = ABOVE + place_for_new(work), self.system_for_dictc(work)
-        image = ImageFile(beside, work, self.place.named, self.workshop)
-        compilation = Compilation(
-            {**names, new: self.place.named, system: self.choices.name}, self.teller
-        )
-        words = [self.dictc, b"user", b"-v", b"--dic=" + system, b"--out", new, *names]
-        return compilation.run(words, os.path.join(work, EMPTY), self.workshop, image)
+    def compile(self, names: Dict[bytes, bytes], work: bytes, beside: bytes) -> str:
+        """Runs dictc, and returns the counts that it prints.
 
-    def system_for_dictc(self, work):
-        """What dictc is to call the system dictionary. A bare name that is nowhere stays as it is, since dictc says where it looked for it."""
+        If there is no such system dictionary, dictc finds none either, and reports its name.
+        """
+        new, system = ABOVE + make_image_pipe(work), self.system_for_dictc(work)
+        named = self.destination.named
+        image = ImageFile(beside, work, named, self.resources)
+        compilation = Compilation({**names, new: named, system: self.choices.name}, self.reporter)
+        command = [self.dictc, b"user", b"-v", b"--dic=" + system, b"--out", new, *names]
+        return compilation.run(command, os.path.join(work, EMPTY), self.resources, image)
+
+    def system_for_dictc(self, work: bytes) -> bytes:
+        """Returns the argument of dictc that names the system dictionary.
+
+        A bare name that is not found stays as it is, because dictc reports where it searched.
+        """
         if self.system:
-            with naming(work):
+            with errors_of(work):
                 os.symlink(os.path.abspath(self.system), os.path.join(work, SYSTEM))
             return ABOVE + SYSTEM
-        return (
-            os.path.abspath(self.choices.name) if b"/" in self.choices.name else self.choices.name
-        )
+        name = self.choices.name
+        return os.path.abspath(name) if b"/" in name else name
+
+    def report_end(self, counts: str, size: int) -> None:
+        """Reports the image, tests it, and reports that."""
+        reporter, named = self.reporter, printable(self.destination.named)
+        reporter.report(counts)
+        reporter.report(f"image: {named}, {size} bytes, {reporter.seconds():.0f} s")
+        test_new(self.destination, self.own, self.resources, reporter)
+        reporter.print_summary(f"{named}: {counts}, {size} bytes")

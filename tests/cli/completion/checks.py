@@ -4,7 +4,7 @@ import shutil
 import tempfile
 from pathlib import Path
 
-from kumquatsieve_import.command_line import NAMES as DEBIANS_NAMES
+from kumquatsieve_import.command_line import DEBIAN_NAMES
 from kumquatsieve_import.encodings import CHOICES
 from cli.cases.error_codes import CODES_OF_CALLS, codes_of_programs
 
@@ -13,7 +13,7 @@ from .shells import FILE, FOLDER, has_terminals, line_after_tab, of_bash, of_zsh
 FILES, FOLDERS, NOTHING = {FILE, FOLDER}, {FOLDER}, set()
 CODES = {code.split()[0] for code in (*CODES_OF_CALLS, *codes_of_programs())}
 ENCODINGS = set(CHOICES.replace(" or ", ", ").split(", "))
-DEBIANS = {name.decode() for name in DEBIANS_NAMES}
+DEBIANS = {name.decode() for name in DEBIAN_NAMES}
 # An image whose name is a command to a shell. bash completes it after an opening quote alone.
 COMMAND = "$(touch ran) b"
 # The images that stand in homes. A program stands in PREFIX/bin, and PREFIX is the user's home too.
