@@ -1,1 +1,3 @@
-"""Makes an image of the sources of a dictionary of MeCab. kumquatsieve-import(1) has all of it."""
+"""Imports the sources of MeCab dictionaries: the program kumquatsieve-import(1)."""
+
+__version__ = "0.1.0"
