@@ -1,6 +1,5 @@
 /* Which image is meant, and which settings go with it. */
 #define _GNU_SOURCE
-#include "homes.h"
 #include "layer.h"
 #include <errno.h>
 #include <limits.h>
@@ -9,12 +8,19 @@
 #include <sys/stat.h>
 #include <unistd.h>
 
+/* Where the library is installed, and where images are made at run time. */
 #ifndef PREFIX
 #define PREFIX "/usr/local"
+#endif
+#ifndef IMAGES
+#define IMAGES "/usr/local/var/lib/kumquatsieve"
 #endif
 
 /* The image of who names none, and of a folder that is named. */
 static const char NAME[] = "kumquatsieve", IMAGE[] = "kumquatsieve.img";
+
+/* The path at which the machine's own image would be. */
+static const char AWAITED[] = IMAGES "/kumquatsieve.img";
 static const char VARIABLE[] = "KUMQUATSIEVE_DICTIONARY";
 static const char SYSTEM_SETTINGS[] = "/etc/mecabrc";
 static const char RC_PATH[] = "$(rcpath)";
@@ -25,6 +31,11 @@ typedef enum source { NO_SOURCE, GIVEN_SOURCE, USERS_SOURCE, SYSTEM_SOURCE } sou
 static bool is_folder(const char *path) {
     struct stat of;
     return stat(path, &of) == 0 && S_ISDIR(of.st_mode);
+}
+
+static bool is_regular_file(const char *path) {
+    struct stat of;
+    return stat(path, &of) == 0 && S_ISREG(of.st_mode);
 }
 
 /* A folder's file, NULL where there is no memory. */
@@ -77,14 +88,32 @@ static bool fail_not_imported(fault *error, const char *folder, const char *name
             "%s is a dictionary of MeCab's: `kumquatsieve-import %s` makes an image of its sources",
             folder, name);
     }
-    char *home = run_time_home(PREFIX);
-    if (!home) return fail_memory(error);
-    fail(error,
-         "%s is a dictionary of MeCab's: `kumquatsieve-import SOURCES %s/%s.img` makes an image of "
-         "its sources",
-         folder, home, name);
-    free(home);
-    return false;
+    return fail(error,
+                "%s is a dictionary of MeCab's: `kumquatsieve-import SOURCES %s/%s.img` makes an "
+                "image of its sources",
+                folder, IMAGES, name);
+}
+
+/* A call of the library that finds an image by a name. */
+typedef uint32_t find_call(const char *name, const char *prefix, char *path, size_t room,
+                           size_t *needed);
+
+/* Sets *path to what a call finds, which the caller frees, or to NULL if no image has the name.
+   Returns false if memory runs out. */
+static bool find(find_call *find_path, const char *name, char **path) {
+    size_t room = 0;
+    *path = NULL;
+    uint32_t code = find_path(name, PREFIX, NULL, 0, &room);
+    while (code == KUMQUATSIEVE_SHORT_BUFFER) {
+        free(*path);
+        *path = malloc(room);
+        if (!*path) return false;
+        code = find_path(name, PREFIX, *path, room, &room);
+    }
+    if (code == KUMQUATSIEVE_OK) return true;
+    free(*path);
+    *path = NULL;
+    return code == KUMQUATSIEVE_FILE;
 }
 
 /* The image that was imported from a folder of MeCab's, by its name. */
@@ -93,7 +122,7 @@ static char *imported(const char *folder, fault *error) {
     const char *path = realpath(folder, whole) ? whole : folder;
     const char *last = strrchr(path, '/') ? strrchr(path, '/') + 1 : path;
     char *name = strndup(last, length_of_name(last)), *image = NULL;
-    if (!name || !find_in_homes(name, PREFIX, &image))
+    if (!name || !find(kumquatsieve_find_installed, name, &image))
         fail_memory(error);
     else if (!image)
         fail_not_imported(error, folder, name);
@@ -101,22 +130,19 @@ static char *imported(const char *folder, fault *error) {
     return image;
 }
 
-/* The path of a file, or of the image of a bare name in a home. NULL if no image has the name, or
-   memory runs out. */
+/* The path of a file, or of the image of a bare name in an image directory. NULL if no image has
+   the name, or memory runs out. */
 static char *path_of(const char *name, fault *error) {
     char *path = NULL;
-    if (!is_looked_for(name)) {
-        path = strdup(name);
-        if (!path) fail_memory(error);
-    } else if (!find_in_homes(name, PREFIX, &path)) {
+    if (!find(kumquatsieve_find_image, name, &path))
         fail_memory(error);
-    } else if (!path) {
+    else if (!path)
         fail_missing(error, name, PREFIX);
-    }
     return path;
 }
 
-/* The image that is named: a file, or that of a folder, or one in a home by its name. */
+/* The image that is named: a file, or that of a folder, or one in an image directory by its name.
+ */
 static char *image_of(const char *name, fault *error) {
     if (!is_folder(name)) return path_of(name, error);
     if (!is_in_folder(name, IMAGE) && is_of_mecab(name)) return imported(name, error);
@@ -163,13 +189,6 @@ static source read_sources(settings *to, char **file, fault *error) {
     return from;
 }
 
-/* The path at which the machine's own image would stand. */
-static char *awaited_image(void) {
-    char *home = run_time_home(PREFIX), *path = home ? in_folder(home, IMAGE) : NULL;
-    free(home);
-    return path;
-}
-
 /* What is nearer to the caller goes before what is the machine's. The folder of the system's
  * settings goes last: it is MeCab's own. */
 static char *chosen_name(const char *option, const char *setting, source from) {
@@ -180,9 +199,9 @@ static char *chosen_name(const char *option, const char *setting, source from) {
     if (!chosen && named && *named) chosen = named;
     if (!chosen && from == USERS_SOURCE) chosen = setting;
     if (chosen) return strdup(chosen);
-    if (!find_in_homes(NAME, PREFIX, &own)) return NULL;
+    if (!find(kumquatsieve_find_installed, NAME, &own)) return NULL;
     if (own) return own;
-    return setting ? strdup(setting) : awaited_image();
+    return strdup(setting ? setting : AWAITED);
 }
 
 /* The settings beside an image NAME.img are NAME.dicrc and NAME.pos-id.def. Where the image is a

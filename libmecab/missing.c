@@ -1,6 +1,5 @@
 /* The report of a bare name that no image has. */
 #define _GNU_SOURCE
-#include "homes.h"
 #include "layer.h"
 #include <stdlib.h>
 #include <string.h>
@@ -10,40 +9,71 @@ enum { NAMES_MAX = 20 };
 
 static bool add_text(bytes *to, const char *text) { return add_bytes(to, text, strlen(text)); }
 
-static bool add_folders(bytes *to, const homes *of) {
-    bool is_added = add_text(to, of->count > 0 ? "looked for in " : "there is no folder of images");
-    for (size_t i = 0; is_added && i < of->count; i++) {
-        is_added = add_text(to, i > 0 ? ", " : "") && add_text(to, of->folders[i]);
+/* Texts one after another, each with its zero byte, and a call of the library that lists them. */
+typedef struct texts {
+    char *first;
+    size_t length;
+} texts;
+
+typedef uint32_t list_call(const char *prefix, char *texts, size_t room, size_t *needed);
+
+/* Makes the list of a call, whose `first` the caller frees. Returns false if memory runs out. */
+static bool make_list(list_call *list_texts, const char *prefix, texts *list) {
+    *list = (texts){NULL, 0};
+    uint32_t code = list_texts(prefix, NULL, 0, &list->length);
+    while (code == KUMQUATSIEVE_SHORT_BUFFER) {
+        free(list->first);
+        list->first = malloc(list->length);
+        if (!list->first) return false;
+        code = list_texts(prefix, list->first, list->length, &list->length);
     }
+    if (code != KUMQUATSIEVE_OK) free(list->first);
+    return code == KUMQUATSIEVE_OK;
+}
+
+/* Adds at most `most` texts of a list, with commas between them. Sets *count to how many it has. */
+static bool add_texts(bytes *to, const texts *list, size_t most, size_t *count) {
+    bool is_added = true;
+    *count = 0;
+    for (size_t at = 0; at < list->length; at += strlen(list->first + at) + 1) {
+        bool is_wanted = is_added && *count < most;
+        if (is_wanted) {
+            is_added = add_text(to, *count > 0 ? ", " : "") && add_text(to, list->first + at);
+        }
+        ++*count;
+    }
+    return is_added;
+}
+
+static bool add_folders(bytes *to, const char *prefix) {
+    texts paths;
+    size_t count = 0;
+    if (!make_list(kumquatsieve_list_image_directories, prefix, &paths)) return false;
+    bool is_added =
+        add_text(to, paths.length > 0 ? "looked for in " : "there is no folder of images") &&
+        add_texts(to, &paths, SIZE_MAX, &count);
+    free(paths.first);
     return is_added;
 }
 
 /* Adds the first names, and how many more there are. */
-static bool add_names(bytes *to, const image_names *of) {
+static bool add_names(bytes *to, const char *prefix) {
     char more[64] = "";
-    bool is_added = add_text(to, of->count > 0 ? "; images there: " : "; images there: none");
-    for (size_t i = 0; is_added && i < of->count && i < NAMES_MAX; i++) {
-        is_added = add_text(to, i > 0 ? ", " : "") && add_text(to, of->all[i]);
-    }
-    if (of->count > NAMES_MAX) snprintf(more, sizeof more, " and %zu more", of->count - NAMES_MAX);
+    texts names;
+    size_t count = 0;
+    if (!make_list(kumquatsieve_list_image_names, prefix, &names)) return false;
+    bool is_added = add_text(to, names.length > 0 ? "; images there: " : "; images there: none") &&
+                    add_texts(to, &names, NAMES_MAX, &count);
+    if (count > NAMES_MAX) snprintf(more, sizeof more, " and %zu more", count - NAMES_MAX);
+    free(names.first);
     return is_added && add_text(to, more);
-}
-
-static bool add_search(bytes *to, const char *prefix) {
-    homes of;
-    image_names names = {0};
-    if (!find_homes(prefix, &of)) return false;
-    bool is_added = add_folders(to, &of) && find_image_names(&of, &names) && add_names(to, &names);
-    free_image_names(&names);
-    free_homes(&of);
-    return is_added;
 }
 
 /* Names the folders that were searched for an image, and the images that are there. */
 bool fail_missing(fault *error, const char *name, const char *prefix) {
     static const char HINT[] = "kumquatsieve-import makes an image";
     bytes text = {0};
-    if (add_search(&text, prefix)) {
+    if (add_folders(&text, prefix) && add_names(&text, prefix)) {
         fail(error, "%.200s: can't be opened: %s; %s", name, text.at, HINT);
     } else {
         fail_memory(error);

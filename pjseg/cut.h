@@ -84,15 +84,32 @@ void say(const char *format, ...) __attribute__((format(printf, 1, 2)));
 bool is_utf8(const char *text);
 char *one_line(const char *text);
 
+/* Texts one after another, each with its zero byte. */
+typedef struct texts {
+    char *first;
+    size_t length; /* of all of them in bytes */
+} texts;
+
 /* paths.c. The path of the image that -d or -u names, which the caller frees: NULL for want of
-   memory. The homes of this program's images. Whether a directory has a dictionary of MeCab. */
-struct homes;
+   memory. Where no image has the name, that is the name itself. */
 char *find_image(const char *name);
-bool find_own_homes(struct homes *found);
+
+/* Whether a name is bare, and neither a file nor an image has it. */
+bool is_missing(const char *name);
+
+/* List the image directories, and the names of the images in them. The caller frees `first`. They
+   return false if memory runs out. */
+bool list_image_directories(texts *list);
+bool list_image_names(texts *list);
+
+/* Returns the text that follows `text`, the first one if that is NULL, or NULL after the last. */
+const char *next_text(const texts *list, const char *text);
+
+/* Whether a directory has a dictionary of MeCab. */
 bool is_mecab_directory(const char *path);
 
 /* missing.c. Where an image was looked for, as a person is told. */
-void tell_homes(const fault *why);
+void tell_image_directories(const fault *why);
 
 /* formats.c. Whether the format that is asked for is one; sets it to a cutter that has a
  * dictionary. */

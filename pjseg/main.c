@@ -6,7 +6,7 @@
 static int end_by(const options *asked, const fault *why) {
     tell_why(asked, why);
     int status = tell_fault(why);
-    tell_homes(why);
+    tell_image_directories(why);
     tell_explanation(why);
     return status;
 }

@@ -1,6 +1,5 @@
 /* Paths: that of an image by its name, and whether one is that of a dictionary of MeCab. */
 #include "cut.h"
-#include "homes.h"
 #include <limits.h>
 #include <stdio.h>
 #include <stdlib.h>
@@ -27,12 +26,53 @@ static const char *own_prefix(char program[static PATH_MAX + 1]) {
 
 char *find_image(const char *name) {
     char program[PATH_MAX + 1];
-    return image_path(name, own_prefix(program));
+    const char *prefix = own_prefix(program);
+    char *path = NULL;
+    size_t room = 0;
+    uint32_t code = kumquatsieve_find_image(name, prefix, NULL, 0, &room);
+    while (code == KUMQUATSIEVE_SHORT_BUFFER) {
+        free(path);
+        path = malloc(room);
+        if (!path) return NULL;
+        code = kumquatsieve_find_image(name, prefix, path, room, &room);
+    }
+    if (code == KUMQUATSIEVE_OK) return path;
+    free(path);
+    return code == KUMQUATSIEVE_FILE ? strdup(name) : NULL;
 }
 
-bool find_own_homes(homes *found) {
+bool is_missing(const char *name) {
     char program[PATH_MAX + 1];
-    return find_homes(own_prefix(program), found);
+    return kumquatsieve_find_image(name, own_prefix(program), NULL, 0, NULL) == KUMQUATSIEVE_FILE;
+}
+
+/* What a call of the library lists. */
+typedef uint32_t list_call(const char *prefix, char *texts, size_t room, size_t *needed);
+
+static bool make_list(list_call *list_texts, texts *list) {
+    char program[PATH_MAX + 1];
+    const char *prefix = own_prefix(program);
+    *list = (texts){NULL, 0};
+    uint32_t code = list_texts(prefix, NULL, 0, &list->length);
+    while (code == KUMQUATSIEVE_SHORT_BUFFER) {
+        free(list->first);
+        list->first = malloc(list->length);
+        if (!list->first) return false;
+        code = list_texts(prefix, list->first, list->length, &list->length);
+    }
+    if (code != KUMQUATSIEVE_OK) free(list->first);
+    return code == KUMQUATSIEVE_OK;
+}
+
+bool list_image_directories(texts *list) {
+    return make_list(kumquatsieve_list_image_directories, list);
+}
+
+bool list_image_names(texts *list) { return make_list(kumquatsieve_list_image_names, list); }
+
+const char *next_text(const texts *list, const char *text) {
+    text = text ? text + strlen(text) + 1 : list->first;
+    return text && text < list->first + list->length ? text : NULL;
 }
 
 static bool has(const char *directory, const char *name) {

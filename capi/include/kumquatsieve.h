@@ -1,8 +1,8 @@
 #ifndef KUMQUATSIEVE_H
 #define KUMQUATSIEVE_H
 /* Kumquatsieve cuts Japanese text into words, in process. The calls are proved, except for these,
-   which are written in C over the proved ones: kumquatsieve_open, kumquatsieve_open_user,
-   kumquatsieve_share, kumquatsieve_free, kumquatsieve_fault, and the calls of a dictionary.
+   which are written in C: kumquatsieve_open, kumquatsieve_open_user, kumquatsieve_share,
+   kumquatsieve_free, kumquatsieve_fault, the calls that find images, and the calls of a dictionary.
    docs/LIBRARY.md says what is proved of them, and what they ask of C.
 
    These are the caller's duties, and nothing checks them. No output overlaps another argument.
@@ -121,7 +121,8 @@ enum {
     KUMQUATSIEVE_OK = 0,
     KUMQUATSIEVE_MEMORY = 1,
 
-    KUMQUATSIEVE_FILE = 0x4601, /* F1: a file can't be opened, read or mapped, with errno */
+    KUMQUATSIEVE_FILE = 0x4601, /* F1: a file can't be opened, read or mapped, with errno; or no
+                                   image has a name */
 
     KUMQUATSIEVE_TRUNCATED = 0x4c01,   /* L1 */
     KUMQUATSIEVE_BAD_MAGIC = 0x4c02,   /* L2 */
@@ -154,11 +155,12 @@ enum {
 };
 
 /* How an image is loaded. An argument `how` is 0, or the sum of some of these. */
-#define KUMQUATSIEVE_SKIP_DIGEST                                                                   \
-    1u /* don't test the SHA-256; the calls that open a file never do */
-#define KUMQUATSIEVE_TEST_DIGEST 2u /* open: make all tests, the SHA-256 included; use no record   \
-                                     */
-#define KUMQUATSIEVE_COPY 4u        /* open: read the file into memory, and don't map it */
+/* Don't test the SHA-256. The calls that open a file never do. */
+#define KUMQUATSIEVE_SKIP_DIGEST 1u
+/* open: make all tests, the SHA-256 included, and use no record. */
+#define KUMQUATSIEVE_TEST_DIGEST 2u
+/* open: read the file into memory, and don't map it. */
+#define KUMQUATSIEVE_COPY 4u
 
 /* Fills an empty cutter with the system dictionary in the image file at `path`, the default format,
    and a grouping of 24 characters.
@@ -188,6 +190,44 @@ uint32_t kumquatsieve_open(kumquatsieve_cutter *cutter, const char *path, unsign
    What was cut last is forgotten. */
 uint32_t kumquatsieve_open_user(kumquatsieve_cutter *cutter, const char *path, unsigned how,
                                 uint64_t *number);
+
+/* The next four calls find installed images. The image NAME.img in an image directory has the bare
+   name NAME. These are the image directories, in the order in which they are searched:
+
+   - XDG_DATA_HOME/kumquatsieve, or HOME/.local/share/kumquatsieve if the variable XDG_DATA_HOME is
+     not an absolute path. There is no such directory if HOME isn't one either.
+   - PREFIX/var/lib/kumquatsieve, or /var/lib/kumquatsieve if PREFIX is /usr.
+   - PREFIX/share/kumquatsieve.
+
+   `prefix` is PREFIX: where a program is installed, as "/usr/local", without a slash at the end. If
+   it is NULL, the first directory alone is searched. Only regular files are images there. A process
+   with raised rights, as of a setuid program, ignores the variables. (secure_getenv(3))
+
+   A call writes its result to a buffer of `room` bytes, which may be NULL if `room` is 0. Each text
+   ends with a zero byte. *needed is the length of the whole result in bytes with its zero bytes,
+   and is set by 0 and by K7. If there is less room, the call returns K7 and writes nothing.
+   `needed` may be NULL. Any number of threads may make these calls, unless one changes the
+   environment. */
+
+/* Writes the path of the image `name`. If `name` is empty, has a slash, or is the path of a file
+   that is no directory, that is `name` itself. Else it is the path in the first image directory
+   that has an image of this name. Returns F1 if none has it, or if `name` is NULL. */
+uint32_t kumquatsieve_find_image(const char *name, const char *prefix, char *path, size_t room,
+                                 size_t *needed);
+
+/* Writes the path of the image with the bare name `name` in the first image directory that has it,
+   whatever the current directory has. Returns F1 if none has it, or if `name` is not a bare one. */
+uint32_t kumquatsieve_find_installed(const char *name, const char *prefix, char *path, size_t room,
+                                     size_t *needed);
+
+/* Writes the paths of the image directories, each once, one after another. Some may not exist. */
+uint32_t kumquatsieve_list_image_directories(const char *prefix, char *paths, size_t room,
+                                             size_t *needed);
+
+/* Writes the names of the images in the image directories, each once, one after another, in byte
+   order. A directory that can't be read has none. */
+uint32_t kumquatsieve_list_image_names(const char *prefix, char *names, size_t room,
+                                       size_t *needed);
 
 /* Fills an empty cutter with the image of a system dictionary, which is copied, the default format,
    and a grouping of 24 characters. *number is set by L3 to L7, O2 and O3 alone, to what stands

@@ -12,6 +12,14 @@ int state_of(int file, struct stat *of) {
 #endif
 }
 
+int state_at(const char *path, struct stat *of) {
+#ifdef __x86_64__
+    return (int)syscall(SYS_stat, path, of);
+#else
+    return stat(path, of);
+#endif
+}
+
 static bool are_same_times(struct timespec one, struct timespec other) {
     return one.tv_sec == other.tv_sec && one.tv_nsec == other.tv_nsec;
 }

@@ -62,8 +62,10 @@ struct kumquatsieve_mapped *release_first(struct kumquatsieve_mapped *list);
 /* Takes a holder of a whole list away. */
 void release_mapped(struct kumquatsieve_mapped *list);
 
-/* files.c. Calls fstat. glibc has that name from 2.33 on, and the library runs with older ones. */
+/* files.c. Call fstat and stat. glibc has these names from 2.33 on, and the library runs with older
+   ones. */
 int state_of(int file, struct stat *of);
+int state_at(const char *path, struct stat *of);
 
 /* Whether both are about the same file, with the same size and times. */
 bool are_same_file(const struct stat *one, const struct stat *other);

@@ -2,8 +2,10 @@
 import mmap
 import os
 import sys
-from ctypes import c_char
-from typing import Any, Callable, Dict, List, NamedTuple, Optional, Sequence, Tuple, Union
+from ctypes import addressof, c_char, c_size_t, create_string_buffer
+from typing import Any, Callable, Dict, Iterator, List, NamedTuple, Optional, Sequence, Tuple, Union
+
+from ._library import LIBRARY, MEMORY, OK, SHORT_BUFFER
 
 Image = Union[str, "os.PathLike[str]", bytes, bytearray, memoryview, mmap.mmap]
 
@@ -11,60 +13,80 @@ VARIABLE = "KUMQUATSIEVE_DICTIONARY"
 IMAGE = "kumquatsieve.img"
 ENDING = ".img"
 
+# How many bytes a path or a list has room for at first.
+ROOM = 512
+
 # How the image of a system dictionary begins: what it is, its layout, and that it is no user's. (docs/FORMAT.md)
 MAGIC = b"MJDICT\r\n"
 KIND = slice(12, 16)
 SYSTEM = bytes(4)
 
 
-def own_home() -> Optional[str]:
-    """The user's own folder of images. A variable that is not absolute counts for nothing. (XDG Base Directory Specification)"""
-    share, home = os.environ.get("XDG_DATA_HOME", ""), os.environ.get("HOME", "")
-    if os.path.isabs(share):
-        return os.path.join(share, "kumquatsieve")
-    return os.path.join(home, ".local/share/kumquatsieve") if os.path.isabs(home) else None
+def prefixes() -> List[str]:
+    """Returns the prefixes whose image directories are searched: of the `jseg` that a shell runs, of
+    this Python, /usr/local and /usr."""
+    # It is imported here, because a program that names a path needs none of it.
+    from shutil import which
+
+    jseg = which("jseg")
+    own = [os.path.dirname(os.path.dirname(os.path.realpath(jseg)))] if jseg else []
+    return list(dict.fromkeys([*own, sys.prefix, "/usr/local", "/usr"]))
 
 
-def homes_of(prefix: str) -> List[str]:
-    """Where what is installed to a prefix has images: those that are made on the system, in /var under /usr, and those that came with it."""
-    root = "/" if prefix == "/usr" else prefix
-    return [os.path.join(root, "var/lib/kumquatsieve"), os.path.join(prefix, "share/kumquatsieve")]
+def searched() -> Iterator[Optional[str]]:
+    """Yields what the library takes as `prefix`, in the order of the search. None stands for the
+    user's own directory alone. The prefix of a program in /bin is empty there, and not /."""
+    yield None
+    for prefix in prefixes():
+        yield prefix.rstrip("/")
+
+
+def written(call: Any, *arguments: Optional[str]) -> bytes:
+    """Returns what a call of the library writes to a buffer: texts that each end with a zero byte.
+    Nothing is written if no image has the name."""
+    words = [None if one is None else os.fsencode(one) for one in arguments]
+    code, room, needed = SHORT_BUFFER, create_string_buffer(ROOM), c_size_t(0)
+    while code == SHORT_BUFFER:
+        if needed.value > len(room):
+            room = create_string_buffer(needed.value)
+        code = call(*words, room, len(room), addressof(needed))
+    if code == MEMORY:
+        raise MemoryError
+    return room.raw[: needed.value] if code == OK else b""
+
+
+def listed(call: Any) -> List[str]:
+    """Returns each text that a call of the library lists by one of the prefixes, once."""
+    texts = [text for prefix in searched() for text in written(call, prefix).split(b"\0")[:-1]]
+    return [os.fsdecode(text) for text in dict.fromkeys(texts)]
 
 
 def folders() -> List[str]:
-    """Where images live: the user's own, then beside the `jseg` that a shell runs, as that has it, of this Python, of /usr/local and of /usr."""
-    # It is imported here, since a program that names a path needs none of it.
-    from shutil import which
+    """Returns the image directories: the user's own, and those of each prefix."""
+    return listed(LIBRARY.list_image_directories)
 
-    jseg, own = which("jseg"), own_home()
-    prefixes = [os.path.dirname(os.path.dirname(os.path.realpath(jseg)))] if jseg else []
-    prefixes += [sys.prefix, "/usr/local", "/usr"]
-    found = [own] if own else []
-    return list(dict.fromkeys(found + [home for prefix in prefixes for home in homes_of(prefix)]))
+
+def find(call: Any, name: str) -> Optional[str]:
+    """Returns the path that a call of the library finds for a name by one of the prefixes, or
+    None."""
+    if "\0" in name:
+        return name if "/" in name else None
+    for prefix in searched():
+        found = written(call, name, prefix)
+        if found:
+            return os.fsdecode(found[:-1])
+    return None
 
 
 def dictionaries() -> Dict[str, str]:
-    """The paths of the system dictionaries that are installed, by their names: of a name that stands
-    in two folders, the one that is found. What is no regular file is no image there: a pipe without
-    a writer would be read for ever."""
-    found: Dict[str, str] = {}
-    for folder in folders():
-        for name in image_names(folder):
-            path = os.path.join(folder, name + ENDING)
-            if os.path.isfile(path):
-                found.setdefault(name, path)
-    return {name: path for name, path in found.items() if is_system(path)}
-
-
-def image_names(folder: str) -> List[str]:
-    """The names in a folder that end as those of images do, in their order, without that ending. A folder that can't be read has none."""
-    try:
-        names = os.listdir(folder)
-    except OSError:
-        return []
-    return sorted(
-        name[: -len(ENDING)] for name in names if name.endswith(ENDING) and name != ENDING
-    )
+    """The paths of the system dictionaries that are installed, by their names. If two image
+    directories have a name, the first one counts. Only regular files are images there: a pipe
+    without a writer would be read for ever."""
+    order = {folder: number for number, folder in enumerate(folders())}
+    found = {name: find(LIBRARY.find_installed, name) for name in listed(LIBRARY.list_image_names)}
+    paths = {name: path for name, path in found.items() if path and is_system(path)}
+    place = {name: order.get(os.path.dirname(path), len(order)) for name, path in paths.items()}
+    return {name: paths[name] for name in sorted(paths, key=lambda name: (place[name], name))}
 
 
 def is_system(path: str) -> bool:
@@ -78,22 +100,15 @@ def is_system(path: str) -> bool:
 
 
 def path_of(image: Union[str, "os.PathLike[str]"]) -> str:
-    """The path of an image. A bare name that no file has is that of an installed one."""
+    """Returns the path of an image. A bare name that no file has is that of an installed one."""
     name = os.fspath(image)
-    if "/" in name or is_file(name):
-        return name
-    for folder in folders():
-        path = os.path.join(folder, name + ENDING)
-        if os.path.isfile(path):
-            return path
-    raise FileNotFoundError(
-        f"{name}: no file, and no image of this name is installed; {told_installed(dictionaries())}"
-    )
-
-
-def is_file(path: str) -> bool:
-    """Whether a path that a caller named has something, and no directory. It may be a pipe."""
-    return os.path.exists(path) and not os.path.isdir(path)
+    path = find(LIBRARY.find_image, name)
+    if not path:
+        raise FileNotFoundError(
+            f"{name}: no file, and no image of this name is installed; "
+            f"{told_installed(dictionaries())}"
+        )
+    return path
 
 
 def told_installed(installed: Dict[str, str]) -> str:
@@ -136,9 +151,10 @@ def origin_of(image: Image, users: Sequence[Image], test_digest: bool) -> Option
 
 
 def name_of(image: Union[str, "os.PathLike[str]"]) -> str:
-    """The name of an installed image, or else a path that holds in every folder."""
+    """Returns the name of an installed image, or else a path that holds in every folder."""
     name = os.fspath(image)
-    return os.path.abspath(name) if "/" in name or is_file(name) else name
+    is_path = "/" in name or written(LIBRARY.find_image, name, None) == os.fsencode(name) + b"\0"
+    return os.path.abspath(name) if name and is_path else name
 
 
 def hand(

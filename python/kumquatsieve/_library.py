@@ -75,6 +75,7 @@ def arguments() -> Dict[str, Optional[List[Any]]]:
     """The types of each call's arguments, none for those in `READY`; a text is its bytes and their length."""
     address, size = ctypes.c_void_p, ctypes.c_size_t
     text = [ctypes.c_char_p, size]
+    listed = [*text, address]
     return {
         "load_by": [address, address, size, ctypes.c_bool, address],
         "add_user_by": [address, address, size, ctypes.c_bool, address],
@@ -85,7 +86,11 @@ def arguments() -> Dict[str, Optional[List[Any]]]:
         "set_format": [address, *text * 4, address, address],
         "set_grouping": [address, ctypes.c_uint32],
         "entry_feature": [address, ctypes.c_bool, size, ctypes.c_uint32, address, address],
-        "fault": [ctypes.c_uint32, ctypes.c_char_p, size, address],
+        "find_image": [ctypes.c_char_p, ctypes.c_char_p, *listed],
+        "find_installed": [ctypes.c_char_p, ctypes.c_char_p, *listed],
+        "list_image_directories": [ctypes.c_char_p, *listed],
+        "list_image_names": [ctypes.c_char_p, *listed],
+        "fault": [ctypes.c_uint32, *listed],
         **dict.fromkeys(READY),
     }
 

@@ -95,12 +95,12 @@ def installed(tmp_path, monkeypatch):
     monkeypatch.setenv("PATH", str(prefix / "bin"))
     monkeypatch.delenv("KUMQUATSIEVE_DICTIONARY", raising=False)
     monkeypatch.setenv("XDG_DATA_HOME", str(tmp_path / "data"))
-    monkeypatch.setattr(kumquatsieve._images, "folders", lambda: whole()[:3])
+    monkeypatch.setattr(kumquatsieve._images, "prefixes", lambda: whole()[:1])
     monkeypatch.chdir(here)
     return prefix / "var" / "lib" / "kumquatsieve"
 
 
-whole = kumquatsieve._images.folders
+whole = kumquatsieve._images.prefixes
 
 
 @pytest.mark.parametrize("form", FORMS)
@@ -337,4 +337,5 @@ def test_the_folders_are_of_the_user_of_jseg_and_of_this_python(
         *([Path(own)] if own else []),
         *(home for prefix in prefixes for home in systems(prefix)),
     ]
-    assert whole() == [str(path) for path in wanted]
+    monkeypatch.setattr(kumquatsieve._images, "prefixes", whole)
+    assert kumquatsieve._images.folders() == [str(path) for path in wanted]

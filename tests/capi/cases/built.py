@@ -25,9 +25,9 @@ def run(command, text=b"", **more):
     return done.stdout
 
 
-def show(command):
+def show(command, **more):
     """Runs a check, and prints what it prints."""
-    print("library: " + run(command).decode(), end="", flush=True)
+    print("library: " + run(command, **more).decode(), end="", flush=True)
 
 
 def program(name):

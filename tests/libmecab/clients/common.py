@@ -73,11 +73,9 @@ def with_layer(folder, library, source, *flags):
     """A program with the layer compiled into it by flags of its own."""
     prefix, program = library.parents[3], folder / f"with-layer-{source.stem}"
     layer = [
-        *sorted((TOP / "capi/homes").glob("*.c")),
         *sorted((TOP / "libmecab").glob("*.c")),
         prefix / "lib" / "libkumquatsieve.a",
     ]
-    headers = [f"-I{prefix / 'include'}", f"-I{TOP / 'capi' / 'homes'}"]
     words = [
         "-std=gnu11",
         "-O1",
@@ -87,7 +85,7 @@ def with_layer(folder, library, source, *flags):
         "-Wpedantic",
         "-Werror",
         *flags,
-        *headers,
+        f"-I{prefix / 'include'}",
         "-pthread",
     ]
     run(["gcc", *words, source, *layer, "-ldl", "-o", program], os.environ)
