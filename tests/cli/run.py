@@ -6,7 +6,7 @@ Each run has a folder of its own, with the sample's sources in the folder a, ima
 root its programs run as nobody, so that they can't read what nobody may not read. The status is 1 where a run is not as its row says, or
 where a code of the programs' faults stands in no row and is not named here.
 
-With --linked it runs the programs as they are installed: linked with the heap of capi/heap, by packaging/build-programs.
+With --linked it runs the programs as they are installed: linked with the heap of capi/heap.c, by packaging/build-programs.
 
 With --cut the rows of `jseg -d` and `jseg --sample` alone are run, by a kumquatsieve-cut in jseg's place, with one thread and with three. The
 sample is its image then. It tests digests as jseg does.

@@ -3,7 +3,7 @@
 the programs are those in crates/*/out.
 
 Both shared libraries are stripped and hardened by what they are compiled with where nothing is said. The programs are hardened too, need the C
-library alone and have the heap of capi/heap. The compilers, flags and tools of the environment are taken; a relative PREFIX is made absolute, below
+library alone and have the heap of capi/heap.c. The compilers, flags and tools of the environment are taken; a relative PREFIX is made absolute, below
 DESTDIR, for all that is installed; under any umask all users may read what is installed; what can't be done is refused, and nothing is installed
 then. Needs: gcc, g++, binutils and libmecab-dev; where one is not there the status is 77, and nothing was checked.
 """
@@ -150,7 +150,7 @@ def check_environment(folder):
     ]
     lines = log.read_text().splitlines()
     for source in [
-        path for name in ("capi/heap", "capi/src", "libmecab") for path in (TOP / name).glob("*.c*")
+        path for name in ("capi", "capi/src", "libmecab") for path in (TOP / name).glob("*.c*")
     ]:
         compiler, flags = (
             ("CXX", "-DOWN_CXXFLAGS") if source.suffix == ".cc" else ("CC", "-DOWN_CFLAGS")

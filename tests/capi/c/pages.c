@@ -1,5 +1,5 @@
 /* Huge pages are asked for the memory of a large image, and for nothing else: pages SYSTEM.img
-   LARGE.img. The large image has more bytes than the threshold of capi/heap/heap.c. Both have the
+   LARGE.img. The large image has more bytes than the threshold of capi/heap.c. Both have the
    sample's words. It prints how much of it stands in huge pages, in kB. */
 #include "check.h"
 #include <errno.h>
