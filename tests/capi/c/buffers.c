@@ -1,6 +1,6 @@
 /* Images that come in pieces, and dictionaries made of the cutters that they fill: buffers
    SYSTEM.img USER.img. The user's dictionary has the word すもももも. */
-#include "check.h"
+#include "helpers.h"
 
 #define USERS "すもももも\t名詞,すもももも\nEOS\n"
 
@@ -32,14 +32,14 @@ static void pieces(file system) {
         {"all at once", system.length, system.length},
         {"all at once, more room", system.length, 2 * system.length},
     };
-    for (size_t i = 0; i < ROWS(rows); i++) {
+    for (size_t i = 0; i < COUNT_OF(rows); i++) {
         kumquatsieve_buffer buffer = gathered(system, rows[i].piece, rows[i].room);
         kumquatsieve_cutter cutter = kumquatsieve_empty();
         uint64_t number = BEFORE;
-        CHECK_ROW(rows[i].what,
-                  kumquatsieve_load_buffer(&cutter, &buffer, i % 2, &number) == KUMQUATSIEVE_OK);
-        CHECK_ROW(rows[i].what, !buffer.held && number == BEFORE);
-        CHECK_ROW(rows[i].what, cut(&cutter, LINE) == KUMQUATSIEVE_OK && prints(&cutter, PRINTED));
+        CHECK_CASE(rows[i].what,
+                   kumquatsieve_load_buffer(&cutter, &buffer, i % 2, &number) == KUMQUATSIEVE_OK);
+        CHECK_CASE(rows[i].what, !buffer.held && number == BEFORE);
+        CHECK_CASE(rows[i].what, cut(&cutter, LINE) == KUMQUATSIEVE_OK && prints(&cutter, PRINTED));
         kumquatsieve_free(&cutter);
     }
 }

@@ -1,6 +1,6 @@
 /* Makes each call of the library, with each fault that it may answer: calls SYSTEM.img USER.img.
  * Both are of the sample's sources. */
-#include "check.h"
+#include "helpers.h"
 
 static uint64_t number;
 static uint32_t part;
@@ -131,7 +131,7 @@ static const text_row text_rows[] = {
 };
 
 static void text_lines(kumquatsieve_cutter *cutter) {
-    for (size_t i = 0; i < sizeof text_rows / sizeof *text_rows; i++) {
+    for (size_t i = 0; i < COUNT_OF(text_rows); i++) {
         const text_row *row = &text_rows[i];
         uint32_t code = kumquatsieve_cut_lines(cutter, BYTES(row->text), strlen(row->text), &kept,
                                                &length, &number);

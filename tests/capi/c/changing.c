@@ -102,11 +102,11 @@ static void check_row(const row *of) {
     uint32_t code = kumquatsieve_open(&cutter, SYSTEM, 0, &number);
     before_mmap = NULL;
     mmap_error = fstat_error = read_error = 0;
-    CHECK_ROW(of->what, code == of->code && number == of->number);
-    CHECK_ROW(of->what, cutter.held == (code == KUMQUATSIEVE_OK) && !cutter.mapped);
-    CHECK_ROW(of->what, mappings_of(NULL) == maps && open_files() == files);
-    CHECK_ROW(of->what,
-              !cutter.held || (cut(&cutter, LINE) == KUMQUATSIEVE_OK && prints(&cutter, PRINTED)));
+    CHECK_CASE(of->what, code == of->code && number == of->number);
+    CHECK_CASE(of->what, cutter.held == (code == KUMQUATSIEVE_OK) && !cutter.mapped);
+    CHECK_CASE(of->what, mappings_of(NULL) == maps && open_files() == files);
+    CHECK_CASE(of->what,
+               !cutter.held || (cut(&cutter, LINE) == KUMQUATSIEVE_OK && prints(&cutter, PRINTED)));
     kumquatsieve_free(&cutter);
 }
 
@@ -172,13 +172,13 @@ int main(int given, char **paths) {
     CHECK(given == 4 || given == 5);
     sys = read_file(paths[1]);
     CHECK(chdir(paths[3]) == 0);
-    for (size_t i = 0; i < ROWS(ROWS_OF); i++) check_row(&ROWS_OF[i]);
+    for (size_t i = 0; i < COUNT_OF(ROWS_OF); i++) check_row(&ROWS_OF[i]);
     few_descriptors();
     if (given == 5) {
         stopped();
         too_large();
     }
     free(sys.bytes);
-    printf("changing: %zu changes and failures while a file is opened\n", ROWS(ROWS_OF));
+    printf("changing: %zu changes and failures while a file is opened\n", COUNT_OF(ROWS_OF));
     return 0;
 }

@@ -1,7 +1,7 @@
 /* Dictionaries that are loaded once, and cutters that are made over them, also by several threads:
    dictionaries SYSTEM.img USER.img [FORKS]. The user's dictionary has the word すもももも. With
    FORKS so many children are forked while the threads are at work, and make cutters too. */
-#include "check.h"
+#include "helpers.h"
 #include <pthread.h>
 #include <sys/wait.h>
 #include <unistd.h>
@@ -69,20 +69,20 @@ static void refused(file system, file user) {
          1,
          0},
     };
-    for (size_t i = 0; i < ROWS(rows); i++) {
+    for (size_t i = 0; i < COUNT_OF(rows); i++) {
         kumquatsieve_dictionary *dictionary = NULL;
         size_t image = BEFORE;
         uint64_t number = BEFORE;
-        CHECK_ROW(rows[i].what,
-                  kumquatsieve_dictionary_make(&dictionary, rows[i].images, rows[i].count,
-                                               rows[i].how, &image, &number) == rows[i].code);
-        CHECK_ROW(rows[i].what, !dictionary && image == rows[i].image && number == rows[i].number);
-        CHECK_ROW(rows[i].what,
-                  kumquatsieve_dictionary_make(&dictionary, rows[i].images, rows[i].count,
-                                               rows[i].how, NULL, NULL) == rows[i].code);
-        CHECK_ROW(rows[i].what,
-                  kumquatsieve_dictionary_make(NULL, rows[i].images, rows[i].count, rows[i].how,
-                                               NULL, NULL) == rows[i].code);
+        CHECK_CASE(rows[i].what,
+                   kumquatsieve_dictionary_make(&dictionary, rows[i].images, rows[i].count,
+                                                rows[i].how, &image, &number) == rows[i].code);
+        CHECK_CASE(rows[i].what, !dictionary && image == rows[i].image && number == rows[i].number);
+        CHECK_CASE(rows[i].what,
+                   kumquatsieve_dictionary_make(&dictionary, rows[i].images, rows[i].count,
+                                                rows[i].how, NULL, NULL) == rows[i].code);
+        CHECK_CASE(rows[i].what,
+                   kumquatsieve_dictionary_make(NULL, rows[i].images, rows[i].count, rows[i].how,
+                                                NULL, NULL) == rows[i].code);
     }
     const kumquatsieve_image image = image_of(system);
     CHECK(kumquatsieve_dictionary_make(NULL, NULL, 0, 0, NULL, NULL) == KUMQUATSIEVE_EMPTY_CUTTER);

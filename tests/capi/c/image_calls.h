@@ -1,7 +1,7 @@
 /* Calls that find installed images, and what they write. */
 #ifndef IMAGE_CALLS_H
 #define IMAGE_CALLS_H
-#include "check.h"
+#include "helpers.h"
 
 typedef uint32_t find_call(const char *name, const char *prefix, char *path, size_t room,
                            size_t *needed);

@@ -12,11 +12,11 @@ static void check_short(const char *what, const request *of, size_t length) {
     memset(out, UNSET, sizeof out);
     for (size_t room = 0; room < length; room++) {
         size_t needed = UNSET;
-        CHECK_ROW(what, call(of, out, room, &needed) == KUMQUATSIEVE_SHORT_BUFFER);
-        CHECK_ROW(what, needed == length && out[0] == UNSET);
-        CHECK_ROW(what, memcmp(out, out + 1, sizeof out - 1) == 0);
+        CHECK_CASE(what, call(of, out, room, &needed) == KUMQUATSIEVE_SHORT_BUFFER);
+        CHECK_CASE(what, needed == length && out[0] == UNSET);
+        CHECK_CASE(what, memcmp(out, out + 1, sizeof out - 1) == 0);
     }
-    if (length > 0) CHECK_ROW(what, call(of, NULL, 0, NULL) == KUMQUATSIEVE_SHORT_BUFFER);
+    if (length > 0) CHECK_CASE(what, call(of, NULL, 0, NULL) == KUMQUATSIEVE_SHORT_BUFFER);
 }
 
 /* Checks a call with less room than it needs, and with as much. */
@@ -26,9 +26,9 @@ static void check_result(const char *what, const request *of, const char *wanted
     CHECK(out);
     out[length] = UNSET;
     check_short(what, of, length);
-    CHECK_ROW(what, call(of, length > 0 ? out : NULL, length, &needed) == KUMQUATSIEVE_OK);
-    CHECK_ROW(what, needed == length && is_result(out, length, wanted));
-    CHECK_ROW(what, call(of, out, length + 1, NULL) == KUMQUATSIEVE_OK && out[length] == UNSET);
+    CHECK_CASE(what, call(of, length > 0 ? out : NULL, length, &needed) == KUMQUATSIEVE_OK);
+    CHECK_CASE(what, needed == length && is_result(out, length, wanted));
+    CHECK_CASE(what, call(of, out, length + 1, NULL) == KUMQUATSIEVE_OK && out[length] == UNSET);
     free(out);
 }
 
@@ -36,9 +36,9 @@ static void check_result(const char *what, const request *of, const char *wanted
 static void check_none(const char *what, const request *of) {
     char out[ROOM] = {UNSET};
     size_t needed = UNSET;
-    CHECK_ROW(what, call(of, out, sizeof out, &needed) == KUMQUATSIEVE_FILE);
-    CHECK_ROW(what, needed == UNSET && out[0] == UNSET);
-    CHECK_ROW(what, call(of, NULL, 0, NULL) == KUMQUATSIEVE_FILE);
+    CHECK_CASE(what, call(of, out, sizeof out, &needed) == KUMQUATSIEVE_FILE);
+    CHECK_CASE(what, needed == UNSET && out[0] == UNSET);
+    CHECK_CASE(what, call(of, NULL, 0, NULL) == KUMQUATSIEVE_FILE);
 }
 
 static void set_variable(const char *name, const char *value) {
@@ -67,7 +67,7 @@ static const struct {
 };
 
 static void check_directories(void) {
-    for (size_t i = 0; i < ROWS(DIRECTORIES); i++) {
+    for (size_t i = 0; i < COUNT_OF(DIRECTORIES); i++) {
         request of = {NULL, kumquatsieve_list_image_directories, NULL, DIRECTORIES[i].prefix};
         set_variable("XDG_DATA_HOME", DIRECTORIES[i].data_home);
         set_variable("HOME", DIRECTORIES[i].home);
@@ -122,7 +122,7 @@ static void check_find(const char *what, const request *of, const char *folder,
 }
 
 static void check_names(const char *folder, const char *prefix) {
-    for (size_t i = 0; i < ROWS(NAMES); i++) {
+    for (size_t i = 0; i < COUNT_OF(NAMES); i++) {
         request image = {kumquatsieve_find_image, NULL, NAMES[i].name, prefix};
         request installed = {kumquatsieve_find_installed, NULL, NAMES[i].name, prefix};
         check_find(NAMES[i].what, &image, folder, NAMES[i].image);
@@ -159,7 +159,7 @@ int main(int given, char **arguments) {
     snprintf(path, sizeof path, "%s/prefix", arguments[1]);
     check_names(arguments[1], path);
     check_searched(arguments[1], path);
-    printf("%zu cases of image directories, and %zu of names of images\n", ROWS(DIRECTORIES),
-           ROWS(NAMES));
+    printf("%zu cases of image directories, and %zu of names of images\n", COUNT_OF(DIRECTORIES),
+           COUNT_OF(NAMES));
     return 0;
 }

@@ -1,6 +1,6 @@
 /* Prints how each image is refused, first as the system's and then as a user's for SYSTEM.img:
    images SYSTEM.img IMG... A line has the fault's text, and its number where it has one. */
-#include "check.h"
+#include "helpers.h"
 
 static void print_fault(uint32_t code, uint64_t number) {
     uint8_t text[64];

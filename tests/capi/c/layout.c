@@ -1,7 +1,7 @@
 /* The library writes each field of a word and of a node where the header has it: layout SYSTEM.img
    USER.img. The user's dictionary has すもももも as its third word, with left id 0, right id 1 and
    cost -30000, so that no two fields that could be exchanged have the same value. */
-#include "check.h"
+#include "helpers.h"
 
 #define LAYOUT_LINE " もも  すもももも"
 

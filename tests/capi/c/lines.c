@@ -1,6 +1,6 @@
 /* Rows of lines that are cut, of their words, and of what is reported of them: lines SYSTEM.img, of
  * the sample's sources. */
-#include "check.h"
+#include "helpers.h"
 
 #define LONGEST 1048576
 
@@ -17,15 +17,15 @@ static const struct {
 static void sizes_and_costs(kumquatsieve_cutter *cutter) {
     size_t count = 9;
     int64_t total = 99;
-    for (size_t i = 0; i < ROWS(SIZES); i++) {
+    for (size_t i = 0; i < COUNT_OF(SIZES); i++) {
         size_t length = strlen(SIZES[i].line);
-        CHECK_ROW(SIZES[i].what, kumquatsieve_cut(cutter, BYTES(SIZES[i].line), length, &count,
-                                                  &total, NULL) == KUMQUATSIEVE_OK);
-        CHECK_ROW(SIZES[i].what, count == SIZES[i].count && total == SIZES[i].total);
+        CHECK_CASE(SIZES[i].what, kumquatsieve_cut(cutter, BYTES(SIZES[i].line), length, &count,
+                                                   &total, NULL) == KUMQUATSIEVE_OK);
+        CHECK_CASE(SIZES[i].what, count == SIZES[i].count && total == SIZES[i].total);
         count = 9, total = 99;
-        CHECK_ROW(SIZES[i].what, kumquatsieve_cut_text(cutter, BYTES(SIZES[i].line), length, &count,
-                                                       &total, NULL) == KUMQUATSIEVE_OK);
-        CHECK_ROW(SIZES[i].what, count == SIZES[i].count && total == SIZES[i].total);
+        CHECK_CASE(SIZES[i].what, kumquatsieve_cut_text(cutter, BYTES(SIZES[i].line), length,
+                                                        &count, &total, NULL) == KUMQUATSIEVE_OK);
+        CHECK_CASE(SIZES[i].what, count == SIZES[i].count && total == SIZES[i].total);
     }
     CHECK(kumquatsieve_cut_text(cutter, BYTES("も\nも"), strlen("も\nも"), &count, &total, NULL) ==
               KUMQUATSIEVE_OK &&
@@ -46,14 +46,14 @@ static const struct {
 };
 
 static void printed_lines(kumquatsieve_cutter *cutter) {
-    for (size_t i = 0; i < ROWS(PRINTED_LINES); i++) {
+    for (size_t i = 0; i < COUNT_OF(PRINTED_LINES); i++) {
         const char *line = PRINTED_LINES[i].line;
-        CHECK_ROW(PRINTED_LINES[i].what,
-                  cut(cutter, line) == KUMQUATSIEVE_OK && prints(cutter, PRINTED_LINES[i].output));
-        CHECK_ROW(PRINTED_LINES[i].what,
-                  kumquatsieve_cut_text(cutter, BYTES(line), strlen(line), NULL, NULL, NULL) ==
-                      KUMQUATSIEVE_OK);
-        CHECK_ROW(PRINTED_LINES[i].what, prints(cutter, PRINTED_LINES[i].output));
+        CHECK_CASE(PRINTED_LINES[i].what,
+                   cut(cutter, line) == KUMQUATSIEVE_OK && prints(cutter, PRINTED_LINES[i].output));
+        CHECK_CASE(PRINTED_LINES[i].what,
+                   kumquatsieve_cut_text(cutter, BYTES(line), strlen(line), NULL, NULL, NULL) ==
+                       KUMQUATSIEVE_OK);
+        CHECK_CASE(PRINTED_LINES[i].what, prints(cutter, PRINTED_LINES[i].output));
     }
 }
 
@@ -79,15 +79,15 @@ static void refused_texts(kumquatsieve_cutter *cutter) {
     memset(letters, 'z', sizeof letters);
     memset(bad_bytes, 0xff, sizeof bad_bytes);
     CHECK(cut(cutter, "もも") == KUMQUATSIEVE_OK);
-    for (size_t i = 0; i < ROWS(REFUSED); i++) {
-        CHECK_ROW(REFUSED[i].what, kumquatsieve_cut(cutter, REFUSED[i].bytes, REFUSED[i].length,
-                                                    NULL, NULL, NULL) == REFUSED[i].as_line);
+    for (size_t i = 0; i < COUNT_OF(REFUSED); i++) {
+        CHECK_CASE(REFUSED[i].what, kumquatsieve_cut(cutter, REFUSED[i].bytes, REFUSED[i].length,
+                                                     NULL, NULL, NULL) == REFUSED[i].as_line);
         if (REFUSED[i].as_text != KUMQUATSIEVE_OK) {
-            CHECK_ROW(REFUSED[i].what,
-                      kumquatsieve_cut_text(cutter, REFUSED[i].bytes, REFUSED[i].length, NULL, NULL,
-                                            NULL) == REFUSED[i].as_text);
+            CHECK_CASE(REFUSED[i].what,
+                       kumquatsieve_cut_text(cutter, REFUSED[i].bytes, REFUSED[i].length, NULL,
+                                             NULL, NULL) == REFUSED[i].as_text);
         }
-        CHECK_ROW(REFUSED[i].what, prints(cutter, MOMO));
+        CHECK_CASE(REFUSED[i].what, prints(cutter, MOMO));
     }
     CHECK(kumquatsieve_cut(cutter, letters, LONGEST, NULL, NULL, NULL) == KUMQUATSIEVE_OK);
 }
@@ -161,13 +161,14 @@ static const struct {
 
 static void words_from_a_number_on(kumquatsieve_cutter *cutter) {
     CHECK(cut(cutter, " すもも z") == KUMQUATSIEVE_OK);
-    for (size_t i = 0; i < ROWS(WORDS); i++) {
+    for (size_t i = 0; i < COUNT_OF(WORDS); i++) {
         kumquatsieve_word words[3] = {BLANK, BLANK, BLANK};
         size_t count = 99;
-        CHECK_ROW(WORDS[i].what, kumquatsieve_words(cutter, WORDS[i].first, words, WORDS[i].room,
-                                                    &count) == KUMQUATSIEVE_OK &&
-                                     count == 2);
-        for (int k = 0; k < 3; k++) CHECK_ROW(WORDS[i].what, is_word(&words[k], WORDS[i].after[k]));
+        CHECK_CASE(WORDS[i].what, kumquatsieve_words(cutter, WORDS[i].first, words, WORDS[i].room,
+                                                     &count) == KUMQUATSIEVE_OK &&
+                                      count == 2);
+        for (int k = 0; k < 3; k++)
+            CHECK_CASE(WORDS[i].what, is_word(&words[k], WORDS[i].after[k]));
     }
 }
 
@@ -179,10 +180,10 @@ static const struct {
 static void features(kumquatsieve_cutter *cutter) {
     const uint8_t *feature = NULL;
     size_t length = 0;
-    for (size_t i = 0; i < ROWS(FEATURES); i++) {
-        CHECK_ROW(FEATURES[i].feature, kumquatsieve_feature(cutter, FEATURES[i].number, &feature,
-                                                            &length) == KUMQUATSIEVE_OK);
-        CHECK_ROW(FEATURES[i].feature, is_text(feature, length, FEATURES[i].feature));
+    for (size_t i = 0; i < COUNT_OF(FEATURES); i++) {
+        CHECK_CASE(FEATURES[i].feature, kumquatsieve_feature(cutter, FEATURES[i].number, &feature,
+                                                             &length) == KUMQUATSIEVE_OK);
+        CHECK_CASE(FEATURES[i].feature, is_text(feature, length, FEATURES[i].feature));
     }
     CHECK(kumquatsieve_feature(cutter, 2, &feature, &length) == KUMQUATSIEVE_NO_WORD);
     CHECK(kumquatsieve_features(cutter, &feature, &length) == KUMQUATSIEVE_OK &&
@@ -233,15 +234,15 @@ static uint32_t copied(kumquatsieve_cutter *cutter, asked asked, uint32_t number
 
 static void buffers(kumquatsieve_cutter *cutter) {
     CHECK(cut(cutter, "すもも") == KUMQUATSIEVE_OK);
-    for (size_t i = 0; i < ROWS(BUFFERS); i++) {
+    for (size_t i = 0; i < COUNT_OF(BUFFERS); i++) {
         uint8_t out[32];
         size_t needed = 99, written = strlen(BUFFERS[i].written);
         memset(out, '#', sizeof out);
-        CHECK_ROW(BUFFERS[i].what, copied(cutter, BUFFERS[i].asked, BUFFERS[i].number, out,
-                                          BUFFERS[i].room, &needed) == BUFFERS[i].code);
-        CHECK_ROW(BUFFERS[i].what,
-                  needed == BUFFERS[i].needed && memcmp(out, BUFFERS[i].written, written) == 0);
-        for (size_t k = written; k < sizeof out; k++) CHECK_ROW(BUFFERS[i].what, out[k] == '#');
+        CHECK_CASE(BUFFERS[i].what, copied(cutter, BUFFERS[i].asked, BUFFERS[i].number, out,
+                                           BUFFERS[i].room, &needed) == BUFFERS[i].code);
+        CHECK_CASE(BUFFERS[i].what,
+                   needed == BUFFERS[i].needed && memcmp(out, BUFFERS[i].written, written) == 0);
+        for (size_t k = written; k < sizeof out; k++) CHECK_CASE(BUFFERS[i].what, out[k] == '#');
     }
 }
 

@@ -18,8 +18,8 @@ static size_t maps_before, files_before;
 static kumquatsieve_cutter opened(const char *path, unsigned how) {
     kumquatsieve_cutter cutter = kumquatsieve_empty();
     uint64_t number = 0;
-    CHECK_ROW(path, kumquatsieve_open(&cutter, path, how, &number) == KUMQUATSIEVE_OK &&
-                        number == 0 && cutter.held);
+    CHECK_CASE(path, kumquatsieve_open(&cutter, path, how, &number) == KUMQUATSIEVE_OK &&
+                         number == 0 && cutter.held);
     return cutter;
 }
 
@@ -29,24 +29,24 @@ static bool cuts(kumquatsieve_cutter *cutter, const char *wanted) {
 
 /* After each part nothing is open or mapped that was not before. */
 static void check_nothing_left(const char *what) {
-    CHECK_ROW(what, mappings_of(NULL) == maps_before && open_files() == files_before);
+    CHECK_CASE(what, mappings_of(NULL) == maps_before && open_files() == files_before);
 }
 
 /* A file that is opened by several paths is mapped once, until the last cutter is freed. */
 static void one_file(void) {
-    kumquatsieve_cutter all[ROWS(PATHS)], copy;
+    kumquatsieve_cutter all[COUNT_OF(PATHS)], copy;
     CHECK(symlink(SYSTEM, "link.img") == 0 && link(SYSTEM, "hard.img") == 0 &&
           mkdir("folder", 0700) == 0);
-    for (size_t i = 0; i < ROWS(PATHS); i++) {
+    for (size_t i = 0; i < COUNT_OF(PATHS); i++) {
         all[i] = opened(PATHS[i], 0);
-        CHECK_ROW(PATHS[i], mappings_of(SYSTEM) == 1 && open_files() == files_before);
+        CHECK_CASE(PATHS[i], mappings_of(SYSTEM) == 1 && open_files() == files_before);
     }
     copy = opened(SYSTEM, KUMQUATSIEVE_COPY);
     CHECK(!copy.mapped && mappings_of(SYSTEM) == 1);
-    for (size_t i = 0; i < ROWS(PATHS); i++) {
-        CHECK_ROW(PATHS[i], cuts(&all[i], PRINTED) && mappings_of(SYSTEM) == 1);
+    for (size_t i = 0; i < COUNT_OF(PATHS); i++) {
+        CHECK_CASE(PATHS[i], cuts(&all[i], PRINTED) && mappings_of(SYSTEM) == 1);
         kumquatsieve_free(&all[i]);
-        CHECK_ROW(PATHS[i], !all[i].held && !all[i].mapped);
+        CHECK_CASE(PATHS[i], !all[i].held && !all[i].mapped);
     }
     CHECK(mappings_of(SYSTEM) == 0 && cuts(&copy, PRINTED));
     kumquatsieve_free(&copy);

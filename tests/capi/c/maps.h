@@ -1,7 +1,7 @@
 /* What is open or mapped in this process. */
 #ifndef MAPS_H
 #define MAPS_H
-#include "check.h"
+#include "helpers.h"
 #include <dirent.h>
 #include <sys/stat.h>
 #include <sys/sysmacros.h>
@@ -36,6 +36,6 @@ static inline size_t open_files(void) {
 
 static inline void write_file(const char *path, const void *bytes, size_t length) {
     FILE *opened = fopen(path, "wb");
-    CHECK_ROW(path, opened && fwrite(bytes, 1, length, opened) == length && fclose(opened) == 0);
+    CHECK_CASE(path, opened && fwrite(bytes, 1, length, opened) == length && fclose(opened) == 0);
 }
 #endif

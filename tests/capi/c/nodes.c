@@ -2,7 +2,7 @@
    sources are the sample's: a connection from BOS costs 10, one between words 7 and one to EOS 5.
    The user's dictionary has the word `もも `, which ends with a blank and costs 50: where it is the
    last one, no other chain ends as late, so the words without the blank are dead ends. */
-#include "check.h"
+#include "helpers.h"
 
 enum { MOST_NODES = 32, MOST_WORDS = 16, BOS_COSTS = 10, CONNECTION_COSTS = 7, EOS_COSTS = 5 };
 
@@ -114,15 +114,15 @@ static size_t cut_nodes(kumquatsieve_cutter *cutter, const char *line, kumquatsi
 }
 
 static void lattices(kumquatsieve_cutter *cutter) {
-    for (size_t i = 0; i < ROWS(LATTICES); i++) {
+    for (size_t i = 0; i < COUNT_OF(LATTICES); i++) {
         const lattice_row *row = &LATTICES[i];
         kumquatsieve_node nodes[MOST_NODES];
         int64_t best = 99;
-        CHECK_ROW(row->what,
-                  cut_nodes(cutter, row->line, nodes, &best) == row->count && best == row->best);
+        CHECK_CASE(row->what,
+                   cut_nodes(cutter, row->line, nodes, &best) == row->count && best == row->best);
         for (size_t k = 0; k < row->count; k++) {
-            CHECK_ROW(row->what, is_node(&nodes[k], &row->nodes[k]));
-            CHECK_ROW(row->what, has_feature(cutter, &nodes[k].word, row->nodes[k].feature));
+            CHECK_CASE(row->what, is_node(&nodes[k], &row->nodes[k]));
+            CHECK_CASE(row->what, has_feature(cutter, &nodes[k].word, row->nodes[k].feature));
         }
     }
 }
@@ -146,18 +146,18 @@ static const struct {
 static void nodes_from_a_number_on(kumquatsieve_cutter *cutter) {
     const node_row *wanted = LATTICES[3].nodes;
     CHECK(cut(cutter, LATTICES[3].line) == KUMQUATSIEVE_OK);
-    for (size_t i = 0; i < ROWS(PARTS); i++) {
+    for (size_t i = 0; i < COUNT_OF(PARTS); i++) {
         kumquatsieve_node nodes[6];
         size_t count = 99;
         memset(nodes, 0xaa, sizeof nodes);
-        CHECK_ROW(PARTS[i].what, kumquatsieve_nodes(cutter, PARTS[i].first, nodes, PARTS[i].room,
-                                                    &count) == KUMQUATSIEVE_OK &&
-                                     count == 4);
+        CHECK_CASE(PARTS[i].what, kumquatsieve_nodes(cutter, PARTS[i].first, nodes, PARTS[i].room,
+                                                     &count) == KUMQUATSIEVE_OK &&
+                                      count == 4);
         for (size_t k = 0; k < PARTS[i].written; k++)
-            CHECK_ROW(PARTS[i].what, is_node(&nodes[k], &wanted[PARTS[i].first + k]));
+            CHECK_CASE(PARTS[i].what, is_node(&nodes[k], &wanted[PARTS[i].first + k]));
         const uint8_t *bytes = (const uint8_t *)nodes;
         for (size_t k = PARTS[i].written * sizeof *nodes; k < sizeof nodes; k++)
-            CHECK_ROW(PARTS[i].what, bytes[k] == 0xaa);
+            CHECK_CASE(PARTS[i].what, bytes[k] == 0xaa);
     }
 }
 
@@ -182,11 +182,11 @@ static const struct {
 };
 
 static void features_of_entries(kumquatsieve_cutter *cutter) {
-    for (size_t i = 0; i < ROWS(ENTRIES); i++) {
+    for (size_t i = 0; i < COUNT_OF(ENTRIES); i++) {
         kumquatsieve_word word = {.known = ENTRIES[i].known,
                                   .dictionary = ENTRIES[i].dictionary,
                                   .token = ENTRIES[i].token};
-        CHECK_ROW(ENTRIES[i].what, has_feature(cutter, &word, ENTRIES[i].feature));
+        CHECK_CASE(ENTRIES[i].what, has_feature(cutter, &word, ENTRIES[i].feature));
     }
 }
 
@@ -222,7 +222,7 @@ static const char *const LINES[] = {"すもももも", "もももも",   "もす
                                     " も z ",     "もも もも ", "カタ も",  "もも 東 "};
 
 static void all_paths_agree(kumquatsieve_cutter *cutter) {
-    for (size_t k = 0; k < ROWS(LINES); k++) {
+    for (size_t k = 0; k < COUNT_OF(LINES); k++) {
         kumquatsieve_node nodes[MOST_NODES];
         kumquatsieve_word words[MOST_WORDS];
         int64_t best = 0, least = INT64_MAX;
@@ -233,22 +233,23 @@ static void all_paths_agree(kumquatsieve_cutter *cutter) {
             paths.totals[i] = paths.throughs[i] = INT64_MAX;
         }
         go_on(&paths, 0, 0);
-        CHECK_ROW(LINES[k],
-                  kumquatsieve_words(cutter, 0, words, MOST_WORDS, &many) == KUMQUATSIEVE_OK &&
-                      many <= MOST_WORDS);
+        CHECK_CASE(LINES[k],
+                   kumquatsieve_words(cutter, 0, words, MOST_WORDS, &many) == KUMQUATSIEVE_OK &&
+                       many <= MOST_WORDS);
         for (size_t i = 0; i < paths.count; i++) {
-            CHECK_ROW(LINES[k], nodes[i].word.total == paths.totals[i] &&
-                                    nodes[i].reaches_end == (paths.throughs[i] < INT64_MAX));
-            CHECK_ROW(LINES[k], nodes[i].through == (nodes[i].reaches_end ? paths.throughs[i] : 0));
+            CHECK_CASE(LINES[k], nodes[i].word.total == paths.totals[i] &&
+                                     nodes[i].reaches_end == (paths.throughs[i] < INT64_MAX));
+            CHECK_CASE(LINES[k],
+                       nodes[i].through == (nodes[i].reaches_end ? paths.throughs[i] : 0));
             if (nodes[i].reaches_end) less(&least, nodes[i].through);
             if (!nodes[i].on_best) continue;
-            CHECK_ROW(LINES[k], on_best < many && nodes[i].word.start == words[on_best].start &&
-                                    nodes[i].word.end == words[on_best].end);
-            CHECK_ROW(LINES[k],
-                      nodes[i].word.total == words[on_best].total && nodes[i].through == best);
+            CHECK_CASE(LINES[k], on_best < many && nodes[i].word.start == words[on_best].start &&
+                                     nodes[i].word.end == words[on_best].end);
+            CHECK_CASE(LINES[k],
+                       nodes[i].word.total == words[on_best].total && nodes[i].through == best);
             on_best++;
         }
-        CHECK_ROW(LINES[k], on_best == many && least == best);
+        CHECK_CASE(LINES[k], on_best == many && least == best);
     }
 }
 

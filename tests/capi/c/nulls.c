@@ -1,6 +1,6 @@
 /* NULL for bytes whose length is 0, for outputs that are not wanted, and for a cutter that is given
  * back: nulls SYSTEM.img USER.img. */
-#include "check.h"
+#include "helpers.h"
 
 static void no_bytes(file system) {
     kumquatsieve_cutter cutter = kumquatsieve_empty();

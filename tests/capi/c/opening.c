@@ -44,13 +44,13 @@ static void make_files(void) {
         {"sparse_magic.img", (off_t)1 << 40, 0, "X", 1},
         {"sparse.img", (off_t)1 << 40, 0, "", 0},
     };
-    for (size_t i = 0; i < ROWS(rows); i++) {
+    for (size_t i = 0; i < COUNT_OF(rows); i++) {
         int to = open(rows[i].path, O_RDWR | O_CREAT | O_TRUNC, 0600);
         size_t written = (size_t)rows[i].length < sys.length ? (size_t)rows[i].length : sys.length;
-        CHECK_ROW(rows[i].path, to >= 0 && pwrite(to, sys.bytes, written, 0) == (ssize_t)written);
-        CHECK_ROW(rows[i].path, ftruncate(to, rows[i].length) == 0);
-        CHECK_ROW(rows[i].path, pwrite(to, rows[i].bytes, rows[i].count, (off_t)rows[i].at) ==
-                                    (ssize_t)rows[i].count);
+        CHECK_CASE(rows[i].path, to >= 0 && pwrite(to, sys.bytes, written, 0) == (ssize_t)written);
+        CHECK_CASE(rows[i].path, ftruncate(to, rows[i].length) == 0);
+        CHECK_CASE(rows[i].path, pwrite(to, rows[i].bytes, rows[i].count, (off_t)rows[i].at) ==
+                                     (ssize_t)rows[i].count);
         close(to);
     }
 }
@@ -130,17 +130,17 @@ static const refused_row AS_USER[] = {
 
 /* A refused file leaves the cutter as it was, and nothing open or mapped. */
 static void refused_systems(void) {
-    for (size_t i = 0; i < ROWS(AS_SYSTEM); i++) {
+    for (size_t i = 0; i < COUNT_OF(AS_SYSTEM); i++) {
         const refused_row *row = &AS_SYSTEM[i];
         kumquatsieve_cutter cutter = KUMQUATSIEVE_EMPTY;
         uint64_t number = UNSET;
         size_t files = open_files(), maps = mappings_of(NULL);
-        CHECK_ROW(row->what,
-                  kumquatsieve_open(&cutter, row->path, row->how, &number) == row->code &&
-                      number == row->number);
-        CHECK_ROW(row->what, !cutter.held && !cutter.at && !cutter.mapped);
-        CHECK_ROW(row->what, open_files() == files && mappings_of(NULL) == maps);
-        CHECK_ROW(row->what, kumquatsieve_open(&cutter, row->path, row->how, NULL) == row->code);
+        CHECK_CASE(row->what,
+                   kumquatsieve_open(&cutter, row->path, row->how, &number) == row->code &&
+                       number == row->number);
+        CHECK_CASE(row->what, !cutter.held && !cutter.at && !cutter.mapped);
+        CHECK_CASE(row->what, open_files() == files && mappings_of(NULL) == maps);
+        CHECK_CASE(row->what, kumquatsieve_open(&cutter, row->path, row->how, NULL) == row->code);
     }
 }
 
@@ -154,16 +154,16 @@ static void refused_users(void) {
     CHECK(kumquatsieve_open(&cutter, "none.img", 0, &number) == KUMQUATSIEVE_FULL_CUTTER &&
           number == UNSET);
     CHECK(cut(&cutter, LINE) == KUMQUATSIEVE_OK);
-    for (size_t i = 0; i < ROWS(AS_USER); i++) {
+    for (size_t i = 0; i < COUNT_OF(AS_USER); i++) {
         const refused_row *row = &AS_USER[i];
         const void *before = cutter.mapped;
         size_t files = open_files(), maps = mappings_of(NULL);
         number = UNSET;
-        CHECK_ROW(row->what,
-                  kumquatsieve_open_user(&cutter, row->path, row->how, &number) == row->code &&
-                      number == row->number);
-        CHECK_ROW(row->what, prints(&cutter, PRINTED) && cutter.mapped == before);
-        CHECK_ROW(row->what, open_files() == files && mappings_of(NULL) == maps);
+        CHECK_CASE(row->what,
+                   kumquatsieve_open_user(&cutter, row->path, row->how, &number) == row->code &&
+                       number == row->number);
+        CHECK_CASE(row->what, prints(&cutter, PRINTED) && cutter.mapped == before);
+        CHECK_CASE(row->what, open_files() == files && mappings_of(NULL) == maps);
     }
     kumquatsieve_free(&cutter);
 }
@@ -212,7 +212,7 @@ static const char *start_writing(bool is_named, const uint8_t *bytes, size_t len
 /* Bytes that come through a pipe. The image has `more` bytes after it, or another byte at `at`. */
 static void piped(const char *what, size_t more, size_t at, uint32_t code, uint64_t wanted) {
     uint8_t *bytes = calloc(1, sys.length + more);
-    CHECK_ROW(what, bytes);
+    CHECK_CASE(what, bytes);
     memcpy(bytes, sys.bytes, sys.length);
     bytes[at] ^= (uint8_t)(code != KUMQUATSIEVE_OK && more == 0);
     for (int is_named = 0; is_named < 2; is_named++) {
@@ -221,12 +221,12 @@ static void piped(const char *what, size_t more, size_t at, uint32_t code, uint6
         pid_t child;
         int status = 0;
         const char *path = start_writing(is_named, bytes, sys.length + more, &child);
-        CHECK_ROW(what, kumquatsieve_open(&cutter, path, 0, &number) == code && number == wanted);
+        CHECK_CASE(what, kumquatsieve_open(&cutter, path, 0, &number) == code && number == wanted);
         CHECK(freopen("/dev/null", "r", stdin));
-        CHECK_ROW(what, !cutter.mapped && cutter.held == (code == KUMQUATSIEVE_OK));
-        if (cutter.held) CHECK_ROW(what, cut(&cutter, LINE) == 0 && prints(&cutter, PRINTED));
+        CHECK_CASE(what, !cutter.mapped && cutter.held == (code == KUMQUATSIEVE_OK));
+        if (cutter.held) CHECK_CASE(what, cut(&cutter, LINE) == 0 && prints(&cutter, PRINTED));
         kumquatsieve_free(&cutter);
-        CHECK_ROW(what, waitpid(child, &status, 0) == child);
+        CHECK_CASE(what, waitpid(child, &status, 0) == child);
     }
     free(bytes);
 }
@@ -261,6 +261,6 @@ int main(int given, char **paths) {
     free(sys.bytes);
     free(user.bytes);
     printf("opening: %zu files are refused by the calls that open them\n",
-           ROWS(AS_SYSTEM) + ROWS(AS_USER));
+           COUNT_OF(AS_SYSTEM) + COUNT_OF(AS_USER));
     return 0;
 }

@@ -1,7 +1,7 @@
 /* What each answer leaves in the outputs of a call: outputs SYSTEM.img USER.img, of the sample's
    sources. Each output is 77 before a call, and an output that the answer doesn't set is 77 after
    it. */
-#include "check.h"
+#include "helpers.h"
 
 #define LONGEST 1048576
 
@@ -63,11 +63,11 @@ static void numbers(file system, file user) {
         {"add_user: no user's, the second", kumquatsieve_add_user, &full, system,
          KUMQUATSIEVE_NOT_USER, 1},
     };
-    for (size_t i = 0; i < ROWS(rows); i++) {
+    for (size_t i = 0; i < COUNT_OF(rows); i++) {
         uint64_t number = UNSET;
-        CHECK_ROW(rows[i].what, rows[i].call(rows[i].cutter, rows[i].image.bytes,
-                                             rows[i].image.length, &number) == rows[i].code);
-        CHECK_ROW(rows[i].what, number == rows[i].number);
+        CHECK_CASE(rows[i].what, rows[i].call(rows[i].cutter, rows[i].image.bytes,
+                                              rows[i].image.length, &number) == rows[i].code);
+        CHECK_CASE(rows[i].what, number == rows[i].number);
     }
     kumquatsieve_free(&full);
     kumquatsieve_free(&third);
@@ -109,12 +109,12 @@ static uint32_t set_format(kumquatsieve_cutter *cutter, const char *const texts[
 static void formats(file system) {
     kumquatsieve_cutter cutters[CUTTERS];
     begin(cutters, system);
-    for (size_t i = 0; i < ROWS(FORMATS); i++) {
+    for (size_t i = 0; i < COUNT_OF(FORMATS); i++) {
         uint32_t part = UNSET;
         size_t at = UNSET;
-        CHECK_ROW(FORMATS[i].what, set_format(&cutters[FORMATS[i].cutter], FORMATS[i].texts, &part,
-                                              &at) == FORMATS[i].code);
-        CHECK_ROW(FORMATS[i].what, part == FORMATS[i].part && at == FORMATS[i].at);
+        CHECK_CASE(FORMATS[i].what, set_format(&cutters[FORMATS[i].cutter], FORMATS[i].texts, &part,
+                                               &at) == FORMATS[i].code);
+        CHECK_CASE(FORMATS[i].what, part == FORMATS[i].part && at == FORMATS[i].at);
     }
     end(cutters);
 }
@@ -175,13 +175,13 @@ static void cuts(file system) {
     begin(cutters, system);
     memset(letters, 'z', sizeof letters);
     memset(bad_bytes, 0xff, sizeof bad_bytes);
-    for (size_t i = 0; i < ROWS(CUTS); i++) {
+    for (size_t i = 0; i < COUNT_OF(CUTS); i++) {
         size_t count = UNSET, at = UNSET;
         int64_t total = UNSET;
-        CHECK_ROW(CUTS[i].what, CUTS[i].call(&cutters[CUTS[i].cutter], CUTS[i].bytes,
-                                             CUTS[i].length, &count, &total, &at) == CUTS[i].code);
-        CHECK_ROW(CUTS[i].what,
-                  count == CUTS[i].count && total == CUTS[i].total && at == CUTS[i].at);
+        CHECK_CASE(CUTS[i].what, CUTS[i].call(&cutters[CUTS[i].cutter], CUTS[i].bytes,
+                                              CUTS[i].length, &count, &total, &at) == CUTS[i].code);
+        CHECK_CASE(CUTS[i].what,
+                   count == CUTS[i].count && total == CUTS[i].total && at == CUTS[i].at);
     }
     end(cutters);
 }
@@ -227,13 +227,13 @@ static uint32_t lend(kumquatsieve_cutter *cutter, lender lender, size_t number,
 static void lent(file system) {
     kumquatsieve_cutter cutters[CUTTERS];
     begin(cutters, system);
-    for (size_t i = 0; i < ROWS(LENT); i++) {
+    for (size_t i = 0; i < COUNT_OF(LENT); i++) {
         const uint8_t *text = &NOWHERE;
         size_t length = UNSET;
-        CHECK_ROW(LENT[i].what, lend(&cutters[LENT[i].cutter], LENT[i].lender, LENT[i].number,
-                                     &text, &length) == LENT[i].code);
-        CHECK_ROW(LENT[i].what,
-                  length == LENT[i].length && (text == &NOWHERE) == (length == UNSET));
+        CHECK_CASE(LENT[i].what, lend(&cutters[LENT[i].cutter], LENT[i].lender, LENT[i].number,
+                                      &text, &length) == LENT[i].code);
+        CHECK_CASE(LENT[i].what,
+                   length == LENT[i].length && (text == &NOWHERE) == (length == UNSET));
     }
     end(cutters);
 }
@@ -289,11 +289,11 @@ static uint32_t copy(kumquatsieve_cutter *cutter, copier copier, uint32_t number
 static void copied(file system) {
     kumquatsieve_cutter cutters[CUTTERS];
     begin(cutters, system);
-    for (size_t i = 0; i < ROWS(COPIED); i++) {
+    for (size_t i = 0; i < COUNT_OF(COPIED); i++) {
         size_t told = UNSET;
-        CHECK_ROW(COPIED[i].what, copy(&cutters[COPIED[i].cutter], COPIED[i].copier,
-                                       COPIED[i].number, COPIED[i].room, &told) == COPIED[i].code);
-        CHECK_ROW(COPIED[i].what, told == COPIED[i].told);
+        CHECK_CASE(COPIED[i].what, copy(&cutters[COPIED[i].cutter], COPIED[i].copier,
+                                        COPIED[i].number, COPIED[i].room, &told) == COPIED[i].code);
+        CHECK_CASE(COPIED[i].what, told == COPIED[i].told);
     }
     end(cutters);
 }
@@ -316,15 +316,15 @@ static const struct {
 static void texts(file system) {
     kumquatsieve_cutter cutters[CUTTERS];
     begin(cutters, system);
-    for (size_t i = 0; i < ROWS(TEXTS); i++) {
+    for (size_t i = 0; i < COUNT_OF(TEXTS); i++) {
         const uint8_t *out = &NOWHERE;
         size_t length = UNSET, given = strlen(TEXTS[i].text);
         uint64_t lines = UNSET;
-        CHECK_ROW(TEXTS[i].what,
-                  kumquatsieve_cut_lines(&cutters[TEXTS[i].cutter], BYTES(TEXTS[i].text), given,
-                                         &out, &length, &lines) == TEXTS[i].code);
-        CHECK_ROW(TEXTS[i].what, length == TEXTS[i].length && lines == TEXTS[i].lines &&
-                                     (out == &NOWHERE) == (length == UNSET));
+        CHECK_CASE(TEXTS[i].what,
+                   kumquatsieve_cut_lines(&cutters[TEXTS[i].cutter], BYTES(TEXTS[i].text), given,
+                                          &out, &length, &lines) == TEXTS[i].code);
+        CHECK_CASE(TEXTS[i].what, length == TEXTS[i].length && lines == TEXTS[i].lines &&
+                                      (out == &NOWHERE) == (length == UNSET));
     }
     end(cutters);
 }

@@ -1,7 +1,7 @@
 /* Huge pages are asked for the memory of a large image, and for nothing else: pages SYSTEM.img
    LARGE.img. The large image has more bytes than the threshold of capi/heap.c. Both have the
    sample's words. It prints how much of it stands in huge pages, in kB. */
-#include "check.h"
+#include "helpers.h"
 #include <errno.h>
 #include <malloc.h>
 
@@ -80,20 +80,20 @@ static const way WAYS[] = {{"copied", copied},
 static pages pages_of(const way *by, file image) {
     kumquatsieve_cutter cutter = kumquatsieve_empty();
     errno = BEFORE;
-    CHECK_ROW(by->what, by->load(&cutter, image) == KUMQUATSIEVE_OK && errno == BEFORE);
-    CHECK_ROW(by->what, cut(&cutter, LINE) == KUMQUATSIEVE_OK && prints(&cutter, PRINTED));
+    CHECK_CASE(by->what, by->load(&cutter, image) == KUMQUATSIEVE_OK && errno == BEFORE);
+    CHECK_CASE(by->what, cut(&cutter, LINE) == KUMQUATSIEVE_OK && prints(&cutter, PRINTED));
     pages found = pages_now();
     kumquatsieve_free(&cutter);
-    CHECK_ROW(by->what, pages_now().asked == 0);
+    CHECK_CASE(by->what, pages_now().asked == 0);
     return found;
 }
 
 static void asked_for_the_large_one(file system, file large) {
-    for (size_t i = 0; i < ROWS(WAYS); i++) {
-        CHECK_ROW(WAYS[i].what, pages_of(&WAYS[i], system).asked == 0);
+    for (size_t i = 0; i < COUNT_OF(WAYS); i++) {
+        CHECK_CASE(WAYS[i].what, pages_of(&WAYS[i], system).asked == 0);
         pages found = pages_of(&WAYS[i], large);
-        CHECK_ROW(WAYS[i].what,
-                  found.asked >= large.length / 1024 && found.asked <= 2 * large.length / 1024);
+        CHECK_CASE(WAYS[i].what,
+                   found.asked >= large.length / 1024 && found.asked <= 2 * large.length / 1024);
         printf("%s%s: %zu of %zu kB", i == 0 ? "" : ", ", WAYS[i].what, found.huge, found.asked);
     }
     puts("");
@@ -102,8 +102,8 @@ static void asked_for_the_large_one(file system, file large) {
 /* Without huge pages an image is loaded as well. */
 static void refused(file large) {
     refuses = true;
-    for (size_t i = 0; i < ROWS(WAYS); i++)
-        CHECK_ROW(WAYS[i].what, pages_of(&WAYS[i], large).asked == 0);
+    for (size_t i = 0; i < COUNT_OF(WAYS); i++)
+        CHECK_CASE(WAYS[i].what, pages_of(&WAYS[i], large).asked == 0);
     refuses = false;
 }
 
@@ -111,8 +111,8 @@ static void refused(file large) {
  * nothing. */
 static void in_the_heap(file large) {
     CHECK(mallopt(M_MMAP_MAX, 0) == 1);
-    for (size_t i = 0; i < ROWS(WAYS); i++)
-        CHECK_ROW(WAYS[i].what, pages_of(&WAYS[i], large).asked == 0);
+    for (size_t i = 0; i < COUNT_OF(WAYS); i++)
+        CHECK_CASE(WAYS[i].what, pages_of(&WAYS[i], large).asked == 0);
 }
 
 int main(int given, char **paths) {

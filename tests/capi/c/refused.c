@@ -2,7 +2,7 @@
    USER.img. The call whose growth was refused answers out of memory, the cutter answers the next
    call as it would have, and no block is left. A file that is mapped counts as a block. Linked with
    --wrap of malloc, realloc, free, mmap and munmap. */
-#include "check.h"
+#include "helpers.h"
 #include <errno.h>
 #include <sys/mman.h>
 
@@ -222,9 +222,9 @@ int main(int given, char **paths) {
     file system = read_file(paths[1]), user = read_file(paths[2]);
     void (*const all[])(file, file) = {run, run_over_a_dictionary, run_over_a_buffer,
                                        run_over_files};
-    long counts[ROWS(all)], sum = 0;
-    for (size_t i = 0; i < ROWS(all); i++) sum += counts[i] = growths_of(all[i], system, user);
-    for (size_t i = 0; i < ROWS(all); i++)
+    long counts[COUNT_OF(all)], sum = 0;
+    for (size_t i = 0; i < COUNT_OF(all); i++) sum += counts[i] = growths_of(all[i], system, user);
+    for (size_t i = 0; i < COUNT_OF(all); i++)
         CHECK(refuse_each(all[i], system, user, counts[i]) == counts[i]);
     printf("refused: %ld growths; each one that was refused ended its call, and no block is left\n",
            sum);

@@ -1,7 +1,7 @@
 /* Rows of images that are loaded, of users, of formats and groupings, and of cutters that share:
    settings SYSTEM.img USER.img SECOND.img, the images of the sample's sources and of users who give
    もも another feature and cost. */
-#include "check.h"
+#include "helpers.h"
 
 #define UNSET 77
 #define USERS_MOMO "もも\t名詞,ユーザ\nEOS\n"
@@ -38,18 +38,18 @@ static void refused_systems(file system, file user) {
     };
     kumquatsieve_cutter cutter = loaded(system), empty = kumquatsieve_empty();
     CHECK(cut(&cutter, "もも") == KUMQUATSIEVE_OK);
-    for (size_t i = 0; i < ROWS(rows); i++) {
+    for (size_t i = 0; i < COUNT_OF(rows); i++) {
         uint64_t number = UNSET;
-        CHECK_ROW(rows[i].what, kumquatsieve_load(&empty, rows[i].image.bytes, rows[i].image.length,
-                                                  &number) == rows[i].code);
-        CHECK_ROW(rows[i].what,
-                  number == rows[i].number && cut(&empty, "z") == KUMQUATSIEVE_EMPTY_CUTTER);
+        CHECK_CASE(rows[i].what, kumquatsieve_load(&empty, rows[i].image.bytes,
+                                                   rows[i].image.length, &number) == rows[i].code);
+        CHECK_CASE(rows[i].what,
+                   number == rows[i].number && cut(&empty, "z") == KUMQUATSIEVE_EMPTY_CUTTER);
         if (rows[i].code == KUMQUATSIEVE_NOT_SYSTEM) continue;
         number = UNSET;
-        CHECK_ROW(rows[i].what,
-                  kumquatsieve_add_user(&cutter, rows[i].image.bytes, rows[i].image.length,
-                                        &number) == rows[i].code);
-        CHECK_ROW(rows[i].what, number == rows[i].number && prints(&cutter, MOMO));
+        CHECK_CASE(rows[i].what,
+                   kumquatsieve_add_user(&cutter, rows[i].image.bytes, rows[i].image.length,
+                                         &number) == rows[i].code);
+        CHECK_CASE(rows[i].what, number == rows[i].number && prints(&cutter, MOMO));
     }
     uint64_t number = UNSET;
     CHECK(kumquatsieve_load(&cutter, system.bytes, system.length, &number) ==
@@ -151,14 +151,14 @@ static uint32_t set_format(kumquatsieve_cutter *cutter, const char *const texts[
 static void refused_formats(file system) {
     kumquatsieve_cutter cutter = loaded(system);
     CHECK(cut(&cutter, "もも") == KUMQUATSIEVE_OK);
-    for (size_t i = 0; i < ROWS(REFUSED_FORMATS); i++) {
+    for (size_t i = 0; i < COUNT_OF(REFUSED_FORMATS); i++) {
         uint32_t part = 9;
         size_t at = 99;
-        CHECK_ROW(REFUSED_FORMATS[i].what, set_format(&cutter, REFUSED_FORMATS[i].texts, &part,
-                                                      &at) == REFUSED_FORMATS[i].code);
-        CHECK_ROW(REFUSED_FORMATS[i].what, part == REFUSED_FORMATS[i].part &&
-                                               at == REFUSED_FORMATS[i].at &&
-                                               prints(&cutter, MOMO));
+        CHECK_CASE(REFUSED_FORMATS[i].what, set_format(&cutter, REFUSED_FORMATS[i].texts, &part,
+                                                       &at) == REFUSED_FORMATS[i].code);
+        CHECK_CASE(REFUSED_FORMATS[i].what, part == REFUSED_FORMATS[i].part &&
+                                                at == REFUSED_FORMATS[i].at &&
+                                                prints(&cutter, MOMO));
     }
     kumquatsieve_free(&cutter);
 }
@@ -174,13 +174,13 @@ static const struct {
 static void formats(file system) {
     kumquatsieve_cutter cutter = loaded(system);
     CHECK(cut(&cutter, "もz") == KUMQUATSIEVE_OK);
-    for (size_t i = 0; i < ROWS(FORMATS); i++) {
+    for (size_t i = 0; i < COUNT_OF(FORMATS); i++) {
         uint32_t part = 9;
         size_t at = 99;
-        CHECK_ROW(FORMATS[i].what,
-                  set_format(&cutter, FORMATS[i].texts, &part, &at) == KUMQUATSIEVE_OK &&
-                      part == 9 && at == 99);
-        CHECK_ROW(FORMATS[i].what, prints(&cutter, FORMATS[i].output));
+        CHECK_CASE(FORMATS[i].what,
+                   set_format(&cutter, FORMATS[i].texts, &part, &at) == KUMQUATSIEVE_OK &&
+                       part == 9 && at == 99);
+        CHECK_CASE(FORMATS[i].what, prints(&cutter, FORMATS[i].output));
     }
     CHECK(cut(&cutter, LINE) == KUMQUATSIEVE_OK);
     CHECK(set_texts(&cutter, "%m ", "%m ", "", "\\n") == KUMQUATSIEVE_OK &&
@@ -209,15 +209,15 @@ static void groupings(file system) {
     const uint8_t *text = NULL;
     size_t length = 0;
     CHECK(set_texts(&cutter, "%m|", "%m|", "", "") == KUMQUATSIEVE_OK);
-    for (size_t i = 0; i < ROWS(GROUPINGS); i++) {
-        CHECK_ROW(GROUPINGS[i].what,
-                  kumquatsieve_set_grouping(&cutter, GROUPINGS[i].grouping) == GROUPINGS[i].code);
+    for (size_t i = 0; i < COUNT_OF(GROUPINGS); i++) {
+        CHECK_CASE(GROUPINGS[i].what,
+                   kumquatsieve_set_grouping(&cutter, GROUPINGS[i].grouping) == GROUPINGS[i].code);
         if (GROUPINGS[i].code == KUMQUATSIEVE_OK) {
-            CHECK_ROW(GROUPINGS[i].what,
-                      kumquatsieve_print(&cutter, &text, &length) == KUMQUATSIEVE_NOTHING_CUT);
+            CHECK_CASE(GROUPINGS[i].what,
+                       kumquatsieve_print(&cutter, &text, &length) == KUMQUATSIEVE_NOTHING_CUT);
         }
-        CHECK_ROW(GROUPINGS[i].what,
-                  cut(&cutter, "zzz") == KUMQUATSIEVE_OK && prints(&cutter, GROUPINGS[i].output));
+        CHECK_CASE(GROUPINGS[i].what,
+                   cut(&cutter, "zzz") == KUMQUATSIEVE_OK && prints(&cutter, GROUPINGS[i].output));
     }
     CHECK(kumquatsieve_set_grouping(&cutter, 1001) == KUMQUATSIEVE_BAD_GROUPING &&
           prints(&cutter, "zzz|"));

@@ -1,6 +1,6 @@
 /* Four threads, each with a cutter of its own over shared dictionaries, cut the lines of a file:
    threads IMG LINES. Their texts are the same, and are written once. */
-#include "check.h"
+#include "helpers.h"
 #include <pthread.h>
 
 typedef struct work {

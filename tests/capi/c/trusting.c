@@ -3,7 +3,7 @@
    every rule. SWAP names two folders, of which the second takes the first one's name once a file
    was opened in that. Linked with --wrap=openat. */
 #define _GNU_SOURCE
-#include "check.h"
+#include "helpers.h"
 #include <fcntl.h>
 #include <stdarg.h>
 

@@ -2,7 +2,7 @@
    read of IMG before, its sizes and its settings, doesn't go with OTHER. And an image that is
    changed again and again is rejected after some tries. Linked with
    -Wl,--wrap=kumquatsieve_open. */
-#include "check.h"
+#include "helpers.h"
 #include <fcntl.h>
 #include <kumquatsieve.h>
 #include <sys/stat.h>

@@ -1,7 +1,7 @@
 // Calls each function of MeCab's classes over the sample's dictionary: classes IMG. Each answers as
 // the call of C does that it stands over, and what is left out answers nullptr, 0 or false, and
 // says so.
-#include "check.h"
+#include "helpers.h"
 #include <cstring>
 #include <string>
 

@@ -1,7 +1,7 @@
 /* Makes a model, a tagger and a lattice, and cuts with them: growths IMG OPTIONS. Each growth of
    the heap is refused in turn; what can't be done then is said, with status 1, and the rest is as
    it would be. */
-#include "check.h"
+#include "helpers.h"
 
 static const char SENTENCE[] = "すもももも\xff もも";
 

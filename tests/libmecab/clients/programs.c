@@ -1,6 +1,6 @@
 /* Makes one of the calls that are whole programs of MeCab's, with the words that follow its name:
  * programs mecab_do WORD.. */
-#include "check.h"
+#include "helpers.h"
 
 static const struct {
     const char *name;
@@ -16,7 +16,7 @@ static const struct {
 
 int main(int given, char **words) {
     CHECK(given >= 2);
-    for (size_t i = 0; i < sizeof CALLS / sizeof *CALLS; i++) {
+    for (size_t i = 0; i < COUNT_OF(CALLS); i++) {
         if (strcmp(CALLS[i].name, words[1]) == 0) return CALLS[i].call(given - 1, words + 1);
     }
     fprintf(stderr, "programs: no call %s\n", words[1]);

@@ -2,7 +2,7 @@
    system but for a feature of もも. OTHER takes the place of IMG. Other rules for ids of parts of
    speech give other ids of one image, and rules that name another image give those of no rules.
    Under valgrind a read of what is freed is an error. */
-#include "check.h"
+#include "helpers.h"
 #include <stdbool.h>
 #include <unistd.h>
 

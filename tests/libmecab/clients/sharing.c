@@ -1,5 +1,5 @@
 /* What models, taggers and threads share of the sample's dictionary: sharing IMG. */
-#include "check.h"
+#include "helpers.h"
 #include <errno.h>
 #include <fcntl.h>
 #include <pthread.h>

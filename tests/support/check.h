@@ -1,11 +1,11 @@
-/* What the programs over the sample's dictionary share. */
+/* Checks for test programs in C and C++. The first check that fails ends the program with status 1
+   and a message on standard error. */
 #ifndef CHECK_H
 #define CHECK_H
-#include <mecab.h>
 #include <stdio.h>
 #include <stdlib.h>
-#include <string.h>
 
+/* Checks that a condition holds. */
 #define CHECK(holds)                                                                               \
     do {                                                                                           \
         if (!(holds)) {                                                                            \
@@ -14,26 +14,15 @@
         }                                                                                          \
     } while (0)
 
-/* The same of a row of a table, by its name. */
-#define CHECK_ROW(what, holds)                                                                     \
+/* Checks that a condition holds in the test case `name`, which the message has. */
+#define CHECK_CASE(name, holds)                                                                    \
     do {                                                                                           \
         if (!(holds)) {                                                                            \
-            fprintf(stderr, "%s:%d: %s: %s\n", __FILE__, __LINE__, what, #holds);                  \
+            fprintf(stderr, "%s:%d: %s: %s\n", __FILE__, __LINE__, name, #holds);                  \
             exit(1);                                                                               \
         }                                                                                          \
     } while (0)
 
-__attribute__((unused)) static const char LINE[] = "すもももも";
-__attribute__((unused)) static const char PRINTED[] = "すもも\t名詞,すもも\nもも\t名詞,もも\nEOS\n";
-__attribute__((unused)) static const char WAKATI[] = "すもも もも \n";
-
-/* The options that name the dictionary, and more of them; valid until the next call. */
-static inline char *words_of(const char *dictionary, const char *more) {
-    static char line[4096];
-    snprintf(line, sizeof line, "-d %s %s", dictionary, more);
-    return line;
-}
-
-static inline int is_left_out(const char *said) { return strstr(said, "not supported") != NULL; }
-
+/* The number of elements of an array, such as a table of test cases. */
+#define COUNT_OF(table) (sizeof(table) / sizeof *(table))
 #endif

@@ -1,31 +1,12 @@
 /* What the C programs of tests/capi/run.py share. With HOW they open images by their paths, and HOW
    is the argument `how`. Without it they load copies of the bytes. */
-#ifndef CHECK_H
-#define CHECK_H
+#ifndef HELPERS_H
+#define HELPERS_H
+#include "../../support/check.h"
 #include <kumquatsieve.h>
 #include <stdio.h>
 #include <stdlib.h>
 #include <string.h>
-
-#define CHECK(holds)                                                                               \
-    do {                                                                                           \
-        if (!(holds)) {                                                                            \
-            fprintf(stderr, "%s:%d: %s\n", __FILE__, __LINE__, #holds);                            \
-            exit(1);                                                                               \
-        }                                                                                          \
-    } while (0)
-
-/* The same of a row of a table, by its name. */
-#define CHECK_ROW(what, holds)                                                                     \
-    do {                                                                                           \
-        if (!(holds)) {                                                                            \
-            fprintf(stderr, "%s:%d: %s: %s\n", __FILE__, __LINE__, what, #holds);                  \
-            exit(1);                                                                               \
-        }                                                                                          \
-    } while (0)
-
-/* How many rows a table has. */
-#define ROWS(table) (sizeof(table) / sizeof *(table))
 
 /* A text as bytes, without the zero at its end. */
 #define BYTES(text) ((const uint8_t *)(text))
