@@ -1,8 +1,8 @@
-/* The toolchain's heap over C's, with huge pages for large blocks. An image is read at places far
-   from each other, and with small pages most of these reads wait for the translation of an address
-   first. packaging/build-heap has the toolchain's heap call these two in place of malloc and
-   realloc; free serves the blocks of both. Nothing is kept of a block, so there is nothing to lock,
-   and nothing that a fork could break. */
+/* malloc and realloc with huge pages for large blocks. An image is read at random positions, and
+   with small pages most of these reads wait for the translation of an address. packaging/build-heap
+   makes the toolchain's heap call these two functions in place of malloc and realloc. free works
+   for their blocks. Nothing is stored about a block, so there is nothing to lock, and a fork is
+   safe. */
 #include <errno.h>
 #include <stdbool.h>
 #include <stddef.h>
@@ -15,19 +15,18 @@
 void *large_malloc(size_t size);
 void *large_realloc(void *block, size_t size);
 
-/* Both are in bytes. From LARGE on glibc maps each block for itself, except where its heap has so
-   much room already. Such a mapping begins HEADER before the block. */
+/* In bytes. glibc maps a block of LARGE bytes or more separately, unless its heap has so much room
+   already. Such a mapping starts HEADER before the block. */
 static const size_t LARGE = (size_t)32 << 20;
 enum { HEADER = 16 };
 
-/* glibc keeps the room of a block in the word before it, with three flags: this one alone is set
- * where it has mapped the block for itself. */
+/* glibc stores the size of a block in the word before it, with flags in the lowest three bits. Only
+   MAPPED is set if the block is mapped separately. */
 enum { FLAGS = 7, MAPPED = 2 };
 
-/* Whether glibc has mapped a block for itself. Among the program's own memory the request would
-   outlive the block, and change that memory's pages. Where the block stands HEADER behind the
-   beginning of a page, the word before it is in that page, so it can be read, whoever's malloc this
-   is. */
+/* Whether glibc has mapped a block separately. In other memory the request for huge pages would
+   outlive the block. If the block starts HEADER after the start of a page, the word before it is in
+   that page, so it can be read even if malloc is not glibc's. */
 static bool is_mapped_alone(const void *block) {
     size_t before;
     if ((uintptr_t)block % (size_t)sysconf(_SC_PAGESIZE) != HEADER) return false;
@@ -36,8 +35,8 @@ static bool is_mapped_alone(const void *block) {
 }
 
 /* Asks for huge pages for the whole mapping of a large block, before its bytes are touched. For a
-   part alone the kernel would split the mapping, and then it can't move it where the block grows.
-   Where the kernel refuses the request, all is the same with small pages, and slower. */
+   part of it the kernel would split the mapping, and could not move it when the block grows. If the
+   request fails, the block has small pages and is slower. Returns the block. */
 static void *with_huge_pages(void *block, size_t size) {
     if (!block || size < LARGE || !is_mapped_alone(block)) return block;
     int before = errno;

@@ -1,12 +1,12 @@
-/* Dictionaries that many cutters have: a base, which is a cutter that never cuts, and the count of
-   who holds it. The calls of a cutter are for one thread at a time, so a base is shared under a
-   lock, which is held for as long as a count takes to rise. */
+/* Dictionaries for many cutters. Each one is a base, which is a cutter that never segments, and a
+   count of its holders. One thread at a time may call a cutter, so a base is shared under a lock,
+   which is held only while a count changes. */
 #include <kumquatsieve.h>
 #include <pthread.h>
 #include <stdlib.h>
 #include <string.h>
 
-/* What a cutter begins with, as kumquatsieve_load fills it. */
+/* The default format and grouping, which kumquatsieve_load sets. */
 static const char WORD[] = "%m\\t%H\\n", LINE_END[] = "EOS\\n";
 
 enum { GROUPING = 24 };
@@ -22,15 +22,16 @@ static void lock(void) { pthread_mutex_lock(&shared); }
 
 static void unlock(void) { pthread_mutex_unlock(&shared); }
 
-/* A child has the forking thread alone: what another one had locked would stay so. What is noted
-   first is locked last at a fork. So this is noted before whatever else is linked in, whose locks
-   may be held while this one is taken, as those of libmecab are. Only the lock of mapping.c, which
-   is taken under this one, is noted earlier; no program may be earlier than 101. */
+/* Holds the lock during a fork. Otherwise a child, which has only the forking thread, could start
+   with a lock that another thread held. A fork locks in the reverse order of registration. So this
+   lock is registered before those of other libraries, such as libmecab, which may be held while it
+   is taken. The lock of mapping.c is taken under this one and registered before it. Constructors
+   with priorities below 101 are reserved. */
 __attribute__((constructor(102))) static void keep_over_forks(void) {
     pthread_atfork(lock, unlock, unlock);
 }
 
-/* Loads an image, the first one as the system's. */
+/* Loads an image: the first one as the system dictionary, others as user dictionaries. */
 static uint32_t load(kumquatsieve_cutter *base, const kumquatsieve_image *image, bool is_first,
                      unsigned how, uint64_t *number) {
     bool skip = how & KUMQUATSIEVE_SKIP_DIGEST;
@@ -38,7 +39,7 @@ static uint32_t load(kumquatsieve_cutter *base, const kumquatsieve_image *image,
                     : kumquatsieve_add_user_by(base, image->bytes, image->length, skip, number);
 }
 
-/* Loads images up to the first that is refused, whose number is told. */
+/* Loads images up to the first one that is rejected. Sets *image to the number of that one. */
 static uint32_t load_all(kumquatsieve_cutter *base, const kumquatsieve_image *images, size_t count,
                          unsigned how, size_t *image, uint64_t *number) {
     uint32_t code = KUMQUATSIEVE_OK;
@@ -68,8 +69,7 @@ uint32_t kumquatsieve_dictionary_make(kumquatsieve_dictionary **dictionary,
     return code;
 }
 
-/* Fills a base with the dictionaries of a cutter alone: its format and its grouping are those that
- * a cutter begins with. */
+/* Fills a base with the dictionaries of a cutter, the default format and the default grouping. */
 static uint32_t share_plain(kumquatsieve_cutter *base, kumquatsieve_cutter *cutter) {
     const uint8_t *word = (const uint8_t *)WORD, *end = (const uint8_t *)LINE_END;
     size_t length = strlen(WORD);

@@ -1,9 +1,9 @@
-/* What the state of a file says. */
+/* The state of files. */
 #include "library.h"
 #include <sys/syscall.h>
 #include <unistd.h>
 
-/* On this machine the kernel's struct stat is that of glibc. */
+/* On x86-64 glibc's struct stat has the layout of the kernel's. */
 int state_of(int file, struct stat *of) {
 #ifdef __x86_64__
     return (int)syscall(SYS_fstat, file, of);

@@ -1,13 +1,13 @@
-/* Files that are mapped, each of them once in a process, and the lists of them that cutters have.
-   docs/LIBRARY.md says what that asks of the files. */
+/* Mapped files, each mapped once in a process, and the lists of them that cutters have.
+   docs/LIBRARY.md has the rules for such files. */
 #include "library.h"
 #include <errno.h>
 #include <pthread.h>
 #include <stdlib.h>
 #include <sys/mman.h>
 
-/* A file that is mapped, as it was when it was mapped, and how many entries of lists it has. While
-   it is mapped no other file gets its inode. */
+/* A mapped file, its state when it was mapped, and how many entries of lists have it. While it is
+   mapped no other file gets its inode. */
 typedef struct mapping {
     struct mapping *next;
     struct stat of;
@@ -15,16 +15,16 @@ typedef struct mapping {
     size_t entries;
 } mapping;
 
-/* An entry of lists: a file, those that were mapped before it, and how many cutters and entries
-   have this one. */
+/* An entry of lists: a file, the entry of the files that were mapped before it, and how many
+   cutters and entries have this entry. */
 struct kumquatsieve_mapped {
     mapping *file;
     struct kumquatsieve_mapped *others;
     size_t holders;
 };
 
-/* All files that are mapped. They and all counts are read and written under the lock. No memory is
-   asked for under it, so it can't be held by a thread that waits for the lock of an allocator. */
+/* All mapped files. They and all counts are read and written under the lock. Nothing is allocated
+   under it, so no thread that holds it waits for the lock of an allocator. */
 static mapping *mappings;
 static pthread_mutex_t registry = PTHREAD_MUTEX_INITIALIZER;
 
@@ -32,9 +32,8 @@ static void lock(void) { pthread_mutex_lock(&registry); }
 
 static void unlock(void) { pthread_mutex_unlock(&registry); }
 
-/* A child has the forking thread alone: what another one had locked would stay so. What is noted
-   first is locked last at a fork. This lock is taken while that of dictionary.c is held, so it is
-   noted before it. */
+/* Holds the lock during a fork, as dictionary.c does. This lock is taken while the lock of
+   dictionary.c is held, so it is registered before that one, and locked after it. */
 __attribute__((constructor(101))) static void keep_over_forks(void) {
     pthread_atfork(lock, unlock, unlock);
 }
@@ -46,8 +45,8 @@ static mapping *find(const struct stat *of) {
     return NULL;
 }
 
-/* Maps a file that no one has mapped. If it was changed after `of` was asked for, its length may be
-   another one by now, and a byte after its end can't be read. */
+/* Maps a file that isn't mapped yet. Returns 0 or an errno. Returns ENODEV if the file has changed
+   since its state was read: it may be shorter now, and bytes after its end can't be read. */
 static int map_new(int file, mapping *fresh) {
     struct stat now;
     size_t length = (size_t)fresh->of.st_size;
@@ -64,7 +63,7 @@ static int map_new(int file, mapping *fresh) {
     return 0;
 }
 
-/* Gives an entry its file, which is mapped as `fresh` unless the process has it. Returns 0 or an
+/* Sets the file of an entry: the mapped one, or `fresh`, which is mapped then. Returns 0 or an
    errno. */
 static int map_entry(int file, mapping *fresh, struct kumquatsieve_mapped *entry) {
     mapping *found = find(&fresh->of);
@@ -100,8 +99,8 @@ loan mapped_bytes(const struct kumquatsieve_mapped *list) {
     return (loan){list->file->at, (size_t)list->file->of.st_size};
 }
 
-/* Takes an entry away from its file. Returns the file if that was its last entry: nobody finds it
-   any more. The lock is the caller's. */
+/* Removes an entry from its file. If that was the last one, removes the file from the mapped ones
+   and returns it. The caller holds the lock. */
 static mapping *leave(mapping *file) {
     if (--file->entries > 0) return NULL;
     mapping **at = &mappings;

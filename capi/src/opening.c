@@ -1,4 +1,4 @@
-/* The calls that open image files, and those of a cutter that carry its mapped files along. */
+/* The calls that open image files, and those that share or free the mapped files of a cutter. */
 #include "library.h"
 #include <errno.h>
 #include <fcntl.h>
@@ -11,7 +11,7 @@ enum {
     ALL_HOW = KUMQUATSIEVE_SKIP_DIGEST | KUMQUATSIEVE_TEST_DIGEST | KUMQUATSIEVE_COPY,
 };
 
-/* What a call was asked for. `number` is not null. */
+/* The arguments of a call. `number` is not NULL. */
 typedef struct request {
     kumquatsieve_cutter *cutter;
     bool is_user;
@@ -19,8 +19,8 @@ typedef struct request {
     uint64_t *number;
 } request;
 
-/* An image file that is open. Each descriptor is -1 if there is none. `name` was opened in the
-   directory, which is only kept to look for a record, and is no link then. */
+/* An open image file. A descriptor is -1 if there is none. `directory` is only open to look for a
+   record; the file is then `name` in it, and no link. */
 typedef struct opened {
     int directory;
     int file;
@@ -50,7 +50,7 @@ static int open_directory(const char *path, size_t length) {
     return open(length > 0 ? directory : ".", O_PATH | O_DIRECTORY | O_CLOEXEC);
 }
 
-/* Opens a file that is no link by way of its directory. Returns 0 or an errno. */
+/* Opens the directory of a file, and the file in it. Returns 0, or an errno: ELOOP for a link. */
 static int open_in_directory(const char *path, opened *to) {
     to->directory = open_directory(path, (size_t)(to->name - path));
     if (to->directory < 0) return errno;
@@ -58,8 +58,8 @@ static int open_in_directory(const char *path, opened *to) {
     return to->file >= 0 ? 0 : errno;
 }
 
-/* Opens a file, without its directory if no record is wanted or if it is a link. Returns 0 or an
-   errno. An open that a signal interrupted, as of a pipe, is not repeated. */
+/* Opens a file, and its directory if a record is wanted and the file is no link. Returns 0 or an
+   errno. An open that a signal interrupts, as of a pipe, is not repeated. */
 static int open_file(const char *path, bool wants_record, opened *to) {
     const char *slash = strrchr(path, '/');
     to->name = slash ? slash + 1 : path;
@@ -70,7 +70,7 @@ static int open_file(const char *path, bool wants_record, opened *to) {
     return to->file >= 0 ? 0 : errno;
 }
 
-/* Loads an image that is mapped. */
+/* Loads a mapped image, without tests if it has a record. */
 static uint32_t load_mapped(const opened *from, const request *to, loan image) {
     bool skip = !(to->how & KUMQUATSIEVE_TEST_DIGEST);
     bool is_tested =
@@ -107,10 +107,10 @@ static uint32_t read_and_load(const opened *from, const request *to) {
                        : kumquatsieve_load_buffer(to->cutter, &whole, skip, to->number);
 }
 
-/* Loads an image whose header was judged. A file of the length that the header names is mapped. */
+/* Loads an image with a valid header. A regular file with the length in the header is mapped. */
 static uint32_t load_opened(const opened *from, const request *to) {
-    bool is_whole =
-        from->first.length == HEADER_LENGTH && (uint64_t)from->of.st_size == from->first.told;
+    bool is_whole = from->first.length == HEADER_LENGTH &&
+                    (uint64_t)from->of.st_size == from->first.image_length;
     bool is_mapped = S_ISREG(from->of.st_mode) && is_whole && !(to->how & KUMQUATSIEVE_COPY);
     uint32_t code = KUMQUATSIEVE_OK;
     if (is_mapped && map_and_load(from, to, &code) == 0) return code;
@@ -163,7 +163,7 @@ void kumquatsieve_free(kumquatsieve_cutter *cutter) {
     cutter->mapped = NULL;
 }
 
-/* The core knows all codes but that of a file. */
+/* The core has the names of all codes but KUMQUATSIEVE_FILE. */
 uint32_t(kumquatsieve_fault)(uint32_t code, uint8_t *out, size_t room, size_t *needed) {
     static const char TEXT[] = "F1 File";
     if (code != KUMQUATSIEVE_FILE) return proved_fault(code, out, room, needed);

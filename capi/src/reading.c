@@ -1,6 +1,6 @@
-/* Images that are read: the header of each one, and the rest of those that can't be mapped. The
-   header is judged before the rest is read, so a wrong file of any length is rejected at once.
-   docs/FORMAT.md has its layout. */
+/* Reads the header of an image, and the rest of one that can't be mapped. The header is judged
+   before the rest is read, so a wrong file of any length is rejected at once. docs/FORMAT.md has
+   its layout. */
 #include "library.h"
 #include <endian.h>
 #include <errno.h>
@@ -37,17 +37,17 @@ static uint64_t number_at(const uint8_t *bytes, size_t size) {
     return le64toh(number);
 }
 
-/* Sums up the length of the whole image. Returns false if no image is so long. */
+/* Sets the length of the whole image. Returns false if it exceeds 64 bits. */
 static bool sum_lengths(header *of) {
-    of->told = HEADER_LENGTH + (of->layout == LAYOUT_NEWEST ? DIGEST_LENGTH : 0);
+    of->image_length = HEADER_LENGTH + (of->layout == LAYOUT_NEWEST ? DIGEST_LENGTH : 0);
     for (size_t section = 0; section < SECTIONS; section++) {
         uint64_t length = number_at(of->bytes + LENGTHS_AT + 8 * section, 8);
-        if (__builtin_add_overflow(of->told, length, &of->told)) return false;
+        if (__builtin_add_overflow(of->image_length, length, &of->image_length)) return false;
     }
     return true;
 }
 
-/* Returns how long a file is, or UINT64_MAX if that isn't known: some file systems report 0 for a
+/* Returns the length of a file, or UINT64_MAX if it is unknown: some file systems report 0 for a
    regular file that has bytes. */
 static uint64_t known_length(const struct stat *file) {
     bool is_known = S_ISREG(file->st_mode) && file->st_size >= HEADER_LENGTH;
@@ -64,14 +64,14 @@ uint32_t judge_header(header *of, const struct stat *file, uint64_t *number) {
         return KUMQUATSIEVE_BAD_LAYOUT;
     }
     if (!sum_lengths(of)) return KUMQUATSIEVE_TRUNCATED;
-    if (length == UINT64_MAX || length == of->told) return KUMQUATSIEVE_OK;
-    if (length < of->told) return KUMQUATSIEVE_TRUNCATED;
+    if (length == UINT64_MAX || length == of->image_length) return KUMQUATSIEVE_OK;
+    if (length < of->image_length) return KUMQUATSIEVE_TRUNCATED;
     *number = AFTER_SECTIONS;
     return KUMQUATSIEVE_BAD_SECTION;
 }
 
-/* Reads on until the file ends, or has more bytes than `most`; `length` is how many were read
-   before. Returns 0 or an errno. */
+/* Appends the rest of a file, of which `length` bytes were read. Stops when more than `most` bytes
+   were read in all. Returns 0 or an errno. */
 static int read_past(int file, uint64_t length, uint64_t most, kumquatsieve_buffer *whole) {
     ssize_t got = 1;
     int error = 0;
@@ -89,12 +89,13 @@ static int read_past(int file, uint64_t length, uint64_t most, kumquatsieve_buff
     return error;
 }
 
-/* Room for all bytes is asked for at once if the length is known, so that none is moved. */
+/* Allocates room for all bytes at once if the length is known, so that none is moved. */
 int read_rest(int file, const header *first, const struct stat *of, kumquatsieve_buffer *whole) {
     bool is_short = first->length < HEADER_LENGTH;
-    bool is_known = !is_short && known_length(of) == first->told && first->told < SIZE_MAX;
-    size_t room = is_known ? (size_t)first->told : first->length;
+    bool is_known =
+        !is_short && known_length(of) == first->image_length && first->image_length < SIZE_MAX;
+    size_t room = is_known ? (size_t)first->image_length : first->length;
     uint32_t code = kumquatsieve_buffer_append(whole, room, first->bytes, first->length);
     if (code != KUMQUATSIEVE_OK) return ENOMEM;
-    return is_short ? 0 : read_past(file, first->length, first->told, whole);
+    return is_short ? 0 : read_past(file, first->length, first->image_length, whole);
 }

@@ -1,6 +1,6 @@
-/* Records of images that passed all tests. Whoever can write a record that is believed can make
-   this process read outside an image, so a record is believed only if nobody but root and the
-   effective user can have written it, or the image. docs/LIBRARY.md has the rules for users. */
+/* Records of images that passed all tests. A false record could make this process read outside an
+   image. So a record is believed only if nobody but root and the effective user can have written it
+   or the image. docs/LIBRARY.md has the rules for users. */
 #include "library.h"
 #include <fcntl.h>
 #include <inttypes.h>
@@ -15,12 +15,12 @@
 
 static const char IMAGE_END[] = ".img", RECORD_END[] = ".tested";
 
-/* A record ends with `sha256 `, so many digits and a line feed. All of its text has less than
+/* A record ends with `sha256 `, DIGITS digits and a line feed. The whole text has less than
    RECORD_MOST bytes. */
 enum { DIGITS = 64, RECORD_MOST = 512, LAYOUT_RECORDED = 3 };
 
-/* File systems of this machine's own disks or memory, which keep owners, inodes and times as they
-   were set here; by the number that statfs returns. */
+/* The numbers that statfs returns for file systems on local disks or in memory, which keep owners,
+   inodes and times as they were set here. */
 static const uint32_t LOCAL[] = {
     0xef53,     /* ext2, ext3, ext4 */
     0x58465342, /* XFS */
@@ -33,9 +33,8 @@ static const uint32_t LOCAL[] = {
     0xe0f5e1e2, /* EROFS */
 };
 
-/* Whether a file lies on such a file system, which isn't mounted nosuid either: a medium that a
-   stranger made may show any owner, any inode and any time, and is mounted nosuid for the same
-   reason. */
+/* Whether a file is on such a file system, which isn't mounted nosuid either. A medium that a
+   stranger made may show any owner, inode and time, and is mounted nosuid for the same reason. */
 static bool is_local(int file) {
     struct statfs on;
     if (fstatfs(file, &on) != 0 || (on.f_flags & ST_NOSUID) != 0) return false;
@@ -45,13 +44,13 @@ static bool is_local(int file) {
     return false;
 }
 
-/* Whether an open file or directory can have been written by root and the effective user alone. */
+/* Whether only root and the effective user can have written an open file or directory. */
 static bool is_own(int file, const struct stat *of) {
     bool is_owner = of->st_uid == 0 || of->st_uid == geteuid();
     return is_owner && (of->st_mode & (S_IWGRP | S_IWOTH)) == 0 && is_local(file);
 }
 
-/* Writes the name of the record of an image. Returns false if there is no room for it. */
+/* Writes the name of the record of the image file `image`. Returns false if it is too long. */
 static bool name_record(const char *image, char *name, size_t room) {
     size_t length = strlen(image), end = strlen(IMAGE_END);
     bool is_cut = length > end && strcmp(image + length - end, IMAGE_END) == 0;
@@ -60,8 +59,8 @@ static bool name_record(const char *image, char *name, size_t room) {
     return written > 0 && (size_t)written < room;
 }
 
-/* Writes the text that a record of this image has before the digits of its checksum. Returns its
-   length. */
+/* Writes the text of a record for an image in the state `of`, up to the digits of its checksum.
+   Returns its length, or 0 if it is too long. */
 static size_t expect(const struct stat *of, char *text, size_t room) {
     int written =
         snprintf(text, room,
@@ -73,7 +72,7 @@ static size_t expect(const struct stat *of, char *text, size_t room) {
     return written > 0 && (size_t)written < room ? (size_t)written : 0;
 }
 
-/* Whether a record has exactly the text that its image asks for. */
+/* Whether `text` is exactly the text of a record for an image in the state `of`. */
 static bool is_record_of(const char *text, size_t length, const struct stat *of) {
     char wanted[RECORD_MOST];
     size_t start = expect(of, wanted, sizeof wanted);
@@ -82,7 +81,7 @@ static bool is_record_of(const char *text, size_t length, const struct stat *of)
     return strspn(text + start, "0123456789abcdef") == DIGITS && text[length - 1] == '\n';
 }
 
-/* Whether an open record is one of this image that can be believed. */
+/* Whether an open record is for an image in the state `image`, and can be believed. */
 static bool is_believed(int record, const struct stat *image) {
     char text[RECORD_MOST + 1];
     struct stat of;
@@ -93,7 +92,7 @@ static bool is_believed(int record, const struct stat *image) {
     return is_record_of(text, (size_t)got, image);
 }
 
-/* A record that is a pipe or a device isn't waited for. */
+/* Whether there is such a record beside the image `name`. Doesn't wait for a pipe or a device. */
 static bool is_recorded(int directory, const char *name, const struct stat *of) {
     char record_name[NAME_MAX + 1];
     if (!name_record(name, record_name, sizeof record_name)) return false;
