@@ -1,5 +1,5 @@
-/* kumquatsieve-cut: what its parts have in common. Standard input is cut by N threads over one
-   dictionary, and what is written is what jseg writes. */
+/* kumquatsieve-cut: declarations that its files share. N threads segment standard input over one
+   dictionary, and write the bytes that jseg writes. */
 #ifndef CUT_H
 #define CUT_H
 #define _GNU_SOURCE
@@ -16,20 +16,20 @@ enum {
     THREADS_MOST = 1000,
 };
 
-/* The statuses that are not those of a fault. */
+/* The exit statuses other than those of errors. */
 enum { STATUS_DONE = 0, STATUS_WRONG = 2 };
 
-/* Faults that the library has not, by their letters and numbers as it numbers its own. F1, with the
-   path and errno, is KUMQUATSIEVE_FILE. */
+/* Errors of this program, in addition to those of the library, with codes of the same form.
+   KUMQUATSIEVE_FILE is reported with the path and the errno. */
 enum {
     FAULT_OUTPUT = 0x4602,         /* F2 */
     FAULT_READ = 0x4701,           /* G1, with the line */
-    FAULT_WRITE = 0x4702,          /* G2, with the bytes that were written */
+    FAULT_WRITE = 0x4702,          /* G2, with the number of bytes written before */
     FAULT_INPUT_TOO_LONG = 0x4705, /* G5, with the line */
 };
 
-/* Why the program ends early. `code` is one of the library's or of those above; `number` is that of
- * a line, a byte, a section or the like. */
+/* An error. `code` is one of the library's or of those above, `path` the path of an image or NULL,
+   `number` the line, byte, errno or other number of the error, and `part` the text of a format. */
 typedef struct fault {
     uint32_t code;
     const char *path;
@@ -37,8 +37,8 @@ typedef struct fault {
     uint32_t part;
 } fault;
 
-/* What a command line asks for. A format that was not given is NULL; `dic` and `users` are main's
-   to free. `how` is the argument of kumquatsieve_open. */
+/* The options of a command line. A format that was not given is NULL. `main` frees `dic` and
+   `users`. `how` is the argument of kumquatsieve_open. */
 typedef struct options {
     char *dic;
     char **users;
@@ -51,37 +51,54 @@ typedef struct options {
     bool is_verbose;
 } options;
 
-/* options.c. Whether there is work to do; else the program ends with this status, and why was told.
- */
+/* options.c. Reads a command line. Returns whether there is a text to segment. If not, everything
+   was printed, and the program ends with *status. */
 bool read_options(int count, char **words, options *asked, int *status);
 
-/* habits.c. What to do in place of what jseg or MeCab take: of an option of one letter, which is
-   not 0, and of a whole word; NULL where that is known of none. In place of a name of an output
-   format; and what --help and --version print. */
+/* habits.c. Return what to do instead of an option of jseg or MeCab, by its letter, which is not 0,
+   or by its word, or instead of the name of an output format; or NULL if none is known. */
 const char *instead_of_letter(char letter);
 const char *instead_of_word(const char *word);
 const char *instead_of_output(const char *name);
+/* The texts of --help and --version. */
 extern const char HELP[], VERSION[];
 
-/* telling.c. Each line is one write, where there is memory for it; one that fails is ignored.
-   Progress is erased before it. */
+/* telling.c. Each message is one write on standard error, if there is memory for it. A write that
+   fails is ignored. The line of the progress is erased before it. */
+
+/* Prints a message. */
 void tell(const char *format, ...) __attribute__((format(printf, 1, 2)));
+
+/* Prints a message about the command line, and a hint at --help. */
 void tell_wrong(const char *format, ...) __attribute__((format(printf, 1, 2)));
+
+/* Prints an error in one line. Returns the exit status. */
 int tell_fault(const fault *why);
+
+/* Print more about an error, on a terminal or with -v: its reason, and where it is explained. */
 void tell_why(const options *asked, const fault *why);
 void tell_explanation(const fault *why);
+
+/* Prints a text on standard output. Returns false if that fails. */
 bool print_text(const char *text);
 
-/* narrator.c. What -v says, with the seconds since the beginning. A person is told more of a fault
- * than its line: with -v, and on a terminal. */
+/* narrator.c. Turns the log messages of -v on. */
 void begin_narration(void);
+
+/* Whether they are on. */
 bool is_narrated(void);
+
+/* Whether a person reads standard error: with -v, and on a terminal. */
 bool is_heard(void);
+
+/* Prints a log message with the seconds since the start, if these messages are on. */
 void say(const char *format, ...) __attribute__((format(printf, 1, 2)));
 
-/* texts.c. Whether a text is UTF-8; and a path in one line, its control characters escaped, which
- * the caller frees: NULL for want of memory. */
+/* texts.c. Whether a text is UTF-8. */
 bool is_utf8(const char *text);
+
+/* Returns a text with its control characters escaped, which the caller frees, or NULL if memory
+   runs out. */
 char *one_line(const char *text);
 
 /* Texts one after another, each with its zero byte. */
@@ -90,11 +107,11 @@ typedef struct texts {
     size_t length; /* of all of them in bytes */
 } texts;
 
-/* paths.c. The path of the image that -d or -u names, which the caller frees: NULL for want of
-   memory. Where no image has the name, that is the name itself. */
+/* paths.c. Returns the path of the image that -d or -u names, which the caller frees, or NULL if
+   memory runs out. If no image has the name, it is the name itself. */
 char *find_image(const char *name);
 
-/* Whether a name is bare, and neither a file nor an image has it. */
+/* Whether a name is a bare one that neither a file nor an image has. */
 bool is_missing(const char *name);
 
 /* List the image directories, and the names of the images in them. The caller frees `first`. They
@@ -108,22 +125,23 @@ const char *next_text(const texts *list, const char *text);
 /* Whether a directory has a dictionary of MeCab. */
 bool is_mecab_directory(const char *path);
 
-/* missing.c. Where an image was looked for, as a person is told. */
+/* missing.c. Prints where an image was looked for, on a terminal or with -v, if the error is that
+   no image has the name. */
 void tell_image_directories(const fault *why);
 
-/* formats.c. Whether the format that is asked for is one; sets it to a cutter that has a
- * dictionary. */
+/* formats.c. Checks the format of the options. Returns false, and sets *why, if it is invalid. */
 bool check_format(const options *asked, fault *why);
+
+/* Sets the format of a cutter with a dictionary. Returns false, and sets *why, after an error. */
 bool set_format(const options *asked, kumquatsieve_cutter *cutter, fault *why);
 
-/* dictionary.c. Fills an empty cutter with the images, the format and the grouping that are asked
- * for; else a fault. */
+/* dictionary.c. Fills an empty cutter with the images, the format and the grouping of the options.
+   Returns false, and sets *why, after an error. */
 bool make_cutter(const options *asked, kumquatsieve_cutter *cutter, fault *why);
 
-/* pieces.c. The text on standard input, a piece of whole lines after another. In bytes, as jseg has
-   them: what is read at once, and the length of a line at most. A piece that the text goes on after
-   has PIECE_MOST bytes or more, unless less is asked for: so there is room for a line without its
-   end and for one more read. */
+/* pieces.c. Reads standard input in pieces of whole lines. The limits are in bytes: READ_MOST for a
+   read, LINE_MOST for a line, both as in jseg. Every piece but the last has PIECE_MOST bytes or
+   more, unless less is asked for. PIECE_ROOM has room for an incomplete line and one more read. */
 enum {
     READ_MOST = 65536,
     LINE_MOST = 1048576,
@@ -133,20 +151,21 @@ enum {
 
 typedef enum ending { GOES_ON, AT_END, READ_FAILED, LINE_TOO_LONG, COMES_TO_NO_END } ending;
 
-/* `ending` says what came behind the whole lines: where it is AT_END the last line may lack its
- * line feed. */
+/* Whole lines of the text, and what follows. At AT_END the last line may lack its line feed. */
 typedef struct piece {
     uint8_t *bytes;
     size_t length;
     ending ending;
 } piece;
 
+/* The state of reading: the bytes after the last line end, which start the next piece. */
 typedef struct input {
     uint8_t *open;
     size_t open_length;
     uint64_t reads;
 } input;
 
+/* Returns false if memory runs out. The caller frees the input in each case. */
 bool make_input(input *in);
 void free_input(input *in);
 
@@ -179,6 +198,8 @@ typedef struct place {
 /* How many bytes of output a place keeps at most. */
 enum { KEPT_MOST = 16777216 };
 
+/* Makes a place whose cutter shares the dictionaries of `cutter`. Returns false if memory runs out.
+   The caller frees the place in each case. */
 bool make_place(place *own, kumquatsieve_cutter *cutter);
 void free_place(place *own);
 
@@ -193,38 +214,39 @@ bool cut_group(place *own);
    does not fit, or if no memory can be allocated for it. */
 bool keep_group(place *own);
 
-/* Notes that all output that waited was written. */
+/* Notes that all waiting output was written. */
 void note_written(place *own);
 
 /* Returns how many bytes the next piece should have so that its output can be kept, if it prints as
    this one did. */
 size_t fitting_length(const place *own);
 
-/* warnings.c. The warnings about the text that may still be printed. */
+/* warnings.c. The warnings about the text that were not printed yet: of a byte order mark, and of a
+   carriage return at the end of a line. */
 typedef struct warnings {
     bool of_mark, of_return;
 } warnings;
 
-/* Returns the warnings that a person gets: all of them on a terminal and with -v, and else none. */
+/* Returns all warnings if a person reads standard error, and none otherwise. */
 warnings wanted_warnings(void);
 
-/* Prints the warnings about the first `lines` lines of a part of the text, which begins at a line's
-   start and follows `before` lines. Each warning is printed once. */
+/* Prints the warnings about the first `lines` lines of a part of the text, which starts with a line
+   and follows `before` lines. Prints each warning once. */
 void warn_of(warnings *left, const uint8_t *text, size_t length, uint64_t before, uint64_t lines);
 
-/* progress.c. How much of the text was segmented and written, on a terminal. One thread at a time
-   calls print_progress. */
+/* progress.c. Prints on a terminal how much of the text was segmented and written. One thread at a
+   time calls print_progress. */
 void begin_progress(void);
 void print_progress(uint64_t bytes);
 void erase_progress(void);
 
-/* writing.c. Writes all bytes to standard output, and counts those that it takes; false where a
- * write fails or takes none. */
+/* writing.c. Writes all bytes to standard output, and adds those that were written to *taken.
+   Returns false if a write fails or writes none. */
 bool write_out(const uint8_t *at, size_t length, uint64_t *taken);
 
-/* queue.c. Cuts standard input by so many threads, and writes what its lines print; a fault of the
-   text, of a read or of a write ends the program, after what stands before it was written. False
-   for want of memory before the first read. */
+/* queue.c. Segments standard input with `threads` threads, and writes its lines in the format. Sets
+   *lines to their number. An error of the text, of a read or of a write ends the program after the
+   output before it was written. Returns false if memory runs out before the first read. */
 bool cut_input(kumquatsieve_cutter *cutter, uint32_t threads, uint64_t *lines);
 
 #endif

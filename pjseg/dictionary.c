@@ -1,7 +1,8 @@
-/* A cutter as the command line asks for it. */
+/* Makes the cutter that the command line asks for. */
 #include "cut.h"
 #include <stdlib.h>
 
+/* Returns whether `code` is an error, and sets *why to it. */
 static bool fails(fault *why, uint32_t code, const char *path, uint64_t number) {
     if (code == KUMQUATSIEVE_OK) return false;
     *why =
@@ -9,8 +10,8 @@ static bool fails(fault *why, uint32_t code, const char *path, uint64_t number) 
     return true;
 }
 
-/* Whether a fault is of images that don't belong together. It is told after the faults of each
- * image by itself. */
+/* Whether an error means that images don't belong together. It is reported after the errors of each
+   image by itself. */
 static bool is_of_overlay(uint32_t code) { return code >> 8 == 'O'; }
 
 static bool load_system(const char *path, kumquatsieve_cutter *cutter, unsigned how, fault *why) {
@@ -19,8 +20,7 @@ static bool load_system(const char *path, kumquatsieve_cutter *cutter, unsigned 
     return !fails(why, code, path, number);
 }
 
-/* What is wrong with an image by itself. That it is no system dictionary's is nothing wrong with
- * it. */
+/* Returns the error of an image by itself, which may be of any dictionary. */
 static uint32_t look_at(const char *path, unsigned how, uint64_t *number) {
     kumquatsieve_cutter alone = KUMQUATSIEVE_EMPTY;
     uint32_t code = kumquatsieve_open(&alone, path, how, number);
@@ -28,8 +28,8 @@ static uint32_t look_at(const char *path, unsigned how, uint64_t *number) {
     return is_of_overlay(code) ? KUMQUATSIEVE_OK : code;
 }
 
-/* Lays a user dictionary over the others, or only looks at its image where these don't belong
- * together. */
+/* Adds a user dictionary. If `only_look` is true, because an earlier image doesn't belong to the
+   others, only checks its image. */
 static bool add_user(const char *path, kumquatsieve_cutter *cutter, unsigned how, bool only_look,
                      fault *why) {
     uint64_t number = 0;
@@ -44,9 +44,8 @@ static void say_loaded(const char *path) {
     free(line);
 }
 
-/* The images are opened one after the other, as jseg does. A dictionary of the library's is made of
-   all at once, and its first fault may be of an overlay, where a later image is at fault by itself.
- */
+/* Opens the images one after another, as jseg does. kumquatsieve_dictionary_make takes all at once,
+   and would report that two don't belong together before the error of a later image by itself. */
 static bool load_images(const options *asked, kumquatsieve_cutter *cutter, fault *why) {
     fault overlay = {0};
     if (!load_system(asked->dic, cutter, asked->how, why)) {

@@ -1,106 +1,35 @@
-/* Formats. They are looked at before any image is read, as jseg does, by a dictionary without
-   words: the library sets a format to a cutter that has a dictionary. */
+/* Output formats. As in jseg, they are checked before any image is read. The library only sets a
+   format of a cutter with a dictionary, so they are checked over a dictionary without words. */
 #include "cut.h"
 #include <string.h>
 
-/* The numbers of an image are little-endian, of 4 or 8 bytes. */
+/* Numbers of an image, in 4 or 8 bytes, little-endian. */
 #define NUMBER(n) (n), 0, 0, 0
 #define LENGTH(n) (n), 0, 0, 0, 0, 0, 0, 0
 
-/* An image of layout 3 (docs/FORMAT.md): a matrix of one cell, a category, which all code points
- * have, and its one unknown word. */
+/* An image of layout 3 (docs/FORMAT.md): a matrix of one cell, a category of all code points, and
+   its unknown word. */
+// clang-format off
 static const uint8_t NO_WORDS[] = {
-    'M',
-    'J',
-    'D',
-    'I',
-    'C',
-    'T',
-    '\r',
-    '\n',
-    NUMBER(3),
-    NUMBER(0),
-    NUMBER(1),
-    NUMBER(1),
-    NUMBER(1),
-    NUMBER(0),
-    NUMBER(0),
-    NUMBER(1),
-    LENGTH(2),
-    LENGTH(5),
-    LENGTH(8),
-    LENGTH(8),
-    LENGTH(8),
-    LENGTH(4),
-    LENGTH(16),
-    LENGTH(0),
-    /* the matrix; the category `D`; its range; the unknown index; the root of the keys; the group
-       index; the unknown word */
-    0,
-    0,
-    0,
-    1,
-    0,
-    1,
-    'D',
-    NUMBER(0),
-    NUMBER(1),
-    NUMBER(0),
-    NUMBER(1),
-    NUMBER(1),
-    0xfe,
-    0xff,
-    0xff,
-    0xff,
-    NUMBER(0),
-    0,
-    0,
-    0,
-    0,
-    0,
-    0,
-    0,
-    0,
-    NUMBER(0),
-    NUMBER(0),
-    /* the digest of all these bytes */
-    0x00,
-    0xbf,
-    0x31,
-    0xa7,
-    0x1c,
-    0x4e,
-    0x5b,
-    0x04,
-    0x5f,
-    0x19,
-    0x3f,
-    0x24,
-    0xbc,
-    0xbf,
-    0x41,
-    0x0f,
-    0xd2,
-    0x1c,
-    0x8b,
-    0x88,
-    0xa0,
-    0x22,
-    0x09,
-    0xc1,
-    0xb6,
-    0x01,
-    0x18,
-    0x1d,
-    0xef,
-    0x9c,
-    0x4c,
-    0x3b,
+    'M', 'J', 'D', 'I', 'C', 'T', '\r', '\n',
+    NUMBER(3), NUMBER(0), NUMBER(1), NUMBER(1), NUMBER(1), NUMBER(0), NUMBER(0), NUMBER(1),
+    LENGTH(2), LENGTH(5), LENGTH(8), LENGTH(8), LENGTH(8), LENGTH(4), LENGTH(16), LENGTH(0),
+    0, 0,                                           /* the matrix */
+    0, 1, 0, 1, 'D',                                /* the category */
+    NUMBER(0), NUMBER(1),                           /* its range */
+    NUMBER(0), NUMBER(1),                           /* the index of unknown words */
+    NUMBER(1), 0xfe, 0xff, 0xff, 0xff,              /* the root of the keys */
+    NUMBER(0),                                      /* the index of groups */
+    0, 0, 0, 0, 0, 0, 0, 0, NUMBER(0), NUMBER(0),   /* the unknown word */
+    /* the SHA-256 of all bytes above */
+    0x00, 0xbf, 0x31, 0xa7, 0x1c, 0x4e, 0x5b, 0x04, 0x5f, 0x19, 0x3f, 0x24, 0xbc, 0xbf, 0x41, 0x0f,
+    0xd2, 0x1c, 0x8b, 0x88, 0xa0, 0x22, 0x09, 0xc1, 0xb6, 0x01, 0x18, 0x1d, 0xef, 0x9c, 0x4c, 0x3b,
 };
+// clang-format on
 
 static const uint8_t *bytes_of(const char *text) { return (const uint8_t *)text; }
 
-/* Unknown words have the format of known ones where they have none. */
+/* The format of known words is the default for unknown words. */
 bool set_format(const options *asked, kumquatsieve_cutter *cutter, fault *why) {
     const char *node = asked->node ? asked->node : "%m\\t%H\\n",
                *unk = asked->unk ? asked->unk : node;

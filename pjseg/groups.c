@@ -1,12 +1,12 @@
-/* A piece is segmented in groups of whole lines, so that the output that waits to be written is
-   bounded whatever the lines print: by KEPT_MOST and the output of one group. A group is small, and
-   smaller after one that printed much. A line that is longer is a group by itself. */
+/* Segments a piece in groups of whole lines. So the output that waits to be written is bounded by
+   KEPT_MOST and the output of one group, whatever the lines print. Groups are short, and shorter
+   after one with much output. A longer line is a group by itself. */
 #include "cut.h"
 #include <stdlib.h>
 #include <string.h>
 
-/* In bytes. What a group of GROUP_MOST prints, most often ten times as much, fits in a processor's
-   cache, from where it is copied or written. */
+/* In bytes. The output of a group of GROUP_MOST, most often ten times as much, fits in a
+   processor's cache, from where it is copied or written. */
 enum {
     GROUP_LEAST = 256,
     GROUP_FIRST = 1024,
@@ -32,7 +32,7 @@ void begin_piece(place *own) {
     own->printed = 0;
 }
 
-/* The offset in the text at which the next group ends. */
+/* Returns the offset in the text at which the next group ends. */
 static size_t group_end(const place *own) {
     const uint8_t *text = own->text.bytes;
     size_t length = own->text.length, most = own->cut_to + own->group;
@@ -42,7 +42,8 @@ static size_t group_end(const place *own) {
     return feed ? (size_t)(feed + 1 - text) : length;
 }
 
-/* The length of the next group: so that it prints PRINTED_MOST if it prints as the last one did. */
+/* Returns the length of the next group, for an output of about PRINTED_MOST at the rate of the last
+   group. */
 static size_t next_group(size_t group, size_t printed) {
     if (printed > PRINTED_MOST) {
         uint64_t less = (uint64_t)group * PRINTED_MOST / printed;
@@ -62,7 +63,7 @@ bool cut_group(place *own) {
     return own->code == KUMQUATSIEVE_OK && end < own->text.length;
 }
 
-/* Grows the memory for what is kept, to at least `needed` bytes, which are at most KEPT_MOST. */
+/* Grows the memory for kept output to at least `needed` bytes, which are at most KEPT_MOST. */
 static bool grow_kept(place *own, size_t needed) {
     size_t room = own->kept_room < KEPT_LEAST ? KEPT_LEAST : own->kept_room;
     while (room < needed) room *= 2;

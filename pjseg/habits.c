@@ -1,5 +1,5 @@
-/* What users of jseg and MeCab type first and this program doesn't take, each with what to do
- * instead; and what it says of itself. */
+/* The texts of --help and --version, and options of jseg and MeCab that this program doesn't take,
+   each with what to do instead. */
 #include "cut.h"
 #include <string.h>
 
@@ -28,7 +28,8 @@ const char HELP[] =
 
 const char VERSION[] = PROGRAM " " KUMQUATSIEVE_VERSION "\nimage layouts read: 1, 2, 3\n";
 
-/* What is taken only to be refused: by its letter behind `-`, or 0, and by its word behind `--`. */
+/* Options that are only recognized to be rejected: by a letter after `-`, or 0, and a word after
+   `--`. */
 static const struct {
     char letter;
     const char *word, *instead;
@@ -84,7 +85,7 @@ const char *instead_of_letter(char letter) {
     return NULL;
 }
 
-/* Whether a word is `--` and this, alone or with a value behind `=`. */
+/* Whether a word is `--` and `name`, alone or followed by `=` and a value. */
 static bool is_long(const char *word, const char *name) {
     size_t length = strlen(name);
     if (strncmp(word, "--", 2) != 0 || strncmp(word + 2, name, length) != 0) return false;
@@ -100,8 +101,8 @@ const char *instead_of_word(const char *word) {
     return NULL;
 }
 
-/* NULL for the one format that has a name. The others are those of IPADIC's dicrc, each with the
- * options that print the same or nearly so. */
+/* Returns NULL for the one format that has a name. The other known names are from IPADIC's dicrc,
+   each with options that print the same or nearly so. */
 const char *instead_of_output(const char *name) {
     static const struct {
         const char *name, *instead;

@@ -1,8 +1,9 @@
-/* kumquatsieve-cut: cuts the text on standard input into words, on all processors. */
+/* kumquatsieve-cut: segments the text on standard input into words, on all processors. */
 #include "cut.h"
 #include <signal.h>
 #include <stdlib.h>
 
+/* Prints an error. Returns the exit status. */
 static int end_by(const options *asked, const fault *why) {
     tell_why(asked, why);
     int status = tell_fault(why);
@@ -11,6 +12,7 @@ static int end_by(const options *asked, const fault *why) {
     return status;
 }
 
+/* Segments standard input by the options. Returns the exit status. */
 static int cut_by(const options *asked) {
     kumquatsieve_cutter cutter = KUMQUATSIEVE_EMPTY;
     fault why = {0};
@@ -29,7 +31,7 @@ static int cut_by(const options *asked) {
 int main(int count, char **words) {
     options asked = {0};
     int status = STATUS_DONE;
-    /* A pipe without a reader is a write that fails. */
+    /* A write to a pipe without a reader fails instead of ending the program. */
     signal(SIGPIPE, SIG_IGN);
     if (read_options(count, words, &asked, &status)) {
         if (asked.is_verbose) begin_narration();

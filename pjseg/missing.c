@@ -12,7 +12,8 @@ static void write_name(FILE *to, size_t number, const char *name) {
     free(line);
 }
 
-/* Writes the names that the command line can give: jseg takes UTF-8 alone. */
+/* Writes the first names that the command line accepts, which are UTF-8, and how many more there
+ * are. */
 static void write_names(FILE *to, const texts *names) {
     size_t count = 0;
     for (const char *name = next_text(names, NULL); name; name = next_text(names, name)) {
@@ -40,7 +41,7 @@ static void print_directory(const char *path) {
     free(line);
 }
 
-/* Lines for which there is no memory are left out. */
+/* Leaves out a line if memory runs out. */
 void tell_image_directories(const fault *why) {
     texts paths, names;
     if (why->code != KUMQUATSIEVE_FILE || !is_heard() || !is_missing(why->path)) return;

@@ -1,4 +1,4 @@
-/* What is said while the program works, where -v asks for it. */
+/* Log messages of the option -v. */
 #include "cut.h"
 #include <stdarg.h>
 #include <stdio.h>
@@ -6,7 +6,7 @@
 #include <time.h>
 #include <unistd.h>
 
-/* Set before the first thread is made. */
+/* Set before the first thread is created. */
 static bool narrated;
 static struct timespec began;
 

@@ -1,5 +1,5 @@
-/* The command line. Its words are taken as jseg takes them: a value stands behind its letter,
- * behind `=`, or in the next word. */
+/* The command line. As in jseg, the value of an option follows its letter, with or without `=`, or
+   is the next word. */
 #include "cut.h"
 #include <limits.h>
 #include <sched.h>
@@ -8,7 +8,7 @@
 #include <string.h>
 #include <unistd.h>
 
-/* An option. What is a text may be empty or begin with `-`. */
+/* An option. A value that is a text may be empty or start with `-`. */
 typedef struct row {
     char letter;
     const char *value;
@@ -22,8 +22,8 @@ static const row ROWS[] = {
     {'v', NULL, false, false},
 };
 
-/* What was read of a command line: `at` is the next word, and a letter that was given is true. The
- * users' names are as many as the options say. */
+/* The state of reading a command line: `at` is the next word, and `given` is true for each letter
+   that was given. `users` has asked->user_count names. */
 typedef struct reading {
     char **words;
     int count, at;
@@ -40,7 +40,7 @@ static step no_memory(reading *of) {
     return ENDED;
 }
 
-/* Tells what is wrong with a word, which stands in one line between two texts. */
+/* Prints that a word is wrong, in one line between two texts. */
 static step wrong_with(reading *of, const char *before, const char *word, const char *behind) {
     char *line = one_line(word);
     if (!line) return no_memory(of);
@@ -49,7 +49,8 @@ static step wrong_with(reading *of, const char *before, const char *word, const 
     return WRONG;
 }
 
-/* `instead` is what to do in place of it, or NULL. */
+/* Prints that an argument is unexpected, or `instead`, what to do in place of it, unless that is
+   NULL. */
 static step unexpected(reading *of, const char *word, const char *instead) {
     if (!instead) return wrong_with(of, "unexpected argument", word, "found");
     tell_wrong("%s", instead);
@@ -60,13 +61,13 @@ static step wrong_word(reading *of, const char *word) {
     return unexpected(of, word, instead_of_word(word));
 }
 
-/* What is printed where the program is asked about itself. */
+/* Prints the text of --help or --version. */
 static step answer(reading *of, const char *text) {
     *of->status = print_text(text) ? STATUS_DONE : tell_fault(&(fault){.code = FAULT_OUTPUT});
     return ENDED;
 }
 
-/* A number from `least` to `most`, in digits that a sign may stand before. */
+/* Reads a number from `least` to `most`: digits with or without a sign before them. */
 static step read_number(reading *of, const row *option, const char *text, long least, long most,
                         uint32_t *number) {
     const char *digits = text + (*text == '+' || *text == '-');
@@ -103,8 +104,8 @@ static step set_value(reading *of, const row *option, const char *value) {
     return NEXT;
 }
 
-/* The value of an option: what is left of its word, without a `=` before it, or the next word. NULL
- * where there is none. */
+/* Returns the value of an option: the rest of its word, without a `=` before it, or the next word,
+   or NULL if there is none. */
 static const char *value_of(reading *of, const row *option, const char *rest) {
     if (*rest) return rest + (*rest == '=');
     if (of->at == of->count) return NULL;
@@ -114,7 +115,8 @@ static const char *value_of(reading *of, const row *option, const char *rest) {
     return next;
 }
 
-/* Where the next word begins with `-`, what to write in its place if it names a file. */
+/* Prints that a value is missing. If the next word starts with `-`, prints how to write it as the
+   name of a file. */
 static step missing_value(reading *of, const row *option) {
     bool may_be_file = of->at < of->count && strcmp(option->value, "IMG") == 0;
     char *line = may_be_file ? one_line(of->words[of->at]) : NULL;
@@ -143,7 +145,7 @@ static const row *row_of(char letter) {
     return NULL;
 }
 
-/* An option by its name, and that of its value, or NULL. */
+/* Prints that an option was given twice. `value` is the name of its value, or NULL. */
 static step given_twice(const char *name, const char *value) {
     const char *before = value ? " <" : "", *behind = value ? ">" : "";
     tell_wrong("the argument '%s%s%s%s' cannot be used multiple times", name, before,
@@ -151,7 +153,7 @@ static step given_twice(const char *name, const char *value) {
     return WRONG;
 }
 
-/* The letters of a word that begins with one `-`. */
+/* Reads the letters of a word that starts with one `-`. */
 static step read_letters(reading *of, const char *word) {
     for (const char *at = word + 1; *at; at++) {
         const row *option = row_of(*at);
@@ -167,7 +169,7 @@ static step read_letters(reading *of, const char *word) {
     return NEXT;
 }
 
-/* The options that are long alone, each with what it adds to how images are opened. */
+/* The options without a letter, each with the flag of kumquatsieve_open that it sets. */
 static const struct {
     const char *word;
     unsigned how;
@@ -177,7 +179,7 @@ static const struct {
     {"--copy", KUMQUATSIEVE_COPY},
 };
 
-/* What a word adds to how images are opened; 0 if it is no such option. */
+/* Returns the flag of such an option, or 0 if a word is none. */
 static unsigned opening_of(const char *word) {
     for (size_t i = 0; i < sizeof OPENINGS / sizeof *OPENINGS; i++) {
         if (strcmp(word, OPENINGS[i].word) == 0) return OPENINGS[i].how;
@@ -206,7 +208,7 @@ static step read_word(reading *of) {
     return read_letters(of, word);
 }
 
-/* The processors that this process may run on. */
+/* Returns how many processors this process may use, from 1 to THREADS_MOST. */
 static uint32_t processors(void) {
     cpu_set_t set;
     long count = sched_getaffinity(0, sizeof set, &set) == 0 ? CPU_COUNT(&set)
@@ -224,7 +226,7 @@ static step wrong_directory(reading *of, const char *path) {
     return WRONG;
 }
 
-/* Finds the images that are named; false for want of memory. */
+/* Finds the images by their names. Returns false if memory runs out. */
 static bool find_images(reading *of) {
     options *asked = of->asked;
     asked->dic = find_image(of->dic);
@@ -235,7 +237,7 @@ static bool find_images(reading *of) {
     return asked->dic != NULL;
 }
 
-/* What words alone don't say: an image and an output format that the program has. */
+/* Checks the options together, and finds the images. */
 static step finish(reading *of) {
     const char *instead = of->output ? instead_of_output(of->output) : NULL;
     of->asked->is_wakati = of->output != NULL;

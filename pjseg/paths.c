@@ -1,4 +1,4 @@
-/* Paths: that of an image by its name, and whether one is that of a dictionary of MeCab. */
+/* Paths of images by their names, and directories with a dictionary of MeCab. */
 #include "cut.h"
 #include <limits.h>
 #include <stdio.h>
@@ -7,7 +7,7 @@
 #include <sys/stat.h>
 #include <unistd.h>
 
-/* Cuts a path before its last name; false where it has none. */
+/* Removes the last name of a path. Returns false if there is no slash before it. */
 static bool to_parent(char *path) {
     char *slash = strrchr(path, '/');
     if (!slash) return false;
@@ -15,8 +15,8 @@ static bool to_parent(char *path) {
     return true;
 }
 
-/* PREFIX, where this program is PREFIX/bin/kumquatsieve-cut, in room for a path; NULL where the
- * system doesn't say where it is. */
+/* Returns PREFIX if this program is PREFIX/bin/kumquatsieve-cut, written to `program`, or NULL if
+   the path of the program is unknown. */
 static const char *own_prefix(char program[static PATH_MAX + 1]) {
     ssize_t length = readlink("/proc/self/exe", program, PATH_MAX);
     if (length <= 0) return NULL;
@@ -46,9 +46,10 @@ bool is_missing(const char *name) {
     return kumquatsieve_find_image(name, own_prefix(program), NULL, 0, NULL) == KUMQUATSIEVE_FILE;
 }
 
-/* What a call of the library lists. */
+/* A call of the library that lists texts. */
 typedef uint32_t list_call(const char *prefix, char *texts, size_t room, size_t *needed);
 
+/* Makes the list of a call. Returns false if memory runs out. */
 static bool make_list(list_call *list_texts, texts *list) {
     char program[PATH_MAX + 1];
     const char *prefix = own_prefix(program);
@@ -84,7 +85,7 @@ static bool has(const char *directory, const char *name) {
     return is_there;
 }
 
-/* Whether a directory has a dictionary of MeCab: a compiled one, or sources. */
+/* That is a compiled one, or sources. */
 bool is_mecab_directory(const char *path) {
     return has(path, "sys.dic") || has(path, "matrix.def");
 }

@@ -1,11 +1,11 @@
-/* Standard input in pieces of a megabyte or less, which end at line ends. No failed read is tried
- * again. */
+/* Reads standard input in pieces of at most a megabyte that end at line ends. A failed read is not
+   repeated. */
 #include "cut.h"
 #include <stdlib.h>
 #include <string.h>
 #include <unistd.h>
 
-/* As jseg: how many reads may come to no end. */
+/* After this many reads the input counts as endless, as in jseg. */
 static const uint64_t READS_MOST = (uint64_t)1 << 40;
 
 bool make_input(input *in) {
@@ -15,7 +15,7 @@ bool make_input(input *in) {
 
 void free_input(input *in) { free(in->open); }
 
-/* One read behind `length` bytes. */
+/* Makes one read after the first `length` bytes. */
 static ending read_more(input *in, uint8_t *bytes, size_t *length, size_t *lines_end) {
     if (in->reads == READS_MOST) return COMES_TO_NO_END;
     in->reads++;
@@ -28,9 +28,9 @@ static ending read_more(input *in, uint8_t *bytes, size_t *length, size_t *lines
     return *length - *lines_end > LINE_MOST ? LINE_TOO_LONG : GOES_ON;
 }
 
-/* Reads until there is a line's end and at least so many bytes, or the text ends in one way or
-   another. The line behind the last line's end is kept for the next piece: it is the open one, and
-   has at most LINE_MOST bytes, so that a further read has room. */
+/* Reads until there are a line end and `least` bytes, or the text ends or a read fails. The bytes
+   after the last line end are kept for the next piece. They are at most LINE_MOST, so there is room
+   for one more read. */
 void read_piece(input *in, piece *next, size_t least) {
     size_t length = in->open_length, lines_end = 0;
     ending how = GOES_ON;

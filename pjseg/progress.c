@@ -1,4 +1,4 @@
-/* How much of the text was written, in one line of a terminal that is written anew. */
+/* Prints on a terminal how much of the text was written, in one line that is overwritten. */
 #include "cut.h"
 #include <stdatomic.h>
 #include <stdio.h>
@@ -7,25 +7,25 @@
 #include <time.h>
 #include <unistd.h>
 
-/* In milliseconds, as jseg: how long a run lasts before a line is printed, and how long the line
-   stays before it is printed again. */
+/* In milliseconds, as in jseg: how long a run lasts before the first line, and how long before the
+   line is overwritten. */
 enum { PATIENCE = 2000, PAUSE = 250 };
 
 static const char ERASE[] = "\r\x1b[K";
 
-/* The bytes of the text, or 0 if no line is printed; the milliseconds of the start and of the next
-   line. They change before the first thread is made, and in print_progress. */
+/* The bytes of the text, or 0 if no line is printed, and the times of the start and of the next
+   line in milliseconds. They change before the first thread is created, and in print_progress. */
 static uint64_t all, begun, next;
 static atomic_bool is_shown;
 
-/* The time in milliseconds, or 0 if there is no clock. */
+/* Returns the time in milliseconds, or 0 if there is no clock. */
 static uint64_t now(void) {
     struct timespec found;
     if (clock_gettime(CLOCK_MONOTONIC, &found) != 0) return 0;
     return (uint64_t)found.tv_sec * 1000 + (uint64_t)found.tv_nsec / 1000000;
 }
 
-/* How many bytes of a regular file are left on standard input; 0 if it is something else. */
+/* Returns how many bytes are left on standard input, or 0 if it is no regular file. */
 static uint64_t bytes_left(void) {
     struct stat found;
     if (fstat(STDIN_FILENO, &found) != 0 || !S_ISREG(found.st_mode)) return 0;
@@ -45,7 +45,7 @@ static void print_line(const char *line) {
     (void)taken;
 }
 
-/* A file that grows meanwhile is not more than read. */
+/* A file that grows meanwhile never shows more than 100 %. */
 void print_progress(uint64_t bytes) {
     uint64_t time = all > 0 ? now() : 0;
     char line[128];

@@ -1,22 +1,22 @@
 /* The queue of pieces. Each thread takes the next piece of the text and segments it with the cutter
-   of its place in the queue. If the piece is next in order, the thread writes the output of each
-   group of lines at once. If not, it keeps the output as far as it may, and then waits until the
-   piece is next. A piece that was segmented before it is next is written by the thread that writes
-   the piece before it. One thread reads at a time and one writes; none holds the lock while it
-   reads, segments or writes. The queue has as many places as there are threads; with one no other
-   thread is made.
+   of the piece's place in the queue. If the piece is next in order, the thread writes the output of
+   each group of lines at once. If not, it keeps the output up to a limit, and then waits until the
+   piece is next. A piece that is complete before it is next is written by the thread that writes
+   the piece before it. One thread reads at a time and one writes. No thread holds the lock while it
+   reads, segments or writes. The queue has as many places as there are threads, the main thread
+   included.
 
-   No thread waits for ever: a thread waits for pieces before its own alone, and the thread that
-   segments the piece that is next in order does not wait. */
+   There is no deadlock: a thread only waits for pieces before its own, and the thread of the piece
+   that is next in order does not wait. */
 #include "cut.h"
 #include <pthread.h>
 #include <stdlib.h>
 #include <unistd.h>
 
-/* `taken` and `written` are counts of pieces: the piece with number `written` is next in order.
-   `least` is how many bytes the next piece has at least. The input is the reader's. The lines, the
-   bytes of output and the bytes of text that were written (`lines`, `sent`, `passed`) and the
-   warnings are the writer's. All else is under the lock. */
+/* `taken` and `written` count pieces: the piece with number `written` is next in order. `least` is
+   the least length of the next piece in bytes. Only the thread that reads uses `in`. Only the
+   thread that writes uses `lines`, `sent` and `passed`, the written lines, bytes of output and
+   bytes of text, and `warnings`. All else is under the lock. */
 typedef struct queue {
     pthread_mutex_t lock;
     pthread_cond_t changed;
@@ -29,8 +29,7 @@ typedef struct queue {
     warnings warnings;
 } queue;
 
-/* A fault ends the program from any thread: another one may be waiting in a read that never ends.
- */
+/* Reports an error and ends the program, since another thread may be in a read that never ends. */
 static _Noreturn void end_early(uint32_t code, uint64_t number) {
     fault why = {.code = code, .number = number};
     int status = tell_fault(&why);
@@ -38,7 +37,7 @@ static _Noreturn void end_early(uint32_t code, uint64_t number) {
     _exit(status);
 }
 
-/* Writes all output of a place that waits. An error of the text is reported after it. */
+/* Writes the waiting output of a place. Ends the program if that fails, or the text is invalid. */
 static void write_waiting(queue *of, place *next) {
     const uint8_t *text = next->text.bytes + next->written_to;
     size_t length = next->cut_to - next->written_to;
@@ -67,7 +66,7 @@ static void write_piece(queue *of, place *next) {
 
 static place *place_of(queue *of, uint64_t number) { return &of->places[number % of->room]; }
 
-/* Reads the next piece into its place. The lock is held before and after, and not meanwhile. */
+/* Reads the next piece into its place. Releases the lock during the read. */
 static place *read_next(queue *of) {
     place *next = place_of(of, of->taken);
     size_t least = of->least;
@@ -83,7 +82,7 @@ static place *read_next(queue *of) {
     return next;
 }
 
-/* The next piece of the text, or NULL where there is none. */
+/* Waits for a free place. Returns it with the next piece of the text, or NULL at the end. */
 static place *take(queue *of) {
     place *next = NULL;
     pthread_mutex_lock(&of->lock);
@@ -94,8 +93,8 @@ static place *take(queue *of) {
     return next;
 }
 
-/* Returns whether the piece is next in order. It stays so until its own thread gives it, so that
-   thread may write without the lock. */
+/* Whether a piece is next in order. It stays next until its own thread calls `give`, so that thread
+   may write without the lock. */
 static bool has_turn(queue *of, const place *own) {
     pthread_mutex_lock(&of->lock);
     bool is_next = of->written == own->number;
@@ -109,7 +108,7 @@ static void wait_for_turn(queue *of, const place *own) {
     pthread_mutex_unlock(&of->lock);
 }
 
-/* Writes or keeps the output of a group that another one follows. */
+/* Writes or keeps the output of a group, unless it is the last one of its piece. */
 static void pass_on(queue *of, place *own) {
     if (!has_turn(of, own)) {
         if (keep_group(own)) return;
@@ -118,7 +117,7 @@ static void pass_on(queue *of, place *own) {
     write_waiting(of, own);
 }
 
-/* Says that a piece is cut, and writes those that are next in order. */
+/* Marks a piece as complete, and writes the complete pieces that are next in order. */
 static void give(queue *of, place *own) {
     pthread_mutex_lock(&of->lock);
     own->is_cut = true;
@@ -162,7 +161,8 @@ static void free_places(queue *of) {
     free_input(&of->in);
 }
 
-/* The caller's thread serves too. Where another one can't be made, fewer serve. */
+/* Starts up to `wanted` threads and serves on the calling thread too. If a thread can't be created,
+   fewer serve. */
 static void serve_by(queue *of, pthread_t *others, uint32_t wanted) {
     uint32_t made = 0;
     while (made < wanted && pthread_create(&others[made], NULL, serve, of) == 0) made++;

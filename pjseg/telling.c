@@ -1,4 +1,4 @@
-/* What is told: lines on standard error, faults among them, and texts on standard output. */
+/* Prints messages and errors on standard error, and texts on standard output. */
 #include "cut.h"
 #include <errno.h>
 #include <stdarg.h>
@@ -15,7 +15,7 @@ static void write_once(const char *text) {
     (void)taken;
 }
 
-/* A text between two others, in one write where there is memory for it. */
+/* Prints a message between two texts, in one write if there is memory for it. */
 static void tell_between(const char *before, const char *behind, const char *format,
                          va_list words) {
     char *text = NULL, *whole = NULL;
@@ -51,7 +51,7 @@ bool print_text(const char *text) {
     return write_out((const uint8_t *)text, strlen(text), &taken);
 }
 
-/* Letter, number and name of a fault: the library's, or those of the other ones. */
+/* Writes the letter, number and name of an error, of the library or of this program. */
 static void name_of(uint32_t code, char *name, size_t room) {
     static const struct {
         uint32_t code;
@@ -105,7 +105,7 @@ static int status_of(uint32_t code) {
     }
 }
 
-/* Tells a fault, and answers the exit status. */
+/* Prints an error. Returns the exit status. */
 int tell_fault(const fault *why) {
     char name[64] = "";
     name_of(why->code, name, sizeof name);
@@ -121,8 +121,8 @@ int tell_fault(const fault *why) {
     return status_of(why->code);
 }
 
-/* How many columns of a terminal a text takes: two for a character from Hangul's first on, U+1100,
- * and one for each before it. */
+/* Returns how many columns of a terminal a text takes: two for each character from U+1100 on, where
+   Hangul starts, and one for each before it. */
 static int columns_of(const char *text) {
     int columns = 0;
     for (const unsigned char *at = (const unsigned char *)text; *at; at++) {
@@ -133,7 +133,7 @@ static int columns_of(const char *text) {
     return columns;
 }
 
-/* A text in one line, and a mark under a byte of it. */
+/* Prints a text in one line, and a mark below the byte `at`. */
 static void tell_mark(const char *text, size_t at) {
     char *front = strndup(text, at), *before = front ? one_line(front) : NULL,
          *line = one_line(text);
@@ -152,7 +152,7 @@ static void tell_format(const options *asked, const fault *why) {
     if (texts[why->part % 4]) tell_mark(texts[why->part % 4], why->number);
 }
 
-/* Why a file can't be opened, read or mapped, by its errno. */
+/* Returns why a file can't be opened, read or mapped, by its errno. */
 static const char *reason_of(uint64_t error) {
     switch (error) {
     case ENOENT: return "it is not there";
@@ -170,15 +170,14 @@ static void tell_reason(const char *of, uint64_t error) {
     free(path);
 }
 
-/* Why a file can't be read, and which option has the text of a format that is refused, and where.
- */
+/* Prints why a file can't be read, or which option has the invalid format, and where. */
 void tell_why(const options *asked, const fault *why) {
     if (!is_heard()) return;
     if (why->code == KUMQUATSIEVE_FILE) tell_reason(why->path, why->number);
     if (why->code >> 8 == 'P') tell_format(asked, why);
 }
 
-/* What explains a fault: the first word of its name, and jseg, which has the explanations. */
+/* Prints the command of jseg that explains an error. */
 void tell_explanation(const fault *why) {
     char name[64] = "";
     name_of(why->code, name, sizeof name);

@@ -1,13 +1,13 @@
-/* Texts: what is UTF-8, and what stands in one line. */
+/* UTF-8, and texts that are printed in one line. */
 #include "cut.h"
 #include <stdio.h>
 #include <stdlib.h>
 #include <string.h>
 
-/* How many bytes the character has that begins here, by RFC 3629; 0 where none does. The text ends
- * with a zero byte. */
+/* Returns the length in bytes of the character at the start of a text, or 0 if none starts there.
+   (RFC 3629) The text ends with a zero byte. */
 static size_t character_at(const unsigned char *at) {
-    /* The first bytes of a kind, and the range of the second byte. */
+    /* The ranges of the first and the second byte of each kind of character. */
     static const struct {
         unsigned char low, high, second_low, second_high;
         size_t length;
@@ -38,8 +38,8 @@ bool is_utf8(const char *text) {
     return true;
 }
 
-/* The number of the control character that begins here, and its length in bytes; 0 where another
- * one does. */
+/* Returns the control character at the start of a text, or 0 if it is another one. Sets *length to
+   its length in bytes. */
 static unsigned control_at(const unsigned char *at, size_t *length) {
     *length = at[0] == 0xc2 && at[1] >= 0x80 && at[1] <= 0x9f ? 2 : 1;
     if (*length == 2) return at[1];
@@ -56,7 +56,7 @@ static int escape(char *out, unsigned control) {
 }
 
 char *one_line(const char *text) {
-    /* The longest escape is that of one byte, `\u{1b}`. */
+    /* The longest escape of one byte is `\u{1b}`. */
     enum { LONGEST = 6 };
     char *line = malloc(LONGEST * strlen(text) + LONGEST + 1), *end = line;
     const unsigned char *at = (const unsigned char *)text;

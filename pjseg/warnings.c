@@ -1,4 +1,4 @@
-/* Warnings about a text that is segmented as it is, but perhaps not as its writer means. */
+/* Warnings about a text that is segmented as it is, but perhaps not as its author means. */
 #include "cut.h"
 #include <string.h>
 
@@ -9,7 +9,7 @@ warnings wanted_warnings(void) {
     return (warnings){.of_mark = is_wanted, .of_return = is_wanted};
 }
 
-/* The number of line feeds. */
+/* Returns the number of line feeds. */
 static uint64_t count_feeds(const uint8_t *at, const uint8_t *end) {
     uint64_t feeds = 0;
     while (at < end && (at = memchr(at, '\n', (size_t)(end - at)))) {
@@ -19,7 +19,7 @@ static uint64_t count_feeds(const uint8_t *at, const uint8_t *end) {
     return feeds;
 }
 
-/* The number, from 1, of the first line that ends with a carriage return; 0 if there is none. */
+/* Returns the number, from 1, of the first line that ends with a carriage return, or 0. */
 static uint64_t first_return(const uint8_t *text, size_t length) {
     const uint8_t *at = text, *end = text + length;
     while (at < end && (at = memchr(at, '\r', (size_t)(end - at)))) {

@@ -1,4 +1,4 @@
-/* Standard output. */
+/* Writes to standard output. */
 #include "cut.h"
 #include <unistd.h>
 
