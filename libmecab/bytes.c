@@ -1,4 +1,4 @@
-/* Bytes that grow. */
+/* Byte buffers that grow. */
 #include "formats.h"
 #include <stdlib.h>
 #include <string.h>

@@ -1,4 +1,4 @@
-// MeCab's C++ interface over its C interface.
+// MeCab's C++ classes over its C calls.
 #include "layer_cpp.h"
 #include <new>
 
@@ -173,7 +173,7 @@ void give_back(mecab_t *at) { mecab_destroy(at); }
 void give_back(mecab_lattice_t *at) { mecab_lattice_destroy(at); }
 void give_back(mecab_model_t *at) { mecab_model_destroy(at); }
 
-// Each has nothing where the C interface answers nothing, or where there is no memory.
+// Returns an object over what a C call returned, or nullptr if that is nullptr or memory runs out.
 template <typename Over, typename At> Over *over(At *at) {
     Over *made = at != nullptr ? new (std::nothrow) Over(at) : nullptr;
     if (made == nullptr) give_back(at);

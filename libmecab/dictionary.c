@@ -1,4 +1,4 @@
-/* The dictionaries of a model, and what goes with them. */
+/* The dictionaries of a model with their settings. */
 #include "layer.h"
 #include <stdlib.h>
 #include <string.h>
@@ -7,7 +7,7 @@ static const char BOS_FEATURE[] = "BOS/EOS";
 
 enum { GROUPING = 24 };
 
-/* Opens the system's image and the users', whose names are fields as those of a feature. (MeCab) */
+/* Opens the system image paths[0] and the images of user dictionaries with these names. */
 static images *open_named(char **paths, const char **names, size_t count, fault *error) {
     size_t found = 0;
     images *opened = NULL;
@@ -17,6 +17,8 @@ static images *open_named(char **paths, const char **names, size_t count, fault 
     return opened;
 }
 
+/* Opens the system image and the user dictionaries in `users`, which are separated as the fields of
+   a feature. (MeCab) */
 static images *open_all(char *image, const char *users, fault *error) {
     char *list = strdup(users ? users : "");
     size_t most = list ? strlen(list) + 1 : 1;
@@ -35,7 +37,7 @@ static images *open_all(char *image, const char *users, fault *error) {
     return opened;
 }
 
-/* 0 stands for the default. (MeCab) */
+/* Sets the grouping. 0 means the default. (MeCab) */
 static bool read_grouping(tables *to, const char *text, fault *error) {
     char *end = NULL;
     unsigned long grouping = text ? strtoul(text, &end, 10) : GROUPING;
@@ -46,7 +48,7 @@ static bool read_grouping(tables *to, const char *text, fault *error) {
     return true;
 }
 
-/* An image without settings beside it has no ids. */
+/* Sets the tokens. Without settings beside the image there are no part-of-speech ids. */
 static bool take_tokens(tables *to, const char *image, const settings *from, fault *error) {
     bool has_settings = is_set(from, HAS_DICRC);
     char *rules = has_settings ? beside(image, ".pos-id.def") : NULL;
@@ -93,8 +95,8 @@ static tables *make_tables(char *path, const settings *from, fault *error) {
     return NULL;
 }
 
-/* Reads the settings beside an image, and opens it. If another image took its place between, the
-   settings may not be its own: sets *is_other then, and returns NULL. */
+/* Reads the settings beside an image, and opens the image. If the image was replaced in between,
+   the settings may belong to the other one: sets *is_other then, and returns NULL. */
 static tables *load_beside(char *path, settings *from, bool *is_other, fault *error) {
     heading of;
     if (!read_heading(&of, path, error)) return NULL;
@@ -107,7 +109,7 @@ static tables *load_beside(char *path, settings *from, bool *is_other, fault *er
     return NULL;
 }
 
-/* Starts over while the image is replaced, but not for ever. */
+/* Starts again if the image was replaced, at most TRIES times. */
 tables *load_tables(settings *from, fault *error) {
     char *path = find_image(from, error);
     size_t count = from->count;

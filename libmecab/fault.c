@@ -1,4 +1,4 @@
-/* What went wrong. */
+/* Errors. */
 #include "formats.h"
 #include <kumquatsieve.h>
 

@@ -1,9 +1,9 @@
-/* Fields of a feature, between commas. */
+/* The fields of a feature, between commas. */
 #include "formats.h"
 #include <string.h>
 
-/* Takes the quotes off a field, where doubled ones stand for one. Answers where what is behind it
- * begins. */
+/* Removes the quotes of a field in place; a doubled quote becomes one. Returns the text after the
+   field and its comma. */
 static char *unquoted(char *field) {
     char *to = field, *from = field;
     while (*from) {
@@ -17,8 +17,8 @@ static char *unquoted(char *field) {
     return behind;
 }
 
-/* Blanks before a field are dropped, quotes are taken off, and behind the last comma nothing is a
-   field. The last of `most` fields has the rest. (MeCab) */
+/* Drops blanks before a field, and removes quotes. Nothing after the last comma is no field. The
+   last of `most` fields has the remainder of the text. (MeCab) */
 size_t cut_fields(char *text, const char **fields, size_t most) {
     size_t count = 0;
     while (*text && count < most) {

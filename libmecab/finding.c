@@ -1,4 +1,4 @@
-/* Which image is meant, and which settings go with it. */
+/* Finds the image of a model, and the settings for it. */
 #define _GNU_SOURCE
 #include "layer.h"
 #include <errno.h>
@@ -8,7 +8,7 @@
 #include <sys/stat.h>
 #include <unistd.h>
 
-/* Where the library is installed, and where images are made at run time. */
+/* Where the library is installed, and the image directory of the system. */
 #ifndef PREFIX
 #define PREFIX "/usr/local"
 #endif
@@ -16,16 +16,16 @@
 #define IMAGES "/usr/local/var/lib/kumquatsieve"
 #endif
 
-/* The image of who names none, and of a folder that is named. */
+/* The name of the default image, and of the image in a directory that is given. */
 static const char NAME[] = "kumquatsieve", IMAGE[] = "kumquatsieve.img";
 
-/* The path at which the machine's own image would be. */
+/* The path of the system's default image, which is reported if there is no image. */
 static const char AWAITED[] = IMAGES "/kumquatsieve.img";
 static const char VARIABLE[] = "KUMQUATSIEVE_DICTIONARY";
 static const char SYSTEM_SETTINGS[] = "/etc/mecabrc";
 static const char RC_PATH[] = "$(rcpath)";
 
-/* Whose settings were read. */
+/* Where the settings came from: the option, the user or the system. */
 typedef enum source { NO_SOURCE, GIVEN_SOURCE, USERS_SOURCE, SYSTEM_SOURCE } source;
 
 static bool is_folder(const char *path) {
@@ -38,7 +38,7 @@ static bool is_regular_file(const char *path) {
     return stat(path, &of) == 0 && S_ISREG(of.st_mode);
 }
 
-/* A folder's file, NULL where there is no memory. */
+/* Returns the path of a file in a directory, which the caller frees, or NULL if memory runs out. */
 static char *in_folder(const char *folder, const char *name) {
     size_t length = strlen(folder) + strlen(name) + 2;
     char *path = malloc(length);
@@ -53,13 +53,13 @@ static bool is_in_folder(const char *folder, const char *name) {
     return is_there;
 }
 
-/* Compiled or not. */
+/* Whether a directory has a dictionary of MeCab, compiled or not. */
 static bool is_of_mecab(const char *folder) {
     return is_in_folder(folder, "sys.dic") || is_in_folder(folder, "matrix.def");
 }
 
-/* The name of an image that kumquatsieve-import makes of the sources of a folder of this name:
-   without the character code, and Debian's naist-jdic is naist. */
+/* Returns the length of the part of a directory's name that kumquatsieve-import takes as the name
+   of the image: without the character encoding, and `naist` of Debian's naist-jdic. */
 static size_t length_of_name(const char *name) {
     static const char *const CODES[] = {"-utf8", "-utf-8", "-eucjp", "-euc-jp", "-sjis"};
     size_t length = strlen(name);
@@ -72,7 +72,7 @@ static size_t length_of_name(const char *name) {
                : length;
 }
 
-/* Those that kumquatsieve-import knows by their names. */
+/* Whether kumquatsieve-import knows a dictionary by this name. */
 static bool is_known(const char *name) {
     static const char *const NAMES[] = {"ipadic", "juman", "naist", "unidic"};
     for (size_t i = 0; i < sizeof NAMES / sizeof *NAMES; i++) {
@@ -81,6 +81,7 @@ static bool is_known(const char *name) {
     return false;
 }
 
+/* Reports that a directory has a dictionary of MeCab, and how to import it as `name`. */
 static bool fail_not_imported(fault *error, const char *folder, const char *name) {
     if (is_known(name)) {
         return fail(
@@ -116,7 +117,8 @@ static bool find(find_call *find_path, const char *name, char **path) {
     return code == KUMQUATSIEVE_FILE;
 }
 
-/* The image that was imported from a folder of MeCab's, by its name. */
+/* Returns the path of the image that was imported from a directory of MeCab's, which the caller
+   frees, or NULL after an error. */
 static char *imported(const char *folder, fault *error) {
     char whole[PATH_MAX];
     const char *path = realpath(folder, whole) ? whole : folder;
@@ -130,8 +132,7 @@ static char *imported(const char *folder, fault *error) {
     return image;
 }
 
-/* The path of a file, or of the image of a bare name in an image directory. NULL if no image has
-   the name, or memory runs out. */
+/* Returns the path of the image with a name, which the caller frees, or NULL after an error. */
 static char *path_of(const char *name, fault *error) {
     char *path = NULL;
     if (!find(kumquatsieve_find_image, name, &path))
@@ -141,8 +142,8 @@ static char *path_of(const char *name, fault *error) {
     return path;
 }
 
-/* The image that is named: a file, or that of a folder, or one in an image directory by its name.
- */
+/* Returns the path of the image that `name` means, which the caller frees, or NULL after an error:
+   a file, the image in a directory, or an image by its bare name. */
 static char *image_of(const char *name, fault *error) {
     if (!is_folder(name)) return path_of(name, error);
     if (!is_in_folder(name, IMAGE) && is_of_mecab(name)) return imported(name, error);
@@ -151,7 +152,8 @@ static char *image_of(const char *name, fault *error) {
     return path;
 }
 
-/* What a file of settings calls its own folder by. (MeCab) */
+/* Returns `value` with the first $(rcpath) replaced by the directory of `file`, which the caller
+   frees, or NULL if memory runs out. (MeCab) */
 static char *with_rc_path(const char *value, const char *file) {
     const char *found = strstr(value, RC_PATH);
     const char *slash = strrchr(file, '/');
@@ -167,8 +169,9 @@ static char *with_rc_path(const char *value, const char *file) {
     return path;
 }
 
-/* The option's file, or the user's own, or that of the environment, or the system's. (MeCab) Only
- * the last one may be missing, and the user's. */
+/* Sets *file to the path of the settings, which the caller frees, or to NULL if memory runs out: of
+   the option, of the user, of the environment, or of the system. (MeCab) The files of the user and
+   of the system need not exist. */
 static source read_sources(settings *to, char **file, fault *error) {
     const char *given = setting_of(to, "rcfile"), *home = secure_getenv("HOME"),
                *named = secure_getenv("MECABRC");
@@ -189,8 +192,9 @@ static source read_sources(settings *to, char **file, fault *error) {
     return from;
 }
 
-/* What is nearer to the caller goes before what is the machine's. The folder of the system's
- * settings goes last: it is MeCab's own. */
+/* Returns the name of the image, which the caller frees, or NULL if memory runs out. Settings of
+   the caller and the user come before those of the system. The dictionary of the system's settings
+   comes last, because it is MeCab's own. */
 static char *chosen_name(const char *option, const char *setting, source from) {
     const char *named = secure_getenv(VARIABLE);
     const char *chosen = option;
@@ -204,8 +208,8 @@ static char *chosen_name(const char *option, const char *setting, source from) {
     return strdup(setting ? setting : AWAITED);
 }
 
-/* The settings beside an image NAME.img are NAME.dicrc and NAME.pos-id.def. Where the image is a
- * link they are beside what it leads to. */
+/* Returns the path of the file beside NAME.img that is NAME with this ending, which the caller
+   frees, or NULL if memory runs out. If the image is a link, the file is beside its target. */
 char *beside(const char *image, const char *ending) {
     char whole[PATH_MAX];
     const char *path = realpath(image, whole) ? whole : image;
@@ -216,14 +220,15 @@ char *beside(const char *image, const char *ending) {
     return made;
 }
 
-/* Whether there is no such name, or can be none. What is there and can't be read, as a link that
- * leads nowhere, is reported by who reads it. */
+/* Whether there is no file of this name, or can be none. A file that can't be read, such as a
+   broken link, is not missing, so its reader reports it. */
 static bool is_missing(const char *path) {
     struct stat of;
     return lstat(path, &of) != 0 && (errno == ENOENT || errno == ENOTDIR || errno == ENAMETOOLONG);
 }
 
-/* Reads the settings beside an image with this checksum. Those of another one count as missing. */
+/* Reads the settings beside an image with this checksum. Settings for another image count as
+   missing. */
 bool read_beside(settings *to, const char *image, const unsigned char *checksum, fault *error) {
     char *path = beside(image, ".dicrc");
     bool is_other = false;
@@ -235,6 +240,8 @@ bool read_beside(settings *to, const char *image, const unsigned char *checksum,
     return is_read;
 }
 
+/* Reads the settings, and returns the path of the image, or NULL after an error. `option` is the
+   dictionary of the options, or NULL. */
 static char *find_named(settings *to, const char *option, fault *error) {
     char *file = NULL, *setting = NULL, *image = NULL;
     source from = read_sources(to, &file, error);
@@ -250,7 +257,7 @@ static char *find_named(settings *to, const char *option, fault *error) {
     return image;
 }
 
-/* The path of the image; the settings have then what MeCab's files say. */
+/* Also adds the settings in MeCab's files to `to`. */
 char *find_image(settings *to, fault *error) {
     const char *given = setting_of(to, "dicdir");
     char *option = given && *given ? strdup(given) : NULL;
@@ -263,5 +270,4 @@ char *find_image(settings *to, fault *error) {
     return image;
 }
 
-/* The path of a user's image; NULL if no image has the name, or memory runs out. */
 char *find_user_image(const char *name, fault *error) { return path_of(name, error); }

@@ -1,4 +1,4 @@
-/* What the layer stands on: faults, bytes, settings, lines and formats. */
+/* Errors, byte buffers, settings, lines and formats. */
 #ifndef FORMATS_H
 #define FORMATS_H
 #include <stdarg.h>
@@ -9,33 +9,34 @@
 
 enum { ERROR_MAX = 2048 };
 
-/* What went wrong last, as mecab_strerror answers it. */
+/* The text of the last error, which mecab_strerror returns. */
 typedef struct fault {
     char text[ERROR_MAX];
 } fault;
 
-/* fault.c. Each leaves a text, and answers false. */
+/* fault.c. Set the text of an error, and return false. */
 bool fail(fault *error, const char *text, ...) __attribute__((format(printf, 2, 3)));
 bool fail_memory(fault *error);
 bool fail_code(fault *error, const char *what, uint32_t code);
 bool fail_left_out(fault *error, const char *what);
-/* That of the calls which have nothing to keep it in, one for each thread. */
+/* Returns the calling thread's error for calls without a tagger, a model or a lattice. */
 fault *common_fault(void);
 
-/* Bytes that grow, with a zero behind them. */
+/* A byte buffer that grows, with a zero byte after its `length` bytes. */
 typedef struct bytes {
     char *at;
     size_t length;
     size_t room;
 } bytes;
 
-/* bytes.c */
+/* bytes.c. Makes room for `length` bytes and a zero byte. Like the next two, it returns false, and
+   changes nothing, if memory runs out. */
 bool grow_bytes(bytes *of, size_t length);
 bool set_bytes(bytes *to, const void *from, size_t length);
 bool add_bytes(bytes *to, const char *from, size_t length);
 void free_bytes(bytes *of);
 
-/* Fields of a feature; the text is cut in place. (fields.c) */
+/* fields.c. Splits a text in place into at most `most` fields. Returns their number. */
 size_t cut_fields(char *text, const char **fields, size_t most);
 
 typedef struct setting {
@@ -43,8 +44,8 @@ typedef struct setting {
     char *value;
 } setting;
 
-/* What a caller asked for, and what files say. `others` are the words that are no options, which
- * stay the caller's. */
+/* Settings of a caller and of files. `others` are the arguments that are no options; the caller
+   owns their texts. */
 typedef struct settings {
     setting *all;
     size_t count;
@@ -53,12 +54,18 @@ typedef struct settings {
     int other_count;
 } settings;
 
-/* settings.c */
+/* settings.c. Returns the value of a setting, or NULL. */
 const char *setting_of(const settings *of, const char *name);
+
+/* Returns the value of a setting as a number, or `otherwise` if it is not set. */
 long number_of(const settings *of, const char *name, long otherwise);
+
+/* Whether the value of a setting is 1. */
 bool is_set(const settings *of, const char *name);
 bool is_only_blanks(const char *text);
 bool set(settings *to, const char *name, const char *value, fault *error);
+
+/* Removes the settings after the first `count`. */
 void forget_settings(settings *of, size_t count);
 void free_settings(settings *of);
 
@@ -67,15 +74,17 @@ void free_settings(settings *of);
 enum { CHECKSUM = 32 };
 typedef enum stamp { NO_STAMP, OWN_STAMP, OTHER_STAMP } stamp;
 
-/* settings.c. stamp_in judges a first line by the checksum of the image. read_settings takes a
-   checksum for settings beside an image, and NULL for others. If the settings are for another image
-   it reads none and sets *is_other. */
+/* settings.c. Returns whether a first line has the checksum of an image, another one, or none. */
 stamp stamp_in(const char *line, const unsigned char *checksum);
+
+/* Reads a file of settings. `checksum` is that of the image for settings beside an image, and NULL
+   for others. If the settings are for another image, sets *is_other and reads none. */
 bool read_settings(settings *to, const char *path, const unsigned char *checksum, bool *is_other,
                    fault *error);
 
-/* Bytes that were read from a file, of which `told` were told as lines and `seen` have no line's
-   end behind those. `number` is that of the line that was told last, from 1. */
+/* The state of reading lines: `held` are bytes of the file, of which the first `told` were returned
+   as lines, and the first `seen` have no line end after those. `number` is the number of the line
+   that was returned last, from 1. */
 typedef struct lines {
     int from;
     bytes held;
@@ -85,12 +94,13 @@ typedef struct lines {
     bool is_over;
 } lines;
 
-/* lines.c. The next line, without its end, or NULL where there is none. What was written is flushed
-   before the file is waited for, so that who writes a line and waits gets its answer. */
+/* lines.c. Sets *line to the next line without its end, or to NULL at the end of the file. Flushes
+   `to` before it waits for the file, so that a program that writes a line and waits gets the
+   result. Returns false after an error. */
 bool next_line(lines *of, FILE *to, const char **line, size_t *length, fault *error);
 
-/* What a format's piece prints. FIELDS is followed by its FIELDs; what prints a number stands from
- * FIRST_NUMBER on. */
+/* What an item of a format prints. FIELDS is followed by its FIELDs. The kinds after FIRST_NUMBER
+   print a number. */
 typedef enum kind {
     TEXT,
     SENTENCE,
@@ -120,8 +130,8 @@ typedef enum kind {
     RIGHT_ID,
 } kind;
 
-/* A piece: of a TEXT the bytes from `from` on, of FIELDS the separator, of a FIELD its number from
- * 0. */
+/* An item of a format: a TEXT has `length` bytes from `from` on, FIELDS has a separator, and a
+   FIELD has its number from 0. */
 typedef struct item {
     kind kind;
     char separator;
@@ -137,7 +147,7 @@ typedef struct items {
     bytes text;
 } items;
 
-/* items.c */
+/* items.c. Parses the format `text`, which an error calls `name`. Returns false after an error. */
 bool read_items(items *to, const char *text, const char *name, fault *error);
 void free_items(items *of);
 
@@ -145,8 +155,8 @@ typedef enum style { LINES_STYLE, WAKATI_STYLE, NO_STYLE, OWN_STYLE } style;
 
 enum { NODE_PART, UNK_PART, BOS_PART, EOS_PART, EON_PART, PART_COUNT };
 
-/* An output format. No two have the same number, which is above 0. With a style of its own it has
-   items, and texts that are freed with it. What the proved library has not is printed here. */
+/* An output format. Each has a number of its own, above 0. In OWN_STYLE it has items, and owns its
+   texts. `is_proved` is true if the proved library can print it. */
 typedef struct format {
     style style;
     const char *texts[PART_COUNT];

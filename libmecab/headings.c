@@ -1,5 +1,4 @@
-/* What is read of an image's file before the library opens it: which file it is, the sizes in its
-   header and its checksum. */
+/* Reads the header and the checksum of an image before the library opens it. */
 #include "layer.h"
 #include <errno.h>
 #include <fcntl.h>
@@ -8,7 +7,7 @@
 
 static const unsigned OF_MECAB = 0xef718f77U;
 
-/* Reads as many bytes from a place on as there are, up to a length. */
+/* Reads up to `length` bytes from offset `at` on. Returns false if a read fails. */
 static bool read_from(int file, unsigned char *to, size_t length, off_t at) {
     ssize_t got = 1;
     while (length > 0 && got != 0) {
@@ -33,7 +32,7 @@ static bool read_opened(int file, const char *path, heading *to, fault *error) {
     return is_read || fail(error, "%s: can't be read", path);
 }
 
-/* A pipe is opened without a wait for its writer, and rejected. */
+/* Opens a pipe without waiting for a writer, and rejects it. */
 bool read_heading(heading *to, const char *path, fault *error) {
     int file = open(path, O_RDONLY | O_CLOEXEC | O_NONBLOCK | O_NOCTTY);
     if (file < 0) {
@@ -49,7 +48,7 @@ uint32_t number_at(const heading *of, size_t at) {
     return bytes[0] | (uint32_t)bytes[1] << 8 | (uint32_t)bytes[2] << 16 | (uint32_t)bytes[3] << 24;
 }
 
-/* MeCab's dictionaries begin with their size, exclusive or a number of MeCab's. */
+/* A compiled dictionary of MeCab starts with its size, XORed with a constant. */
 bool is_compiled_by_mecab(const heading *of) {
     return of->which.size >= HEADER && (number_at(of, 0) ^ OF_MECAB) == (uint64_t)of->which.size;
 }

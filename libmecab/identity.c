@@ -1,4 +1,4 @@
-/* What tells a file from others, and from what it was before. */
+/* Tells files apart, and a file from an earlier state of it. */
 #include "layer.h"
 
 identity identity_of(const struct stat *of) {

@@ -1,18 +1,18 @@
-/* Images that the process has: each is opened once, and handed to all models that want it. What the
-   last model has given back stays until other images are wanted, so that who makes one tagger after
-   the other opens once. */
+/* The open images of the process. Each image is opened once and shared by all models. The images
+   that the last model released stay open until others are needed, so a caller that makes one tagger
+   after another opens them once. */
 #include "layer.h"
 #include <stdlib.h>
 #include <string.h>
 
-/* Where an image's header has its sizes: right ids, left ids, tokens of the lexicon, unknown tokens
-   after those. (docs/FORMAT.md) */
+/* The offsets of sizes in the header of an image: of right ids, left ids, tokens of the lexicon,
+   and unknown tokens, which follow those. (docs/FORMAT.md) */
 enum { RIGHT_AT = 16, LEFT_AT = 20, TOKENS_AT = 32, UNKNOWN_AT = 36, VERSION = 102 };
 
-/* A system's image and those of users that are laid over it, with what nodes take of their tokens,
-   by each rules for ids that were asked for. Tokens are counted through all images: those of one
-   stand from its start on, and end where the next one's start. The holders and the list of all are
-   under the one lock of lock.c, and the tokens under that of loads. */
+/* A system image and user images, and what nodes copy of their tokens, for each set of
+   part-of-speech rules that was used. Tokens are numbered through all images: those of image i from
+   starts[i] up to starts[i + 1]. The holders and the list of all images are under lock_shared, and
+   the tokens under lock_loads. */
 struct images {
     images *next;
     unsigned long holders;
@@ -24,11 +24,12 @@ struct images {
     mecab_dictionary_info_t *infos;
 };
 
-/* All that are there, and the ones of these that nobody holds. */
+/* All open images, and the ones of them that nobody holds, or NULL. */
 static images *loaded;
 static images *kept;
 
-/* The images of these files, held, where the process has them. The lock is the caller's. */
+/* Returns the open images of these files with one more holder, or NULL. The caller holds
+ * lock_shared. */
 static images *find(const identity *files, size_t count) {
     for (images *one = loaded; one; one = one->next) {
         bool same = one->count == count;
@@ -41,7 +42,8 @@ static images *find(const identity *files, size_t count) {
     return NULL;
 }
 
-/* Where a file can't be told apart, it is opened, which says what is wrong with it. */
+/* Returns the open images at these paths with one more holder, or NULL. NULL is also returned if a
+   path has no state, and then opening it reports why. */
 static images *find_at(char *const *paths, size_t count) {
     identity *files = calloc(count, sizeof *files);
     images *found = NULL;
@@ -90,7 +92,7 @@ static bool add_info(mecab_dictionary_info_t **last, const char *path, const hea
     return true;
 }
 
-/* Keeps what the headers say of images that were opened. */
+/* Sets the starts and the infos by the headers. Returns false if memory runs out. */
 static bool keep_headers(images *to, char *const *paths) {
     mecab_dictionary_info_t **last = &to->infos;
     for (size_t i = 0; i < to->count; i++) {
@@ -109,7 +111,7 @@ static bool has_changed(const char *path, const heading *before) {
     return !are_same(&before->which, &now);
 }
 
-/* Images that are being opened. */
+/* The state of opening images. */
 typedef struct opening {
     images *to;
     char *const *paths;
@@ -117,8 +119,8 @@ typedef struct opening {
     bool is_changed;
 } opening;
 
-/* Opens an image over those before it. If the file was replaced or changed since its heading was
-   read, that may be the heading of another file. */
+/* Adds an image to those before it. Sets `is_changed` and fails if the file was replaced or changed
+   since its header was read, because that may be the header of another file. */
 static bool open_image(opening *of, size_t number, fault *error) {
     heading *first = &of->to->files[number];
     const char *path = of->paths[number];
@@ -131,7 +133,8 @@ static bool open_image(opening *of, size_t number, fault *error) {
     return code == KUMQUATSIEVE_OK || fail_image(error, path, first, code, why);
 }
 
-/* Opens the images as one dictionary, the first one the system's. As MeCab it tests no digest. */
+/* Opens the images as one dictionary. The first one is the system image. Like MeCab, it tests no
+   checksum. */
 static bool open_all(opening *of, fault *error) {
     uint32_t code = KUMQUATSIEVE_OK;
     bool is_open = true;
@@ -142,7 +145,7 @@ static bool open_all(opening *of, fault *error) {
     return is_open && (keep_headers(of->to, of->paths) || fail_memory(error));
 }
 
-/* Starts over while files are changed, but not for ever. */
+/* Starts again if a file was changed meanwhile, at most TRIES times. */
 static bool open_unchanged(images *to, char *const *paths, fault *error) {
     opening of = {to, paths, KUMQUATSIEVE_EMPTY, true};
     bool is_open = false;
@@ -183,8 +186,8 @@ static images *load_all(char *const *paths, size_t count, fault *error) {
     return NULL;
 }
 
-/* Others are kept, or none; what was kept before is taken out of the list, to be freed. The lock is
- * the caller's. */
+/* Keeps the images `by`, or none if it is NULL. Removes those that were kept before from the list,
+   and returns them for the caller to free. The caller holds lock_shared. */
 static images *exchange_kept(images *by) {
     images *before = kept;
     for (images **at = &loaded; before && *at; at = &(*at)->next) {
@@ -196,7 +199,7 @@ static images *exchange_kept(images *by) {
     return before;
 }
 
-/* Also at the process's end, and where the library is closed. */
+/* Frees the kept images. Runs also at the end of the process, and when the library is closed. */
 __attribute__((destructor)) static void drop_kept(void) {
     lock_shared();
     images *before = exchange_kept(NULL);
@@ -204,7 +207,7 @@ __attribute__((destructor)) static void drop_kept(void) {
     if (before) free_images(before);
 }
 
-/* Who wants an image while another thread loads it waits, and gets that one. */
+/* A thread that needs images which another thread is opening waits for them. */
 images *open_images(char *const *paths, size_t count, fault *error) {
     lock_loads();
     images *opened = find_at(paths, count);

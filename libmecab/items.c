@@ -1,4 +1,4 @@
-/* Formats in MeCab's items and escapes, read into parts. */
+/* Parses formats in MeCab's items and escapes. */
 #include "formats.h"
 #include <kumquatsieve.h>
 #include <stdlib.h>
@@ -67,8 +67,8 @@ static uint32_t add_letter(items *to, const letter *of, const char **at, fault *
     return add(to, (item){.kind = of->kind}, error) ? KUMQUATSIEVE_OK : KUMQUATSIEVE_MEMORY;
 }
 
-/* Numbers of fields between commas, behind `[` and up to `]`. Where there is no digit the number is
- * 0. (MeCab) */
+/* Adds the numbers of fields between `[` and `]`, separated by commas. A number without digits is
+   0. (MeCab) */
 static uint32_t add_fields(items *to, const char **at, char separator, fault *error) {
     if (**at != '[') return KUMQUATSIEVE_BAD_INDEX;
     ++*at;
@@ -112,7 +112,7 @@ static uint32_t add_item(items *to, const char **at, fault *error) {
     return letter == 'f' ? add_fields(to, at, '\t', error) : add_separated(to, at, error);
 }
 
-/* A byte of the text behind the one before, or of a new piece. */
+/* Adds a byte to the last item, if that is a text, or else a new text. */
 static uint32_t add_byte(items *to, char byte, fault *error) {
     item *last = to->count > 0 ? &to->all[to->count - 1] : NULL;
     size_t at = to->text.length;

@@ -1,4 +1,4 @@
-/* Sentences and their best paths. */
+/* The calls of a lattice: sentences and their best paths. */
 #include "layer.h"
 #include "layer_cpp.h"
 #include <stdlib.h>
@@ -17,7 +17,7 @@ mecab_lattice_t *mecab_lattice_new(void) {
     return lattice;
 }
 
-/* That of the lattice's model, whichever tagger parses it. (MeCab) */
+/* It is the format of the lattice's model, whichever tagger parses it. (MeCab) */
 const format *format_of(const mecab_lattice_t *lattice) {
     return lattice->model ? &lattice->model->texts : default_format();
 }
@@ -48,7 +48,7 @@ void mecab_lattice_clear(mecab_lattice_t *lattice) {
     lattice->z = 0;
 }
 
-/* A sentence is kept where it lies, or copied where that is asked for. (MeCab) */
+/* The sentence is not copied, unless the request type says so. (MeCab) */
 void mecab_lattice_set_sentence2(mecab_lattice_t *lattice, const char *sentence, size_t size) {
     mecab_lattice_clear(lattice);
     if (!sentence) return;
@@ -69,7 +69,7 @@ void mecab_lattice_set_sentence(mecab_lattice_t *lattice, const char *sentence) 
 
 const char *mecab_lattice_get_sentence(mecab_lattice_t *lattice) { return lattice->sentence; }
 size_t mecab_lattice_get_size(mecab_lattice_t *lattice) { return lattice->size; }
-/* Once a sentence is set, before it is parsed. (MeCab) */
+/* It is available once a sentence is set, also before that is parsed. (MeCab) */
 int mecab_lattice_is_available(mecab_lattice_t *lattice) { return lattice->sentence != NULL; }
 
 mecab_node_t *mecab_lattice_get_bos_node(mecab_lattice_t *lattice) {

@@ -1,5 +1,5 @@
-/* MeCab's C interface over kumquatsieve.h. It is not proved; docs/LIBMECAB.md says what each call
-   does. Types and declarations are those of MeCab's own header. */
+/* MeCab's C interface over kumquatsieve.h. It is not proved. docs/LIBMECAB.md says what each call
+   does; the calls are declared in MeCab's own header. */
 #ifndef LAYER_H
 #define LAYER_H
 #include "formats.h"
@@ -9,13 +9,13 @@
 #include <stdatomic.h>
 #include <sys/stat.h>
 
-/* What is declared here is the library's own: other libraries of a program don't replace it. */
+/* These declarations are private, so no other library of a program can replace them. */
 #pragma GCC visibility push(hidden)
 
-/* Images that are loaded. (images.c) */
+/* Open images. (images.c) */
 typedef struct images images;
 
-/* What tells a file from others, and from what it was before. (identity.c) */
+/* Identifies a file and its state. (identity.c) */
 typedef struct identity {
     dev_t device;
     ino_t number;
@@ -24,23 +24,23 @@ typedef struct identity {
     struct timespec changed;
 } identity;
 
-/* The length of an image's header (docs/FORMAT.md), and how often at most images are opened if
-   files are replaced in the meantime. */
+/* The length of the header of an image in bytes (docs/FORMAT.md), and how often images are opened
+   at most if files are replaced meanwhile. */
 enum { HEADER = 104, TRIES = 8 };
 
-/* What is read of a file before it is opened as an image. */
+/* The identity, header and checksum of a file, read before it is opened as an image. */
 typedef struct heading {
     identity which;
     unsigned char header[HEADER];
     unsigned char checksum[CHECKSUM];
 } heading;
 
-/* Rules for ids of parts of speech. (posids.c) */
+/* Rules for part-of-speech ids. (posids.c) */
 typedef struct posids posids;
 
-/* What nodes take of the tokens of their words: for each token a node of no place and no path, or
-   NULL where no word of it came yet. The next one has other rules for ids; without rules each id is
-   0. (tokens.c) */
+/* The parts of nodes that depend on the tokens of their words: for each token a node without place
+   and path, or NULL if no word of it appeared yet. `next` has other rules for ids. Without rules
+   each id is 0. (tokens.c) */
 typedef struct tokens {
     struct tokens *next;
     const size_t *starts;
@@ -50,10 +50,9 @@ typedef struct tokens {
     identity rules;
 } tokens;
 
-/* The dictionaries of a model and what goes with them, which stay as they are; no two have the same
-   number, which is above 0. The boundary is what the nodes of a beginning and an end have in
-   common. The holders are the model and the lattices that were cut by it; their count is under the
-   lock of lock.c. */
+/* The dictionaries of a model with their settings. They don't change. Each has a number of its own,
+   above 0. `boundary` has what the nodes of BOS and EOS have in common. Holders are the model and
+   the lattices that it parsed. Their count is under lock_shared. */
 typedef struct tables {
     unsigned long number;
     unsigned long holders;
@@ -65,9 +64,9 @@ typedef struct tables {
     mecab_node_t boundary;
 } tables;
 
-/* Which tables taggers take, and what is asked of new ones. It goes with the last of its holders:
-   its owner, its taggers and its lattices. All but the texts is under the lock of lock.c; the
-   number of its tables is told beside them, so that who has those already needs no lock. */
+/* The tables of its taggers, and the request type of new ones. It is freed with its last holder:
+   its owner, its taggers and its lattices. All but the texts is under lock_shared. The number of
+   its tables is also stored apart, so a lattice that has these tables needs no lock. */
 struct mecab_model_t {
     atomic_ulong holders;
     tables *tables;
@@ -77,8 +76,8 @@ struct mecab_model_t {
     double theta;
 };
 
-/* What it has to change belongs to its own lattice; so other lattices are parsed by several
-   threads. What it is asked for is asked of its own sentences alone. */
+/* Only its own lattice changes in a parse, so several threads can parse other lattices with it. The
+   request type is for its own lattice only. */
 struct mecab_t {
     mecab_model_t *model;
     mecab_lattice_t *lattice;
@@ -87,14 +86,16 @@ struct mecab_t {
     fault error;
 };
 
-/* A sentence and, once it was parsed, its best path: the nodes from its beginning to its end, and,
-   once that was asked for, its text in the format of its model, or the default one where it has
-   none, and the nodes of the whole lattice: those that are not on the path are `others`. The cutter
-   is over the tables of the tagger that parsed it last; `chosen` is the number of the cutter's
-   format, 0 where none was chosen. A sentence is odd where it was not cut as it is, placed where
-   the nodes of the lattice stand at their places, chained where all of them are linked in place of
-   the path, and told where its best path was given as the first of several. It has a long word if
-   one was found that no node has room for. */
+/* A sentence and, after a parse, its best path: the nodes from BOS to EOS. When they are first
+   asked for, also its text in the format of its model, or in the default format, and the nodes of
+   the whole lattice, of which `others` are not on the path. The cutter is over the tables of the
+   tagger that parsed it last, and `chosen` is the number of the cutter's format, or 0.
+
+   - `is_odd`: the sentence was changed before it was segmented, or split
+   - `has_long_word`: a word is too long for a node
+   - `is_placed`: `begins` and `ends` list the nodes of the whole lattice
+   - `is_chained`: all nodes are linked, instead of those of the path
+   - `is_told`: the best path was returned as the first of N */
 struct mecab_lattice_t {
     mecab_model_t *model;
     tables *tables;
@@ -135,27 +136,34 @@ struct mecab_lattice_t {
     fault error;
 };
 
-/* Set where an image has settings beside it. No option and no file has such a name. */
+/* A setting that is 1 if an image has settings beside it. No option and no file can set it. */
 #define HAS_DICRC "=dicrc"
 
-/* options.c */
+/* Unless a comment says otherwise, a function with `error` sets it, and returns false or NULL,
+   after an error. */
+
+/* options.c. Read options from arguments, or from a line. */
 bool read_options(settings *to, int count, char *const *words, fault *error);
 bool read_options_of(settings *to, const char *line, fault *error);
 
-/* finding.c */
+/* finding.c. Returns the path of the system image, which the caller frees. */
 char *find_image(settings *to, fault *error);
 bool read_beside(settings *to, const char *image, const unsigned char *checksum, fault *error);
+
+/* Returns the path of the image of a user dictionary, which the caller frees. */
 char *find_user_image(const char *name, fault *error);
 char *beside(const char *image, const char *ending);
 
-/* missing.c */
+/* missing.c. Reports that no image has a bare name. Returns false. */
 bool fail_missing(fault *error, const char *name, const char *prefix);
 
-/* lock.c. The one is held over a load of images. The other one is for all that models and lattices
-   share; it is held for a few steps, never over a sentence, and not for each. Both are free in a
-   child that was forked while another thread had them. */
+/* lock.c. The lock that is held while images are opened. Like the next one, it is free in a child
+   that was forked while another thread held it. */
 void lock_loads(void);
 void unlock_loads(void);
+
+/* The lock of the data that models and lattices share. It is held for a few steps, and never while
+   a sentence is parsed. */
 void lock_shared(void);
 void unlock_shared(void);
 
@@ -163,64 +171,71 @@ void unlock_shared(void);
 identity identity_of(const struct stat *of);
 bool are_same(const identity *one, const identity *other);
 
-/* headings.c. number_at reads four bytes of the header. */
+/* headings.c. number_at returns the number in the four bytes at an offset of the header. */
 bool read_heading(heading *to, const char *path, fault *error);
 uint32_t number_at(const heading *of, size_t at);
 bool is_compiled_by_mecab(const heading *of);
 
-/* images.c. What nodes take of tokens stays as long as its images; the rules are those of a file,
- * or none. */
+/* images.c. Opens images, or adds a holder to open ones. release_images removes it. */
 images *open_images(char *const *paths, size_t count, fault *error);
 void release_images(images *of);
 bool is_first_file(const images *of, const identity *which);
 const mecab_dictionary_info_t *infos_of(const images *of);
+/* Returns the tokens of images by the file `rules`, or without rules. The images own them. */
 tokens *tokens_over(images *of, const char *rules, fault *error);
 bool cutter_over_images(kumquatsieve_cutter *to, const images *from, fault *error);
 
-/* tokens.c */
+/* tokens.c. Returns the tokens in a list by the file `rules`, or without rules. */
 tokens *tokens_in(tokens **list, const size_t *starts, size_t count, const char *rules,
                   const unsigned char *checksum, fault *error);
+/* Makes the node of the token of a word, unless there is one. */
 bool keep_token(const tokens *of, kumquatsieve_cutter *cutter, const kumquatsieve_word *word,
                 fault *error);
 void free_tokens(tokens *list);
 
-/* posids.c. Without a file, or with one that is for another image than the one with the checksum,
-   each id is that of MeCab's compiler then. */
+/* posids.c. Reads rules. If there is no file, or it is for another image than the one with the
+   checksum, each id is the one that MeCab's compiler has without rules. */
 posids *read_posids(FILE *file, const char *path, const unsigned char *checksum, fault *error);
+/* Returns the id of a feature, and changes the feature. */
 uint16_t posid_of(const posids *of, char *feature);
 void free_posids(posids *of);
 
-/* dictionary.c */
+/* dictionary.c. Returns new tables with one holder. */
 tables *load_tables(settings *from, fault *error);
 tables *hold_tables(mecab_model_t *model);
 void release_tables(tables *of);
 bool cutter_over_tables(kumquatsieve_cutter *to, const tables *from, fault *error);
 
-/* texts.c */
+/* texts.c. The format of a lattice without a model. */
 const format *default_format(void);
+/* Sets the format of a cutter. Returns false if the library doesn't have it. */
 bool accepts_texts(kumquatsieve_cutter *cutter, const format *texts, fault *error);
+/* Sets *to to the format of the settings, which it checks with the cutter. */
 bool choose_texts(format *to, const settings *from, kumquatsieve_cutter *cutter, fault *error);
 void free_texts(format *of);
 
-/* printer.c */
+/* printer.c. Adds a node in the format of its status. */
 bool print_by_status(const format *texts, const mecab_lattice_t *lattice, const mecab_node_t *node,
                      bytes *to, fault *error);
+/* Adds the path of a lattice. */
 bool print_path(const format *texts, const mecab_lattice_t *lattice, bytes *to, fault *error);
 
-/* model.c */
+/* model.c. Returns a new model with one holder. mecab_model_destroy removes a holder. */
 mecab_model_t *open_model(settings *from, fault *error);
 mecab_model_t *hold_model(mecab_model_t *model);
 
 /* tagger.c */
 mecab_t *open_tagger(mecab_model_t *model, fault *error);
+/* Parses a sentence with the lattice of the tagger. `request` is added to the request type of the
+   tagger, and `nodes` is whether nodes are needed. */
 bool parse_own(mecab_t *tagger, const char *text, size_t length, int request, bool nodes);
 
-/* lattice.c */
+/* lattice.c. Returns the format of a lattice. */
 const format *format_of(const mecab_lattice_t *lattice);
 
-/* A part of a sentence that is cut by itself: it begins at `at` of the text, behind words that end
-   at `place` of the sentence and cost `cost`. Without a text it is the sentence itself, as it is.
- */
+/* A part of a sentence that is segmented by itself: it starts at `at` of the text, after words that
+   end at `place` of the sentence and have the cost `cost`. Without a text it is the whole sentence,
+   unchanged. */
 typedef struct part {
     repaired *text;
     size_t at;
@@ -234,24 +249,37 @@ typedef struct part {
 void add_cost(part *of);
 bool fit_in_node(kumquatsieve_word *word);
 bool add_nodes(mecab_lattice_t *lattice, part *of, fault *error);
+
+/* Makes the nodes of the path, unless there are some. */
 bool make_nodes(mecab_lattice_t *lattice, fault *error);
+
+/* Makes the nodes of the words in `found` that are not on the path. */
 bool make_others(mecab_lattice_t *lattice, fault *error);
 
-/* whole.c */
+/* whole.c. Adds the words of the lattice of a part to `found`. */
 bool add_found(mecab_lattice_t *lattice, part *of, fault *error);
+
+/* Sets `found` to the words of the whole lattice. */
 bool find_nodes(mecab_lattice_t *lattice, fault *error);
 
-/* places.c */
+/* places.c. Links all nodes of the lattice, instead of those of the path. */
 bool chain_all(mecab_lattice_t *lattice, fault *error);
 
-/* odd.c */
+/* odd.c. Whether a code means that the library rejects a sentence that MeCab accepts. */
 bool is_odd(uint32_t code);
+
+/* Adds the nodes of the path of such a sentence, and sets *cost to the cost of the path. */
 bool add_odd(mecab_lattice_t *lattice, long *cost, fault *error);
+
+/* Adds the words of the whole lattice of such a sentence to `found`. */
 bool find_odd(mecab_lattice_t *lattice, fault *error);
 
-/* parsing.c */
+/* parsing.c. Forgets the result of the last parse. */
 void forget_path(mecab_lattice_t *lattice);
+
+/* Parses the sentence of a lattice. `nodes` is whether nodes are needed. */
 bool parse(mecab_model_t *model, mecab_lattice_t *lattice, bool nodes, fault *error);
+/* Returns the text of the path, in a buffer of the lattice. */
 const char *text_of(mecab_lattice_t *lattice, fault *error);
 
 #pragma GCC visibility pop

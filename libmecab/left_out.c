@@ -1,4 +1,5 @@
-/* What needs more than the best path: each answers NULL or 0, and says so. */
+/* Calls that are not supported, because they need more than the best path. Each sets the error, and
+   returns NULL or 0. */
 #include "layer.h"
 
 #pragma GCC diagnostic ignored "-Wunused-parameter"
@@ -21,8 +22,8 @@ const char *mecab_lattice_get_feature_constraint(mecab_lattice_t *lattice, size_
     return NULL;
 }
 
-/* These answer nothing, so that the sentence is refused where it is parsed, and no older result
- * stays. */
+/* The calls that set a constraint return nothing. So the sentence is rejected when it is parsed,
+   and an earlier result is forgotten. */
 static void constrain(mecab_lattice_t *lattice, const char *what) {
     fail_left_out(&lattice->error, what);
     lattice->is_constrained = true;

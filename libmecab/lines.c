@@ -1,4 +1,4 @@
-/* Lines of a file, as they come. */
+/* Reads the lines of a file, each as soon as it is complete. */
 #include "formats.h"
 #include <errno.h>
 #include <string.h>
@@ -6,7 +6,7 @@
 
 enum { PIECE = 1 << 16 };
 
-/* Takes what is at hand. Bytes that were told are dropped first. */
+/* Drops the bytes of lines that were returned, and makes one read. */
 static bool read_more(lines *of, fault *error) {
     of->held.length -= of->told;
     if (of->told > 0) memmove(of->held.at, of->held.at + of->told, of->held.length);
@@ -22,7 +22,8 @@ static bool read_more(lines *of, fault *error) {
     return true;
 }
 
-/* The line that is whole, or what is left where there is no more. */
+/* Finds the next complete line, or the last line at the end of the file. Returns false if there is
+   none yet. */
 static bool find_line(lines *of, const char **line, size_t *length) {
     const char *from = of->held.at + of->told;
     size_t unseen = of->held.length - of->seen;

@@ -1,13 +1,13 @@
-/* The locks of what models and lattices share. */
+/* The locks of the data that models and lattices share. */
 #include "layer.h"
 #include <pthread.h>
 
 static pthread_mutex_t loads = PTHREAD_MUTEX_INITIALIZER;
 static pthread_mutex_t shared = PTHREAD_MUTEX_INITIALIZER;
 
-/* Files are opened and read under the lock of loads, and a thread that was cancelled in such a call
-   would keep it for ever. So no thread is cancelled while it has that lock. Whether it could be
-   before is kept here, under the lock. */
+/* Whether the thread that holds `loads` could be cancelled before. Files are opened and read under
+   that lock, and a thread that was cancelled meanwhile would never unlock it. So a thread that
+   holds it can't be cancelled. */
 static int cancellation;
 
 void lock_loads(void) {
@@ -37,9 +37,9 @@ static void unlock_all(void) {
     unlock_loads();
 }
 
-/* A child has the forking thread alone: what another one had locked would stay so. At a fork these
-   are locked before the lock of capi/src, which is noted earlier: images are given back under the
-   lock of loads, and that takes the other one. */
+/* Holds the locks during a fork. Otherwise a child, which has only the forking thread, could start
+   with a lock that another thread held. A fork locks these before the lock of capi/src, which is
+   registered earlier: images are released under `loads`, and that takes the other lock. */
 __attribute__((constructor)) static void keep_over_forks(void) {
     pthread_atfork(lock_all, unlock_all, unlock_all);
 }

@@ -1,10 +1,10 @@
-/* The report of a bare name that no image has. */
+/* Reports that no image has a bare name. */
 #define _GNU_SOURCE
 #include "layer.h"
 #include <stdlib.h>
 #include <string.h>
 
-/* How many names are listed. */
+/* How many names are listed at most. */
 enum { NAMES_MAX = 20 };
 
 static bool add_text(bytes *to, const char *text) { return add_bytes(to, text, strlen(text)); }
@@ -45,6 +45,7 @@ static bool add_texts(bytes *to, const texts *list, size_t most, size_t *count) 
     return is_added;
 }
 
+/* Adds the image directories. */
 static bool add_folders(bytes *to, const char *prefix) {
     texts paths;
     size_t count = 0;
@@ -69,7 +70,7 @@ static bool add_names(bytes *to, const char *prefix) {
     return is_added && add_text(to, more);
 }
 
-/* Names the folders that were searched for an image, and the images that are there. */
+/* Reports the directories that were searched, the images there, and a hint. */
 bool fail_missing(fault *error, const char *name, const char *prefix) {
     static const char HINT[] = "kumquatsieve-import makes an image";
     bytes text = {0};

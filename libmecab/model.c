@@ -1,17 +1,18 @@
-/* Models: dictionaries that taggers share. */
+/* The calls of a model: dictionaries that taggers share. */
 #include "layer.h"
 #include <stdlib.h>
 #include <string.h>
 
 static const double THETA = 0.75;
 
-/* What needs more than the best path of each sentence is refused before one comes. */
+/* Rejects settings that need more than the best path, before there is a sentence. */
 static bool are_had(const settings *from, fault *error) {
     if (is_set(from, "partial")) return fail_left_out(error, "partial parsing");
     return number_of(from, "nbest", 1) <= 1 || fail_left_out(error, "N-best");
 }
 
-/* Returns the number that the text is, also with blanks around it; 0 for another text. (MeCab) */
+/* Returns the number in the setting `theta`, which may have blanks around it; 0 for another text.
+   (MeCab) */
 static double theta_of(const settings *from) {
     const char *text = setting_of(from, "theta");
     char *end = NULL;
@@ -19,7 +20,7 @@ static double theta_of(const settings *from) {
     return text && (end == text || !is_only_blanks(end)) ? 0 : theta;
 }
 
-/* What taggers ask of their own sentences. (MeCab) */
+/* Returns the request type of new taggers. (MeCab) */
 static int request_of(const settings *from) {
     long level = number_of(from, "lattice-level", 0);
     int request = MECAB_ONE_BEST;
@@ -30,7 +31,7 @@ static int request_of(const settings *from) {
     return request;
 }
 
-/* Texts are looked at before a sentence is, by a cutter that is given back. */
+/* Chooses the format, and checks it over the dictionaries before there is a sentence. */
 static bool take_texts(mecab_model_t *model, const settings *from, fault *error) {
     kumquatsieve_cutter cutter = KUMQUATSIEVE_EMPTY;
     if (!cutter_over_tables(&cutter, model->tables, error)) return false;
@@ -79,7 +80,7 @@ mecab_model_t *hold_model(mecab_model_t *model) {
     return model;
 }
 
-/* Lets go of a model, by its owner, a tagger or a lattice. */
+/* Removes a holder of a model: its owner, a tagger or a lattice. */
 void mecab_model_destroy(mecab_model_t *model) {
     if (!model || --model->holders > 0) return;
     release_tables(model->tables);
@@ -102,8 +103,8 @@ mecab_lattice_t *mecab_model_new_lattice(mecab_model_t *model) {
     return lattice;
 }
 
-/* A model takes the dictionaries of another, which goes, and what that asks of new taggers; formats
-   stay. (MeCab) Sentences that come later are cut by them. */
+/* Moves the dictionaries and the request type of `other` to `model`, and destroys `other`. The
+   format stays. (MeCab) Later sentences are segmented by the new dictionaries. */
 int mecab_model_swap(mecab_model_t *model, mecab_model_t *other) {
     if (!is_given(model) || !is_given(other)) return 0;
     if (model == other) return fail(common_fault(), "a model is swapped for itself");

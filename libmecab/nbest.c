@@ -1,12 +1,13 @@
-/* N-best with an N of 1: the best path, and then no more. And nodes in the format of a tagger. */
+/* The calls for N-best, of which only the best path is supported, and nodes in the format of a
+   tagger. */
 #include "layer.h"
 #include "layer_cpp.h"
 #include <string.h>
 
 enum { NBEST_MAX = 512 };
 
-/* The first path is the best one. A second one is refused, so that nobody takes the best one for
- * all there are. */
+/* The first path is the best one. The second one is an error, so that no caller takes the best path
+   for the only one. */
 int mecab_lattice_next(mecab_lattice_t *lattice) {
     if (!(lattice->request & MECAB_NBEST))
         return fail(&lattice->error, "MECAB_NBEST request type is not set");
@@ -16,7 +17,7 @@ int mecab_lattice_next(mecab_lattice_t *lattice) {
     return true;
 }
 
-/* What stands behind the paths, at the end of the sentence. */
+/* Adds the text after the last of N paths. */
 static bool add_end(mecab_lattice_t *lattice) {
     mecab_node_t end = {.surface = lattice->sentence + lattice->size, .stat = MECAB_EON_NODE};
     return print_by_status(format_of(lattice), lattice, &end, &lattice->listed, &lattice->error);
@@ -104,7 +105,7 @@ const mecab_node_t *mecab_nbest_next_tonode(mecab_t *tagger) {
                : NULL;
 }
 
-/* A lattice without a model has a format of its own for one node. (MeCab) */
+/* Prints a node. A lattice without a model has a format of its own for that. (MeCab) */
 static bool print_one(mecab_lattice_t *lattice, const mecab_node_t *node, fault *error) {
     bytes *to = &lattice->listed;
     if (!node) return fail(error, "node is NULL");

@@ -1,4 +1,4 @@
-/* Nodes of the words that were cut. */
+/* MeCab's nodes of the words of a sentence. */
 #include "layer.h"
 #include <stdlib.h>
 
@@ -20,20 +20,20 @@ static bool grow_nodes(mecab_lattice_t *lattice, size_t wanted, fault *error) {
     return true;
 }
 
-/* So many words, and further nodes for them and for the end. */
+/* Makes room for `count` words, and for further nodes of them and of the end. */
 static bool has_room(mecab_lattice_t *lattice, size_t count, fault *error) {
     size_t wanted = lattice->count + count + 1;
     if (count > lattice->words_room && !grow_words(lattice, count, error)) return false;
     return wanted <= lattice->nodes_room || grow_nodes(lattice, wanted, error);
 }
 
-/* Adds the cost of a part to that of the parts before it. A part that is only blanks adds none. */
+/* Adds the cost of a part to the cost of the parts before it. A part of blanks only has none. */
 void add_cost(part *of) {
     if (of->word_count > 0) of->cost += (long)of->total;
 }
 
-/* A word's places are those of the text that was cut; here they become those of the sentence, and
-   the costs those from its beginning on. A word begins where the one before ended. */
+/* Changes the places and costs of words of a part to those of the whole sentence. A word starts,
+   with its blanks, where the word before it ended. */
 static void move_words(kumquatsieve_word *words, size_t count, part *of) {
     for (size_t i = 0; i < count; i++) {
         words[i].place = of->place;
@@ -44,9 +44,8 @@ static void move_words(kumquatsieve_word *words, size_t count, part *of) {
     add_cost(of);
 }
 
-/* Makes a word fit in MeCab's nodes, which have 16 bits for its length with its blanks: of more
-   blanks the word keeps the last ones. False if the surface alone is longer, as one in surrogate
-   pairs may be. */
+/* Makes a word fit in a node, which has 16 bits for its length with its blanks: drops the first of
+   too many blanks. Returns false if the surface alone is too long, as it may be in surrogates. */
 bool fit_in_node(kumquatsieve_word *word) {
     if (word->end - word->start > UINT16_MAX) return false;
     if (word->end - word->place > UINT16_MAX) word->place = word->end - UINT16_MAX;
@@ -59,8 +58,8 @@ static bool fit_all(kumquatsieve_word *words, size_t count) {
     return fitting == count;
 }
 
-/* Sets a node of a word, which has no neighbors then. False, and nothing is set, where the word's
-   token has no node yet, or is past those of its dictionary. */
+/* Sets the node of a word, without its neighbors. Returns false, and sets nothing, if the token of
+   the word has no node yet, or its dictionary has no such token. */
 static inline bool set_node(const tokens *of, mecab_node_t *node, const kumquatsieve_word *word,
                             const char *sentence) {
     size_t token = of->starts[word->dictionary] + word->token;
@@ -76,8 +75,8 @@ static inline bool set_node(const tokens *of, mecab_node_t *node, const kumquats
     return true;
 }
 
-/* Sets nodes of the path, each between its neighbors, up to the first word that none can be set of.
- * Answers how many. */
+/* Sets nodes of the path with their neighbors, up to the first word whose node can't be set.
+   Returns how many were set. */
 static size_t set_nodes(const tokens *of, mecab_node_t *node, size_t id,
                         const kumquatsieve_word *words, size_t count, const char *sentence) {
     const kumquatsieve_word *word = words, *end = words + count;
@@ -89,14 +88,14 @@ static size_t set_nodes(const tokens *of, mecab_node_t *node, size_t id,
     return (size_t)(word - words);
 }
 
-/* What a model says in place of the features of unknown words. */
+/* Replaces the features of unknown words by the setting `unk-feature`. */
 static void exchange_features(const char *feature, mecab_node_t *nodes, size_t count) {
     for (size_t i = 0; i < count; i++) {
         if (nodes[i].stat == MECAB_UNK_NODE) nodes[i].feature = feature;
     }
 }
 
-/* The nodes of all words that were cut last. */
+/* Sets the nodes of all words that were segmented last. */
 static bool set_all(mecab_lattice_t *lattice, mecab_node_t *nodes, size_t count, fault *error) {
     const tokens *of = lattice->tables->tokens;
     for (size_t done = 0;;) {
@@ -110,7 +109,7 @@ static bool set_all(mecab_lattice_t *lattice, mecab_node_t *nodes, size_t count,
     return true;
 }
 
-/* The words of what was cut last, as nodes behind those of the parts before. */
+/* Adds the nodes of the part that was segmented last after those of the parts before it. */
 bool add_nodes(mecab_lattice_t *lattice, part *of, fault *error) {
     size_t count = of->word_count;
     if (!has_room(lattice, count, error)) return false;
@@ -132,7 +131,7 @@ static bool add_whole(mecab_lattice_t *lattice, long *cost, fault *error) {
     return add_nodes(lattice, &whole, error);
 }
 
-/* The beginning and the end, around the words. */
+/* Sets the nodes of BOS and EOS around the words. */
 static void add_boundaries(mecab_lattice_t *lattice, long cost) {
     mecab_node_t *first = lattice->nodes, *end = first + lattice->count;
     *first = *end = lattice->tables->boundary;
@@ -147,8 +146,8 @@ static void add_boundaries(mecab_lattice_t *lattice, long cost) {
     lattice->count++;
 }
 
-/* Links the nodes of all parts anew: those of the first ones may have been moved when others were
- * added. */
+/* Links the nodes of all parts again, because the nodes may have been moved when later ones were
+   added. */
 static void link_nodes(mecab_lattice_t *lattice) {
     for (size_t i = 1; i < lattice->count; i++) {
         lattice->nodes[i - 1].next = &lattice->nodes[i];
@@ -161,8 +160,8 @@ static bool add_words(mecab_lattice_t *lattice, long *cost, fault *error) {
     return lattice->is_odd ? add_odd(lattice, cost, error) : add_whole(lattice, cost, error);
 }
 
-/* Makes the nodes of a sentence that was cut. If a word of an odd one is too long for a node, the
-   sentence is cut anew, in parts that have no such word. */
+/* If a word of an odd sentence is too long for a node, the sentence is segmented again in parts
+   that have no such word. */
 bool make_nodes(mecab_lattice_t *lattice, fault *error) {
     long cost = 0;
     if (lattice->count > 0) return true;
@@ -177,7 +176,7 @@ bool make_nodes(mecab_lattice_t *lattice, fault *error) {
     return true;
 }
 
-/* Room for the nodes that are not on the path. They don't move while the sentence stays. */
+/* Makes room for the nodes that are not on the path, which don't move until the next sentence. */
 static bool has_others_room(mecab_lattice_t *lattice, fault *error) {
     if (lattice->found_count <= lattice->others_room) return true;
     free(lattice->others);
@@ -198,7 +197,7 @@ static bool make_other(mecab_lattice_t *lattice, mecab_node_t *node, const kumqu
     return true;
 }
 
-/* The nodes of the words that were found and are not on the path, in their order. */
+/* They are in the order of the words. */
 bool make_others(mecab_lattice_t *lattice, fault *error) {
     if (!has_others_room(lattice, error)) return false;
     mecab_node_t *node = lattice->others;

@@ -1,13 +1,13 @@
-/* Sentences that the library refuses: those that are not UTF-8 are made so, and those that are too
- * long are cut in parts. */
+/* Segments sentences that the library rejects: replaces bytes that are not UTF-8, and splits
+   sentences that are too long. */
 #include "layer.h"
 #include <string.h>
 
-/* How many bytes a part has at most: what the library takes, and what has no word of more than
-   65,535 given bytes. A pair of surrogates in six bytes is cut as a character of four. */
+/* The most bytes of a part: what the library accepts, and what has no word of more than 65,535
+   bytes of the sentence. A pair of surrogates in six bytes is segmented as a character of four. */
 enum { PART_MAX = 1048576, SHORT_PART_MAX = UINT16_MAX / 6 * 4 };
 
-/* What is taken of each part, once it was cut. */
+/* A function that takes the result of each part. */
 typedef bool take(mecab_lattice_t *lattice, part *of, fault *error);
 
 static bool cut_part(mecab_lattice_t *lattice, part *of, size_t length, take *from, fault *error) {
@@ -32,8 +32,7 @@ bool is_odd(uint32_t code) {
     return code == KUMQUATSIEVE_NOT_UTF8 || code == KUMQUATSIEVE_TOO_LONG;
 }
 
-/* The nodes are one list, with the bytes that were given, so that the words join to the sentence.
- */
+/* The nodes have the bytes of the sentence as it was given. */
 bool add_odd(mecab_lattice_t *lattice, long *cost, fault *error) {
     repaired text = {0};
     part one = {.text = &text};
@@ -47,8 +46,8 @@ bool add_odd(mecab_lattice_t *lattice, long *cost, fault *error) {
     return is_cut;
 }
 
-/* All nodes of such a sentence: its parts are cut once more, since of each the lattice is there
- * only until the next one is cut. */
+/* Segments the parts once more, because the library has the lattice of a part only until the next
+   one is segmented. */
 bool find_odd(mecab_lattice_t *lattice, fault *error) {
     repaired text = {0};
     part one = {.text = &text};

@@ -1,4 +1,4 @@
-/* MeCab's options, as its callers give them. */
+/* MeCab's options. */
 #include "layer.h"
 #include <ctype.h>
 #include <stdlib.h>
@@ -38,7 +38,8 @@ static const struct {
     {'h', "help", false},
 };
 
-/* Which option a word is, and where in it a value may stand. */
+/* Returns the index of the option that a word is, or NOWHERE. Sets *value_at to the offset of a
+   value in the word. */
 static int find(const char *word, size_t *value_at) {
     for (int i = 0; i < (int)(sizeof KNOWN / sizeof *KNOWN); i++) {
         size_t length = strlen(KNOWN[i].name);
@@ -55,7 +56,7 @@ static int find(const char *word, size_t *value_at) {
     return NOWHERE;
 }
 
-/* One option, at words[i]; answers how many words it takes, 0 where it is refused. */
+/* Reads the option at words[i]. Returns how many words it takes, or 0 if it is rejected. */
 static int read_option(settings *to, int i, int count, char *const *words, fault *error) {
     size_t value_at = 0;
     int found = find(words[i], &value_at);
@@ -78,8 +79,8 @@ static int read_option(settings *to, int i, int count, char *const *words, fault
     return set(to, name, words[i + 1], error) ? 2 : 0;
 }
 
-/* The first word is the program's name. Options may follow other words, and what follows `--` is
-   ignored. (MeCab) */
+/* The first word is the name of the program. Options may follow other words, and what follows `--`
+   is ignored. (MeCab) */
 bool read_options(settings *to, int count, char *const *words, fault *error) {
     int i = 1;
     to->others = malloc((size_t)(count > 0 ? count : 1) * sizeof *to->others);
@@ -94,7 +95,8 @@ bool read_options(settings *to, int count, char *const *words, fault *error) {
     return true;
 }
 
-/* Words between blanks. Quotes are letters as others are. (MeCab) */
+/* Splits a line at blanks into words[1] and the following. Quotes have no meaning. (MeCab) Returns
+   the number of words, the program's name included. */
 static int cut_words(char *line, char **words) {
     int count = 1;
     for (char *at = line; *at;) {

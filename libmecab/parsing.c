@@ -1,9 +1,9 @@
-/* A sentence is cut, and its path told as nodes, as text, or as both. */
+/* Parses a sentence, to nodes, to text, or to both. */
 #include "layer.h"
 #include <string.h>
 
-/* Has the lattice's cutter over the model's dictionaries, where it isn't yet, or those were
- * exchanged since. */
+/* Makes the cutter of a lattice, if it has none yet, or the dictionaries of the model were swapped
+   since. */
 static bool take_tables(mecab_model_t *model, mecab_lattice_t *lattice, fault *error) {
     if (lattice->tables && lattice->tables->number == model->number) return true;
     kumquatsieve_cutter cutter = KUMQUATSIEVE_EMPTY;
@@ -20,7 +20,7 @@ static bool take_tables(mecab_model_t *model, mecab_lattice_t *lattice, fault *e
     return true;
 }
 
-/* What the best path alone can't answer is refused; a probability is a node's. */
+/* Rejects requests that need more than the best path. A probability matters for nodes only. */
 static bool is_had(const mecab_lattice_t *lattice, bool nodes, fault *error) {
     int request = lattice->request;
     if (request & MECAB_PARTIAL) return fail_left_out(error, "partial parsing");
@@ -64,8 +64,8 @@ static bool print_into(mecab_lattice_t *lattice, const format *texts, fault *err
     return set_bytes(&lattice->printed, text, length) || fail_memory(error);
 }
 
-/* By the library, where it has the format and the sentence was cut as it is, and by the nodes else.
- */
+/* The library prints the text if it has the format and segmented the sentence as it is. Otherwise
+   the text is printed of the nodes. */
 static bool print_text(mecab_lattice_t *lattice, fault *error) {
     const format *texts = format_of(lattice);
     bool is_changed =
@@ -76,7 +76,7 @@ static bool print_text(mecab_lattice_t *lattice, fault *error) {
            print_path(texts, lattice, &lattice->printed, error);
 }
 
-/* The text is made when it is asked for. */
+/* The text is printed when it is first asked for. */
 const char *text_of(mecab_lattice_t *lattice, fault *error) {
     if (!lattice->is_cut) {
         fail(error, "no sentence was parsed");

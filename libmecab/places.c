@@ -1,8 +1,8 @@
-/* The nodes of the lattice by the places where they begin and end, as arrays over a sentence. */
+/* Arrays of the nodes of the lattice by the places where they start and end. */
 #include "layer.h"
 #include <stdlib.h>
 
-/* MeCab's arrays go some places beyond the sentence. */
+/* How many places MeCab's arrays have beyond the sentence. */
 enum { BEYOND = 4 };
 
 static bool has_room(mecab_lattice_t *lattice, fault *error) {
@@ -22,8 +22,8 @@ static void clear(mecab_lattice_t *lattice) {
         lattice->begins[i] = lattice->ends[i] = NULL;
 }
 
-/* A word begins with its blanks, and of those that begin at a place the last one is the first in
- * its list. All nodes are counted through. (MeCab) */
+/* Lists the nodes by their starts, blanks included. The last node of a place is the first one in
+   its list. All nodes are numbered. (MeCab) */
 static void link_begins(mecab_lattice_t *lattice) {
     mecab_node_t *best = lattice->nodes + 1, *other = lattice->others;
     for (size_t i = 0; i < lattice->found_count; i++) {
@@ -41,8 +41,8 @@ static void add_end(mecab_lattice_t *lattice, mecab_node_t *node, size_t end) {
     lattice->ends[end] = node;
 }
 
-/* Of those that end at a place the one is the first in its list that was connected last: place by
-   place, and at a place in the order of the list of those that begin there. (MeCab) */
+/* Lists the nodes by their ends. The node that was added last is the first one in its list: nodes
+   are added by their starts, and those of one start in the order of its list. (MeCab) */
 static void link_ends(mecab_lattice_t *lattice) {
     for (size_t at = 0; at < lattice->size; at++) {
         for (mecab_node_t *node = lattice->begins[at]; node; node = node->bnext)
@@ -50,8 +50,8 @@ static void link_ends(mecab_lattice_t *lattice) {
     }
 }
 
-/* The beginning ends where the sentence begins, and the end begins where it ends. The end is also
-   one of those that end where the last word does. (MeCab) */
+/* Lists BOS as ending at the start of the sentence, and EOS as starting at its end. EOS is also
+   listed as ending where the last word ends. (MeCab) */
 static void link_boundaries(mecab_lattice_t *lattice) {
     mecab_node_t *first = lattice->nodes, *end = &lattice->nodes[lattice->count - 1],
                  *last = end - 1;
@@ -73,8 +73,7 @@ static bool place_nodes(mecab_lattice_t *lattice, fault *error) {
     return true;
 }
 
-/* The whole lattice is made when it is asked for. Before a sentence is parsed no place has a node.
- */
+/* Makes the arrays when they are first asked for. Before a parse no place has a node. */
 static bool has_places(mecab_lattice_t *lattice, fault *error) {
     if (lattice->is_placed) return true;
     if (lattice->is_cut)
@@ -84,8 +83,7 @@ static bool has_places(mecab_lattice_t *lattice, fault *error) {
     return lattice->is_placed;
 }
 
-/* Links all nodes, in the order of the places where they begin, in place of those of the path.
- * (MeCab) */
+/* The nodes are linked in the order of their starts. (MeCab) */
 bool chain_all(mecab_lattice_t *lattice, fault *error) {
     if (!has_places(lattice, error)) return false;
     mecab_node_t *last = lattice->nodes;

@@ -1,4 +1,4 @@
-/* Part-of-speech ids, by the rules of a pos-id.def. */
+/* Part-of-speech ids by the rules of a pos-id.def. */
 #include "layer.h"
 #include <errno.h>
 #include <stdlib.h>
@@ -6,9 +6,9 @@
 
 enum { FIELD_MAX = 512, NO_ID = 65535 };
 
-/* A rule's fields, of which each has to match a feature's, and its id. The first `shared` fields
-   are those of the rule before. `other` is the number of the next rule whose first field is another
-   one. */
+/* The fields of a rule, each of which must match the field of a feature, and the rule's id. The
+   first `shared` fields are equal to those of the rule before. `other` is the number of the next
+   rule with another first field. */
 typedef struct rule {
     char *text;
     const char **fields;
@@ -18,7 +18,7 @@ typedef struct rule {
     uint16_t id;
 } rule;
 
-/* The rules, of which the longest has so many fields. */
+/* All rules. The longest one has `longest` fields. */
 struct posids {
     rule *rules;
     size_t count;
@@ -60,7 +60,7 @@ static bool add_rule(posids *to, const char *pattern, size_t length, unsigned lo
     return true;
 }
 
-/* A pattern and a number, with blanks between. (MeCab) */
+/* Reads a rule: a pattern and a number, with blanks between them. (MeCab) */
 static bool read_rule(posids *to, const char *line, fault *error) {
     const char *pattern = line + strspn(line, " \t");
     size_t length = strcspn(pattern, " \t");
@@ -80,8 +80,8 @@ typedef struct source {
     const unsigned char *checksum;
 } source;
 
-/* A first line that names the image is no rule. *is_other is set by one that names another image:
-   no rules are read then. */
+/* A first line with the checksum of the image is no rule. If it has another checksum, sets
+ *is_other and reads no rules. */
 static bool read_lines(posids *to, const source *from, bool *is_other, fault *error) {
     char *line = NULL;
     size_t room = 0, number = 0;
@@ -103,8 +103,8 @@ static bool read_lines(posids *to, const source *from, bool *is_other, fault *er
     return is_read;
 }
 
-/* Without a file each id is that of MeCab's compiler, which has one rule for all features then.
-   Rules for another image count as missing. */
+/* Without a file MeCab's compiler has one rule for all features, and so this does. Rules for
+   another image count as missing. */
 static bool read_rules(posids *to, const source *from, fault *error) {
     bool is_missing = from->file == NULL;
     if (!is_missing && !read_lines(to, from, &is_missing, error)) return false;
@@ -149,8 +149,8 @@ static bool are_equal(const char *one, const char *other) {
     return *one == *other && strcmp(one, other) == 0;
 }
 
-/* A pattern that begins with `*` matches all, and one in brackets each of what stands between bars.
- * (MeCab) */
+/* Whether a pattern matches a field. One that starts with `*` matches every field, and one in
+   parentheses each of its texts between bars. (MeCab) */
 static bool matches(const char *pattern, const char *field) {
     if (*pattern == '*' || are_equal(pattern, field)) return true;
     if (*pattern != '(') return false;
@@ -158,8 +158,8 @@ static bool matches(const char *pattern, const char *field) {
     return length >= 3 && pattern[length - 1] == ')' && is_one_of(pattern + 1, length - 2, field);
 }
 
-/* How many fields of a rule match, of which so many are known to, before the first one that
- * doesn't. */
+/* Returns how many fields of a rule match before the first one that doesn't. The first `matched`
+   ones are known to match. */
 static size_t matching(const rule *of, size_t matched, const char *const *fields, size_t count) {
     while (matched < of->field_count && matched < count &&
            matches(of->fields[matched], fields[matched]))
@@ -167,11 +167,11 @@ static size_t matching(const rule *of, size_t matched, const char *const *fields
     return matched;
 }
 
-/* That of the first rule that fits. A rule fails where the one before failed, as long as it shares
- * that field. */
+/* Returns the id of the first rule that matches. A rule fails at the same field as the rule before
+   it, if it shares that field. */
 static uint16_t id_by_fields(const posids *of, const char *const *fields, size_t count) {
     size_t matched = 0;
-    for (size_t i = 0; i<of->count; i = matched> 0 ? i + 1 : of->rules[i].other) {
+    for (size_t i = 0; i < of->count; i = matched != 0 ? i + 1 : of->rules[i].other) {
         const rule *one = &of->rules[i];
         if (matched < one->shared) continue;
         matched = matching(one, one->shared, fields, count);
@@ -180,8 +180,8 @@ static uint16_t id_by_fields(const posids *of, const char *const *fields, size_t
     return NO_ID;
 }
 
-/* The id by a feature, which is cut in place. What is behind the longest rule is not looked at, so
- * one field more has it. */
+/* Splits the feature into one field more than the longest rule has. The last one is the remainder,
+   which no rule needs. */
 uint16_t posid_of(const posids *of, char *feature) {
     const char *fields[FIELD_MAX];
     size_t most = of->longest < FIELD_MAX ? of->longest + 1 : FIELD_MAX;

@@ -1,11 +1,12 @@
-/* Nodes printed in formats that the proved library has not, and where it can't print them. */
+/* Prints nodes in formats that the proved library doesn't have, and of sentences that it can't
+ * print. */
 #include "layer.h"
 #include <stdlib.h>
 #include <string.h>
 
 enum { NUMBER_MAX = 64 };
 
-/* A node that is printed, and the fields of its feature once a format needs them. */
+/* The state of printing a node. The fields of its feature are found when a format needs them. */
 typedef struct printing {
     const mecab_lattice_t *lattice;
     const mecab_node_t *node;
@@ -35,8 +36,8 @@ static bool put_field(printing *of, size_t number, char separator, bool *is_firs
     return (!follows || put(of, &separator, 1, error)) && put(of, field, strlen(field), error);
 }
 
-/* Finds all fields of the node's feature, which has at most one more of them than commas. They lie
-   in a copy of the feature, which follows the list in the same block. */
+/* Finds the fields of the feature, at most one more than it has commas. They point into a copy of
+   the feature, which follows the list in the same block. */
 static bool find_fields(printing *of, fault *error) {
     const char *feature = feature_of(of->node);
     size_t size = strlen(feature) + 1, most = 1;
@@ -49,8 +50,8 @@ static bool find_fields(printing *of, fault *error) {
     return true;
 }
 
-/* Fields that begin with `*` are left out, and so is the separator behind one. (MeCab) Those that
- * are missing are left out too. */
+/* Prints fields. Leaves out those that start with `*`, with the separator after them (MeCab), and
+   those that are missing. */
 static bool put_fields(printing *of, const item **at, const item *end, fault *error) {
     char separator = (*at)->separator;
     bool is_first = true;
@@ -133,7 +134,7 @@ bool print_node(const items *format, const mecab_lattice_t *lattice, const mecab
     return is_put;
 }
 
-/* A node in the format of its kind. */
+/* Other styles than OWN_STYLE have no format of nodes. */
 bool print_by_status(const format *texts, const mecab_lattice_t *lattice, const mecab_node_t *node,
                      bytes *to, fault *error) {
     static const int PARTS[] = {NODE_PART, UNK_PART, BOS_PART, EOS_PART, EON_PART};
@@ -149,7 +150,7 @@ static bool print_line(const mecab_node_t *node, style style, bytes *to) {
            add_bytes(to, "\n", 1);
 }
 
-/* Styles that are no formats of a caller or a dictionary. */
+/* Prints the path in a style other than OWN_STYLE. */
 static bool print_plain(style style, const mecab_lattice_t *lattice, bytes *to) {
     const char *end = style == LINES_STYLE ? "EOS\n" : style == WAKATI_STYLE ? "\n" : "";
     for (const mecab_node_t *node = lattice->nodes[0].next; node->next; node = node->next) {

@@ -1,4 +1,4 @@
-/* What Debian's program `mecab` calls. */
+/* mecab_do, which is all of Debian's program `mecab`. */
 #include "layer.h"
 #include <errno.h>
 #include <fcntl.h>
@@ -22,7 +22,7 @@ static bool write_text(mecab_t *tagger, FILE *to, fault *error) {
            fail(error, "a write failed: %s", strerror(errno));
 }
 
-/* What is not UTF-8 in the lines that were cut. */
+/* The bytes that were not UTF-8, and the lines that had such bytes. */
 typedef struct tally {
     size_t bytes;
     size_t lines;

@@ -1,4 +1,4 @@
-/* Texts that are not UTF-8 (RFC 3629), made so, and texts that are too long, cut into parts. */
+/* Replaces what is not UTF-8 (RFC 3629) in a text, and splits texts that are too long. */
 #include "odd.h"
 #include <kumquatsieve.h>
 #include <stdlib.h>
@@ -9,9 +9,11 @@ static const char FULL_STOP[] = "\xe3\x80\x82";
 
 enum { REPLACEMENT_LENGTH = 3, SURROGATE_LENGTH = 3, PAIR_LENGTH = 6, PAIRED_LENGTH = 4 };
 
+/* Whether a byte continues a character. */
 static bool is_behind(unsigned char byte) { return (byte & 0xc0) == 0x80; }
 
-/* The length of the character that a text begins with, 0 where it begins with none. */
+/* Returns the length in bytes of the character at the start of a text, or 0 if none starts there.
+   `left` is the length of the text, and not 0. */
 static size_t character_length(const unsigned char *at, size_t left) {
     unsigned char first = at[0];
     if (first < 0x80) return 1;
@@ -29,7 +31,8 @@ static bool is_surrogate(const unsigned char *at, unsigned char least) {
     return at[0] == 0xed && at[1] >= least && at[1] <= least + 0x0f && is_behind(at[2]);
 }
 
-/* A pair of surrogates, each in three bytes, as Java writes characters past U+FFFF. */
+/* Reads a pair of surrogates of three bytes each, as Java writes characters after U+FFFF. Returns
+   false if there is none. */
 static bool read_pair(const unsigned char *at, size_t left, char *character) {
     if (left < PAIR_LENGTH || !is_surrogate(at, 0xa0) || !is_surrogate(at + SURROGATE_LENGTH, 0xb0))
         return false;
@@ -43,6 +46,7 @@ static bool read_pair(const unsigned char *at, size_t left, char *character) {
     return true;
 }
 
+/* Adds a replacement to the last exchange if it continues that one, or else as a new exchange. */
 static bool add_exchange(repaired *to, size_t at, size_t given_at, size_t length, size_t given) {
     exchange *last = to->count > 0 ? &to->exchanges[to->count - 1] : NULL;
     if (last && last->length == length && last->given == given &&
@@ -61,7 +65,8 @@ static bool add_exchange(repaired *to, size_t at, size_t given_at, size_t length
     return true;
 }
 
-/* What stands for bytes that are no character. */
+/* Adds the replacement of bytes that are no character: the character of a pair of surrogates, or
+   U+FFFD for one byte. */
 static bool add_other(repaired *to, const unsigned char *text, size_t *at, size_t size) {
     char pair[PAIRED_LENGTH];
     bool is_pair = read_pair(text + *at, size - *at, pair);
@@ -92,8 +97,7 @@ void free_repaired(repaired *of) {
     *of = (repaired){0};
 }
 
-/* Where a place of the repaired text stands in the one that was given. It is looked for from the
- * place that was asked for last. */
+/* The search starts at the exchange of the last call. */
 size_t given_at(repaired *of, size_t at) {
     while (of->asked > 0 && of->exchanges[of->asked - 1].at > at) of->asked--;
     while (of->asked < of->count && of->exchanges[of->asked].at <= at) of->asked++;
@@ -105,12 +109,13 @@ size_t given_at(repaired *of, size_t at) {
     return last->given_at + last->times * last->given + (behind - last->times * last->length);
 }
 
-/* The last place behind the first byte where a text has this one. */
+/* Returns the offset of the last `byte` after the first byte of a text, or 0. */
 static size_t last_place_of(const char *text, size_t length, char byte) {
     while (length > 1 && text[length - 1] != byte) length--;
     return length > 1 ? length - 1 : 0;
 }
 
+/* Returns the offset after the last full stop, or 0. */
 static size_t behind_last_stop(const char *text, size_t length) {
     for (size_t at = length; at >= REPLACEMENT_LENGTH; at--) {
         if (memcmp(text + at - REPLACEMENT_LENGTH, FULL_STOP, REPLACEMENT_LENGTH) == 0) return at;
@@ -118,8 +123,8 @@ static size_t behind_last_stop(const char *text, size_t length) {
     return 0;
 }
 
-/* Where a part of a text ends that is too long: before its last line feed, else behind its last
-   full stop, else before its last blank, else behind its last character. */
+/* A part of a text that is too long ends before the last line feed in reach, or else after the last
+   full stop, before the last blank, or after the last character. */
 size_t part_of(const char *text, size_t length, size_t most) {
     if (length <= most) return length;
     size_t end = last_place_of(text, most, '\n');

@@ -1,12 +1,12 @@
-/* Settings by their names: what a caller's options and MeCab's files of settings say. */
+/* Settings by their names, from a caller's options and from MeCab's files of settings. */
 #include "formats.h"
 #include <errno.h>
 #include <limits.h>
 #include <stdlib.h>
 #include <string.h>
 
-/* What MeCab's files can't set, since MeCab has a value of its own for each before it reads them.
- */
+/* Settings that MeCab's files can't change, because MeCab sets their defaults before it reads
+ * files. */
 static const char *const NOT_IN_FILES[] = {
     "node-format",   "unk-format", "bos-format",        "eos-format", "eon-format",
     "lattice-level", "nbest",      "max-grouping-size", "theta",      "cost-factor",
@@ -32,8 +32,8 @@ bool is_only_blanks(const char *text) {
     return *text == '\0';
 }
 
-/* Returns the number that the text is, also with blanks around it, such as a carriage return; 0 for
-   another text, and for a number that is no int. (MeCab) */
+/* Blanks around the number, such as a carriage return, are allowed. Another text, or a number that
+   is no int, counts as 0. (MeCab) */
 long number_of(const settings *of, const char *name, long otherwise) {
     const char *text = setting_of(of, name);
     char *end = NULL;
@@ -80,8 +80,8 @@ static bool is_in_files(const char *name, size_t length) {
     return true;
 }
 
-/* A name, `=` and a value. Empty lines say nothing, nor does what begins with `;` or `#`. (MeCab)
- */
+/* Reads a line: a name, `=` and a value. Ignores empty lines and lines that start with `;` or `#`.
+   (MeCab) */
 static bool read_line(settings *to, const char *line, fault *error) {
     if (*line == '\0' || *line == ';' || *line == '#') return true;
     const char *value = strchr(line, '=');
@@ -94,7 +94,7 @@ static bool read_line(settings *to, const char *line, fault *error) {
            add(to, line, length, value, error);
 }
 
-/* Such a line has the checksum in lowercase digits and nothing else. */
+/* Such a line has the checksum in lowercase hexadecimal digits and nothing after it. */
 stamp stamp_in(const char *line, const unsigned char *checksum) {
     static const char START[] = "; image-sha256 ", DIGITS[] = "0123456789abcdef";
     const char *digits = line + strlen(START);
@@ -116,7 +116,7 @@ typedef struct reading {
     bool is_other;
 } reading;
 
-/* Reads a line, of which the first one may name another image. */
+/* Reads a line. The first one may have the checksum of another image. */
 static bool take_line(reading *from, const char *line, settings *to, fault *error) {
     fault wrong;
     bool is_stamped = from->number == 1 && from->checksum;
@@ -144,7 +144,7 @@ static bool read_lines(reading *from, settings *to, fault *error) {
     return is_read;
 }
 
-/* What is set already stays as it is. */
+/* Settings that are set already stay unchanged. */
 bool read_settings(settings *to, const char *path, const unsigned char *checksum, bool *is_other,
                    fault *error) {
     reading from = {.file = fopen(path, "re"), .path = path, .checksum = checksum};
@@ -155,7 +155,7 @@ bool read_settings(settings *to, const char *path, const unsigned char *checksum
     return is_read;
 }
 
-/* Keeps the first settings alone. */
+/* The first `count` settings stay. */
 void forget_settings(settings *of, size_t count) {
     while (of->count > count) {
         of->count--;

@@ -1,4 +1,4 @@
-/* Taggers: what a model's dictionaries cut sentences by. */
+/* The calls of a tagger, which parses sentences with the dictionaries of a model. */
 #include "layer.h"
 #include "layer_cpp.h"
 #include <stdlib.h>
@@ -21,7 +21,7 @@ mecab_t *open_tagger(mecab_model_t *model, fault *error) {
     return tagger;
 }
 
-/* A tagger that alone holds its model. */
+/* Returns a tagger that is the only holder of its model, or NULL. */
 static mecab_t *opened(settings *from) {
     mecab_model_t *model = open_model(from, common_fault());
     mecab_t *tagger = model ? open_tagger(model, common_fault()) : NULL;
@@ -66,8 +66,7 @@ int mecab_parse_lattice(mecab_t *tagger, mecab_lattice_t *lattice) {
     return parse(tagger->model, lattice, true, &lattice->error);
 }
 
-/* A sentence of the tagger's own lattice. What is asked for goes before it, since that may be to
- * copy it. */
+/* The request type is set before the sentence, because it decides whether that is copied. */
 bool parse_own(mecab_t *tagger, const char *text, size_t length, int request, bool nodes) {
     mecab_lattice_t *lattice = tagger->lattice;
     lattice->request = tagger->request | request;
@@ -106,7 +105,7 @@ const mecab_node_t *mecab_sparse_tonode(mecab_t *tagger, const char *text) {
     return mecab_sparse_tonode2(tagger, text, text ? strlen(text) : 0);
 }
 
-/* What this library lacks is refused where a sentence is parsed. */
+/* Adds or removes a request type. An unsupported one is rejected when a sentence is parsed. */
 static void ask(mecab_t *tagger, int type, bool wanted) {
     if (wanted)
         tagger->request |= type;
@@ -129,7 +128,7 @@ int mecab_get_lattice_level(mecab_t *tagger) {
     return tagger->request & MECAB_MARGINAL_PROB ? 2 : tagger->request & MECAB_NBEST ? 1 : 0;
 }
 
-/* Level 1 is N-best, 2 marginal probabilities, and neither goes away again. (MeCab) */
+/* Level 1 is N-best, level 2 is marginal probabilities. A lower level removes neither. (MeCab) */
 void mecab_set_lattice_level(mecab_t *tagger, int level) {
     static const int TYPES[] = {MECAB_ONE_BEST, MECAB_NBEST, MECAB_MARGINAL_PROB};
     if (level >= 0 && level <= 2) tagger->request |= TYPES[level];

@@ -1,4 +1,4 @@
-/* The formats that a model's settings ask for. */
+/* The output format of a model, by its settings. */
 #include "layer.h"
 #include <stdlib.h>
 #include <string.h>
@@ -9,8 +9,7 @@ static const char *const PARTS[PART_COUNT] = {"node-format", "unk-format", "bos-
                                               "eos-format", "eon-format"};
 static const char *const DEFAULTS[PART_COUNT] = {NODE, NODE, "", EOS, ""};
 
-/* No two formats have the same number. 0 is none's: a lattice's cutter has it before a format was
- * chosen. */
+/* The numbers of formats start at 1. 0 means that a lattice's cutter has no format yet. */
 static atomic_ulong last_number = 1;
 static const format LINES = {
     .style = LINES_STYLE, .texts = {NODE, NODE, "", EOS, ""}, .number = 1, .is_proved = true};
@@ -34,8 +33,8 @@ bool accepts_texts(kumquatsieve_cutter *cutter, const format *texts, fault *erro
     return code == KUMQUATSIEVE_OK || fail_code(error, PARTS[part & 3], code);
 }
 
-/* A part's setting, or that of a style, where the others have nothing in place of a default.
- * (MeCab) */
+/* Returns the setting of a part, or its default. With a style, returns the setting of the part and
+   the style, which is empty by default. (MeCab) */
 static const char *text_in(const settings *from, int part, const char *style) {
     char name[256];
     if (!*style) {
@@ -54,7 +53,7 @@ static bool is_default(const char *const texts[]) {
     return true;
 }
 
-/* What the library has is left to it, and the rest is printed here. */
+/* Parses a format. The library prints it, if it has all items, and print_path does otherwise. */
 static bool read_own(format *to, const char *const texts[], kumquatsieve_cutter *cutter,
                      fault *error) {
     fault refused;
@@ -68,7 +67,7 @@ static bool read_own(format *to, const char *const texts[], kumquatsieve_cutter 
     return true;
 }
 
-/* The default unknown words' text stands for that of known ones. (MeCab) */
+/* The default format of unknown words means the format of known words. (MeCab) */
 static bool choose_own(format *to, const settings *from, const char *style,
                        kumquatsieve_cutter *cutter, fault *error) {
     const char *texts[PART_COUNT];
@@ -80,7 +79,7 @@ static bool choose_own(format *to, const settings *from, const char *style,
     return true;
 }
 
-/* With a style of MeCab's own the formats are not looked at. (MeCab) */
+/* With a style of MeCab's own the formats are ignored. (MeCab) */
 bool choose_texts(format *to, const settings *from, kumquatsieve_cutter *cutter, fault *error) {
     const char *style = setting_of(from, "output-format-type");
     if (!style) style = "";

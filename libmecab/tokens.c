@@ -1,11 +1,11 @@
-/* What nodes take of the tokens of their words: all but where a word stands and what the path costs
-   up to it. It is found once for each token, when a word of it comes first. */
+/* The parts of nodes that depend on the tokens of their words only: all but the places and the
+   path's cost. They are made once for each token, when its first word appears. */
 #include "layer.h"
 #include <errno.h>
 #include <stdlib.h>
 #include <string.h>
 
-/* Opens a file of rules, which need not be there. */
+/* Opens a file of rules. Sets *file to NULL if there is none. */
 static bool open_rules(const char *path, FILE **file, identity *which, fault *error) {
     struct stat of;
     *file = fopen(path, "re");
@@ -19,6 +19,7 @@ static bool open_rules(const char *path, FILE **file, identity *which, fault *er
     return false;
 }
 
+/* Returns the tokens with these rules, or without rules, or NULL. */
 static tokens *find(tokens *list, bool has_rules, const identity *rules) {
     while (list && ((list->posids != NULL) != has_rules || !are_same(&list->rules, rules)))
         list = list->next;
@@ -39,7 +40,7 @@ static tokens *make(const size_t *starts, size_t count, const identity *rules, f
     return NULL;
 }
 
-/* New ones before the others. */
+/* Reads the rules of `new`, and puts it first in the list. Frees it after an error. */
 static tokens *add(tokens **list, tokens *new, FILE *file, const char *path,
                    const unsigned char *checksum, fault *error) {
     if (!new) return NULL;
@@ -52,7 +53,7 @@ static tokens *add(tokens **list, tokens *new, FILE *file, const char *path,
     return new;
 }
 
-/* Those by the rules of a file, which are made where they aren't there yet. */
+/* Adds them to the list if they are not there yet. */
 tokens *tokens_in(tokens **list, const size_t *starts, size_t count, const char *path,
                   const unsigned char *checksum, fault *error) {
     FILE *file = NULL;
@@ -64,8 +65,9 @@ tokens *tokens_in(tokens **list, const size_t *starts, size_t count, const char 
     return found;
 }
 
-/* The node with its feature behind it, as C reads it: one with U+0000 ends there. For an id the
- * feature is cut, and so it is copied once more. */
+/* Returns a node, followed by its feature, which the caller frees, or NULL if memory runs out.
+   Finding the id changes the feature, so that is copied twice. A feature with U+0000 ends there for
+   C. */
 static mecab_node_t *make_node(const posids *rules, const kumquatsieve_word *word,
                                const uint8_t *feature, size_t length) {
     mecab_node_t *made = malloc(sizeof *made + length + 1);
@@ -101,9 +103,8 @@ static mecab_node_t *node_of(const tokens *of, kumquatsieve_cutter *cutter,
     return made;
 }
 
-/* Keeps the node of a word's token, where it isn't yet. Threads that want one at the same time make
-   it each, and the first is kept. The counts of tokens are read of a file once more, behind the
-   library's copy of it, so one that is written over in the meantime has others. */
+/* If threads make the node of one token at the same time, the first one is kept. The number of
+   tokens is read from the file separately, so a file that was overwritten may have fewer. */
 bool keep_token(const tokens *of, kumquatsieve_cutter *cutter, const kumquatsieve_word *word,
                 fault *error) {
     size_t token = of->starts[word->dictionary] + word->token;

@@ -1,6 +1,6 @@
-/* MeCab's own tools. Its programs are these calls, and Debian's packages of dictionaries run one
-   where they are installed; so each is handed to MeCab's own library, where that is there, and
-   refused else. */
+/* The calls that are MeCab's other programs. Debian's packages of dictionaries run one of them when
+   they are installed. So each call is passed on to MeCab's own library if that is installed, and is
+   an error otherwise. */
 #include "layer.h"
 #include <dlfcn.h>
 #include <stdio.h>
@@ -12,7 +12,7 @@
 
 typedef int tool(int count, char **words);
 
-/* What dlsym answers is copied, since C has no cast from it to a function. */
+/* Copies the pointer that dlsym returns, because C has no conversion from it to a function. */
 static tool *find_tool(const char *name) {
     void *library = dlopen(MECAB_LIBRARY, RTLD_NOW | RTLD_LOCAL | RTLD_DEEPBIND);
     void *at = library ? dlsym(library, name) : NULL;

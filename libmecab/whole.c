@@ -1,9 +1,9 @@
-/* The words of the whole lattice of a sentence: those of its best path, and all others that some
- * chain of words leads to. */
+/* The words of the whole lattice of a sentence: those of the best path, and all others that a chain
+   of words reaches. */
 #include "layer.h"
 #include <stdlib.h>
 
-/* How many there are is not known before. So many a byte are guessed. */
+/* Their number is unknown at first. The guess is so many for each byte. */
 enum { GUESS = 2 };
 
 static bool has_room(mecab_lattice_t *lattice, size_t wanted, fault *error) {
@@ -15,8 +15,8 @@ static bool has_room(mecab_lattice_t *lattice, size_t wanted, fault *error) {
     return true;
 }
 
-/* Writes those of what was cut last behind those of the parts before. Where the guess was too low
- * it is asked again. */
+/* Writes the words of the part that was segmented last after those of the parts before it. Asks
+   again if the guess was too low. Sets *count to their number. */
 static bool write_found(mecab_lattice_t *lattice, size_t guess, size_t *count, fault *error) {
     size_t room = 0;
     for (*count = guess; *count > room;) {
@@ -29,8 +29,8 @@ static bool write_found(mecab_lattice_t *lattice, size_t guess, size_t *count, f
     return true;
 }
 
-/* As the words of the path are moved. (nodes.c) What begins a part begins where the path of the
- * part before ended. */
+/* Changes the places and costs of words of a part to those of the whole sentence, as move_words in
+   nodes.c does. The first words of a part start where the path of the part before it ended. */
 static void move_found(kumquatsieve_node *found, size_t count, part *of) {
     size_t place = of->place;
     for (size_t i = 0; i < count; i++) {
@@ -44,7 +44,8 @@ static void move_found(kumquatsieve_node *found, size_t count, part *of) {
     add_cost(of);
 }
 
-/* Keeps the words that fit in nodes. Those of the path do, since their nodes were made before. */
+/* Keeps the words that fit in nodes, and returns their number. The words of the path all fit,
+   because their nodes were made before. */
 static size_t keep_fitting(kumquatsieve_node *found, size_t count) {
     size_t kept = 0;
     for (size_t i = 0; i < count; i++) {
@@ -62,7 +63,7 @@ bool add_found(mecab_lattice_t *lattice, part *of, fault *error) {
     return true;
 }
 
-/* By the places where they begin, and those of a place in the order of its words. */
+/* They are sorted by their starts; those of one start are in the order of its words. */
 bool find_nodes(mecab_lattice_t *lattice, fault *error) {
     part whole = {.word_count = lattice->word_count};
     lattice->found_count = 0;
