@@ -1,4 +1,4 @@
-/* Cuts each line of standard input, and prints its words as jseg does:
+/* Segments each line of standard input, and prints its words as jseg does:
 
        cc cut.c $(pkg-config --cflags --libs kumquatsieve) -o cut
        ./cut ipadic.img [wakati] < text */
@@ -11,7 +11,7 @@
 
 enum { PIECE = 1 << 16 };
 
-/* Bytes in memory that grows. */
+/* A byte buffer that grows. */
 struct bytes {
     uint8_t *at;
     size_t length, room;
@@ -39,8 +39,7 @@ static uint32_t print_line(kumquatsieve_cutter *cutter, const uint8_t *line, siz
     size_t count = 0, printed = 0;
     int64_t total = 0;
     const uint8_t *text = NULL;
-    /* The line was cut at its line feed, so kumquatsieve_cut_text, which looks for none, is enough.
-     */
+    /* The line has no line feed, so kumquatsieve_cut_text, which doesn't look for one, will do. */
     uint32_t code = kumquatsieve_cut_text(cutter, line, length, &count, &total, NULL);
     if (code == KUMQUATSIEVE_OK) code = kumquatsieve_print(cutter, &text, &printed);
     if (code != KUMQUATSIEVE_OK) return code;
@@ -50,8 +49,8 @@ static uint32_t print_line(kumquatsieve_cutter *cutter, const uint8_t *line, siz
     return KUMQUATSIEVE_OK;
 }
 
-/* Prints the lines that were read. What is after the last line feed stays for the next piece, and
- * is a line where none comes. */
+/* Prints the lines that were read. The bytes after the last line feed are kept for the next piece,
+   or are the last line if `at_end` is true. */
 static uint32_t print_lines(kumquatsieve_cutter *cutter, struct bytes *in, bool at_end,
                             struct bytes *out) {
     const uint8_t *line = in->at, *end = in->at + in->length, *feed = NULL;
@@ -72,8 +71,8 @@ static void stop(const char *what) {
     exit(2);
 }
 
-/* Reads and writes in large pieces: a call of stdio for each line would cost more than the
- * library's own calls do. */
+/* Reads and writes in large pieces, because calls of stdio for each line would take longer than the
+   calls of the library. */
 static uint32_t print_text(kumquatsieve_cutter *cutter) {
     struct bytes in = {NULL, 0, 0}, out = {NULL, 0, 0};
     uint32_t code = KUMQUATSIEVE_OK;

@@ -1,11 +1,11 @@
-/* Cuts a line by a dictionary's image, and prints each word with its feature: words IMAGE LINE */
+/* Segments a line, and prints each word with its feature: words IMAGE LINE */
 #include <kumquatsieve.h>
 #include <stdio.h>
 #include <string.h>
 
 enum { ROOM = 100 };
 
-/* Prints the words of the line that was cut last. They are written to ROOM at a time. */
+/* Prints the words of the line that was segmented last, ROOM words at a time. */
 static uint32_t print_words(kumquatsieve_cutter *cutter, const char *line, size_t count) {
     kumquatsieve_word words[ROOM];
     const uint8_t *feature = NULL;

@@ -1,12 +1,12 @@
-/* Images that come in pieces, and dictionaries made of the cutters that they fill: buffers
-   SYSTEM.img USER.img. The user's dictionary has the word すもももも. */
+/* Tests images that come in pieces, and dictionaries of the cutters that they fill: buffers
+   SYSTEM.img USER.img. The user dictionary has the word すもももも. */
 #include "helpers.h"
 
 #define USERS "すもももも\t名詞,すもももも\nEOS\n"
 
 enum { BEFORE = 77 };
 
-/* How an image comes: in pieces of so many bytes, where room was taken for so many first. */
+/* A way to append an image: the length of its pieces, and the room that is allocated at first. */
 typedef struct way {
     const char *what;
     size_t piece;
@@ -44,8 +44,8 @@ static void pieces(file system) {
     }
 }
 
-/* What is refused of an image in pieces is refused as of one at once; the buffer is empty after it,
- * and serves again. */
+/* An invalid image in pieces has the same error as in one piece. The buffer is empty then and can
+   be used again. */
 static void refused(file system) {
     kumquatsieve_cutter cutter = kumquatsieve_empty(), full = loaded(system);
     kumquatsieve_buffer buffer = kumquatsieve_no_bytes();
@@ -76,7 +76,7 @@ static void refused(file system) {
     kumquatsieve_free(&full);
 }
 
-/* Users' images, with what is refused of them. */
+/* User images, and their errors. */
 static void users(file system, file user) {
     kumquatsieve_cutter cutter = loaded(system), none = kumquatsieve_empty();
     uint64_t number = BEFORE;
@@ -100,7 +100,7 @@ static void users(file system, file user) {
     kumquatsieve_free(&cutter);
 }
 
-/* A buffer that is given back with bytes in it, and then used again. */
+/* A buffer is freed with bytes in it, and then used again. */
 static void given_back(file system) {
     kumquatsieve_cutter cutter = kumquatsieve_empty();
     kumquatsieve_buffer buffer = gathered(system, 1000, 0);
@@ -129,8 +129,8 @@ static void cuts_plainly(kumquatsieve_cutter *cutter) {
     CHECK(cut(cutter, "zzz") == KUMQUATSIEVE_OK && prints(cutter, "zzz\t未知\nEOS\n"));
 }
 
-/* A dictionary has the dictionaries of its cutter and no more of it, and the cutter is empty and
- * serves again. */
+/* A dictionary has the dictionaries of its cutter, and not its format. The cutter is empty then and
+   can be used again. */
 static void dictionaries(file system, file user) {
     kumquatsieve_cutter cutter = kumquatsieve_empty(), over = kumquatsieve_empty();
     kumquatsieve_dictionary *dictionary = NULL;
@@ -152,7 +152,7 @@ static void dictionaries(file system, file user) {
     kumquatsieve_free(&over);
 }
 
-/* A dictionary that is not wanted is made and given back. */
+/* A dictionary for which no output is given is made and freed. */
 static void no_dictionary(file system, file user) {
     kumquatsieve_cutter cutter = kumquatsieve_empty();
     CHECK(kumquatsieve_dictionary_of(NULL, &cutter) == KUMQUATSIEVE_EMPTY_CUTTER && !cutter.held);

@@ -1,5 +1,5 @@
-/* Makes each call of the library, with each fault that it may answer: calls SYSTEM.img USER.img.
- * Both are of the sample's sources. */
+/* Tests each call of the library with each error that it can return: calls SYSTEM.img USER.img.
+   Both images are compiled from the sample. */
 #include "helpers.h"
 
 static uint64_t number;
@@ -102,8 +102,8 @@ static void lines(kumquatsieve_cutter *cutter) {
     CHECK(prints(cutter, PRINTED));
 }
 
-/* A text that is cut line by line: what is answered, the number of its lines or of the line at
- * fault, and what is printed. */
+/* A text of several lines: the code, the number of its lines or of the invalid line, and the
+ * output. */
 typedef struct text_row {
     const char *what, *text;
     uint32_t code;
@@ -144,7 +144,7 @@ static void text_lines(kumquatsieve_cutter *cutter) {
     }
 }
 
-/* A line of one byte more than a line may have, after one that is printed. */
+/* A line that is one byte too long, after a line that is printed. */
 static void too_long_line(kumquatsieve_cutter *cutter) {
     static uint8_t text[2 + 1048577 + 1];
     memset(text, ' ', sizeof text);
@@ -174,9 +174,8 @@ static void the_words(kumquatsieve_cutter *cutter) {
     CHECK(kumquatsieve_feature(cutter, 1, &kept, &length) == KUMQUATSIEVE_OK &&
           is_text(kept, length, "名詞,もも"));
     CHECK(kumquatsieve_feature(cutter, 2, &kept, &length) == KUMQUATSIEVE_NO_WORD);
-    CHECK(kumquatsieve_features(cutter, &kept, &length) == KUMQUATSIEVE_OK && is_text(kept, length,
-                                                                                      "名詞,すもも"
-                                                                                      "名詞,もも"));
+    CHECK(kumquatsieve_features(cutter, &kept, &length) == KUMQUATSIEVE_OK);
+    CHECK(is_text(kept, length, "名詞,すもも名詞,もも"));
     CHECK(kumquatsieve_copy_feature(cutter, 1, room, 3, &length) == KUMQUATSIEVE_SHORT_BUFFER &&
           length == strlen("名詞,もも"));
     CHECK(kumquatsieve_copy_feature(cutter, 1, room, sizeof room, &length) == KUMQUATSIEVE_OK &&
@@ -202,7 +201,7 @@ static void formats(kumquatsieve_cutter *cutter) {
     CHECK(kumquatsieve_set_grouping(cutter, 1000) == KUMQUATSIEVE_OK);
 }
 
-/* The user's dictionary has the word すもももも. */
+/* The user dictionary has the word すもももも. */
 static void users(kumquatsieve_cutter *cutter, file user) {
     kumquatsieve_cutter other = KUMQUATSIEVE_EMPTY;
     CHECK(kumquatsieve_share(&other, cutter) == KUMQUATSIEVE_OK && other.held);

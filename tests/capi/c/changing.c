@@ -1,7 +1,6 @@
-/* Files that change while they are opened, and calls of the system that fail: changing SYSTEM.img
-   USER.img FOLDER [plain]. The folder is empty. `plain` adds what valgrind can't do: a file of 2^62
-   bytes, and a child that is stopped by a file that was truncated. Linked with --wrap of mmap,
-   syscall and read. */
+/* Tests files that change while they are opened, and system calls that fail: changing SYSTEM.img
+   USER.img FOLDER [plain]. FOLDER is empty. `plain` adds what valgrind can't run: a file of 2^62
+   bytes, and a child that a truncated file stops. Linked with --wrap of mmap, syscall and read. */
 #define _GNU_SOURCE
 #include "maps.h"
 #include <errno.h>
@@ -18,8 +17,7 @@ enum { UNSET = 77, LENGTHS_AT = 40 };
 static const char SYSTEM[] = "system.img";
 static file sys;
 
-/* What happens before the next file is mapped, what fails, and the length that is told of each
-   file. */
+/* What happens before the next file is mapped, which call fails, and which length fstat reports. */
 static void (*before_mmap)(void);
 static int mmap_error, fstat_error, read_error;
 static off_t told_length;
@@ -35,7 +33,7 @@ void *__wrap_mmap(void *at, size_t length, int protection, int flags, int fd, of
     return MAP_FAILED;
 }
 
-/* The library calls fstat so, and calls no other so. */
+/* The library calls only fstat and stat by their numbers. */
 long __wrap_syscall(long call, int fd, struct stat *of) {
     CHECK(call == SYS_fstat);
     if (fstat_error != 0) {
@@ -66,7 +64,7 @@ static void touch(void) {
 
 static void fail_fstat(void) { fstat_error = EIO; }
 
-/* What happens or fails, and what is returned then. A file that is accepted is read, not mapped. */
+/* What happens or fails, and the code and the number. An accepted file is read and not mapped. */
 typedef struct row {
     const char *what;
     void (*happens)(void);
@@ -110,7 +108,7 @@ static void check_row(const row *of) {
     kumquatsieve_free(&cutter);
 }
 
-/* A file of 2^62 bytes, as its header tells and as its file system does. */
+/* A file of 2^62 bytes, by its header and by its file system. */
 static void too_large(void) {
     const uint64_t section = (uint64_t)1 << 62, length = section + sys.length;
     kumquatsieve_cutter cutter = KUMQUATSIEVE_EMPTY;
@@ -129,7 +127,7 @@ static void too_large(void) {
     free(image.bytes);
 }
 
-/* With one descriptor left a file is opened without its folder, and with none it is not. */
+/* With one descriptor left, a file is opened without its directory. With none, it is not opened. */
 static void few_descriptors(void) {
     kumquatsieve_cutter cutter = KUMQUATSIEVE_EMPTY;
     struct rlimit most;
@@ -150,8 +148,7 @@ static void few_descriptors(void) {
     CHECK(setrlimit(RLIMIT_NOFILE, &most) == 0);
 }
 
-/* A file that is truncated while it is mapped stops whoever reads after its end, as the header
-   says. */
+/* If a mapped file is truncated, a read after its end stops the process, as the header says. */
 static void stopped(void) {
     int status = 0;
     pid_t child = fork();

@@ -1,6 +1,6 @@
-/* Dictionaries that are loaded once, and cutters that are made over them, also by several threads:
-   dictionaries SYSTEM.img USER.img [FORKS]. The user's dictionary has the word すもももも. With
-   FORKS so many children are forked while the threads are at work, and make cutters too. */
+/* Tests dictionaries that are loaded once, and cutters over them, also on several threads:
+   dictionaries SYSTEM.img USER.img [FORKS]. The user dictionary has the word すもももも. With
+   FORKS, so many children are forked while the threads run, and make cutters too. */
 #include "helpers.h"
 #include <pthread.h>
 #include <sys/wait.h>
@@ -10,8 +10,8 @@
 
 enum { THREADS = 4, ROUNDS = 50, USER_COUNT = 17, BEFORE = 77 };
 
-/* What is answered where images make no dictionary: the code, the number of the image at fault, and
- * the fault's number. */
+/* Images that make no dictionary: the code, the number of the invalid image, and the number of the
+   error. */
 typedef struct refused_row {
     const char *what;
     kumquatsieve_image images[2];
@@ -92,7 +92,7 @@ static void refused(file system, file user) {
 }
 
 #ifdef HOW
-/* The same dictionaries, of a cutter that has opened their files. */
+/* Returns a dictionary of a cutter that opened the files. */
 static kumquatsieve_dictionary *made(file system, file user, unsigned how) {
     kumquatsieve_dictionary *dictionary = NULL;
     kumquatsieve_cutter cutter = loaded(system);
@@ -115,7 +115,7 @@ static kumquatsieve_dictionary *made(file system, file user, unsigned how) {
 }
 #endif
 
-/* An image whose digest is another one says what it says, where its digest is skipped. */
+/* Images with a wrong checksum are accepted with KUMQUATSIEVE_SKIP_DIGEST. */
 static void skipped_digests(file system, file user) {
     kumquatsieve_cutter cutter = KUMQUATSIEVE_EMPTY;
     uint64_t number = BEFORE;
@@ -139,8 +139,7 @@ static void skipped_digests(file system, file user) {
     user.bytes[user.length - 1] ^= 1;
 }
 
-/* A cutter begins with the default format, and keeps the dictionaries that their holders gave back.
- */
+/* A cutter has the default format at first, and keeps dictionaries that their holders released. */
 static void cutters(file system, file user) {
     kumquatsieve_cutter first = KUMQUATSIEVE_EMPTY, second = KUMQUATSIEVE_EMPTY;
     kumquatsieve_dictionary *dictionary = made(system, user, 0);
@@ -167,8 +166,7 @@ static void cutters(file system, file user) {
     kumquatsieve_free(&second);
 }
 
-/* As many users' dictionaries as are given are laid over the system's: the word is that of the
- * first of them. */
+/* There may be any number of user dictionaries. The word is from the first of them. */
 static void many_users(file system, file user) {
     kumquatsieve_image images[1 + USER_COUNT] = {image_of(system)};
     kumquatsieve_dictionary *dictionary = NULL;
@@ -195,13 +193,13 @@ static void cut_once(const kumquatsieve_dictionary *dictionary) {
     kumquatsieve_free(&own);
 }
 
-/* Makes cutters over one dictionary and cuts by them, as other threads do at the same time. */
+/* Makes cutters over one dictionary and segments with them, on several threads at the same time. */
 static void *cut_often(void *given) {
     for (int round = 0; round < ROUNDS; round++) cut_once(given);
     return NULL;
 }
 
-/* A child that is forked meanwhile makes cutters over it too. */
+/* Forks children meanwhile, which make cutters over it too. */
 static void fork_often(const kumquatsieve_dictionary *dictionary, int forks) {
     for (int i = 0; i < forks; i++) {
         int status = 0;

@@ -1,5 +1,5 @@
-/* What the C programs of tests/capi/run.py share. With HOW they open images by their paths, and HOW
-   is the argument `how`. Without it they load copies of the bytes. */
+/* Functions that the test programs share. If HOW is defined, they open images by their paths, with
+   HOW as the argument `how`. Otherwise they load copies of the bytes. */
 #ifndef HELPERS_H
 #define HELPERS_H
 #include "../../support/check.h"
@@ -8,16 +8,17 @@
 #include <stdlib.h>
 #include <string.h>
 
-/* A text as bytes, without the zero at its end. */
+/* A text as bytes. */
 #define BYTES(text) ((const uint8_t *)(text))
 
-/* The words of the sample, and what jseg prints of them. */
+/* A line of words of the sample, and what jseg prints for it. */
 #define LINE "すもももも"
 #define PRINTED "すもも\t名詞,すもも\nもも\t名詞,もも\nEOS\n"
 
-/* What jseg prints of もも. */
+/* What jseg prints for もも. */
 #define MOMO "もも\t名詞,もも\nEOS\n"
 
+/* The bytes of a file, which the caller frees, and its path. */
 typedef struct file {
     uint8_t *bytes;
     size_t length;
@@ -46,7 +47,7 @@ static inline uint32_t cut(kumquatsieve_cutter *cutter, const char *line) {
     return kumquatsieve_cut(cutter, BYTES(line), strlen(line), &count, &total, NULL);
 }
 
-/* Fills a cutter with an image, or adds a user's, which is as its file is. */
+/* Fills a cutter with a system image. */
 static inline uint32_t load(kumquatsieve_cutter *cutter, file image, uint64_t *number) {
 #ifdef HOW
     return kumquatsieve_open(cutter, image.path, HOW, number);
@@ -55,6 +56,7 @@ static inline uint32_t load(kumquatsieve_cutter *cutter, file image, uint64_t *n
 #endif
 }
 
+/* Adds a user image. */
 static inline uint32_t load_user(kumquatsieve_cutter *cutter, file image, uint64_t *number) {
 #ifdef HOW
     return kumquatsieve_open_user(cutter, image.path, HOW, number);

@@ -1,12 +1,12 @@
-/* Which images the calls find that look for installed ones: image_dirs FOLDER. In FOLDER are the
-   files that tests/capi/cases/image_dirs.py makes, and the program runs there. */
+/* Tests the calls that find installed images: image_dirs FOLDER. FOLDER has the files that
+   tests/capi/cases/image_dirs.py makes, and is the current directory. */
 #define _GNU_SOURCE
 #include "image_calls.h"
 #include <stdio.h>
 
 enum { ROOM = 4096, UNSET = 77 };
 
-/* With less room than is needed a call writes nothing. */
+/* Checks that a call writes nothing if there is less room than it needs. */
 static void check_short(const char *what, const request *of, size_t length) {
     char out[ROOM];
     memset(out, UNSET, sizeof out);
@@ -45,7 +45,8 @@ static void set_variable(const char *name, const char *value) {
     CHECK((value ? setenv(name, value, 1) : unsetenv(name)) == 0);
 }
 
-/* (XDG Base Directory Specification; Filesystem Hierarchy Standard) */
+/* The image directories by the variables and the prefix. (XDG Base Directory Specification;
+   Filesystem Hierarchy Standard) */
 #define PREFIX_DIRS "/p/var/lib/kumquatsieve|/p/share/kumquatsieve|"
 static const struct {
     const char *what, *data_home, *home, *prefix, *wanted;
@@ -75,7 +76,7 @@ static void check_directories(void) {
     }
 }
 
-/* A path below FOLDER, the name itself, or no image. */
+/* The images by their names: a path below FOLDER, the name itself, or no image. */
 #define OWN "/data/kumquatsieve/"
 #define MADE "/prefix/var/lib/kumquatsieve/"
 #define SHARED "/prefix/share/kumquatsieve/"

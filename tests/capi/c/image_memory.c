@@ -1,7 +1,7 @@
-/* Makes each call that finds installed images once, under a heap that refuses a growth:
-   image_memory NAME PREFIX PATH DIRECTORIES NAMES. The last three are the results, with `|` for
-   each zero byte. The status is 3 if one call was out of memory, and nothing is printed, so the
-   program has no growth of its own. */
+/* Makes each call that finds installed images once, while an allocation fails: image_memory NAME
+   PREFIX PATH DIRECTORIES NAMES. The last three are the expected results, with `|` for each zero
+   byte. The status is 3 if one call was out of memory. Nothing is printed, so the program itself
+   doesn't allocate. */
 #include "image_calls.h"
 
 enum { ROOM = 4096, UNSET = 77, RAN_OUT = 3 };

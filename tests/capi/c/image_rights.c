@@ -1,5 +1,5 @@
-/* A process with raised rights ignores XDG_DATA_HOME and HOME: image_rights. The status is 77 if
-   the process has no raised rights. */
+/* Tests that a process with raised privileges ignores XDG_DATA_HOME and HOME: image_rights. The
+   status is 77 if the process has none. */
 #include "image_calls.h"
 #include <sys/auxv.h>
 

@@ -1,5 +1,5 @@
-/* Prints how each image is refused, first as the system's and then as a user's for SYSTEM.img:
-   images SYSTEM.img IMG... A line has the fault's text, and its number where it has one. */
+/* Prints the error of each image as a system image, and then as a user image for SYSTEM.img: images
+   SYSTEM.img IMG... A line has the name of the error, and its number if it has one. */
 #include "helpers.h"
 
 static void print_fault(uint32_t code, uint64_t number) {
@@ -19,7 +19,7 @@ static void as_the_system(file image) {
     print_fault(code, number);
 }
 
-/* The cutter answers the next call as before. */
+/* The cutter works as before after the error. */
 static void as_a_user(file system, file image) {
     kumquatsieve_cutter cutter = KUMQUATSIEVE_EMPTY;
     uint64_t number = UINT64_MAX;

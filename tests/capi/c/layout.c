@@ -1,14 +1,14 @@
-/* The library writes each field of a word and of a node where the header has it: layout SYSTEM.img
-   USER.img. The user's dictionary has すもももも as its third word, with left id 0, right id 1 and
-   cost -30000, so that no two fields that could be exchanged have the same value. */
+/* Tests that each field of a word and of a node is where the header has it: layout SYSTEM.img
+   USER.img. The user dictionary has すもももも as its third word, with left id 0, right id 1 and
+   cost -30000, so that no two fields that could be exchanged are equal. */
 #include "helpers.h"
 
 #define LAYOUT_LINE " もも  すもももも"
 
 enum { WRITTEN = 2, ROOM = 4, NODES = 8, BEFORE = 0xaa };
 
-/* The second word of the line: BOS costs 10 before もも, which costs 30, and its connection with
- * the word costs 5. */
+/* The second word of the line. The connection from BOS to もも costs 10, もも costs 30, and its
+   connection to the word costs 5. */
 static const kumquatsieve_word WANTED = {
     .place = 7,
     .start = 9,
@@ -42,8 +42,8 @@ static void check_fields(const uint8_t *word) {
     CHECK_FIELD(word, feature_length);
 }
 
-/* The nodes are も, もも, も, then すもも and the word, then も, もも, も. The connection of the
-   word with EOS costs 5; すもも reaches the end, and is not on the best path. */
+/* The nodes are も, もも, も, then すもも and the word, then も, もも, も. The connection from the
+   word to EOS costs 5. すもも reaches the end, and is not on the best path. */
 static void check_nodes(kumquatsieve_cutter *cutter) {
     static kumquatsieve_node nodes[NODES + 1];
     const uint8_t *bytes = (const uint8_t *)nodes, *node = bytes + 4 * sizeof *nodes,

@@ -1,5 +1,5 @@
-/* Rows of lines that are cut, of their words, and of what is reported of them: lines SYSTEM.img, of
- * the sample's sources. */
+/* Tests lines, their words and their errors in tables: lines SYSTEM.img, which is compiled from the
+   sample. */
 #include "helpers.h"
 
 #define LONGEST 1048576
@@ -92,9 +92,9 @@ static void refused_texts(kumquatsieve_cutter *cutter) {
     CHECK(kumquatsieve_cut(cutter, letters, LONGEST, NULL, NULL, NULL) == KUMQUATSIEVE_OK);
 }
 
-/* What stands in a buffer before a call; the words of ` すもも z`: that of the lexicon's first
-   line, and that of ALPHA's entry: after the lexicon's three come those of DEFAULT and SPACE. BOS
-   before the first costs 10, and its connection with the second 7. */
+/* The words of ` すもも z`, and what a buffer has before a call. The first word is the first line
+   of the lexicon. The second one is the entry of ALPHA, which follows the three of the lexicon and
+   those of DEFAULT and SPACE. The connection from BOS costs 10, and the one between the words 7. */
 static const kumquatsieve_word BLANK = {
     .place = 9,
     .start = 9,

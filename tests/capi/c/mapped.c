@@ -1,5 +1,5 @@
-/* How long files stay mapped: mapped SYSTEM.img USER.img FOLDER. The user's dictionary has the word
- * すもももも. The folder is empty. */
+/* Tests how long files stay mapped: mapped SYSTEM.img USER.img FOLDER. The user dictionary has the
+   word すもももも. FOLDER is empty. */
 #define _GNU_SOURCE
 #include "maps.h"
 #include <fcntl.h>
@@ -27,7 +27,7 @@ static bool cuts(kumquatsieve_cutter *cutter, const char *wanted) {
     return cut(cutter, LINE) == KUMQUATSIEVE_OK && prints(cutter, wanted);
 }
 
-/* After each part nothing is open or mapped that was not before. */
+/* Checks that nothing is open or mapped that was not before. */
 static void check_nothing_left(const char *what) {
     CHECK_CASE(what, mappings_of(NULL) == maps_before && open_files() == files_before);
 }
@@ -54,7 +54,7 @@ static void one_file(void) {
     check_nothing_left("one file");
 }
 
-/* A copy of an empty cutter is a cutter of its own. */
+/* A copy of an empty cutter is an independent cutter. */
 static void copies_of_an_empty_one(void) {
     static const kumquatsieve_cutter ZERO;
     kumquatsieve_cutter empty = KUMQUATSIEVE_EMPTY, copy = empty;
@@ -67,8 +67,8 @@ static void copies_of_an_empty_one(void) {
     check_nothing_left("a copy");
 }
 
-/* Cutters that share dictionaries share the files. While they do no user's is added, and its file
-   isn't kept. */
+/* Cutters that share dictionaries share the files. No user dictionary can be added then, and its
+   file isn't kept. */
 static void shared(void) {
     kumquatsieve_cutter first = opened(SYSTEM, 0), second = kumquatsieve_empty(),
                         third = kumquatsieve_empty();
@@ -92,8 +92,8 @@ static void shared(void) {
     check_nothing_left("shared");
 }
 
-/* Users' files that are read or copied stand over one that is mapped, and the other way round; and
-   a file stands twice. */
+/* User images that are read or copied over a mapped system image, and the other way round. A file
+   is used twice. */
 static void mixed(void) {
     kumquatsieve_cutter cutter = opened(SYSTEM, 0);
     CHECK(kumquatsieve_open_user(&cutter, USER, KUMQUATSIEVE_COPY, NULL) == KUMQUATSIEVE_OK &&
@@ -155,7 +155,7 @@ static void replaced(void) {
     write_file(SYSTEM, sys.bytes, sys.length);
 }
 
-/* Changes the times of a file: all, or that of its state alone, which a file system may
+/* Changes the times of a file: all of them, or only the time of its state, which a file system may
    keep in steps of some milliseconds. */
 static void touch(bool is_state_alone) {
     const struct timespec times[] = {{1, 0}, {1, 0}};
@@ -167,7 +167,7 @@ static void touch(bool is_state_alone) {
         CHECK(chmod(SYSTEM, 0600) == 0 && stat(SYSTEM, &now) == 0);
 }
 
-/* A file whose times were changed may have other bytes, so it is mapped anew. */
+/* A file with other times may have other bytes, so it is mapped again. */
 static void touched(bool is_state_alone) {
     kumquatsieve_cutter before = opened(SYSTEM, 0), after;
     touch(is_state_alone);

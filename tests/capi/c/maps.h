@@ -6,8 +6,8 @@
 #include <sys/stat.h>
 #include <sys/sysmacros.h>
 
-/* How often the file at a path is mapped shared, as the library maps files; without a path, how
-   often any file is. */
+/* Returns how often the file at a path is mapped shared, as the library maps files, or any file if
+   the path is NULL. */
 static inline size_t mappings_of(const char *path) {
     char line[8192], flags[8];
     size_t count = 0;

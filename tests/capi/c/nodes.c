@@ -1,13 +1,13 @@
-/* Rows of the lattices of lines, with all of their nodes: nodes SYSTEM.img BLANK.img. The system's
-   sources are the sample's: a connection from BOS costs 10, one between words 7 and one to EOS 5.
-   The user's dictionary has the word `もも `, which ends with a blank and costs 50: where it is the
-   last one, no other chain ends as late, so the words without the blank are dead ends. */
+/* Tests the lattices of lines, with all of their nodes, in a table: nodes SYSTEM.img BLANK.img. In
+   the sample a connection from BOS costs 10, one between words 7, and one to EOS 5. The user
+   dictionary has the word `もも `, which ends with a blank and costs 50. If it is the last one, no
+   other chain ends as late, so the words without the blank are dead ends. */
 #include "helpers.h"
 
 enum { MOST_NODES = 32, MOST_WORDS = 16, BOS_COSTS = 10, CONNECTION_COSTS = 7, EOS_COSTS = 5 };
 
-/* A node: where its word stands, its entry, its word cost and its feature; its total, and the least
- * cost of the paths that have it. */
+/* A node: the place of its word, its entry, its word cost and its feature, its total, and the least
+   cost of the paths that have it. */
 typedef struct node_row {
     size_t place, start, end;
     const char *feature;
@@ -48,10 +48,10 @@ static const lattice_row LATTICES[] = {
          {9, 9, 15, MOMO_ENTRY, 147, 152, 1, 1},
          {12, 12, 15, MO, 164, 169, 1, 0},
      }},
-    /* The blank stands before the first word, and that at the end is no word's. */
+    /* The first blank is before a word; the one at the end belongs to no word. */
     {"blanks", " も ", 35, 1, {{0, 1, 4, MO, 30, 35, 1, 1}}},
-    /* 10 + 1000, 1010 + 7 + 1000, 2017 + 5; of paths of one cost that is best whose last other word
-       has the later place. */
+    /* 10 + 1000, 1010 + 7 + 1000, 2017 + 5. Of paths with equal costs, the best one has the later
+       place of the last word that differs. */
     {"tokyo_tie",
      "東京都",
      2022,
@@ -127,8 +127,7 @@ static void lattices(kumquatsieve_cutter *cutter) {
     }
 }
 
-/* The nodes from a number on, as far as there is room; what lies after them in the buffer is as
- * before. */
+/* Reads of nodes from a number on, with less room. The rest of the buffer is unchanged. */
 static const struct {
     const char *what;
     size_t first, room, written;

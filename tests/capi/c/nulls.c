@@ -1,5 +1,6 @@
-/* NULL for bytes whose length is 0, for outputs that are not wanted, and for a cutter that is given
- * back: nulls SYSTEM.img USER.img. */
+/* Tests NULL for bytes whose length is 0, for outputs that are not wanted, and for a cutter or a
+   buffer to free: nulls SYSTEM.img USER.img. image_dirs.c tests NULL for the calls that find
+   images. */
 #include "helpers.h"
 
 static void no_bytes(file system) {

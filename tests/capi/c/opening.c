@@ -1,5 +1,5 @@
-/* What is refused of files that are opened, and files that are no regular ones: opening SYSTEM.img
-   USER.img FOLDER. Both images are of the sample's sources. The folder is empty. */
+/* Tests the errors of files that are opened, and files that are not regular: opening SYSTEM.img
+   USER.img FOLDER. Both images are compiled from the sample. FOLDER is empty. */
 #define _GNU_SOURCE
 #include "maps.h"
 #include <errno.h>
@@ -18,7 +18,7 @@ enum { UNSET = 77, LAYOUT_AT = 8, LENGTHS_AT = 40, HEADER = 104, LONG_PATH = 500
 static file sys, user;
 static char long_name[256 + 1], long_path[LONG_PATH + 1];
 
-/* A file that is made of the system's image: its length, and what is changed in it. */
+/* A file that is made of the system image: its length, and a byte that is changed. */
 typedef struct made_row {
     const char *path;
     off_t length;
@@ -66,7 +66,7 @@ static void make_others(void) {
     for (size_t i = 0; i < LONG_PATH; i++) long_path[i] = i % 2 ? '/' : '.';
 }
 
-/* What is opened, and the code and the number that are returned. */
+/* A file to open, and the code and the number. */
 typedef struct refused_row {
     const char *what, *path;
     unsigned how;
@@ -128,7 +128,7 @@ static const refused_row AS_USER[] = {
     {"another digest, tested", "digest.img", WHOLE, KUMQUATSIEVE_DIGEST, UNSET},
 };
 
-/* A refused file leaves the cutter as it was, and nothing open or mapped. */
+/* After an error the cutter is unchanged, and nothing is open or mapped. */
 static void refused_systems(void) {
     for (size_t i = 0; i < COUNT_OF(AS_SYSTEM); i++) {
         const refused_row *row = &AS_SYSTEM[i];
@@ -168,7 +168,7 @@ static void refused_users(void) {
     kumquatsieve_free(&cutter);
 }
 
-/* A file that this user may not read. Root may read all. */
+/* A file that the user may not read. Root may read all files. */
 static void unreadable(void) {
     kumquatsieve_cutter cutter = KUMQUATSIEVE_EMPTY;
     uint64_t number = UNSET;
@@ -179,8 +179,8 @@ static void unreadable(void) {
     CHECK((!is_root || seteuid(0) == 0) && chmod("whole.img", 0600) == 0);
 }
 
-/* Writes bytes to a pipe from a child, to the one by its name if `to` is -1. Whoever reads it may
-   close it before its end. */
+/* Writes bytes to a pipe from a child: to the named pipe if `to` is -1. The reader may close it
+   before the end. */
 static pid_t write_from_child(int to, const uint8_t *bytes, size_t length) {
     pid_t child = fork();
     CHECK(child >= 0);
@@ -196,8 +196,8 @@ static pid_t write_from_child(int to, const uint8_t *bytes, size_t length) {
     _exit(0);
 }
 
-/* Starts a child that writes bytes to standard input or to a pipe by its name. Returns the path to
-   read them by. */
+/* Starts a child that writes bytes to standard input or to a named pipe. Returns the path to read
+   from. */
 static const char *start_writing(bool is_named, const uint8_t *bytes, size_t length, pid_t *child) {
     int ends[2];
     if (!is_named) {
@@ -231,7 +231,7 @@ static void piped(const char *what, size_t more, size_t at, uint32_t code, uint6
     free(bytes);
 }
 
-/* A file on standard input is mapped, as by its own name. */
+/* A file on standard input is mapped. */
 static void standard_input(void) {
     kumquatsieve_cutter cutter = KUMQUATSIEVE_EMPTY;
     CHECK(freopen("whole.img", "r", stdin));

@@ -1,6 +1,6 @@
-/* Threads open, share and free the same files at once: opening_threads SYSTEM.img USER.img [FORKS].
-   The user's dictionary has the word すもももも. With FORKS so many children are forked meanwhile,
-   and open files too. At the end nothing is mapped. */
+/* Opens, shares and frees the same files on several threads at once: opening_threads SYSTEM.img
+   USER.img [FORKS]. The user dictionary has the word すもももも. With FORKS, so many children are
+   forked meanwhile, and open files too. At the end nothing is mapped. */
 #include "maps.h"
 #include <pthread.h>
 #include <sys/wait.h>
@@ -12,7 +12,7 @@ enum { THREADS = 4, ROUNDS = 60 };
 
 static char **paths;
 
-/* A round of calls. Its number says what is copied, and what is freed first. */
+/* Makes a round of calls. Its number decides what is copied, and what is freed first. */
 static void open_once(int round) {
     kumquatsieve_cutter first = kumquatsieve_empty(), second = kumquatsieve_empty();
     kumquatsieve_dictionary *dictionary = NULL;
@@ -37,7 +37,7 @@ static void *open_often(void *given) {
     return NULL;
 }
 
-/* A child has the files of its parent mapped that other threads had opened at the fork. */
+/* A child has those files mapped that other threads of its parent had open at the fork. */
 static void fork_often(int forks) {
     for (int i = 0; i < forks; i++) {
         int status = 0;

@@ -1,17 +1,15 @@
-/* What each answer leaves in the outputs of a call: outputs SYSTEM.img USER.img, of the sample's
-   sources. Each output is 77 before a call, and an output that the answer doesn't set is 77 after
-   it. */
+/* Tests which codes set which outputs: outputs SYSTEM.img USER.img, compiled from the sample. Each
+   output is 77 before a call, and an output that the code doesn't set is 77 after it. */
 #include "helpers.h"
 
 #define LONGEST 1048576
 
 enum { UNSET = 77 };
 
-/* What a pointer is before a call. */
+/* The value of a pointer before a call. */
 static const uint8_t NOWHERE = UNSET;
 
-/* Cutters that calls are made with: with nothing in it, that has cut nothing, and that has cut
- * LINE. */
+/* The cutters of the calls: an empty one, one without a line, and one that segmented LINE. */
 enum { EMPTY, UNCUT, CUT, CUTTERS };
 
 static uint8_t letters[LONGEST + 1], bad_bytes[LONGEST + 1];
@@ -27,8 +25,8 @@ static void end(kumquatsieve_cutter cutters[CUTTERS]) {
     for (int i = 0; i < CUTTERS; i++) kumquatsieve_free(&cutters[i]);
 }
 
-/* The number of an image's fault. The user's image is no system's, and the system's, as the first
- * user, no user's. */
+/* The number of an invalid image. The user image is not a system image, and the system image, as
+   the first user image, is not one. */
 static void numbers(file system, file user) {
     kumquatsieve_cutter empty = kumquatsieve_empty(), full = loaded(system),
                         third = kumquatsieve_empty();
@@ -73,7 +71,7 @@ static void numbers(file system, file user) {
     kumquatsieve_free(&third);
 }
 
-/* A dictionary that another cutter shares is not added to, until that one is given back. */
+/* Nothing is added to dictionaries that another cutter shares, until that one is freed. */
 static void shared(file system, file user) {
     kumquatsieve_cutter one = loaded(system), other = kumquatsieve_empty();
     uint64_t number = UNSET;
@@ -119,8 +117,7 @@ static void formats(file system) {
     end(cutters);
 }
 
-/* A line, or a text: what is answered, and the number of its words, the cost of its path, and where
- * it is at fault. */
+/* A line or a text: the code, the number of words, the cost of the path, and the invalid byte. */
 typedef uint32_t cutting(kumquatsieve_cutter *, const uint8_t *, size_t, size_t *, int64_t *,
                          size_t *);
 
@@ -186,8 +183,8 @@ static void cuts(file system) {
     end(cutters);
 }
 
-/* What is lent: of the path 9 + 1 + 16 + 1 bytes, 6 + 1 + 13 + 1, and 4 of EOS. A length of UNSET
- * says that no place is set either. */
+/* The lent texts. The path has 9 + 1 + 16 + 1 bytes, 6 + 1 + 13 + 1, and 4 of EOS. A length of
+   UNSET means that no pointer is set either. */
 typedef enum lender { PATH, FEATURE, FEATURES, ENTRY } lender;
 
 static const struct {
@@ -238,7 +235,7 @@ static void lent(file system) {
     end(cutters);
 }
 
-/* What is copied, and the words and nodes, with the number that is told. */
+/* The copied texts, and the words and nodes, with the number that is set. */
 typedef enum copier { COPY_PATH, COPY_FEATURE, WORDS, NODES, TEXT } copier;
 
 static const struct {

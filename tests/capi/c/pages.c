@@ -1,13 +1,13 @@
-/* Huge pages are asked for the memory of a large image, and for nothing else: pages SYSTEM.img
-   LARGE.img. The large image has more bytes than the threshold of capi/heap.c. Both have the
-   sample's words. It prints how much of it stands in huge pages, in kB. */
+/* Tests that huge pages are requested for the memory of a large image, and for nothing else: pages
+   SYSTEM.img LARGE.img. The large image is longer than LARGE in capi/heap.c. Both have the words of
+   the sample. Prints how many kB of it are in huge pages. */
 #include "helpers.h"
 #include <errno.h>
 #include <malloc.h>
 
 enum { PIECE = 65536, BEFORE = 77 };
 
-/* Whether the kernel refuses huge pages. */
+/* Whether the kernel rejects requests for huge pages. */
 static bool refuses;
 
 int __real_madvise(void *at, size_t length, int advice);
@@ -18,8 +18,8 @@ int __wrap_madvise(void *at, size_t length, int advice) {
     return -1;
 }
 
-/* What the kernel tells of this process's memory, in kB: the mappings for which huge pages are
- * asked, and what of these stands in such pages. */
+/* The memory of this process in kB: the mappings for which huge pages were requested, and how much
+   of them is in such pages. */
 typedef struct pages {
     size_t asked;
     size_t huge;
@@ -60,7 +60,7 @@ static uint32_t with_room(kumquatsieve_cutter *cutter, file image) {
     return in_pieces(cutter, image, image.length);
 }
 
-/* The block grows with its bytes. */
+/* Appends without room, so that the block grows. */
 static uint32_t without_room(kumquatsieve_cutter *cutter, file image) {
     return in_pieces(cutter, image, 0);
 }
@@ -75,8 +75,8 @@ static const way WAYS[] = {{"copied", copied},
                            {"in pieces, with room", with_room},
                            {"in pieces, without room", without_room}};
 
-/* The pages of a process that has loaded an image by one way. After that nothing is asked for any
-   more, since its memory is given back. errno is as it was before. */
+/* Returns the pages of a process that loads an image in one way. After the image is freed nothing
+   has huge pages any more. errno is unchanged. */
 static pages pages_of(const way *by, file image) {
     kumquatsieve_cutter cutter = kumquatsieve_empty();
     errno = BEFORE;
@@ -99,7 +99,7 @@ static void asked_for_the_large_one(file system, file large) {
     puts("");
 }
 
-/* Without huge pages an image is loaded as well. */
+/* An image is loaded without huge pages too. */
 static void refused(file large) {
     refuses = true;
     for (size_t i = 0; i < COUNT_OF(WAYS); i++)
@@ -107,8 +107,7 @@ static void refused(file large) {
     refuses = false;
 }
 
-/* Nothing is asked for memory that lies among the program's own, as where it has malloc map
- * nothing. */
+/* Nothing is requested for a block in the heap, where it is if malloc maps no blocks separately. */
 static void in_the_heap(file large) {
     CHECK(mallopt(M_MMAP_MAX, 0) == 1);
     for (size_t i = 0; i < COUNT_OF(WAYS); i++)

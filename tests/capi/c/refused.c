@@ -1,7 +1,7 @@
-/* Refuses each growth of a run in turn, and counts the blocks that are held: refused SYSTEM.img
-   USER.img. The call whose growth was refused answers out of memory, the cutter answers the next
-   call as it would have, and no block is left. A file that is mapped counts as a block. Linked with
-   --wrap of malloc, realloc, free, mmap and munmap. */
+/* Lets each allocation of a run fail in turn, and counts the blocks: refused SYSTEM.img USER.img.
+   The call whose allocation fails returns KUMQUATSIEVE_MEMORY, the next call works as it would
+   have, and no block is left. A mapped file counts as a block. Linked with --wrap of malloc,
+   realloc, free, mmap and munmap. */
 #include "helpers.h"
 #include <errno.h>
 #include <sys/mman.h>
@@ -46,8 +46,8 @@ int __wrap_munmap(void *at, size_t length) {
     return __real_munmap(at, length);
 }
 
-/* Each call until it isn't refused; how often one was. Not one of them may answer another fault,
- * and what it would have set is as it was. */
+/* How many calls failed. Each call is repeated until it succeeds. No call returns another error,
+   and an output that it would have set is unchanged. */
 static long times_refused;
 
 enum { UNSET = 77 };
@@ -92,7 +92,7 @@ static void ask_lent(kumquatsieve_cutter *cutter) {
     CHECK(is_text(kept, length, "すもももも \n"));
 }
 
-/* すもも and すもももも at the beginning, and the three nodes after them. */
+/* The nodes are すもも and すもももも at the start, and the three after them. */
 static void ask_nodes(kumquatsieve_cutter *cutter) {
     kumquatsieve_node nodes[5];
     size_t count = UNSET, length = UNSET;
@@ -126,7 +126,7 @@ static void run(file system, file user) {
     kumquatsieve_free(&cutter);
 }
 
-/* The same of a dictionary that is made, and of a cutter over it. */
+/* Runs with a dictionary of images, and a cutter over it. */
 static void run_over_a_dictionary(file system, file user) {
     const kumquatsieve_image images[] = {{system.bytes, system.length}, {user.bytes, user.length}};
     kumquatsieve_dictionary *dictionary = NULL;
@@ -139,7 +139,7 @@ static void run_over_a_dictionary(file system, file user) {
     kumquatsieve_free(&cutter);
 }
 
-/* The same of an image in two pieces, and of a dictionary made of its cutter. */
+/* Runs with an image in two pieces, and a dictionary of its cutter. */
 static void run_over_a_buffer(file system, file user) {
     kumquatsieve_dictionary *dictionary = NULL;
     kumquatsieve_cutter cutter = KUMQUATSIEVE_EMPTY;
@@ -169,7 +169,7 @@ static void run_over_a_buffer(file system, file user) {
     kumquatsieve_dictionary_release(dictionary);
 }
 
-/* The same of files that are opened: first mapped, then read. */
+/* Runs with files, first mapped and then read. */
 static void run_over_files(file system, file user) {
     kumquatsieve_dictionary *dictionary = NULL;
     kumquatsieve_cutter cutter = KUMQUATSIEVE_EMPTY, other = KUMQUATSIEVE_EMPTY;
@@ -202,7 +202,7 @@ static long growths_of(void (*runs)(file, file), file system, file user) {
     return growths - first;
 }
 
-/* Refuses each of so many growths; how many ended their call. */
+/* Lets each of `all` allocations fail. Returns how many made their call fail. */
 static long refuse_each(void (*runs)(file, file), file system, file user, long all) {
     long before = held, ended = 0;
     for (long n = 1; n <= all; n++) {

@@ -1,12 +1,12 @@
-/* Rows of images that are loaded, of users, of formats and groupings, and of cutters that share:
-   settings SYSTEM.img USER.img SECOND.img, the images of the sample's sources and of users who give
-   もも another feature and cost. */
+/* Tests loading, user dictionaries, formats, groupings and sharing in tables: settings SYSTEM.img
+   USER.img SECOND.img. The images are compiled from the sample, and from user dictionaries with
+   another feature and cost of もも. */
 #include "helpers.h"
 
 #define UNSET 77
 #define USERS_MOMO "もも\t名詞,ユーザ\nEOS\n"
 
-/* A copy of an image with another byte at a place. */
+/* Returns a copy of an image with another byte at an offset. */
 static file changed(file image, size_t at, uint8_t byte) {
     file copy = {malloc(image.length), image.length, NULL};
     CHECK(copy.bytes && at < image.length);

@@ -1,5 +1,5 @@
-/* Four threads, each with a cutter of its own over shared dictionaries, cut the lines of a file:
-   threads IMG LINES. Their texts are the same, and are written once. */
+/* Segments the lines of a file on four threads, each with a cutter over shared dictionaries:
+   threads IMG LINES. Their outputs are equal, and printed once. */
 #include "helpers.h"
 #include <pthread.h>
 

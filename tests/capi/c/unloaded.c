@@ -1,4 +1,4 @@
-/* The shared library is loaded, opens a file, and is unloaded, again and again, with a fork in
+/* Loads the shared library, opens a file, and unloads the library, again and again, with a fork in
    between: unloaded LIBRARY.so SYSTEM.img. */
 #include "maps.h"
 #include <dlfcn.h>

@@ -1,7 +1,6 @@
-/* An image that another one takes the place of while it is opened: changing IMG OTHER. What was
-   read of IMG before, its sizes and its settings, doesn't go with OTHER. And an image that is
-   changed again and again is rejected after some tries. Linked with
-   -Wl,--wrap=kumquatsieve_open. */
+/* Tests an image that is replaced by another one while it is opened: changing IMG OTHER. The sizes
+   and the settings of IMG, which were read before, don't belong to OTHER. An image that is changed
+   again and again is rejected after some tries. Linked with -Wl,--wrap=kumquatsieve_open. */
 #include "helpers.h"
 #include <fcntl.h>
 #include <kumquatsieve.h>
@@ -17,15 +16,15 @@ uint32_t __real_kumquatsieve_open(kumquatsieve_cutter *cutter, const char *name,
 uint32_t __wrap_kumquatsieve_open(kumquatsieve_cutter *cutter, const char *name, unsigned how,
                                   uint64_t *number);
 
-/* Gives the image a time of writing that it never had. */
+/* Sets a modification time that the image never had. */
 static void touch(void) {
     static time_t last;
     struct timespec times[2] = {{.tv_nsec = UTIME_OMIT}, {.tv_sec = ++last}};
     CHECK(utimensat(AT_FDCWD, path, times, 0) == 0);
 }
 
-/* Each open comes just after a change, as long as there are changes left. The first one is a
-   rename, and the others set the time of writing. */
+/* Changes the file before each open, as long as there are changes left. The first one is a rename,
+   and the others set the modification time. */
 uint32_t __wrap_kumquatsieve_open(kumquatsieve_cutter *cutter, const char *name, unsigned how,
                                   uint64_t *number) {
     opens++;

@@ -1,6 +1,6 @@
-// Calls each function of MeCab's classes over the sample's dictionary: classes IMG. Each answers as
-// the call of C does that it stands over, and what is left out answers nullptr, 0 or false, and
-// says so.
+// Tests each function of MeCab's classes over the sample's dictionary: classes IMG. Each returns
+// what the C call below it returns. A function that is not supported sets an error, and returns
+// nullptr, 0 or false.
 #include "helpers.h"
 #include <cstring>
 #include <string>

@@ -1,7 +1,7 @@
-/* Prints each line in a dictionary's own format: endings DICTIONARY TYPE LINES. The text, and each
-   node by itself, also that of the beginning and the end. Then the best path of some sentences as
-   the first of several, with what stands after these. Of paths that cost the same MeCab may give
-   another one then, so these are sentences with one best path. */
+/* Prints each line in a dictionary's own format: endings DICTIONARY TYPE LINES. Prints the text,
+   and each node by itself, also BOS and EOS. Then prints the best path of some sentences as the
+   first of N, with the text after these. Each of these sentences has one best path, because MeCab
+   may choose another one of equal costs. */
 #include <mecab.h>
 #include <stdio.h>
 #include <stdlib.h>

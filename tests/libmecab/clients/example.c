@@ -1,6 +1,6 @@
-/* A program as MeCab's documents have them, in C: example DICTIONARY PART. The parts `tagger` and
-   `lattice` want the best path, `tagger-nbest` and `lattice-nbest` three of them. What is refused
-   is printed, with status 1. */
+/* A program like those in MeCab's documentation, in C: example DICTIONARY PART. The parts `tagger`
+   and `lattice` print the best path, `tagger-nbest` and `lattice-nbest` three paths. An error is
+   printed, with status 1. */
 #include <mecab.h>
 #include <stdio.h>
 #include <string.h>

@@ -1,5 +1,5 @@
-// A program as MeCab's documents have them, in C++: example DICTIONARY PART. The parts are those of
-// example.c.
+// A program like those in MeCab's documentation, in C++: example DICTIONARY PART. The parts are
+// those of example.c.
 #include <iostream>
 #include <mecab.h>
 #include <memory>

@@ -1,5 +1,5 @@
-/* Prints each field of each node, of the beginning and the end too, for each line: fields
- * DICTIONARY LINES [USERS]. */
+/* Prints each field of each node, BOS and EOS included, for each line: fields DICTIONARY LINES
+   [USERS]. */
 #include <mecab.h>
 #include <stdio.h>
 #include <stdlib.h>

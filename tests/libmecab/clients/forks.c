@@ -1,8 +1,8 @@
-/* Forks while three threads parse by one tagger: forks DICTIONARY, 200 times; or forks DICTIONARY
-   ONE OTHER, 2,000 times, while the threads open ONE and OTHER by turns, which are so loaded and
-   given back all the time. Each child parses by that tagger, opens and parses by one of its own,
-   and ends; one that hangs is ended by its clock, and so is the program itself. Prints how many
-   answered. */
+/* Forks while three threads parse with one tagger: `forks DICTIONARY`, 200 times; or `forks
+   DICTIONARY ONE OTHER`, 2,000 times, while the threads open ONE and OTHER by turns, so that these
+   are loaded and freed all the time. Each child parses with that tagger, opens and parses with
+   another one, and ends. alarm(2) ends a child that hangs, and the program itself. Prints how many
+   children succeeded. */
 #include <mecab.h>
 #include <pthread.h>
 #include <stdatomic.h>
@@ -61,7 +61,7 @@ static int child(mecab_t *tagger) {
     return same ? 0 : 1;
 }
 
-/* How many of so many children answered. */
+/* Returns how many of `forks` children succeeded. */
 static int answered(mecab_t *tagger, int forks) {
     int count = 0, status = 0;
     for (int i = 0; i < forks; i++) {

@@ -1,6 +1,5 @@
-/* Makes a model, a tagger and a lattice, and cuts with them: growths IMG OPTIONS. Each growth of
-   the heap is refused in turn; what can't be done then is said, with status 1, and the rest is as
-   it would be. */
+/* Makes a model, a tagger and a lattice, and parses with them: growths IMG OPTIONS. Each allocation
+   fails in turn. Then the error is printed, with status 1, and everything else works. */
 #include "helpers.h"
 
 static const char SENTENCE[] = "すもももも\xff もも";

@@ -1,9 +1,9 @@
-/* Prints the whole lattice of each line: lattices DICTIONARY LINES [USERS]. Each node by the place
-   where it begins, in the order of its list; which end at each place; and then all of them in the
-   order in which they are linked where all morphs are asked for.
+/* Prints the whole lattice of each line: lattices DICTIONARY LINES [USERS]. Prints the nodes by
+   their starts, in the order of each list, then by their ends, and then in the order in which they
+   are linked with MECAB_ALL_MORPHS.
 
-   Where only blanks are left MeCab has a node of unknown blanks that ends after the sentence. Such
-   a one is passed over, and the id of the end is what it would be without it. */
+   If only blanks are left, MeCab has a node of unknown blanks that ends after the sentence. Such a
+   node is left out, and the id of EOS is what it would be without it. */
 #include <mecab.h>
 #include <stdio.h>
 #include <stdlib.h>

@@ -1,7 +1,7 @@
-/* One tagger of MeCab's C interface in four threads, each with a lattice of its own: one_tagger
-   DICTIONARY LINES [met]. Prints what each thread is told of each line, as text and as nodes, and
-   what the nodes of the whole lattice cost, thread after thread. With `met` all lines are parsed
-   once before the threads begin, so that what is kept of their entries is there by then. */
+/* Parses with one tagger on four threads, each with a lattice of its own: one_tagger DICTIONARY
+   LINES [met]. Prints the text and the nodes of each line, and the cost of all nodes of the
+   lattice, thread after thread. With `met` all lines are parsed once before the threads start, so
+   that the nodes of their tokens are cached by then. */
 #include <mecab.h>
 #include <pthread.h>
 #include <stdio.h>
@@ -40,7 +40,7 @@ static char **read_lines(const char *path, size_t *count) {
     return lines;
 }
 
-/* What all nodes of the lattice cost that end within the sentence. */
+/* Returns the sum of the costs of all nodes that end within the sentence. */
 static long cost_of_all(mecab_lattice_t *lattice) {
     mecab_node_t **begins = mecab_lattice_get_all_begin_nodes(lattice);
     size_t size = mecab_lattice_get_size(lattice);
@@ -74,7 +74,7 @@ static void *work(void *at) {
     return NULL;
 }
 
-/* Parses all lines in this thread. */
+/* Parses all lines on the calling thread. */
 static void meet(mecab_t *tagger, char *const *lines, size_t count) {
     worker alone = {
         .tagger = tagger, .lines = lines, .count = count, .told = fopen("/dev/null", "w")};

@@ -1,6 +1,6 @@
 /* Makes the calls of MeCab's C interface in orders and with options that its examples don't have,
-   and prints what they answer: orders DICTIONARY. Over MeCab's library and over ours the lines are
-   the same. */
+   and prints the results: orders DICTIONARY. The lines are the same with MeCab's library and with
+   this one. */
 #include <mecab.h>
 #include <stdio.h>
 #include <stdlib.h>
@@ -48,8 +48,8 @@ static void empty_lattices(void) {
     mecab_lattice_destroy(lattice);
 }
 
-/* The format is that of the model that made the lattice, whichever tagger parses it; a lattice
- * without a model has the default one. */
+/* A lattice has the format of the model that made it, whichever tagger parses it. A lattice without
+   a model has the default format. */
 static void formats_of_lattices(void) {
     mecab_model_t *model = mecab_model_new2(words("")),
                   *wakati = mecab_model_new2(words("-Owakati"));
@@ -149,8 +149,8 @@ static void nodes(void) {
     mecab_destroy(tagger);
 }
 
-/* The last word of a path and all before it, found by the arrays, as those of the best path. The
-   order of the other nodes is that of the sources of the dictionary, which here is not the same. */
+/* Finds the words of the best path by the arrays, from the last one back. The order of the other
+   nodes depends on the sources of the dictionary, which are not the same here. */
 static void places(void) {
     mecab_t *tagger = mecab_new2(words(""));
     mecab_lattice_t *lattice = mecab_lattice_new();

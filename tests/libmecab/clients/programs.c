@@ -1,5 +1,5 @@
-/* Makes one of the calls that are whole programs of MeCab's, with the words that follow its name:
- * programs mecab_do WORD.. */
+/* Makes one of the calls that are whole programs of MeCab, with arguments: programs mecab_do
+   ARGUMENT.. */
 #include "helpers.h"
 
 static const struct {

@@ -1,7 +1,6 @@
-/* A file that takes the place of an image is another image: replaced IMG OTHER, two images of one
-   system but for a feature of もも. OTHER takes the place of IMG. Other rules for ids of parts of
-   speech give other ids of one image, and rules that name another image give those of no rules.
-   Under valgrind a read of what is freed is an error. */
+/* Tests that a file that replaces an image is another image: replaced IMG OTHER, which differ in a
+   feature of もも. OTHER replaces IMG. Other rules for part-of-speech ids give other ids of one
+   image, and rules for another image count as none. valgrind reports reads of freed memory. */
 #include "helpers.h"
 #include <stdbool.h>
 #include <unistd.h>
@@ -32,7 +31,7 @@ static mecab_t *opened(void) {
     return tagger;
 }
 
-/* The path of what stands beside the image. */
+/* Returns the path of the file beside the image with this ending. */
 static const char *beside(const char *ending) {
     static char name[4096];
     snprintf(name, sizeof name, "%.*s%s", (int)(strlen(path) - strlen(".img")), path, ending);
@@ -45,7 +44,7 @@ static bool has_id(mecab_t *tagger, unsigned id) {
            strcmp(node->next->feature, "名詞,すもも") == 0;
 }
 
-/* Writes a rule after a first line that names an image by its checksum: this one or another one. */
+/* Writes a rule after a first line with the checksum of this image or of another one. */
 static void write_stamped(bool is_other) {
     char rules[128], *to = rules + sprintf(rules, "; image-sha256 ");
     size_t length = 0;
@@ -58,8 +57,7 @@ static void write_stamped(bool is_other) {
     free(image);
 }
 
-/* Taggers of one image by other rules, and by none, each with its own ids as long as it is there.
- */
+/* Taggers over one image with other rules, and without rules, each keep their own ids. */
 static void rules(void) {
     mecab_t *none = opened();
     write_whole(beside(".dicrc"), "cost-factor = 800\n", strlen("cost-factor = 800\n"));

@@ -1,4 +1,4 @@
-/* What models, taggers and threads share of the sample's dictionary: sharing IMG. */
+/* Tests what models, taggers and threads share of the sample's dictionary: sharing IMG. */
 #include "helpers.h"
 #include <errno.h>
 #include <fcntl.h>
@@ -10,7 +10,7 @@ static const char *dictionary;
 
 static char *words(const char *more) { return words_of(dictionary, more); }
 
-/* Who opens what the process has loaded gets the same images. */
+/* Opening images that are open returns the same images. */
 static void images(void) {
     mecab_t *first = mecab_new2(words("")), *second = mecab_new2(words("-Owakati")),
             *users = mecab_new2(words("-u /nowhere.img"));
@@ -27,8 +27,8 @@ static void images(void) {
           strstr(mecab_strerror(NULL), "/dev/null: is no file"));
 }
 
-/* What was given back last stays for who makes one tagger after the other: under valgrind a read of
- * what is freed is an error. */
+/* The images that were released last stay open for a caller that makes one tagger after another.
+   valgrind reports reads of freed memory. */
 static void images_that_stay(void) {
     mecab_t *first = mecab_new2(words(""));
     const mecab_dictionary_info_t *info = first ? mecab_dictionary_info(first) : NULL;
@@ -49,7 +49,7 @@ static void *cut_often(void *model) {
     return NULL;
 }
 
-/* Taggers of one model cut beside one another, while its dictionaries are swapped. */
+/* Taggers of one model parse on several threads, while its dictionaries are swapped. */
 static void threads(void) {
     enum { THREADS = 4 };
     pthread_t all[THREADS];
@@ -60,8 +60,8 @@ static void threads(void) {
     mecab_model_destroy(model);
 }
 
-/* One tagger serves several threads, each with a lattice of its own, as mecab.h says; also while
- * the model's dictionaries are swapped. */
+/* Several threads parse with one tagger, each with a lattice of its own, as mecab.h allows, also
+   while the dictionaries of the model are swapped. */
 static void *cut_by_one(void *tagger) {
     mecab_lattice_t *lattice = mecab_lattice_new();
     for (int i = 0; i < 500; i++) {
@@ -92,15 +92,15 @@ static void *open_once(void *options) {
     return NULL;
 }
 
-/* The path of another name of the dictionary, or of what stands beside that. */
+/* Writes the path of another name of the dictionary, or of a file beside that. */
 static const char *another(char *path, size_t room, const char *ending) {
     snprintf(path, room, "%.*s-another%s", (int)(strlen(dictionary) - strlen(".img")), dictionary,
              ending);
     return path;
 }
 
-/* A thread that is cancelled while it opens an image keeps no lock: it reads rules for ids out of a
- * pipe then, which others wait for. */
+/* A thread that is cancelled while it opens an image releases its locks. Here it reads rules for
+   ids from a pipe, while others wait. */
 static void cancelled(void) {
     static const char RULE[] = "名詞 1\n";
     char image[4096], settings[4096], rules[4096], options[4200];
@@ -118,7 +118,7 @@ static void cancelled(void) {
     CHECK(pthread_cancel(thread) == 0 && write(pipe, RULE, strlen(RULE)) == (ssize_t)strlen(RULE) &&
           close(pipe) == 0);
     CHECK(pthread_join(thread, &end) == 0 && end == PTHREAD_CANCELED);
-    /* Who waits for a lock that is kept is ended. */
+    /* Ends the program if a lock is never released. */
     alarm(60);
     mecab_t *tagger = mecab_new2(words(""));
     alarm(0);
