@@ -29,6 +29,7 @@ sys.path.insert(0, str(Path(__file__).resolve().parents[1]))
 from capi.cases.built import C, COPIES, FILES, HELGRIND, READ_FILES, TOP, VALGRIND  # noqa: E402
 from capi.cases.built import WHOLE_FILES, Library, program, run, show  # noqa: E402
 from capi.cases.files import FORKS, check_files  # noqa: E402
+from capi.cases.header import check_header  # noqa: E402
 from capi.cases.image_dirs import check_image_dirs  # noqa: E402
 from cli.cases.images import OTHER_SIZES, REFUSED  # noqa: E402
 
@@ -314,8 +315,8 @@ def main():
         check_calls(library, cut, system, user)
         check_rows(library, system)
         check_images(library, system)
-        missing = check_files(library, system, user) + check_image_dirs(library)
-        missing += check_pages(library, system)
+        missing = check_header() + check_files(library, system, user)
+        missing += check_image_dirs(library) + check_pages(library, system)
         check_texts(library, cut, system, made_up_lines(10_000))
         if options.image:
             text = options.text.read_bytes()
