@@ -26,10 +26,10 @@ from pathlib import Path
 
 sys.dont_write_bytecode = True
 sys.path.insert(0, str(Path(__file__).resolve().parents[1]))
-from capi.cases.built import C, COPIES, FILES, HELGRIND, READ_FILES, TOP, VALGRIND  # noqa: E402
-from capi.cases.built import WHOLE_FILES, Library, program, run, show  # noqa: E402
+from capi.cases.library import C, COPIES, FILES, HELGRIND, READ_FILES, TOP, VALGRIND  # noqa: E402
+from capi.cases.library import WHOLE_FILES, Library, program, run, show  # noqa: E402
 from capi.cases.files import FORKS, check_files  # noqa: E402
-from capi.cases.header import check_header  # noqa: E402
+from capi.cases.standards import check_header  # noqa: E402
 from capi.cases.image_dirs import check_image_dirs  # noqa: E402
 from cli.cases.images import OTHER_SIZES, REFUSED  # noqa: E402
 
@@ -203,9 +203,9 @@ def check_calls(library, cut, system, user):
         dictionaries = [library.compiled(C / "dictionaries.c", *how), system, user]
         for words in ([*HELGRIND, *dictionaries], ["timeout", "60", *dictionaries, FORKS]):
             show(words)
-    for name, flags in {"nulls": [], "buffers": [], "refused": WRAPPED}.items():
+    for name, flags in {"null_arguments": [], "buffers": [], "out_of_memory": WRAPPED}.items():
         show([*VALGRIND, library.compiled(C / f"{name}.c", *flags), system, user])
-    calls = [sys.executable, TOP / "tests/capi/calls.py", system, user, odd_image(system)]
+    calls = [sys.executable, TOP / "tests/capi/python_calls.py", system, user, odd_image(system)]
     print("library: " + run(calls, env=library.python()).decode(), end="")
     run([*VALGRIND, cut, system], made_up_lines(200))
     print("library: valgrind: no error and no block left; helgrind: no race over one dictionary")
@@ -220,7 +220,7 @@ def check_images(library, system):
         path.write_bytes(image)
     wanted = [fault for _, *faults in rows for fault in faults]
     for how in (COPIES, WHOLE_FILES, READ_FILES):
-        images = library.compiled(C / "images.c", *how)
+        images = library.compiled(C / "rejected_images.c", *how)
         told = run([*VALGRIND, images, system, *paths]).decode().splitlines()
         if told != wanted:
             sys.exit(f"library: refused images, {' '.join(how)}: {told}, and not {wanted}")
@@ -232,7 +232,7 @@ def check_pages(library, system):
     if not HUGE_PAGES.exists():
         return ["huge pages, which the kernel does not have"]
     told = run(
-        [library.compiled(C / "pages.c", "-Wl,--wrap=madvise"), system, large_image(system)]
+        [library.compiled(C / "huge_pages.c", "-Wl,--wrap=madvise"), system, large_image(system)]
     ).decode()
     print(
         f"library: huge pages are asked for a large image alone; in such pages stand, by each way to load it: {told}",

@@ -30,24 +30,24 @@ from pathlib import Path
 
 sys.dont_write_bytecode = True
 sys.path.insert(0, str(Path(__file__).resolve().parents[1]))
-from libmecab.clients.checks import (
+from libmecab.checks.library import (
     check_calls,
     check_changing,
     check_forks,
     check_growths,
 )  # noqa: E402
-from libmecab.clients.checks import (
+from libmecab.checks.library import (
     check_linking,
     check_names,
     check_replaced,
     check_threads,
 )  # noqa: E402
-from libmecab.clients.common import COMPILED, HEADER, IPADIC, TOP, run  # noqa: E402
-from libmecab.clients.dictionaries import compared  # noqa: E402
-from libmecab.clients.printing import clients  # noqa: E402
-from libmecab.clients.program import check_refused_memory, check_rows  # noqa: E402
-from libmecab.clients.settings import check_settings  # noqa: E402
-from libmecab.clients.tools import check_tools  # noqa: E402
+from libmecab.checks.common import COMPILED, HEADER, IPADIC, TOP, run  # noqa: E402
+from libmecab.checks.dictionaries import compared  # noqa: E402
+from libmecab.checks.clients import clients  # noqa: E402
+from libmecab.checks.program import check_refused_memory, check_rows  # noqa: E402
+from libmecab.checks.settings import check_settings  # noqa: E402
+from libmecab.checks.tools import check_tools  # noqa: E402
 
 PACKAGES = (
     "mecab mecab-ipadic mecab-ipadic-utf8 libmecab-dev manpages-ja libtext-mecab-perl python3-mecab ruby-mecab groonga-bin groonga-tokenizer-mecab"

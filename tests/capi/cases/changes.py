@@ -6,7 +6,7 @@ import subprocess
 from pathlib import Path
 from typing import Callable
 
-from .places import Place
+from .case_dir import Place
 
 Change = Callable[[Place], object]
 

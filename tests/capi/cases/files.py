@@ -5,7 +5,7 @@ import sys
 import tempfile
 from pathlib import Path
 
-from .built import C, HELGRIND, TOP, VALGRIND, run, show
+from .library import C, HELGRIND, TOP, VALGRIND, run, show
 
 # A file system in memory, beside that of the temporary folder.
 MEMORY = Path("/dev/shm")
@@ -24,24 +24,28 @@ def check_rows(library, system, user):
     """What is refused, how long files stay mapped, and what changes meanwhile."""
     disk = [library.folder]
     folders = disk + [MEMORY] if os.access(MEMORY, os.W_OK) else disk
-    rows = [("opening", [], disk), ("mapped", [], folders), ("changing", CHANGING, disk)]
+    rows = [
+        ("opening_files", [], disk),
+        ("mapped_files", [], folders),
+        ("changing_files", CHANGING, disk),
+    ]
     for name, flags, where in rows:
         program = library.compiled(C / f"{name}.c", *flags)
         in_folders([*VALGRIND, program, system, user], where)
     with tempfile.TemporaryDirectory(dir=library.folder) as own:
-        show([library.folder / "changing", system, user, own, "plain"])
+        show([library.folder / "changing_files", system, user, own, "plain"])
 
 
 def check_threads(library, system, user):
     threads = [library.compiled(C / "opening_threads.c"), system, user]
     for words in ([*VALGRIND, *threads], [*HELGRIND, *threads], ["timeout", "60", *threads, FORKS]):
         show(words)
-    show([library.compiled(C / "unloaded.c", "-ldl"), library.shared, system])
+    show([library.compiled(C / "dlclose.c", "-ldl"), library.shared, system])
 
 
 def check_records(library, system):
     """Which records are believed. Returns the parts that can't be checked here."""
-    trusting = library.compiled(C / "trusting.c", "-Wl,--wrap=openat")
+    trusting = library.compiled(C / "open_code.c", "-Wl,--wrap=openat")
     trust = TOP / "tests/capi/cases" / "trust.py"
     told = run([sys.executable, trust, trusting, system]).decode().splitlines()
     for line in told:

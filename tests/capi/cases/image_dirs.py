@@ -7,7 +7,7 @@ from typing import Dict, List
 
 from support.running import preloadable
 
-from .built import C, VALGRIND, Library, show
+from .library import C, VALGRIND, Library, show
 
 OWN, MADE = "data/kumquatsieve", "prefix/var/lib/kumquatsieve"
 SHARED = "prefix/share/kumquatsieve"

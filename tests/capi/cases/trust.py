@@ -1,7 +1,7 @@
 #!/usr/bin/env python3
 """Checks which records of tested images are believed: trust.py TRUSTING SYSTEM.img
 
-TRUSTING is tests/capi/c/trusting.c, SYSTEM.img the sample's image. Each case of trust_cases.py
+TRUSTING is tests/capi/c/open_code.c, SYSTEM.img the sample's image. Each case of trust_cases.py
 has a directory of its own with an image and a valid record of it, before or after which something
 is changed. The image breaks a rule: its first token has a text of 4 GB. So it is accepted if the
 record is believed, and rejected with L7 if it isn't.
@@ -20,8 +20,8 @@ from typing import List, Tuple
 sys.dont_write_bytecode = True
 sys.path.insert(0, str(Path(__file__).resolve().parents[2]))
 from capi.cases.changes import mount, mounted_under  # noqa: E402
-from capi.cases.places import BAD_USER, BAD_USER_1, BAD_USER_2, Place  # noqa: E402
-from capi.cases.places import bad_system, bad_system_2  # noqa: E402
+from capi.cases.case_dir import BAD_USER, BAD_USER_1, BAD_USER_2, Place  # noqa: E402
+from capi.cases.case_dir import bad_system, bad_system_2  # noqa: E402
 from capi.cases.trust_cases import OF_ANYONE, OF_ROOT, Case  # noqa: E402
 
 ACCEPTED, BAD_TEXT, BAD_SECTION = 0, 0x4C07, 0x4C04

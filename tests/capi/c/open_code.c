@@ -1,7 +1,7 @@
-/* Opens an image and frees it, and prints the code: trusting HOW IMG [SYSTEM.img]. With SYSTEM.img,
-   IMG is a user image. Nothing is segmented, because an image that is accepted by its record may be
-   invalid. The variable SWAP names two directories. The second one gets the name of the first one
-   once a file was opened in that. Linked with --wrap=openat. */
+/* Opens an image and frees it, and prints the code: open_code HOW IMG [SYSTEM.img]. With
+   SYSTEM.img, IMG is a user image. Nothing is segmented, because an image that is accepted by its
+   record may be invalid. The variable SWAP names two directories. The second one gets the name of
+   the first one once a file was opened in that. Linked with --wrap=openat. */
 #define _GNU_SOURCE
 #include "helpers.h"
 #include <fcntl.h>

@@ -1,6 +1,7 @@
-/* Tests files that change while they are opened, and system calls that fail: changing SYSTEM.img
-   USER.img FOLDER [plain]. FOLDER is empty. `plain` adds what valgrind can't run: a file of 2^62
-   bytes, and a child that a truncated file stops. Linked with --wrap of mmap, syscall and read. */
+/* Tests files that change while they are opened, and system calls that fail: changing_files
+   SYSTEM.img USER.img FOLDER [plain]. FOLDER is empty. `plain` adds what valgrind can't run: a file
+   of 2^62 bytes, and a child that a truncated file stops. Linked with --wrap of mmap, syscall and
+   read. */
 #define _GNU_SOURCE
 #include "maps.h"
 #include <errno.h>

@@ -1,5 +1,5 @@
-/* Makes a model, a tagger and a lattice, and parses with them: growths IMG OPTIONS. Each allocation
-   fails in turn. Then the error is printed, with status 1, and everything else works. */
+/* Makes a model, a tagger and a lattice, and parses with them: out_of_memory IMG OPTIONS. Each
+   allocation fails in turn. Then the error is printed, with status 1, and everything else works. */
 #include "helpers.h"
 
 static const char SENTENCE[] = "すもももも\xff もも";

@@ -1,6 +1,6 @@
-/* Tests that a file that replaces an image is another image: replaced IMG OTHER, which differ in a
-   feature of もも. OTHER replaces IMG. Other rules for part-of-speech ids give other ids of one
-   image, and rules for another image count as none. valgrind reports reads of freed memory. */
+/* Tests that a file that replaces an image is another image: replaced_image IMG OTHER, which differ
+   in a feature of もも. OTHER replaces IMG. Other rules for part-of-speech ids give other ids of
+   one image, and rules for another image count as none. valgrind reports reads of freed memory. */
 #include "helpers.h"
 #include <stdbool.h>
 #include <unistd.h>

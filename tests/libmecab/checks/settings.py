@@ -9,7 +9,7 @@ import sys
 from dataclasses import dataclass, field
 from pathlib import Path
 
-from libmecab.clients.common import TOP, run
+from libmecab.checks.common import TOP, run
 
 
 @dataclass

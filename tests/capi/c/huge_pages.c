@@ -1,6 +1,6 @@
-/* Tests that huge pages are requested for the memory of a large image, and for nothing else: pages
-   SYSTEM.img LARGE.img. The large image is longer than LARGE in capi/heap.c. Both have the words of
-   the sample. Prints how many kB of it are in huge pages. */
+/* Tests that huge pages are requested for the memory of a large image, and for nothing else:
+   huge_pages SYSTEM.img LARGE.img. The large image is longer than LARGE in capi/heap.c. Both have
+   the words of the sample. Prints how many kB of it are in huge pages. */
 #include "helpers.h"
 #include <errno.h>
 #include <malloc.h>

@@ -1,4 +1,4 @@
-/* Prints each field of each node, BOS and EOS included, for each line: fields DICTIONARY LINES
+/* Prints each field of each node, BOS and EOS included, for each line: node_fields DICTIONARY LINES
    [USERS]. */
 #include <mecab.h>
 #include <stdio.h>

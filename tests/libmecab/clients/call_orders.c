@@ -1,6 +1,6 @@
 /* Makes the calls of MeCab's C interface in orders and with options that its examples don't have,
-   and prints the results: orders DICTIONARY. The lines are the same with MeCab's library and with
-   this one. */
+   and prints the results: call_orders DICTIONARY. The lines are the same with MeCab's library and
+   with this one. */
 #include <mecab.h>
 #include <stdio.h>
 #include <stdlib.h>

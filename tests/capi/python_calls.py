@@ -1,4 +1,4 @@
-"""Makes each call of the Python module over the sample's images: calls.py SYSTEM.img USER.img ODD.img. In the odd image the feature of もも has a
+"""Makes each call of the Python module over the sample's images: python_calls.py SYSTEM.img USER.img ODD.img. In the odd image the feature of もも has a
 line feed for its comma."""
 import sys
 import threading

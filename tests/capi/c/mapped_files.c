@@ -1,5 +1,5 @@
-/* Tests how long files stay mapped: mapped SYSTEM.img USER.img FOLDER. The user dictionary has the
-   word すもももも. FOLDER is empty. */
+/* Tests how long files stay mapped: mapped_files SYSTEM.img USER.img FOLDER. The user dictionary
+   has the word すもももも. FOLDER is empty. */
 #define _GNU_SOURCE
 #include "maps.h"
 #include <fcntl.h>

@@ -1,5 +1,5 @@
 """Imports letters whose bodies are the lines of a file into a database by sylph-searcher, which cuts them by MeCab's library, and prints the
-indexes that it has made: mails.py LINES. The database server is one of its own, which no other machine reaches."""
+indexes that it has made: sylph_searcher.py LINES. The database server is one of its own, which no other machine reaches."""
 import os
 import pwd
 import subprocess
@@ -40,7 +40,7 @@ def run(command, **more):
         list(map(str, command)), stdout=subprocess.PIPE, stderr=subprocess.DEVNULL, **more
     )
     if done.returncode != 0:
-        sys.exit(f"mails: {command[0]}: status {done.returncode}")
+        sys.exit(f"sylph_searcher: {command[0]}: status {done.returncode}")
     return done.stdout
 
 
@@ -74,7 +74,7 @@ def wait_for(sockets):
         if subprocess.run([SERVER / "pg_isready", "-q", "-h", sockets]).returncode == 0:
             return
         time.sleep(0.1)
-    sys.exit("mails: the server does not answer")
+    sys.exit("sylph_searcher: the server does not answer")
 
 
 def print_indexes(folder):

@@ -1,7 +1,7 @@
 """The whole lattice over both libraries: each node of it at its places, and what the program mecab prints of all nodes. The dictionary is IPADIC,
 compiled for both of the same sources in the same order, since that is the order of the words of one surface."""
-from libmecab.clients.common import CLIENTS, compiled, run
-from libmecab.clients.dictionaries import compared, compile_for_both
+from libmecab.checks.common import CLIENTS, compiled, run
+from libmecab.checks.dictionaries import compared, compile_for_both
 
 ITEMS = "%pb%m %pi %h %phl %phr %t %s %c %pw %pc %pC %pn %ps %pe %H\\n"
 OPTIONS = [

@@ -1,5 +1,6 @@
-/* Prints the error of each image as a system image, and then as a user image for SYSTEM.img: images
-   SYSTEM.img IMG... A line has the name of the error, and its number if it has one. */
+/* Prints the error of each image as a system image, and then as a user image for SYSTEM.img:
+   rejected_images SYSTEM.img IMG... A line has the name of the error, and its number if it has one.
+ */
 #include "helpers.h"
 
 static void print_fault(uint32_t code, uint64_t number) {

@@ -7,8 +7,8 @@ import sys
 import tempfile
 from pathlib import Path
 
-from libmecab.clients.all_morphs import printed_of_lattices, printed_with_all_morphs
-from libmecab.clients.common import (
+from libmecab.checks.all_morphs import printed_of_lattices, printed_with_all_morphs
+from libmecab.checks.common import (
     CLIENTS,
     INDEX,
     IPADIC,
@@ -20,11 +20,11 @@ from libmecab.clients.common import (
     run,
     works,
 )
-from libmecab.clients.dictionaries import over_dictionaries
-from libmecab.clients.examples import printed_by_examples
-from libmecab.clients.own_formats import printed_in_own_formats
-from libmecab.clients.rc_lines import printed_by_lines_of_settings
-from libmecab.clients.unidic import printed_over_unidic
+from libmecab.checks.dictionaries import over_dictionaries
+from libmecab.checks.examples import printed_by_examples
+from libmecab.checks.own_formats import printed_in_own_formats
+from libmecab.checks.mecabrc_lines import printed_by_lines_of_settings
+from libmecab.checks.unidic import printed_over_unidic
 
 JAR = Path("/usr/share/java/MeCab-0.996.jar")
 POSTGRESQL = Path("/usr/lib/postgresql")
@@ -86,18 +86,21 @@ def printed_by_groonga(lines, environment, folder):
 
 def printed_by_server(lines, environment, folder):
     return run(
-        [PYTHON, CLIENTS / "server.py", lines, Path(tempfile.mkdtemp(dir=folder)) / "db"],
+        [PYTHON, CLIENTS / "groonga_server.py", lines, Path(tempfile.mkdtemp(dir=folder)) / "db"],
         environment,
     )
 
 
 def printed_by_sylph_searcher(lines, environment, folder):
-    return run([PYTHON, CLIENTS / "mails.py", first_lines(lines, 1000, folder)], environment)
+    return run(
+        [PYTHON, CLIENTS / "sylph_searcher.py", first_lines(lines, 1000, folder)], environment
+    )
 
 
 def printed_in_other_orders(lines, environment, folder):
     return run(
-        [compiled(CLIENTS / "orders.c", folder, "-lmecab"), dictionary_of(environment)], environment
+        [compiled(CLIENTS / "call_orders.c", folder, "-lmecab"), dictionary_of(environment)],
+        environment,
     )
 
 
@@ -134,7 +137,7 @@ def printed_by_forks(lines, environment, folder):
 
 def printed_by_python(lines, environment, folder):
     return run([PYTHON, CLIENTS / "nodes.py", lines], environment) + run(
-        [PYTHON, CLIENTS / "orders.py", dictionary_of(environment)], environment
+        [PYTHON, CLIENTS / "call_orders.py", dictionary_of(environment)], environment
     )
 
 
@@ -160,7 +163,7 @@ def printed_by_options(lines, environment, folder):
 
 def printed_by_fields(lines, environment, folder):
     return run(
-        [compiled(CLIENTS / "fields.c", folder, "-lmecab"), dictionary_of(environment), lines],
+        [compiled(CLIENTS / "node_fields.c", folder, "-lmecab"), dictionary_of(environment), lines],
         environment,
     )
 
@@ -208,7 +211,7 @@ def users_of(lines, environment, folder):
 
 
 def printed_by_fields_with_users(lines, environment, folder):
-    program = compiled(CLIENTS / "fields.c", folder, "-lmecab")
+    program = compiled(CLIENTS / "node_fields.c", folder, "-lmecab")
     return run(
         [program, dictionary_of(environment), lines, users_of(lines, environment, folder)],
         environment,

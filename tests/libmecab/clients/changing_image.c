@@ -1,6 +1,7 @@
-/* Tests an image that is replaced by another one while it is opened: changing IMG OTHER. The sizes
-   and the settings of IMG, which were read before, don't belong to OTHER. An image that is changed
-   again and again is rejected after some tries. Linked with -Wl,--wrap=kumquatsieve_open. */
+/* Tests an image that is replaced by another one while it is opened: changing_image IMG OTHER. The
+   sizes and the settings of IMG, which were read before, don't belong to OTHER. An image that is
+   changed again and again is rejected after some tries. Linked with -Wl,--wrap=kumquatsieve_open.
+ */
 #include "helpers.h"
 #include <fcntl.h>
 #include <kumquatsieve.h>

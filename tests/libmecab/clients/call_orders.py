@@ -1,5 +1,5 @@
 """Prints what the classes of MeCab's C++ interface answer to calls in other orders than its examples have, by way of its Python module:
-orders.py DICTIONARY."""
+call_orders.py DICTIONARY."""
 import sys
 
 import MeCab

@@ -2,8 +2,8 @@
 import re
 import subprocess
 
-from libmecab.clients.all_morphs import dictionary, without_last_blanks
-from libmecab.clients.common import first_lines
+from libmecab.checks.all_morphs import dictionary, without_last_blanks
+from libmecab.checks.common import first_lines
 
 OWN = "output-format-type = own\n"
 # What MeCab takes as a number may end in blanks. It keeps the blanks at the end of a text.

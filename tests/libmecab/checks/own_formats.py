@@ -1,7 +1,7 @@
 """Formats of a dicrc that no dictionary of Debian's has, over both libraries: of the beginning, of the end, and of what stands after the paths."""
 import shutil
 
-from libmecab.clients.common import CLIENTS, COMPILED, compiled, first_lines, run
+from libmecab.checks.common import CLIENTS, COMPILED, compiled, first_lines, run
 
 # `chamame` is as UniDic has it, with fields that IPADIC has; the dicrc names it for who asks for no type.
 DICRC = r"""; a dicrc of no dictionary

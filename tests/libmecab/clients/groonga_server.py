@@ -1,5 +1,5 @@
 """Asks a Groonga server with four threads 4,000 times from four clients at once, and prints the answers in the order of the requests:
-server.py LINES DATABASE. The table of the lines is indexed by TokenMecab; requests are tokens of lines and searches for their words."""
+groonga_server.py LINES DATABASE. The table of the lines is indexed by TokenMecab; requests are tokens of lines and searches for their words."""
 import json
 import socket
 import subprocess
@@ -44,7 +44,7 @@ def wait_for(port):
             return asked(address(port, "status"))
         except OSError:
             time.sleep(0.1)
-    sys.exit("server: no answer")
+    sys.exit("groonga_server: no answer")
 
 
 def fill(port, texts):

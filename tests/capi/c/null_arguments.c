@@ -1,6 +1,6 @@
 /* Tests NULL for bytes whose length is 0, for outputs that are not wanted, and for a cutter or a
-   buffer to free: nulls SYSTEM.img USER.img. image_dirs.c tests NULL for the calls that find
-   images. */
+   buffer to free: null_arguments SYSTEM.img USER.img. image_dirs.c tests NULL for the calls that
+   find images. */
 #include "helpers.h"
 
 static void no_bytes(file system) {

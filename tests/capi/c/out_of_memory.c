@@ -1,6 +1,6 @@
-/* Lets each allocation of a run fail in turn, and counts the blocks: refused SYSTEM.img USER.img.
-   The call whose allocation fails returns KUMQUATSIEVE_MEMORY, the next call works as it would
-   have, and no block is left. A mapped file counts as a block. Linked with --wrap of malloc,
+/* Lets each allocation of a run fail in turn, and counts the blocks: out_of_memory SYSTEM.img
+   USER.img. The call whose allocation fails returns KUMQUATSIEVE_MEMORY, the next call works as it
+   would have, and no block is left. A mapped file counts as a block. Linked with --wrap of malloc,
    realloc, free, mmap and munmap. */
 #include "helpers.h"
 #include <errno.h>

@@ -5,7 +5,7 @@ import os
 import re
 from types import SimpleNamespace
 
-from libmecab.clients.common import CLIENTS, INDEX, TOP, compiled, first_lines, run
+from libmecab.checks.common import CLIENTS, INDEX, TOP, compiled, first_lines, run
 
 NAMES = ("juman", "naist-jdic")
 
@@ -50,7 +50,7 @@ def printed_over(name):
             for words in ([], *([f"-O{each}"] for each in types))
         ]
         return b"".join(told) + run(
-            [compiled(CLIENTS / "fields.c", folder, "-lmecab"), dictionary, few], environment
+            [compiled(CLIENTS / "node_fields.c", folder, "-lmecab"), dictionary, few], environment
         )
 
     return printed

@@ -4,7 +4,7 @@ import os
 import subprocess
 import sys
 
-from libmecab.clients.common import CLIENTS, TOP, VALGRIND, compiled, with_layer
+from libmecab.checks.common import CLIENTS, TOP, VALGRIND, compiled, with_layer
 
 NAMES = (
     "mecab_dict_index",

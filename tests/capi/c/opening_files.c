@@ -1,5 +1,5 @@
-/* Tests the errors of files that are opened, and files that are not regular: opening SYSTEM.img
-   USER.img FOLDER. Both images are compiled from the sample. FOLDER is empty. */
+/* Tests the errors of files that are opened, and files that are not regular: opening_files
+   SYSTEM.img USER.img FOLDER. Both images are compiled from the sample. FOLDER is empty. */
 #define _GNU_SOURCE
 #include "maps.h"
 #include <errno.h>

@@ -1,6 +1,6 @@
 """UniDic's output formats over both libraries: the settings of Debian's unidic-mecab 3.1.1 beside a small dictionary of UniDic's columns."""
-from libmecab.clients.common import CLIENTS, compiled, first_lines, run
-from libmecab.clients.dictionaries import compile_for_both
+from libmecab.checks.common import CLIENTS, compiled, first_lines, run
+from libmecab.checks.dictionaries import compile_for_both
 
 # The settings say what UniDic's own say, and the columns after the costs have UniDic's order. Words and costs are made up.
 FIELDS = (
@@ -125,5 +125,5 @@ def printed_over_unidic(lines, environment, folder):
     ]
     told += [run([endings, dictionary, kind, sentences], environment) for kind in TYPES]
     return b"".join(told) + run(
-        [compiled(CLIENTS / "fields.c", folder, "-lmecab"), dictionary, sentences], environment
+        [compiled(CLIENTS / "node_fields.c", folder, "-lmecab"), dictionary, sentences], environment
     )

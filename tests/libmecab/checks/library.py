@@ -5,8 +5,8 @@ import shutil
 import subprocess
 import sys
 
-from libmecab.clients.common import CLIENTS, HEADER, MORE_ENTRIES, PYTHON, TOP, VALGRIND
-from libmecab.clients.common import compiled, first_lines, refusing, run, with_layer
+from libmecab.checks.common import CLIENTS, HEADER, MORE_ENTRIES, PYTHON, TOP, VALGRIND
+from libmecab.checks.common import compiled, first_lines, refusing, run, with_layer
 
 # The programs that are run over the sample's dictionary.
 OVER_THE_SAMPLE = ("calls.c", "classes.cc", "sharing.c", "odd_texts.c")
@@ -83,7 +83,9 @@ def check_replaced(folder, library):
     )
     ours = dict(os.environ, LD_LIBRARY_PATH=str(library.parent))
     print(
-        run([*VALGRIND, compiled(CLIENTS / "replaced.c", folder, library), *images], ours).decode(),
+        run(
+            [*VALGRIND, compiled(CLIENTS / "replaced_image.c", folder, library), *images], ours
+        ).decode(),
         end="",
         flush=True,
     )
@@ -94,7 +96,7 @@ def check_growths(folder, library):
     image, ours = folder / "sample.img", dict(os.environ, LD_LIBRARY_PATH=str(library.parent))
     image.with_suffix(".dicrc").write_text("bos-feature = B,*\nnode-format-x = %m %F-[0,1] %h\\n\n")
     image.with_suffix(".pos-id.def").write_text("名詞 3\n* 4\n")
-    program = compiled(CLIENTS / "growths.c", folder, library)
+    program = compiled(CLIENTS / "out_of_memory.c", folder, library)
     count = 0
     for options in ("-C", "-Ox"):
         for number in range(1, 10_000):
@@ -135,7 +137,7 @@ def check_changing(folder, library):
     image = write_image(folder, "changing", lexicon)
     other = write_image(folder, "changing-other", lexicon + "空,1,1,-1000,記号,空\n")
     flags = ["-fsanitize=address", "-Wl,--wrap=kumquatsieve_open"]
-    program = with_layer(folder, library, CLIENTS / "changing.c", *flags)
+    program = with_layer(folder, library, CLIENTS / "changing_image.c", *flags)
     image.with_suffix(".dicrc").write_text(stamp_of(other) + "bos-feature = OTHER\n")
     print(run([program, image, other], os.environ).decode(), end="", flush=True)
 
@@ -178,7 +180,7 @@ def check_linking(folder, library):
     if shutil.which("pkg-config"):
         linked.append(run(["pkg-config", "--libs", "mecab"], environment).decode().split())
     for words in linked:
-        program = compiled(CLIENTS / "fields.c", folder, *words)
+        program = compiled(CLIENTS / "node_fields.c", folder, *words)
         if str(library) not in run(["ldd", program], environment).decode():
             sys.exit(f"mecab-clients: {' '.join(words)} links another library")
     print(

@@ -5,7 +5,7 @@ import subprocess
 import sys
 from dataclasses import dataclass, field
 
-from libmecab.clients.common import CLIENTS, FIELDS, VALGRIND, compiled, refusing, run
+from libmecab.checks.common import CLIENTS, FIELDS, VALGRIND, compiled, refusing, run
 
 MOMO, SUMOMO = "もも\t名詞,もも\nEOS\n".encode(), "すもも\t名詞,すもも\nもも\t名詞,もも\nEOS\n".encode()
 LONG, LONG_CUT = ("もも" * 2_000 + "\n").encode(), ("もも " * 2_000 + "\n").encode()

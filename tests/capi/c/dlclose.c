@@ -1,5 +1,5 @@
 /* Loads the shared library, opens a file, and unloads the library, again and again, with a fork in
-   between: unloaded LIBRARY.so SYSTEM.img. */
+   between: dlclose LIBRARY.so SYSTEM.img. */
 #include "maps.h"
 #include <dlfcn.h>
 #include <sys/wait.h>

@@ -3,7 +3,7 @@ refused over ours, with a text that names it."""
 import subprocess
 import sys
 
-from libmecab.clients.common import CLIENTS, compiled, dictionary_of
+from libmecab.checks.common import CLIENTS, compiled, dictionary_of
 
 SOURCES = ("example.c", "example.cc")
 PARTS = {"tagger": 1, "lattice": 1, "tagger-nbest": 3, "lattice-nbest": 3}
