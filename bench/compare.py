@@ -26,13 +26,11 @@ sum is that of the text. So a host that is slow for some tenths of a second, as 
 no part of it. A whole run is the least of the load, of each slice and of the end. A row has the seconds, their ratio, and that ratio by every other
 round, from the first on and from the second on. It is called uncertain where these two differ by more than a twentieth.
 
-Needs: what tests/compare_with_mecab/run.py wants, time, and a quiet machine; for the library gcc and Debian's python3-mecab, and the archive that
+Needs: what tests/compare_with_mecab/run.py needs, time, and a quiet machine; for the library gcc and Debian's python3-mecab, and the archive that
 `rt lib` left in crates/cutter_c/out; for nodes g++ and libmecab-dev; for instructions valgrind. A dictionary that is not installed is left out, and
 named, and so is the library.
 """
 import argparse
-import importlib.machinery
-import importlib.util
 import math
 import os
 import statistics
@@ -63,15 +61,9 @@ SLICES_COLUMNS = "the processor's seconds, ours and MeCab's; ratio, and by every
 SLICES_SURE = 0.05
 
 
-def module(path):
-    """Another script of this folder, as a module."""
-    loader = importlib.machinery.SourceFileLoader(path.name.replace("-", "_"), str(path))
-    made = importlib.util.module_from_spec(importlib.util.spec_from_loader(loader.name, loader))
-    loader.exec_module(made)
-    return made
-
-
-compared = module(TOP / "tests/compare_with_mecab/run.py")
+sys.path.insert(0, str(TOP / "tests"))
+from compare_with_mecab import dictionaries, texts  # noqa: E402
+from support.running import program  # noqa: E402
 
 
 class Measure(NamedTuple):
@@ -189,7 +181,7 @@ def without(run, load):
 
 def japanese(size):
     """So many bytes of the Japanese manual pages, over again where they are fewer."""
-    pages = compared.common_ground(compared.manual_pages())
+    pages = texts.common_lines(texts.manual_pages())
     if not pages:
         sys.exit("no Japanese manual pages (Debian: manpages-ja)")
     text = pages * (size // len(pages) + 1)
@@ -203,7 +195,7 @@ def written(folder, name, bytes_of):
 
 
 def bench_dictionary(name, source, options, folder):
-    sources = compared.Sources(source, folder)
+    sources = dictionaries.Sources(source, folder)
     if options.instructions or options.library or options.cut or options.slices:
         in_turn(sources.compilers(options), 1)
     if options.instructions:
@@ -229,7 +221,7 @@ def bench_dictionary(name, source, options, folder):
     load, untested, mecabs = in_turn(load_commands(sources, options), options.rounds)
     print_times("load", load, mecabs)
     print_times("load, --skip-digest", untested, mecabs)
-    for what, chosen in (("wakati", compared.WAKATI), ("default", [])):
+    for what, chosen in (("wakati", dictionaries.WAKATI), ("default", [])):
         ours, theirs = sources.segmenters(options, chosen)
         loads, runs = with_loads([ours, [*ours, "--skip-digest"], theirs], options.rounds, text)
         tested, untested, mecabs = runs
@@ -254,7 +246,7 @@ def print_instructions(name, options, folder, sources, text):
     )
     print_counts("load", load, mecabs)
     print_counts("load, --skip-digest", untested, mecabs)
-    for what, chosen in (("wakati", compared.WAKATI), ("default", [])):
+    for what, chosen in (("wakati", dictionaries.WAKATI), ("default", [])):
         ours, theirs = (
             counts_of_the_text(command, text) for command in sources.segmenters(options, chosen)
         )
@@ -293,7 +285,7 @@ def load_commands(sources, options):
 
 def bench_lengths(options, folder, image):
     """Lines and texts that grow: the time a byte stays as it is where the search is linear."""
-    command = [options.jseg, "-d", image, *compared.WAKATI]
+    command = [options.jseg, "-d", image, *dictionaries.WAKATI]
     run_on = japanese(8 * MB).replace(b"\n", b"").decode()
     print(
         "\nours alone: nanoseconds a byte without the load, memory, and spread, of texts of 4 MB in lines of so many bytes"
@@ -338,7 +330,7 @@ def bench_library(options, folder, sources, text):
 
 def bench_cuts(name, options, sources, text):
     """Each kumquatsieve-cut that was named and jseg, their loads and their search, in turn with MeCab's program."""
-    for what, chosen in (("wakati", compared.WAKATI), ("default", [])):
+    for what, chosen in (("wakati", dictionaries.WAKATI), ("default", [])):
         commands = cut_commands(options, sources, chosen)
         loads, runs = with_loads(list(commands.values()), options.rounds, text)
         print(f"\n{name}, {what}:", COLUMNS.format(theirs="MeCab's"))
@@ -351,7 +343,7 @@ def bench_cuts(name, options, sources, text):
 
 def bench_slices(name, options, sources, text):
     """The search and whole runs of each build of jseg, in slices that MeCab's program gets in turn with it."""
-    for what, chosen in (("wakati", compared.WAKATI), ("default", [])):
+    for what, chosen in (("wakati", dictionaries.WAKATI), ("default", [])):
         commands = cut_commands(options, sources, chosen)
         tested = with_digest(commands)
         print(f"\n{name}, {what}, in slices: {SLICES_COLUMNS}")
@@ -477,15 +469,15 @@ def chosen():
         action="store_true",
         help="count the instructions of the loads and the search, and measure nothing else",
     )
-    options.add_argument("--dictc", type=Path, default=compared.CRATES / "dictc" / "out" / "dictc")
-    options.add_argument("--jseg", type=Path, default=compared.CRATES / "jseg" / "out" / "jseg")
+    options.add_argument("--dictc", type=Path, default=program("dictc"))
+    options.add_argument("--jseg", type=Path, default=program("jseg"))
     options.add_argument("--mecab", default="mecab")
     options.add_argument("--mecab-dict-index", default="/usr/lib/mecab/mecab-dict-index")
     options.add_argument(
         "names",
         nargs="*",
-        default=compared.NAMES,
-        help=f"folders of sources, or Debian's: {', '.join(compared.NAMES)}",
+        default=dictionaries.NAMES,
+        help=f"folders of sources, or Debian's: {', '.join(dictionaries.NAMES)}",
     )
     found = options.parse_args()
     found.library |= found.nodes
@@ -508,7 +500,7 @@ def main():
         or options.slices
     )
     for name in options.names:
-        source = compared.folder_of(name)
+        source = dictionaries.folder_of(name)
         if source is None:
             print(f"\n{name}: left out, not installed")
             continue

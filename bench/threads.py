@@ -21,8 +21,6 @@ The library is the one that KUMQUATSIEVE_LIBRARY names. Without that it is built
 gcc, for the sample's image crates/dictc/out/dictc, and for instructions valgrind. Where one is not there the status is 77, and nothing was measured.
 """
 import argparse
-import importlib.machinery
-import importlib.util
 import os
 import shutil
 import statistics
@@ -40,6 +38,9 @@ from clients.host import Host  # noqa: E402
 from clients.library import LEFT_OUT, build, leave_out  # noqa: E402
 
 TOP = Path(__file__).resolve().parents[1]
+sys.path.insert(0, str(TOP / "tests"))
+from compare_with_mecab.texts import common_lines, manual_pages  # noqa: E402
+
 SAMPLE = TOP / "examples" / "sample"
 DICTC = TOP / "crates" / "dictc" / "out" / "dictc"
 NAME = "bench-threads"
@@ -48,25 +49,14 @@ MB = 1_000_000
 SURE, QUIET = 0.1, 0.05
 
 
-def compared():
-    """tests/compare_with_mecab/run.py as a module."""
-    loader = importlib.machinery.SourceFileLoader(
-        "compare_with_mecab", str(TOP / "tests/compare_with_mecab/run.py")
-    )
-    made = importlib.util.module_from_spec(importlib.util.spec_from_loader(loader.name, loader))
-    loader.exec_module(made)
-    return made
-
-
 def corpus(texts, size):
     """The lines of the texts that are UTF-8, over and over."""
-    pages = compared()
     lines = (
         b"".join(path.read_bytes() for path in texts)
-        or pages.manual_pages()
+        or manual_pages()
         or (SAMPLE / "text.txt").read_bytes()
     )
-    lines = pages.common_ground(lines).rstrip(b"\n") + b"\n"
+    lines = common_lines(lines).rstrip(b"\n") + b"\n"
     return lines * max(1, round(size / len(lines)))
 
 

@@ -30,6 +30,7 @@ from pathlib import Path
 
 sys.dont_write_bytecode = True
 sys.path.insert(0, str(Path(__file__).resolve().parents[1]))
+from compare_with_mecab.texts import common_lines, manual_pages  # noqa: E402
 from libmecab.checks.library import (
     check_calls,
     check_changing,
@@ -43,7 +44,6 @@ from libmecab.checks.library import (
     check_threads,
 )  # noqa: E402
 from libmecab.checks.common import COMPILED, HEADER, IPADIC, TOP, run  # noqa: E402
-from libmecab.checks.dictionaries import compared  # noqa: E402
 from libmecab.checks.clients import clients  # noqa: E402
 from libmecab.checks.program import check_refused_memory, check_rows  # noqa: E402
 from libmecab.checks.settings import check_settings  # noqa: E402
@@ -95,7 +95,7 @@ def environments(folder, built):
 
 
 def lines_file(folder, count):
-    pages = compared.common_ground(compared.manual_pages())
+    pages = common_lines(manual_pages())
     lines = [line for line in pages.splitlines() if line.strip() and len(line) < 4096][:count]
     if not lines:
         left_out("no Japanese manual pages (Debian: manpages-ja)")

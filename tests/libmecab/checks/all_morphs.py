@@ -1,7 +1,8 @@
 """The whole lattice over both libraries: each node of it at its places, and what the program mecab prints of all nodes. The dictionary is IPADIC,
 compiled for both of the same sources in the same order, since that is the order of the words of one surface."""
+from compare_with_mecab.dictionaries import folder_of
 from libmecab.checks.common import CLIENTS, compiled, run
-from libmecab.checks.dictionaries import compared, compile_for_both
+from libmecab.checks.dictionaries import compile_for_both
 
 ITEMS = "%pb%m %pi %h %phl %phr %t %s %c %pw %pc %pC %pn %ps %pe %H\\n"
 OPTIONS = [
@@ -20,7 +21,7 @@ BLANKS = " \t\v\f\r\u00d0"
 def dictionary(environment, folder):
     made = folder / "ipadic-for-both"
     if not made.exists():
-        compile_for_both(compared.folder_of("ipadic"), made)
+        compile_for_both(folder_of("ipadic"), made)
     return made / ("system.img" if "KUMQUATSIEVE_DICTIONARY" in environment else "mecab")
 
 

@@ -1,39 +1,23 @@
 """Debian's other dictionaries over both libraries: each format of their dicrc, and each field of each node."""
-import importlib.machinery
-import importlib.util
 import os
 import re
-from types import SimpleNamespace
 
-from libmecab.checks.common import CLIENTS, INDEX, TOP, compiled, first_lines, run
+from compare_with_mecab.dictionaries import Programs, Sources, folder_of, write_in_utf8
+from libmecab.checks.common import CLIENTS, INDEX, compiled, first_lines, run
 
 NAMES = ("juman", "naist-jdic")
-
-
-def script(path):
-    """A script as a module."""
-    loader = importlib.machinery.SourceFileLoader(path.name.replace("-", "_"), str(path))
-    made = importlib.util.module_from_spec(importlib.util.spec_from_loader(loader.name, loader))
-    loader.exec_module(made)
-    return made
-
-
-compared = script(TOP / "tests/compare_with_mecab/run.py")
 
 
 def compile_for_both(source, folder):
     """MeCab's folder and our image, from the same sources in the same order, each with the settings of the sources beside it."""
     folder.mkdir()
-    sources = compared.Sources(source, folder)
-    programs = SimpleNamespace(
-        dictc=TOP / "crates" / "dictc" / "out" / "dictc", mecab_dict_index=INDEX
-    )
-    for command in sources.compilers(programs):
+    sources = Sources(source, folder)
+    for command in sources.compilers(Programs(mecab_dict_index=str(INDEX))):
         run(command, os.environ)
-    compared.write_in_utf8(source / "dicrc", sources.mecab / "dicrc")
-    compared.write_in_utf8(source / "dicrc", sources.image.with_suffix(".dicrc"))
+    write_in_utf8(source / "dicrc", sources.mecab / "dicrc")
+    write_in_utf8(source / "dicrc", sources.image.with_suffix(".dicrc"))
     if (source / "pos-id.def").exists():
-        compared.write_in_utf8(source / "pos-id.def", sources.image.with_suffix(".pos-id.def"))
+        write_in_utf8(source / "pos-id.def", sources.image.with_suffix(".pos-id.def"))
 
 
 def printed_over(name):
@@ -42,7 +26,7 @@ def printed_over(name):
     def printed(lines, environment, folder):
         made, few = folder / name, first_lines(lines, 3000, folder)
         if not made.exists():
-            compile_for_both(compared.folder_of(name), made)
+            compile_for_both(folder_of(name), made)
         dictionary = made / ("system.img" if "KUMQUATSIEVE_DICTIONARY" in environment else "mecab")
         types = re.findall(r"^node-format-(\w+)", (made / "system.dicrc").read_text(), re.MULTILINE)
         told = [
@@ -65,4 +49,4 @@ def over_dictionaries():
 
 
 def is_there(name):
-    return compared.folder_of(name) is not None and INDEX.exists()
+    return folder_of(name) is not None and INDEX.exists()
