@@ -1,4 +1,4 @@
-//! Dictionaries that are compiled and loaded again where a growth was refused. A growth is refused where the tests run under `tests/out_of_memory/refuse.py`, which
+//! Dictionaries that are compiled and loaded again where a growth was refused. A growth is refused where the tests run under `tests/out_of_memory/run.py`, which
 //! looks for the line that says so.
 
 use dict_compile::compile;

@@ -1,4 +1,4 @@
-//! Rows of cells, and refused growths. A growth is refused where the tests run under `tests/out_of_memory/refuse.py`,
+//! Rows of cells, and refused growths. A growth is refused where the tests run under `tests/out_of_memory/run.py`,
 //! which looks for the line that says so.
 use cells::{CELLS_MAX, Cells};
 use std::alloc::{Alloc, AllocError, Global};

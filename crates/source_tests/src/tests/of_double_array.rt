@@ -1,4 +1,4 @@
-//! Rows of insertions and lookups, and refused growths. A growth is refused where the tests run under `tests/out_of_memory/refuse.py`.
+//! Rows of insertions and lookups, and refused growths. A growth is refused where the tests run under `tests/out_of_memory/run.py`.
 mod access;
 mod growing;
 mod grown_cells;

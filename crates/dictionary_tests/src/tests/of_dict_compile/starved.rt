@@ -1,4 +1,4 @@
-//! Refused growths. A growth is refused where the tests run under `tests/out_of_memory/refuse.py`, which looks for the line that says so.
+//! Refused growths. A growth is refused where the tests run under `tests/out_of_memory/run.py`, which looks for the line that says so.
 use crate::tests::samples::{Expected, NONE, are_entries, compiled_of, dict_of, user_of};
 use dict_compile::{CompileUserFault, Compiled};
 use dict_image::Dict;

@@ -1,4 +1,4 @@
-//! Images of users' dictionaries under refused growths. A growth is refused where the tests run under `tests/out_of_memory/refuse.py`, which looks for the
+//! Images of users' dictionaries under refused growths. A growth is refused where the tests run under `tests/out_of_memory/run.py`, which looks for the
 //! line that says so.
 use super::images::user_image;
 use super::questions::is_user_with;

@@ -1,4 +1,4 @@
-//! Best paths whose growths of memory `tests/out_of_memory/growths.py` counts and compares.
+//! Best paths whose growths of memory `tests/out_of_memory/run.py` counts and compares.
 
 use super::asked::{expect_sums, path_in};
 use dict_image::Dict;

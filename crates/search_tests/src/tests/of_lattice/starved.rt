@@ -1,4 +1,4 @@
-//! Refused growths of searches. A growth is refused where the tests run under `tests/out_of_memory/refuse.py`, which looks for the line that says so.
+//! Refused growths of searches. A growth is refused where the tests run under `tests/out_of_memory/run.py`, which looks for the line that says so.
 
 use super::asked::{path_in, path_over};
 use lattice::{Lattice, Path};

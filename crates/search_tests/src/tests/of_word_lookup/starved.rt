@@ -1,4 +1,4 @@
-//! Refused growths of words. A growth is refused where the tests run under `tests/out_of_memory/refuse.py`, which looks for the line that says so.
+//! Refused growths of words. A growth is refused where the tests run under `tests/out_of_memory/run.py`, which looks for the line that says so.
 
 use super::expected_words::Expected::{self, Known, Unknown};
 use super::expected_words::{add_words, are_expected, is_at};

@@ -1,4 +1,4 @@
-//! Cells by themselves that hold what an array's do and grow as long. A growth is refused where the tests run under `tests/out_of_memory/refuse.py`.
+//! Cells by themselves that hold what an array's do and grow as long. A growth is refused where the tests run under `tests/out_of_memory/run.py`.
 use super::access;
 use super::growing::{KEYS, insert_again, new_array};
 use crate::tests::of_cells;

@@ -1,4 +1,4 @@
-//! Refused growths. A growth is refused where the tests run under `tests/out_of_memory/refuse.py`, which looks for the line that says so.
+//! Refused growths. A growth is refused where the tests run under `tests/out_of_memory/run.py`, which looks for the line that says so.
 use super::is_text;
 use super::records::{ACCEPTED, expect_records, fault_behind};
 use super::sorted::add;

@@ -1,4 +1,4 @@
-//! Tables that are refused, and refused growths. A growth is refused where the tests run under `tests/out_of_memory/refuse.py`, which looks for the line that says so.
+//! Tables that are refused, and refused growths. A growth is refused where the tests run under `tests/out_of_memory/run.py`, which looks for the line that says so.
 use super::matrix_of;
 use mj_model::SourceKind::{self, BadHeader, BadRow, PairOutside, TooLarge};
 use std::test::Fail;

@@ -1,4 +1,4 @@
-//! Refused growths of formats and of what is printed. A growth is refused where the tests run under `tests/out_of_memory/refuse.py`, which looks for the line that
+//! Refused growths of formats and of what is printed. A growth is refused where the tests run under `tests/out_of_memory/run.py`, which looks for the line that
 //! says so.
 
 use dict_image::Dict;

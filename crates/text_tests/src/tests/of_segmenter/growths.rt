@@ -1,4 +1,4 @@
-//! Runs whose growths of memory `tests/out_of_memory/growths.py` counts and compares.
+//! Runs whose growths of memory `tests/out_of_memory/run.py` counts and compares.
 
 use mj_model::sample;
 use out_format::Format;

@@ -1,4 +1,4 @@
-//! Refused growths of runs. A growth is refused where the tests run under `tests/out_of_memory/refuse.py`, which looks for the line that says so.
+//! Refused growths of runs. A growth is refused where the tests run under `tests/out_of_memory/run.py`, which looks for the line that says so.
 
 use mj_model::{Counted, GROUPING_DEFAULT, RunFault, TextIn, sample};
 use out_format::Format;
