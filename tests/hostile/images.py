@@ -1,309 +1,173 @@
 #!/usr/bin/env python3
-"""Times the loading of images that are made to cost much, beside an honest one of the same size.
+"""Measures the loading of hostile images, beside an honest one of the same size.
 
-It makes three images of user dictionaries, well formed and with their digests, and loads each by `jseg -d SYSTEM -u IMAGE` over a text:
+Three images of user dictionaries are valid, with their checksums. `jseg -d SYSTEM -u IMAGE` loads
+each of them over an empty text:
 
-    honest       keys of two to four characters, and features of few bytes
-    stem         all keys begin with one stem of 60,000 bytes: a test that follows each key by itself walks the stem for each
-    overlapping  all features lie over one another, each over nearly the whole section: a test that looks at each by itself reads it each time
+    honest       keys of two to four characters, and short features
+    stem         keys with one stem of 60,000 bytes: a test that follows each key by itself reads
+                 the stem for each
+    overlapping  features that overlap, each over nearly the whole section: a test that reads each
+                 by itself reads it each time
 
-It also makes files that are no images, and runs each beside a small one with the same fault. Their first bytes and their length say what they are.
-So `jseg -d` has to refuse them with that fault before it reads the other bytes. A run may have 1 GiB of memory, and a quarter of it with --quick:
+Other files are no images, and each runs beside a small one with the same error. Their first bytes
+and their length show what they are, so `jseg -d` rejects them before it reads the other bytes. A
+run may use 1 GiB of memory, and a quarter of it with --quick:
 
     zeros        6 GiB without a byte on the disk
-    longer       an image, and after it as much
-    shorter      as long, and the header of an image says 1 GiB more
+    longer       an image with as many bytes after it
+    shorter      as long, and the header of an image gives 1 GiB more
     device       /dev/zero, which does not end
-    pipe         an image, and after it zeros without end
+    pipe         an image with zeros without end after it
 
-A first run asks each image for its last key. Then each is loaded over an empty text, by turns with the honest one, `--rounds` times: the least
-processor time of each counts. The status is 1 where an image is refused or does not know its key, or a hostile one takes more than three times
-the honest one's time and is not in KNOWN; and also where one that is in KNOWN does not, so that KNOWN stays true. With --quick the images are
-small, so that all take seconds; six times are allowed, and one of KNOWN that meets its bound is only reported.
+A first run looks up the last key of each image. Then each is loaded in turn with the honest one,
+`--rounds` times, and the least processor times count. The status is 1 if an image is rejected or
+does not have its key, and if a hostile one takes more than three times the honest one's time unless
+it is in KNOWN. It is also 1 if one in KNOWN does not, so that KNOWN stays true. With --quick the
+images are small, and six times are allowed; an image in KNOWN that meets its bound is only
+reported.
 
-Needs: crates/dictc/out/dictc and crates/jseg/out/jseg, which `rt run` in their folders leaves; where they are not there the status is 2.
-docs/FORMAT.md has the layout of the bytes. The cells are placed here, and not by the proved double array.
+Needs: dictc and jseg in crates/*/out. The status is 2 if one is missing.
 """
-import hashlib
+import argparse
 import os
-import random
-import struct
 import subprocess
 import sys
 import tempfile
-from array import array
 from pathlib import Path
-from typing import NamedTuple
+from typing import Union
 
 sys.dont_write_bytecode = True
 sys.path.insert(0, str(Path(__file__).resolve().parents[1]))
 from hostile.cases.dictionaries import Sources  # noqa: E402
-from hostile.cases.measuring import MARKS, Run, Shape, chosen, ended, judged  # noqa: E402
+from hostile.cases.measuring import MARKS, Case, Option, Run  # noqa: E402
+from hostile.cases.measuring import parsed_options, status_of  # noqa: E402
+from hostile.cases.user_images import (  # noqa: E402
+    Image,
+    honest,
+    overlapping,
+    stem,
+    with_longer_section,
+)
+from support.running import Words  # noqa: E402
 
-# What takes more than three times as long today, and why.
-KNOWN = {}
-SIZES = (2, 2)
-STEM_BYTES = 60_000
-SPARSE_BYTES, TOLD_MORE, SPARSE_ROOM, QUICK_ROOM = 6 << 30, 1 << 30, 1 << 30, 1 << 28
-# Where the header tells the length of section 1.
-FIRST_LENGTH = 40
-CELL_BYTES, TOKEN_BYTES = 8, 16
-LETTERS = "0123456789ABCDEFGHIJKLMNOPQRSTUVWXYZabcdefghijklmnopqrstuvwxyz"
-
-
-class Image(NamedTuple):
-    """An image of a user dictionary, with a line of text that is one of its words."""
-
-    name: str
-    data: bytes
-    groups: int
-    line: str
+# Images that take more than three times as long, and why.
+KNOWN: dict[str, str] = {}
+SPARSE_BYTES, MORE_BYTES = 6 << 30, 1 << 30
+MEMORY, QUICK_MEMORY = 1 << 30, 1 << 28
 
 
-class Cells:
-    """A double array in which the keys of a trie are placed."""
-
-    def __init__(self, children):
-        room = 2 * sum(map(len, children)) + 1000
-        self.first_free = 257
-        self.taken = bytearray(room)
-        self.base = array("i", bytes(4 * room))
-        self.check = array("i", [-1]) * room
-        self.taken[0] = 1
-        self.check[0] = -2
-        self.place_all(children)
-
-    def place_all(self, children):
-        """Gives each state a base at which its children's cells are free. A state stands before its children."""
-        cell_of = [0] * len(children)
-        for state, steps in enumerate(children):
-            codes = sorted(steps)
-            base = self.free_base(codes)
-            self.base[cell_of[state]] = base
-            for code in codes:
-                self.taken[base + code] = 1
-                self.check[base + code] = cell_of[state]
-                if code == 0:
-                    self.base[base] = -(steps[code] + 1)
-                else:
-                    cell_of[steps[code]] = base + code
-
-    def free_base(self, codes):
-        """The first base from `first_free` on. Where many are tried, the next search begins after them."""
-        tried = 0
-        free = self.first_free = self.taken.index(0, self.first_free)
-        while any(self.taken[free - codes[0] + code] for code in codes):
-            free = self.taken.index(0, free + 1)
-            tried += 1
-        if tried > 16:
-            self.first_free = free
-        return free - codes[0]
-
-    def section(self):
-        """The bytes of the cells, up to the last one that is used."""
-        count = self.taken.rindex(1) + 1
-        numbers = array("i", bytes(2 * 4 * count))
-        numbers[0::2] = self.base[:count]
-        numbers[1::2] = self.check[:count]
-        if sys.byteorder == "big":
-            numbers.byteswap()
-        return numbers.tobytes()
-
-
-def trie_of(stem, tails):
-    """The trie of the keys that are the stem with a tail: the steps of each state. The code of a byte leads to the number of a state, code
-    0 to the number of the key. A state stands before its children."""
-    children = [{byte + 1: state} for state, byte in enumerate(stem, 1)] + [{}]
-    for number, tail in enumerate(tails):
-        state = len(stem)
-        for byte in tail:
-            steps = children[state]
-            state = steps.get(byte + 1)
-            if state is None:
-                state = steps[byte + 1] = len(children)
-                children.append({})
-        children[state][0] = number
-    return children
-
-
-def image_of(cells, first_tokens, tokens, features):
-    """The bytes of an image of these sections. A token is (where its feature begins, its length)."""
-    index = struct.pack(f"<{len(first_tokens)}I", *first_tokens)
-    told = b"".join(struct.pack("<HHhHII", 1, 1, 1, 0, begin, length) for begin, length in tokens)
-    sections = [b"", b"", b"", b"", cells, index, told, features]
-    numbers = (3, 1, *SIZES, 0, len(first_tokens) - 1, len(tokens), 0)
-    header = b"MJDICT\r\n" + struct.pack("<8I8Q", *numbers, *map(len, sections))
-    data = header + b"".join(sections)
-    return data + hashlib.sha256(data).digest()
-
-
-def with_a_token_each(name, stem, tails):
-    """The image of the keys that are the stem with a tail, with a token and a feature of 13 bytes for each."""
-    tails = sorted(tails)
-    features = "名詞,一般".encode() * 1000
-    tokens = [(13 * (i % 1000), 13) for i in range(len(tails))]
-    trie = trie_of(stem.encode(), [tail.encode() for tail in tails])
-    data = image_of(Cells(trie).section(), range(len(tails) + 1), tokens, features)
-    return Image(name, data, len(tails), stem + tails[-1])
-
-
-def honest(size, draw):
-    """Keys of two to four characters."""
-    letters = [chr(code) for code in [*range(0x3041, 0x3097), *range(0x4E00, 0x5200)]]
-    keys = {"".join(draw.choices(letters, k=draw.randint(2, 4))) for _ in range(size // 61)}
-    return with_a_token_each("honest", "", keys)
-
-
-def stem(size):
-    """Keys of a stem with three or four letters after it. The stem's first character stands in it once."""
-    front = "語" + "あ" * (STEM_BYTES // 3 - 1)
-    count = (size - STEM_BYTES * CELL_BYTES) // 36
-    return with_a_token_each(
-        "stem", front, [in_letters(len(LETTERS) ** 3 + i) for i in range(count)]
-    )
-
-
-def in_letters(number):
-    digits = []
-    while number:
-        number, digit = divmod(number, len(LETTERS))
-        digits.append(LETTERS[digit])
-    return "".join(reversed(digits))
-
-
-def overlapping(size):
-    """One key. Half of the image are its tokens, half the features; no two tokens of a thousand times a thousand have the same feature."""
-    features = "詞".encode() * (size // 6)
-    tokens = [
-        (3 * (i % 1000), len(features) - 3 * (i % 1000) - 3 * (i // 1000 % 1000))
-        for i in range(size // 2 // TOKEN_BYTES)
-    ]
-    cells = Cells(trie_of(b"", ["語".encode()])).section()
-    return Image("overlapping", image_of(cells, [0, len(tokens)], tokens, features), 1, "語")
-
-
-def fault_of(command, image):
-    """Why an image does not answer its line with one word; None where it does."""
-    done = subprocess.run(
-        [*command, *MARKS], input=(image.line + "\n").encode(), capture_output=True
-    )
+def error_of(command: Words, image: Image) -> str:
+    """Returns why an image does not make its word one known word, or "" if it does."""
+    text = f"{image.word}\n".encode()
+    done = subprocess.run([*command, *MARKS], input=text, capture_output=True)
     if done.returncode != 0:
-        return f"is refused with status {done.returncode}: {done.stderr.decode().strip()}"
+        return f"is rejected with status {done.returncode}: {done.stderr.decode().strip()}"
     if done.stdout != b"w\n":
-        return "does not know its last key"
-    return None
+        return "does not have its last key"
+    return ""
 
 
-def loads(options, folder):
-    """The loads of hostile images, each beside that of the honest one. The script stops where an image does not answer."""
+def load_of(options: argparse.Namespace, folder: Path, system: Path, image: Image) -> Run:
+    """Returns the run that loads an image. Ends this script if the image lacks its key."""
+    path = folder / f"{image.name}.img"
+    path.write_bytes(image.data)
+    command = [options.jseg, "-d", system, "-u", path]
+    error = error_of(command, image)
+    if error:
+        sys.exit(f"{image.name} {error}")
+    return Run(command)
+
+
+def loads(options: argparse.Namespace, folder: Path) -> list[Case]:
+    """Returns the cases of images that are loaded."""
     system = Sources("z,1,1,1,x\n").compiled(options.dictc, folder / "system")
-    runs = {}
-    for image in (
-        honest(options.size, random.Random(1)),
-        stem(options.size),
-        overlapping(options.size),
-    ):
-        path = folder / f"{image.name}.img"
-        path.write_bytes(image.data)
-        command = [options.jseg, "-d", system, "-u", path]
-        fault = fault_of(command, image)
-        if fault:
-            sys.exit(f"{image.name} {fault}")
-        runs[image.name] = Run(command), f"{len(image.data)} bytes, {image.groups} groups"
-    return [
-        Shape(name, runs[name][1], runs["honest"][0], runs[name][0])
-        for name in ("stem", "overlapping")
-    ]
+    honest_load = load_of(options, folder, system, honest(options.size))
+    cases = []
+    for image in (stem(options.size), overlapping(options.size)):
+        load = load_of(options, folder, system, image)
+        size = f"{len(image.data)} bytes, {image.surfaces} surfaces"
+        cases.append(Case(image.name, size, honest_load, load))
+    return cases
 
 
-def longest(path, data, length):
-    """A file of these bytes and then zeros, which stand nowhere."""
-    path.write_bytes(data)
-    os.truncate(path, length)
-    return path
+class Rejected:
+    """Makes runs that reject what they load."""
+
+    def __init__(self, options: argparse.Namespace, folder: Path) -> None:
+        self.jseg = options.jseg
+        self.memory = QUICK_MEMORY if options.quick else MEMORY
+        self.folder = folder
+
+    def run(self, command: Words, error: str) -> Run:
+        """Returns a run that ends with status 1 and this error."""
+        message = f": {error}\n".encode()
+        return Run(command, statuses=(1,), error=message, memory=self.memory)
+
+    def file(self, name: str, data: bytes, length: int, error: str) -> Run:
+        """Returns the run over a new file of `data`, with zeros up to a length of `length` bytes.
+
+        The zeros take no room on the disk.
+        """
+        path = self.folder / f"{name}.img"
+        path.write_bytes(data)
+        os.truncate(path, length)
+        return self.path(path, error)
+
+    def path(self, path: Union[str, Path], error: str) -> Run:
+        """Returns the run over a path."""
+        return self.run([self.jseg, "-d", path], error)
+
+    def pipe(self, image: Path, more: Union[str, Path], error: str) -> Run:
+        """Returns the run over a pipe of an image and of another file after it."""
+        script = 'exec "$0" -d <(exec cat "$1" "$2")'
+        return self.run(["bash", "-c", script, self.jseg, image, more], error)
 
 
-def telling(image, length):
-    """An image whose header tells so many bytes more of section 1."""
-    (told,) = struct.unpack_from("<Q", image, FIRST_LENGTH)
-    return image[:FIRST_LENGTH] + struct.pack("<Q", told + length) + image[FIRST_LENGTH + 8 :]
-
-
-def refused(options, fault, command):
-    """A run that refuses what it loads with this fault."""
-    room = QUICK_ROOM if options.quick else SPARSE_ROOM
-    return Run(list(map(str, command)), statuses=(1,), told=f": {fault}\n".encode(), room=room)
-
-
-def at(options, path, fault):
-    """The run over the image at a path."""
-    return refused(options, fault, [options.jseg, "-d", path])
-
-
-def behind(options, image, more, fault):
-    """The run over a pipe of an image and of what stands in another file."""
-    return refused(
-        options,
-        fault,
-        ["bash", "-c", 'exec "$0" -d <(exec cat "$1" "$2")', options.jseg, image, more],
-    )
-
-
-def none(options, folder):
-    """What is refused for its first bytes and its length."""
-    image = honest(10_000, random.Random(1)).data
-    length = len(image)
-    small, whole, byte = folder / "small.img", folder / "whole.img", folder / "byte"
+def rejected(options: argparse.Namespace, folder: Path) -> list[Case]:
+    """Returns the cases of files that are rejected for their first bytes and their length."""
+    make = Rejected(options, folder)
+    image = honest(10_000).data
+    whole, byte = folder / "whole.img", folder / "byte"
     whole.write_bytes(image)
     byte.write_bytes(b"\0")
-    zeros = at(options, longest(small, b"", 1 << 20), "L2 BadMagic")
-    files = [
-        (
-            "longer",
-            longest(folder / "one-more.img", image, length + 1),
-            longest(folder / "longer.img", image, SPARSE_BYTES),
-            "L4 BadSection 9",
-        ),
-        (
-            "shorter",
-            longest(folder / "one-less.img", image, length - 1),
-            longest(
-                folder / "shorter.img",
-                telling(image, SPARSE_BYTES + TOLD_MORE - length),
-                SPARSE_BYTES,
-            ),
-            "L1 Truncated",
-        ),
-    ]
-    size = f"{SPARSE_BYTES >> 30} GiB"
+    length, sparse = len(image), SPARSE_BYTES
+    header = with_longer_section(image, sparse + MORE_BYTES - length)
+    magic, section, truncated = "L2 BadMagic", "L4 BadSection 9", "L1 Truncated"
+    zeros = make.file("small", b"", 1 << 20, magic)
+    size = f"{sparse >> 30} GiB"
     return [
-        Shape(
-            "zeros",
+        # (name, size, a small file, the hostile file)
+        Case("zeros", size, zeros, make.file("zeros", b"", sparse, magic)),
+        Case(
+            "longer",
             size,
-            zeros,
-            at(options, longest(folder / "zeros.img", b"", SPARSE_BYTES), "L2 BadMagic"),
+            make.file("one-more", image, length + 1, section),
+            make.file("longer", image, sparse, section),
         ),
-        *(
-            Shape(name, size, at(options, few, fault), at(options, many, fault))
-            for name, few, many, fault in files
+        Case(
+            "shorter",
+            size,
+            make.file("one-less", image, length - 1, truncated),
+            make.file("shorter", header, sparse, truncated),
         ),
-        Shape("device", "no end", zeros, at(options, "/dev/zero", "L2 BadMagic")),
-        Shape(
+        Case("device", "no end", zeros, make.path("/dev/zero", magic)),
+        Case(
             "pipe",
             "no end",
-            *(behind(options, whole, more, "L4 BadSection 9") for more in (byte, "/dev/zero")),
+            make.pipe(whole, byte, section),
+            make.pipe(whole, "/dev/zero", section),
         ),
     ]
 
 
-def main():
-    options = chosen(
-        __doc__, 5, ["dictc", "jseg"], size=(10_000_000, 1_000_000, "about the bytes of each image")
-    )
+def main() -> int:
+    size = Option(10_000_000, 1_000_000, "about the bytes of each image")
+    options = parsed_options(__doc__, 5, ["dictc", "jseg"], size=size)
     with tempfile.TemporaryDirectory() as made:
         folder = Path(made)
-        faults = judged([*loads(options, folder), *none(options, folder)], KNOWN, options)
-    return ended(faults)
+        return status_of([*loads(options, folder), *rejected(options, folder)], KNOWN, options)
 
 
-sys.exit(main())
+if __name__ == "__main__":
+    sys.exit(main())

@@ -1,4 +1,4 @@
-"""Hostile inputs beside honest ones of the same size: how often the processor time of the honest one each takes, and whether that is bound."""
+"""Measures hostile inputs beside honest ones of the same size, and checks their ratios."""
 import argparse
 import os
 import resource
@@ -7,39 +7,49 @@ import subprocess
 import sys
 import tempfile
 from pathlib import Path
-from typing import NamedTuple, Optional
+from typing import IO, Mapping, NamedTuple, Optional, Sequence
 
-TOP = Path(__file__).resolve().parents[3]
-# How often the honest input's time a hostile one may take. Of small inputs it is more, since their times differ by half from machine to machine
-# and from minute to minute. What grows faster than its input is far above either.
+from support.running import Words, program
+
+# How many times the honest input's processor time a hostile one may take. Small inputs have a
+# larger bound, because their times differ by half from machine to machine and from minute to
+# minute. What grows faster than its input is far above both.
 MOST = 3
 QUICK_MOST = 6
-# Seconds of the processor that are no chance.
-CLEAR = 0.2
-# Seconds of the processor after which a run is ended, and the bytes of memory that it may have where nothing else is said.
+# The first round alone decides if the hostile input takes more seconds than this and more than
+# CLEARLY times its bound.
+CLEAR_SECONDS, CLEARLY = 0.2, 4
+# Seconds of processor time after which a run is stopped.
 LONGEST = 120
-ROOM = 4 << 30
-# How often small inputs are run, since other work disturbs short runs most.
+# Bytes of memory of a run, unless it has its own limit.
+MEMORY = 4 << 30
+# Rounds of small inputs. Other work disturbs short runs most.
 QUICK_ROUNDS = 10
-# What jseg prints where only the number of words counts, and whether they are known.
+# Options of jseg that print one letter for each word: w if it is known, and u if it is unknown.
 MARKS = ["-F", "w", "-U", "u", "-E", "\\n"]
 
 
 class Run(NamedTuple):
-    """A command over a text, the statuses that it may end with, what it prints and what it ends with on standard error, where these are looked
-    at, and the bytes of memory that it may have."""
+    """A command with a text as its input, and what is expected of it.
 
-    command: list
+    It ends with one of `statuses`, prints `printed` unless that is None, and the last bytes on
+    standard error are `error`. `memory` is the limit of its address space in bytes.
+    """
+
+    command: Words
     text: bytes = b""
-    statuses: tuple = (0,)
+    statuses: Sequence[int] = (0,)
     printed: Optional[bytes] = None
-    told: bytes = b""
-    room: int = ROOM
+    error: bytes = b""
+    memory: int = MEMORY
 
 
-class Shape(NamedTuple):
-    """A hostile input beside an honest one. `size` says how large both are, and which part that is of what was asked for. Where `seconds` is given,
-    it bounds the processor time of the hostile one, in place of the honest one's."""
+class Case(NamedTuple):
+    """A hostile input beside an honest one.
+
+    `size` describes both, and how they differ from the size that was meant. `seconds` bounds the
+    processor time of the hostile input. Without it, the bound is a multiple of the honest one's.
+    """
 
     name: str
     size: str
@@ -47,132 +57,158 @@ class Shape(NamedTuple):
     hostile: Run
     seconds: Optional[float] = None
 
-    def bound(self, honest, most):
-        """The processor time that the hostile one may take, by that of the honest one."""
+    def bound(self, honest: float, most: int) -> float:
+        """Returns the processor time in seconds that the hostile input may take."""
         return most * honest if self.seconds is None else self.seconds
 
-    def bound_told(self, most):
+    def bound_text(self, most: int) -> str:
         return f"{most} times" if self.seconds is None else f"{self.seconds} s"
 
 
-def seconds_of(what, run):
-    """The processor time of a run, also of one that was ended for it; the script stops where another does not end or print as it should."""
+class Option(NamedTuple):
+    """An option that sets a size: its default, its value with --quick, and its help."""
 
-    def limit():
-        resource.setrlimit(resource.RLIMIT_CPU, (LONGEST, LONGEST + 1))
-        resource.setrlimit(resource.RLIMIT_AS, (run.room, run.room))
-
-    with tempfile.TemporaryFile() as text, tempfile.TemporaryFile() as printed, tempfile.TemporaryFile() as told:
-        text.write(run.text)
-        text.seek(0)
-        started = subprocess.Popen(
-            list(map(str, run.command)), stdin=text, stdout=printed, stderr=told, preexec_fn=limit
-        )
-        _, ended, used = os.wait4(started.pid, 0)
-        started.returncode = os.waitstatus_to_exitcode(ended)
-        if started.returncode == -signal.SIGXCPU:
-            return used.ru_utime + used.ru_stime
-        printed.seek(0)
-        told.seek(0)
-        if started.returncode not in run.statuses:
-            sys.exit(
-                f"{what}: status {started.returncode}: {told.read(1000).decode(errors='replace').strip()}"
-            )
-        if run.printed is not None and printed.read() != run.printed:
-            sys.exit(f"{what}: prints something else than it should")
-        fault = told.read()
-        if not fault.endswith(run.told):
-            sys.exit(
-                f"{what}: tells {fault[:1000].decode(errors='replace').strip()}, and not {run.told.decode().strip()}"
-            )
-    return used.ru_utime + used.ru_stime
+    default: int
+    quick: int
+    help: str
 
 
-def times_of(shape, rounds, most):
-    """The least time of each of both, which run in turn. Where the first round leaves no doubt that the bound is missed, it is the only one. Where
-    the bound is missed after all rounds, they are run once more, since other work may have taken the processor from one of both.
+def seconds_of(what: str, run: Run) -> float:
+    """Runs a command and returns its processor time, also if it was stopped for it.
+
+    Ends this script if the command does not end or print as expected.
     """
-    times = ([], [])
-    for number in range(2 * rounds):
-        for part, run in zip(times, (shape.honest, shape.hostile)):
-            part.append(
-                seconds_of(f"{shape.name}, {'hostile' if part is times[1] else 'honest'}", run)
+
+    def set_limits() -> None:
+        resource.setrlimit(resource.RLIMIT_CPU, (LONGEST, LONGEST + 1))
+        resource.setrlimit(resource.RLIMIT_AS, (run.memory, run.memory))
+
+    words = [str(word) for word in run.command]
+    with tempfile.TemporaryFile() as text, tempfile.TemporaryFile() as printed:
+        with tempfile.TemporaryFile() as errors:
+            text.write(run.text)
+            text.seek(0)
+            process = subprocess.Popen(
+                words, stdin=text, stdout=printed, stderr=errors, preexec_fn=set_limits
             )
-        honest, hostile = min(times[0]), min(times[1])
-        if number == 0 and hostile > max(CLEAR, 4 * shape.bound(honest, most)):
+            _, wait_status, usage = os.wait4(process.pid, 0)
+            process.returncode = os.waitstatus_to_exitcode(wait_status)
+            if process.returncode != -signal.SIGXCPU:
+                check_run(what, run, process.returncode, printed, errors)
+    seconds: float = usage.ru_utime + usage.ru_stime
+    return seconds
+
+
+def check_run(what: str, run: Run, status: int, printed: IO[bytes], errors: IO[bytes]) -> None:
+    """Ends this script if a command did not end or print as expected."""
+    printed.seek(0)
+    errors.seek(0)
+    if status not in run.statuses:
+        message = errors.read(1000).decode(errors="replace").strip()
+        sys.exit(f"{what}: status {status}: {message}")
+    if run.printed is not None and printed.read() != run.printed:
+        sys.exit(f"{what}: prints something else than expected")
+    error = errors.read()
+    if not error.endswith(run.error):
+        message = error[:1000].decode(errors="replace").strip()
+        sys.exit(f"{what}: prints {message}, expected {run.error.decode().strip()}")
+
+
+def times_of(case: Case, rounds: int, most: int) -> tuple[float, float]:
+    """Returns the least times of the honest and the hostile input, which run in turn.
+
+    One round is enough if it misses the bound clearly. If the bound is missed after all rounds,
+    they are run once more, because other work may have taken the processor from one of both.
+    """
+    honest, hostile = float("inf"), float("inf")
+    for number in range(2 * rounds):
+        honest = min(honest, seconds_of(f"{case.name}, honest", case.honest))
+        hostile = min(hostile, seconds_of(f"{case.name}, hostile", case.hostile))
+        bound = case.bound(honest, most)
+        if number == 0 and hostile > max(CLEAR_SECONDS, CLEARLY * bound):
             break
-        if number + 1 >= rounds and hostile <= shape.bound(honest, most):
+        if number + 1 >= rounds and hostile <= bound:
             break
     return honest, hostile
 
 
-def judged(shapes, known, options):
-    """Prints a row for each shape, and answers the faults: a bound that is missed, or one that is met and is known not to be. Of small inputs the
-    latter is only reported, since what costs much there may not show."""
-    print(f"{'shape':28} {'honest':>9} {'hostile':>9} {'ratio':>8}  {'bound':16} size")
-    faults = [
-        f"KNOWN names no shape: {name}"
-        for name in known
-        if name not in {shape.name for shape in shapes}
-    ]
-    most = QUICK_MOST if options.quick else MOST
-    for shape in shapes:
-        honest, hostile = times_of(shape, options.rounds, most)
-        is_met = hostile <= shape.bound(honest, most)
-        told = f"{shape.bound_told(most)}, {'met' if is_met else 'not met'}"
-        print(
-            f"{shape.name:28} {honest:7.3f} s {hostile:7.3f} s {hostile / honest:8.2f}  {told:16} {shape.size}",
-            flush=True,
-        )
-        if is_met and shape.name in known and options.quick:
+def error_of(case: Case, known: Mapping[str, str], most: int, rounds: int, quick: bool) -> str:
+    """Measures a case, prints its line, and returns what is wrong, or "".
+
+    It is an error to miss the bound, and also to meet it if `known` has the case. Small inputs may
+    meet it, because what takes long may not show there.
+    """
+    honest, hostile = times_of(case, rounds, most)
+    is_met = hostile <= case.bound(honest, most)
+    bound = f"{case.bound_text(most)}, {'met' if is_met else 'not met'}"
+    times = f"{honest:7.3f} s {hostile:7.3f} s {hostile / honest:8.2f}"
+    print(f"{case.name:28} {times}  {bound:16} {case.size}", flush=True)
+    if case.name in known:
+        if not is_met:
+            print(f"    known: {known[case.name]}")
+        elif quick:
             print("    known, and met at this size")
-        elif is_met and shape.name in known:
-            faults.append(f"{shape.name}: its bound is met now: take it off KNOWN")
-        elif not is_met and shape.name in known:
-            print(f"    known: {known[shape.name]}")
-        elif not is_met:
-            faults.append(
-                f"{shape.name}: takes more than {shape.bound_told(most)}{'' if shape.seconds else ' as long as the honest one'}"
-            )
-    return faults
+        else:
+            return f"{case.name}: meets its bound now: remove it from KNOWN"
+    elif not is_met:
+        honest_one = "" if case.seconds else " the honest input's time"
+        return f"{case.name}: takes more than {case.bound_text(most)}{honest_one}"
+    return ""
 
 
-def chosen(about, rounds, programs, **others):
-    """The options of a script: how often each input is run, and where the programs stand. Where one is not there, the script ends. Each of the
-    others has a default, one for small inputs, and what `--help` says of it."""
-    options = argparse.ArgumentParser(
-        description=about, formatter_class=argparse.RawDescriptionHelpFormatter
+def status_of(cases: Sequence[Case], known: Mapping[str, str], options: argparse.Namespace) -> int:
+    """Measures each case and returns the exit status: 1 if there is an error, and 0 otherwise.
+
+    `known` has the names of cases that miss their bounds, with the reasons.
+    """
+    print(f"{'case':28} {'honest':>9} {'hostile':>9} {'ratio':>8}  {'bound':16} size")
+    most = QUICK_MOST if options.quick else MOST
+    names = {case.name for case in cases}
+    errors = [f"KNOWN has no case {name}" for name in known if name not in names]
+    errors += [error_of(case, known, most, options.rounds, options.quick) for case in cases]
+    print(f"{len(cases)} cases of hostile inputs")
+    errors = [error for error in errors if error]
+    for error in errors:
+        print(error, file=sys.stderr)
+    return 1 if errors else 0
+
+
+def parsed_options(
+    description: Optional[str], rounds: int, programs: Sequence[str], **sizes: Option
+) -> argparse.Namespace:
+    """Returns the options of the command line: --rounds, --quick, programs and sizes.
+
+    Ends this script with status 2 if one of the programs is missing.
+    """
+    parser = argparse.ArgumentParser(
+        description=description, formatter_class=argparse.RawDescriptionHelpFormatter
     )
-    options.add_argument(
+    parser.add_argument(
         "--rounds",
         type=int,
         metavar="N",
-        help=f"how often each input is run; {rounds}, and {QUICK_ROUNDS} of small ones",
+        help=f"the runs of each input; {rounds}, and {QUICK_ROUNDS} with --quick",
     )
-    options.add_argument(
-        "--quick", action="store_true", help="small inputs, at which the ratios show too"
+    parser.add_argument(
+        "--quick", action="store_true", help="small inputs, which show the ratios too"
     )
     for name in programs:
-        options.add_argument(f"--{name}", type=Path, default=TOP / "crates" / name / "out" / name)
-    for name, (_, _, told) in others.items():
-        options.add_argument(f"--{name}", type=int, metavar="N", help=told)
-    found = options.parse_args()
-    found.rounds = found.rounds or (QUICK_ROUNDS if found.quick else rounds)
-    for name, (usual, small, _) in others.items():
-        if getattr(found, name) is None:
-            setattr(found, name, small if found.quick else usual)
-    missing = [str(getattr(found, name)) for name in programs if not getattr(found, name).exists()]
+        parser.add_argument(f"--{name}", type=Path, default=program(name))
+    for name, size in sizes.items():
+        parser.add_argument(f"--{name}", type=int, metavar="N", help=size.help)
+    options = parser.parse_args()
+    options.rounds = options.rounds or (QUICK_ROUNDS if options.quick else rounds)
+    for name, size in sizes.items():
+        if getattr(options, name) is None:
+            setattr(options, name, size.quick if options.quick else size.default)
+    check_programs([getattr(options, name) for name in programs])
+    return options
+
+
+def check_programs(paths: Sequence[Path]) -> None:
+    """Ends this script with status 2 if a program is missing."""
+    missing = " and ".join(str(path) for path in paths if not path.exists())
     if missing:
-        print(
-            f"nothing was measured: {' and '.join(missing)} not built; `rt run` in the crate's folder builds it",
-            file=sys.stderr,
-        )
+        message = f"{missing} missing: run `rt run` in the crate's folder; nothing was measured"
+        print(message, file=sys.stderr)
         sys.exit(2)
-    return found
-
-
-def ended(faults):
-    """The script's status, after its faults were reported."""
-    for fault in faults:
-        print(fault, file=sys.stderr)
-    return 1 if faults else 0

@@ -1,18 +1,24 @@
-"""Texts, and dictionaries over which they are hostile."""
-from typing import NamedTuple
+"""Texts, and dictionaries that make them hostile."""
+import argparse
+from pathlib import Path
+from typing import NamedTuple, Sequence
 
-from .dictionaries import CATEGORIES, MAPPINGS, NAMES, Sources
-from .measuring import MARKS, Run, Shape
+from hostile.cases.dictionaries import CATEGORIES, MAPPINGS, NAMES, Sources
+from hostile.cases.measuring import MARKS, Case, Run
 
+# The number of characters of the longest unknown word of HIRAGANA.
 LONGEST_UNKNOWN = 15
-# Seconds of the processor that a text of many unknown words may take, start and load with it.
-SECONDS_OF_ENTRIES = 0.3
+# Seconds of processor time of a text of many unknown words, with the start of jseg and the load.
+UNKNOWN_SECONDS = 0.3
+# The fields of a feature, and the number of the last one that can be printed.
 COMMAS = 65_540
-SHOWN = 65_535
+LAST_FIELD = 65_535
+# A run of kanji after blanks is this long: longer than a grouping of 1,000.
+KANJI_RUN = 1026
 
 
 class Sizes(NamedTuple):
-    """How much of each there is, in characters where nothing else is said."""
+    """The sizes of the inputs, in characters unless the name has another unit."""
 
     line_bytes: int = 2**20
     blank_words: int = 4096
@@ -26,201 +32,224 @@ class Sizes(NamedTuple):
     stem_line: int = 2**17
 
 
-# What shows the same ratios in seconds.
+# Sizes that show the same ratios within seconds.
 QUICK = Sizes(
     line_bytes=2**18, entries=1_500, words=1_000, above=30_000, stem=2_000, stem_line=2**15
 )
 
 
-class Cutting:
-    """Makes images, each in a folder of its own, and the runs of jseg over them."""
+class Builder:
+    """Compiles dictionaries, each in a folder of its own, and makes runs of jseg over them."""
 
-    def __init__(self, options, folder):
+    def __init__(self, options: argparse.Namespace, folder: Path) -> None:
         self.options = options
         self.folder = folder
         self.sizes = QUICK if options.quick else Sizes()
         self.count = 0
 
-    def image(self, sources):
+    def image(self, sources: Sources) -> Path:
+        """Returns the image of a new dictionary."""
         self.count += 1
         return sources.compiled(self.options.dictc, self.folder / str(self.count))
 
-    def run(self, image, words, text, printed):
-        return Run(
-            [self.options.jseg, "-d", image, *words],
-            (text + "\n").encode(),
-            printed=(printed + "\n").encode(),
-        )
+    def run(self, image: Path, words: Sequence[str], text: str, printed: str) -> Run:
+        """Returns a run over a line of text, which prints another line."""
+        command = [self.options.jseg, "-d", image, *words]
+        return Run(command, f"{text}\n".encode(), printed=f"{printed}\n".encode())
 
 
-def blanks(cutting):
-    """Words end at many places of one run of blanks, which goes to the line's end."""
-    length = cutting.sizes.line_bytes
+def blanks(builder: Builder) -> Case:
+    """Words end at many positions of one run of blanks, which goes to the end of the line."""
+    length = builder.sizes.line_bytes
     lexicon = "".join(
-        f"a{' ' * blanks},1,1,{1 + blanks},x\n" for blanks in range(cutting.sizes.blank_words)
+        f"a{' ' * count},1,1,{1 + count},x\n" for count in range(builder.sizes.blank_words)
     )
-    image = cutting.image(Sources(lexicon))
-    plain = cutting.run(image, MARKS, "a " * (length // 2), "w" * (length // 2))
-    return Shape(
-        "blanks",
-        f"a line of {length // 1024} KiB",
-        plain,
-        cutting.run(image, MARKS, "a" + " " * (length - 1), "w"),
-    )
+    image = builder.image(Sources(lexicon))
+    honest = builder.run(image, MARKS, "a " * (length // 2), "w" * (length // 2))
+    hostile = builder.run(image, MARKS, "a" + " " * (length - 1), "w")
+    return Case("blanks", f"a line of {length // 1024} KiB", honest, hostile)
 
 
-def left_ids(cutting):
-    """Each entry of a surface has a left id of its own. A search that compares each end of a place for each left id makes their product of comparisons."""
-    count = cutting.sizes.entries
+def left_ids(builder: Builder) -> Case:
+    """Each entry of one surface has its own left id.
+
+    A search that compares each predecessor for each left id makes as many comparisons as the
+    product of both. In the honest input each entry has its own surface.
+    """
+    count = builder.sizes.entries
     matrix = f"2 {count + 1}\n"
     surfaces = [chr(0x4E00 + i) for i in range(count)]
-    honest = cutting.image(
-        Sources("".join(f"{surface},{i},1,0,x\n" for i, surface in enumerate(surfaces, 1)), matrix)
+    own = "".join(f"{surface},{i},1,0,x\n" for i, surface in enumerate(surfaces, 1))
+    same = "".join(f"あ,{i},1,0,x\n" for i in range(1, count + 1))
+    honest, hostile = builder.image(Sources(own, matrix)), builder.image(Sources(same, matrix))
+    return Case(
+        "left ids of a surface",
+        f"{count} entries of 16,000; 120 bytes of text",
+        builder.run(honest, MARKS, "".join(surfaces[:40]), "w" * 40),
+        builder.run(hostile, MARKS, "あ" * 40, "w" * 40),
     )
-    hostile = cutting.image(Sources("".join(f"あ,{i},1,0,x\n" for i in range(1, count + 1)), matrix))
-    runs = cutting.run(honest, MARKS, "".join(surfaces[:40]), "w" * 40), cutting.run(
-        hostile, MARKS, "あ" * 40, "w" * 40
-    )
-    return Shape("left ids of a surface", f"{count} entries of 16,000; 120 bytes of text", *runs)
 
 
-def unknown_entries(cutting):
-    """Each unknown word of 1 to 15 characters has many entries, and each of them is a node. In the honest input they are those of a category that
-    the text has not. The bound is in seconds: as many words as are there must be made, and a short text must not take long for them.
+def unknown_entries(builder: Builder) -> Case:
+    """Each unknown word of 1 to 15 characters has many entries, and each of them is a node.
+
+    In the honest input, a category that the text does not have has the entries. The bound is in
+    seconds: there are as many nodes as that, and a short text must not take long for them.
     """
-    count = cutting.sizes.unknown_entries
+    count = builder.sizes.unknown_entries
 
-    def image(many):
-        rest = "".join(f"{name},1,1,1,x\n" for name in NAMES)
-        unk = "".join(f"{many},{i},1,1,x\n" for i in range(1, count + 1)) + rest
-        return cutting.image(Sources("z,1,1,1,x\n", f"2 {count + 1}\n", unk=unk))
+    def run(category: str) -> Run:
+        unk = "".join(f"{category},{i},1,1,x\n" for i in range(1, count + 1))
+        unk += "".join(f"{name},1,1,1,x\n" for name in NAMES)
+        image = builder.image(Sources("z,1,1,1,x\n", f"2 {count + 1}\n", unk=unk))
+        return builder.run(image, MARKS, "あ" * 30, "u" * (30 // LONGEST_UNKNOWN))
 
-    runs = [
-        cutting.run(image(many), MARKS, "あ" * 30, "u" * (30 // LONGEST_UNKNOWN))
-        for many in ("KATAKANA", "HIRAGANA")
-    ]
-    return Shape(
-        "unknown entries",
-        f"{count} entries, of LENGTH {LONGEST_UNKNOWN}; 90 bytes of text",
-        *runs,
-        seconds=SECONDS_OF_ENTRIES,
-    )
+    size = f"{count} entries, of LENGTH {LONGEST_UNKNOWN}; 90 bytes of text"
+    honest, hostile = run("KATAKANA"), run("HIRAGANA")
+    return Case("unknown entries", size, honest, hostile, seconds=UNKNOWN_SECONDS)
 
 
-def with_features(cutting, name, size, feature, shown, printed):
-    """One feature of many bytes, of which a late field is printed for each word, beside as many bytes of features of eight short fields."""
+class Feature(NamedTuple):
+    """A long feature, the number of a field that is printed, and the text of that field."""
+
+    text: str
+    field: int
+    printed: str
+
+
+def with_feature(builder: Builder, name: str, size: str, feature: Feature) -> Case:
+    """A late field of one long feature is printed for each word.
+
+    The honest input has as many bytes of features, of eight short fields each.
+    """
     short = "0,1,2,3,4,5,6,seven"
-    count = len(feature) // len(f"b0000,1,1,1,{short}\n")
-    honest = cutting.image(
-        Sources(f"a,1,1,1,{short}\n" + "".join(f"b{i:04},1,1,1,{short}\n" for i in range(count)))
-    )
-    hostile = cutting.image(Sources(f"a,1,1,1,{feature}\n"))
-    words, times = ["-F", f"%f[{shown}]", "-E", "\\n"], cutting.sizes.words
-    kept = "seven" if shown == 7 else ""
-    runs = cutting.run(honest, words, "a" * times, kept * times), cutting.run(
-        hostile, words, "a" * times, printed * times
-    )
-    return Shape(name, f"{size}; {times} bytes of text", *runs)
-
-
-def quotes(cutting):
-    """A field of doubled quotes stands before the one that is printed."""
-    count = cutting.sizes.quotes
-    feature = '0,"' + '""' * (count // 2) + '",2,3,4,5,6,late'
-    return with_features(
-        cutting, "quotes in a feature", f"{count} bytes of quotes, of 1 MB", feature, 7, "late"
+    count = len(feature.text) // len(f"b0000,1,1,1,{short}\n")
+    others = "".join(f"b{i:04},1,1,1,{short}\n" for i in range(count))
+    honest = builder.image(Sources(f"a,1,1,1,{short}\n{others}"))
+    hostile = builder.image(Sources(f"a,1,1,1,{feature.text}\n"))
+    words, times = ["-F", f"%f[{feature.field}]", "-E", "\\n"], builder.sizes.words
+    short_printed = "seven" if feature.field == 7 else ""
+    return Case(
+        name,
+        f"{size}; {times} bytes of text",
+        builder.run(honest, words, "a" * times, short_printed * times),
+        builder.run(hostile, words, "a" * times, feature.printed * times),
     )
 
 
-def commas(cutting):
-    """The last field that can be printed is."""
-    feature = "," * SHOWN + "late" + "," * (COMMAS - SHOWN)
-    return with_features(cutting, "commas in a feature", f"{COMMAS} commas", feature, SHOWN, "late")
+def quotes(builder: Builder) -> Case:
+    """A field of doubled quotes precedes the one that is printed."""
+    count = builder.sizes.quotes
+    text = '0,"' + '""' * (count // 2) + '",2,3,4,5,6,late'
+    size = f"{count} bytes of quotes, of 1 MB"
+    return with_feature(builder, "quotes in a feature", size, Feature(text, 7, "late"))
 
 
-def grouping(cutting, name, size, mappings, text, lexicon="z,1,1,1,x\n", before=""):
-    """A run of one kind, which may be grouped up to 1,000 characters, beside the usual 24. Each character of the text is a word, but those that are
-    few enough at the end: they are one. What stands before the text is one known word."""
-    image = cutting.image(Sources(lexicon, char=CATEGORIES + MAPPINGS + mappings))
-    first = "w" if before else ""
-    runs = [
-        cutting.run(
-            image, [*MARKS, "-M", str(most)], before + text, first + "u" * (len(text) - most)
-        )
-        for most in (24, 1000)
-    ]
-    return Shape(name, f"{size}; -M 1000 beside -M 24", *runs)
+def commas(builder: Builder) -> Case:
+    """The last field that can be printed is printed."""
+    text = "," * LAST_FIELD + "late" + "," * (COMMAS - LAST_FIELD)
+    feature = Feature(text, LAST_FIELD, "late")
+    return with_feature(builder, "commas in a feature", f"{COMMAS} commas", feature)
 
 
-def ranges(cutting):
-    """The categories of characters above U+FFFF are looked up among many ranges; neighbours differ in their second category."""
+class Grouped(NamedTuple):
+    """A text of unknown characters of one category, and what the dictionary has for it.
+
+    `mappings` are lines of char.def. `before` precedes the text and is one word of `lexicon`.
+    """
+
+    text: str
+    mappings: str = ""
+    lexicon: str = "z,1,1,1,x\n"
+    before: str = ""
+
+
+def grouping(builder: Builder, name: str, size: str, grouped: Grouped) -> Case:
+    """A run of one category, which may be grouped up to 1,000 characters, beside the usual 24.
+
+    Each character of the text is a word, except for the last ones: they are one word, because
+    they are few enough.
+    """
+    image = builder.image(Sources(grouped.lexicon, char=CATEGORIES + MAPPINGS + grouped.mappings))
+    first = "w" if grouped.before else ""
+
+    def run(most: int) -> Run:
+        printed = first + "u" * (len(grouped.text) - most)
+        text = grouped.before + grouped.text
+        return builder.run(image, [*MARKS, "-M", str(most)], text, printed)
+
+    return Case(name, f"{size}; -M 1000 beside -M 24", run(24), run(1000))
+
+
+def ranges(builder: Builder) -> Case:
+    """The categories of characters above U+FFFF are looked up among many ranges.
+
+    Neighboring ranges differ in their second category.
+    """
     kinds = ("KANJI", "KANJI OTHER")
-    count, length = cutting.sizes.ranges, cutting.sizes.above
+    count, length = builder.sizes.ranges, builder.sizes.above
     mappings = "".join(
         f"0x{low:X}..0x{low + 1:X} {kinds[i % 2]}\n"
         for i, low in enumerate(range(0x20000, 0x20000 + 2 * count, 2))
     )
     text = "".join(chr(0x20000 + i % (2 * count)) for i in range(length))
-    return grouping(
-        cutting,
-        "grouping over ranges",
-        f"{length} characters above U+FFFF in {count} ranges",
-        mappings,
-        text,
-    )
+    size = f"{length} characters above U+FFFF in {count} ranges"
+    return grouping(builder, "grouping over ranges", size, Grouped(text, mappings))
 
 
-def katakana(cutting):
-    length = cutting.sizes.line_bytes
-    return grouping(
-        cutting, "grouping of katakana", f"{length // 1024} KiB of ア", "", "ア" * (length // 3)
-    )
+def katakana(builder: Builder) -> Case:
+    """A run of katakana, whose categories are looked up in a table."""
+    length = builder.sizes.line_bytes
+    text = Grouped("ア" * (length // 3))
+    return grouping(builder, "grouping of katakana", f"{length // 1024} KiB of ア", text)
 
 
-def behind_blanks(cutting):
-    """Blanks go on to a run of kanji at each second place, and the places between begin with none of them: so two runs are asked for in turn."""
-    kanji = "亜" * 1026
-    count = (cutting.sizes.line_bytes - len(kanji.encode())) // 6
+def after_blanks(builder: Builder) -> Case:
+    """At each second position blanks go on to a run of kanji, and between them none do.
+
+    So two runs are looked up in turn.
+    """
+    kanji = "亜" * KANJI_RUN
+    count = (builder.sizes.line_bytes - len(kanji.encode())) // 6
     size = f"{count} blanks that are katakana, with ア between, and {len(kanji):,} kanji"
-    lexicon = "ア,1,1,1000,x\nア\u3000,1,1,1000,x\n"
-    return grouping(
-        cutting,
-        "grouping behind blanks",
-        size,
-        "0x3000 SPACE KATAKANA\n",
+    text = Grouped(
         kanji,
-        lexicon,
+        "0x3000 SPACE KATAKANA\n",
+        "ア,1,1,1000,x\nア\u3000,1,1,1000,x\n",
         "ア\u3000" * count,
     )
+    return grouping(builder, "grouping after blanks", size, text)
 
 
-def stem(cutting):
-    """A surface begins at each place, and ends at none. A walk at each place goes over all of it. The honest one differs in its first letter."""
-    length, text = cutting.sizes.stem, "a" * cutting.sizes.stem_line
-    hostile, honest = ("a" * (length - 1) + "b", "b" + "a" * (length - 1))
-    runs = [
-        cutting.run(cutting.image(Sources(f"{surface},1,1,1,x\n")), MARKS, text, "u" * len(text))
-        for surface in (honest, hostile)
-    ]
-    return Shape(
-        "a stem at each place",
-        f"a surface of {length} bytes; {len(text) // 1024} KiB of a, of 1 MiB",
-        *runs,
-    )
+def stem(builder: Builder) -> Case:
+    """A long surface starts at each position and ends at none.
+
+    A lookup at each position reads all of it. The honest surface differs in its first letter.
+    """
+    length, text = builder.sizes.stem, "a" * builder.sizes.stem_line
+
+    def run(surface: str) -> Run:
+        image = builder.image(Sources(f"{surface},1,1,1,x\n"))
+        return builder.run(image, MARKS, text, "u" * len(text))
+
+    size = f"a surface of {length} bytes; {len(text) // 1024} KiB of a, of 1 MiB"
+    honest, hostile = run("b" + "a" * (length - 1)), run("a" * (length - 1) + "b")
+    return Case("a stem at each position", size, honest, hostile)
 
 
-def shapes(cutting):
-    return [
-        make(cutting)
-        for make in (
-            blanks,
-            left_ids,
-            unknown_entries,
-            quotes,
-            commas,
-            ranges,
-            katakana,
-            behind_blanks,
-            stem,
-        )
-    ]
+CASES = (
+    blanks,
+    left_ids,
+    unknown_entries,
+    quotes,
+    commas,
+    ranges,
+    katakana,
+    after_blanks,
+    stem,
+)
+
+
+def cases(builder: Builder) -> list[Case]:
+    """Returns the cases of hostile texts."""
+    return [make(builder) for make in CASES]
