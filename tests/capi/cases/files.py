@@ -5,60 +5,62 @@ import sys
 import tempfile
 from pathlib import Path
 
-from .library import C, HELGRIND, TOP, VALGRIND, run, show
+from capi.cases.library import VALGRIND, Library, report, show, show_threads
+from support.running import TOP, Words, run
 
-# A file system in memory, beside that of the temporary folder.
+# A file system in memory, which differs from the temporary folder's.
 MEMORY = Path("/dev/shm")
-FORKS = 200
 CHANGING = [f"-Wl,--wrap={call}" for call in ("mmap", "syscall", "read")]
+# What a line of trust.py starts with that names a part which was not tested.
+LEFT_OUT_MARK = "left out: "
 
 
-def in_folders(words, folders):
-    """Runs a check in a new folder of each of some folders."""
+def show_in_folders(command: Words, folders: list[Path]) -> None:
+    """Runs a test program in a new folder below each of these."""
     for folder in folders:
         with tempfile.TemporaryDirectory(dir=folder) as own:
-            show([*words, own])
+            show([*command, own])
 
 
-def check_rows(library, system, user):
-    """What is refused, how long files stay mapped, and what changes meanwhile."""
+def check_opening(library: Library, system: Path, user: Path) -> None:
+    """Checks which files are rejected, how long files stay mapped, and files that change."""
     disk = [library.folder]
     folders = disk + [MEMORY] if os.access(MEMORY, os.W_OK) else disk
-    rows = [
-        ("opening_files", [], disk),
-        ("mapped_files", [], folders),
-        ("changing_files", CHANGING, disk),
-    ]
-    for name, flags, where in rows:
-        program = library.compiled(C / f"{name}.c", *flags)
-        in_folders([*VALGRIND, program, system, user], where)
+    images = [system, user]
+    show_in_folders([*VALGRIND, library.test("opening_files"), *images], disk)
+    show_in_folders([*VALGRIND, library.test("mapped_files"), *images], folders)
+    changing = library.test("changing_files", *CHANGING)
+    show_in_folders([*VALGRIND, changing, *images], disk)
     with tempfile.TemporaryDirectory(dir=library.folder) as own:
-        show([library.folder / "changing_files", system, user, own, "plain"])
+        show([changing, *images, own, "plain"])
 
 
-def check_threads(library, system, user):
-    threads = [library.compiled(C / "opening_threads.c"), system, user]
-    for words in ([*VALGRIND, *threads], [*HELGRIND, *threads], ["timeout", "60", *threads, FORKS]):
-        show(words)
-    show([library.compiled(C / "dlclose.c", "-ldl"), library.shared, system])
+def check_threads(library: Library, system: Path, user: Path) -> None:
+    """Checks threads that open the same files, and the shared library that is unloaded."""
+    threads = [library.test("opening_threads"), system, user]
+    show([*VALGRIND, *threads])
+    show_threads(threads)
+    show([library.test("dlclose", "-ldl"), library.shared, system])
 
 
-def check_records(library, system):
-    """Which records are believed. Returns the parts that can't be checked here."""
-    trusting = library.compiled(C / "open_code.c", "-Wl,--wrap=openat")
-    trust = TOP / "tests/capi/cases" / "trust.py"
-    told = run([sys.executable, trust, trusting, system]).decode().splitlines()
-    for line in told:
-        print(f"library: {line}", flush=True)
-    mark = "left out: "
-    return [line[len(mark) :] for line in told if line.startswith(mark)]
+def check_records(library: Library, system: Path) -> list[str]:
+    """Checks which records are trusted. Returns what could not be tested here."""
+    program = library.test("open_code", "-Wl,--wrap=openat")
+    trust = TOP / "tests" / "capi" / "cases" / "trust.py"
+    lines = run([sys.executable, trust, program, system]).decode().splitlines()
+    for line in lines:
+        report(line)
+    return [line[len(LEFT_OUT_MARK) :] for line in lines if line.startswith(LEFT_OUT_MARK)]
 
 
-def check_files(library, system, user):
-    """All of these, with copies of the images that no other check changes."""
+def check_files(library: Library, system: Path, user: Path) -> list[str]:
+    """Checks all of these, with copies of the images that no other check changes.
+
+    Returns what could not be tested here.
+    """
     own = library.folder / "files"
     own.mkdir()
     system, user = (Path(shutil.copy(image, own)) for image in (system, user))
-    check_rows(library, system, user)
+    check_opening(library, system, user)
     check_threads(library, system, user)
     return check_records(library, system)

@@ -2,18 +2,18 @@
 import os
 import shutil
 import subprocess
+import sys
 from pathlib import Path
-from typing import Dict, List
 
-from support.running import preloadable
-
-from .library import C, VALGRIND, Library, show
+from capi.cases.library import VALGRIND, Library, report, show
+from support.heap import Heap
+from support.running import LEFT_OUT, run
 
 OWN, MADE = "data/kumquatsieve", "prefix/var/lib/kumquatsieve"
 SHARED = "prefix/share/kumquatsieve"
 # The images of each directory, and other files: more images than a list of names has room for at
 # first.
-IMAGES: Dict[str, List[str]] = {
+IMAGES: dict[str, list[str]] = {
     OWN: ["own", "all", "a b.c"],
     MADE: ["made", "all", "both", "here", "fifo", "folder", "broken", *"0123456789"],
     SHARED: ["shared", "all", "both", "own", "made", "あ"],
@@ -23,8 +23,8 @@ FOLDERS = ["folder", f"{OWN}/directory.img"]
 PIPES = ["fifo", f"{MADE}/pipe.img"]
 LINKS = {f"{OWN}/link.img": "own.img", f"{SHARED}/lost.img": "nowhere", "broken": "nowhere"}
 NAMES = sorted({name for names in IMAGES.values() for name in names} | {"link"}, key=os.fsencode)
-# The status of a run of image_memory in which a call was out of memory.
-RAN_OUT = 3
+# The status of image_memory if a call was out of memory.
+OUT_OF_MEMORY = 3
 NOBODY = 65534
 
 
@@ -47,53 +47,50 @@ def marked(*texts: object) -> str:
 
 
 def check_memory(library: Library, folder: Path) -> None:
-    """Refuses each growth in turn. The call that asked for it has to be out of memory, and no block
-    may be left that a run with ample memory gives back."""
+    """Makes each allocation fail in turn. The call that asked for it is out of memory.
+
+    No block is left that a run with ample memory frees.
+    """
     directories = [folder / path for path in IMAGES]
     found = [marked(folder / MADE / "both.img"), marked(*directories), marked(*NAMES)]
-    command = [library.compiled(C / "image_memory.c"), "both", folder / "prefix", *found]
-    report = library.folder / "growths"
-    place = dict(os.environ, XDG_DATA_HOME=str(folder / "data"), REFUSE_REPORT=str(report))
-    place["LD_PRELOAD"] = str(preloadable("refuse", library.folder))
-    left, refused, growth = 0, True, 0
-    while refused:
-        place["REFUSE"] = str(growth)
-        done = subprocess.run([str(word) for word in command], env=place, cwd=folder)
-        words = report.read_text().split()
-        counts = dict(zip(words[::2], map(int, words[1::2])))
-        refused = growth == 0 or counts["refused"] == 1
-        left = counts["given"] - counts["back"] if growth == 0 else left
-        wanted = (RAN_OUT if growth > 0 and refused else 0, left)
-        if (done.returncode, counts["given"] - counts["back"]) != wanted:
-            raise SystemExit(f"library: image_memory, growth {growth}: {done.returncode}, {counts}")
-        growth += 1
-    print(f"library: images are found: {growth - 2} growths refused in turn", flush=True)
+    program = library.test("image_memory")
+    command = [str(program), "both", str(folder / "prefix"), *found]
+    heap = Heap(library.folder)
+    variables = {**os.environ, "XDG_DATA_HOME": str(folder / "data")}
+    run(command, env=heap.environment(None, variables), cwd=folder)
+    ample = heap.counts()
+    for number in range(1, ample.allocations + 1):
+        environment = heap.environment(number, variables)
+        status = subprocess.run(command, env=environment, cwd=folder).returncode
+        if (status, heap.counts().unfreed) != (OUT_OF_MEMORY, ample.unfreed):
+            sys.exit(f"library: image_memory, allocation {number} fails: {status}, {heap.counts()}")
+    report(f"images are found: {ample.allocations} allocations failed in turn")
 
 
-def check_rights(library: Library) -> List[str]:
-    """Runs a program as another user by its file's mode. Returns what can't be checked here."""
+def check_rights(library: Library) -> list[str]:
+    """Runs a program as another user by its file's mode. Returns what could not be tested here."""
     missing = ["the environment of a setuid program, which needs root and a file system for it"]
-    program = library.compiled(C / "image_rights.c")
+    program = library.test("image_rights")
     if os.geteuid() != 0:
         return missing
     raised = shutil.copy(program, library.folder / "raised")
     os.chown(raised, NOBODY, NOBODY)
     raised.chmod(0o4755)
-    place = {"XDG_DATA_HOME": "/d", "HOME": "/h"}
-    status = subprocess.run([raised], env=place).returncode
-    if status == 77:
+    variables = {"XDG_DATA_HOME": "/d", "HOME": "/h"}
+    status = subprocess.run([raised], env=variables).returncode
+    if status == LEFT_OUT:
         return missing
     if status != 0:
-        raise SystemExit(f"library: image_rights: status {status}")
-    print("library: a setuid program ignores the variables of image directories", flush=True)
+        sys.exit(f"library: image_rights: status {status}")
+    report("a setuid program ignores the variables of image directories")
     return []
 
 
-def check_image_dirs(library: Library) -> List[str]:
-    """Makes all of these checks. Returns what can't be checked here."""
+def check_image_dirs(library: Library) -> list[str]:
+    """Makes all of these checks. Returns what could not be tested here."""
     folder = library.folder / "installed"
     make_files(folder)
-    program = library.compiled(C / "image_dirs.c")
+    program = library.test("image_dirs")
     show([*VALGRIND, program, folder], cwd=folder)
     check_memory(library, folder)
     return check_rights(library)

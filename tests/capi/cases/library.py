@@ -1,68 +1,75 @@
-"""The library as it is installed in a folder, and what its checks have in common."""
+"""The library as it is installed in a folder, and the programs that are built over it."""
 import os
-import subprocess
-import sys
 from pathlib import Path
+from typing import Any, Union
 
-TOP = Path(__file__).resolve().parents[3]
-C = TOP / "tests/capi/c"
+from support.running import TOP, Words, run
+
+C = TOP / "tests" / "capi" / "c"
 FLAGS = ["-std=c11", "-O2", "-g", "-Wall", "-Wextra", "-Werror"]
 VALGRIND = ["valgrind", "-q", "--leak-check=full", "--show-leak-kinds=all", "--error-exitcode=9"]
 VALGRIND += ["--child-silent-after-fork=yes"]
 HELGRIND = ["valgrind", "-q", "--tool=helgrind", "--error-exitcode=9"]
-# How a program loads images: copies of their bytes, or their files, by each argument `how`.
+# Flags of gcc that choose how a program loads images: from bytes in memory, or by their paths with
+# this argument `how`.
 COPIES, FILES = (), ("-DHOW=0",)
 WHOLE_FILES = ("-DHOW=KUMQUATSIEVE_TEST_DIGEST",)
 READ_FILES = ("-DHOW=KUMQUATSIEVE_COPY|KUMQUATSIEVE_TEST_DIGEST",)
+# The number of children that a program with this argument forks while its threads run.
+FORKS = "200"
 
 
-def run(command, text=b"", **more):
-    """What a command prints; where it fails this script ends."""
-    words = [str(word) for word in command]
-    done = subprocess.run(words, input=text, stdout=subprocess.PIPE, **more)
-    if done.returncode != 0:
-        sys.exit(f"library: {' '.join(words)}: status {done.returncode}")
-    return done.stdout
+def report(text: str) -> None:
+    """Prints what a check found."""
+    print(f"library: {text}", flush=True)
 
 
-def show(command, **more):
-    """Runs a check, and prints what it prints."""
-    print("library: " + run(command, **more).decode(), end="", flush=True)
+def show(command: Words, **more: Any) -> None:
+    """Runs a test program, and prints what it prints."""
+    report(run(command, **more).decode().rstrip("\n"))
 
 
-def program(name):
-    return TOP / "crates" / name / "out" / name
+def show_threads(command: Words) -> None:
+    """Runs a test program with threads under helgrind, and with forks within a minute."""
+    show([*HELGRIND, *command])
+    show(["timeout", "60", *command, FORKS])
 
 
 class Library:
-    """The library, installed in a folder."""
+    """The library, installed in `folder`. `options` are those of packaging/build-library."""
 
-    def __init__(self, folder, built):
+    def __init__(self, folder: Path, options: list[str]) -> None:
         self.folder = folder
         self.prefix = folder / "prefix"
-        run([TOP / "packaging/build-library", *built, self.prefix])
+        run([TOP / "packaging/build-library", *options, self.prefix])
         self.archive = self.prefix / "lib" / "libkumquatsieve.a"
         self.shared = self.prefix / "lib" / "libkumquatsieve.so.0"
 
-    def compiled(self, source, *more):
-        """A program over the archive, by one way to load images."""
-        name = "".join(filter(str.isalnum, "".join(word for word in more if word.startswith("-D"))))
-        to = self.folder / f"{source.stem}{name}"
+    def compiled(self, source: Path, *flags: str) -> Path:
+        """Compiles a program over the archive and returns its path."""
+        definitions = "".join(flag for flag in flags if flag.startswith("-D"))
+        program = self.folder / (source.stem + "".join(filter(str.isalnum, definitions)))
         include = f"-I{self.prefix / 'include'}"
-        run(["gcc", *FLAGS, include, source, self.archive, "-pthread", *more, "-o", to])
-        return to
+        command: list[Union[str, Path]] = ["gcc", *FLAGS, include, source, self.archive]
+        run([*command, "-pthread", *flags, "-o", program])
+        return program
 
-    def exports(self):
+    def test(self, name: str, *flags: str) -> Path:
+        """Compiles a program of tests/capi/c and returns its path."""
+        return self.compiled(C / f"{name}.c", *flags)
+
+    def exports(self) -> list[str]:
+        """Returns the names that the shared library exports."""
         lines = run(["nm", "-D", "--defined-only", self.shared]).decode().splitlines()
         return sorted(line.split()[-1] for line in lines)
 
-    def archived(self):
-        """What the archive defines for programs that link it."""
+    def archived(self) -> list[str]:
+        """Returns the names that the archive defines for programs that are linked with it."""
         lines = run(["nm", "--extern-only", "--defined-only", self.archive]).decode().splitlines()
         return sorted(line.split()[-1] for line in lines if len(line.split()) == 3)
 
-    def python(self):
-        """The environment in which Python finds the module and the library."""
+    def python(self) -> dict[str, str]:
+        """Returns the environment in which Python finds the module and the library."""
         paths = f"{TOP / 'python'}:{TOP / 'tests'}"
-        found = dict(PYTHONPATH=paths, KUMQUATSIEVE_LIBRARY=str(self.shared))
-        return dict(os.environ, PYTHONDONTWRITEBYTECODE="1", **found)
+        found = {"PYTHONPATH": paths, "KUMQUATSIEVE_LIBRARY": str(self.shared)}
+        return {**os.environ, "PYTHONDONTWRITEBYTECODE": "1", **found}

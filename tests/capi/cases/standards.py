@@ -1,7 +1,7 @@
 """Checks that C and C++ compile the header, and every call in it, without a warning."""
 import shutil
-from typing import List
 
+from capi.cases.library import report
 from support.running import TOP, run
 
 FLAGS = ["-Wall", "-Wextra", "-Wpedantic", "-Werror", "-fsyntax-only", f"-I{TOP / 'capi/include'}"]
@@ -24,13 +24,13 @@ int main(void) {
 """
 
 
-def check_header() -> List[str]:
-    """Compiles the header by each standard. Returns what can't be checked here."""
+def check_standards() -> list[str]:
+    """Compiles the header by each standard. Returns what could not be tested here."""
     missing = []
     for standard, (compiler, language) in STANDARDS.items():
         if shutil.which(compiler) is None:
             missing.append(f"the header in {standard}, which needs {compiler}")
             continue
         run([compiler, f"-std={standard}", *FLAGS, "-x", language, "-"], SOURCE)
-        print(f"library: the header compiles as {standard} without a warning", flush=True)
+        report(f"the header compiles as {standard} without a warning")
     return missing

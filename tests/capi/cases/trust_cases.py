@@ -1,9 +1,11 @@
-"""Cases of records: what is changed before or after a valid record is written, and whether it is
-believed then."""
+"""Cases of records: changes before and after a valid record is written, and whether it is trusted.
+
+docs/LIBRARY.md has the rules.
+"""
 import os
 from typing import NamedTuple
 
-from .changes import (
+from capi.cases.changes import (
     Change,
     both,
     bound,
@@ -42,20 +44,23 @@ from .changes import (
     touched,
 )
 
+# KUMQUATSIEVE_TEST_DIGEST and KUMQUATSIEVE_COPY of the header.
 TEST_DIGEST, COPY = 2, 4
-# Users that own files or read them. None of them need exist.
+# Users that own files or read them. They need not exist.
 READER, STRANGER = 12345, 12346
 
 
 class Case(NamedTuple):
+    """A case, and whether the record is trusted after the changes."""
+
     what: str
-    is_believed: bool
+    is_trusted: bool
     before: Change = no_change
     after: Change = no_change
 
 
 def all_of(user: int) -> Change:
-    """The directory and the image belong to a user; the record is written later."""
+    """Gives the directory and the image to a user. The record is written later."""
     return both(owner("directory", user), owner("image", user))
 
 
